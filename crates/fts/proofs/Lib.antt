@@ -1,0 +1,4 @@
+pub mod Adds
+pub mod Boundaries
+pub mod LineLemmas
+pub mod RunLemmas

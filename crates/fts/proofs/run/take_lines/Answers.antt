@@ -1,0 +1,30 @@
+use Rattle.std.proofs.Common.{[], take, drop, length, ◌-◌, subst, sym, arith, string_bytes, take-append-drop}
+use Rattle.std.proofs.lemmas.List.{length-take-le}
+use Rattle.fts.specs.Runs.{Leads, LeadsFirst}
+use Rattle.fts.proofs.RunLemmas.{Leads-then, LeadsFirst-leads, on_err, sent_more, within_more}
+use Rattle.fts.proofs.run.take_lines.Goals as goal
+
+pub returns-in_err-at-clause-err : goal.returns-in_err-at-clause-err
+returns-in_err-at-clause-err c =
+    let bytes = c.args.bytes.now in
+    let at = c.loop-at.at in
+    on_err c.from_residual.result _
+    (subst (λ v. LeadsFirst c.args.session.now c.args.line.now bytes [] v) (sym c.in_err-at.ensures.err)
+    (subst (λ v. LeadsFirst c.args.session.now c.args.line.now v [] (string_bytes c.loop-at.replies)) (take-append-drop at bytes)
+    (LeadsFirst-leads c.args.session.now c.loop-at.session c.args.line.now c.loop-at.line (take at bytes) (drop at bytes) [] _
+    c.loop-at.invariant.leads)))
+
+pub loop-at-preserved : goal.loop-at-preserved
+loop-at-preserved c =
+    let bytes = c.args.bytes.now in
+    let at = c.loop-at.at in
+    let n = c.in_ok-at.field-0 in record {
+      within = within_more bytes at n c.loop-at.invariant.within c.in_ok-at.ensures.bound;
+      started = λ e. absurd (omega (arith, c.in_ok-at.ensures.some));
+      leads = subst
+          (λ v. Leads c.args.session.now c.take_line.new.session c.args.line.now c.take_line.new.line v [] (string_bytes c.take_line.new.replies))
+          (sent_more bytes at n)
+          (Leads-then c.args.session.now c.loop-at.session c.take_line.new.session c.args.line.now c.loop-at.line c.take_line.new.line _ _ _ _ _
+          c.loop-at.invariant.leads c.in_ok-at.ensures.ok);
+      counted = omega (arith, c.loop-at.invariant.counted, c.take_line.ensures.counted, c.in_ok-at.ensures.some);
+    }

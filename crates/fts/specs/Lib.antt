@@ -1,0 +1,12 @@
+pub mod Arguments
+pub mod CommandViews
+pub mod Commands
+pub mod Indexes
+pub mod ListIndexes
+pub mod Lists
+pub mod Replies
+pub mod Runs
+pub mod Steps
+pub mod Streams
+pub mod Text
+pub mod Words

@@ -1,0 +1,69 @@
+-- How far a run has come.
+use Rattle.std.specs.Prelude.{ℕ, ◌≡◌, ◌<◌, ◌≤◌, Bool, List, [], ◌++◌, length, Option, None, Some}
+use Rattle.std.specs.Io.KnownBytes.{Appends}
+use Rattle.fts.specs.Text.{lines_of, is_blank, IsWhole, HasNoEnd}
+use Rattle.fts.specs.Replies.{Script, start, after_lines, output, longest}
+use Rattle.fts.specs.declared.lines.PartialLine.{PartialLine}
+
+-- xs begins with front
+abbrev pub BeginsWith : List ℕ → List ℕ → Type 0
+BeginsWith xs front = (rest : List ℕ) × (xs ≡ front ++ rest)
+
+-- a beginning of the output, however the input goes on
+abbrev pub BeginsOutput : List ℕ → List ℕ → Type 0
+BeginsOutput input out = (more : List ℕ) → BeginsWith (output (input ++ more)) out
+
+-- the same; if the input has ended, it doesn't go on
+abbrev pub BeginsOutputUnless : Type 0 → List ℕ → List ℕ → Type 0
+BeginsOutputUnless ended input out = (more : List ℕ) → (ended → more ≡ []) → BeginsWith (output (input ++ more)) out
+
+-- the replies to some first lines of the input
+pub record AnswersFirst (input out : List ℕ) : Type 0 where
+  pub done : List ℕ
+  pub rest : List ℕ
+  pub split : input ≡ done ++ rest
+  pub whole : IsWhole done
+  pub replied : out ≡ output done
+
+-- the replies to all lines that have ended
+pub record AnswersEnded (input out : List ℕ) : Type 0 where
+  pub done : List ℕ
+  pub line : List ℕ
+  pub split : input ≡ done ++ line
+  pub whole : IsWhole done
+  pub unended : HasNoEnd line
+  pub replied : out ≡ output done
+
+-- the beginning of a line is held: its bytes, or of one that is too long whether it is blank
+pub record Holds (p : PartialLine) (line : List ℕ) : Type 0 where
+  pub kept : p.too_long ≡ None → p.bytes.items ≡ line
+  pub too_long : (blank : Bool) → p.too_long ≡ Some blank → (longest < length line) × (blank ≡ is_blank line)
+
+-- After this input the lines that have ended were answered by `out`, and the rest of it is the line in hand.
+pub record Answered (s : Script) (p : PartialLine) (input out : List ℕ) : Type 0 where
+  pub done : List ℕ
+  pub line : List ℕ
+  pub split : input ≡ done ++ line
+  pub whole : IsWhole done
+  pub unended : HasNoEnd line
+  pub script : s ≡ after_lines start (lines_of done)
+  pub holds : Holds p line
+  pub replied : out ≡ output done
+
+-- These bytes lead from one state to another, while the replies that wait grow from `a` to `b`.
+pub record Leads (s t : Script) (p q : PartialLine) (bytes a b : List ℕ) : Type 0 where
+  pub leads : (input out : List ℕ) → Answered s p input (out ++ a) → Answered t q (input ++ bytes) (out ++ b)
+
+-- Some first lines of these bytes were answered.
+pub record LeadsFirst (s : Script) (p : PartialLine) (bytes a b : List ℕ) : Type 0 where
+  pub leads : (input out : List ℕ) → Answered s p input (out ++ a) → AnswersFirst (input ++ bytes) (out ++ b)
+
+-- With these replies all of the input is answered, if it ends here.
+pub record Ends (s : Script) (p : PartialLine) (replies : List ℕ) : Type 0 where
+  pub ends : (input out : List ℕ) → Answered s p input out → out ++ replies ≡ output input
+
+-- The same of what is written: no reply waits.
+pub record Reached (before now : Option (List ℕ)) (s : Script) (p : PartialLine) (input : List ℕ) : Type 0 where
+  pub out : List ℕ
+  pub appended : Appends before now out
+  pub answered : Answered s p input out

@@ -1,0 +1,148 @@
+-- What is alive after operations that come in two parts.
+use Rattle.std.proofs.Common.{◌≡◌, ◌≢◌, ℕ, ◌<◌, suc, Bool, true, false, cond, ◌||◌, not, List, [], ◌∷◌, ◌++◌, length, map, filter, refl, sym, ap, ◌∙◌, append_assoc, append-nil, arith, All, AllPairs, get_or}
+use Rattle.std.specs.List.{list_any}
+use Rattle.std.proofs.lemmas.List.Elements.{All-cons, All-tail}
+use Rattle.std.proofs.lemmas.List.Kept.{AllPairs-cons}
+use Rattle.fts_model.specs.declared.schema.Field.{Field}
+use Rattle.fts_model.specs.declared.operation.Op.{Op}
+use Rattle.fts_model.specs.declared.operation.Op.TheVariants.{Add, Delete, DeleteAll}
+use Rattle.fts_model.specs.declared.operation.Stamped.{Stamped}
+use Rattle.fts_model.specs.Documents.{DocumentValue}
+use Rattle.fts_model.specs.Operations.{strikes, is_struck, left_by, alive, adds, HasEachStampOnce}
+
+list_any-append : {X : Type 0} (p : X → Bool) (xs ys : List X) → list_any p (xs ++ ys) ≡ (list_any p xs || list_any p ys)
+list_any-append p [] ys = refl
+list_any-append p (x ∷ xs) ys = elim (p x) as (λ b. (b || list_any p (xs ++ ys)) ≡ ((b || list_any p xs) || list_any p ys)) [ true ↦ refl | false ↦ list_any-append p xs ys ]
+
+filter-append : {X : Type 0} (p : X → Bool) (xs ys : List X) → filter p (xs ++ ys) ≡ filter p xs ++ filter p ys
+filter-append p [] ys = refl
+filter-append p (x ∷ xs) ys =
+    elim (p x) as (λ b. cond b (x ∷ filter p (xs ++ ys)) (filter p (xs ++ ys)) ≡ cond b (x ∷ filter p xs) (filter p xs) ++ filter p ys)
+    [ true ↦ ap (λ zs. x ∷ zs) (filter-append p xs ys) | false ↦ filter-append p xs ys ]
+
+-- those of the documents that none of these operations strikes
+abbrev pub spared : List Field → List (Stamped Op) → List (Stamped DocumentValue) → List (Stamped DocumentValue)
+spared schema later documents = filter (λ d. not (is_struck schema later d.value)) documents
+
+one_spared : (a b : Bool) (d : Stamped DocumentValue) (keep : Stamped DocumentValue → Bool) → keep d ≡ not b →
+    cond (a || b) [] (d ∷ []) ≡ filter keep (cond a [] (d ∷ []))
+one_spared true b d keep e = refl
+one_spared false true d keep e = ap (λ k. cond k (d ∷ []) []) (sym e)
+one_spared false false d keep e = ap (λ k. cond k (d ∷ []) []) (sym e)
+
+left_by-append : (schema : List Field) (stamp : ℕ) (op : Op) (ops later : List (Stamped Op)) →
+    left_by schema stamp op (ops ++ later) ≡ spared schema later (left_by schema stamp op ops)
+left_by-append schema stamp (Add document) ops later =
+    ap (λ b. cond b [] (record { stamp = stamp; value = document } ∷ [])) (list_any-append (λ op. strikes schema op.value document) ops later)
+    ∙ one_spared (is_struck schema ops document) (is_struck schema later document) (record { stamp = stamp; value = document }) (λ d. not (is_struck schema later d.value)) refl
+left_by-append schema stamp (Delete term) ops later = refl
+left_by-append schema stamp DeleteAll ops later = refl
+
+-- what is alive after more operations: what they spare of what was, and what they leave themselves
+pub alive-append : (schema : List Field) (ops later : List (Stamped Op)) → alive schema (ops ++ later) ≡ spared schema later (alive schema ops) ++ alive schema later
+alive-append schema [] later = refl
+alive-append schema (op ∷ ops) later =
+    ap (λ xs. left_by schema op.stamp op.value (ops ++ later) ++ xs) (alive-append schema ops later)
+    ∙ ap (λ xs. xs ++ (spared schema later (alive schema ops) ++ alive schema later)) (left_by-append schema op.stamp op.value ops later)
+    ∙ sym (append_assoc (spared schema later (left_by schema op.stamp op.value ops)) (spared schema later (alive schema ops)) (alive schema later))
+    ∙ ap (λ xs. xs ++ alive schema later) (sym (filter-append (λ d. not (is_struck schema later d.value)) (left_by schema op.stamp op.value ops) (alive schema ops)))
+
+adds_spare : (schema : List Field) (documents : List (Stamped DocumentValue)) (document : DocumentValue) → is_struck schema (adds documents) document ≡ false
+adds_spare schema [] document = refl
+adds_spare schema (d ∷ ds) document = adds_spare schema ds document
+
+alive-adds : (schema : List Field) (documents : List (Stamped DocumentValue)) → alive schema (adds documents) ≡ documents
+alive-adds schema [] = refl
+alive-adds schema (d ∷ ds) =
+    ap (λ b. cond b [] (d ∷ []) ++ alive schema (adds ds)) (adds_spare schema ds d.value) ∙ ap (λ xs. d ∷ xs) (alive-adds schema ds)
+
+pub alive-history : (schema : List Field) (before later : List (Stamped Op)) → alive schema (before ++ later) ≡ alive schema (adds (alive schema before) ++ later)
+alive-history schema before later =
+    alive-append schema before later
+    ∙ ap (λ xs. spared schema later xs ++ alive schema later) (sym (alive-adds schema (alive schema before)))
+    ∙ sym (alive-append schema (adds (alive schema before)) later)
+
+All-front : {X : Type 0} (P : X → Type 0) (x : X) (xs : List X) → All P (x ∷ xs) → P x
+All-front P x xs h = h 0 x (omega arith)
+
+pairs_behind : {X : Type 0} (R : X → X → Type 0) (x : X) (xs : List X) → AllPairs R (x ∷ xs) → AllPairs R xs
+pairs_behind R x xs h i j d lt within = h (suc i) (suc j) d (omega (arith, lt)) (omega (arith, within))
+
+pairs_front : {X : Type 0} (R : X → X → Type 0) (x : X) (xs : List X) → AllPairs R (x ∷ xs) → All (R x) xs
+pairs_front R x xs h k d within = h 0 (suc k) d (omega arith) (omega (arith, within))
+
+All-none : {X : Type 0} (P : X → Type 0) → All P []
+All-none P k d lt = absurd (omega (arith, lt))
+
+pairs_none : {X : Type 0} (R : X → X → Type 0) → AllPairs R []
+pairs_none R i j d lt within = absurd (omega (arith, within))
+
+All-if_kept : (b : Bool) (P : Stamped DocumentValue → Type 0) (d : Stamped DocumentValue) (ds : List (Stamped DocumentValue)) →
+    P d → All P ds → All P (cond b [] (d ∷ []) ++ ds)
+All-if_kept true P d ds p ps = ps
+All-if_kept false P d ds p ps = All-cons P d ds p ps
+
+-- the stamps of what is alive are stamps of the operations
+All-alive : (P : ℕ → Type 0) (schema : List Field) (ops : List (Stamped Op)) → All (λ op. P op.stamp) ops → All (λ d. P d.stamp) (alive schema ops)
+All-alive P schema [] h = All-none (λ d. P d.stamp)
+All-alive P schema (op ∷ ops) h =
+    let front : P op.stamp = All-front (λ op. P op.stamp) op ops h in
+    let behind = All-alive P schema ops (All-tail (λ op. P op.stamp) op ops h) in
+    elim op.value as (λ value. All (λ (d : Stamped DocumentValue). P d.stamp) (left_by schema op.stamp value ops ++ alive schema ops)) [
+      Add document ↦ All-if_kept (is_struck schema ops document) (λ d. P d.stamp) (record { stamp = op.stamp; value = document }) (alive schema ops) front behind
+    | Delete term ↦ behind
+    | DeleteAll ↦ behind
+    ]
+
+once_if_kept : (b : Bool) (d : Stamped DocumentValue) (ds : List (Stamped DocumentValue)) →
+    All (λ e. d.stamp ≢ e.stamp) ds → HasEachStampOnce ds → HasEachStampOnce (cond b [] (d ∷ []) ++ ds)
+once_if_kept true d ds others once = once
+once_if_kept false d ds others once = AllPairs-cons (λ x y. x.stamp ≢ y.stamp) d ds others once
+
+pub alive-once : (schema : List Field) (ops : List (Stamped Op)) → HasEachStampOnce ops → HasEachStampOnce (alive schema ops)
+alive-once schema [] h = pairs_none (λ x y. x.stamp ≢ y.stamp)
+alive-once schema (op ∷ ops) h =
+    let others = All-alive (λ stamp. op.stamp ≢ stamp) schema ops (pairs_front (λ x y. x.stamp ≢ y.stamp) op ops h) in
+    let once = alive-once schema ops (pairs_behind (λ x y. x.stamp ≢ y.stamp) op ops h) in
+    elim op.value as (λ value. HasEachStampOnce (left_by schema op.stamp value ops ++ alive schema ops)) [
+      Add document ↦ once_if_kept (is_struck schema ops document) (record { stamp = op.stamp; value = document }) (alive schema ops) others once
+    | Delete term ↦ once
+    | DeleteAll ↦ once
+    ]
+
+filter-same : {X : Type 0} (p q : X → Bool) → ((x : X) → p x ≡ q x) → (xs : List X) → filter p xs ≡ filter q xs
+filter-same p q e [] = refl
+filter-same p q e (x ∷ xs) = ap (λ b. cond b (x ∷ filter p xs) (filter p xs)) (e x) ∙ ap (λ ys. cond (q x) (x ∷ ys) ys) (filter-same p q e xs)
+
+filter-whole : {X : Type 0} (xs : List X) → filter (λ x. true) xs ≡ xs
+filter-whole [] = refl
+filter-whole (x ∷ xs) = ap (λ ys. x ∷ ys) (filter-whole xs)
+
+filter-nothing : {X : Type 0} (xs : List X) → filter (λ x. false) xs ≡ []
+filter-nothing [] = refl
+filter-nothing (x ∷ xs) = filter-nothing xs
+
+or_nothing : (b : Bool) → not (b || false) ≡ not b
+or_nothing true = refl
+or_nothing false = refl
+
+-- what is alive after one more operation
+pub alive-one : (schema : List Field) (ops : List (Stamped Op)) (op : Stamped Op) →
+    alive schema (ops ++ op ∷ []) ≡ filter (λ d. not (strikes schema op.value d.value)) (alive schema ops) ++ alive schema (op ∷ [])
+alive-one schema ops op =
+    alive-append schema ops (op ∷ [])
+    ∙ ap (λ xs. xs ++ alive schema (op ∷ []))
+      (filter-same (λ (d : Stamped DocumentValue). not (is_struck schema (op ∷ []) d.value)) (λ d. not (strikes schema op.value d.value)) (λ d. or_nothing (strikes schema op.value d.value)) (alive schema ops))
+
+-- the same where it is an add, or deletes all
+pub alive-add : (schema : List Field) (op : Stamped Op) (document : DocumentValue) (documents : List (Stamped DocumentValue)) → op.value ≡ Add document →
+    filter (λ (d : Stamped DocumentValue). not (strikes schema op.value d.value)) documents ++ alive schema (op ∷ []) ≡ documents ++ record { stamp = op.stamp; value = document } ∷ []
+alive-add schema op document documents e =
+    ap (λ value. filter (λ (d : Stamped DocumentValue). not (strikes schema value d.value)) documents ++ (left_by schema op.stamp value [] ++ [])) e
+    ∙ ap (λ xs. xs ++ record { stamp = op.stamp; value = document } ∷ []) (filter-whole documents)
+
+pub alive-delete_all : (schema : List Field) (op : Stamped Op) (documents : List (Stamped DocumentValue)) → op.value ≡ DeleteAll →
+    filter (λ (d : Stamped DocumentValue). not (strikes schema op.value d.value)) documents ++ alive schema (op ∷ []) ≡ []
+alive-delete_all schema op documents e =
+    ap (λ value. filter (λ (d : Stamped DocumentValue). not (strikes schema value d.value)) documents ++ (left_by schema op.stamp value [] ++ [])) e
+    ∙ ap (λ xs. xs ++ []) (filter-nothing documents)

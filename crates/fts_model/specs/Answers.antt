@@ -1,0 +1,104 @@
+-- What the answer to a query and a request is.
+use Rattle.std.specs.Prelude.{◌≡◌, ℕ, ◌+◌, ◌<◌, nat_lt, min, Bool, true, false, List, [], ◌∷◌, length, take, fold, Option, Some, None, if◌then◌else◌, option_map, option_and_then, All, AllPairs, Contains}
+use Rattle.std.specs.Ordering.{nat_cmp, int_cmp, match_ordering}
+use Rattle.std.specs.List.{filter_map}
+use Rattle.std.specs.declared.cmp.Ordering.{Ordering}
+use Rattle.std.specs.declared.cmp.Ordering.TheVariants.{Less, Greater}
+use Rattle.fts_model.specs.declared.schema.Field.{Field}
+use Rattle.fts_model.specs.declared.value.Number.{Number}
+use Rattle.fts_model.specs.declared.value.Number.TheVariants.{U64, I64}
+use Rattle.fts_model.specs.declared.value.FieldValue.{FieldValue}
+use Rattle.fts_model.specs.declared.value.FieldValue.TheVariants as values
+use Rattle.fts_model.specs.declared.operation.Stamped.{Stamped}
+use Rattle.fts_model.specs.declared.query.Query.{Query}
+use Rattle.fts_model.specs.declared.query.Order.{Order}
+use Rattle.fts_model.specs.declared.query.Order.TheVariants.{Rising, Falling}
+use Rattle.fts_model.specs.declared.query.Request.{Request}
+use Rattle.fts_model.specs.declared.answer.Hit.{Hit}
+use Rattle.fts_model.specs.Documents.{DocumentValue, value_in_field}
+use Rattle.fts_model.specs.Queries.{hits}
+
+-- an answer: the number of hits, the groups if they were asked for, and the top list if it was
+pub record AnswerValue : Type 0 where
+  pub count : ℕ
+  pub groups : Option (List (Number × ℕ))
+  pub top : Option (List Hit)
+
+-- the number that a value is, if it is one
+abbrev pub number_in_value : FieldValue → Option Number
+number_in_value (values.Text text) = None
+number_in_value (values.Number n) = Some n
+
+-- the number that a document has in a field, if it has one
+abbrev pub number_in_field : DocumentValue → ℕ → Option Number
+number_in_field document field = option_and_then number_in_value (value_in_field document field)
+
+-- the order of numbers; those of a `u64` and of an `i64` field, which don't meet, are kept apart
+abbrev pub number_cmp : Number → Number → Ordering
+number_cmp (U64 n) (U64 m) = nat_cmp n m
+number_cmp (U64 n) (I64 m) = Less
+number_cmp (I64 n) (U64 m) = Greater
+number_cmp (I64 n) (I64 m) = int_cmp n m
+
+-- the numbers that the hits have in a field
+abbrev pub numbers_in : ℕ → List (Stamped DocumentValue) → List Number
+numbers_in field hits = filter_map (λ hit. number_in_field hit.value field) hits
+
+-- groups of rising numbers, with one more hit that has this number
+abbrev pub count_number : List (Number × ℕ) → Number → List (Number × ℕ)
+count_number [] n = (n, 1) ∷ []
+count_number (group ∷ groups) n =
+    match_ordering (number_cmp n group.0) ((n, 1) ∷ group ∷ groups) ((group.0, group.1 + 1) ∷ groups) (group ∷ count_number groups n)
+
+-- each number that a hit has in a field, rising, with the number of hits that have it
+abbrev pub groups : ℕ → List (Stamped DocumentValue) → List (Number × ℕ)
+groups field hits = fold count_number [] (numbers_in field hits)
+
+-- a hit with its number in a field, if it has one
+abbrev pub hit_in : ℕ → Stamped DocumentValue → Option Hit
+hit_in field hit = option_map (λ n. record { stamp = hit.stamp; value = n; document = hit.value }) (number_in_field hit.value field)
+
+-- the hits that have a number in a field
+abbrev pub hits_in : ℕ → List (Stamped DocumentValue) → List Hit
+hits_in field hits = filter_map (hit_in field) hits
+
+-- how two numbers stand in a top list
+abbrev pub cmp_by : Order → Number → Number → Ordering
+cmp_by Rising n m = number_cmp n m
+cmp_by Falling n m = number_cmp m n
+
+-- one hit stands before another in a top list: by their numbers, and where these are equal by the smaller stamp
+abbrev pub comes_before : Order → Hit → Hit → Bool
+comes_before order a b = match_ordering (cmp_by order a.value b.value) true (nat_lt a.stamp b.stamp) false
+
+-- the top list: at most `k` of the hits that have a number in the field, each before the next and before those left out
+pub record IsTop (k : ℕ) (order : Order) (field : ℕ) (hits : List (Stamped DocumentValue)) (list : List Hit) : Type 0 where
+  pub long : length list ≡ min k (length (hits_in field hits))
+  pub members : All (Contains (hits_in field hits)) list
+  pub ordered : AllPairs (λ a b. comes_before order a b ≡ true) list
+  pub first : (other : Hit) → Contains (hits_in field hits) other → ¬ Contains list other → All (λ member. comes_before order member other ≡ true) list
+
+-- a list of hits with one more, before the first that it comes before
+abbrev pub put_hit : Order → List Hit → Hit → List Hit
+put_hit order [] hit = hit ∷ []
+put_hit order (other ∷ others) hit = if comes_before order hit other then hit ∷ other ∷ others else other ∷ put_hit order others hit
+
+-- the hits that have a number in a field, in the order of a top list
+abbrev pub sorted_hits : Order → ℕ → List (Stamped DocumentValue) → List Hit
+sorted_hits order field hits = fold (put_hit order) [] (hits_in field hits)
+
+-- the first `k` of them
+abbrev pub top : ℕ → Order → ℕ → List (Stamped DocumentValue) → List Hit
+top k order field hits = take k (sorted_hits order field hits)
+
+-- what is told of hits
+abbrev pub answer_of : Request → List (Stamped DocumentValue) → AnswerValue
+answer_of request hits = record {
+  count = length hits;
+  groups = option_map (λ field. groups field hits) request.groups;
+  top = option_map (λ t. top t.k t.order t.by hits) request.top
+}
+
+-- the answer to a query and a request over documents
+abbrev pub answer : List Field → Query → Request → List (Stamped DocumentValue) → AnswerValue
+answer schema query request documents = answer_of request (hits schema query documents)

@@ -1,0 +1,134 @@
+-- What a document is: a value, or none, for each field of a schema, and what a JSON value says of it.
+use Rattle.std.specs.Prelude.{◌≡◌, ℕ, ◌&&◌, nat_le, Bool, true, false, List, [], ◌∷◌, length, map, Result, Ok, Err, Option, Some, None, IfSome, drop, if◌then◌else◌, option_map, option_and_then, slice_get}
+use Rattle.std.specs.List.{AllZip, find}
+use Rattle.std.specs.Str.{bytes_eq}
+use Rattle.std.specs.Option.{ok_or}
+use Rattle.serde_json.specs.Data.{Num, unsigned, Data, null, boolean, number, string, array, object, Members, no_members, member, put}
+use Rattle.serde_json.specs.Find.{as_u64, as_i64, of_integer, get_member}
+use Rattle.fts_model.specs.declared.refusal.Refusal.{Refusal}
+use Rattle.fts_model.specs.declared.refusal.Refusal.TheVariants.{NotAnObject, UnknownField, WrongKind, TextTooLong, KeywordTooLong}
+use Rattle.fts_model.specs.declared.value.Number.{Number}
+use Rattle.fts_model.specs.declared.value.Number.TheVariants as numbers
+use Rattle.fts_model.specs.declared.schema.Kind.{Kind}
+use Rattle.fts_model.specs.declared.schema.Kind.TheVariants as kinds
+use Rattle.fts_model.specs.declared.schema.Field.{Field}
+use Rattle.fts_model.specs.declared.value.FieldValue.{FieldValue}
+use Rattle.fts_model.specs.declared.value.FieldValue.TheVariants as values
+use Rattle.fts_model.specs.Outcomes.{value_if_ok, error_if_err, ok_unless, first_of}
+use Rattle.fts_model.specs.Schemas.{is_named}
+
+-- a document: the fields of its schema, and what it has in each
+pub record DocumentValue : Type 0 where
+  pub schema : List Field
+  pub values : List (Option FieldValue)
+
+-- whether a field of this kind holds such a value
+abbrev pub is_of_kind : Kind → FieldValue → Bool
+is_of_kind kinds.Text (values.Text text) = true
+is_of_kind kinds.Keyword (values.Text text) = true
+is_of_kind kinds.U64 (values.Number (numbers.U64 n)) = true
+is_of_kind kinds.I64 (values.Number (numbers.I64 n)) = true
+is_of_kind kind value = false
+
+-- the value that a JSON string is in a field of this kind: a text of at most 1,048,576 bytes, a keyword of at most 256
+abbrev pub text_in : Kind → List ℕ → Result (Option FieldValue) Refusal
+text_in kinds.Text text = if nat_le (length text) 1048576 then Ok (Some (values.Text text)) else Err TextTooLong
+text_in kinds.Keyword text = if nat_le (length text) 256 then Ok (Some (values.Text text)) else Err KeywordTooLong
+text_in kinds.U64 text = Err WrongKind
+text_in kinds.I64 text = Err WrongKind
+
+-- the value that a JSON number is there: a whole number in the range of the kind
+abbrev pub number_in : Kind → Num → Result (Option FieldValue) Refusal
+number_in kinds.Text n = Err WrongKind
+number_in kinds.Keyword n = Err WrongKind
+number_in kinds.U64 n = ok_or (option_map (λ x. Some (values.Number (numbers.U64 x))) (as_u64 n)) WrongKind
+number_in kinds.I64 n = ok_or (option_map (λ x. Some (values.Number (numbers.I64 x))) (as_i64 n)) WrongKind
+
+-- the value that a JSON value is there; null is no value
+abbrev pub value_in : Kind → Data → Result (Option FieldValue) Refusal
+value_in kind null = Ok None
+value_in kind (string text) = text_in kind text
+value_in kind (number n) = number_in kind n
+value_in kind (boolean b) = Err WrongKind
+value_in kind (array items) = Err WrongKind
+value_in kind (object ms) = Err WrongKind
+
+-- what is wrong with a value of a field, if there is such a field
+abbrev pub fault_in_field : Option Field → Data → Option Refusal
+fault_in_field None value = Some UnknownField
+fault_in_field (Some field) value = error_if_err (value_in field.kind value)
+
+-- what is wrong with one member of an object
+abbrev pub member_fault : List Field → List ℕ → Data → Option Refusal
+member_fault fields name value = fault_in_field (find (is_named name) fields) value
+
+-- what is wrong with the members of an object: the first fault, in the order of their names
+abbrev pub members_fault : List Field → Members → Option Refusal
+members_fault fields no_members = None
+members_fault fields (member name value members) = first_of (member_fault fields name value) (members_fault fields members)
+
+-- the value of a field: what the members have at its name
+abbrev pub value_at : Members → Field → Option FieldValue
+value_at members field = option_and_then (λ value. option_and_then (λ v. v) (value_if_ok (value_in field.kind value))) (get_member field.name members)
+
+-- the document that a JSON value is under a schema, or the first refusal
+abbrev pub document_of : List Field → Data → Result DocumentValue Refusal
+document_of fields (object ms) = ok_unless (members_fault fields ms) (record { schema = fields; values = map (value_at ms) fields })
+document_of fields null = Err NotAnObject
+document_of fields (string text) = Err NotAnObject
+document_of fields (number n) = Err NotAnObject
+document_of fields (boolean b) = Err NotAnObject
+document_of fields (array items) = Err NotAnObject
+
+-- a value as JSON
+abbrev pub data_of : FieldValue → Data
+data_of (values.Text text) = string text
+data_of (values.Number (numbers.U64 n)) = number (unsigned n)
+data_of (values.Number (numbers.I64 z)) = number (of_integer z)
+
+-- the members, with a field that has a value
+abbrev pub with_value : Members → Field → Option FieldValue → Members
+with_value ms field None = ms
+with_value ms field (Some v) = put field.name (data_of v) ms
+
+-- the members, with those fields that have a value
+abbrev pub with_values : Members → List Field → List (Option FieldValue) → Members
+with_values ms [] vs = ms
+with_values ms (field ∷ fields) [] = ms
+with_values ms (field ∷ fields) (v ∷ vs) = with_values (with_value ms field v) fields vs
+
+-- a document as JSON: an object of the fields that have a value, in the order of their names
+abbrev pub json_of : DocumentValue → Data
+json_of document = object (with_values no_members document.schema document.values)
+
+-- whether a field of this kind can have the value
+abbrev pub is_value_of : Kind → FieldValue → Bool
+is_value_of kinds.Text (values.Text text) = nat_le (length text) 1048576
+is_value_of kinds.Keyword (values.Text text) = nat_le (length text) 256
+is_value_of kinds.U64 (values.Number (numbers.U64 n)) = true
+is_value_of kinds.I64 (values.Number (numbers.I64 z)) = true
+is_value_of kind value = false
+
+-- each value of a document is one that its field can have
+abbrev pub IsDocument : DocumentValue → Type 0
+IsDocument document = AllZip (λ field value. IfSome value (λ v. is_value_of field.kind v ≡ true)) document.schema document.values
+
+-- whether a value of a field may stand in another, if there is one: the names are one and it is of that kind
+abbrev pub may_stand : Option Field → Field → Option FieldValue → Bool
+may_stand there field None = true
+may_stand None field (Some v) = false
+may_stand (Some there) field (Some v) = bytes_eq field.name there.name && is_of_kind there.kind v
+
+-- whether each field that has a value stands in a schema, at the same number, under the same name and for such a value
+abbrev pub fits_fields : List Field → List Field → List (Option FieldValue) → Bool
+fits_fields schema [] vs = true
+fits_fields schema (field ∷ fields) [] = true
+fits_fields schema (field ∷ fields) (v ∷ vs) = may_stand (slice_get schema 0) field v && fits_fields (drop 1 schema) fields vs
+
+-- whether a document fits a schema
+abbrev pub fits : List Field → DocumentValue → Bool
+fits schema document = fits_fields schema document.schema document.values
+
+-- the value of the field of this number, if it has one
+abbrev pub value_in_field : DocumentValue → ℕ → Option FieldValue
+value_in_field document field = option_and_then (λ v. v) (slice_get document.values field)

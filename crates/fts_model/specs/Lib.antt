@@ -1,0 +1,9 @@
+pub mod Refusals
+pub mod Outcomes
+pub mod Schemas
+pub mod Documents
+pub mod Stored
+pub mod Operations
+pub mod Queries
+pub mod Answers
+pub mod Scans

@@ -1,0 +1,164 @@
+-- Which documents a query matches, and what may be asked of those.
+use Rattle.std.specs.Prelude.{◌↔◌, ℕ, ◌+◌, ◌==◌, ◌&&◌, ◌||◌, not, nat_lt, nat_le, int_lt, Bool, true, false, IsTrue, List, [], ◌∷◌, length, Option, Some, None, Result, Ok, Err, if◌then◌else◌, All, Contains}
+use Rattle.std.specs.List.{list_any, list_all, range_with_len, filter}
+use Rattle.std.specs.Option.{option_map_or}
+use Rattle.std.specs.Str.{bytes_eq}
+use Rattle.std.specs.declared.ops.Bound.{Bound}
+use Rattle.std.specs.declared.ops.Bound.TheVariants.{Included, Excluded, Unbounded}
+use Rattle.fts_text.specs.Tokens.{tokens}
+use Rattle.fts_model.specs.declared.refusal.Refusal.{Refusal}
+use Rattle.fts_model.specs.declared.refusal.Refusal.TheVariants.{UnknownField, NotANumberField, BadLimit}
+use Rattle.fts_model.specs.declared.schema.Kind.{Kind}
+use Rattle.fts_model.specs.declared.schema.Kind.TheVariants as kinds
+use Rattle.fts_model.specs.declared.schema.Field.{Field}
+use Rattle.fts_model.specs.declared.value.Number.{Number}
+use Rattle.fts_model.specs.declared.value.Number.TheVariants.{U64, I64}
+use Rattle.fts_model.specs.declared.value.FieldValue.{FieldValue}
+use Rattle.fts_model.specs.declared.value.FieldValue.TheVariants as values
+use Rattle.fts_model.specs.declared.operation.Stamped.{Stamped}
+use Rattle.fts_model.specs.declared.query.Query.{Query, fold-Query}
+use Rattle.fts_model.specs.declared.query.Query.TheOpen.{Query-F}
+use Rattle.fts_model.specs.declared.query.Order.{Order}
+use Rattle.fts_model.specs.declared.query.Top.{Top}
+use Rattle.fts_model.specs.declared.query.Request.{Request}
+use Rattle.fts_model.specs.Outcomes.{result_and_then, result_map}
+use Rattle.fts_model.specs.Schemas.{field_named, holds_numbers}
+use Rattle.fts_model.specs.Documents.{DocumentValue, value_in_field, is_of_kind}
+use Rattle.fts_model.specs.Operations.{has, kind_at, term_fits}
+
+-- a token stands at a position
+abbrev pub stands_at : List (ℕ × List ℕ) → ℕ → List ℕ → Bool
+stands_at ts position token = list_any (λ t. (t.0 == position) && bytes_eq t.1 token) ts
+
+-- each member of a pattern stands at its offset from a position
+abbrev pub stands_from : List (ℕ × List ℕ) → List (ℕ × List ℕ) → ℕ → Bool
+stands_from ts pattern position = list_all (λ m. stands_at ts (position + m.0) m.1) pattern
+
+-- a phrase stands in a text: its pattern stands from some position, and none is beyond the text's bytes
+abbrev pub phrase_in : List ℕ → List (ℕ × List ℕ) → Bool
+phrase_in text pattern = list_any (stands_from (tokens text) pattern) (range_with_len 0 (length text + 1))
+
+-- the same as a relation: for some whole number, each member is a token whose position is that number and the member's offset together
+abbrev pub PhraseIn : List ℕ → List (ℕ × List ℕ) → Type 0
+PhraseIn text pattern = (p : ℕ) × All (λ m. Contains (tokens text) (p + m.0, m.1)) pattern
+
+-- a value has a phrase
+abbrev pub value_has_phrase : List (ℕ × List ℕ) → FieldValue → Bool
+value_has_phrase pattern (values.Text text) = phrase_in text pattern
+value_has_phrase pattern (values.Number n) = false
+
+-- one number is below another of its kind, or not above it
+abbrev pub number_lt : Number → Number → Bool
+number_lt (U64 n) (U64 m) = nat_lt n m
+number_lt (I64 n) (I64 m) = int_lt n m
+number_lt a b = false
+
+abbrev pub number_le : Number → Number → Bool
+number_le (U64 n) (U64 m) = nat_le n m
+number_le (I64 n) (I64 m) = not (int_lt m n)
+number_le a b = false
+
+-- the same of the numbers that values are
+abbrev pub value_lt : FieldValue → FieldValue → Bool
+value_lt (values.Number n) (values.Number m) = number_lt n m
+value_lt a b = false
+
+abbrev pub value_le : FieldValue → FieldValue → Bool
+value_le (values.Number n) (values.Number m) = number_le n m
+value_le a b = false
+
+-- a lower and an upper bound admit a value
+abbrev pub admits_from : Bound FieldValue → FieldValue → Bool
+admits_from (Included bound) value = value_le bound value
+admits_from (Excluded bound) value = value_lt bound value
+admits_from Unbounded value = true
+
+abbrev pub admits_to : Bound FieldValue → FieldValue → Bool
+admits_to (Included bound) value = value_le value bound
+admits_to (Excluded bound) value = value_lt value bound
+admits_to Unbounded value = true
+
+-- whether a list has a member
+abbrev pub is_nonempty : {X : Type 0} → List X → Bool
+is_nonempty [] = false
+is_nonempty (x ∷ xs) = true
+
+-- a query matches a document, where each query in it is seen as whether it does
+abbrev pub matches_by_parts : List Field → DocumentValue → Query-F Bool → Bool
+matches_by_parts schema document Query-F.All = true
+matches_by_parts schema document Query-F.None = false
+matches_by_parts schema document (Query-F.Term term) = has schema document term
+matches_by_parts schema document (Query-F.Phrase field pattern) = option_map_or (value_has_phrase pattern.items) (value_in_field document field) false
+matches_by_parts schema document (Query-F.Range field lower upper) = option_map_or (λ v. admits_from lower v && admits_to upper v) (value_in_field document field) false
+matches_by_parts schema document (Query-F.Bool must must_not should) =
+    list_all (λ b. b) must.items && not (list_any (λ b. b) must_not.items) && (is_nonempty must.items || list_any (λ b. b) should.items)
+
+-- a query matches a document
+abbrev pub matches : List Field → DocumentValue → Query → Bool
+matches schema document = fold-Query Bool (matches_by_parts schema document)
+
+-- the documents, with their stamps, that a query matches
+abbrev pub hits : List Field → Query → List (Stamped DocumentValue) → List (Stamped DocumentValue)
+hits schema query documents = filter (λ d. matches schema d.value query) documents
+
+-- whether fields of this kind hold phrases
+abbrev pub holds_phrases : Kind → Bool
+holds_phrases kinds.Text = true
+holds_phrases kind = false
+
+-- whether a bound is one of a field of this kind
+abbrev pub is_bound_of : Kind → Bound FieldValue → Bool
+is_bound_of kind (Included bound) = is_of_kind kind bound
+is_bound_of kind (Excluded bound) = is_of_kind kind bound
+is_bound_of kind Unbounded = true
+
+-- whether a range fits fields of this kind
+abbrev pub is_range_of : Bound FieldValue → Bound FieldValue → Kind → Bool
+is_range_of lower upper kind = holds_numbers kind && is_bound_of kind lower && is_bound_of kind upper
+
+-- a query fits a schema, where each query in it is seen as whether it does
+abbrev pub query_fits_by_parts : List Field → Query-F Bool → Bool
+query_fits_by_parts schema Query-F.All = true
+query_fits_by_parts schema Query-F.None = true
+query_fits_by_parts schema (Query-F.Term term) = term_fits schema term
+query_fits_by_parts schema (Query-F.Phrase field pattern) = option_map_or holds_phrases (kind_at schema field) false && is_nonempty pattern.items
+query_fits_by_parts schema (Query-F.Range field lower upper) = option_map_or (is_range_of lower upper) (kind_at schema field) false
+query_fits_by_parts schema (Query-F.Bool must must_not should) = list_all (λ b. b) must.items && list_all (λ b. b) must_not.items && list_all (λ b. b) should.items
+
+-- whether a query fits a schema: a term's value is of its field's kind, a phrase is of a text field and has a member, a range is of a number field and so are its bounds
+abbrev pub query_fits : List Field → Query → Bool
+query_fits schema query = fold-Query Bool (query_fits_by_parts schema) query
+
+-- whether the field of this number holds numbers
+abbrev pub is_number_field : List Field → ℕ → Bool
+is_number_field schema field = option_map_or holds_numbers (kind_at schema field) false
+
+-- whether a top list may have at most so many members
+abbrev pub is_limit : ℕ → Bool
+is_limit k = nat_le 1 k && nat_le k 10000
+
+-- whether a request fits a schema: it is about number fields, and its limit is one
+abbrev pub request_fits : List Field → Request → Bool
+request_fits schema request =
+    option_map_or (is_number_field schema) request.groups true && option_map_or (λ top. is_number_field schema top.by && is_limit top.k) request.top true
+
+-- the number of the number field of this name
+abbrev pub number_field_named : List Field → List ℕ → Result ℕ Refusal
+number_field_named schema name =
+    option_map_or (λ field. if is_number_field schema field then Ok field else Err NotANumberField) (field_named name schema) (Err UnknownField)
+
+-- the field of the groups that are asked for, if they are
+abbrev pub groups_of : List Field → Option (List ℕ) → Result (Option ℕ) Refusal
+groups_of schema None = Ok None
+groups_of schema (Some name) = result_map Some (number_field_named schema name)
+
+-- the top list that is asked for, if it is
+abbrev pub top_of : List Field → Option (List ℕ × ℕ × Order) → Result (Option Top) Refusal
+top_of schema None = Ok None
+top_of schema (Some (name, k, order)) =
+    result_and_then (λ field. if is_limit k then Ok (Some (record { by = field; k = k; order = order })) else Err BadLimit) (number_field_named schema name)
+
+-- the request for groups by the field of this name, and for a top list
+abbrev pub request_of : List Field → Option (List ℕ) → Option (List ℕ × ℕ × Order) → Result Request Refusal
+request_of schema groups top =
+    result_and_then (λ field. result_map (λ list. record { groups = field; top = list }) (top_of schema top)) (groups_of schema groups)

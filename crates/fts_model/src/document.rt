@@ -1,0 +1,295 @@
+// Documents: a value, or none, for each field of a schema.
+ghost use Rattle.std.specs.Prelude.{◌≡◌, ◌<◌, ◌≤◌, List, ℕ, Some, None, Ok, IfOk, IfErr, OnOk, map, length, slice_get, unwrap_or, option_map, option_copied};
+ghost use Rattle.std.specs.Arc.{arc_value};
+ghost use Rattle.std.specs.List.{find};
+ghost use Rattle.serde_json.specs.View.{view, members_view};
+ghost use Rattle.fts_model.specs.Outcomes.{Gives, error_if_err};
+ghost use Rattle.serde_json.specs.Data.{object, no_members};
+ghost use Rattle.fts_model.specs.Schemas.{schema_fault, is_named};
+ghost use Rattle.fts_model.specs.Documents.{value_in, value_at, members_fault, member_fault, document_of, data_of, with_value, with_values, json_of, may_stand as may_stand_in, fits_fields, fits, value_in_field};
+ghost use Rattle.fts_model.specs.declared.refusal.Refusal.TheVariants.{Memory};
+
+use crate::refusal::Refusal;
+use crate::schema::{Field, Kind, Schema};
+use crate::text::Text;
+use crate::value::{FieldValue, Number};
+use serde_json::{Map, Value};
+use std::alloc::{AllocError, Global};
+use std::marker::Model;
+use std::sync::Arc;
+
+/// The most bytes of a text.
+const LONGEST_TEXT: usize = 1_048_576;
+
+/// The most bytes of a keyword.
+const LONGEST_KEYWORD: usize = 256;
+
+/// What is wrong with a JSON value in a field of this kind.
+pub(crate) fn fault_of_value(kind: Kind, json: &Value) -> Option<Refusal>
+    ensures { result ≡ error_if_err (value_in kind (view json.now)) }
+{
+    if json.is_null() {
+        return None;
+    }
+    if let Some(text) = json.as_str() {
+        return match kind {
+            Kind::Text if text.len() <= LONGEST_TEXT => None,
+            Kind::Text => Some(Refusal::TextTooLong),
+            Kind::Keyword if text.len() <= LONGEST_KEYWORD => None,
+            Kind::Keyword => Some(Refusal::KeywordTooLong),
+            Kind::U64 | Kind::I64 => Some(Refusal::WrongKind),
+        };
+    }
+    let fits = match (kind, json.as_number()) {
+        (Kind::U64, Some(number)) => number.is_u64(),
+        (Kind::I64, Some(number)) => number.is_i64(),
+        _ => false,
+    };
+    if fits { None } else { Some(Refusal::WrongKind) }
+}
+
+/// The value that a JSON value is in a field of this kind.
+pub(crate) fn value_of(
+    alloc: Global,
+    kind: Kind,
+    json: &Value,
+) -> Result<Option<FieldValue>, AllocError>
+    requires { error_if_err (value_in kind (view json.now)) ≡ None }
+    ensures { IfOk result (λ value. value_in kind (view json.now) ≡ Ok value) }
+{
+    if let Some(text) = json.as_str() {
+        let text = Text::new(String::from_str(alloc, text)?);
+        return Ok(Some(FieldValue::Text(text)));
+    }
+    let Some(number) = json.as_number() else {
+        return Ok(None);
+    };
+    let number = match kind {
+        Kind::U64 => number.as_u64().map(Number::U64),
+        Kind::I64 => number.as_i64().map(Number::I64),
+        Kind::Text | Kind::Keyword => None,
+    };
+    Ok(number.map(FieldValue::Number))
+}
+
+/// The field of this name.
+pub(crate) fn field_of<'a>(fields: &'a [Field], name: &str) -> Option<&'a Field>
+    ensures { option_copied result ≡ find (is_named name.now) fields.entry.now }
+{
+    fields.iter().find(|field| field.name.as_str() == name)
+}
+
+/// What is wrong with a member of an object.
+fn fault_of_member(schema: &Schema, name: &str, json: &Value) -> Option<Refusal>
+    ensures { result ≡ member_fault schema.now name.now (view json.now) }
+{
+    match field_of(schema.fields(), name) {
+        None => Some(Refusal::UnknownField),
+        Some(field) => fault_of_value(field.kind, json),
+    }
+}
+
+/// What is wrong with the members of an object: the first fault, in the order of their names.
+fn fault_of_members(schema: &Schema, members: &Map<String, Value>) -> Option<Refusal>
+    ensures { result ≡ members_fault schema.now (members_view members.now.entries) }
+{
+    for (name, json) in members {
+        if let Some(fault) = fault_of_member(schema, name.as_str(), json) {
+            return Some(fault);
+        }
+    }
+    None
+}
+
+/// The values that an object without a fault has in the fields of a schema.
+fn values_of(
+    alloc: Global,
+    fields: &[Field],
+    json: &Value,
+    members: &Map<String, Value>,
+) -> Result<Vec<Option<FieldValue>>, AllocError>
+    requires object { view json.now ≡ object (members_view members.now.entries) }
+    requires valid { schema_fault fields.now ≡ None }
+    requires no_fault { members_fault fields.now (members_view members.now.entries) ≡ None }
+    ensures { IfOk result (λ values. values.items ≡ map (value_at (members_view members.now.entries)) fields.now) }
+{
+    let mut values = Vec::with_capacity(alloc, fields.len())?;
+    for field in fields {
+        let value = match json.get(field.name.as_str()) {
+            Some(json) => value_of(alloc, field.kind, json)?,
+            None => None,
+        };
+        values.push(value)?;
+    }
+    Ok(values)
+}
+
+/// What a document keeps.
+#[derive(Drop)]
+struct Stored {
+    schema: Schema,
+    values: Vec<Option<FieldValue>>,
+}
+
+/// Keeps the values of an object without a fault.
+fn keep(
+    alloc: Global,
+    schema: &Schema,
+    json: &Value,
+    members: &Map<String, Value>,
+) -> Result<Arc<Stored>, AllocError>
+    requires object { view json.now ≡ object (members_view members.now.entries) }
+    requires no_fault { members_fault schema.now (members_view members.now.entries) ≡ None }
+    ensures schema { IfOk result (λ stored. (arc_value stored).schema ≡ schema.now) }
+    ensures values { IfOk result (λ stored. (arc_value stored).values.items ≡ map (value_at (members_view members.now.entries)) schema.now) }
+{
+    let values = values_of(alloc, schema.fields(), json, members)?;
+    let schema = schema.clone()?;
+    Ok(Arc::new(alloc, Stored { schema, values })?)
+}
+
+/// A document: at most one value for each field of the schema that it was made under. A copy shares it.
+#[derive(Drop)]
+pub struct Document {
+    stored: Arc<Stored>,
+}
+
+impl Model for Document {
+    ghost use Rattle.fts_model.specs.Documents.{DocumentValue};
+
+    ghost Value = { DocumentValue };
+
+    ghost use Rattle.fts_model.specs.Stored.{stored_value, IsStored};
+
+    ghost view = { stored_value };
+
+    ghost invariant = { IsStored };
+}
+
+impl Document {
+    /// The document that a JSON value is under a schema.
+    ///
+    /// It is refused as `NotAnObject`, or else by the first fault of its members, which are looked at in the order of
+    /// their names' bytes: `UnknownField`, `WrongKind` (a text or keyword field takes a string, a `u64` or `i64` field
+    /// a whole number in its range; any takes null, which is no value), `TextTooLong` (over 1,048,576 bytes) or
+    /// `KeywordTooLong` (over 256 bytes).
+    pub fn from_json(alloc: Global, schema: &Schema, json: &Value) -> Result<Document, Refusal>
+        ensures { Gives (λ document. document) result (document_of schema.now (view json.now)) }
+    {
+        let Some(members) = json.as_object() else {
+            return Err(Refusal::NotAnObject);
+        };
+        if let Some(fault) = fault_of_members(schema, members) {
+            return Err(fault);
+        }
+        match keep(alloc, schema, json, members) {
+            Ok(stored) => Ok(Document { stored }),
+            Err(AllocError) => Err(Refusal::Memory),
+        }
+    }
+
+    /// The fields that have a value, as a JSON object with the names in the order of their bytes.
+    pub fn to_json(&self, alloc: Global) -> Result<Value, Refusal>
+        ensures json { IfOk result (λ json. view json ≡ json_of self.now) }
+        ensures memory { IfErr result (λ e. e ≡ Memory) }
+    {
+        let fields = self.stored.schema.fields();
+        match members_of(alloc, fields, &self.stored.values) {
+            Ok(members) => Ok(Value::Object(members)),
+            Err(AllocError) => Err(Refusal::Memory),
+        }
+    }
+
+    /// Whether each field that has a value stands in the schema, at the same number and under the same name, and is
+    /// of a kind that holds such a value.
+    pub fn fits(&self, schema: &Schema) -> bool
+        ensures { result ≡ fits schema.now self.now }
+    {
+        values_fit(schema.fields(), self.stored.schema.fields(), &self.stored.values)
+    }
+
+    /// The value of the field of this number, if it has one.
+    pub fn value(&self, field: usize) -> Option<&FieldValue>
+        ensures { option_copied result ≡ value_in_field self.now field }
+    {
+        self.stored.values.get(field)?.as_ref()
+    }
+}
+
+impl Clone for Document {
+    ghost is_clone = { λ document copy. copy ≡ document };
+
+    fn clone(&self) -> Result<Self, AllocError> {
+        Ok(Document {
+            stored: Arc::try_clone(&self.stored)?,
+        })
+    }
+}
+
+/// A value as JSON.
+pub(crate) fn json_of_value(alloc: Global, value: &FieldValue) -> Result<Value, AllocError>
+    ensures { IfOk result (λ json. view json ≡ data_of value.now) }
+{
+    Ok(match value {
+        FieldValue::Text(text) => Value::String(String::from_str(alloc, text.as_str())?),
+        FieldValue::Number(Number::U64(n)) => Value::from(*n),
+        FieldValue::Number(Number::I64(n)) => Value::from(*n),
+    })
+}
+
+/// Puts the value of a field among the members of an object, if there is one.
+fn put_value(
+    alloc: Global,
+    members: &mut Map<String, Value>,
+    field: &Field,
+    value: &Option<FieldValue>,
+) -> Result<(), AllocError>
+    ensures { OnOk result (members_view members.new.entries ≡ with_value (members_view members.old.entries) field.now value.now) }
+{
+    if let Some(value) = value {
+        let name = String::from_str(alloc, field.name.as_str())?;
+        members.insert(name, json_of_value(alloc, value)?)?;
+    }
+    Ok(())
+}
+
+/// The members of an object for the fields that have a value.
+fn members_of(
+    alloc: Global,
+    fields: &[Field],
+    values: &[Option<FieldValue>],
+) -> Result<Map<String, Value>, AllocError>
+    ensures { IfOk result (λ members. members_view members.entries ≡ with_values no_members fields.now values.now) }
+{
+    let mut members = Map::new(alloc);
+    for (field, value) in fields.iter().zip(values) {
+        put_value(alloc, &mut members, field, value)?;
+    }
+    Ok(members)
+}
+
+/// Whether a value of one field may stand in another.
+fn may_stand(there: Option<&Field>, field: &Field, value: &Option<FieldValue>) -> bool
+    ensures { result ≡ may_stand_in (option_copied there.entry) field.now value.now }
+{
+    match (there, value) {
+        (_, None) => true,
+        (None, Some(_)) => false,
+        (Some(there), Some(value)) => {
+            field.name.as_str() == there.name.as_str() && there.kind.holds(value)
+        }
+    }
+}
+
+/// Whether values fit a schema, each of a field of another.
+fn values_fit(schema: &[Field], fields: &[Field], values: &[Option<FieldValue>]) -> bool
+    ensures { result ≡ fits_fields schema.now fields.now values.now }
+{
+    let mut schema = schema.iter();
+    for (field, value) in fields.iter().zip(values) {
+        if !may_stand(schema.next(), field, value) {
+            return false;
+        }
+    }
+    true
+}

@@ -1,0 +1,138 @@
+// What is done to an index: documents are added, and those with a term are deleted.
+ghost use Rattle.std.specs.Prelude.{◌≡◌, option_copied};
+ghost use Rattle.serde_json.specs.View.{view};
+ghost use Rattle.fts_model.specs.Outcomes.{Gives};
+ghost use Rattle.fts_model.specs.Operations.{kind_at as kind_of_field, some_value_in, term_value as value_of_term};
+
+use crate::document::{Document, fault_of_value, value_of};
+use crate::refusal::Refusal;
+use crate::schema::{Kind, Schema};
+use crate::text::Text;
+use crate::value::FieldValue;
+use serde_json::Value;
+use std::alloc::{AllocError, Global};
+
+/// A place in the order of all operations and commits. The first operation has stamp 1.
+pub type Stamp = u64;
+
+/// The kind of the field of this number, if there is one.
+pub(crate) fn kind_at(schema: &Schema, field: usize) -> Option<Kind>
+    ensures { result ≡ kind_of_field schema.now field }
+{
+    Some(schema.fields().get(field)?.kind)
+}
+
+/// The value that a JSON value is in a field of this kind, where null is none.
+fn some_value_of(alloc: Global, kind: Kind, json: &Value) -> Result<FieldValue, Refusal>
+    ensures { Gives (λ value. value) result (some_value_in kind (view json.now)) }
+{
+    if let Some(fault) = fault_of_value(kind, json) {
+        return Err(fault);
+    }
+    match value_of(alloc, kind, json) {
+        Ok(Some(value)) => Ok(value),
+        Ok(None) => Err(Refusal::WrongKind),
+        Err(AllocError) => Err(Refusal::Memory),
+    }
+}
+
+/// A token of any length.
+fn token(alloc: Global, json: &Value) -> Result<FieldValue, Refusal>
+    ensures { Gives (λ value. value) result (value_of_term Kind.Text (view json.now)) }
+{
+    let Some(token) = json.as_str() else {
+        return Err(Refusal::WrongKind);
+    };
+    match String::from_str(alloc, token) {
+        Ok(token) => Ok(FieldValue::Text(Text::new(token))),
+        Err(AllocError) => Err(Refusal::Memory),
+    }
+}
+
+/// The value of a term in a field of this kind.
+fn term_value(alloc: Global, kind: Kind, json: &Value) -> Result<FieldValue, Refusal>
+    ensures { Gives (λ value. value) result (value_of_term kind (view json.now)) }
+{
+    match kind {
+        Kind::Text => token(alloc, json),
+        Kind::Keyword | Kind::U64 | Kind::I64 => some_value_of(alloc, kind, json),
+    }
+}
+
+/// What a delete or a query looks for in a field: a token of a text field, the whole text of a keyword field, or the
+/// number of a number field. It isn't analysed: a token is given as it is folded.
+#[derive(Clone, Debug, Drop, PartialEq, Eq)]
+pub struct Term {
+    /// The number of the field.
+    pub field: usize,
+    pub value: FieldValue,
+}
+
+impl Term {
+    ghost use Rattle.std.specs.Prelude.{◌≡◌};
+    ghost use Rattle.serde_json.specs.View.{view};
+    ghost use Rattle.fts_model.specs.Outcomes.{Gives};
+    ghost use Rattle.fts_model.specs.Operations.{term_of, term_fits};
+
+    /// The term that a JSON value is in the field of this name.
+    ///
+    /// It is refused as `UnknownField`, or else as `WrongKind` (a text or keyword field takes a string, a `u64` or
+    /// `i64` field a whole number in its range; none takes null) or `KeywordTooLong` (over 256 bytes). A text field
+    /// takes a string of any length.
+    pub fn new(alloc: Global, schema: &Schema, name: &str, json: &Value) -> Result<Term, Refusal>
+        ensures { Gives (λ term. term) result (term_of schema.now name.now (view json.now)) }
+    {
+        let Some(field) = schema.field(name) else {
+            return Err(Refusal::UnknownField);
+        };
+        let Some(kind) = kind_at(schema, field) else {
+            return Err(Refusal::UnknownField);
+        };
+        let value = term_value(alloc, kind, json)?;
+        Ok(Term { field, value })
+    }
+
+    /// Whether the value is of its field's kind.
+    pub fn fits(&self, schema: &Schema) -> bool
+        ensures { result ≡ term_fits schema.now self.now }
+    {
+        match kind_at(schema, self.field) {
+            None => false,
+            Some(kind) => kind.holds(&self.value),
+        }
+    }
+}
+
+/// An operation on an index.
+#[derive(Clone, Drop)]
+pub enum Op {
+    /// Adds a document.
+    Add(Document),
+    /// Deletes the documents of smaller stamp that have the term.
+    Delete(Term),
+    /// Deletes every document of smaller stamp.
+    DeleteAll,
+}
+
+impl Op {
+    ghost use Rattle.std.specs.Prelude.{◌≡◌};
+    ghost use Rattle.fts_model.specs.Operations.{op_fits};
+
+    /// Whether the document or the term fits the schema.
+    pub fn fits(&self, schema: &Schema) -> bool
+        ensures { result ≡ op_fits schema.now self.now }
+    {
+        match self {
+            Op::Add(document) => document.fits(schema),
+            Op::Delete(term) => term.fits(schema),
+            Op::DeleteAll => true,
+        }
+    }
+}
+
+/// A value with its stamp.
+#[derive(Drop)]
+pub struct Stamped<T> {
+    pub stamp: Stamp,
+    pub value: T,
+}

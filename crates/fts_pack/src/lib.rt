@@ -1,0 +1,2 @@
+// Packed numbers.
+#![tactic(auto)]

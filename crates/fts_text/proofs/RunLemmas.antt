@@ -1,0 +1,147 @@
+-- The runs of a text, one after another.
+use Rattle.std.proofs.Common.{◌≡◌, ◌<◌, ℕ, ◌+◌, Bool, true, false, not, cond, nat_lt, List, [], ◌∷◌, length, drop, filter, refl, sym, ap, ◌∙◌, arith, add-zero, add_assoc}
+use Rattle.std.specs.Bool.{beq}
+use Rattle.std.specs.Char.{len_utf8}
+use Rattle.std.specs.List.{slice_split, onto_first}
+use Rattle.std.specs.Str.{encode_utf8_all, chars, IsUtf8}
+use Rattle.std.proofs.lemmas.Bool.Decides.{nat_tests}
+use Rattle.std.proofs.lemmas.Str.{len_utf8_bounds}
+use Rattle.fts_text.specs.Characters.{is_alphanumeric, span_len}
+use Rattle.fts_text.specs.Tokens.{Run, char_indices, chars_of, byte_len, runs}
+use Rattle.fts_text.specs.Places.{start_of, place_of}
+use Rattle.fts_text.specs.declared.tokenizer.Token.{Token}
+use Rattle.fts_text.proofs.SpanLemmas.{front, after, length-front, chars-drop-span_len}
+
+-- the test at which a text is cut
+abbrev pub separates : ℕ × ℕ → Bool
+separates p = not (is_alphanumeric p.1)
+
+abbrev pub is_nonempty : Run → Bool
+is_nonempty run = nat_lt 0 (length run)
+
+abbrev pub parts : ℕ → List ℕ → List Run
+parts at cs = slice_split separates (char_indices at cs)
+
+pub chars_of-char_indices : (at : ℕ) (cs : List ℕ) → chars_of (char_indices at cs) ≡ cs
+chars_of-char_indices at [] = refl
+chars_of-char_indices at (c ∷ cs) = ap (λ l. c ∷ l) (chars_of-char_indices (at + len_utf8 c) cs)
+
+pub runs-nil : (at : ℕ) → runs at [] ≡ []
+unfolding runs
+runs-nil at = refl
+
+-- the runs of a text that begins with a character that is not alphanumeric, or that is
+runs-gap-at : (at c : ℕ) (cs : List ℕ) (b : Bool) → is_alphanumeric c ≡ b
+    → runs (at + len_utf8 c) cs ≡ runs (at + len_utf8 c + span_len false cs) (after false cs)
+    → runs at (c ∷ cs) ≡ runs (at + cond (beq b false) (len_utf8 c + span_len false cs) 0) (cond (beq b false) (after false cs) (c ∷ cs))
+unfolding runs
+runs-gap-at at c cs true is ih = ap (λ n. runs n (c ∷ cs)) (sym (add-zero at))
+runs-gap-at at c cs false is ih =
+    ap (λ b. filter is_nonempty (cond (not b) ([] ∷ parts (at + len_utf8 c) cs) (onto_first (at, c) (parts (at + len_utf8 c) cs)))) is
+    ∙ ih
+    ∙ ap (λ n. runs n (after false cs)) (add_assoc at (len_utf8 c) (span_len false cs))
+
+-- a gap at the front may be left out
+pub runs-gap : (at : ℕ) (cs : List ℕ) → runs at cs ≡ runs (at + span_len false cs) (after false cs)
+runs-gap at [] = ap (λ n. runs n []) (sym (add-zero at))
+runs-gap at (c ∷ cs) = runs-gap-at at c cs (is_alphanumeric c) refl (runs-gap (at + len_utf8 c) cs)
+
+-- the first part is the front, and the others have the runs of the rest
+abbrev pub BeginsWithFront : ℕ → List ℕ → Type 0
+BeginsWithFront at cs = (tail : List Run) × (parts at cs ≡ char_indices at (front true cs) ∷ tail) × (filter is_nonempty tail ≡ runs (at + span_len true cs) (after true cs))
+
+parts-front-at : (at c : ℕ) (cs : List ℕ) (b : Bool) → is_alphanumeric c ≡ b → BeginsWithFront (at + len_utf8 c) cs
+    → (tail : List Run) × (parts at (c ∷ cs) ≡ char_indices at (cond (beq b true) (c ∷ front true cs) []) ∷ tail)
+    × (filter is_nonempty tail ≡ runs (at + cond (beq b true) (len_utf8 c + span_len true cs) 0) (cond (beq b true) (after true cs) (c ∷ cs)))
+unfolding runs
+parts-front-at at c cs true is ih = (
+  ih.0,
+  ap (λ b. cond (not b) ([] ∷ parts (at + len_utf8 c) cs) (onto_first (at, c) (parts (at + len_utf8 c) cs))) is ∙ ap (onto_first (at, c)) ih.1,
+  ih.2 ∙ ap (λ n. runs n (after true cs)) (add_assoc at (len_utf8 c) (span_len true cs)),
+)
+parts-front-at at c cs false is ih = (
+  parts (at + len_utf8 c) cs,
+  ap (λ b. cond (not b) ([] ∷ parts (at + len_utf8 c) cs) (onto_first (at, c) (parts (at + len_utf8 c) cs))) is,
+  sym (ap (λ b. filter is_nonempty (cond (not b) ([] ∷ parts (at + len_utf8 c) cs) (onto_first (at, c) (parts (at + len_utf8 c) cs)))) is)
+      ∙ ap (λ n. runs n (c ∷ cs)) (sym (add-zero at)),
+)
+
+pub parts-front : (at : ℕ) (cs : List ℕ) → BeginsWithFront at cs
+unfolding runs
+parts-front at [] = ([], refl, refl)
+parts-front at (c ∷ cs) = parts-front-at at c cs (is_alphanumeric c) refl (parts-front (at + len_utf8 c) cs)
+
+filter-first : (at : ℕ) (ds : List ℕ) (tail : List Run) → 0 < length (encode_utf8_all ds) → filter is_nonempty (char_indices at ds ∷ tail) ≡ char_indices at ds ∷ filter is_nonempty tail
+filter-first at [] tail some = absurd (omega arith)
+filter-first at (d ∷ ds) tail some =
+    let yes : is_nonempty (char_indices at (d ∷ ds)) ≡ true = grind (arith, nat_tests) in
+    ap (λ b. cond b (char_indices at (d ∷ ds) ∷ filter is_nonempty tail) (filter is_nonempty tail)) yes
+
+-- a front that is not empty is the first run
+pub runs-front : (at : ℕ) (cs : List ℕ) → 0 < span_len true cs → runs at cs ≡ char_indices at (front true cs) ∷ runs (at + span_len true cs) (after true cs)
+unfolding runs
+runs-front at cs some =
+    let begins = parts-front at cs in
+    let long = length-front true cs in
+    ap (filter is_nonempty) begins.1
+    ∙ filter-first at (front true cs) begins.0 (omega arith)
+    ∙ ap (λ rs. char_indices at (front true cs) ∷ rs) begins.2
+
+-- after a gap there is a run, or nothing
+after-gap-at : (c : ℕ) (cs : List ℕ) (b : Bool) → is_alphanumeric c ≡ b → (span_len true (after false cs) ≡ 0 → after false cs ≡ [])
+    → span_len true (cond (beq b false) (after false cs) (c ∷ cs)) ≡ 0 → cond (beq b false) (after false cs) (c ∷ cs) ≡ []
+after-gap-at c cs true is ih none =
+    let some = ap (λ b. cond (beq b true) (len_utf8 c + span_len true cs) 0) is in
+    absurd (omega (arith, len_utf8_bounds c))
+after-gap-at c cs false is ih none = ih none
+
+pub after-gap : (cs : List ℕ) → span_len true (after false cs) ≡ 0 → after false cs ≡ []
+after-gap [] none = refl
+after-gap (c ∷ cs) none = after-gap-at c cs (is_alphanumeric c) refl (after-gap cs) none
+
+-- what follows a front, in the bytes of a text
+chars-rest : (a : Bool) (bs rest : List ℕ) (n : ℕ) → IsUtf8 bs → n ≡ span_len a (chars bs) → rest ≡ drop n bs → chars rest ≡ after a (chars bs)
+chars-rest a bs rest n text long cut =
+    ap chars cut ∙ ap (λ k. chars (drop k bs)) long ∙ chars-drop-span_len a bs text
+
+-- past the gap at the front of a text
+runs-past_gap : (at gap : ℕ) (bs mid : List ℕ) → IsUtf8 bs → gap ≡ span_len false (chars bs) → mid ≡ drop gap bs → runs at (chars bs) ≡ runs (at + gap) (chars mid)
+runs-past_gap at gap bs mid text long cut =
+    runs-gap at (chars bs)
+    ∙ ap (λ k. runs (at + k) (after false (chars bs))) (sym long)
+    ∙ ap (runs (at + gap)) (sym (chars-rest false bs mid gap text long cut))
+
+-- the first run of a text, and those of the rest
+pub runs-step : (at gap len : ℕ) (bs mid rest : List ℕ) → IsUtf8 bs → gap ≡ span_len false (chars bs) → mid ≡ drop gap bs → IsUtf8 mid → len ≡ span_len true (chars mid) → rest ≡ drop len mid → 0 < len
+    → runs at (chars bs) ≡ char_indices (at + gap) (front true (chars mid)) ∷ runs (at + gap + len) (chars rest)
+runs-step at gap len bs mid rest text gap_is mid_is mid_text len_is rest_is some =
+    runs-past_gap at gap bs mid text gap_is mid_is
+    ∙ runs-front (at + gap) (chars mid) (omega arith)
+    ∙ ap (λ k. char_indices (at + gap) (front true (chars mid)) ∷ runs (at + gap + k) (after true (chars mid))) (sym len_is)
+    ∙ ap (λ cs. char_indices (at + gap) (front true (chars mid)) ∷ runs (at + gap + len) cs) (sym (chars-rest true mid rest len mid_text len_is rest_is))
+
+-- a text with a gap alone has no run
+pub runs-end : (at gap len : ℕ) (bs mid rest : List ℕ) → IsUtf8 bs → gap ≡ span_len false (chars bs) → mid ≡ drop gap bs → IsUtf8 mid → len ≡ span_len true (chars mid) → rest ≡ drop len mid → len ≡ 0
+    → (runs at (chars bs) ≡ []) × (runs (at + gap + len) (chars rest) ≡ [])
+runs-end at gap len bs mid rest text gap_is mid_is mid_text len_is rest_is none =
+    let mid_chars = chars-rest false bs mid gap text gap_is mid_is in
+    let empty : after false (chars bs) ≡ [] = after-gap (chars bs) (ap (span_len true) (sym mid_chars) ∙ sym len_is ∙ none) in
+    let mid_empty : chars mid ≡ [] = mid_chars ∙ empty in (
+      runs-past_gap at gap bs mid text gap_is mid_is ∙ ap (runs (at + gap)) mid_empty ∙ runs-nil (at + gap),
+      ap (runs (at + gap + len)) (chars-rest true mid rest len mid_text len_is rest_is ∙ ap (after true) mid_empty) ∙ runs-nil (at + gap + len),
+    )
+
+pub start_of-char_indices : (at : ℕ) (ds : List ℕ) → 0 < length (encode_utf8_all ds) → start_of (char_indices at ds) ≡ at
+start_of-char_indices at [] some = absurd (omega arith)
+start_of-char_indices at (d ∷ ds) some = refl
+
+pub byte_len-char_indices : (at : ℕ) (ds : List ℕ) → byte_len (char_indices at ds) ≡ length (encode_utf8_all ds)
+byte_len-char_indices at ds = ap (λ l. length (encode_utf8_all l)) (chars_of-char_indices at ds)
+
+-- the place of a front
+pub place_of-front : (n at len : ℕ) (cs : List ℕ) → len ≡ span_len true cs → 0 < len → (let token : Token = record { position = n; start = at; end = at + len } in token) ≡ place_of (n, char_indices at (front true cs))
+place_of-front n at len cs long some =
+    let bytes = byte_len-char_indices at (front true cs) ∙ length-front true cs in
+    let starts : at ≡ start_of (char_indices at (front true cs)) = sym (start_of-char_indices at (front true cs) (omega (arith, length-front true cs))) in
+    let ends : at + len ≡ start_of (char_indices at (front true cs)) + byte_len (char_indices at (front true cs)) = omega arith in
+    λ i. record { position = n; start = starts i; end = ends i }

@@ -1,0 +1,105 @@
+-- How far the characters of one class go.
+use Rattle.std.proofs.Common.{◌≡◌, ◌≤◌, ℕ, ◌+◌, Bool, true, false, not, cond, List, [], ◌∷◌, ◌++◌, length, drop, refl, sym, ap, subst, ◌∙◌, arith, length-append}
+use Rattle.std.proofs.Math.Seq.{drop-append-add}
+use Rattle.std.proofs.lemmas.Bool.{and_parts}
+use Rattle.std.proofs.lemmas.Str.{chars-nil, chars-encodes, chars_past_char, encodes-chars, scalars-chars, length-encode, IsCharBoundary-from_drop}
+use lib.Utf8.{encodes, scalar, scalars}
+use Rattle.std.specs.Bool.{beq}
+use Rattle.std.specs.Char.{encode_utf8, len_utf8}
+use Rattle.std.specs.Str.{chars, IsUtf8, IsCharBoundary}
+use Rattle.fts_text.specs.Characters.{is_alphanumeric, span_len}
+
+true_from_not : (b : Bool) → not b ≡ false → b ≡ true
+true_from_not true h = refl
+true_from_not false h = cc
+
+false_from_not : (b : Bool) → not b ≡ true → b ≡ false
+false_from_not true h = cc
+false_from_not false h = refl
+
+-- no characters are left
+pub span_len-empty : (a : Bool) (bs : List ℕ) → length bs ≡ 0 → span_len a (chars bs) ≡ 0
+span_len-empty a [] h = ap (span_len a) chars-nil
+span_len-empty a (b ∷ bs) h = absurd (omega arith)
+
+-- the next character is of the class
+pub span_len-more : (a : Bool) (bs rest : List ℕ) (c : ℕ) → IsUtf8 bs → bs ≡ encode_utf8 c ++ rest → not (beq (is_alphanumeric c) a) ≡ false → span_len a (chars bs) ≡ len_utf8 c + span_len a (chars rest)
+span_len-more a bs rest c text begins same =
+    ap (span_len a) (chars_past_char bs rest c text begins)
+    ∙ ap (λ b. cond b (len_utf8 c + span_len a (chars rest)) 0) (true_from_not (beq (is_alphanumeric c) a) same)
+
+-- the next character is not
+pub span_len-stop : (a : Bool) (bs rest : List ℕ) (c : ℕ) → IsUtf8 bs → bs ≡ encode_utf8 c ++ rest → not (beq (is_alphanumeric c) a) ≡ true → span_len a (chars bs) ≡ 0
+span_len-stop a bs rest c text begins other =
+    ap (span_len a) (chars_past_char bs rest c text begins)
+    ∙ ap (λ b. cond b (len_utf8 c + span_len a (chars rest)) 0) (false_from_not (beq (is_alphanumeric c) a) other)
+
+-- the characters at the front of the class, and those after them
+abbrev pub front : Bool → List ℕ → List ℕ
+front a [] = []
+front a (c ∷ cs) = cond (beq (is_alphanumeric c) a) (c ∷ front a cs) []
+
+abbrev pub after : Bool → List ℕ → List ℕ
+after a [] = []
+after a (c ∷ cs) = cond (beq (is_alphanumeric c) a) (after a cs) (c ∷ cs)
+
+-- the bytes of both
+length-front-at : (a b : Bool) (c : ℕ) (cs : List ℕ) → length (encodes (front a cs)) ≡ span_len a cs → length (encodes (cond b (c ∷ front a cs) [])) ≡ cond b (len_utf8 c + span_len a cs) 0
+length-front-at a true c cs h =
+    let both = length-append (encode_utf8 c) (encodes (front a cs)) in
+    let one = length-encode c in
+    omega arith
+length-front-at a false c cs h = refl
+
+pub length-front : (a : Bool) (cs : List ℕ) → length (encodes (front a cs)) ≡ span_len a cs
+length-front a [] = refl
+length-front a (c ∷ cs) = length-front-at a (beq (is_alphanumeric c) a) c cs (length-front a cs)
+
+drop-span-at : (a b : Bool) (c : ℕ) (cs : List ℕ) → drop (span_len a cs) (encodes cs) ≡ encodes (after a cs) → drop (cond b (len_utf8 c + span_len a cs) 0) (encodes (c ∷ cs)) ≡ encodes (cond b (after a cs) (c ∷ cs))
+drop-span-at a true c cs h =
+    ap (λ n. drop (n + span_len a cs) (encodes (c ∷ cs))) (sym (length-encode c))
+    ∙ drop-append-add (encode_utf8 c) (encodes cs) (span_len a cs)
+    ∙ h
+drop-span-at a false c cs h = refl
+
+drop-span : (a : Bool) (cs : List ℕ) → drop (span_len a cs) (encodes cs) ≡ encodes (after a cs)
+drop-span a [] = refl
+drop-span a (c ∷ cs) = drop-span-at a (beq (is_alphanumeric c) a) c cs (drop-span a cs)
+
+scalars-after-at : (a b : Bool) (c : ℕ) (cs : List ℕ) → scalars (c ∷ cs) ≡ true → (scalars cs ≡ true → scalars (after a cs) ≡ true) → scalars (cond b (after a cs) (c ∷ cs)) ≡ true
+scalars-after-at a true c cs all h = h (and_parts (scalar c) (scalars cs) all).1
+scalars-after-at a false c cs all h = all
+
+scalars-after : (a : Bool) (cs : List ℕ) → scalars cs ≡ true → scalars (after a cs) ≡ true
+scalars-after a [] all = all
+scalars-after a (c ∷ cs) all = scalars-after-at a (beq (is_alphanumeric c) a) c cs all (scalars-after a cs)
+
+span_len-le-at : (a b : Bool) (c : ℕ) (cs : List ℕ) → span_len a cs ≤ length (encodes cs) → cond b (len_utf8 c + span_len a cs) 0 ≤ length (encodes (c ∷ cs))
+span_len-le-at a true c cs h =
+    let both = length-append (encode_utf8 c) (encodes cs) in
+    let one = length-encode c in
+    omega arith
+span_len-le-at a false c cs h = omega arith
+
+span_len-le-encodes : (a : Bool) (cs : List ℕ) → span_len a cs ≤ length (encodes cs)
+span_len-le-encodes a [] = omega arith
+span_len-le-encodes a (c ∷ cs) = span_len-le-at a (beq (is_alphanumeric c) a) c cs (span_len-le-encodes a cs)
+
+-- in a text: where the front ends, and what comes then
+pub span_len-le : (a : Bool) (bs : List ℕ) → IsUtf8 bs → span_len a (chars bs) ≤ length bs
+span_len-le a bs text =
+    let P : List ℕ → Type 0 = λ l. span_len a (chars bs) ≤ length l in
+    subst P (encodes-chars bs text) (span_len-le-encodes a (chars bs))
+
+drop-span_len : (a : Bool) (bs : List ℕ) → IsUtf8 bs → drop (span_len a (chars bs)) bs ≡ encodes (after a (chars bs))
+drop-span_len a bs text =
+    ap (drop (span_len a (chars bs))) (sym (encodes-chars bs text)) ∙ drop-span a (chars bs)
+
+pub chars-drop-span_len : (a : Bool) (bs : List ℕ) → IsUtf8 bs → chars (drop (span_len a (chars bs)) bs) ≡ after a (chars bs)
+chars-drop-span_len a bs text =
+    ap chars (drop-span_len a bs text) ∙ chars-encodes (after a (chars bs)) (scalars-after a (chars bs) (scalars-chars bs text))
+
+pub IsCharBoundary-span_len : (a : Bool) (bs : List ℕ) → IsUtf8 bs → IsCharBoundary bs (span_len a (chars bs))
+IsCharBoundary-span_len a bs text =
+    let rest : IsUtf8 (drop (span_len a (chars bs)) bs) = (after a (chars bs), (scalars-after a (chars bs) (scalars-chars bs text), sym (drop-span_len a bs text))) in
+    IsCharBoundary-from_drop bs (span_len a (chars bs)) (span_len-le a bs text) rest

@@ -1,0 +1,280 @@
+-- Each run stands in its text.
+use Rattle.std.proofs.Common.{◌≡◌, ◌<◌, ◌≤◌, ◌-◌, ℕ, zero, suc, ◌+◌, Bool, true, false, cond, ◌&&◌, List, [], ◌∷◌, ◌++◌, length, take, drop, map, filter, refl, sym, ap, subst, ◌∙◌, arith, inl, inr, get_or, not, nat_lt, length-append, append_assoc}
+use Rattle.std.proofs.Math.Seq.{take-append_seam, drop-append_seam}
+use Rattle.std.proofs.lemmas.Bool.{and_parts, cases_lt}
+use Rattle.std.proofs.lemmas.List.{length-map}
+use Rattle.std.proofs.lemmas.List.Elements.{All-from_recursion}
+use Rattle.std.proofs.lemmas.List.FromFn.{length-enumerate_from}
+use Rattle.std.proofs.lemmas.Str.{encodes-append, encodes-chars, chars-encodes, scalars-chars, length-le-encodes, IsCharBoundary-at_seam}
+use Rattle.std.specs.Bool.{beq}
+use Rattle.std.specs.Char.{len_utf8}
+use Rattle.std.specs.List.{All, AllByRecursion, enumerate_from, slice_range, onto_first}
+use Rattle.std.specs.Str.{chars, IsUtf8, IsCharBoundary}
+use lib.Utf8.{encodes, scalar, scalars}
+use Rattle.fts_text.specs.Characters.{is_alphanumeric, span_len, fold_chars, folded}
+use Rattle.fts_text.specs.Tokens.{Run, char_indices, chars_of, byte_len, runs, kept, tokens}
+use Rattle.fts_text.specs.Places.{start_of, place_of, places, IsPlaceIn, token_at}
+use Rattle.fts_text.specs.declared.tokenizer.Token.{Token}
+use Rattle.fts_text.proofs.SpanLemmas.{front, after, length-front}
+use Rattle.fts_text.proofs.RunLemmas.{is_nonempty, parts, chars_of-char_indices, byte_len-char_indices, start_of-char_indices, runs-gap, runs-front, runs-nil, after-gap}
+
+-- the characters are those of the front and those after it
+front-after-at : (a b : Bool) (c : ℕ) (cs : List ℕ) → cs ≡ front a cs ++ after a cs → c ∷ cs ≡ cond b (c ∷ front a cs) [] ++ cond b (after a cs) (c ∷ cs)
+front-after-at a true c cs h = ap (λ l. c ∷ l) h
+front-after-at a false c cs h = refl
+
+front-after : (a : Bool) (cs : List ℕ) → cs ≡ front a cs ++ after a cs
+front-after a [] = refl
+front-after a (c ∷ cs) = front-after-at a (beq (is_alphanumeric c) a) c cs (front-after a cs)
+
+-- a numbered run is the characters `here`, which come after `before`
+pub record Stands (n at : ℕ) (cs : List ℕ) (r : ℕ × Run) : Type 0 where
+  pub before : List ℕ
+  pub here : List ℕ
+  pub behind : List ℕ
+  pub whole : cs ≡ before ++ (here ++ behind)
+  pub run : r.1 ≡ char_indices (at + length (encodes before)) here
+  pub some : 0 < length (encodes here)
+  pub numbered : r.0 ≤ n + length (encodes before)
+
+length-encodes-append : (xs ys : List ℕ) → length (encodes (xs ++ ys)) ≡ length (encodes xs) + length (encodes ys)
+length-encodes-append xs ys = ap length (encodes-append xs ys) ∙ length-append (encodes xs) (encodes ys)
+
+-- a run of what follows others stands in the whole
+Stands-later : (n at : ℕ) (cs xs rest : List ℕ) (r : ℕ × Run) → cs ≡ xs ++ rest → 0 < length (encodes xs) → Stands (n + 1) (at + length (encodes xs)) rest r → Stands n at cs r
+Stands-later n at cs xs rest r whole some s =
+    let bytes = length-encodes-append xs s.before in
+    let place : at + length (encodes xs) + length (encodes s.before) ≡ at + length (encodes (xs ++ s.before)) = omega arith in
+    record {
+      before = xs ++ s.before;
+      here = s.here;
+      behind = s.behind;
+      whole = whole ∙ ap (λ l. xs ++ l) s.whole ∙ sym (append_assoc xs s.before (s.here ++ s.behind));
+      run = s.run ∙ ap (λ k. char_indices k s.here) place;
+      some = s.some;
+      numbered = omega (arith, s.numbered);
+    }
+
+AllByRecursion-weaker : {X : Type 0} (P Q : X → Type 0) (xs : List X) → ((x : X) → P x → Q x) → AllByRecursion P xs → AllByRecursion Q xs
+AllByRecursion-weaker P Q [] h all = tt
+AllByRecursion-weaker P Q (x ∷ xs) h all = (h x all.0, AllByRecursion-weaker P Q xs h all.1)
+
+length-some : (xs : List ℕ) → 0 < length (encodes xs) → 0 < length xs
+length-some [] some = absurd (omega arith)
+length-some (x ∷ xs) some = omega arith
+
+-- each run stands in the characters, for characters that are at most `fuel` many
+Stands-all : (fuel n at : ℕ) (cs : List ℕ) → length cs ≤ fuel → AllByRecursion (Stands n at cs) (enumerate_from n (runs at cs))
+Stands-all zero n at [] few = let P : List Run → Type 0 = λ rs. AllByRecursion (Stands n at []) (enumerate_from n rs) in subst P (sym (runs-nil at)) tt
+Stands-all zero n at (c ∷ cs) few = absurd (omega arith)
+Stands-all (suc fuel) n at cs few =
+    let P : List Run → Type 0 = λ rs. AllByRecursion (Stands n at cs) (enumerate_from n rs) in
+    let gap = front false cs in
+    let mid = after false cs in
+    let word = front true mid in
+    let rest = after true mid in
+    let gap_bytes = length-front false cs in
+    let word_bytes = length-front true mid in
+    let split : cs ≡ (gap ++ word) ++ rest = front-after false cs ∙ ap (λ l. gap ++ l) (front-after true mid) ∙ sym (append_assoc gap word rest) in
+    elim (cases_lt 0 (span_len true mid)) [
+      | inl some ↦
+          let both = length-encodes-append gap word in
+          let few_more = length-some word (omega arith) in
+          let long = ap length split ∙ length-append (gap ++ word) rest in
+          let longer = length-append gap word in
+          let step : runs at cs ≡ char_indices (at + span_len false cs) word ∷ runs (at + span_len false cs + span_len true mid) rest = runs-gap at cs ∙ runs-front (at + span_len false cs) mid some in
+          let begins : at + span_len false cs ≡ at + length (encodes gap) = omega arith in
+          let ends : at + span_len false cs + span_len true mid ≡ at + length (encodes (gap ++ word)) = omega arith in
+          let first : Stands n at cs (n, char_indices (at + span_len false cs) word) = record {
+            before = gap;
+            here = word;
+            behind = rest;
+            whole = split ∙ append_assoc gap word rest;
+            run = ap (λ k. char_indices k word) begins;
+            some = omega arith;
+            numbered = omega arith;
+          } in
+          let Q : ℕ → Type 0 = λ k. AllByRecursion (Stands (n + 1) k rest) (enumerate_from (n + 1) (runs k rest)) in
+          let others : AllByRecursion (Stands (n + 1) (at + length (encodes (gap ++ word))) rest) (enumerate_from (n + 1) (runs (at + length (encodes (gap ++ word))) rest)) = Stands-all fuel (n + 1) (at + length (encodes (gap ++ word))) rest (omega arith) in
+          let later = AllByRecursion-weaker (Stands (n + 1) (at + length (encodes (gap ++ word))) rest) (Stands n at cs) _ (λ r s. Stands-later n at cs (gap ++ word) rest r split (omega arith) s) others in
+          let tail : AllByRecursion (Stands n at cs) (enumerate_from (n + 1) (runs (at + span_len false cs + span_len true mid) rest)) = let R : ℕ → Type 0 = λ k. AllByRecursion (Stands n at cs) (enumerate_from (n + 1) (runs k rest)) in subst R (sym ends) later in
+          subst P (sym step) (first, tail)
+      | inr none ↦
+          let empty = after-gap cs (omega arith) in
+          subst P (sym (runs-gap at cs ∙ ap (runs (at + span_len false cs)) empty ∙ runs-nil (at + span_len false cs))) tt
+    ]
+
+AllByRecursion-filter : {X : Type 0} (P : X → Type 0) (test : X → Bool) (xs : List X) → AllByRecursion P xs → AllByRecursion P (filter test xs)
+AllByRecursion-filter P test [] all = tt
+AllByRecursion-filter P test (x ∷ xs) all =
+    let rest = AllByRecursion-filter P test xs all.1 in
+    elim (test x) as (λ b. AllByRecursion P (cond b (x ∷ filter test xs) (filter test xs))) [ true ↦ (all.0, rest) | false ↦ rest ]
+
+AllByRecursion-map : {X Y : Type 0} (P : X → Type 0) (Q : Y → Type 0) (f : X → Y) (xs : List X) → ((x : X) → P x → Q (f x)) → AllByRecursion P xs → AllByRecursion Q (map f xs)
+AllByRecursion-map P Q f [] h all = tt
+AllByRecursion-map P Q f (x ∷ xs) h all = (h x all.0, AllByRecursion-map P Q f xs h all.1)
+
+map-same : {X Y : Type 0} (P : X → Type 0) (f g : X → Y) (xs : List X) → ((x : X) → P x → f x ≡ g x) → AllByRecursion P xs → map f xs ≡ map g xs
+map-same P f g [] h all = refl
+map-same P f g (x ∷ xs) h all = λ i. h x all.0 i ∷ map-same P f g xs h all.1 i
+
+map-map : {X Y Z : Type 0} (f : Y → Z) (g : X → Y) (xs : List X) → map f (map g xs) ≡ map (λ x. f (g x)) xs
+map-map f g [] = refl
+map-map f g (x ∷ xs) = ap (λ l. f (g x) ∷ l) (map-map f g xs)
+
+-- each run that is kept stands in its text
+Stands-kept : (cs : List ℕ) → AllByRecursion (Stands 0 0 cs) (kept 0 (runs 0 cs))
+unfolding kept
+Stands-kept cs = AllByRecursion-filter (Stands 0 0 cs) _ (enumerate_from 0 (runs 0 cs)) (Stands-all (length cs) 0 0 cs (omega arith))
+
+scalars-both : (xs ys : List ℕ) → scalars (xs ++ ys) ≡ true → (scalars xs ≡ true) × (scalars ys ≡ true)
+scalars-both [] ys all = (refl, all)
+scalars-both (x ∷ xs) ys all =
+    let parts = and_parts (scalar x) (scalars (xs ++ ys)) all in
+    let rest = scalars-both xs ys parts.1 in
+    (ap (λ b. b && scalars xs) parts.0 ∙ rest.0, rest.1)
+
+-- a run that stands in a text, as bytes
+record StandsInBytes (text : List ℕ) (r : ℕ × Run) : Type 0 where
+  before : List ℕ
+  here : List ℕ
+  behind : List ℕ
+  whole : text ≡ encodes before ++ (encodes here ++ encodes behind)
+  here_text : scalars here ≡ true
+  rest_text : IsUtf8 (encodes here ++ encodes behind)
+  behind_text : IsUtf8 (encodes behind)
+  starts : start_of r.1 ≡ length (encodes before)
+  bytes : byte_len r.1 ≡ length (encodes here)
+  spelled : chars_of r.1 ≡ here
+  some : 0 < length (encodes here)
+  numbered : r.0 ≤ length (encodes before)
+
+StandsInBytes-from : (text : List ℕ) → IsUtf8 text → (r : ℕ × Run) → Stands 0 0 (chars text) r → StandsInBytes text r
+StandsInBytes-from text utf8 r s =
+    let all : scalars (s.before ++ (s.here ++ s.behind)) ≡ true = ap scalars (sym s.whole) ∙ scalars-chars text utf8 in
+    let rest = (scalars-both s.before (s.here ++ s.behind) all).1 in
+    let parts = scalars-both s.here s.behind rest in
+    let place = 0 + length (encodes s.before) in
+    let at : start_of r.1 ≡ place = ap start_of s.run ∙ start_of-char_indices place s.here s.some in
+    record {
+      before = s.before;
+      here = s.here;
+      behind = s.behind;
+      whole = sym (encodes-chars text utf8) ∙ ap encodes s.whole ∙ encodes-append s.before (s.here ++ s.behind) ∙ ap (λ l. encodes s.before ++ l) (encodes-append s.here s.behind);
+      here_text = parts.0;
+      rest_text = (s.here ++ s.behind, (rest, encodes-append s.here s.behind));
+      behind_text = (s.behind, (parts.1, refl));
+      starts = omega arith;
+      bytes = ap byte_len s.run ∙ byte_len-char_indices place s.here;
+      spelled = ap chars_of s.run ∙ chars_of-char_indices place s.here;
+      some = s.some;
+      numbered = omega (arith, s.numbered);
+    }
+
+IsPlaceIn-from : (text : List ℕ) (r : ℕ × Run) → StandsInBytes text r → IsPlaceIn text (place_of r)
+IsPlaceIn-from text r s =
+    let here = encodes s.here in
+    let behind = encodes s.behind in
+    let long = ap length s.whole ∙ length-append (encodes s.before) (here ++ behind) in
+    let longer = length-append here behind in
+    let two = length-append (encodes s.before) here in
+    let P : ℕ → Type 0 = IsCharBoundary text in
+    let last : length (encodes s.before ++ here) ≡ start_of r.1 + byte_len r.1 = omega (arith, s.starts, s.bytes) in
+    record {
+      nonempty = omega (arith, s.bytes, s.some);
+      within = omega (arith, s.starts, s.bytes);
+      begins = subst P (sym s.starts) (IsCharBoundary-at_seam text (encodes s.before) (here ++ behind) s.whole s.rest_text);
+      ends = subst P last (IsCharBoundary-at_seam text (encodes s.before ++ here) behind (s.whole ∙ sym (append_assoc (encodes s.before) here behind)) s.behind_text);
+      numbered = omega (arith, s.starts, s.numbered);
+    }
+
+slice_range-seam : (text before here behind : List ℕ) (a b : ℕ) → text ≡ before ++ (here ++ behind) → a ≡ length before → b ≡ a + length here → slice_range text a b ≡ here
+slice_range-seam text before here behind a b whole starts ends =
+    let long : b - a ≡ length here = omega arith in
+    ap (λ n. take n (drop a text)) long
+    ∙ ap (λ n. take (length here) (drop n text)) starts
+    ∙ ap (λ l. take (length here) (drop (length before) l)) whole
+    ∙ ap (take (length here)) (drop-append_seam before (here ++ behind))
+    ∙ take-append_seam here behind
+
+token_at-from : (text : List ℕ) (r : ℕ × Run) → StandsInBytes text r → token_at text (place_of r) ≡ (r.0, fold_chars (chars_of r.1))
+unfolding folded
+token_at-from text r s =
+    let ends : start_of r.1 + byte_len r.1 ≡ start_of r.1 + length (encodes s.here) = omega (arith, s.bytes) in
+    let bytes = slice_range-seam text (encodes s.before) (encodes s.here) (encodes s.behind) (start_of r.1) (start_of r.1 + byte_len r.1) s.whole s.starts ends in
+    let spelled = ap chars bytes ∙ chars-encodes s.here s.here_text ∙ sym s.spelled in
+    ap (λ cs. (r.0, fold_chars cs)) spelled
+
+StandsInBytes-all : (text : List ℕ) → IsUtf8 text → AllByRecursion (StandsInBytes text) (kept 0 (runs 0 (chars text)))
+StandsInBytes-all text utf8 =
+    AllByRecursion-weaker (Stands 0 0 (chars text)) (StandsInBytes text) (kept 0 (runs 0 (chars text))) (StandsInBytes-from text utf8) (Stands-kept (chars text))
+
+-- each place of a text stands in it
+pub All-IsPlaceIn : (text : List ℕ) → IsUtf8 text → All (IsPlaceIn text) (places text)
+unfolding places
+All-IsPlaceIn text utf8 =
+    All-from_recursion (IsPlaceIn text) (places text)
+    (AllByRecursion-map (StandsInBytes text) (IsPlaceIn text) place_of (kept 0 (runs 0 (chars text))) (IsPlaceIn-from text) (StandsInBytes-all text utf8))
+
+-- the tokens of a text are what stands at its places
+pub tokens-places : (text : List ℕ) → IsUtf8 text → map (token_at text) (places text) ≡ tokens text
+unfolding places tokens
+tokens-places text utf8 =
+    map-map (token_at text) place_of (kept 0 (runs 0 (chars text)))
+    ∙ map-same (StandsInBytes text) (λ r. token_at text (place_of r)) (λ r. (r.0, fold_chars (chars_of r.1))) (kept 0 (runs 0 (chars text))) (token_at-from text) (StandsInBytes-all text utf8)
+
+-- the token that comes after k others stands in the text
+pub IsPlaceIn-at : (text : List ℕ) → IsUtf8 text → (k : ℕ) (token : Token) → (k < length (places text)) × (token ≡ get_or (places text) k token) → IsPlaceIn text token
+IsPlaceIn-at text utf8 k token at =
+    let P : Token → Type 0 = IsPlaceIn text in
+    subst P (sym at.1) (All-IsPlaceIn text utf8 k token at.0)
+
+length-cond : {X : Type 0} (b : Bool) (x : X) (xs : List X) → (length xs ≤ length (cond b (x ∷ xs) xs)) × (length (cond b (x ∷ xs) xs) ≤ length xs + 1)
+length-cond true x xs = (omega arith, omega arith)
+length-cond false x xs = (omega arith, omega arith)
+
+length-onto_first : (p : ℕ × ℕ) (ps : List Run) → length (filter is_nonempty (onto_first p ps)) ≤ length (filter is_nonempty ps) + 1
+length-onto_first p [] = omega (arith, length-cond (is_nonempty (p ∷ [])) (p ∷ []) [])
+length-onto_first p (first ∷ rest) =
+    let with = length-cond (is_nonempty (p ∷ first)) (p ∷ first) (filter is_nonempty rest) in
+    let without = length-cond (is_nonempty first) first (filter is_nonempty rest) in
+    omega (arith, with.1, without.0)
+
+-- a text has no more runs than characters
+length-runs : (at : ℕ) (cs : List ℕ) → length (runs at cs) ≤ length cs
+unfolding runs
+length-runs at [] = omega arith
+length-runs at (c ∷ cs) =
+    let rest = length-runs (at + len_utf8 c) cs in
+    let first = length-onto_first (at, c) (parts (at + len_utf8 c) cs) in
+    elim (is_alphanumeric c) as (λ b. length (filter is_nonempty (cond (not b) ([] ∷ parts (at + len_utf8 c) cs) (onto_first (at, c) (parts (at + len_utf8 c) cs)))) ≤ length (c ∷ cs)) [
+      | true ↦ omega (arith, rest, first)
+      | false ↦ omega (arith, rest)
+    ]
+
+length-filter-le : {X : Type 0} (test : X → Bool) (xs : List X) → length (filter test xs) ≤ length xs
+length-filter-le test [] = omega arith
+length-filter-le test (x ∷ xs) =
+    let most = (length-cond (test x) x (filter test xs)).1 in
+    omega (arith, most, length-filter-le test xs)
+
+-- a text has no more tokens than bytes
+pub length-places : (text : List ℕ) → IsUtf8 text → length (places text) ≤ length text
+unfolding places kept
+length-places text utf8 =
+    let numbered = enumerate_from 0 (runs 0 (chars text)) in
+    let short = λ (r : ℕ × Run). nat_lt (byte_len r.1) 40 in
+    let bytes = length-le-encodes (chars text) in
+    let same = ap length (encodes-chars text utf8) in
+    let of_runs = length-runs 0 (chars text) in
+    let of_numbered = length-enumerate_from 0 (runs 0 (chars text)) in
+    let of_kept = length-filter-le short numbered in
+    let of_places = length-map (filter short numbered) place_of in
+    omega arith
+
+-- the place that comes next, and those after it
+pub IsPlaceIn-first : (text : List ℕ) (token : Token) (left rest : List Token) → left ≡ token ∷ rest → All (IsPlaceIn text) left → IsPlaceIn text token × All (IsPlaceIn text) rest
+IsPlaceIn-first text token left rest first all =
+    let P : List Token → Type 0 = All (IsPlaceIn text) in
+    let each = subst P first all in
+    (each 0 token (omega arith), λ k d lt. each (suc k) d (omega arith))

@@ -1,0 +1,27 @@
+-- The characters of a run, and how they are folded.
+use Rattle.std.specs.Prelude.{ℕ, ◌+◌, Bool, ◌||◌, cond, List, [], ◌∷◌, map, encode_utf8_all}
+use Rattle.std.specs.Bool.{beq}
+use Rattle.std.specs.Char.{len_utf8}
+use Rattle.std.specs.Str.{chars}
+use Rattle.unicode.specs.Binary.{is_alphabetic}
+use Rattle.unicode.specs.GeneralCategory.{general_category}
+use Rattle.unicode.specs.GeneralCategoryGroup.{in_group}
+use Rattle.unicode.specs.CaseFolding.{simple_fold}
+use Rattle.ucd_category.specs.declared.GeneralCategoryGroup.TheVariants.{Number}
+
+-- a character of a run: Alphabetic, or a number, which is general category Nd, Nl or No (UAX #44)
+unfoldable pub is_alphanumeric : ℕ → Bool
+is_alphanumeric c = is_alphabetic c || in_group Number (general_category c)
+
+-- the characters, each by its simple case folding (UAX #44, Simple_Case_Folding), in UTF-8
+abbrev pub fold_chars : List ℕ → List ℕ
+fold_chars cs = encode_utf8_all (map simple_fold cs)
+
+-- the same of the bytes of a text
+unfoldable pub folded : List ℕ → List ℕ
+folded text = fold_chars (chars text)
+
+-- how many bytes the characters at the front take that are alphanumeric, or, at `false`, that are not
+abbrev pub span_len : Bool → List ℕ → ℕ
+span_len alphanumeric [] = 0
+span_len alphanumeric (c ∷ cs) = cond (beq (is_alphanumeric c) alphanumeric) (len_utf8 c + span_len alphanumeric cs) 0
