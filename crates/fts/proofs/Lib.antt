@@ -2,3 +2,4 @@ pub mod Adds
 pub mod Boundaries
 pub mod LineLemmas
 pub mod RunLemmas
+pub mod KeptLemmas

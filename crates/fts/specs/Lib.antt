@@ -10,3 +10,4 @@ pub mod Steps
 pub mod Streams
 pub mod Text
 pub mod Words
+pub mod Kept

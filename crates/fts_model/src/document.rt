@@ -293,3 +293,6 @@ fn values_fit(schema: &[Field], fields: &[Field], values: &[Option<FieldValue>])
     }
     true
 }
+
+#[cfg(test)]
+mod tests;

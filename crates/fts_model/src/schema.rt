@@ -219,3 +219,6 @@ impl Clone for Schema {
         })
     }
 }
+
+#[cfg(test)]
+mod tests;
