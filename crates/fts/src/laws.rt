@@ -16,5 +16,4 @@ pub fn command_line()
 /// search sees the documents that are alive after the operations before the last commit.
 pub fn output_is_that_of_commands()
     ensures { (input : List ℕ) → output input ≡ output_by_commands input }
-{
-}
+{}

@@ -8,8 +8,8 @@ ghost use Rattle.fts.specs.Runs.{AnswersEnded, AnswersFirst, BeginsOutput, Begin
 
 use crate::fault::Fault;
 use crate::lines::PartialLine;
-use crate::options::Options;
 use crate::list_engine::ListSession as Session;
+use crate::options::Options;
 use crate::streams::{ScriptIn, ScriptOut};
 use memchr::memchr;
 use std::alloc::{AllocError, Global};

@@ -53,7 +53,10 @@ fn take<E: Engine>(alloc: Global, fields: Vec<Field>) -> Result<(E, Value), Refu
         Ok(schema) => schema,
         Err((_, refusal)) => return Err(refusal),
     };
-    match (E::open(alloc, schema), number_reply(alloc, "fields", count as u64)) {
+    match (
+        E::open(alloc, schema),
+        number_reply(alloc, "fields", count as u64),
+    ) {
         (Ok(engine), Ok(reply)) => Ok((engine, reply)),
         _ => Err(Refusal::Memory),
     }
@@ -102,7 +105,11 @@ fn search<E: Engine>(alloc: Global, engine: &E, query: &str) -> Result<Value, Re
 }
 
 /// Obeys a command that comes behind the schema.
-fn obey_index<E: Engine>(alloc: Global, engine: &mut E, command: Command<'_>) -> Result<Value, Refusal>
+fn obey_index<E: Engine>(
+    alloc: Global,
+    engine: &mut E,
+    command: Command<'_>,
+) -> Result<Value, Refusal>
     requires { next_stamp (E.index engine.old) < 2 ^ 63 }
     ensures obeys { Obeys (obeyed (Some (E.index engine.old)) (seen command.entry)) (Some (E.index engine.old)) (Some (E.index engine.new)) result }
     ensures steady { KeepsSteady (Some (E.index engine.old)) (Some (E.index engine.new)) }

@@ -25,7 +25,19 @@ fn is_special(byte: u8) -> bool
 {
     matches!(
         byte,
-        b'(' | b')' | b'"' | b':' | b'[' | b']' | b'{' | b'}' | b'<' | b'>' | b'^' | b'~' | b'*' | b'\\'
+        b'(' | b')'
+            | b'"'
+            | b':'
+            | b'['
+            | b']'
+            | b'{'
+            | b'}'
+            | b'<'
+            | b'>'
+            | b'^'
+            | b'~'
+            | b'*'
+            | b'\\'
     )
 }
 
@@ -151,7 +163,11 @@ pub fn terms_of(alloc: Global, fields: &[Field], query: &str) -> Result<Vec<Term
 }
 
 /// The terms of a word that has one token.
-fn terms_of_word(alloc: Global, fields: &[Field], word: &str) -> Result<Option<Vec<Term>>, AllocError>
+fn terms_of_word(
+    alloc: Global,
+    fields: &[Field],
+    word: &str,
+) -> Result<Option<Vec<Term>>, AllocError>
     ensures { IfOk result (λ terms. option_map (λ ts. ts.items) terms ≡ option_map (terms_by_default 0 fields.now word.now) (only_token_of word.now (places word.now))) }
 {
     match only_token(alloc, word)? {

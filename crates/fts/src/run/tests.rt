@@ -2,6 +2,7 @@
 use crate::fault::Fault;
 use crate::options::Options;
 use crate::run_plain::run_plain;
+use std::alloc::Global;
 use std::cell::Cell;
 use std::io;
 use std::io::{Read, Write};
@@ -10,17 +11,24 @@ use std::test::Fail;
 
 /// The lines of a script, each with its reply; the last line lacks its LF.
 static SCRIPT: [(&str, &str); 10] = [
-    ("{\"a\":1}", "{\"line\":1}\n"),
+    (SCHEMA, "{\"fields\":4}\n"),
     ("", ""),
     (" \t \r", ""),
-    ("x", "{\"line\":4}\n"),
-    (" y\r", "{\"line\":5}\n"),
-    ("", ""),
-    ("[1,2,3]", "{\"line\":7}\n"),
-    ("\u{e9}\u{e9}", "{\"line\":8}\n"),
-    ("", ""),
-    ("{\"b\":2}", "{\"line\":10}\n"),
+    ("{\"add\":{\"title\":\"Rust book\"}}", "{\"stamp\":1}\n"),
+    ("x", "{\"error\":\"BadJson\",\"line\":5}\n"),
+    (
+        "{\"add\":{\"nope\":1}}",
+        "{\"error\":\"UnknownField\",\"line\":6}\n",
+    ),
+    ("{\"commit\":true}", "{\"commit\":2}\n"),
+    ("{\"search\":{\"query\":\"rust\"}}", "{\"count\":1}\n"),
+    ("\u{e9}\u{e9}", "{\"error\":\"BadJson\",\"line\":9}\n"),
+    ("{\"search\":{\"query\":\"go\"}}", "{\"count\":0}\n"),
 ];
+
+/// The fields `title` (text, default), `tag` (keyword, default), `price` (`u64`) and `temp` (`i64`).
+const SCHEMA: &str =
+    "{\"schema\":[{\"name\":\"title\",\"kind\":\"text\",\"default\":true},{\"name\":\"tag\",\"kind\":\"keyword\",\"default\":true},{\"name\":\"price\",\"kind\":\"u64\"},{\"name\":\"temp\",\"kind\":\"i64\"}]}";
 
 /// The input of the script.
 fn input(rt: &impl AllocGlobal) -> Result<Vec<u8>, Fail> {
@@ -301,7 +309,7 @@ fn long_lines(rt: HostRuntime) -> Result<(), Fail> {
     assert_eq!(rt; outcome, Ok(()));
     assert_eq!(rt;
         written.as_slice(),
-        b"{\"line\":1}\n{\"error\":\"LineTooLong\",\"line\":2}\n{\"line\":5}\n".as_slice()
+        b"{\"error\":\"BadJson\",\"line\":1}\n{\"error\":\"LineTooLong\",\"line\":2}\n{\"error\":\"BadJson\",\"line\":5}\n".as_slice()
     );
     Ok(())
 }
@@ -315,7 +323,172 @@ fn many_replies_in_a_block(rt: HostRuntime) -> Result<(), Fail> {
     let writer = Vec::new(rt.alloc());
     let (outcome, _, written) = run_plain(&rt, script.as_slice(), writer, Options::default());
     assert_eq!(rt; outcome, Ok(()));
-    // Ten bytes for each number, and 188,894 digits.
-    assert_eq!(rt; written.len(), 588_894);
+    // 28 bytes around each number, and 188,894 digits.
+    assert_eq!(rt; written.len(), 1_308_894);
     Ok(())
+}
+
+/// Whether a script has these replies behind that to the schema.
+fn gives(rt: &(impl AllocGlobal + Abort), lines: &str, wanted: &str) -> Result<(), Fail> {
+    let script = format!(in rt.alloc(); "{SCHEMA}\n{lines}")?;
+    let wanted = format!(in rt.alloc(); "{{\"fields\":4}}\n{wanted}")?;
+    let writer = Vec::new(rt.alloc());
+    let (outcome, _, written) = run_plain(
+        rt,
+        script.as_str().as_bytes(),
+        writer,
+        Options::default(),
+    );
+    assert_eq!(rt; outcome, Ok(()));
+    assert_eq!(rt; written.as_slice(), wanted.as_str().as_bytes(), "{lines}");
+    Ok(())
+}
+
+#[test]
+fn nothing_in_nothing_out(rt: HostRuntime) {
+    let writer = Vec::new(rt.alloc());
+    let (outcome, _, written) = run_plain(&rt, b"".as_slice(), writer, Options::default());
+    assert_eq!(rt; outcome, Ok(()));
+    assert!(rt; written.is_empty());
+}
+
+#[test]
+fn commands(rt: HostRuntime) -> Result<(), Fail> {
+    for (lines, wanted) in [
+        // A commit of nothing is the first stamp; nothing is found.
+        (
+            "{\"commit\":true}\n{\"search\":{\"query\":\"x\"}}",
+            "{\"commit\":1}\n{\"count\":0}\n",
+        ),
+        // Nothing is seen before its commit.
+        (
+            "{\"add\":{\"title\":\"x\"}}\n{\"search\":{\"query\":\"x\"}}\n{\"commit\":true}\n{\"search\":{\"query\":\"x\"}}",
+            "{\"stamp\":1}\n{\"count\":0}\n{\"commit\":2}\n{\"count\":1}\n",
+        ),
+        // Two equal documents are two documents.
+        (
+            "{\"add\":{\"tag\":\"x\"}}\n{\"add\":{\"tag\":\"x\"}}\n{\"commit\":true}\n{\"search\":{\"query\":\"x\"}}",
+            "{\"stamp\":1}\n{\"stamp\":2}\n{\"commit\":3}\n{\"count\":2}\n",
+        ),
+        // Simple folding takes both sigmas to one.
+        (
+            "{\"add\":{\"title\":\"ΣΟΦΟΣ\"}}\n{\"commit\":true}\n{\"search\":{\"query\":\"σοφος\"}}",
+            "{\"stamp\":1}\n{\"commit\":2}\n{\"count\":1}\n",
+        ),
+        // A keyword is found as a whole and isn't folded.
+        (
+            "{\"add\":{\"tag\":\"Rust\"}}\n{\"commit\":true}\n{\"search\":{\"query\":\"Rust\"}}\n{\"search\":{\"query\":\"rust\"}}",
+            "{\"stamp\":1}\n{\"commit\":2}\n{\"count\":1}\n{\"count\":0}\n",
+        ),
+        // An unfinished last line adds nothing.
+        (
+            "{\"add\":{\"title\":\"x\"",
+            "{\"error\":\"BadJson\",\"line\":2}\n",
+        ),
+        (
+            "{\"schema\":[{\"name\":\"x\",\"kind\":\"u64\"}]}",
+            "{\"error\":\"SchemaTwice\",\"line\":2}\n",
+        ),
+        // A refused schema isn't looked at behind a taken one; forms are looked at first.
+        (
+            "{\"schema\":[{\"name\":\"x\"}]}",
+            "{\"error\":\"BadCommand\",\"line\":2}\n",
+        ),
+        (
+            "{\"drop\":true}\n{\"commit\":false}\n{}\n[]",
+            "{\"error\":\"BadCommand\",\"line\":2}\n{\"error\":\"BadCommand\",\"line\":3}\n{\"error\":\"BadCommand\",\"line\":4}\n{\"error\":\"BadCommand\",\"line\":5}\n",
+        ),
+        (
+            "{\"add\":{},\"commit\":true}",
+            "{\"error\":\"BadCommand\",\"line\":2}\n",
+        ),
+        (
+            "{\"delete_all\":true}\n{\"rollback\":true}\n{\"merge\":true}",
+            "{\"error\":\"BadCommand\",\"line\":2}\n{\"error\":\"BadCommand\",\"line\":3}\n{\"error\":\"BadCommand\",\"line\":4}\n",
+        ),
+        (
+            "{\"search\":{\"query\":\"x\",\"groups\":\"price\"}}",
+            "{\"error\":\"BadCommand\",\"line\":2}\n",
+        ),
+        (
+            "{\"add\":{\"nope\":1}}\n{\"add\":{\"price\":-1}}\n{\"add\":{\"price\":null}}\n{\"add\":7}",
+            "{\"error\":\"UnknownField\",\"line\":2}\n{\"error\":\"WrongKind\",\"line\":3}\n{\"stamp\":1}\n{\"error\":\"NotAnObject\",\"line\":5}\n",
+        ),
+    ] {
+        gives(&rt, lines, wanted)?;
+    }
+    Ok(())
+}
+
+#[test]
+fn queries(rt: HostRuntime) -> Result<(), Fail> {
+    let alloc = rt.alloc();
+    for (query, reply) in [
+        ("", "{\"count\":0}"),
+        (" \\t ", "{\"count\":0}"),
+        (" book\\n", "{\"count\":1}"),
+        ("BOOK", "{\"count\":1}"),
+        ("boo", "{\"count\":0}"),
+        ("rust book", "{\"error\":\"Syntax\",\"line\":4}"),
+        ("foo-bar", "{\"error\":\"Syntax\",\"line\":4}"),
+        ("!!!", "{\"error\":\"Syntax\",\"line\":4}"),
+        ("-book", "{\"error\":\"Syntax\",\"line\":4}"),
+        ("title:book", "{\"error\":\"Syntax\",\"line\":4}"),
+        ("OR", "{\"error\":\"Syntax\",\"line\":4}"),
+        (
+            "xxxxxxxxxxxxxxxxxxxxxxxxxxxxxxxxxxxxxxxx",
+            "{\"error\":\"Syntax\",\"line\":4}",
+        ),
+        (
+            "a,xxxxxxxxxxxxxxxxxxxxxxxxxxxxxxxxxxxxxxxx",
+            "{\"error\":\"Syntax\",\"line\":4}",
+        ),
+    ] {
+        let lines = format!(in alloc;
+            "{{\"add\":{{\"title\":\"Rust book\"}}}}\n{{\"commit\":true}}\n{{\"search\":{{\"query\":\"{query}\"}}}}"
+        )?;
+        let wanted = format!(in alloc; "{{\"stamp\":1}}\n{{\"commit\":2}}\n{reply}\n")?;
+        gives(&rt, lines.as_str(), wanted.as_str())?;
+    }
+    Ok(())
+}
+
+/// A line with `count` times `open` and then `count` times `close` as a document.
+fn nested(alloc: Global, count: usize) -> Result<String, Fail> {
+    let mut line = String::from_str(alloc, "{\"add\":")?;
+    for bracket in ['[', ']'] {
+        for _ in 0..count {
+            line.push(bracket)?;
+        }
+    }
+    line.push('}')?;
+    Ok(line)
+}
+
+#[test]
+fn nesting(rt: HostRuntime) -> Result<(), Fail> {
+    gives(
+        &rt,
+        nested(rt.alloc(), 126)?.as_str(),
+        "{\"error\":\"NotAnObject\",\"line\":2}\n",
+    )?;
+    gives(
+        &rt,
+        nested(rt.alloc(), 127)?.as_str(),
+        "{\"error\":\"BadJson\",\"line\":2}\n",
+    )?;
+    Ok(())
+}
+
+#[test]
+fn before_the_schema(rt: HostRuntime) {
+    let writer = Vec::new(rt.alloc());
+    let script =
+        b"{\"commit\":true}\n\n{\"schema\":[]}\n{\"schema\":[{\"name\":\"x\",\"kind\":\"u64\"}]}\n{\"search\":{\"query\":\"x\"}}\n{\"search\":{\"query\":\"+\"}}";
+    let (outcome, _, written) = run_plain(&rt, script.as_slice(), writer, Options::default());
+    assert_eq!(rt; outcome, Ok(()));
+    assert_eq!(rt;
+        written.as_slice(),
+        b"{\"error\":\"NoSchema\",\"line\":1}\n{\"error\":\"NoFields\",\"line\":3}\n{\"fields\":1}\n{\"error\":\"NoDefaultField\",\"line\":5}\n{\"error\":\"Syntax\",\"line\":6}\n".as_slice()
+    );
 }
