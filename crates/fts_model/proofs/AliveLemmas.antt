@@ -14,7 +14,7 @@ list_any-append : {X : Type 0} (p : X → Bool) (xs ys : List X) → list_any p 
 list_any-append p [] ys = refl
 list_any-append p (x ∷ xs) ys = elim (p x) as (λ b. (b || list_any p (xs ++ ys)) ≡ ((b || list_any p xs) || list_any p ys)) [ true ↦ refl | false ↦ list_any-append p xs ys ]
 
-filter-append : {X : Type 0} (p : X → Bool) (xs ys : List X) → filter p (xs ++ ys) ≡ filter p xs ++ filter p ys
+pub filter-append : {X : Type 0} (p : X → Bool) (xs ys : List X) → filter p (xs ++ ys) ≡ filter p xs ++ filter p ys
 filter-append p [] ys = refl
 filter-append p (x ∷ xs) ys =
     elim (p x) as (λ b. cond b (x ∷ filter p (xs ++ ys)) (filter p (xs ++ ys)) ≡ cond b (x ∷ filter p xs) (filter p xs) ++ filter p ys)
@@ -62,19 +62,19 @@ alive-history schema before later =
     ∙ ap (λ xs. spared schema later xs ++ alive schema later) (sym (alive-adds schema (alive schema before)))
     ∙ sym (alive-append schema (adds (alive schema before)) later)
 
-All-front : {X : Type 0} (P : X → Type 0) (x : X) (xs : List X) → All P (x ∷ xs) → P x
+pub All-front : {X : Type 0} (P : X → Type 0) (x : X) (xs : List X) → All P (x ∷ xs) → P x
 All-front P x xs h = h 0 x (omega arith)
 
-pairs_behind : {X : Type 0} (R : X → X → Type 0) (x : X) (xs : List X) → AllPairs R (x ∷ xs) → AllPairs R xs
+pub pairs_behind : {X : Type 0} (R : X → X → Type 0) (x : X) (xs : List X) → AllPairs R (x ∷ xs) → AllPairs R xs
 pairs_behind R x xs h i j d lt within = h (suc i) (suc j) d (omega (arith, lt)) (omega (arith, within))
 
-pairs_front : {X : Type 0} (R : X → X → Type 0) (x : X) (xs : List X) → AllPairs R (x ∷ xs) → All (R x) xs
+pub pairs_front : {X : Type 0} (R : X → X → Type 0) (x : X) (xs : List X) → AllPairs R (x ∷ xs) → All (R x) xs
 pairs_front R x xs h k d within = h 0 (suc k) d (omega arith) (omega (arith, within))
 
-All-none : {X : Type 0} (P : X → Type 0) → All P []
+pub All-none : {X : Type 0} (P : X → Type 0) → All P []
 All-none P k d lt = absurd (omega (arith, lt))
 
-pairs_none : {X : Type 0} (R : X → X → Type 0) → AllPairs R []
+pub pairs_none : {X : Type 0} (R : X → X → Type 0) → AllPairs R []
 pairs_none R i j d lt within = absurd (omega (arith, within))
 
 All-if_kept : (b : Bool) (P : Stamped DocumentValue → Type 0) (d : Stamped DocumentValue) (ds : List (Stamped DocumentValue)) →
@@ -89,9 +89,9 @@ All-alive P schema (op ∷ ops) h =
     let front : P op.stamp = All-front (λ op. P op.stamp) op ops h in
     let behind = All-alive P schema ops (All-tail (λ op. P op.stamp) op ops h) in
     elim op.value as (λ value. All (λ (d : Stamped DocumentValue). P d.stamp) (left_by schema op.stamp value ops ++ alive schema ops)) [
-      Add document ↦ All-if_kept (is_struck schema ops document) (λ d. P d.stamp) (record { stamp = op.stamp; value = document }) (alive schema ops) front behind
-    | Delete term ↦ behind
-    | DeleteAll ↦ behind
+      | Add document ↦ All-if_kept (is_struck schema ops document) (λ d. P d.stamp) (record { stamp = op.stamp; value = document }) (alive schema ops) front behind
+      | Delete term ↦ behind
+      | DeleteAll ↦ behind
     ]
 
 once_if_kept : (b : Bool) (d : Stamped DocumentValue) (ds : List (Stamped DocumentValue)) →
@@ -105,9 +105,9 @@ alive-once schema (op ∷ ops) h =
     let others = All-alive (λ stamp. op.stamp ≢ stamp) schema ops (pairs_front (λ x y. x.stamp ≢ y.stamp) op ops h) in
     let once = alive-once schema ops (pairs_behind (λ x y. x.stamp ≢ y.stamp) op ops h) in
     elim op.value as (λ value. HasEachStampOnce (left_by schema op.stamp value ops ++ alive schema ops)) [
-      Add document ↦ once_if_kept (is_struck schema ops document) (record { stamp = op.stamp; value = document }) (alive schema ops) others once
-    | Delete term ↦ once
-    | DeleteAll ↦ once
+      | Add document ↦ once_if_kept (is_struck schema ops document) (record { stamp = op.stamp; value = document }) (alive schema ops) others once
+      | Delete term ↦ once
+      | DeleteAll ↦ once
     ]
 
 filter-same : {X : Type 0} (p q : X → Bool) → ((x : X) → p x ≡ q x) → (xs : List X) → filter p xs ≡ filter q xs
@@ -132,7 +132,7 @@ pub alive-one : (schema : List Field) (ops : List (Stamped Op)) (op : Stamped Op
 alive-one schema ops op =
     alive-append schema ops (op ∷ [])
     ∙ ap (λ xs. xs ++ alive schema (op ∷ []))
-      (filter-same (λ (d : Stamped DocumentValue). not (is_struck schema (op ∷ []) d.value)) (λ d. not (strikes schema op.value d.value)) (λ d. or_nothing (strikes schema op.value d.value)) (alive schema ops))
+    (filter-same (λ (d : Stamped DocumentValue). not (is_struck schema (op ∷ []) d.value)) (λ d. not (strikes schema op.value d.value)) (λ d. or_nothing (strikes schema op.value d.value)) (alive schema ops))
 
 -- the same where it is an add, or deletes all
 pub alive-add : (schema : List Field) (op : Stamped Op) (document : DocumentValue) (documents : List (Stamped DocumentValue)) → op.value ≡ Add document →

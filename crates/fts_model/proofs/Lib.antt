@@ -1,6 +1,9 @@
 pub mod AliveLemmas
+pub mod AnswerLemmas
 pub mod Fields
+pub mod PhraseLemmas
 pub mod QueryLemmas
 pub mod TokenLemmas
+pub mod TopLemmas
 pub mod Values
 pub mod Zips

@@ -54,4 +54,25 @@ matches_at_bool schema document must must_not should =
     ap (matches schema document) (sym (rolls-Bool must must_not should))
     ∙ fold-roll-Query Bool (matches_by_parts schema document) (Query-F.Bool must must_not should)
     ∙ all_of_parts (list_all-map (matches schema document) must.items) (list_any-map (matches schema document) must_not.items)
-      (is_nonempty-map (matches schema document) must.items) (list_any-map (matches schema document) should.items)
+    (is_nonempty-map (matches schema document) must.items) (list_any-map (matches schema document) should.items)
+
+pub not_all_must : (a b c d : Bool) → a ≡ false → (a && not b && (c || d)) ≡ false
+not_all_must true b c d h = cc
+not_all_must false b c d h = refl
+
+pub one_must_not : (a b c d : Bool) → b ≡ true → (a && not b && (c || d)) ≡ false
+one_must_not true true c d h = refl
+one_must_not false true c d h = refl
+one_must_not a false c d h = cc
+
+pub musts_suffice : (a b c d : Bool) → a ≡ true → b ≡ false → c ≡ true → (a && not b && (c || d)) ≡ true
+musts_suffice true false true d p q r = refl
+musts_suffice true false false d p q r = cc
+musts_suffice true true c d p q r = cc
+musts_suffice false b c d p q r = cc
+
+pub shoulds_decide : (a b c d : Bool) → a ≡ true → b ≡ false → c ≡ false → (a && not b && (c || d)) ≡ d
+shoulds_decide true false false d p q r = refl
+shoulds_decide true false true d p q r = cc
+shoulds_decide true true c d p q r = cc
+shoulds_decide false b c d p q r = cc

@@ -96,7 +96,7 @@ abbrev pub answer_of : Request → List (Stamped DocumentValue) → AnswerValue
 answer_of request hits = record {
   count = length hits;
   groups = option_map (λ field. groups field hits) request.groups;
-  top = option_map (λ t. top t.k t.order t.by hits) request.top
+  top = option_map (λ t. top t.k t.order t.by hits) request.top;
 }
 
 -- the answer to a query and a request over documents

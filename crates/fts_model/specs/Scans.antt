@@ -1,9 +1,34 @@
 -- What the steps of the plain search are.
-use Rattle.std.specs.Prelude.{ℕ, ◌-◌, ◌&&◌, nat_le, Bool, true, List, [], ◌∷◌}
+use Rattle.std.specs.Prelude.{ℕ, suc, ◌+◌, ◌-◌, ◌&&◌, nat_le, Bool, true, false, List, [], ◌∷◌, if◌then◌else◌, slice_get}
+use Rattle.std.specs.Ordering.{match_ordering, is_eq}
+use Rattle.std.specs.Option.{option_map_or}
 use Rattle.std.specs.Str.{bytes_eq}
+use Rattle.fts_model.specs.declared.value.Number.{Number}
+use Rattle.fts_model.specs.declared.query.Order.{Order}
+use Rattle.fts_model.specs.declared.answer.Hit.{Hit}
 use Rattle.fts_model.specs.Queries.{stands_from}
+use Rattle.fts_model.specs.Answers.{number_cmp, comes_before}
 
 -- a pattern stands so that this token is its first member
 abbrev pub leads : List (ℕ × List ℕ) → List (ℕ × List ℕ) → ℕ × List ℕ → Bool
 leads ts [] t = true
 leads ts (m ∷ ms) t = nat_le m.0 t.0 && (bytes_eq t.1 m.1 && stands_from ts (m ∷ ms) (t.0 - m.0))
+
+-- how many groups are below a number, up to the first that is not
+abbrev pub group_place : List (Number × ℕ) → Number → ℕ
+group_place [] n = 0
+group_place (group ∷ groups) n = match_ordering (number_cmp n group.0) 0 0 (suc (group_place groups n))
+
+-- how many hits the groups have together
+abbrev pub hits_counted : List (Number × ℕ) → ℕ
+hits_counted [] = 0
+hits_counted (group ∷ groups) = group.1 + hits_counted groups
+
+-- the group at this place is of a number
+abbrev pub is_group_at : List (Number × ℕ) → ℕ → Number → Bool
+is_group_at groups place n = option_map_or (λ group. is_eq (number_cmp n group.0)) (slice_get groups place) false
+
+-- how many hits of a list stand before the first that a hit comes before
+abbrev pub hit_place : Order → List Hit → Hit → ℕ
+hit_place order [] hit = 0
+hit_place order (other ∷ others) hit = if comes_before order hit other then 0 else suc (hit_place order others hit)

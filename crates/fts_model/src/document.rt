@@ -205,7 +205,11 @@ impl Document {
     pub fn fits(&self, schema: &Schema) -> bool
         ensures { result ≡ fits schema.now self.now }
     {
-        values_fit(schema.fields(), self.stored.schema.fields(), &self.stored.values)
+        values_fit(
+            schema.fields(),
+            self.stored.schema.fields(),
+            &self.stored.values,
+        )
     }
 
     /// The value of the field of this number, if it has one.

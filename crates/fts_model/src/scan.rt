@@ -2,21 +2,31 @@
 //!
 //! It is what every faster way is compared with. A text is gone over once for each term or member of a phrase; its
 //! tokens are folded, one at a time, into a buffer that the caller lends.
-ghost use Rattle.std.specs.Prelude.{◌≡◌, ◌≤◌, ◌+◌, ◌++◌, ◌∷◌, [], IfOk, IfErr, Ok, not, filter, length, option_copied, if◌then◌else◌};
+ghost use Rattle.std.specs.Prelude.{◌≡◌, ◌≤◌, ◌+◌, ◌==◌, ◌&&◌, ◌++◌, ◌∷◌, [], IfOk, IfErr, Ok, not, filter, length, option_copied, if◌then◌else◌};
 ghost use Rattle.std.specs.List.{list_any, list_all};
 ghost use Rattle.std.specs.Str.{bytes_eq};
 ghost use Rattle.fts_text.specs.Tokens.{tokens};
 ghost use Rattle.fts_text.specs.Places.{IsPlaceIn, token_at};
 ghost use Rattle.fts_model.specs.Outcomes.{Gives};
+ghost use Rattle.fts_model.specs.Queries.{stands_at as stands_in_text_at, stands_from as stands_in_text_from, phrase_in, value_has_phrase as has_phrase_in_value, number_lt as is_number_lt, number_le as is_number_le, value_lt as is_value_lt, value_le as is_value_le, admits_from as is_admitted_from, admits_to as is_admitted_to, matches as is_match};
+ghost use Rattle.fts_model.specs.Scans.{leads as leads_pattern};
 ghost use Rattle.fts_model.specs.Operations.{has_token as text_has, value_has as has_value, has as has_term, strikes, alive as alive_after};
+
+mod answers;
+#[cfg(test)]
+mod tests;
 
 use crate::document::Document;
 use crate::operation::{Op, Stamped, Term};
+use crate::query::Query;
 use crate::refusal::Refusal;
 use crate::schema::{Kind, Schema};
+use crate::text::Text;
 use crate::value::{FieldValue, Number};
+pub use answers::answer;
 use fts_text::{Token, Tokens, fold_into};
 use std::alloc::{AllocError, Global};
+use std::ops::Bound;
 
 /// Whether the token at a place of a text is this one.
 fn is_token(text: &str, place: Token, token: &str, scratch: &mut String) -> Result<bool, AllocError>
@@ -54,16 +64,12 @@ fn value_has(
             has_token(text.as_str(), token.as_str(), scratch)
         }
         (Kind::Keyword, FieldValue::Text(text), FieldValue::Text(whole)) => Ok(text == whole),
-        (
-            Kind::U64,
-            FieldValue::Number(Number::U64(n)),
-            FieldValue::Number(Number::U64(m)),
-        ) => Ok(n == m),
-        (
-            Kind::I64,
-            FieldValue::Number(Number::I64(n)),
-            FieldValue::Number(Number::I64(m)),
-        ) => Ok(n == m),
+        (Kind::U64, FieldValue::Number(Number::U64(n)), FieldValue::Number(Number::U64(m))) => Ok(
+            n == m,
+        ),
+        (Kind::I64, FieldValue::Number(Number::I64(n)), FieldValue::Number(Number::I64(m))) => Ok(
+            n == m,
+        ),
         _ => Ok(false),
     }
 }
@@ -155,4 +161,254 @@ pub fn alive(
         Ok(documents) => Ok(documents),
         Err(AllocError) => Err(Refusal::Memory),
     }
+}
+
+/// Whether the token at a place is this one, at its offset from a position.
+fn is_member(
+    text: &str,
+    place: Token,
+    from: usize,
+    offset: usize,
+    token: &str,
+    scratch: &mut String,
+) -> Result<bool, AllocError>
+    requires { IsPlaceIn text.now place }
+    ensures { IfOk result (λ same. same ≡ (((token_at text.now place).0 == from + offset) && bytes_eq (token_at text.now place).1 token.now)) }
+{
+    if place.position < from || place.position - from != offset {
+        return Ok(false);
+    }
+    is_token(text, place, token, scratch)
+}
+
+/// Whether a token stands at its offset from a position.
+fn stands_at(
+    text: &str,
+    from: usize,
+    offset: usize,
+    token: &str,
+    scratch: &mut String,
+) -> Result<bool, AllocError>
+    ensures { IfOk result (λ stands. stands ≡ stands_in_text_at (tokens text.now) (from + offset) token.now) }
+{
+    for place in Tokens::new(text) {
+        if is_member(text, place, from, offset, token, scratch)? {
+            return Ok(true);
+        }
+    }
+    Ok(false)
+}
+
+/// Whether each member of a pattern stands at its offset from a position.
+fn stands_from(
+    text: &str,
+    pattern: &[(u32, Text)],
+    from: usize,
+    scratch: &mut String,
+) -> Result<bool, AllocError>
+    ensures { IfOk result (λ stands. stands ≡ stands_in_text_from (tokens text.now) pattern.now from) }
+{
+    for (offset, token) in pattern {
+        if !stands_at(text, from, *offset as usize, token.as_str(), scratch)? {
+            return Ok(false);
+        }
+    }
+    Ok(true)
+}
+
+/// Whether a pattern stands so that the token at a place is its first member.
+fn leads(
+    text: &str,
+    pattern: &[(u32, Text)],
+    place: Token,
+    scratch: &mut String,
+) -> Result<bool, AllocError>
+    requires { IsPlaceIn text.now place }
+    ensures { IfOk result (λ stands. stands ≡ leads_pattern (tokens text.now) pattern.now (token_at text.now place)) }
+{
+    let [(offset, token), ..] = pattern else {
+        return Ok(true);
+    };
+    let offset = *offset as usize;
+    if place.position < offset {
+        return Ok(false);
+    }
+    if !is_token(text, place, token.as_str(), scratch)? {
+        return Ok(false);
+    }
+    stands_from(text, pattern, place.position - offset, scratch)
+}
+
+/// Whether a phrase stands in a text.
+fn has_phrase(text: &str, pattern: &[(u32, Text)], scratch: &mut String) -> Result<bool, AllocError>
+    ensures { IfOk result (λ stands. stands ≡ phrase_in text.now pattern.now) }
+{
+    if pattern.is_empty() {
+        return Ok(true);
+    }
+    for place in Tokens::new(text) {
+        if leads(text, pattern, place, scratch)? {
+            return Ok(true);
+        }
+    }
+    Ok(false)
+}
+
+/// Whether a value has a phrase.
+fn value_has_phrase(
+    value: &FieldValue,
+    pattern: &[(u32, Text)],
+    scratch: &mut String,
+) -> Result<bool, AllocError>
+    ensures { IfOk result (λ stands. stands ≡ has_phrase_in_value pattern.now value.now) }
+{
+    match value {
+        FieldValue::Text(text) => has_phrase(text.as_str(), pattern, scratch),
+        FieldValue::Number(_) => Ok(false),
+    }
+}
+
+/// Whether one number is below another of its kind.
+fn number_lt(a: Number, b: Number) -> bool
+    ensures { result ≡ is_number_lt a b }
+{
+    match (a, b) {
+        (Number::U64(n), Number::U64(m)) => n < m,
+        (Number::I64(n), Number::I64(m)) => n < m,
+        _ => false,
+    }
+}
+
+/// Whether one number is not above another of its kind.
+fn number_le(a: Number, b: Number) -> bool
+    ensures { result ≡ is_number_le a b }
+{
+    match (a, b) {
+        (Number::U64(n), Number::U64(m)) => n <= m,
+        (Number::I64(n), Number::I64(m)) => n <= m,
+        _ => false,
+    }
+}
+
+/// Whether one value is a number below another.
+fn value_lt(a: &FieldValue, b: &FieldValue) -> bool
+    ensures { result ≡ is_value_lt a.now b.now }
+{
+    match (a, b) {
+        (FieldValue::Number(n), FieldValue::Number(m)) => number_lt(*n, *m),
+        _ => false,
+    }
+}
+
+/// Whether one value is a number not above another.
+fn value_le(a: &FieldValue, b: &FieldValue) -> bool
+    ensures { result ≡ is_value_le a.now b.now }
+{
+    match (a, b) {
+        (FieldValue::Number(n), FieldValue::Number(m)) => number_le(*n, *m),
+        _ => false,
+    }
+}
+
+/// Whether a lower bound admits a value.
+fn admits_from(bound: &Bound<FieldValue>, value: &FieldValue) -> bool
+    ensures { result ≡ is_admitted_from bound.now value.now }
+{
+    match bound {
+        Bound::Included(bound) => value_le(bound, value),
+        Bound::Excluded(bound) => value_lt(bound, value),
+        Bound::Unbounded => true,
+    }
+}
+
+/// Whether an upper bound admits a value.
+fn admits_to(bound: &Bound<FieldValue>, value: &FieldValue) -> bool
+    ensures { result ≡ is_admitted_to bound.now value.now }
+{
+    match bound {
+        Bound::Included(bound) => value_le(value, bound),
+        Bound::Excluded(bound) => value_lt(value, bound),
+        Bound::Unbounded => true,
+    }
+}
+
+/// Whether a query matches a document. What `scratch` holds before and after is of no account.
+#[cycle(matches)]
+pub fn matches(
+    schema: &Schema,
+    query: &Query,
+    document: &Document,
+    scratch: &mut String,
+) -> Result<bool, AllocError>
+    ensures { IfOk result (λ matches. matches ≡ is_match schema.now document.now query.now) }
+{
+    match query {
+        Query::All => Ok(true),
+        Query::None => Ok(false),
+        Query::Term(term) => has(schema, document, term, scratch),
+        Query::Phrase { field, pattern } => match document.value(*field) {
+            None => Ok(false),
+            Some(value) => value_has_phrase(value, pattern, scratch),
+        },
+        Query::Range {
+            field,
+            lower,
+            upper,
+        } => match document.value(*field) {
+            None => Ok(false),
+            Some(value) => Ok(admits_from(lower, value) && admits_to(upper, value)),
+        },
+        Query::Bool {
+            must,
+            must_not,
+            should,
+        } => {
+            if !all_match(schema, must, document, scratch)? {
+                return Ok(false);
+            }
+            if any_matches(schema, must_not, document, scratch)? {
+                return Ok(false);
+            }
+            if !must.is_empty() {
+                return Ok(true);
+            }
+            any_matches(schema, should, document, scratch)
+        }
+    }
+}
+
+/// Whether each of these matches a document.
+#[cycle(matches)]
+fn all_match(
+    schema: &Schema,
+    queries: &[Query],
+    document: &Document,
+    scratch: &mut String,
+) -> Result<bool, AllocError>
+    ensures { IfOk result (λ matches. matches ≡ list_all (is_match schema.now document.now) queries.now) }
+{
+    for query in queries {
+        if !matches(schema, query, document, scratch)? {
+            return Ok(false);
+        }
+    }
+    Ok(true)
+}
+
+/// Whether one of these matches a document.
+#[cycle(matches)]
+fn any_matches(
+    schema: &Schema,
+    queries: &[Query],
+    document: &Document,
+    scratch: &mut String,
+) -> Result<bool, AllocError>
+    ensures { IfOk result (λ matches. matches ≡ list_any (is_match schema.now document.now) queries.now) }
+{
+    for query in queries {
+        if matches(schema, query, document, scratch)? {
+            return Ok(true);
+        }
+    }
+    Ok(false)
 }

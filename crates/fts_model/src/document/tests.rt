@@ -54,9 +54,24 @@ fn members(rt: HostRuntime) -> Result<(), Fail> {
         r#"{"title":"T","temp":-1,"tag":"a b","price":3}"#,
         r#"{"price":3,"tag":"a b","temp":-1,"title":"T"}"#,
     )?;
-    keeps(&rt, alloc, r#"{"price":18446744073709551615}"#, r#"{"price":18446744073709551615}"#)?;
-    keeps(&rt, alloc, r#"{"temp":-9223372036854775808}"#, r#"{"temp":-9223372036854775808}"#)?;
-    keeps(&rt, alloc, r#"{"temp":9223372036854775807}"#, r#"{"temp":9223372036854775807}"#)?;
+    keeps(
+        &rt,
+        alloc,
+        r#"{"price":18446744073709551615}"#,
+        r#"{"price":18446744073709551615}"#,
+    )?;
+    keeps(
+        &rt,
+        alloc,
+        r#"{"temp":-9223372036854775808}"#,
+        r#"{"temp":-9223372036854775808}"#,
+    )?;
+    keeps(
+        &rt,
+        alloc,
+        r#"{"temp":9223372036854775807}"#,
+        r#"{"temp":9223372036854775807}"#,
+    )?;
     // A key that stands twice is what the JSON tree holds: its last value.
     keeps(&rt, alloc, r#"{"price":"x","price":1}"#, r#"{"price":1}"#)?;
     Ok(())
@@ -138,7 +153,10 @@ fn fits_by_number_name_and_kind(rt: HostRuntime) -> Result<(), Fail> {
         assert_eq!(rt; document.fits(&there), fits, "{json}");
     }
     let document = Document::from_json(alloc, &here, &Value::from_str(alloc, r#"{"price":7}"#)?)?;
-    assert_eq!(rt; document.value(2), Some(&FieldValue::Number(Number::U64(7))));
+    assert_eq!(rt;
+        document.value(2),
+        Some(&FieldValue::Number(Number::U64(7)))
+    );
     assert!(rt; document.value(0).is_none());
     assert!(rt; document.value(9).is_none());
     Ok(())

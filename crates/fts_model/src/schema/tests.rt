@@ -43,7 +43,11 @@ fn of_length(alloc: Global, count: usize) -> Result<Option<(usize, Refusal)>, Al
 fn is(rt: &impl Abort, alloc: Global, names: &[&str], wanted: Option<Refusal>) -> Result<(), Fail> {
     let outcome = refused(alloc, names)?;
     let count = names.len();
-    assert_eq!(rt; outcome, wanted.map(|refusal| (count, refusal)), "{names:?}");
+    assert_eq!(rt;
+        outcome,
+        wanted.map(|refusal| (count, refusal)),
+        "{names:?}"
+    );
     Ok(())
 }
 
@@ -70,7 +74,12 @@ fn limits(rt: HostRuntime) -> Result<(), Fail> {
     assert_eq!(rt; of_length(alloc, 32)?, None);
     assert_eq!(rt; of_length(alloc, 33)?, Some((33, Refusal::TooManyFields)));
     is(&rt, alloc, &["aaaaaaaaaaaaaaaaaaaaaaaaaaaaaaaa"], None)?;
-    is(&rt, alloc, &["aaaaaaaaaaaaaaaaaaaaaaaaaaaaaaaaa"], Some(Refusal::BadName))?;
+    is(
+        &rt,
+        alloc,
+        &["aaaaaaaaaaaaaaaaaaaaaaaaaaaaaaaaa"],
+        Some(Refusal::BadName),
+    )?;
     Ok(())
 }
 

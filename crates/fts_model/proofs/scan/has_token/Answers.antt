@@ -13,6 +13,9 @@ pub is_token-requires : goal.is_token-requires
 is_token-requires c = Seeks-place c.args.text.now (λ t. bytes_eq t.1 c.args.token.now) c.in-Some.place _ (places_left c.next.new.self) c.in-Some.ensures.steps c.loop-place.invariant.2
 
 pub loop-place-preserved : goal.loop-place-preserved
-loop-place-preserved c =
-    (tt, tt, Seeks-next c.args.text.now (λ t. bytes_eq t.1 c.args.token.now) c.in-Some.place _ (places_left c.next.new.self) c.in-Some.ensures.steps
-     (sym c.in_ok-is_token.ensures ∙ c.if-branch.false) c.loop-place.invariant.2)
+loop-place-preserved c = (
+  tt,
+  tt,
+  Seeks-next c.args.text.now (λ t. bytes_eq t.1 c.args.token.now) c.in-Some.place _ (places_left c.next.new.self) c.in-Some.ensures.steps
+      (sym c.in_ok-is_token.ensures ∙ c.if-branch.false) c.loop-place.invariant.2,
+)

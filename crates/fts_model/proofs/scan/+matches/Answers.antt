@@ -1,0 +1,52 @@
+use Rattle.std.proofs.Common.{◌≡◌, ◌==◌, Bool, true, false, IfOk, length, sym, ap, subst, ◌∙◌}
+use Rattle.std.specs.List.{list_all, list_any}
+use Rattle.fts_model.specs.Queries.{matches, is_nonempty}
+use Rattle.fts_model.proofs.PhraseLemmas.{is_nonempty-length, is_nonempty-none}
+use Rattle.fts_model.proofs.QueryLemmas.{matches_at_bool, not_all_must, one_must_not, musts_suffice, shoulds_decide}
+use Rattle.fts_model.proofs.scan.+matches.Goals as goal
+
+pub matches-returns-then-not-branch : goal.matches-returns-then-not-branch
+matches-returns-then-not-branch t c =
+    let test = matches c.args.schema.now c.args.document.now in
+    let whole = ap test c.in-Bool.is ∙ matches_at_bool c.args.schema.now c.args.document.now c.in-Bool.must c.in-Bool.must_not c.in-Bool.should in
+    let all : list_all test c.in-Bool.must.items ≡ c.in_ok-all_match-in-Bool.field-0 = ap (list_all test) (sym c.deref-in-Bool.ensures.value) ∙ sym c.in_ok-all_match-in-Bool.ensures in
+    sym (whole
+    ∙ not_all_must (list_all test c.in-Bool.must.items) (list_any test c.in-Bool.must_not.items) (is_nonempty c.in-Bool.must.items) (list_any test c.in-Bool.should.items)
+    (all ∙ c.if-not-branch.true))
+
+pub matches-returns-then-branch : goal.matches-returns-then-branch
+matches-returns-then-branch t c =
+    let test = matches c.args.schema.now c.args.document.now in
+    let whole = ap test c.in-Bool.is ∙ matches_at_bool c.args.schema.now c.args.document.now c.in-Bool.must c.in-Bool.must_not c.in-Bool.should in
+    let any : list_any test c.in-Bool.must_not.items ≡ c.in_ok-any_matches-in-Bool.field-0 = ap (list_any test) (sym c.deref-in-Bool-2.ensures.value) ∙ sym c.in_ok-any_matches-in-Bool.ensures in
+    sym (whole
+    ∙ one_must_not (list_all test c.in-Bool.must.items) (list_any test c.in-Bool.must_not.items) (is_nonempty c.in-Bool.must.items) (list_any test c.in-Bool.should.items)
+    (any ∙ c.if-branch.true))
+
+pub matches-returns-then-not-is_empty : goal.matches-returns-then-not-is_empty
+matches-returns-then-not-is_empty t c =
+    let test = matches c.args.schema.now c.args.document.now in
+    let whole = ap test c.in-Bool.is ∙ matches_at_bool c.args.schema.now c.args.document.now c.in-Bool.must c.in-Bool.must_not c.in-Bool.should in
+    let all : list_all test c.in-Bool.must.items ≡ c.in_ok-all_match-in-Bool.field-0 = ap (list_all test) (sym c.deref-in-Bool.ensures.value) ∙ sym c.in_ok-all_match-in-Bool.ensures in
+    let any : list_any test c.in-Bool.must_not.items ≡ c.in_ok-any_matches-in-Bool.field-0 = ap (list_any test) (sym c.deref-in-Bool-2.ensures.value) ∙ sym c.in_ok-any_matches-in-Bool.ensures in
+    let len = ap length (sym c.deref-in-Bool.ensures.value) ∙ c.deref-in-Bool.ensures.len in
+    let some = is_nonempty-length c.in-Bool.must.items (ap (λ n. n == 0) len ∙ sym c.is_empty.ensures ∙ c.if-not-is_empty.true) in
+    sym (whole
+    ∙ musts_suffice (list_all test c.in-Bool.must.items) (list_any test c.in-Bool.must_not.items) (is_nonempty c.in-Bool.must.items) (list_any test c.in-Bool.should.items)
+    (all ∙ c.if-not-branch.false) (any ∙ c.if-branch.false) some)
+
+pub matches-returns-else-not-is_empty : goal.matches-returns-else-not-is_empty
+matches-returns-else-not-is_empty t c =
+    let test = matches c.args.schema.now c.args.document.now in
+    let whole = ap test c.in-Bool.is ∙ matches_at_bool c.args.schema.now c.args.document.now c.in-Bool.must c.in-Bool.must_not c.in-Bool.should in
+    let all : list_all test c.in-Bool.must.items ≡ c.in_ok-all_match-in-Bool.field-0 = ap (list_all test) (sym c.deref-in-Bool.ensures.value) ∙ sym c.in_ok-all_match-in-Bool.ensures in
+    let any : list_any test c.in-Bool.must_not.items ≡ c.in_ok-any_matches-in-Bool.field-0 = ap (list_any test) (sym c.deref-in-Bool-2.ensures.value) ∙ sym c.in_ok-any_matches-in-Bool.ensures in
+    let len = ap length (sym c.deref-in-Bool.ensures.value) ∙ c.deref-in-Bool.ensures.len in
+    let none = is_nonempty-none c.in-Bool.must.items (ap (λ n. n == 0) len ∙ sym c.is_empty.ensures ∙ c.if-not-is_empty.false) in
+    let P : Bool → Type 0 = λ b. IfOk c.any_matches-in-Bool.result (λ m. m ≡ b) in
+    subst P
+    (ap (list_any test) c.deref-in-Bool-3.ensures.value
+    ∙ sym (whole
+    ∙ shoulds_decide (list_all test c.in-Bool.must.items) (list_any test c.in-Bool.must_not.items) (is_nonempty c.in-Bool.must.items) (list_any test c.in-Bool.should.items)
+    (all ∙ c.if-not-branch.false) (any ∙ c.if-branch.false) none))
+    c.any_matches-in-Bool.ensures
