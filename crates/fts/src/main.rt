@@ -18,6 +18,7 @@ mod streams;
 mod word;
 
 use args::{ArgFault, Asked, args};
+use fault::Fault;
 use options::Options;
 use run_plain::run_plain;
 use status::{arg_status, status};
@@ -52,10 +53,10 @@ fn run_standard(rt: &HostRuntime, options: Options) -> u8 {
 fn main(rt: HostRuntime) -> ExitCode {
     ExitCode::from(match asked(&rt) {
         Ok(Asked::Run(options)) => run_standard(&rt, options),
-        Ok(Asked::Help(text)) => {
-            let _ = rt.print(text);
-            0
-        }
+        Ok(Asked::Help(text)) => match rt.print(text) {
+            Ok(()) => 0,
+            Err(_) => status(&Fault::Write),
+        },
         Err(fault) => {
             let _ = rt.eprint(&fault);
             arg_status(&fault)

@@ -20,6 +20,7 @@ const BLOCK: usize = 65_536;
 /// The most bytes that a run reads.
 const MOST: u64 = 1 << 61;
 
+/// A block; its length stays a variable in the proof, which would write a list of 65,536 out.
 fn zeros(alloc: Global, count: usize) -> Result<Vec<u8>, AllocError>
     ensures { IfOk result (λ block. vec_len block ≡ count) }
 {

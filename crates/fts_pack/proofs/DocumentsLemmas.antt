@@ -1,0 +1,148 @@
+-- Rising documents, their differences, and their blocks.
+use Rattle.std.proofs.Common.{◌≡◌, ℕ, zero, suc, ◌+◌, ◌-◌, ◌*◌, ◌^◌, ◌<◌, ◌≤◌, List, [], ◌∷◌, ◌++◌, All, length, get_or, take, drop, set, min, refl, sym, ap, ap₂, ◌∙◌, subst, arith, add-one, append_assoc}
+use Rattle.std.specs.List.Sorted.{IsStrictlyIncreasing}
+use Rattle.std.proofs.lemmas.List.{length-take, length-drop, take-append-drop, drop_all, drop-drop, append-nil, drop_more, take_more_set, length-set, get_or-take, get_or-drop, get_or_at, length-take-le, drop-set-lt, take_min}
+use Rattle.std.specs.Int.{div_ceil}
+use Rattle.std.proofs.Math.Seq.{take-add}
+use Rattle.fts_pack.specs.Documents.{gaps, documents_at, block_count, block_at, last_of, Rises, after}
+
+pub documents_at-gaps : (next : ℕ) (documents : List ℕ) → Rises next documents → documents_at next (gaps next documents) ≡ documents
+documents_at-gaps next [] h = refl
+documents_at-gaps next (d ∷ ds) h =
+    let same : next + (d - next) ≡ d = omega (arith, h.0) in
+    rw same (ap (λ xs. d ∷ xs) (documents_at-gaps (suc d) ds h.1))
+
+pub length-gaps : (next : ℕ) (documents : List ℕ) → length (gaps next documents) ≡ length documents
+length-gaps next [] = refl
+length-gaps next (d ∷ ds) = ap suc (length-gaps (suc d) ds)
+
+pub length-documents_at : (next : ℕ) (numbers : List ℕ) → length (documents_at next numbers) ≡ length numbers
+length-documents_at next [] = refl
+length-documents_at next (g ∷ gs) = ap suc (length-documents_at (suc (next + g)) gs)
+
+pub Rises-append : (next : ℕ) (xs ys : List ℕ) → Rises next (xs ++ ys) → Rises next xs × Rises (after next xs) ys
+Rises-append next [] ys h = (tt, h)
+Rises-append next (x ∷ xs) ys h =
+    let tail = Rises-append (suc x) xs ys h.1 in
+    ((h.0, tail.0), tail.1)
+
+pub after-append : (next : ℕ) (xs ys : List ℕ) → after next (xs ++ ys) ≡ after (after next xs) ys
+after-append next [] ys = refl
+after-append next (x ∷ xs) ys = after-append (suc x) xs ys
+
+-- the last document is the one before the next
+pub after_last : (next : ℕ) (xs : List ℕ) → 0 < length xs → after next xs ≡ suc (last_of xs)
+after_last next [] h = absurd (omega arith)
+after_last next (x ∷ []) h = refl
+after_last next (x ∷ (y ∷ ys)) h =
+    let here : suc (length ys) - 1 ≡ length ys = omega arith in
+    let there : suc (suc (length ys)) - 1 ≡ suc (length ys) = omega arith in
+    after_last (suc x) (y ∷ ys) (omega arith) ∙ ap (λ i. suc (get_or (y ∷ ys) i 0)) here ∙ ap (λ i. suc (get_or (x ∷ (y ∷ ys)) i 0)) (sym there)
+
+Rises-from_head : (next : ℕ) (xs : List ℕ) → IsStrictlyIncreasing xs → (0 < length xs → next ≤ get_or xs 0 0) → Rises next xs
+Rises-from_head next [] h head = tt
+Rises-from_head next (x ∷ xs) h head =
+    (head (omega arith), Rises-from_head (suc x) xs (λ k inside. let e : suc k + 1 ≡ suc (k + 1) = omega arith in rw e at (h (suc k) (omega (arith, inside)))) (λ some. h 0 (omega (arith, some))))
+
+pub Rises-from_increasing : (xs : List ℕ) → IsStrictlyIncreasing xs → Rises 0 xs
+Rises-from_increasing xs h = Rises-from_head 0 xs h (λ some. omega arith)
+
+-- a block of rising documents rises from the documents before it
+pub Rises-block : (documents : List ℕ) (block : ℕ) → Rises 0 documents → Rises (after 0 (take (block * 128) documents)) (block_at documents block)
+Rises-block documents block h =
+    let front = take (block * 128) documents in
+    let back = drop (block * 128) documents in
+    let tail = Rises-append 0 front back (subst (Rises 0) (sym (take-append-drop (block * 128) documents)) h) in
+    let piece = Rises-append (after 0 front) (take 128 back) (drop 128 back) (subst (Rises (after 0 front)) (sym (take-append-drop 128 back)) tail.1) in
+    piece.0
+
+pub take_block : (documents : List ℕ) (block : ℕ) → take ((block + 1) * 128) documents ≡ take (block * 128) documents ++ block_at documents block
+take_block documents block = ap (λ n. take n documents) (omega arith) ∙ take-add (block * 128) 128 documents
+
+-- the first differences were written
+pub record GapsWritten (first : ℕ) (documents : List ℕ) (index next : ℕ) (out : List ℕ) : Type 0 where
+  pub size : length out ≡ 128
+  pub written : take index out ++ gaps next (drop index documents) ≡ gaps first documents
+  pub rises : Rises next (drop index documents)
+
+pub GapsWritten-start : (next : ℕ) (documents out : List ℕ) → Rises next documents → length out ≡ 128 → GapsWritten next documents 0 next out
+GapsWritten-start next documents out h size = record { size = size; written = refl; rises = h }
+
+pub GapsWritten-more : (first : ℕ) (documents : List ℕ) (index next document gap : ℕ) (out : List ℕ) → GapsWritten first documents index next out → index < length documents → index < 128 → document ≡ get_or documents index 0 → gap ≡ document - next → (next ≤ document) × GapsWritten first documents (index + 1) (document + 1) (set out index gap)
+GapsWritten-more first documents index next document gap out h inside room document_is gap_is =
+    let rest : drop index documents ≡ document ∷ drop (index + 1) documents = drop_more documents index 0 inside ∙ ap (λ d. d ∷ drop (index + 1) documents) (sym document_is) in
+    let rises : Rises next (document ∷ drop (index + 1) documents) = subst (Rises next) rest h.rises in
+    let one : document + 1 ≡ suc document = add-one document in
+    let left = gaps (suc document) (drop (index + 1) documents) in
+    let there : index < length out = omega (arith, h.size) in (
+      rises.0,
+      record {
+        size = length-set out index gap ∙ h.size;
+        written = rw one (ap (λ xs. xs ++ left) (take_more_set out index gap there) ∙ append_assoc (take index out) (gap ∷ []) left ∙ ap (λ g. take index out ++ g ∷ left) gap_is ∙ ap (λ ds. take index out ++ gaps next ds) (sym rest) ∙ h.written);
+        rises = rw one rises.1;
+      },
+    )
+
+pub GapsWritten-end : (first : ℕ) (documents : List ℕ) (index next : ℕ) (out : List ℕ) → GapsWritten first documents index next out → length documents ≤ index → take index out ≡ gaps first documents
+GapsWritten-end first documents index next out h all =
+    sym (append-nil (take index out)) ∙ ap (λ ds. take index out ++ gaps next ds) (sym (drop_all index documents all)) ∙ h.written
+
+-- lists with one rest from a place on have one number there
+first_left : (index : ℕ) (xs ys : List ℕ) → drop index xs ≡ drop index ys → get_or xs index 0 ≡ get_or ys index 0
+first_left index xs ys e =
+    let at : (zs : List ℕ) → get_or (drop index zs) 0 0 ≡ get_or zs index 0 = λ zs. get_or-drop index zs 0 0 ∙ ap (λ i. get_or zs i 0) (omega arith) in
+    sym (at xs) ∙ ap (λ zs. get_or zs 0 0) e ∙ at ys
+
+-- the first differences were turned into documents
+pub record IsSummed (first count : ℕ) (before : List ℕ) (index next : ℕ) (out : List ℕ) : Type 0 where
+  pub size : length out ≡ 128
+  pub written : take index out ++ documents_at next (drop index (take count before)) ≡ documents_at first (take count before)
+  pub rest : drop index out ≡ drop index before
+
+pub IsSummed-more : (first count : ℕ) (before : List ℕ) (index next gap document : ℕ) (out : List ℕ) → IsSummed first count before index next out → index < count → count ≤ 128 → gap ≡ get_or out index 0 → document ≡ next + gap → All (λ d. d < 2 ^ 32) (documents_at first (take count before)) → (document < 2 ^ 32) × IsSummed first count before (index + 1) (document + 1) (set out index document)
+IsSummed-more first count before index next gap document out h inside few gap_is document_is fits =
+    let there : index < length out = omega (arith, h.size) in
+    let same : length before ≡ 128 = omega (arith, h.size, ap length h.rest, length-drop index out, length-drop index before) in
+    let numbers = take count before in
+    let size : length numbers ≡ count = length-take-le count before (omega (arith, same)) in
+    let at : get_or numbers index 0 ≡ gap = get_or-take count before index 0 inside ∙ first_left index before out (sym h.rest) ∙ sym gap_is in
+    let split : drop index numbers ≡ gap ∷ drop (index + 1) numbers = drop_more numbers index 0 (omega (arith, size)) ∙ ap (λ g. g ∷ drop (index + 1) numbers) at in
+    let one : document + 1 ≡ suc (next + gap) = omega (arith, document_is) in
+    let left = documents_at (document + 1) (drop (index + 1) numbers) in
+    let whole : take index out ++ document ∷ left ≡ documents_at first numbers = ap₂ (λ d n. take index out ++ d ∷ documents_at n (drop (index + 1) numbers)) document_is one ∙ ap (λ gs. take index out ++ documents_at next gs) (sym split) ∙ h.written in
+    let front : length (take index out) ≡ index = length-take-le index out (omega arith) in
+    let total : length (documents_at first numbers) ≡ count = length-documents_at first numbers ∙ size in
+    let here : get_or (documents_at first numbers) index 0 ≡ document = ap (λ ds. get_or ds index 0) (sym whole) ∙ get_or_at (take index out) document left 0 index front in
+    let small : document < 2 ^ 32 = subst (λ d. d < 2 ^ 32) here (fits index 0 (omega (arith, total))) in (
+      small,
+      record {
+        size = length-set out index document ∙ h.size;
+        written = ap (λ xs. xs ++ left) (take_more_set out index document there) ∙ append_assoc (take index out) (document ∷ []) left ∙ whole;
+        rest = drop-set-lt (index + 1) out index document (omega arith) ∙ sym (drop-drop 1 index out) ∙ ap (drop 1) h.rest ∙ drop-drop 1 index before;
+      },
+    )
+
+pub IsSummed-end : (first count : ℕ) (before : List ℕ) (next : ℕ) (out : List ℕ) → IsSummed first count before count next out → take count out ≡ documents_at first (take count before)
+IsSummed-end first count before next out h =
+    let none : drop count (take count before) ≡ [] = drop_all count (take count before) (omega (arith, length-take count before)) in
+    sym (append-nil (take count out)) ∙ ap (λ gs. take count out ++ documents_at next gs) (sym none) ∙ h.written
+
+-- a slice from a block's start to its end is the block
+pub block_sliced : (documents : List ℕ) (block end : ℕ) → end ≡ min (length documents) (block * 128 + 128) → take (end - block * 128) (drop (block * 128) documents) ≡ block_at documents block
+block_sliced documents block end end_is =
+    let back = drop (block * 128) documents in
+    let size : end - block * 128 ≡ min 128 (length back) = omega (arith, end_is, length-drop (block * 128) documents) in
+    ap (λ n. take n back) size ∙ take_min 128 back
+
+pub block_count-div_ceil : (count : ℕ) → div_ceil count 128 ≡ block_count count
+block_count-div_ceil count = omega arith
+
+-- the last document of a block, and what follows it
+pub last_is : (next : ℕ) (documents : List ℕ) → 0 < length documents → suc (get_or documents (length documents - 1) 0) ≡ after next documents
+last_is next documents some = sym (after_last next documents some)
+
+-- the one block of one document
+pub only_block : (document block : ℕ) (out : List ℕ) → block < block_count 1 → length out ≡ 128 → take 1 (set out 0 document) ≡ block_at (document ∷ []) block
+only_block document zero [] h size = absurd (omega (arith, size))
+only_block document zero (x ∷ out) h size = refl
+only_block document (suc block) out h size = absurd (omega (arith, h))

@@ -1,0 +1,39 @@
+-- Strictly rising lists of documents, their differences, and their blocks.
+use Rattle.std.specs.Prelude.{ℕ, suc, ◌+◌, ◌-◌, ◌*◌, ◌/◌, ◌≤◌, List, [], ◌∷◌, length, take, drop, map, slice_index}
+use Rattle.std.specs.List.{range_with_len}
+
+-- how far each document is above the one before it, less 1; the first is above nothing, or `next - 1`
+abbrev pub gaps : ℕ → List ℕ → List ℕ
+gaps next [] = []
+gaps next (document ∷ documents) = (document - next) ∷ gaps (suc document) documents
+
+-- the documents with these differences
+abbrev pub documents_at : ℕ → List ℕ → List ℕ
+documents_at next [] = []
+documents_at next (gap ∷ others) = (next + gap) ∷ documents_at (suc (next + gap)) others
+
+-- how many blocks of 128 hold so many documents, the last of 1 to 128
+abbrev pub block_count : ℕ → ℕ
+block_count count = (count + 127) / 128
+
+-- a block of a list of documents
+abbrev pub block_at : List ℕ → ℕ → List ℕ
+block_at documents block = take 128 (drop (block * 128) documents)
+
+-- the blocks of a list of documents
+abbrev pub blocks_of : List ℕ → List (List ℕ)
+blocks_of documents = map (block_at documents) (range_with_len 0 (block_count (length documents)))
+
+-- the last number of a list
+abbrev pub last_of : List ℕ → ℕ
+last_of numbers = slice_index numbers (length numbers - 1)
+
+-- the documents rise from `next` on
+abbrev pub Rises : ℕ → List ℕ → Type 0
+Rises next [] = Unit {0}
+Rises next (document ∷ documents) = (next ≤ document) × Rises (suc document) documents
+
+-- the first document that may follow these
+abbrev pub after : ℕ → List ℕ → ℕ
+after next [] = next
+after next (document ∷ documents) = after (suc document) documents

@@ -1,0 +1,10 @@
+pub mod Bits
+pub mod Block
+pub mod Column
+pub mod Digits
+pub mod Documents
+pub mod Kept
+pub mod ListSource
+pub mod LongList
+pub mod Signed
+pub mod SourceLaws

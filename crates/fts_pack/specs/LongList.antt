@@ -1,0 +1,46 @@
+-- What a list of documents in blocks keeps.
+use Rattle.std.specs.Prelude.{◌≡◌, ℕ, suc, ◌-◌, ◌*◌, ◌^◌, ◌<◌, ◌≤◌, List, [], ◌∷◌, ◌++◌, All, drop, length, min}
+use Rattle.std.specs.List.Sorted.{IsStrictlyIncreasing}
+use Rattle.fts_pack.specs.Digits.{IsWidthOf, numbers_in, words_of}
+use Rattle.fts_pack.specs.Documents.{after, documents_at, gaps}
+use Rattle.fts_pack.specs.declared.skip.Skip.{Skip}
+
+-- the documents of one block, the first of them `next` or later
+abbrev pub kept_block : List ℕ → ℕ → ℕ → Skip → List ℕ
+kept_block words next count skip =
+    documents_at next (numbers_in 32 skip.width (min 128 count) (drop skip.start words))
+
+-- the documents of all blocks, so many in all
+abbrev pub kept_documents : List ℕ → ℕ → ℕ → List Skip → List ℕ
+kept_documents words next count [] = []
+kept_documents words next count (skip ∷ skips) =
+    kept_block words next count skip ++ kept_documents words (suc skip.last) (count - 128) skips
+
+-- one block lies within the words, and its last document is told
+pub record IsKeptBlock (words : List ℕ) (next count : ℕ) (skip : Skip) : Type 0 where
+  pub some : 0 < count
+  pub width_within : skip.width ≤ 32
+  pub start_within : skip.start ≤ length words
+  pub bits_within : min 128 count * skip.width ≤ (length words - skip.start) * 32
+  pub last_is : after next (kept_block words next count skip) ≡ suc skip.last
+
+-- each block lies within the words, and its last document is told
+abbrev pub AreKept : List ℕ → ℕ → ℕ → List Skip → Type 0
+AreKept words next count [] = count ≡ 0
+AreKept words next count (skip ∷ skips) =
+    IsKeptBlock words next count skip × AreKept words (suc skip.last) (count - 128) skips
+
+-- the blocks hold so many documents, which rise
+pub record IsLongList (count : ℕ) (skips : List Skip) (words : List ℕ) : Type 0 where
+  pub count_fits : count < 2 ^ 64
+  pub kept : AreKept words 0 count skips
+  pub rises : IsStrictlyIncreasing (kept_documents words 0 count skips)
+  pub fits : All (λ document. document < 2 ^ 32) (kept_documents words 0 count skips)
+
+-- what adding one block to the words did
+pub record IsAdded (piece : List ℕ) (next : ℕ) (before words : List ℕ) (skip : Skip) : Type 0 where
+  pub start : skip.start ≡ length before
+  pub width_within : skip.width ≤ 32
+  pub width_is : IsWidthOf (gaps next piece) skip.width
+  pub words_are : words ≡ before ++ words_of 32 skip.width (gaps next piece)
+  pub last_is : suc skip.last ≡ after next piece

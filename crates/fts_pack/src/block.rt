@@ -1,0 +1,81 @@
+// Up to 128 numbers, packed at the width of the greatest.
+ghost use Rattle.std.specs.Prelude.{◌≡◌, ◌≤◌, IfOk, IsOkUnless, List, drop, length, take, ℕ};
+ghost use Rattle.fts_pack.specs.Digits.{IsWidthOf, numbers_in, words_of};
+ghost use Rattle.fts_pack.specs.Block.{IsBlock};
+
+use crate::packing;
+use fts_model::Refusal;
+use std::alloc::{AllocError, Global};
+use std::marker::Model;
+
+/// How many numbers a block holds at most.
+pub const BLOCK: usize = 128;
+
+/// Up to 128 numbers, each kept in as few bits as the greatest of them needs.
+#[derive(Drop)]
+pub struct Block {
+    count: usize,
+    width: u32,
+    words: Vec<u32>,
+}
+
+impl Model for Block {
+    ghost Value = { List ℕ };
+
+    ghost view = { λ b. numbers_in 32 b.width b.count b.words.items };
+
+    ghost invariant = { λ b. IsBlock b.count b.width b.words.items };
+}
+
+impl Block {
+    /// Packs the numbers.
+    pub fn pack(alloc: Global, numbers: &[u32]) -> Result<Block, Refusal>
+        requires { length numbers.now ≤ 128 }
+        ensures ok { IfOk result (λ block. block ≡ numbers.now) }
+        ensures memory { IsOkUnless result Refusal.Memory }
+    {
+        Self::packed(alloc, numbers).map_err(|_| Refusal::Memory)
+    }
+
+    fn packed(alloc: Global, numbers: &[u32]) -> Result<Block, AllocError>
+        requires { length numbers.now ≤ 128 }
+        ensures { IfOk result (λ block. block ≡ numbers.now) }
+    {
+        let width = packing::width_of(numbers);
+        let mut words = Vec::with_capacity(alloc, packing::word_count_32(numbers.len(), width))?;
+        packing::append(&mut words, width, numbers)?;
+        Ok(Block {
+            count: numbers.len(),
+            width,
+            words,
+        })
+    }
+
+    /// Writes the numbers to the front of `out`, whose rest stays as it was, and gives how many they are.
+    pub fn unpack(&self, out: &mut [u32; 128]) -> usize
+        ensures count { result ≡ length self.now }
+        ensures at_most { result ≤ 128 }
+        ensures numbers { take result out.new ≡ self.now }
+        ensures rest { drop result out.new ≡ drop result out.old }
+    {
+        packing::unpack(&self.words, self.width, self.count, out);
+        self.count
+    }
+
+    /// How many bits each number takes.
+    pub(crate) fn width(&self) -> u32
+        ensures { IsWidthOf self.now result }
+    {
+        self.width
+    }
+
+    /// The words in which the numbers lie.
+    pub(crate) fn words(&self) -> &[u32]
+        ensures { (width : ℕ) → IsWidthOf self.now width → result.now ≡ words_of 32 width self.now }
+    {
+        &self.words
+    }
+}
+
+#[cfg(test)]
+mod tests;

@@ -1,0 +1,123 @@
+// A strictly rising list of documents: one document lies in the list itself, more of them in blocks.
+ghost use Rattle.std.specs.Prelude.{◌≡◌, ℕ, ◌<◌, ◌==◌, List, IfOk, IsOkUnless, drop, length, take};
+ghost use Rattle.std.specs.List.Sorted.{IsStrictlyIncreasing};
+ghost use Rattle.fts_pack.specs.Documents.{block_at, block_count, last_of};
+
+use crate::list_source::ListSource;
+use crate::long_list::LongList;
+use fts_model::Refusal;
+use std::alloc::Global;
+use std::marker::Model;
+
+#[derive(Drop)]
+enum Kept {
+    One(u32),
+    Long(LongList),
+}
+
+/// A strictly rising list of documents.
+#[derive(Drop)]
+pub struct List {
+    kept: Kept,
+}
+
+impl Model for List {
+    ghost use Rattle.std.specs.Prelude.{ℕ};
+    ghost use Rattle.std.specs.Prelude.{List as Seq};
+    ghost use Rattle.std.specs.List.Sorted.{IsStrictlyIncreasing};
+    ghost use Rattle.fts_pack.specs.Kept.{documents_of};
+
+    ghost Value = { Seq ℕ };
+
+    ghost view = { λ l. documents_of l.kept };
+
+    ghost invariant = { λ l. IsStrictlyIncreasing (documents_of l.kept) };
+}
+
+impl List {
+    /// Packs the documents.
+    pub fn build(alloc: Global, documents: &[u32]) -> Result<List, Refusal>
+        requires { IsStrictlyIncreasing documents.now }
+        ensures ok { IfOk result (λ list. list ≡ documents.now) }
+        ensures memory { IsOkUnless result Refusal.Memory }
+    {
+        if let [document] = documents {
+            return Ok(List {
+                kept: Kept::One(*document),
+            });
+        }
+        let long = LongList::build(alloc, documents).map_err(|_| Refusal::Memory)?;
+        Ok(List {
+            kept: Kept::Long(long),
+        })
+    }
+
+    /// How many documents there are.
+    pub fn len(&self) -> usize
+        ensures { result ≡ length self.now }
+    {
+        match &self.kept {
+            Kept::One(_) => 1,
+            Kept::Long(long) => long.len(),
+        }
+    }
+
+    /// Whether there is no document.
+    pub fn is_empty(&self) -> bool
+        ensures { result ≡ (length self.now == 0) }
+    {
+        self.len() == 0
+    }
+
+    pub(crate) fn blocks(&self) -> usize
+        ensures { result ≡ block_count (length self.now) }
+    {
+        match &self.kept {
+            Kept::One(_) => 1,
+            Kept::Long(long) => long.blocks(),
+        }
+    }
+
+    pub(crate) fn last(&self, block: usize) -> u32
+        requires { block < block_count (length self.now) }
+        ensures { result ≡ last_of (block_at self.now block) }
+    {
+        match &self.kept {
+            Kept::One(document) => *document,
+            Kept::Long(long) => long.last(block),
+        }
+    }
+
+    pub(crate) fn open(&self, block: usize, out: &mut [u32; 128]) -> usize
+        requires { block < block_count (length self.now) }
+        ensures count { result ≡ length (block_at self.now block) }
+        ensures documents { take result out.new ≡ block_at self.now block }
+        ensures rest { drop result out.new ≡ drop result out.old }
+    {
+        match &self.kept {
+            Kept::One(document) => {
+                out[0] = *document;
+                1
+            }
+            Kept::Long(long) => long.open(block, out),
+        }
+    }
+}
+
+impl List {
+    ghost use Rattle.std.specs.Prelude.{◌≡◌};
+    ghost use Rattle.fts_pack.specs.ListSource.{documents_in, openings_of};
+
+    /// The list as blocks, of which none was opened yet.
+    pub fn source(&self) -> ListSource<'_>
+        ensures documents { documents_in result ≡ self.now }
+        ensures unopened { openings_of result ≡ 0 }
+    {
+        // Shows the proof that the documents rise.
+        let _ = &self.kept;
+        ListSource::over(self)
+    }
+}
+
+#[cfg(test)]
+mod tests;

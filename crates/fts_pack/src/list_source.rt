@@ -1,0 +1,59 @@
+// The blocks of a list, opened one at a time and counted.
+ghost use Rattle.std.specs.List.Sorted.{IsStrictlyIncreasing};
+
+use crate::blocks::Blocks;
+use crate::list::List;
+use crate::openings::Openings;
+
+/// The blocks of a list. Whenever one is opened, a number goes up that contracts alone read.
+#[derive(Drop)]
+pub struct ListSource<'a> {
+    list: &'a List,
+    opened: Openings,
+    ghost rises: { IsStrictlyIncreasing list.now },
+}
+
+impl<'a> ListSource<'a> {
+    ghost use Rattle.std.specs.Prelude.{◌≡◌};
+    ghost use Rattle.std.specs.List.Sorted.{IsStrictlyIncreasing};
+    ghost use Rattle.fts_pack.specs.ListSource.{documents_in, openings_of};
+
+    /// The blocks of the list, of which none was opened yet.
+    pub(crate) fn over(list: &'a List) -> ListSource<'a>
+        requires { IsStrictlyIncreasing list.now }
+        ensures documents { documents_in result ≡ list.now }
+        ensures unopened { openings_of result ≡ 0 }
+    {
+        ListSource {
+            list,
+            opened: Openings::none(),
+        }
+    }
+}
+
+impl Blocks for ListSource<'_> {
+    ghost use Rattle.fts_pack.specs.Documents.{blocks_of};
+    ghost use Rattle.fts_pack.specs.ListSource.{documents_in, openings_of};
+    ghost use Rattle.fts_pack.specs.SourceLaws.{blocks_sized, blocks_rise};
+
+    ghost contents = { λ source. blocks_of (documents_in source) };
+
+    ghost openings = { openings_of };
+
+    ghost sized = { λ source. blocks_sized (documents_in source) };
+
+    ghost rises = { λ source. blocks_rise (documents_in source) source.rises };
+
+    fn blocks(&self) -> usize {
+        self.list.blocks()
+    }
+
+    fn last(&self, block: usize) -> u32 {
+        self.list.last(block)
+    }
+
+    fn open(&mut self, block: usize, out: &mut [u32; 128]) -> usize {
+        self.opened = self.opened.and_one();
+        self.list.open(block, out)
+    }
+}

@@ -1,0 +1,155 @@
+// A strictly rising list of documents in blocks of 128 differences, all in one buffer, and a skip entry a block.
+ghost use Rattle.std.specs.Prelude.{◌≡◌, suc, ℕ, ◌+◌, ◌-◌, ◌*◌, ◌^◌, ◌<◌, ◌≤◌, List, All, IfOk, drop, length, take};
+ghost use Rattle.std.specs.List.Sorted.{IsStrictlyIncreasing};
+ghost use Rattle.fts_pack.specs.Documents.{after, block_at, block_count, documents_at, gaps, last_of, Rises};
+ghost use Rattle.fts_pack.specs.LongList.{IsAdded, IsLongList, kept_documents};
+
+use crate::block::BLOCK;
+use crate::packing;
+use crate::skip::Skip;
+use std::alloc::{AllocError, Global};
+use std::marker::Model;
+
+/// Strictly rising documents in blocks.
+#[derive(Drop)]
+pub(crate) struct LongList {
+    count: usize,
+    skips: Vec<Skip>,
+    words: Vec<u32>,
+}
+
+impl Model for LongList {
+    ghost Value = { List ℕ };
+
+    ghost view = { λ l. kept_documents l.words.items 0 l.count l.skips.items };
+
+    ghost invariant = { λ l. IsLongList l.count l.skips.items l.words.items };
+}
+
+impl LongList {
+    /// Packs the documents.
+    pub(crate) fn build(alloc: Global, documents: &[u32]) -> Result<LongList, AllocError>
+        requires { IsStrictlyIncreasing documents.now }
+        ensures { IfOk result (λ list. list ≡ documents.now) }
+    {
+        let blocks = documents.len().div_ceil(BLOCK);
+        let mut skips = Vec::with_capacity(alloc, blocks)?;
+        let mut words = Vec::new(alloc);
+        let mut next = 0;
+        for block in 0..blocks {
+            let start = block * BLOCK;
+            let end = documents.len().min(start + BLOCK);
+            let skip = add_block(&mut words, next, &documents[start..end])?;
+            next = u64::from(skip.last) + 1;
+            skips.push(skip)?;
+        }
+        words.shrink_to_fit();
+        Ok(LongList {
+            count: documents.len(),
+            skips,
+            words,
+        })
+    }
+
+    /// How many documents there are.
+    pub(crate) fn len(&self) -> usize
+        ensures { result ≡ length self.now }
+    {
+        self.count
+    }
+
+    /// How many blocks there are.
+    pub(crate) fn blocks(&self) -> usize
+        ensures { result ≡ block_count (length self.now) }
+    {
+        self.skips.len()
+    }
+
+    /// The last document of the block.
+    pub(crate) fn last(&self, block: usize) -> u32
+        requires { block < block_count (length self.now) }
+        ensures { result ≡ last_of (block_at self.now block) }
+    {
+        self.skips[block].last
+    }
+
+    /// Writes the documents of the block to the front of `out`, whose rest stays as it was, and gives how many they are.
+    pub(crate) fn open(&self, block: usize, out: &mut [u32; 128]) -> usize
+        requires { block < block_count (length self.now) }
+        ensures count { result ≡ length (block_at self.now block) }
+        ensures documents { take result out.new ≡ block_at self.now block }
+        ensures rest { drop result out.new ≡ drop result out.old }
+    {
+        let Skip { start, width, .. } = self.skips[block];
+        let count = (self.count - block * BLOCK).min(BLOCK);
+        let (_, words) = self.words.split_at(start);
+        packing::unpack(words, width, count, out);
+        add_up(self.first(block), count, out);
+        count
+    }
+
+    // The first document that the block may have.
+    fn first(&self, block: usize) -> u64
+        requires { block < block_count (length self.now) }
+        ensures { result ≡ after 0 (take (block * 128) self.now) }
+    {
+        if block == 0 {
+            0
+        } else {
+            u64::from(self.skips[block - 1].last) + 1
+        }
+    }
+}
+
+// Appends a block, whose documents are `next` or later, and tells where it lies.
+fn add_block(words: &mut Vec<u32>, next: u64, documents: &[u32]) -> Result<Skip, AllocError>
+    requires some { 0 < length documents.now }
+    requires few { length documents.now ≤ 128 }
+    requires rises { Rises next documents.now }
+    ensures { IfOk result (λ skip. IsAdded documents.now next words.old.items words.new.items skip) }
+{
+    let mut differences = [0; BLOCK];
+    write_gaps(next, documents, &mut differences);
+    let differences = &differences[..documents.len()];
+    let width = packing::width_of(differences);
+    let start = words.len();
+    words.reserve(packing::word_count_32(documents.len(), width))?;
+    packing::append(words, width, differences)?;
+    Ok(Skip {
+        start,
+        last: documents[documents.len() - 1],
+        width,
+    })
+}
+
+// Writes how far each document is above the one before, less 1.
+fn write_gaps(next: u64, documents: &[u32], out: &mut [u32; 128])
+    requires few { length documents.now ≤ 128 }
+    requires rises { Rises next documents.now }
+    ensures { take (length documents.now) out.new ≡ gaps next documents.now }
+{
+    let mut next = next;
+    for index in 0..documents.len() {
+        let document = u64::from(documents[index]);
+        out[index] = (document - next) as u32;
+        next = document + 1;
+    }
+}
+
+// Turns differences into documents, of which the first is `next` or later; the rest of `out` stays.
+fn add_up(next: u64, count: usize, out: &mut [u32; 128])
+    requires within { count ≤ 128 }
+    requires fits { All (λ document. document < 2 ^ 32) (documents_at next (take count out.old)) }
+    ensures documents { take count out.new ≡ documents_at next (take count out.old) }
+    ensures rest { drop count out.new ≡ drop count out.old }
+{
+    let mut next = next;
+    for index in 0..count {
+        let document = next + u64::from(out[index]);
+        out[index] = document as u32;
+        next = document + 1;
+    }
+}
+
+#[cfg(test)]
+mod tests;
