@@ -1,9 +1,11 @@
-"""Refuses each growth of memory in turn while `fts run` reads a script.
+"""Refuses each growth of memory in turn while `fts run` reads a script, or in each test of a crate.
 
     python3 bench/growths.py examples/catalogue.jsonl
+    python3 bench/growths.py crates/fts_model/out/fts_model_tests [WORD]
 
-Build the program first (README.md); this takes gcc too. Each run has to end with status 3 and the replies to some first
-lines of the script, or with status 0 and all replies.
+Build the program first (README.md), or the tests with `rt test` in their crate; this takes gcc too. A run of the program
+has to end with status 3 and the replies to some first lines of the script, or with status 0 and all replies. A test whose
+name has WORD has to pass, or to end for want of memory and by no failed assertion.
 """
 import os
 import pathlib
@@ -12,6 +14,9 @@ import sys
 import tempfile
 
 PROGRAM = "crates/fts/out/fts"
+
+# How a test tells that it ended for want of memory.
+WANT_OF_MEMORY = (b"error: AllocError", b"error: AllocFailed", b"error: Memory", b"error: Error(out of memory)")
 
 # Stands before the C library: the call numbered FAIL_AT finds no memory, and FAIL_COUNT asks how many calls there were.
 SHIM = r"""
@@ -49,24 +54,52 @@ __attribute__((destructor)) static void tell(void) {
 """
 
 
-def run(shim, script, **environment):
+def run(shim, command, script=b"", **environment):
     env = {**os.environ, "LD_PRELOAD": shim, **environment}
-    done = subprocess.run([PROGRAM, "run"], input=script, capture_output=True, env=env)
+    done = subprocess.run(command, input=script, capture_output=True, env=env)
     return done.returncode, done.stdout, done.stderr
+
+
+def growths(told):
+    return range(1, int(told.split()[-1]) + 1)
+
+
+def refuse_in_script(shim, path):
+    script = pathlib.Path(path).read_bytes()
+    command = [PROGRAM, "run"]
+    status, whole, told = run(shim, command, script, FAIL_COUNT="1")
+    assert status == 0
+    lines = whole.splitlines(keepends=True)
+    fronts = {b"".join(lines[:n]) for n in range(len(lines) + 1)}
+    outcomes = {0: 0, 3: 0}
+    for n in growths(told):
+        status, out, _ = run(shim, command, script, FAIL_AT=str(n))
+        assert (status == 3 and out in fronts) or (status == 0 and out == whole), (n, status, out)
+        outcomes[status] += 1
+    print(f"{sum(outcomes.values())} growths refused in turn: {outcomes[3]} runs ended for memory, {outcomes[0]} did without")
+
+
+def refuse_in_tests(shim, binary, word):
+    listed = run(shim, [binary, "--list"])[1].decode().splitlines()
+    for name in (line.removesuffix(": test") for line in listed if line.endswith(": test") and word in line):
+        status, _, told = run(shim, [binary, name], FAIL_COUNT="1")
+        assert status == 0
+        passed = ended = 0
+        for n in growths(told):
+            status, _, told = run(shim, [binary, name], FAIL_AT=str(n))
+            if status == 0:
+                passed += 1
+            else:
+                assert told.startswith(WANT_OF_MEMORY), (name, n, status, told)
+                ended += 1
+        print(f"{name}: {passed + ended} growths refused in turn: {ended} times it ended for memory, {passed} times it passed")
 
 
 with tempfile.TemporaryDirectory() as folder:
     source, shim = pathlib.Path(folder, "shim.c"), str(pathlib.Path(folder, "shim.so"))
     source.write_text(SHIM)
     subprocess.run(["gcc", "-shared", "-fPIC", "-O1", "-o", shim, str(source), "-ldl"], check=True)
-    script = pathlib.Path(sys.argv[1]).read_bytes()
-    status, whole, told = run(shim, script, FAIL_COUNT="1")
-    assert status == 0
-    lines = whole.splitlines(keepends=True)
-    fronts = {b"".join(lines[:n]) for n in range(len(lines) + 1)}
-    outcomes = {0: 0, 3: 0}
-    for n in range(1, int(told.split()[-1]) + 1):
-        status, out, _ = run(shim, script, FAIL_AT=str(n))
-        assert (status == 3 and out in fronts) or (status == 0 and out == whole), (n, status, out)
-        outcomes[status] += 1
-    print(f"{sum(outcomes.values())} growths refused in turn: {outcomes[3]} runs ended for memory, {outcomes[0]} did without")
+    if sys.argv[1].endswith("_tests"):
+        refuse_in_tests(shim, sys.argv[1], sys.argv[2] if len(sys.argv) > 2 else "")
+    else:
+        refuse_in_script(shim, sys.argv[1])

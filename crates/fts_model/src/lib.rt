@@ -3,6 +3,8 @@
 
 mod answer;
 mod document;
+#[cfg(test)]
+mod fixtures;
 pub mod laws;
 mod operation;
 mod query;

@@ -162,6 +162,40 @@ fn whole_script(rt: HostRuntime) -> Result<(), Fail> {
     Ok(())
 }
 
+/// Runs the script over a writer with room for its replies. A run that ends for memory has written the replies to the
+/// lines before the one that the last byte belongs to.
+fn ends_for_memory(
+    rt: &(impl AllocGlobal + Abort),
+    script: &[u8],
+    room: usize,
+) -> Result<bool, Fail> {
+    let mut writer = writer_of(rt, 1000, 0, None);
+    writer.bytes.reserve(room)?;
+    let reader = reader_of(script, 1, 0, io::ErrorKind::Other);
+    let (outcome, reader, written) = run_plain(rt, reader, writer, Options::default());
+    if outcome == Ok(()) {
+        let wanted = replies(rt, script.len(), true)?;
+        assert_eq!(rt; written.bytes.as_slice(), wanted.as_slice());
+        return Ok(false);
+    }
+    assert_eq!(rt; outcome, Err(Fault::Memory));
+    let taken = script.len().wrapping_sub(reader.bytes.len());
+    let wanted = replies(rt, taken.saturating_sub(1), false)?;
+    assert_eq!(rt; written.bytes.as_slice(), wanted.as_slice(), "byte {taken}");
+    Ok(true)
+}
+
+// Each growth is refused in turn from outside; the second run has its memory.
+#[test]
+fn a_refused_growth_keeps_whole_replies(rt: HostRuntime) -> Result<(), Fail> {
+    let script = input(&rt)?;
+    let room = replies(&rt, script.len(), true)?.len();
+    if ends_for_memory(&rt, script.as_slice(), room)? {
+        assert!(rt; !ends_for_memory(&rt, script.as_slice(), room)?);
+    }
+    Ok(())
+}
+
 #[test]
 fn each_read_fails(rt: HostRuntime) -> Result<(), Fail> {
     let script = input(&rt)?;

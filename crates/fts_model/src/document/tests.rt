@@ -1,25 +1,8 @@
 // What JSON values are documents, under the fields `title` (text), `tag` (keyword), `price` (`u64`) and `temp` (`i64`).
 use super::*;
+use crate::fixtures::{field, schema};
 use std::process::Abort;
 use std::test::Fail;
-
-fn schema(alloc: Global) -> Result<Schema, Fail> {
-    let mut fields = Vec::new(alloc);
-    for (name, kind) in [
-        ("title", Kind::Text),
-        ("tag", Kind::Keyword),
-        ("price", Kind::U64),
-        ("temp", Kind::I64),
-    ] {
-        let name = Text::new(String::from_str(alloc, name)?);
-        fields.push(Field {
-            name,
-            kind,
-            default: false,
-        })?;
-    }
-    Ok(Schema::new(alloc, fields).map_err(|e| e.1)?)
-}
 
 /// What a text of JSON is as a document, printed again.
 fn printed(alloc: Global, json: &str) -> Result<Result<String, Refusal>, Fail> {
@@ -133,13 +116,8 @@ fn fits_by_number_name_and_kind(rt: HostRuntime) -> Result<(), Fail> {
     let alloc = rt.alloc();
     let here = schema(alloc)?;
     let mut fields = Vec::new(alloc);
-    for (name, kind) in [("title", Kind::Keyword), ("tags", Kind::Keyword)] {
-        let name = Text::new(String::from_str(alloc, name)?);
-        fields.push(Field {
-            name,
-            kind,
-            default: false,
-        })?;
+    for name in ["title", "tags"] {
+        fields.push(field(alloc, name, Kind::Keyword, false)?)?;
     }
     let there = Schema::new(alloc, fields).map_err(|e| e.1)?;
     for (json, fits) in [
@@ -159,5 +137,33 @@ fn fits_by_number_name_and_kind(rt: HostRuntime) -> Result<(), Fail> {
     );
     assert!(rt; document.value(0).is_none());
     assert!(rt; document.value(9).is_none());
+    Ok(())
+}
+
+#[test]
+fn a_refused_growth_can_be_tried_again(rt: HostRuntime) -> Result<(), Fail> {
+    let alloc = rt.alloc();
+    let here = schema(alloc)?;
+    let line = r#"{"price":3,"tag":"a b","temp":-1,"title":"T"}"#;
+    let json = Value::from_str(alloc, line)?;
+    let document = match Document::from_json(alloc, &here, &json) {
+        Ok(document) => document,
+        Err(refusal) => {
+            assert_eq!(rt; refusal, Refusal::Memory);
+            Document::from_json(alloc, &here, &json)?
+        }
+    };
+    let copy = match document.clone() {
+        Ok(copy) => copy,
+        Err(AllocError) => document.clone()?,
+    };
+    let printed = match copy.to_json(alloc) {
+        Ok(printed) => printed,
+        Err(refusal) => {
+            assert_eq!(rt; refusal, Refusal::Memory);
+            copy.to_json(alloc)?
+        }
+    };
+    assert_eq!(rt; printed.to_string(alloc)?.as_str(), line);
     Ok(())
 }

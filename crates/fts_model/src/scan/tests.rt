@@ -1,31 +1,10 @@
 // Values from worked examples.
 use super::*;
 use crate::answer::Answer;
+use crate::fixtures::schema;
 use crate::query::{Order, Request};
-use crate::schema::Field;
 use serde_json::Value;
 use std::test::Fail;
-
-fn field(alloc: Global, name: &str, kind: Kind, default: bool) -> Result<Field, AllocError> {
-    let name = Text::new(String::from_str(alloc, name)?);
-    Ok(Field {
-        name,
-        kind,
-        default,
-    })
-}
-
-fn schema(alloc: Global) -> Result<Schema, Fail> {
-    let mut fields = Vec::new(alloc);
-    fields.push(field(alloc, "title", Kind::Text, true)?)?;
-    fields.push(field(alloc, "tag", Kind::Keyword, true)?)?;
-    fields.push(field(alloc, "price", Kind::U64, false)?)?;
-    fields.push(field(alloc, "temp", Kind::I64, false)?)?;
-    match Schema::new(alloc, fields) {
-        Ok(schema) => Ok(schema),
-        Err((_, refusal)) => Err(refusal)?,
-    }
-}
 
 fn document(alloc: Global, schema: &Schema, line: &str) -> Result<Document, Fail> {
     let json = Value::from_str(alloc, line)?;
@@ -307,6 +286,50 @@ fn terms_and_requests_are_refused_in_order(rt: HostRuntime) -> Result<(), Fail> 
     assert_eq!(rt;
         Request::new(&schema, None, none).err(),
         Some(Refusal::BadLimit)
+    );
+    Ok(())
+}
+
+#[test]
+fn a_refused_growth_can_be_tried_again(rt: HostRuntime) -> Result<(), Fail> {
+    let alloc = rt.alloc();
+    let schema = schema(alloc)?;
+    let json = Value::from_str(alloc, "\"book\"")?;
+    let term = match Term::new(alloc, &schema, "title", &json) {
+        Ok(term) => term,
+        Err(refusal) => {
+            assert_eq!(rt; refusal, Refusal::Memory);
+            Term::new(alloc, &schema, "title", &json)?
+        }
+    };
+    let mut ops = Vec::new(alloc);
+    for (stamp, line) in [
+        (1, "{\"title\": \"a book\", \"price\": 7}"),
+        (2, "{\"title\": \"the book\", \"price\": 3}"),
+    ] {
+        push(&mut ops, stamp, Op::Add(document(alloc, &schema, line)?))?;
+    }
+    let documents = match alive(alloc, &schema, &ops) {
+        Ok(documents) => documents,
+        Err(refusal) => {
+            assert_eq!(rt; refusal, Refusal::Memory);
+            alive(alloc, &schema, &ops)?
+        }
+    };
+    let query = Query::Term(term);
+    let request = Request::new(&schema, Some("price"), Some(("price", 1, Order::Rising)))?;
+    let found = match answer(alloc, &schema, &query, &request, &documents) {
+        Ok(found) => found,
+        Err(refusal) => {
+            assert_eq!(rt; refusal, Refusal::Memory);
+            answer(alloc, &schema, &query, &request, &documents)?
+        }
+    };
+    assert_eq!(rt; found.count, 2);
+    assert_eq!(rt; found.groups.map(|groups| groups.len()), Some(2));
+    assert_eq!(rt;
+        found.top.and_then(|hits| Some(hits.first()?.stamp)),
+        Some(2)
     );
     Ok(())
 }

@@ -1,30 +1,28 @@
 // Which lists of fields are a schema.
 use super::*;
+use crate::fixtures::field;
 use std::process::Abort;
 use std::test::Fail;
 
-fn field(alloc: Global, name: &str, kind: Kind, default: bool) -> Result<Field, AllocError> {
-    let name = Text::new(String::from_str(alloc, name)?);
-    Ok(Field {
-        name,
-        kind,
-        default,
-    })
+/// The refusal of a list of fields, if it is refused, and how many came back.
+fn refusal_of(alloc: Global, fields: Vec<Field>) -> Result<Option<(usize, Refusal)>, AllocError> {
+    match Schema::new(alloc, fields) {
+        Ok(_) => Ok(None),
+        Err((_, Refusal::Memory)) => Err(AllocError),
+        Err((fields, refusal)) => Ok(Some((fields.len(), refusal))),
+    }
 }
 
-/// A schema of text fields with these names, or the refusal and how many fields came back.
+/// What is said of text fields with these names.
 fn refused(alloc: Global, names: &[&str]) -> Result<Option<(usize, Refusal)>, AllocError> {
     let mut fields = Vec::new(alloc);
     for name in names {
         fields.push(field(alloc, name, Kind::Text, false)?)?;
     }
-    match Schema::new(alloc, fields) {
-        Ok(_) => Ok(None),
-        Err((fields, refusal)) => Ok(Some((fields.len(), refusal))),
-    }
+    refusal_of(alloc, fields)
 }
 
-/// `count` fields named `aaa..`, each one byte longer than the one before.
+/// What is said of `count` fields named `aaa..`, each one byte longer than the one before.
 fn of_length(alloc: Global, count: usize) -> Result<Option<(usize, Refusal)>, AllocError> {
     let mut fields = Vec::new(alloc);
     for i in 0..count {
@@ -34,10 +32,7 @@ fn of_length(alloc: Global, count: usize) -> Result<Option<(usize, Refusal)>, Al
         }
         fields.push(field(alloc, name.as_str(), Kind::U64, false)?)?;
     }
-    match Schema::new(alloc, fields) {
-        Ok(_) => Ok(None),
-        Err((fields, refusal)) => Ok(Some((fields.len(), refusal))),
-    }
+    refusal_of(alloc, fields)
 }
 
 fn is(rt: &impl Abort, alloc: Global, names: &[&str], wanted: Option<Refusal>) -> Result<(), Fail> {
@@ -89,12 +84,12 @@ fn defaults(rt: HostRuntime) -> Result<(), Fail> {
     for (kind, wanted) in [
         (Kind::Text, None),
         (Kind::Keyword, None),
-        (Kind::U64, Some(Refusal::BadDefault)),
-        (Kind::I64, Some(Refusal::BadDefault)),
+        (Kind::U64, Some((1, Refusal::BadDefault))),
+        (Kind::I64, Some((1, Refusal::BadDefault))),
     ] {
         let mut fields = Vec::new(alloc);
         fields.push(field(alloc, "a", kind, true)?)?;
-        let outcome = Schema::new(alloc, fields).err().map(|e| e.1);
+        let outcome = refusal_of(alloc, fields)?;
         assert_eq!(rt; outcome, wanted, "{kind:?}");
     }
     Ok(())
@@ -112,5 +107,29 @@ fn shows_its_fields(rt: HostRuntime) -> Result<(), Fail> {
     assert_eq!(rt; schema.field("tag"), None);
     assert_eq!(rt; schema.kind(1), Kind::U64);
     assert!(rt; schema.fields()[0].default);
+    Ok(())
+}
+
+#[test]
+fn a_refused_growth_hands_the_fields_back(rt: HostRuntime) -> Result<(), Fail> {
+    let alloc = rt.alloc();
+    let mut fields = Vec::new(alloc);
+    fields.push(field(alloc, "title", Kind::Text, true)?)?;
+    fields.push(field(alloc, "price", Kind::U64, false)?)?;
+    let schema = match Schema::new(alloc, fields) {
+        Ok(schema) => schema,
+        Err((fields, refusal)) => {
+            assert_eq!(rt; refusal, Refusal::Memory);
+            assert_eq!(rt; fields[0].name.as_str(), "title");
+            assert_eq!(rt; fields[1].kind, Kind::U64);
+            Schema::new(alloc, fields).map_err(|e| e.1)?
+        }
+    };
+    assert_eq!(rt; schema.fields().len(), 2);
+    let copy = match schema.clone() {
+        Ok(copy) => copy,
+        Err(AllocError) => schema.clone()?,
+    };
+    assert_eq!(rt; copy.field("price"), Some(1));
     Ok(())
 }
