@@ -14,7 +14,7 @@ use Rattle.fts_model.specs.Outcomes.{first_of, error_if_err}
 use Rattle.fts_model.specs.Schemas.{is_name, is_named, field_fault, first_fault, schema_fault}
 use Rattle.fts_model.specs.Documents.{value_in, fault_in_field, member_fault, members_fault}
 
-none_of_two : (x y : Option Refusal) → first_of x y ≡ None → (x ≡ None) × (y ≡ None)
+pub none_of_two : (x y : Option Refusal) → first_of x y ≡ None → (x ≡ None) × (y ≡ None)
 none_of_two None y h = (refl, h)
 none_of_two (Some e) y h = cc
 
@@ -24,17 +24,17 @@ second_test true false r h = refl
 second_test false b r h = cc
 
 -- no field before has the name of a field without a fault
-not_taken : (before : List Field) (field : Field) → field_fault before field ≡ None → list_any (is_named field.name) before ≡ false
+pub not_taken : (before : List Field) (field : Field) → field_fault before field ≡ None → list_any (is_named field.name) before ≡ false
 not_taken before field h = second_test (is_name field.name) (list_any (is_named field.name) before) _ h
 
-or_false : (a b : Bool) → (a || b) ≡ false → (a ≡ false) × (b ≡ false)
+pub or_false : (a b : Bool) → (a || b) ≡ false → (a ≡ false) × (b ≡ false)
 or_false true b h = cc
 or_false false b h = (refl, h)
 
-both_false : (a b : Bool) → a ≡ false → b ≡ false → (a || b) ≡ false
+pub both_false : (a b : Bool) → a ≡ false → b ≡ false → (a || b) ≡ false
 both_false a b h k = cc
 
-none_of_more : (p : Field → Bool) (xs : List Field) (y : Field) → list_any p (xs ++ y ∷ []) ≡ false → (list_any p xs ≡ false) × (p y ≡ false)
+pub none_of_more : (p : Field → Bool) (xs : List Field) (y : Field) → list_any p (xs ++ y ∷ []) ≡ false → (list_any p xs ≡ false) × (p y ≡ false)
 none_of_more p [] y h = (refl, (or_false (p y) false h).0)
 none_of_more p (x ∷ xs) y h =
     let here = or_false (p x) (list_any p (xs ++ y ∷ [])) h in
@@ -42,7 +42,7 @@ none_of_more p (x ∷ xs) y h =
     (both_false (p x) (list_any p xs) here.0 rest.0, rest.1)
 
 -- no field before those without a fault has the name of one of them
-others_before : (before fields : List Field) → first_fault before fields ≡ None →
+pub others_before : (before fields : List Field) → first_fault before fields ≡ None →
     (k : ℕ) (field : Field) → slice_get fields k ≡ Some field → list_any (is_named field.name) before ≡ false
 others_before before [] h k field e = cc
 others_before before (f ∷ fs) h zero field e =
@@ -70,11 +70,15 @@ no_fault_left : (b : Bool) (r : Option Refusal) → cond b (Some TooManyFields) 
 no_fault_left true r h = cc
 no_fault_left false r h = h
 
+-- the fields of a schema have no fault
+pub no_field_fault : (fields : List Field) → schema_fault fields ≡ None → first_fault [] fields ≡ None
+no_field_fault [] h = refl
+no_field_fault (f ∷ fs) h = no_fault_left _ _ h
+
 -- each field of a schema is found by its name
 pub find_by_name : (fields : List Field) → schema_fault fields ≡ None →
     (k : ℕ) (field : Field) → slice_get fields k ≡ Some field → find (is_named field.name) fields ≡ Some field
-find_by_name [] h k field e = cc
-find_by_name (f ∷ fs) h k field e = found_itself [] (f ∷ fs) (no_fault_left _ _ h) k field e
+find_by_name fields h = found_itself [] fields (no_field_fault fields h)
 
 member_at : (fields : List Field) (name key : List ℕ) (value found : Data) (rest : Option Data) (o : Ordering) →
     slice_cmp nat_cmp name key ≡ o → match_ordering o rest (Some value) rest ≡ Some found →

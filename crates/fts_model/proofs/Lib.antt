@@ -3,7 +3,7 @@ pub mod AnswerLemmas
 pub mod Fields
 pub mod PhraseLemmas
 pub mod QueryLemmas
+pub mod ReadsBack
 pub mod TokenLemmas
 pub mod TopLemmas
-pub mod Values
 pub mod Zips

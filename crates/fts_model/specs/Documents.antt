@@ -1,5 +1,5 @@
 -- What a document is: a value, or none, for each field of a schema, and what a JSON value says of it.
-use Rattle.std.specs.Prelude.{◌≡◌, ℕ, ◌&&◌, nat_le, Bool, true, false, List, [], ◌∷◌, length, map, Result, Ok, Err, Option, Some, None, IfSome, drop, if◌then◌else◌, option_map, option_and_then, slice_get}
+use Rattle.std.specs.Prelude.{◌≡◌, ℕ, ◌^◌, ℤ, pos, negsuc, ◌&&◌, nat_le, nat_lt, Bool, true, false, List, [], ◌∷◌, length, map, Result, Ok, Err, Option, Some, None, IfSome, drop, if◌then◌else◌, option_map, option_and_then, slice_get}
 use Rattle.std.specs.List.{AllZip, find}
 use Rattle.std.specs.Str.{bytes_eq}
 use Rattle.std.specs.Option.{ok_or}
@@ -7,7 +7,6 @@ use Rattle.serde_json.specs.Data.{Num, unsigned, Data, null, boolean, number, st
 use Rattle.serde_json.specs.Find.{as_u64, as_i64, of_integer, get_member}
 use Rattle.fts_model.specs.declared.refusal.Refusal.{Refusal}
 use Rattle.fts_model.specs.declared.refusal.Refusal.TheVariants.{NotAnObject, UnknownField, WrongKind, TextTooLong, KeywordTooLong}
-use Rattle.fts_model.specs.declared.value.Number.{Number}
 use Rattle.fts_model.specs.declared.value.Number.TheVariants as numbers
 use Rattle.fts_model.specs.declared.schema.Kind.{Kind}
 use Rattle.fts_model.specs.declared.schema.Kind.TheVariants as kinds
@@ -15,7 +14,7 @@ use Rattle.fts_model.specs.declared.schema.Field.{Field}
 use Rattle.fts_model.specs.declared.value.FieldValue.{FieldValue}
 use Rattle.fts_model.specs.declared.value.FieldValue.TheVariants as values
 use Rattle.fts_model.specs.Outcomes.{value_if_ok, error_if_err, ok_unless, first_of}
-use Rattle.fts_model.specs.Schemas.{is_named}
+use Rattle.fts_model.specs.Schemas.{schema_fault, is_named}
 
 -- a document: the fields of its schema, and what it has in each
 pub record DocumentValue : Type 0 where
@@ -101,17 +100,30 @@ with_values ms (field ∷ fields) (v ∷ vs) = with_values (with_value ms field 
 abbrev pub json_of : DocumentValue → Data
 json_of document = object (with_values no_members document.schema document.values)
 
+-- whether a number is one of 64 bits with a sign
+abbrev pub fits_i64 : ℤ → Bool
+fits_i64 (pos n) = nat_lt n (2 ^ 63)
+fits_i64 (negsuc n) = nat_lt n (2 ^ 63)
+
 -- whether a field of this kind can have the value
 abbrev pub is_value_of : Kind → FieldValue → Bool
 is_value_of kinds.Text (values.Text text) = nat_le (length text) 1048576
 is_value_of kinds.Keyword (values.Text text) = nat_le (length text) 256
-is_value_of kinds.U64 (values.Number (numbers.U64 n)) = true
-is_value_of kinds.I64 (values.Number (numbers.I64 z)) = true
+is_value_of kinds.U64 (values.Number (numbers.U64 n)) = nat_lt n (2 ^ 64)
+is_value_of kinds.I64 (values.Number (numbers.I64 z)) = fits_i64 z
 is_value_of kind value = false
 
--- each value of a document is one that its field can have
+-- what a field of this kind can have: no value, or one of its own
+abbrev pub CanHave : Kind → Option FieldValue → Type 0
+CanHave kind value = IfSome value (λ v. is_value_of kind v ≡ true)
+
+-- there are as many of these as fields, and each field can have the one at its place
+abbrev pub AreValuesOf : List Field → List (Option FieldValue) → Type 0
+AreValuesOf fields vs = AllZip (λ field value. CanHave field.kind value) fields vs
+
+-- the fields are a schema, and the values are values of them
 abbrev pub IsDocument : DocumentValue → Type 0
-IsDocument document = AllZip (λ field value. IfSome value (λ v. is_value_of field.kind v ≡ true)) document.schema document.values
+IsDocument document = (schema_fault document.schema ≡ None) × AreValuesOf document.schema document.values
 
 -- whether a value of a field may stand in another, if there is one: the names are one and it is of that kind
 abbrev pub may_stand : Option Field → Field → Option FieldValue → Bool

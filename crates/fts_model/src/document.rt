@@ -6,7 +6,7 @@ ghost use Rattle.serde_json.specs.View.{view, members_view};
 ghost use Rattle.fts_model.specs.Outcomes.{Gives, error_if_err};
 ghost use Rattle.serde_json.specs.Data.{object, no_members};
 ghost use Rattle.fts_model.specs.Schemas.{schema_fault, is_named};
-ghost use Rattle.fts_model.specs.Documents.{value_in, value_at, members_fault, member_fault, document_of, data_of, with_value, with_values, json_of, may_stand as may_stand_in, fits_fields, fits, value_in_field};
+ghost use Rattle.fts_model.specs.Documents.{value_in, value_at, members_fault, member_fault, document_of, data_of, with_value, with_values, json_of, CanHave, AreValuesOf, IsDocument, may_stand as may_stand_in, fits_fields, fits, value_in_field};
 ghost use Rattle.fts_model.specs.declared.refusal.Refusal.TheVariants.{Memory};
 
 use crate::refusal::Refusal;
@@ -55,7 +55,8 @@ pub(crate) fn value_of(
     json: &Value,
 ) -> Result<Option<FieldValue>, AllocError>
     requires { error_if_err (value_in kind (view json.now)) ≡ None }
-    ensures { IfOk result (λ value. value_in kind (view json.now) ≡ Ok value) }
+    ensures value { IfOk result (λ value. value_in kind (view json.now) ≡ Ok value) }
+    ensures in_range { IfOk result (λ value. CanHave kind value) }
 {
     if let Some(text) = json.as_str() {
         let text = Text::new(String::from_str(alloc, text)?);
@@ -111,7 +112,8 @@ fn values_of(
     requires object { view json.now ≡ object (members_view members.now.entries) }
     requires valid { schema_fault fields.now ≡ None }
     requires no_fault { members_fault fields.now (members_view members.now.entries) ≡ None }
-    ensures { IfOk result (λ values. values.items ≡ map (value_at (members_view members.now.entries)) fields.now) }
+    ensures values { IfOk result (λ values. values.items ≡ map (value_at (members_view members.now.entries)) fields.now) }
+    ensures in_range { IfOk result (λ values. AreValuesOf fields.now values.items) }
 {
     let mut values = Vec::with_capacity(alloc, fields.len())?;
     for field in fields {
@@ -142,6 +144,7 @@ fn keep(
     requires no_fault { members_fault schema.now (members_view members.now.entries) ≡ None }
     ensures schema { IfOk result (λ stored. (arc_value stored).schema ≡ schema.now) }
     ensures values { IfOk result (λ stored. (arc_value stored).values.items ≡ map (value_at (members_view members.now.entries)) schema.now) }
+    ensures document { IfOk result (λ stored. IsDocument (record { schema = schema.now; values = (arc_value stored).values.items })) }
 {
     let values = values_of(alloc, schema.fields(), json, members)?;
     let schema = schema.clone()?;
@@ -188,9 +191,11 @@ impl Document {
         }
     }
 
-    /// The fields that have a value, as a JSON object with the names in the order of their bytes.
+    /// The fields that have a value, as a JSON object with the names in the order of their bytes. `from_json` reads
+    /// the same document from it, under the schema that the document was made under.
     pub fn to_json(&self, alloc: Global) -> Result<Value, Refusal>
         ensures json { IfOk result (λ json. view json ≡ json_of self.now) }
+        ensures reads_back { IfOk result (λ json. document_of self.now.schema (view json) ≡ Ok self.now) }
         ensures memory { IfErr result (λ e. e ≡ Memory) }
     {
         let fields = self.stored.schema.fields();

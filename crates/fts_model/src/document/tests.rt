@@ -61,6 +61,26 @@ fn members(rt: HostRuntime) -> Result<(), Fail> {
 }
 
 #[test]
+fn reads_back(rt: HostRuntime) -> Result<(), Fail> {
+    let alloc = rt.alloc();
+    let schema = schema(alloc)?;
+    let json = r#"{"title":"T","price":18446744073709551615,"temp":-9223372036854775808}"#;
+    let document = Document::from_json(alloc, &schema, &Value::from_str(alloc, json)?)?;
+    let printed = document.to_json(alloc)?.to_string(alloc)?;
+    let printed = Value::from_str(alloc, printed.as_str())?;
+    let again = Document::from_json(alloc, &schema, &printed)?;
+    for field in 0..4 {
+        assert_eq!(rt; again.value(field), document.value(field));
+    }
+    assert!(rt; again.value(0).is_some());
+    assert!(rt; again.value(1).is_none());
+    for (field, number) in [(2, Number::U64(u64::MAX)), (3, Number::I64(i64::MIN))] {
+        assert_eq!(rt; again.value(field), Some(&FieldValue::Number(number)));
+    }
+    Ok(())
+}
+
+#[test]
 fn refusals(rt: HostRuntime) -> Result<(), Fail> {
     let alloc = rt.alloc();
     for (json, wanted) in [

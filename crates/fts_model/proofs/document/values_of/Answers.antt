@@ -1,9 +1,13 @@
 use Rattle.std.proofs.Common.{◌≡◌, ◌∙◌, Some, sym, ap, refl, arith, length}
+use Rattle.std.proofs.lemmas.Grind.{common_steps}
 use Rattle.std.proofs.lemmas.Option.{slice_get_read}
 use Rattle.serde_json.specs.View.{members_view, view}
 use Rattle.serde_json.specs.Find.{get, get_member}
+use Rattle.fts_model.specs.Documents.{CanHave}
 use Rattle.fts_model.proofs.Fields.{value_without_fault}
+use Rattle.fts_model.proofs.Zips.{values_more}
 use Rattle.fts_model.proofs.document.values_of.Goals as goal
+use Rattle.fts_model.proofs.document.values_of.Goals.{in-Some+in_ok-value-in-Some, in-None}
 
 pub value_of-requires : goal.value_of-requires
 value_of-requires c =
@@ -14,3 +18,13 @@ value_of-requires c =
     sym (looked ∙ ap (λ k. get k (view c.args.json.now)) c.as_str.ensures ∙ ap (get name) c.requires.object) in
     value_without_fault c.args.fields.now ms c.requires.valid c.requires.no_fault c.loop-field.field-index c.field-item.result _
     (slice_get_read c.args.fields.now (length c.args.fields.now) c.loop-field.field-index c.field-item.result refl (omega arith) c.field-item.is) found
+
+pub loop-field-preserved : goal.loop-field-preserved
+loop-field-preserved c =
+    let can : CanHave c.field-item.result.kind c.match-get.value =
+    elim c.match-get.branch [ in-Some+in_ok-value-in-Some w ↦ rw w.value-is w.in_ok-value-in-Some.ensures.in_range | in-None w ↦ rw w.value-is tt ] in
+    record {
+      values = grind (arith, common_steps);
+      in_range = rw c.in_ok-push.ensures.items
+          (values_more c.args.fields.now c.loop-field.field-index c.field-item.result c.loop-field.values.items c.match-get.value (omega arith) c.field-item.is c.loop-field.invariant.in_range can);
+    }

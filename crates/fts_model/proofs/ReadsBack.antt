@@ -1,0 +1,163 @@
+-- A document as JSON is the document again, under the schema that it was made under.
+use Rattle.std.proofs.Common.{◌≡◌, ℕ, suc, zero, true, false, true≢false, pos, negsuc, cond, List, [], ◌∷◌, ◌++◌, map, Ok, Err, Option, Some, None, refl, sym, ap, ◌∙◌, option_map, Ordering, Less, Equal, Greater, nat_cmp, bytes_eq}
+use Rattle.std.proofs.lemmas.Bool.{false_from_ne_true}
+use Rattle.std.proofs.lemmas.Slice.Eq.{bytes_eq-Decides}
+use Rattle.std.proofs.lemmas.Map.Lookups.{exact_bytes}
+use Rattle.std.specs.Cmp.Lexicographic.{slice_cmp}
+use Rattle.std.specs.Ordering.{match_ordering}
+use Rattle.std.specs.List.{find, list_any, slice_get}
+use Rattle.std.specs.Option.{option_and_then}
+use Rattle.serde_json.specs.Data.{Data, Members, no_members, member, put}
+use Rattle.serde_json.specs.Find.{get_member}
+use Rattle.serde_json.proofs.Views.{get_member-put, get_member-put_other}
+use Rattle.fts_model.specs.declared.refusal.Refusal.{Refusal}
+use Rattle.fts_model.specs.declared.refusal.Refusal.TheVariants.{TextTooLong, KeywordTooLong}
+use Rattle.fts_model.specs.declared.schema.Kind.{Kind}
+use Rattle.fts_model.specs.declared.schema.Kind.TheVariants as kinds
+use Rattle.fts_model.specs.declared.schema.Field.{Field}
+use Rattle.fts_model.specs.declared.value.Number.TheVariants as numbers
+use Rattle.fts_model.specs.declared.value.FieldValue.{FieldValue}
+use Rattle.fts_model.specs.declared.value.FieldValue.TheVariants as values
+use Rattle.fts_model.specs.Outcomes.{value_if_ok, error_if_err, first_of}
+use Rattle.fts_model.specs.Schemas.{is_named, field_fault, first_fault}
+use Rattle.fts_model.specs.Documents.{DocumentValue, value_in, fault_in_field, member_fault, members_fault, value_at, document_of, data_of, with_value, with_values, json_of, is_value_of, CanHave, AreValuesOf, IsDocument}
+use Rattle.fts_model.proofs.Fields.{none_of_two, not_taken, both_false, or_false, none_of_more, others_before, no_field_fault, find_by_name}
+
+-- a value that a field can have is read from its JSON
+value_back : (kind : Kind) (v : FieldValue) → is_value_of kind v ≡ true → value_in kind (data_of v) ≡ Ok (Some v)
+value_back kinds.Text (values.Text text) h = ap (λ b. cond b (Ok (Some (values.Text text))) (Err TextTooLong)) h
+value_back kinds.Keyword (values.Text text) h = ap (λ b. cond b (Ok (Some (values.Text text))) (Err KeywordTooLong)) h
+value_back kinds.U64 (values.Number (numbers.U64 n)) h = refl
+value_back kinds.I64 (values.Number (numbers.I64 (pos n))) h = rw h refl
+value_back kinds.I64 (values.Number (numbers.I64 (negsuc n))) h = refl
+value_back kinds.U64 (values.Text text) h = cc
+value_back kinds.I64 (values.Text text) h = cc
+value_back kinds.Text (values.Number n) h = cc
+value_back kinds.Keyword (values.Number n) h = cc
+value_back kinds.U64 (values.Number (numbers.I64 z)) h = cc
+value_back kinds.I64 (values.Number (numbers.U64 n)) h = cc
+
+-- what a field can have is read from its JSON, if there is any
+at_back : (field : Field) (value : Option FieldValue) → CanHave field.kind value →
+    option_and_then (λ d. option_and_then (λ v. v) (value_if_ok (value_in field.kind d))) (option_map data_of value) ≡ value
+at_back field None h = refl
+at_back field (Some v) h = ap (λ r. option_and_then (λ w. w) (value_if_ok r)) (value_back field.kind v h)
+
+apart : (name other : List ℕ) → bytes_eq other name ≡ false → name ≡ other → ⊥
+apart name other h e = true≢false (sym ((bytes_eq-Decides other name).1 (sym e)) ∙ h)
+
+turned : (name other : List ℕ) → bytes_eq name other ≡ false → bytes_eq other name ≡ false
+turned name other h = false_from_ne_true (bytes_eq other name) (λ e. apart other name h ((bytes_eq-Decides other name).0 e))
+
+-- a field of another name puts nothing at a name
+put_elsewhere : (name : List ℕ) (ms : Members) (field : Field) (value : Option FieldValue) → is_named name field ≡ false →
+    get_member name (with_value ms field value) ≡ get_member name ms
+put_elsewhere name ms field None h = refl
+put_elsewhere name ms field (Some v) h = get_member-put_other name field.name (data_of v) ms (apart name field.name h)
+
+-- nor do fields of other names
+all_elsewhere : (name : List ℕ) (ms : Members) (fields : List Field) (vs : List (Option FieldValue)) → list_any (is_named name) fields ≡ false →
+    get_member name (with_values ms fields vs) ≡ get_member name ms
+all_elsewhere name ms [] vs h = refl
+all_elsewhere name ms (field ∷ fields) [] h = refl
+all_elsewhere name ms (field ∷ fields) (v ∷ vs) h =
+    let both = or_false (is_named name field) (list_any (is_named name) fields) h in
+    all_elsewhere name (with_value ms field v) fields vs both.1 ∙ put_elsewhere name ms field v both.0
+
+-- a field puts its value at its name, where nothing was
+put_here : (ms : Members) (field : Field) (value : Option FieldValue) → get_member field.name ms ≡ None →
+    get_member field.name (with_value ms field value) ≡ option_map data_of value
+put_here ms field None h = h
+put_here ms field (Some v) h = get_member-put field.name (data_of v) ms
+
+-- no field has a name, where each has another
+none_named : (field : Field) (fields : List Field) → ((k : ℕ) (other : Field) → slice_get fields k ≡ Some other → is_named other.name field ≡ false) →
+    list_any (is_named field.name) fields ≡ false
+none_named field [] h = refl
+none_named field (other ∷ fields) h =
+    both_false (is_named field.name other) (list_any (is_named field.name) fields)
+    (turned field.name other.name (h zero other refl))
+    (none_named field fields (λ k g e. h (suc k) g e))
+
+-- no field behind one has its name, where they have no fault
+none_behind : (before : List Field) (field : Field) (fields : List Field) → first_fault (before ++ field ∷ []) fields ≡ None →
+    list_any (is_named field.name) fields ≡ false
+none_behind before field fields h =
+    none_named field fields
+    (λ k other e. (none_of_more (is_named other.name) before field (others_before (before ++ field ∷ []) fields h k other e)).1)
+
+-- the members have no names but those of the fields
+OnlyOf : List Field → Members → Type 0
+OnlyOf fields ms = (name : List ℕ) → list_any (is_named name) fields ≡ false → get_member name ms ≡ None
+
+-- one more field puts no name but its own
+one_more_name : (before : List Field) (ms : Members) (field : Field) (value : Option FieldValue) → OnlyOf before ms →
+    OnlyOf (before ++ field ∷ []) (with_value ms field value)
+unfolding OnlyOf
+one_more_name before ms field value h =
+    λ name e. let both = none_of_more (is_named name) before field e in put_elsewhere name ms field value both.1 ∙ h name both.0
+
+-- the fields' values are read from the members that they put
+values_back : (ms : Members) (before fields : List Field) (vs : List (Option FieldValue)) → first_fault before fields ≡ None → OnlyOf before ms →
+    AreValuesOf fields vs → map (value_at (with_values ms fields vs)) fields ≡ vs
+unfolding OnlyOf
+values_back ms before [] [] h only can = refl
+values_back ms before [] (v ∷ vs) h only can = absurd can
+values_back ms before (field ∷ fields) [] h only can = absurd can
+values_back ms before (field ∷ fields) (v ∷ vs) h only can =
+    let both = none_of_two (field_fault before field) (first_fault (before ++ field ∷ []) fields) h in
+    let found : get_member field.name (with_values (with_value ms field v) fields vs) ≡ option_map data_of v =
+    all_elsewhere field.name (with_value ms field v) fields vs (none_behind before field fields both.1)
+    ∙ put_here ms field v (only field.name (not_taken before field both.0)) in
+    let here : value_at (with_values (with_value ms field v) fields vs) field ≡ v =
+    ap (option_and_then (λ d. option_and_then (λ v. v) (value_if_ok (value_in field.kind d)))) found ∙ at_back field v can.0 in
+    let rest = values_back (with_value ms field v) (before ++ field ∷ []) fields vs both.1 (one_more_name before ms field v only) can.1 in
+    λ i. here i ∷ rest i
+
+neither : (x y : Option Refusal) → x ≡ None → y ≡ None → first_of x y ≡ None
+neither x y e f = ap (λ z. first_of z y) e ∙ f
+
+put_at : (fields : List Field) (o : Ordering) (name other : List ℕ) (d e : Data) (ms : Members) → slice_cmp nat_cmp name other ≡ o →
+    member_fault fields name d ≡ None → member_fault fields other e ≡ None → members_fault fields ms ≡ None → members_fault fields (put name d ms) ≡ None →
+    members_fault fields (match_ordering o (member name d (member other e ms)) (member other d ms) (member other e (put name d ms))) ≡ None
+put_at fields Less name other d e ms c one there rest later = neither _ _ one (neither _ _ there rest)
+put_at fields Equal name other d e ms c one there rest later =
+    neither _ _ (ap (λ k. member_fault fields k d) (sym (exact_bytes name other c)) ∙ one) rest
+put_at fields Greater name other d e ms c one there rest later = neither _ _ there later
+
+-- members without a fault have none where one without a fault is put
+put_without_fault : (fields : List Field) (name : List ℕ) (d : Data) (ms : Members) → member_fault fields name d ≡ None →
+    members_fault fields ms ≡ None → members_fault fields (put name d ms) ≡ None
+put_without_fault fields name d no_members one h = neither _ _ one refl
+put_without_fault fields name d (member other e ms) one h =
+    let both = none_of_two (member_fault fields other e) (members_fault fields ms) h in
+    put_at fields (slice_cmp nat_cmp name other) name other d e ms refl one both.0 both.1 (put_without_fault fields name d ms one both.1)
+
+one_without_fault : (fields : List Field) (ms : Members) (field : Field) (value : Option FieldValue) →
+    find (is_named field.name) fields ≡ Some field → CanHave field.kind value → members_fault fields ms ≡ None →
+    members_fault fields (with_value ms field value) ≡ None
+one_without_fault fields ms field None found can h = h
+one_without_fault fields ms field (Some v) found can h =
+    put_without_fault fields field.name (data_of v) ms
+    (ap (λ there. fault_in_field there (data_of v)) found ∙ ap error_if_err (value_back field.kind v can)) h
+
+-- nor where fields put what they can have
+all_without_fault : (fields : List Field) (ms : Members) (some : List Field) (vs : List (Option FieldValue)) →
+    ((k : ℕ) (field : Field) → slice_get some k ≡ Some field → find (is_named field.name) fields ≡ Some field) →
+    AreValuesOf some vs → members_fault fields ms ≡ None →
+    members_fault fields (with_values ms some vs) ≡ None
+all_without_fault fields ms [] vs found can h = h
+all_without_fault fields ms (field ∷ some) [] found can h = h
+all_without_fault fields ms (field ∷ some) (v ∷ vs) found can h =
+    all_without_fault fields (with_value ms field v) some vs (λ k f e. found (suc k) f e) can.1
+    (one_without_fault fields ms field v (found zero field refl) can.0 h)
+
+-- a document's JSON is that document, under the document's schema
+pub reads_back : (document : DocumentValue) → IsDocument document → document_of document.schema (json_of document) ≡ Ok document
+reads_back document h =
+    let fields = document.schema in
+    let without_fault : members_fault fields (with_values no_members fields document.values) ≡ None =
+    all_without_fault fields no_members fields document.values (find_by_name fields h.0) h.1 refl in
+    let same : map (value_at (with_values no_members fields document.values)) fields ≡ document.values =
+    values_back no_members [] fields document.values (no_field_fault fields h.0) (unfold OnlyOf in λ name e. refl) h.1 in
+    rw (without_fault, same) refl
