@@ -7,7 +7,6 @@ use Rattle.fts_model.specs.Documents.{CanHave}
 use Rattle.fts_model.proofs.Fields.{value_without_fault}
 use Rattle.fts_model.proofs.Zips.{values_more}
 use Rattle.fts_model.proofs.document.values_of.Goals as goal
-use Rattle.fts_model.proofs.document.values_of.Goals.{in-Some+in_ok-value-in-Some, in-None}
 
 pub value_of-requires : goal.value_of-requires
 value_of-requires c =
@@ -21,8 +20,7 @@ value_of-requires c =
 
 pub loop-field-preserved : goal.loop-field-preserved
 loop-field-preserved c =
-    let can : CanHave c.field-item.result.kind c.match-get.value =
-    elim c.match-get.branch [ in-Some+in_ok-value-in-Some w ↦ rw w.value-is w.in_ok-value-in-Some.ensures.in_range | in-None w ↦ rw w.value-is tt ] in
+    let can : CanHave c.field-item.result.kind c.match-get.value = grind (arith, common_steps) in
     record {
       values = grind (arith, common_steps);
       in_range = rw c.in_ok-push.ensures.items
