@@ -2,7 +2,6 @@
 use Rattle.std.proofs.Common.{◌≡◌, Bool, true, false, ◌&&◌, ◌||◌, not, List, [], ◌∷◌, map, refl, sym, ap, ◌∙◌}
 use Rattle.std.specs.List.{list_all, list_any}
 use Rattle.fts_model.specs.declared.schema.Field.{Field}
-use Rattle.fts_model.specs.declared.query.Query.{Query, fold-Query}
 use Rattle.fts_model.specs.declared.query.Query.TheOpen.{Query-F}
 use Rattle.fts_model.specs.declared.query.Query.TheViews as views
 use Rattle.fts_model.specs.declared.query.Query.TheVariants.{rolls-Bool}

@@ -1,9 +1,9 @@
 -- The top list, and that there is but one.
-use Rattle.std.proofs.Common.{◌≡◌, ◌≢◌, ℕ, zero, suc, ◌+◌, ◌<◌, ◌≤◌, ◌==◌, nat_lt, min, Bool, true, false, cond, ◌⊎◌, inl, inr, ⊎_elim, List, [], ◌∷◌, ◌++◌, length, take, Option, Some, None, refl, sym, ap, subst, ◌∙◌, arith, append_assoc, append-nil, All, AllPairs, Contains, get_or, fold, option_map}
+use Rattle.std.proofs.Common.{◌≡◌, ◌≢◌, ℕ, zero, suc, ◌<◌, ◌≤◌, ◌==◌, nat_lt, min, Bool, true, false, cond, ◌⊎◌, inl, inr, ⊎_elim, List, [], ◌∷◌, ◌++◌, length, take, Option, Some, None, refl, sym, ap, subst, ◌∙◌, arith, append_assoc, append-nil, All, AllPairs, Contains, get_or, fold, option_map}
 use Rattle.std.specs.Cmp.{IsTotalOrder}
 use Rattle.std.specs.FinMap.{nat_cmp-IsAntisymmetric}
-use Rattle.std.specs.List.{filter_map, cons_option, list_any}
-use Rattle.std.specs.Ordering.{match_ordering, nat_cmp, ordering_then, ordering_reverse, is_lt}
+use Rattle.std.specs.List.{cons_option, list_any}
+use Rattle.std.specs.Ordering.{match_ordering, nat_cmp, ordering_then, ordering_reverse}
 use Rattle.std.specs.declared.cmp.Ordering.{Ordering}
 use Rattle.std.specs.declared.cmp.Ordering.TheVariants.{Less, Equal, Greater}
 use Rattle.std.proofs.lemmas.Bool.{cases_lt, cases_order, cases_Bool, eqb-true, eq-eqb}
@@ -22,7 +22,7 @@ use Rattle.fts_model.specs.declared.query.Order.TheVariants.{Rising, Falling}
 use Rattle.fts_model.specs.declared.answer.Hit.{Hit}
 use Rattle.fts_model.specs.Documents.{DocumentValue}
 use Rattle.fts_model.specs.Operations.{HasEachStampOnce}
-use Rattle.fts_model.specs.Answers.{number_cmp, cmp_by, comes_before, put_hit, hit_in, hits_in, sorted_hits, top, IsTop, number_in_field}
+use Rattle.fts_model.specs.Answers.{number_cmp, cmp_by, comes_before, put_hit, hits_in, sorted_hits, top, IsTop, number_in_field}
 use Rattle.fts_model.specs.Scans.{hit_place}
 use Rattle.fts_model.proofs.AnswerLemmas.{put_hit-insert}
 use Rattle.fts_model.proofs.AliveLemmas.{All-front, All-none, pairs_none, pairs_front, pairs_behind}

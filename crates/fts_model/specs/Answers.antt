@@ -1,5 +1,5 @@
 -- What the answer to a query and a request is.
-use Rattle.std.specs.Prelude.{◌≡◌, ℕ, ◌+◌, ◌<◌, nat_lt, min, Bool, true, false, List, [], ◌∷◌, length, take, fold, Option, Some, None, if◌then◌else◌, option_map, option_and_then, All, AllPairs, Contains}
+use Rattle.std.specs.Prelude.{◌≡◌, ℕ, ◌+◌, nat_lt, min, Bool, true, false, List, [], ◌∷◌, length, take, fold, Option, Some, None, if◌then◌else◌, option_map, option_and_then, All, AllPairs, Contains}
 use Rattle.std.specs.Ordering.{nat_cmp, int_cmp, match_ordering}
 use Rattle.std.specs.List.{filter_map}
 use Rattle.std.specs.declared.cmp.Ordering.{Ordering}

@@ -1,5 +1,5 @@
 -- What a schema is: a list of 1 to 32 fields, each with a name of its own.
-use Rattle.std.specs.Prelude.{◌≡◌, ℕ, ◌==◌, ◌&&◌, ◌||◌, not, nat_le, nat_lt, Bool, false, true, List, [], ◌∷◌, ◌++◌, length, codes, Option, Some, None, if◌then◌else◌, position}
+use Rattle.std.specs.Prelude.{ℕ, ◌==◌, ◌&&◌, ◌||◌, not, nat_le, nat_lt, Bool, false, true, List, [], ◌∷◌, ◌++◌, length, codes, Option, Some, None, if◌then◌else◌, position}
 use Rattle.std.specs.Char.{is_ascii_alphabetic, is_ascii_alphanumeric}
 use Rattle.std.specs.List.{list_all, list_any}
 use Rattle.std.specs.Str.{bytes_eq}

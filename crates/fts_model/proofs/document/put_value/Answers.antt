@@ -2,7 +2,6 @@ use Rattle.std.proofs.Common.{◌≡◌, List, ℕ, ◌∙◌, ap, string_bytes}
 use Rattle.serde_json.specs.Data.{put}
 use Rattle.serde_json.specs.View.{members_view, view}
 use Rattle.serde_json.proofs.Views.{members_view-insert_entry}
-use Rattle.fts_model.specs.Documents.{data_of}
 use Rattle.fts_model.proofs.document.put_value.Goals as goal
 
 pub returns-in_ok-insert : goal.returns-in_ok-insert

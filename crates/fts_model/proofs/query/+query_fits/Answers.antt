@@ -1,4 +1,4 @@
-use Rattle.std.proofs.Common.{◌≡◌, ◌&&◌, true, false, sym, ◌∙◌, ap}
+use Rattle.std.proofs.Common.{◌≡◌, ◌&&◌, sym, ◌∙◌, ap}
 use Rattle.std.specs.List.{list_all}
 use Rattle.fts_model.specs.Queries.{query_fits}
 use Rattle.fts_model.proofs.QueryLemmas.{query_fits_at_bool, last_of_three, first_two_false}

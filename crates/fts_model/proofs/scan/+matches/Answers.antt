@@ -1,4 +1,4 @@
-use Rattle.std.proofs.Common.{◌≡◌, ◌==◌, Bool, true, false, IfOk, length, sym, ap, subst, ◌∙◌}
+use Rattle.std.proofs.Common.{◌≡◌, ◌==◌, Bool, IfOk, length, sym, ap, subst, ◌∙◌}
 use Rattle.std.specs.List.{list_all, list_any}
 use Rattle.fts_model.specs.Queries.{matches, is_nonempty}
 use Rattle.fts_model.proofs.PhraseLemmas.{is_nonempty-length, is_nonempty-none}

@@ -1,4 +1,4 @@
-use Rattle.std.proofs.Common.{◌≡◌, sym, ◌∙◌, ◌++◌, ◌∷◌, [], ap}
+use Rattle.std.proofs.Common.{sym, ◌∙◌, ◌++◌, ◌∷◌, [], ap}
 use Rattle.fts_model.specs.Documents.{DocumentValue}
 use Rattle.fts_model.proofs.AliveLemmas.{alive-add, alive-delete_all}
 use Rattle.fts_model.proofs.scan.after.Goals as goal

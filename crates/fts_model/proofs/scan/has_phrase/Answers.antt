@@ -1,4 +1,4 @@
-use Rattle.std.proofs.Common.{◌≡◌, true, ap, sym, ◌∙◌}
+use Rattle.std.proofs.Common.{◌≡◌, true, sym, ◌∙◌}
 use Rattle.fts_text.specs.Tokens.{tokens}
 use Rattle.fts_model.specs.Queries.{is_nonempty}
 use Rattle.fts_model.specs.Scans.{leads}

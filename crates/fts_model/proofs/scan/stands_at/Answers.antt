@@ -1,4 +1,4 @@
-use Rattle.std.proofs.Common.{◌≡◌, ◌+◌, ◌==◌, ◌&&◌, ap, sym, ◌∙◌}
+use Rattle.std.proofs.Common.{◌≡◌, ◌+◌, ◌==◌, ◌&&◌, sym, ◌∙◌}
 use Rattle.std.specs.Str.{bytes_eq}
 use Rattle.fts_text.specs.Places.{places, places_left}
 use Rattle.fts_model.proofs.TokenLemmas.{Seeks-start, Seeks-place, Seeks-next}
