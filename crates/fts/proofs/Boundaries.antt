@@ -1,12 +1,12 @@
 -- Where a text of a query may be cut.
-use Rattle.std.proofs.Common.{◌≡◌, ◌<◌, ◌≤◌, ◌-◌, ◌+◌, ℕ, zero, suc, Bool, true, false, List, length, get_or, sym, ap, ◌∙◌, subst, ⊎_elim, ◌⊎◌, inl, inr, refl, arith}
+use Rattle.std.proofs.Common.{◌≡◌, ◌<◌, ◌≤◌, ℕ, zero, suc, true, false, List, length, get_or, subst, ⊎_elim, refl, arith}
 use Rattle.std.specs.List.{prefix_len}
 use Rattle.std.specs.Str.{IsUtf8, IsCharBoundary}
-use Rattle.std.proofs.lemmas.Bool.{cases_lt, true≢false}
+use Rattle.std.proofs.lemmas.Bool.{cases_lt}
 use Rattle.std.proofs.lemmas.Bool.Decides.{nat_tests}
 use Rattle.std.proofs.lemmas.List.Sums.{prefix_len-le-length, prefix_len_passes, prefix_len_stops}
 use Rattle.std.proofs.lemmas.Str.{IsCharBoundary-start, IsCharBoundary-end, IsCharBoundary-after_ascii, IsCharBoundary-before_ascii}
-use Rattle.fts.specs.Words.{is_space, is_special, goes_on_word}
+use Rattle.fts.specs.Words.{is_space, goes_on_word}
 
 space_is_ascii : (b : ℕ) → is_space b ≡ true → b < 128
 space_is_ascii b h = grind (arith, nat_tests)

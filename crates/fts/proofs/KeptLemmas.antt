@@ -1,15 +1,13 @@
 -- An index stands for the commands that were accepted.
-use Rattle.std.proofs.Common.{◌≡◌, ℕ, ◌+◌, ◌||◌, Bool, true, false, cond, List, [], ◌∷◌, ◌++◌, length, nat_lt, codes, Result, Ok, Err, Option, Some, None, option_map, refl, sym, ap, ◌∙◌, append_assoc, add-zero, arith, length-append}
+use Rattle.std.proofs.Common.{◌≡◌, ℕ, ◌+◌, ◌||◌, Bool, true, false, cond, List, [], ◌∷◌, ◌++◌, length, nat_lt, codes, Result, Ok, Err, Option, Some, None, option_map, refl, sym, ap, ◌∙◌, add-zero, arith, length-append}
 use Rattle.std.proofs.lemmas.List.{append-nil}
 use Rattle.std.specs.List.{list_any}
 use Rattle.std.specs.Option.{ok_or}
-use Rattle.serde_json.specs.Data.{Data}
 use Rattle.fts_model.specs.declared.refusal.Refusal.{Refusal}
-use Rattle.fts_model.specs.declared.refusal.Refusal.TheVariants.{LineTooLong, BadJson, BadCommand, SchemaTwice}
+use Rattle.fts_model.specs.declared.refusal.Refusal.TheVariants.{LineTooLong, BadJson, BadCommand}
 use Rattle.fts_model.specs.declared.schema.Field.{Field}
 use Rattle.fts_model.specs.declared.operation.Op.{Op}
 use Rattle.fts_model.specs.declared.operation.Op.TheVariants as ops
-use Rattle.fts_model.specs.declared.operation.Term.{Term}
 use Rattle.fts_model.specs.declared.operation.Stamped.{Stamped}
 use Rattle.fts_model.specs.Outcomes.{ok_unless}
 use Rattle.fts_model.specs.Schemas.{schema_fault}
@@ -20,8 +18,8 @@ use Rattle.fts.specs.Text.{lines_of, is_blank}
 use Rattle.fts.specs.Commands.{Command, Schema, Add, Commit, Search, json_in, command_in}
 use Rattle.fts.specs.Words.{terms_in}
 use Rattle.fts.specs.Indexes.{Index, next_stamp, submitted, committed}
-use Rattle.fts.specs.Replies.{longest, Script, Obeyed, obey, obey_line, index_after, text_of, number_reply, reply_to, after_line, replies, output, add_document, count_hits, ◌>>=◌}
-use Rattle.fts.specs.Kept.{Kept, Did, Committed, is_commit, up_to_commit, stamped_from, committed_ops, Taken, documents_of, Step, keep, found, step, step_line, taken_after, reply_text, replies_to, output_by_commands}
+use Rattle.fts.specs.Replies.{longest, Script, Obeyed, obey, obey_line, index_after, text_of, number_reply, reply_to, after_line, replies, output, ◌>>=◌}
+use Rattle.fts.specs.Kept.{Kept, Did, Committed, is_commit, up_to_commit, stamped_from, Taken, Step, step, step_line, taken_after, reply_text, replies_to, output_by_commands}
 
 -- the commands behind the last commit
 abbrev behind_commit : List Kept → List Kept

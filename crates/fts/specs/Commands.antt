@@ -1,7 +1,7 @@
 -- The command that a line of a script is, by the JSON tree that it reads as.
 use Rattle.std.specs.Prelude.{ℕ, ◌==◌, Bool, true, false, List, [], ◌∷◌, codes, Option, Some, None, if◌then◌else◌, option_map, option_and_then}
 use Rattle.std.specs.Str.{is_utf8, bytes_eq}
-use Rattle.serde_json.specs.Data.{Data, null, boolean, number, string, array, object, Items, no_items, item, Members, no_members, member}
+use Rattle.serde_json.specs.Data.{Data, object, Items, no_items, item, Members, no_members, member}
 use Rattle.serde_json.specs.Events.{members_len}
 use Rattle.serde_json.specs.Find.{get, as_str, as_bool, as_array, as_object}
 use Rattle.serde_json.specs.Read.{read}

@@ -1,5 +1,5 @@
 -- How far a run has come.
-use Rattle.std.specs.Prelude.{ℕ, ◌≡◌, ◌<◌, ◌≤◌, Bool, List, [], ◌++◌, length, Option, None, Some}
+use Rattle.std.specs.Prelude.{ℕ, ◌≡◌, ◌<◌, Bool, List, [], ◌++◌, length, Option, None, Some}
 use Rattle.std.specs.Io.KnownBytes.{Appends}
 use Rattle.fts.specs.Text.{lines_of, is_blank, IsWhole, HasNoEnd}
 use Rattle.fts.specs.Replies.{Script, start, after_lines, output, longest}

@@ -1,5 +1,5 @@
 -- What each part of a session answers, against what a script does.
-use Rattle.std.specs.Prelude.{◌≡◌, ℕ, ◌+◌, ◌≤◌, ◌⊎◌, false, Option, Some, None, MatchOption, Result, Ok, Err, length}
+use Rattle.std.specs.Prelude.{◌≡◌, ℕ, ◌+◌, ◌≤◌, ◌⊎◌, false, Option, MatchOption, Result, Ok, Err, length}
 use Rattle.serde_json.specs.Written.{has_float}
 use Rattle.serde_json.specs.View.{view}
 use Rattle.serde_json.specs.declared.value.Value.{Value}

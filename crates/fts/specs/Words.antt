@@ -1,7 +1,7 @@
 -- The queries of a script so far: one word, or white space alone.
-use Rattle.std.specs.Prelude.{ℕ, ◌+◌, ◌==◌, ◌&&◌, ◌||◌, not, nat_lt, Bool, true, false, List, [], ◌∷◌, drop, take, length, codes, Result, Ok, Err, Option, Some, None, if◌then◌else◌, slice_range}
+use Rattle.std.specs.Prelude.{ℕ, ◌+◌, ◌==◌, ◌&&◌, ◌||◌, not, nat_lt, Bool, false, List, [], ◌∷◌, drop, take, length, codes, Result, Ok, Err, Option, Some, None, if◌then◌else◌, slice_range}
 use Rattle.std.specs.List.{list_any, list_all, prefix_len}
-use Rattle.std.specs.Str.{bytes_eq, chars}
+use Rattle.std.specs.Str.{chars}
 use Rattle.fts_text.specs.Characters.{is_alphanumeric, folded}
 use Rattle.fts_text.specs.Places.{places}
 use Rattle.fts_text.specs.declared.tokenizer.Token.{Token}

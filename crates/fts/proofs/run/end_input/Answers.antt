@@ -2,7 +2,7 @@ use Rattle.std.proofs.Common.{◌++◌, ◌∙◌, ap}
 use Rattle.std.proofs.lemmas.Bool.{false≢true}
 use Rattle.std.proofs.lemmas.Result.{on_ok_weaker}
 use Rattle.fts.specs.Replies.{reply_to}
-use Rattle.fts.proofs.RunLemmas.{Ends-line, Ends-nothing}
+use Rattle.fts.proofs.RunLemmas.{Ends-line}
 use Rattle.fts.proofs.run.end_input.Goals as goal
 
 pub returns : goal.returns

@@ -1,4 +1,3 @@
-use Rattle.std.proofs.Common.{string_bytes}
 use Rattle.std.proofs.KnownBytes.{Appends-kept}
 use Rattle.fts.proofs.RunLemmas.{Wrote-output, Wrote-part, Wrote-start, Wrote-whole, on_err}
 use Rattle.fts.proofs.run.finish.Goals as goal

@@ -1,5 +1,4 @@
-use Rattle.std.proofs.Common.{◌++◌, take, drop, length, ◌-◌, subst, arith, ◌∙◌, List, ℕ, Option, string_bytes}
-use Rattle.std.proofs.lemmas.Result.{err_from_is_err_and}
+use Rattle.std.proofs.Common.{◌++◌, take, subst, arith, ◌∙◌, string_bytes}
 use Rattle.fts.specs.Streams.{Wrote}
 use Rattle.fts.specs.Runs.{AnswersFirst, BeginsOutput, Reached}
 use Rattle.fts.proofs.RunLemmas.{LeadsFirst-either, Reached-sent, Wrote-begins, Wrote-cut, Wrote-first, on_err, part_is, whole_is, within_more}

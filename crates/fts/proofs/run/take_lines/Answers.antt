@@ -1,5 +1,4 @@
-use Rattle.std.proofs.Common.{[], take, drop, length, ◌-◌, subst, sym, arith, string_bytes, take-append-drop}
-use Rattle.std.proofs.lemmas.List.{length-take-le}
+use Rattle.std.proofs.Common.{[], take, drop, subst, sym, arith, string_bytes, take-append-drop}
 use Rattle.fts.specs.Runs.{Leads, LeadsFirst}
 use Rattle.fts.proofs.RunLemmas.{Leads-then, LeadsFirst-leads, on_err, sent_more, within_more}
 use Rattle.fts.proofs.run.take_lines.Goals as goal

@@ -1,4 +1,4 @@
-use Rattle.std.proofs.Common.{length, ◌-◌, ◌+◌, ◌≤◌, ◌≡◌, take, [], string_bytes, string_len}
+use Rattle.std.proofs.Common.{length, ◌-◌, ◌+◌, ◌≤◌, ◌≡◌, take, [], string_bytes}
 use Rattle.fts.specs.Runs.{Leads}
 use Rattle.fts.proofs.run.take_lines.Given as goal
 

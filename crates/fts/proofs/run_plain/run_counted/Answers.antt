@@ -1,4 +1,3 @@
-use Rattle.std.proofs.Common.{sym}
 use Rattle.std.proofs.lemmas.Result.{on_err_weaker}
 use Rattle.fts.proofs.RunLemmas.{if_some_from_moved}
 use Rattle.fts.proofs.run_plain.run_counted.Goals as goal

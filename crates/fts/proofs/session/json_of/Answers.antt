@@ -1,4 +1,4 @@
-use Rattle.std.proofs.Common.{◌≡◌, cond, List, ℕ, Bool, true, false, refl, ap, Option, Some, None, Ok, Err, inr}
+use Rattle.std.proofs.Common.{◌≡◌, cond, List, ℕ, Bool, true, false, refl, ap, Option, Some, None, inr}
 use Rattle.std.specs.Option.{ok_or}
 use Rattle.std.specs.Prelude.{IsUtf8}
 use Rattle.std.specs.Str.{is_utf8}

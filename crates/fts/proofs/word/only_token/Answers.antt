@@ -1,6 +1,6 @@
-use Rattle.std.proofs.Common.{◌≡◌, subst, sym, ◌∙◌}
+use Rattle.std.proofs.Common.{subst, sym}
 use Rattle.std.specs.List.{All}
-use Rattle.fts_text.specs.Places.{places, places_left, IsPlaceIn}
+use Rattle.fts_text.specs.Places.{places_left, IsPlaceIn}
 use Rattle.fts_text.proofs.StretchLemmas.{All-IsPlaceIn, IsPlaceIn-first}
 use Rattle.fts.proofs.word.only_token.Goals as goal
 
