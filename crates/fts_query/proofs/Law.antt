@@ -1,0 +1,90 @@
+-- A text has one outcome, and the reading from the left finds it.
+use Rattle.std.proofs.Common.{◌≡◌, ℕ, ◌<◌, ◌≤◌, Bool, true, false, List, [], ◌∷◌, length, subst, Option, Some, None, Result, Ok, Err, refl, sym, ap, ◌∙◌, arith, inl, inr, ltb}
+use Rattle.std.specs.Str.{chars, IsUtf8}
+use Rattle.std.specs.List.{list_all}
+use Rattle.std.proofs.lemmas.Bool.{cases_Bool, ltb-true, ltb-false, le-ltb, lt-ltb, false_from_ne_true}
+use Rattle.fts_model.specs.declared.schema.Field.{Field}
+use Rattle.fts_model.specs.declared.refusal.Refusal.{Refusal}
+use Rattle.fts_model.specs.declared.refusal.Refusal.TheVariants.{TooLong, Syntax, TooDeep, UnknownField, BadNumber, RangeOnText, NoDefaultField, AllNegative}
+use Rattle.fts_query.specs.declared.fault.Fault.{Fault}
+use Rattle.fts_query.specs.declared.fault.Fault.TheVariants as faults
+use Rattle.fts_query.specs.QueryValues.{QueryValue, nothing}
+use Rattle.fts_query.specs.Meanings.{Meaning}
+use Rattle.fts_query.specs.Grammar.{is_space, IsBlank, IsQuery}
+use Rattle.fts_query.specs.Outcomes.{outside, is_too_deep, IsFit, Reads, without_byte}
+use Rattle.fts_query.specs.Reading.{query_of}
+use Rattle.fts_query.specs.Answers.{refusal_of, outcome_of, answer_from, answer}
+use Rattle.fts_query.proofs.Sound.{query_sound}
+use Rattle.fts_query.proofs.Complete.{query_again, no_query_is_blank}
+use Rattle.fts_query.proofs.CharLemmas.{length-chars}
+
+module _ (schema : List Field) (text : List ℕ) where
+  answer_fit : IsFit text → (IsBlank (chars text) → ⊥) → answer schema text ≡ answer_from (query_of schema 4096 (chars text))
+  unfolding answer
+  answer_fit f b =
+      let a : ltb 4096 (length text) ≡ false = le-ltb _ _ f.short in
+      let d : is_too_deep outside 0 (chars text) ≡ false = f.shallow in
+      let c : list_all is_space (chars text) ≡ false = false_from_ne_true _ b in
+      rw (a, d, c) refl
+
+  read_fit : (m : Meaning) → IsFit text → IsQuery schema (chars text) m → query_of schema 4096 (chars text) ≡ Some m
+  read_fit m f q = query_again 4096 (omega arith) q (omega (arith, length-chars text, f.short))
+
+  answer_query : (m : Meaning) → IsFit text → IsQuery schema (chars text) m → answer schema text ≡ outcome_of m
+  answer_query m f q = answer_fit f (no_query_is_blank q) ∙ ap answer_from (read_fit m f q)
+
+  none_from : (o : Option Meaning) → query_of schema 4096 (chars text) ≡ o → ((m : Meaning) → IsQuery schema (chars text) m → ⊥) → answer_from o ≡ Err (Syntax 0)
+  none_from None e h = refl
+  none_from (Some m) e h = absurd (h m (query_sound schema 4096 (chars text) m e))
+
+  -- each outcome is the answer
+  pub reads_answer : (x : Result QueryValue Refusal) → Reads schema text x → without_byte x ≡ answer schema text
+  unfolding answer
+  reads_answer (Err TooLong) h = let a : ltb 4096 (length text) ≡ true = lt-ltb _ _ h in rw a refl
+  reads_answer (Err TooDeep) h =
+      let a : ltb 4096 (length text) ≡ false = le-ltb _ _ h.0 in
+      let d : is_too_deep outside 0 (chars text) ≡ true = h.1 in
+      rw (a, d) refl
+  reads_answer (Err (Syntax byte)) h = sym (answer_fit h.0 h.1 ∙ none_from _ refl h.2)
+  reads_answer (Err UnknownField) h = sym (answer_query (Err faults.UnknownField) h.0 h.1)
+  reads_answer (Err BadNumber) h = sym (answer_query (Err faults.BadNumber) h.0 h.1)
+  reads_answer (Err RangeOnText) h = sym (answer_query (Err faults.RangeOnText) h.0 h.1)
+  reads_answer (Err NoDefaultField) h = sym (answer_query (Err faults.NoDefaultField) h.0 h.1)
+  reads_answer (Err AllNegative) h = sym (answer_query (Err faults.AllNegative) h.0 h.1)
+  reads_answer (Ok q) (f, inr h) = sym (answer_query (Ok q) f h)
+  reads_answer (Ok q) (f, inl h) =
+      let a : ltb 4096 (length text) ≡ false = le-ltb _ _ f.short in
+      let d : is_too_deep outside 0 (chars text) ≡ false = f.shallow in
+      let c : list_all is_space (chars text) ≡ true = h.0 in
+      let e : q ≡ nothing = h.1 in
+      rw (a, d, c) (ap (λ (x : QueryValue). Ok x) e)
+  reads_answer (Err refusal) h = absurd h
+
+  reads_from : (o : Option Meaning) → query_of schema 4096 (chars text) ≡ o → IsFit text → (IsBlank (chars text) → ⊥) → Reads schema text (answer_from o)
+  reads_from None e f b = (f, b, λ m q. absurd (let k = read_fit m f q in cc))
+  reads_from (Some (Ok q)) e f b = (f, inr (query_sound schema _ _ (Ok q) e))
+  reads_from (Some (Err faults.UnknownField)) e f b = (f, query_sound schema _ _ (Err faults.UnknownField) e)
+  reads_from (Some (Err faults.BadNumber)) e f b = (f, query_sound schema _ _ (Err faults.BadNumber) e)
+  reads_from (Some (Err faults.RangeOnText)) e f b = (f, query_sound schema _ _ (Err faults.RangeOnText) e)
+  reads_from (Some (Err faults.NoDefaultField)) e f b = (f, query_sound schema _ _ (Err faults.NoDefaultField) e)
+  reads_from (Some (Err faults.AllNegative)) e f b = (f, query_sound schema _ _ (Err faults.AllNegative) e)
+
+  -- the answer is an outcome
+  pub answer_reads : Reads schema text (answer schema text)
+  unfolding answer
+  answer_reads =
+      elim (cases_Bool (ltb 4096 (length text))) [
+        | inl a ↦ rw a (ltb-true _ _ a)
+        | inr a ↦ elim (cases_Bool (is_too_deep outside 0 (chars text))) [
+          | inl d ↦ rw (a, d) (ltb-false _ _ a, d)
+          | inr d ↦
+              let f : IsFit text = record { short = ltb-false _ _ a; shallow = d } in
+              elim (cases_Bool (list_all is_space (chars text))) [
+                | inl c ↦ rw (a, d, c) (f, inl (c, refl))
+                | inr c ↦ rw (a, d, c) (reads_from _ refl f (λ k. absurd (let e = c in cc)))
+              ]
+        ]
+      ]
+
+  pub one_outcome : (x y : Result QueryValue Refusal) → Reads schema text x → Reads schema text y → without_byte x ≡ without_byte y
+  one_outcome x y h k = reads_answer x h ∙ sym (reads_answer y k)

@@ -1,0 +1,5 @@
+pub mod Texts
+pub mod CharLemmas
+pub mod Sound
+pub mod Complete
+pub mod Law

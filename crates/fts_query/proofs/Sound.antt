@@ -1,0 +1,415 @@
+-- What is read from the front is in the grammar.
+use Rattle.std.proofs.Common.{◌≡◌, ℕ, zero, suc, ◌<◌, ◌≤◌, Bool, true, false, not, ◌&&◌, ◌||◌, cond, List, [], ◌∷◌, ◌++◌, length, codes, Option, Some, None, Ok, refl, sym, ap, subst, ◌∙◌, append_assoc, arith, inl, inr}
+use Rattle.std.specs.Prelude.{◌==◌}
+use Rattle.std.proofs.lemmas.Bool.{and_parts, eqb-true, not-true, cases_Bool}
+use Rattle.std.proofs.lemmas.List.{append-nil}
+use Rattle.std.proofs.lemmas.Option.{cond_some, same_Some}
+use Rattle.std.specs.Str.{encode_utf8_all, bytes_eq}
+use Rattle.std.specs.declared.ops.Bound.{Bound}
+use Rattle.std.specs.declared.ops.Bound.TheVariants.{Included, Excluded, Unbounded}
+use Rattle.fts_model.specs.declared.schema.Field.{Field}
+use Rattle.fts_model.specs.Schemas.{is_reserved}
+use Rattle.fts_query.specs.QueryValues.{every}
+use Rattle.fts_query.specs.Meanings.{Meaning, Factor, Sign, plain, plus, minus, Value, literal, between, list_meaning, literal_anywhere, field_meaning}
+use Rattle.fts_query.specs.Grammar
+use Rattle.fts_query.specs.Grammar.{is_word_char, is_bare, IsBare, IsWord, IsBound, bound, IsValue, Opens, Closes, begins_equals, IsBlank, IsSpace, IsOperator, IsUnit, IsFactor, IsConjunction, IsChain, IsList, IsQuery, quotation}
+use Rattle.fts_query.specs.Reading.{Parser, skip, run, past, word, begins_space, closes, space_at, operator_at, onto, bind, go_on, seq_by, signed, negated_of, factor_of, conjunction_of, chain_of, list_of, close, said, in_bytes, quoted_of, word_of, bound_of, range_end, range_of, compared_of, above_of, below_of, said_of, plain_of, value_of, behind_bare, is_sign, bare_of, quote_of, group_of, unit_by, unit_of, ended, query_of}
+use Rattle.fts_query.proofs.Texts.{IsPlain, plain_and, plain_or, plain_not, plain_to, run_is, is_reserved-encoded, run_parts, skip_parts, space_parts, said_sound, chosen}
+
+-- the front of a text is in the language P, for x
+abbrev pub Front : {A : Type 0} → (List ℕ → A → Type 0) → List ℕ → A × List ℕ → Type 0
+Front P s y = (x : List ℕ) × P x y.0 × (s ≡ x ++ y.1)
+
+-- the parser finds nothing but P
+abbrev pub Sound : {A : Type 0} → (List ℕ → A → Type 0) → Parser A → Type 0
+Sound {A} P p = (s : List ℕ) (y : A × List ℕ) → p s ≡ Some y → Front P s y
+
+space_sound : (s t : List ℕ) → space_at s ≡ Some t → (w : List ℕ) × IsSpace w × (s ≡ w ++ t)
+unfolding space_at
+space_sound s t e =
+    let c = cond_some (begins_space s && not (closes (skip s))) (skip s) t e in
+    let b = and_parts (begins_space s) (not (closes (skip s))) c.0 in
+    let p = space_parts s b.0 in
+    (p.0, p.1, p.2 ∙ ap (λ (x : List ℕ). p.0 ++ x) c.1)
+
+operator_sound : (name : List ℕ) → IsPlain name → (s t : List ℕ) → operator_at name s ≡ Some t → (w : List ℕ) × IsOperator name w × (s ≡ w ++ t)
+unfolding operator_at
+operator_sound name ascii s t e =
+    let c = cond_some (begins_space s && (bytes_eq (word (skip s)) name && begins_space (past (skip s)))) (skip (past (skip s))) t e in
+    let b = and_parts (begins_space s) (bytes_eq (word (skip s)) name && begins_space (past (skip s))) c.0 in
+    let d = and_parts (bytes_eq (word (skip s)) name) (begins_space (past (skip s))) b.1 in
+    let p = space_parts s b.0 in
+    let q = space_parts (past (skip s)) d.1 in
+    let is-name : run (skip s) ≡ name = run_is (skip s) name ascii d.0 in
+    let word : skip s ≡ name ++ past (skip s) = (run_parts (skip s)).0 ∙ ap (λ (x : List ℕ). x ++ past (skip s)) is-name in
+    let whole : s ≡ p.0 ++ (name ++ (q.0 ++ t)) = p.2 ∙ ap (λ (x : List ℕ). p.0 ++ x) (word ∙ ap (λ (x : List ℕ). name ++ x) (q.2 ∙ ap (λ (x : List ℕ). q.0 ++ x) c.1)) in
+    (p.0 ++ (name ++ q.0), (p.0, q.0, refl, p.1, q.1), whole ∙ simp append_assoc)
+
+bind_some : {A B : Type 0} (o : Option A) (f : A → Option B) (y : B) → bind o f ≡ Some y → (x : A) × (o ≡ Some x) × (f x ≡ Some y)
+bind_some None f y e = absurd cc
+bind_some (Some x) f y e = (x, refl, e)
+
+onto_some : {A : Type 0} (a : A) (o : Option (List A × List ℕ)) (y : List A × List ℕ) → onto a o ≡ Some y → (x : List A × List ℕ) × (o ≡ Some x) × ((a ∷ x.0) ≡ y.0) × (x.1 ≡ y.1)
+onto_some {A} a None y e = absurd cc
+onto_some {A} a (Some x) y e =
+    let h : ◌≡◌ {A = List A × List ℕ} (a ∷ x.0, x.1) y = same_Some _ _ e in
+    (x, refl, ap (λ (p : List A × List ℕ). p.0) h, ap (λ (p : List A × List ℕ). p.1) h)
+
+module _ {A : Type 0} (sep : List ℕ → Option (List ℕ)) (item : Parser A) (Sep : List ℕ → Type 0) (Item : List ℕ → A → Type 0) (Seq : List ℕ → List A → Type 0)
+    (sep_sound : (s t : List ℕ) → sep s ≡ Some t → (w : List ℕ) × Sep w × (s ≡ w ++ t))
+    (item_sound : Sound Item item)
+    (one : (s : List ℕ) (a : A) → Item s a → Seq s (a ∷ []))
+    (more : (s w t : List ℕ) (a : A) (xs : List A) → Item s a → Sep w → Seq t xs → Seq (s ++ (w ++ t)) (a ∷ xs)) where
+  moved : (s : List ℕ) (xs : List A) (r : List ℕ) (y : List A × List ℕ) → xs ≡ y.0 → r ≡ y.1 → Front Seq s (xs, r) → Front Seq s y
+  moved s xs r y e f h = let k : ◌≡◌ {A = List A × List ℕ} (xs, r) (y.0, y.1) = cc in subst (λ (p : List A × List ℕ). Front Seq s p) k h
+
+  go_on_sound : (o : Option (List ℕ)) (s : List ℕ) (a : A) (rest : List ℕ) (next : List ℕ → Option (List A × List ℕ)) (y : List A × List ℕ)
+      → sep rest ≡ o → Front Item s (a, rest) → Sound Seq next → go_on o a rest next ≡ Some y → Front Seq s y
+  go_on_sound None s a rest next y e f h g =
+      let k : ◌≡◌ {A = List A × List ℕ} (a ∷ [], rest) y = same_Some _ _ g in
+      subst (λ (p : List A × List ℕ). Front Seq s p) k (f.0, one f.0 a f.1, f.2)
+  go_on_sound (Some t) s a rest next y e f h g =
+      let q = onto_some a (next t) y g in
+      let w = sep_sound rest t e in
+      let i = h t q.0 q.1 in
+      let parts : s ≡ (f.0 ++ (w.0 ++ i.0)) ++ q.0.1 = f.2 ∙ ap (λ (x : List ℕ). f.0 ++ x) (w.2 ∙ ap (λ (x : List ℕ). w.0 ++ x) i.2) ∙ simp append_assoc in
+      moved s (a ∷ q.0.0) q.0.1 y q.2 q.3 (f.0 ++ (w.0 ++ i.0), more f.0 w.0 i.0 a q.0.0 f.1 w.1 i.1, parts)
+
+  seq_sound : (n : ℕ) → Sound Seq (seq_by n sep item)
+  unfolding seq_by
+  seq_sound zero s y e = absurd cc
+  seq_sound (suc n) s y e =
+      let b = bind_some (item s) (λ x. go_on (sep x.1) x.0 x.1 (λ t. seq_by n sep item t)) y e in
+      go_on_sound (sep b.0.1) s b.0.0 b.0.1 (λ t. seq_by n sep item t) y refl (item_sound s b.0 b.1) (seq_sound n) b.2
+
+signed_some : (sign : Sign) (o : Option (Meaning × List ℕ)) (y : Factor × List ℕ) → signed sign o ≡ Some y → (x : Meaning × List ℕ) × (o ≡ Some x) × (◌≡◌ {A = Factor × List ℕ} ((sign, x.0), x.1) y)
+signed_some sign None y e = absurd cc
+signed_some sign (Some x) y e = (x, refl, same_Some _ _ e)
+
+module _ (schema : List Field) (unit : Parser Meaning) (unit_sound : Sound (IsUnit schema) unit) where
+  negated_sound : (s t : List ℕ) (y : Factor × List ℕ) → s ≡ (codes "NOT") ++ t → negated_of unit t ≡ Some y → Front (IsFactor schema) s y
+  unfolding negated_of
+  negated_sound s t y e h =
+      let c = chosen (begins_space t) (signed minus (unit (skip t))) None (Some y) h in
+      elim c [
+        | inl p ↦
+            let q = signed_some minus (unit (skip t)) y p.1 in
+            let w = space_parts t p.0 in
+            let f = unit_sound (skip t) q.0 q.1 in
+            let parts : s ≡ ((codes "NOT") ++ (w.0 ++ f.0)) ++ q.0.1 = e ∙ ap (λ (x : List ℕ). (codes "NOT") ++ x) (w.2 ∙ ap (λ (x : List ℕ). w.0 ++ x) f.2 ∙ sym (append_assoc w.0 f.0 q.0.1)) in
+            subst (λ (p : Factor × List ℕ). Front (IsFactor schema) s p) q.2 ((codes "NOT") ++ (w.0 ++ f.0), Grammar.negated w.0 f.0 w.1 f.1, parts)
+        | inr p ↦ absurd (let k = p.1 in cc)
+      ]
+
+  factor_sound : Sound (IsFactor schema) (factor_of unit)
+  unfolding factor_of
+  factor_sound [] y e = absurd cc
+  factor_sound (c ∷ s) y e =
+      elim (chosen (c == 43) _ _ _ e) [
+        | inl p ↦
+            let k : c ≡ 43 = eqb-true c 43 p.0 in
+            let q = signed_some plus (unit s) y p.1 in
+            let f = unit_sound s q.0 q.1 in
+            let parts : c ∷ s ≡ (43 ∷ f.0) ++ q.0.1 = rw k (ap (λ (x : List ℕ). 43 ∷ x) f.2) in
+            subst (λ (p : Factor × List ℕ). Front (IsFactor schema) (c ∷ s) p) q.2 (43 ∷ f.0, Grammar.marked_plus f.1, parts)
+        | inr n ↦ elim (chosen (c == 45) _ _ _ n.1) [
+          | inl p ↦
+              let k : c ≡ 45 = eqb-true c 45 p.0 in
+              let q = signed_some minus (unit s) y p.1 in
+              let f = unit_sound s q.0 q.1 in
+              let parts : c ∷ s ≡ (45 ∷ f.0) ++ q.0.1 = rw k (ap (λ (x : List ℕ). 45 ∷ x) f.2) in
+              subst (λ (p : Factor × List ℕ). Front (IsFactor schema) (c ∷ s) p) q.2 (45 ∷ f.0, Grammar.marked_minus f.1, parts)
+          | inr m ↦ elim (chosen (bytes_eq (word (c ∷ s)) (codes "NOT")) _ _ _ m.1) [
+            | inl p ↦
+                let is-not : run (c ∷ s) ≡ (codes "NOT") = run_is (c ∷ s) (codes "NOT") plain_not p.0 in
+                let parts : c ∷ s ≡ (codes "NOT") ++ past (c ∷ s) = (run_parts (c ∷ s)).0 ∙ ap (λ (x : List ℕ). x ++ past (c ∷ s)) is-not in
+                negated_sound (c ∷ s) (past (c ∷ s)) y parts p.1
+            | inr p ↦
+                let q = signed_some plain (unit (c ∷ s)) y p.1 in
+                let f = unit_sound (c ∷ s) q.0 q.1 in
+                subst (λ (p : Factor × List ℕ). Front (IsFactor schema) (c ∷ s) p) q.2 (f.0, Grammar.alone f.1, f.2)
+          ]
+        ]
+      ]
+
+  conjunction_sound : Sound (IsConjunction schema) (conjunction_of unit)
+  unfolding conjunction_of
+  conjunction_sound = seq_sound (operator_at (codes "AND")) (factor_of unit) (IsOperator (codes "AND")) (IsFactor schema) (IsConjunction schema) (operator_sound (codes "AND") plain_and) factor_sound (λ t a h. Grammar.factor h) (λ t w u a xs h k l. Grammar.both t w u h k l) 4096
+
+  chain_sound : Sound (IsChain schema) (chain_of unit)
+  unfolding chain_of
+  chain_sound = seq_sound (operator_at (codes "OR")) (conjunction_of unit) (IsOperator (codes "OR")) (IsConjunction schema) (IsChain schema) (operator_sound (codes "OR") plain_or) conjunction_sound (λ t a h. Grammar.conjunction h) (λ t w u a xs h k l. Grammar.either t w u h k l) 4096
+
+  list_sound : Sound (IsList schema) (list_of unit)
+  unfolding list_of
+  list_sound = seq_sound space_at (chain_of unit) IsSpace (IsChain schema) (IsList schema) space_sound chain_sound (λ t a h. Grammar.chain h) (λ t w u a xs h k l. Grammar.chains t w u h k l) 4096
+
+close_some : (cs : List (List (List Factor))) (s : List ℕ) (y : Meaning × List ℕ) → close cs s ≡ Some y → (s ≡ 41 ∷ y.1) × (list_meaning cs ≡ y.0)
+close_some cs [] y e = absurd cc
+close_some cs (c ∷ s) y e =
+    let b = cond_some (c == 41) (list_meaning cs, s) y e in
+    let k : c ≡ 41 = eqb-true c 41 b.0 in
+    (rw k (ap (λ (p : Meaning × List ℕ). 41 ∷ p.1) b.1), ap (λ (p : Meaning × List ℕ). p.0) b.1)
+
+-- the word at the front, and its bytes
+WordFront : List ℕ → List ℕ × List ℕ → Type 0
+WordFront s y = (w : List ℕ) × IsWord w × (encode_utf8_all w ≡ y.0) × (s ≡ w ++ y.1)
+
+word_sound : (s : List ℕ) (y : List ℕ × List ℕ) → word_of s ≡ Some y → WordFront s y
+unfolding WordFront word_of run
+word_sound [] y e = absurd cc
+word_sound (c ∷ s) y e =
+    let b = cond_some (is_word_char c) (word (c ∷ s), past (c ∷ s)) y e in
+    let p = run_parts (c ∷ s) in
+    let k : is_word_char c ≡ true = b.0 in
+    let l : 0 < length (run (c ∷ s)) = rw k (omega arith) in
+    subst (λ (p : List ℕ × List ℕ). (w : List ℕ) × IsWord w × (encode_utf8_all w ≡ p.0) × ((c ∷ s) ≡ w ++ p.1)) b.1 (run (c ∷ s), (l, p.1), refl, p.0)
+
+bound_sound : Sound IsBound bound_of
+unfolding bound_of WordFront
+bound_sound [] y e = absurd cc
+bound_sound (c ∷ s) y e =
+    elim (chosen (c == 42) _ _ _ e) [
+      | inl p ↦
+          let k : c ≡ 42 = eqb-true c 42 p.0 in
+          let h : ◌≡◌ {A = Option (List ℕ) × List ℕ} (None, s) y = same_Some _ _ p.1 in
+          subst (λ (p : Option (List ℕ) × List ℕ). Front IsBound (c ∷ s) p) h (42 ∷ [], Grammar.IsBound.none, rw k refl)
+      | inr p ↦
+          let b = bind_some (word_of (c ∷ s)) (λ x. Some (Some x.0, x.1)) y p.1 in
+          let h : ◌≡◌ {A = Option (List ℕ) × List ℕ} (Some b.0.0, b.0.1) y = same_Some _ _ b.2 in
+          let w = word_sound (c ∷ s) b.0 b.1 in
+          let is : IsBound w.0 (Some b.0.0) = subst (λ (z : List ℕ). IsBound w.0 (Some z)) w.2 (Grammar.IsBound.at w.1) in
+          subst (λ (p : Option (List ℕ) × List ℕ). Front IsBound (c ∷ s) p) h (w.0, is, w.3)
+    ]
+
+range_end_sound : (low : Bound (List ℕ)) (high : Option (List ℕ)) (s : List ℕ) (y : Value × List ℕ) → range_end low high s ≡ Some y → (e : ℕ) × (j : Bool) × Closes e j × (s ≡ e ∷ y.1) × (between low (bound j high) ≡ y.0)
+unfolding range_end
+range_end_sound low high [] y e = absurd cc
+range_end_sound low high (c ∷ s) y e =
+    elim (chosen (c == 93) _ _ _ e) [
+      | inl p ↦
+          let k : c ≡ 93 = eqb-true c 93 p.0 in
+          let h : ◌≡◌ {A = Value × List ℕ} (between low (bound true high), s) y = same_Some _ _ p.1 in
+          (93, true, Grammar.Closes.included, rw k (ap (λ (p : Value × List ℕ). 93 ∷ p.1) h), ap (λ (p : Value × List ℕ). p.0) h)
+      | inr n ↦ elim (chosen (c == 125) _ _ _ n.1) [
+        | inl p ↦
+            let k : c ≡ 125 = eqb-true c 125 p.0 in
+            let h : ◌≡◌ {A = Value × List ℕ} (between low (bound false high), s) y = same_Some _ _ p.1 in
+            (125, false, Grammar.Closes.excluded, rw k (ap (λ (p : Value × List ℕ). 125 ∷ p.1) h), ap (λ (p : Value × List ℕ). p.0) h)
+        | inr p ↦ absurd (let k = p.1 in cc)
+      ]
+    ]
+
+range_sound : (b : ℕ) (i : Bool) → Opens b i → (s : List ℕ) (y : Value × List ℕ) → range_of i s ≡ Some y → Front IsValue (b ∷ s) y
+unfolding range_of
+range_sound b i o s y e =
+    let TO = codes "TO" in
+    let x = bind_some (bound_of (skip s)) (λ x. bind (operator_at TO x.1) (λ t. bind (bound_of t) (λ y. range_end (bound i x.0) y.0 (skip y.1)))) y e in
+    let t = bind_some (operator_at TO x.0.1) (λ t. bind (bound_of t) (λ y. range_end (bound i x.0.0) y.0 (skip y.1))) y x.2 in
+    let h = bind_some (bound_of t.0) (λ y. range_end (bound i x.0.0) y.0 (skip y.1)) y t.2 in
+    let r = range_end_sound (bound i x.0.0) h.0.0 (skip h.0.1) y h.2 in
+    let u = skip_parts s in
+    let low = bound_sound (skip s) x.0 x.1 in
+    let w = operator_sound TO plain_to x.0.1 t.0 t.1 in
+    let high = bound_sound t.0 h.0 h.1 in
+    let v = skip_parts h.0.1 in
+    let text : List ℕ = b ∷ (u.0 ++ (low.0 ++ (w.0 ++ (high.0 ++ (v.0 ++ r.0 ∷ []))))) in
+    let parts : b ∷ s ≡ text ++ y.1 =
+    ap (λ (t : List ℕ). b ∷ t) (u.2 ∙ ap (λ (t : List ℕ). u.0 ++ t) (low.2 ∙ ap (λ (t : List ℕ). low.0 ++ t) (w.2 ∙ ap (λ (t : List ℕ). w.0 ++ t) (high.2 ∙ ap (λ (t : List ℕ). high.0 ++ t) (v.2 ∙ ap (λ (t : List ℕ). v.0 ++ t) r.3)))) ∙ simp append_assoc) in
+    let is : IsValue text y.0 = subst (λ (z : Value). IsValue text z) r.4 (Grammar.IsValue.range u.0 low.0 w.0 high.0 v.0 o u.1 low.1 w.1 high.1 v.1 r.2) in
+    (text, is, parts)
+
+no_equals : (c : ℕ) (s w r : List ℕ) → (c == 61) ≡ false → 0 < length w → c ∷ s ≡ w ++ r → begins_equals w ≡ false
+no_equals c s [] r e l p = absurd (omega arith)
+no_equals c s (d ∷ w) r e l p = let k : c ≡ d = cc in subst (λ (x : ℕ). (x == 61) ≡ false) k e
+
+-- a word behind a mark, and `=` before it where it is included
+pub data IsCompared : List ℕ → Bool × List ℕ → Type 0 where
+  equal : {w : List ℕ} → IsWord w → IsCompared (61 ∷ w) (true, encode_utf8_all w)
+  other : {w : List ℕ} → IsWord w → begins_equals w ≡ false → IsCompared w (false, encode_utf8_all w)
+
+compared_sound : Sound IsCompared compared_of
+unfolding compared_of WordFront
+compared_sound [] y e = absurd cc
+compared_sound (c ∷ s) y e =
+    elim (chosen (c == 61) _ _ _ e) [
+      | inl p ↦
+          let k : c ≡ 61 = eqb-true c 61 p.0 in
+          let x = bind_some (word_of s) (λ x. Some ((true, x.0), x.1)) y p.1 in
+          let h : ◌≡◌ {A = (Bool × List ℕ) × List ℕ} ((true, x.0.0), x.0.1) y = same_Some _ _ x.2 in
+          let w = word_sound s x.0 x.1 in
+          let is : IsCompared (61 ∷ w.0) (true, x.0.0) = subst (λ (z : List ℕ). IsCompared (61 ∷ w.0) (true, z)) w.2 (IsCompared.equal w.1) in
+          subst (λ (p : (Bool × List ℕ) × List ℕ). Front IsCompared (c ∷ s) p) h (61 ∷ w.0, is, rw k (ap (λ (t : List ℕ). 61 ∷ t) w.3))
+      | inr p ↦
+          let x = bind_some (word_of (c ∷ s)) (λ x. Some ((false, x.0), x.1)) y p.1 in
+          let h : ◌≡◌ {A = (Bool × List ℕ) × List ℕ} ((false, x.0.0), x.0.1) y = same_Some _ _ x.2 in
+          let w = word_sound (c ∷ s) x.0 x.1 in
+          let is : IsCompared w.0 (false, x.0.0) = subst (λ (z : List ℕ). IsCompared w.0 (false, z)) w.2 (IsCompared.other w.1 (no_equals c s w.0 x.0.1 p.0 w.1.0 w.3)) in
+          subst (λ (p : (Bool × List ℕ) × List ℕ). Front IsCompared (c ∷ s) p) h (w.0, is, w.3)
+    ]
+
+above_is : {w : List ℕ} {x : Bool × List ℕ} → IsCompared w x → IsValue (62 ∷ w) (between (bound x.0 (Some x.1)) Unbounded)
+above_is (IsCompared.equal h) = Grammar.IsValue.at_least h
+above_is (IsCompared.other h n) = Grammar.IsValue.greater h n
+
+below_is : {w : List ℕ} {x : Bool × List ℕ} → IsCompared w x → IsValue (60 ∷ w) (between Unbounded (bound x.0 (Some x.1)))
+below_is (IsCompared.equal h) = Grammar.IsValue.at_most h
+below_is (IsCompared.other h n) = Grammar.IsValue.less h n
+
+in_bytes_sound : (s : List ℕ) (o : Option (List ℕ × List ℕ)) (y : List ℕ × List ℕ) → said false s ≡ o → in_bytes o ≡ Some y → (t : List ℕ) × (encode_utf8_all t ≡ y.0) × (s ≡ quotation t ++ y.1)
+in_bytes_sound s None y h e = absurd cc
+in_bytes_sound s (Some x) y h e =
+    let k : ◌≡◌ {A = List ℕ × List ℕ} (encode_utf8_all x.0, x.1) y = same_Some _ _ e in
+    let t : s ≡ quotation x.0 ++ x.1 = said_sound false s x h in
+    (x.0, ap (λ (p : List ℕ × List ℕ). p.0) k, t ∙ ap (λ (p : List ℕ × List ℕ). quotation x.0 ++ p.1) k)
+
+quoted_sound : (s : List ℕ) (y : List ℕ × List ℕ) → quoted_of s ≡ Some y → (t : List ℕ) × (encode_utf8_all t ≡ y.0) × (s ≡ quotation t ++ y.1)
+unfolding quoted_of
+quoted_sound s y e = in_bytes_sound s (said false s) y refl e
+
+value_sound : Sound IsValue value_of
+unfolding value_of said_of above_of below_of plain_of WordFront
+value_sound [] y e = absurd cc
+value_sound (c ∷ s) y e =
+    elim (chosen (c == 34) _ _ _ e) [
+      | inl p ↦
+          let k : c ≡ 34 = eqb-true c 34 p.0 in
+          let x = bind_some (quoted_of s) (λ x. Some (literal x.0, x.1)) y p.1 in
+          let h : ◌≡◌ {A = Value × List ℕ} (literal x.0.0, x.0.1) y = same_Some _ _ x.2 in
+          let t = quoted_sound s x.0 x.1 in
+          let is : IsValue (34 ∷ quotation t.0) (literal x.0.0) = subst (λ (z : List ℕ). IsValue (34 ∷ quotation t.0) (literal z)) t.1 (Grammar.IsValue.quoted t.0) in
+          subst (λ (p : Value × List ℕ). Front IsValue (c ∷ s) p) h (34 ∷ quotation t.0, is, rw k (ap (λ (x : List ℕ). 34 ∷ x) t.2))
+      | inr n2 ↦ elim (chosen (c == 91) _ _ _ n2.1) [
+        | inl p ↦ let k : c ≡ 91 = eqb-true c 91 p.0 in rw k (range_sound 91 true Grammar.Opens.included s y p.1)
+        | inr n3 ↦ elim (chosen (c == 123) _ _ _ n3.1) [
+          | inl p ↦ let k : c ≡ 123 = eqb-true c 123 p.0 in rw k (range_sound 123 false Grammar.Opens.excluded s y p.1)
+          | inr n4 ↦ elim (chosen (c == 62) _ _ _ n4.1) [
+            | inl p ↦
+                let k : c ≡ 62 = eqb-true c 62 p.0 in
+                let x = bind_some (compared_of s) (λ x. Some (between (bound x.0.0 (Some x.0.1)) Unbounded, x.1)) y p.1 in
+                let h : ◌≡◌ {A = Value × List ℕ} (between (bound x.0.0.0 (Some x.0.0.1)) Unbounded, x.0.1) y = same_Some _ _ x.2 in
+                let f = compared_sound s x.0 x.1 in
+                subst (λ (p : Value × List ℕ). Front IsValue (c ∷ s) p) h (62 ∷ f.0, above_is f.1, rw k (ap (λ (x : List ℕ). 62 ∷ x) f.2))
+            | inr n5 ↦ elim (chosen (c == 60) _ _ _ n5.1) [
+              | inl p ↦
+                  let k : c ≡ 60 = eqb-true c 60 p.0 in
+                  let x = bind_some (compared_of s) (λ x. Some (between Unbounded (bound x.0.0 (Some x.0.1)), x.1)) y p.1 in
+                  let h : ◌≡◌ {A = Value × List ℕ} (between Unbounded (bound x.0.0.0 (Some x.0.0.1)), x.0.1) y = same_Some _ _ x.2 in
+                  let f = compared_sound s x.0 x.1 in
+                  subst (λ (p : Value × List ℕ). Front IsValue (c ∷ s) p) h (60 ∷ f.0, below_is f.1, rw k (ap (λ (x : List ℕ). 60 ∷ x) f.2))
+              | inr p ↦
+                  let x = bind_some (word_of (c ∷ s)) (λ x. Some (literal x.0, x.1)) y p.1 in
+                  let h : ◌≡◌ {A = Value × List ℕ} (literal x.0.0, x.0.1) y = same_Some _ _ x.2 in
+                  let w = word_sound (c ∷ s) x.0 x.1 in
+                  let is : IsValue w.0 (literal x.0.0) = subst (λ (z : List ℕ). IsValue w.0 (literal z)) w.2 (Grammar.IsValue.word w.1) in
+                  subst (λ (p : Value × List ℕ). Front IsValue (c ∷ s) p) h (w.0, is, w.3)
+            ]
+          ]
+        ]
+      ]
+    ]
+
+module _ (schema : List Field) where
+  behind_sound : (s t : List ℕ) (y : Meaning × List ℕ) (w : List ℕ) → IsBare w → s ≡ w ++ t → behind_bare schema (encode_utf8_all w) t ≡ Some y → Front (IsUnit schema) s y
+  unfolding behind_bare
+  behind_sound s [] y w b p e =
+      let h : ◌≡◌ {A = Meaning × List ℕ} (literal_anywhere schema (encode_utf8_all w), []) y = same_Some _ _ e in
+      subst (λ (p : Meaning × List ℕ). Front (IsUnit schema) s p) h (w, Grammar.bare b, p)
+  behind_sound s (c ∷ t) y w b p e =
+      elim (chosen (c == 58) _ _ _ e) [
+        | inl q ↦
+            let k : c ≡ 58 = eqb-true c 58 q.0 in
+            let x = bind_some (value_of t) (λ v. Some (field_meaning schema (encode_utf8_all w) v.0, v.1)) y q.1 in
+            let h : ◌≡◌ {A = Meaning × List ℕ} (field_meaning schema (encode_utf8_all w) x.0.0, x.0.1) y = same_Some _ _ x.2 in
+            let v = value_sound t x.0 x.1 in
+            let tail : c ∷ t ≡ 58 ∷ (v.0 ++ x.0.1) = rw k (ap (λ (u : List ℕ). 58 ∷ u) v.2) in
+            let parts : s ≡ (w ++ (58 ∷ v.0)) ++ x.0.1 = p ∙ ap (λ (u : List ℕ). w ++ u) tail ∙ simp append_assoc in
+            subst (λ (p : Meaning × List ℕ). Front (IsUnit schema) s p) h (w ++ (58 ∷ v.0), Grammar.field w v.0 b v.1, parts)
+        | inr q ↦
+            let h : ◌≡◌ {A = Meaning × List ℕ} (literal_anywhere schema (encode_utf8_all w), c ∷ t) y = same_Some _ _ q.1 in
+            subst (λ (p : Meaning × List ℕ). Front (IsUnit schema) s p) h (w, Grammar.bare b, p)
+      ]
+
+  -- the word at the front is bare
+  run_is_bare : (c : ℕ) (s : List ℕ) → (is_word_char c && not (is_sign c) && not (is_reserved (word (c ∷ s)))) ≡ true → is_bare (run (c ∷ s)) ≡ true
+  unfolding is_bare run
+  run_is_bare c s h =
+      let p = and_parts (is_word_char c && not (is_sign c)) (not (is_reserved (word (c ∷ s)))) h in
+      let q = and_parts (is_word_char c) (not (is_sign c)) p.0 in
+      let a : is_word_char c ≡ true = q.0 in
+      let e : run (c ∷ s) ≡ c ∷ run s = rw a refl in
+      let r : not (is_reserved (run (c ∷ s))) ≡ true = ap not (sym (is_reserved-encoded (run (c ∷ s)))) ∙ p.1 in
+      let n : not (is_reserved (c ∷ run s)) ≡ true = subst (λ (x : List ℕ). not (is_reserved x) ≡ true) e r in
+      let k : not (is_sign c) ≡ true = q.1 in
+      subst (λ (x : List ℕ). is_bare x ≡ true) (sym e) (rw (k, n) refl)
+
+  bare_sound : Sound (IsUnit schema) (bare_of schema)
+  unfolding bare_of
+  bare_sound [] y e = absurd cc
+  bare_sound (c ∷ s) y e =
+      elim (chosen (is_word_char c && not (is_sign c) && not (is_reserved (word (c ∷ s)))) _ _ _ e) [
+        | inl p ↦ behind_sound (c ∷ s) (past (c ∷ s)) y (run (c ∷ s)) ((run_parts (c ∷ s)).1, run_is_bare c s p.0) (run_parts (c ∷ s)).0 p.1
+        | inr p ↦ absurd (let k = p.1 in cc)
+      ]
+
+  group_sound : (s : List ℕ) (x : List (List (List Factor)) × List ℕ) (y : Meaning × List ℕ) → Front (IsList schema) (skip s) x → close x.0 (skip x.1) ≡ Some y → Front (IsUnit schema) (40 ∷ s) y
+  group_sound s x y f e =
+      let k = close_some x.0 (skip x.1) y e in
+      let v = skip_parts s in
+      let w = skip_parts x.1 in
+      let parts : 40 ∷ s ≡ (40 ∷ (v.0 ++ (f.0 ++ (w.0 ++ 41 ∷ [])))) ++ y.1 =
+      ap (λ (t : List ℕ). 40 ∷ t) (v.2 ∙ ap (λ (t : List ℕ). v.0 ++ t) (f.2 ∙ ap (λ (t : List ℕ). f.0 ++ t) (w.2 ∙ ap (λ (t : List ℕ). w.0 ++ t) k.0)) ∙ simp append_assoc) in
+      let h : IsUnit schema (40 ∷ (v.0 ++ (f.0 ++ (w.0 ++ 41 ∷ [])))) y.0 = rw (← k.1) (Grammar.group v.0 f.0 w.0 x.0 v.1 f.1 w.1) in
+      (40 ∷ (v.0 ++ (f.0 ++ (w.0 ++ 41 ∷ []))), h, parts)
+
+  pub unit_sound : (d : ℕ) → Sound (IsUnit schema) (unit_of schema d)
+  unfolding unit_of unit_by quote_of group_of
+  unit_sound zero s y e = absurd cc
+  unit_sound (suc d) [] y e = absurd cc
+  unit_sound (suc d) (c ∷ s) y e =
+      elim (chosen (c == 40) _ _ _ e) [
+        | inl p ↦
+            let k : c ≡ 40 = eqb-true c 40 p.0 in
+            let b = bind_some (list_of (unit_of schema d) (skip s)) (λ x. close x.0 (skip x.1)) y p.1 in
+            rw k (group_sound s b.0 y (list_sound schema (unit_of schema d) (unit_sound d) (skip s) b.0 b.1) b.2)
+        | inr m ↦ elim (chosen (c == 42) _ _ _ m.1) [
+          | inl p ↦
+              let k : c ≡ 42 = eqb-true c 42 p.0 in
+              let h : ◌≡◌ {A = Meaning × List ℕ} (Ok every, s) y = same_Some _ _ p.1 in
+              subst (λ (p : Meaning × List ℕ). Front (IsUnit schema) (c ∷ s) p) h (42 ∷ [], Grammar.star, rw k refl)
+          | inr l ↦ elim (chosen (c == 34) _ _ _ l.1) [
+            | inl p ↦
+                let k : c ≡ 34 = eqb-true c 34 p.0 in
+                let b = bind_some (quoted_of s) (λ x. Some (literal_anywhere schema x.0, x.1)) y p.1 in
+                let h : ◌≡◌ {A = Meaning × List ℕ} (literal_anywhere schema b.0.0, b.0.1) y = same_Some _ _ b.2 in
+                let t = quoted_sound s b.0 b.1 in
+                let is : IsUnit schema (34 ∷ quotation t.0) (literal_anywhere schema b.0.0) = subst (λ (z : List ℕ). IsUnit schema (34 ∷ quotation t.0) (literal_anywhere schema z)) t.1 (Grammar.quoted t.0) in
+                subst (λ (p : Meaning × List ℕ). Front (IsUnit schema) (c ∷ s) p) h (34 ∷ quotation t.0, is, rw k (ap (λ (x : List ℕ). 34 ∷ x) t.2))
+            | inr p ↦ bare_sound (c ∷ s) y p.1
+          ]
+        ]
+      ]
+
+  ended_some : (cs : List (List (List Factor))) (s : List ℕ) (m : Meaning) → ended cs s ≡ Some m → (s ≡ []) × (m ≡ list_meaning cs)
+  ended_some cs [] m e = (refl, sym (same_Some _ _ e))
+  ended_some cs (c ∷ s) m e = absurd cc
+
+  pub query_sound : (d : ℕ) (s : List ℕ) (m : Meaning) → query_of schema d s ≡ Some m → IsQuery schema s m
+  unfolding query_of
+  query_sound d s m e =
+      let b = bind_some (list_of (unit_of schema d) (skip s)) (λ x. ended x.0 (skip x.1)) m e in
+      let f = list_sound schema (unit_of schema d) (unit_sound d) (skip s) b.0 b.1 in
+      let k = ended_some b.0.0 (skip b.0.1) m b.2 in
+      let v = skip_parts s in
+      let w = skip_parts b.0.1 in
+      record {
+        before = v.0;
+        inner = f.0;
+        after = w.0;
+        chains = b.0.0;
+        parts = v.2 ∙ ap (λ (t : List ℕ). v.0 ++ t) (f.2 ∙ ap (λ (t : List ℕ). f.0 ++ t) (w.2 ∙ ap (λ (t : List ℕ). w.0 ++ t) k.0 ∙ simp append-nil));
+        blank_before = v.1;
+        list = f.1;
+        blank_after = w.1;
+        means = k.1;
+      }

@@ -1,0 +1,37 @@
+-- The one outcome of a text, as a reading from the left finds it.
+use Rattle.std.specs.Prelude.{ℕ, nat_lt, List, length, Option, Some, None, Result, Ok, Err, if◌then◌else◌}
+use Rattle.std.specs.List.{list_all}
+use Rattle.std.specs.Str.{chars}
+use Rattle.fts_model.specs.declared.schema.Field.{Field}
+use Rattle.fts_model.specs.declared.refusal.Refusal.{Refusal}
+use Rattle.fts_model.specs.declared.refusal.Refusal.TheVariants.{TooLong, Syntax, TooDeep, UnknownField, BadNumber, RangeOnText, NoDefaultField, AllNegative}
+use Rattle.fts_query.specs.declared.fault.Fault.{Fault}
+use Rattle.fts_query.specs.declared.fault.Fault.TheVariants as faults
+use Rattle.fts_query.specs.QueryValues.{QueryValue, nothing}
+use Rattle.fts_query.specs.Meanings.{Meaning}
+use Rattle.fts_query.specs.Grammar.{is_space}
+use Rattle.fts_query.specs.Outcomes.{outside, is_too_deep}
+use Rattle.fts_query.specs.Reading.{query_of}
+
+-- the refusal that a fault is
+abbrev pub refusal_of : Fault → Refusal
+refusal_of faults.UnknownField = UnknownField
+refusal_of faults.BadNumber = BadNumber
+refusal_of faults.RangeOnText = RangeOnText
+refusal_of faults.NoDefaultField = NoDefaultField
+refusal_of faults.AllNegative = AllNegative
+
+abbrev pub outcome_of : Meaning → Result QueryValue Refusal
+outcome_of (Ok q) = Ok q
+outcome_of (Err f) = Err (refusal_of f)
+
+abbrev pub answer_from : Option Meaning → Result QueryValue Refusal
+answer_from None = Err (Syntax 0)
+answer_from (Some m) = outcome_of m
+
+unfoldable pub answer : List Field → List ℕ → Result QueryValue Refusal
+answer schema text =
+    if nat_lt 4096 (length text) then Err TooLong
+    else (if is_too_deep outside 0 (chars text) then Err TooDeep
+    else (if list_all is_space (chars text) then Ok nothing
+    else answer_from (query_of schema 4096 (chars text))))

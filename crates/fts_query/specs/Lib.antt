@@ -1,0 +1,6 @@
+pub mod QueryValues
+pub mod Meanings
+pub mod Grammar
+pub mod Outcomes
+pub mod Reading
+pub mod Answers

@@ -1,0 +1,63 @@
+-- What a text reads as: a query, or a refusal.
+use Rattle.std.specs.Prelude.{◌≡◌, ℕ, ◌+◌, ◌-◌, ◌<◌, ◌≤◌, ◌⊎◌, Bool, true, false, ◌==◌, nat_lt, List, [], ◌∷◌, length, Option, Some, None, Result, Ok, Err, if◌then◌else◌}
+use Rattle.std.specs.Str.{chars}
+use Rattle.fts_model.specs.declared.schema.Field.{Field}
+use Rattle.fts_model.specs.declared.refusal.Refusal.{Refusal}
+use Rattle.fts_model.specs.declared.refusal.Refusal.TheVariants.{TooLong, Syntax, TooDeep, UnknownField, BadNumber, RangeOnText, NoDefaultField, AllNegative}
+use Rattle.fts_query.specs.declared.fault.Fault.{Fault}
+use Rattle.fts_query.specs.declared.fault.Fault.TheVariants as faults
+use Rattle.fts_query.specs.QueryValues.{QueryValue, nothing}
+use Rattle.fts_query.specs.Meanings.{Meaning}
+use Rattle.fts_query.specs.Grammar.{IsBlank, IsQuery}
+
+-- where a reading from the left stands: outside of quotes, between them, or behind a `\` between them
+pub data Place : Type 0 where
+  outside : Place
+  quoted : Place
+  escaped : Place
+
+-- whether the parentheses outside of quotes nest over 32 deep, where so many are open before
+unfoldable pub is_too_deep : Place → ℕ → List ℕ → Bool
+is_too_deep place depth [] = false
+is_too_deep outside depth (c ∷ cs) =
+    if c == 34 then is_too_deep quoted depth cs
+    else (if c == 40 then (if nat_lt 31 depth then true else is_too_deep outside (depth + 1) cs)
+    else (if c == 41 then is_too_deep outside (depth - 1) cs
+    else is_too_deep outside depth cs))
+is_too_deep quoted depth (c ∷ cs) =
+    if c == 34 then is_too_deep outside depth cs
+    else (if c == 92 then is_too_deep escaped depth cs
+    else is_too_deep quoted depth cs)
+is_too_deep escaped depth (c ∷ cs) = is_too_deep quoted depth cs
+
+-- neither too long nor too deep
+pub record IsFit (text : List ℕ) : Type 0 where
+  pub short : length text ≤ 4096
+  pub shallow : is_too_deep outside 0 (chars text) ≡ false
+
+-- a text of white space alone is the query for no document
+abbrev pub IsNothing : List ℕ → QueryValue → Type 0
+IsNothing text query = IsBlank (chars text) × (query ≡ nothing)
+
+-- what the bytes of a text read as under a schema: the checks in their order, then the grammar and what it means
+abbrev pub Reads : List Field → List ℕ → Result QueryValue Refusal → Type 0
+Reads schema text (Ok query) = IsFit text × (IsNothing text query ⊎ IsQuery schema (chars text) (Ok query))
+Reads schema text (Err TooLong) = 4096 < length text
+Reads schema text (Err TooDeep) = (length text ≤ 4096) × (is_too_deep outside 0 (chars text) ≡ true)
+Reads schema text (Err (Syntax byte)) = IsFit text × (IsBlank (chars text) → ⊥) × ((m : Meaning) → IsQuery schema (chars text) m → ⊥)
+Reads schema text (Err UnknownField) = IsFit text × IsQuery schema (chars text) (Err faults.UnknownField)
+Reads schema text (Err BadNumber) = IsFit text × IsQuery schema (chars text) (Err faults.BadNumber)
+Reads schema text (Err RangeOnText) = IsFit text × IsQuery schema (chars text) (Err faults.RangeOnText)
+Reads schema text (Err NoDefaultField) = IsFit text × IsQuery schema (chars text) (Err faults.NoDefaultField)
+Reads schema text (Err AllNegative) = IsFit text × IsQuery schema (chars text) (Err faults.AllNegative)
+Reads schema text (Err refusal) = ⊥
+
+-- the byte that a refusal names, or 0
+abbrev pub byte_of : Refusal → ℕ
+byte_of (Syntax byte) = byte
+byte_of refusal = 0
+
+-- an outcome, the byte of a fault of syntax aside
+abbrev pub without_byte : Result QueryValue Refusal → Result QueryValue Refusal
+without_byte (Err (Syntax byte)) = Err (Syntax 0)
+without_byte outcome = outcome

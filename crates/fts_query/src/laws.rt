@@ -1,0 +1,11 @@
+//! What ties the definitions to each other: each contract is a law, and the body is empty.
+ghost use Rattle.std.specs.Prelude.{◌≡◌, ℕ, List, Result};
+ghost use Rattle.fts_model.specs.declared.schema.Field.{Field};
+ghost use Rattle.fts_model.specs.declared.refusal.Refusal.{Refusal};
+ghost use Rattle.fts_query.specs.QueryValues.{QueryValue};
+ghost use Rattle.fts_query.specs.Outcomes.{Reads, without_byte};
+
+/// A text reads as one query or one refusal, the byte of a fault of syntax aside.
+pub fn a_text_reads_as_one_thing()
+    ensures { (schema : List Field) (text : List ℕ) (x y : Result QueryValue Refusal) → Reads schema text x → Reads schema text y → without_byte x ≡ without_byte y }
+{}
