@@ -3,3 +3,4 @@ pub mod CharLemmas
 pub mod Sound
 pub mod Complete
 pub mod Law
+pub mod StepLemmas

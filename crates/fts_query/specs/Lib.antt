@@ -4,3 +4,4 @@ pub mod Grammar
 pub mod Outcomes
 pub mod Reading
 pub mod Answers
+pub mod Steps

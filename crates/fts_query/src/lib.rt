@@ -2,4 +2,6 @@
 #![tactic(auto)]
 
 mod fault;
+mod input;
 pub mod laws;
+mod stop;

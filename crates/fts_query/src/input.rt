@@ -1,0 +1,255 @@
+// What is left of a text, and what stands at its front: white space, words and operators.
+ghost use Rattle.std.specs.Prelude.{◌≡◌, ◌≤◌, ◌∷◌, ◌++◌, [], length, MatchOption, IfOk, string_bytes, false};
+ghost use Rattle.std.specs.Char.{encode_utf8};
+ghost use Rattle.std.specs.Str.{chars};
+ghost use Rattle.fts_model.specs.Schemas.{is_reserved as name_is_reserved};
+ghost use Rattle.fts_query.specs.Grammar.{is_space as is_white, is_special as is_of_language, is_word_char as is_of_word};
+ghost use Rattle.fts_query.specs.Reading.{skip, past, word, quoted_of};
+ghost use Rattle.fts_query.specs.Steps.{Finds};
+
+use crate::stop::Stop;
+use std::alloc::Global;
+use std::marker::Model;
+
+/// The most bytes of a query.
+pub(crate) const LONGEST: usize = 4096;
+
+fn is_space(c: char) -> bool
+    ensures { result ≡ is_white c }
+{
+    matches!(c, ' ' | '\t' | '\r' | '\n')
+}
+
+fn is_special(c: char) -> bool
+    ensures { result ≡ is_of_language c }
+{
+    matches!(
+        c,
+        '(' | ')' | '"' | ':' | '[' | ']' | '{' | '}' | '<' | '>' | '^' | '~' | '*' | '\\'
+    )
+}
+
+#[tactic(auto, unfolding(crate::specs::Grammar::is_word_char))]
+pub(crate) fn is_word_char(c: char) -> bool
+    ensures { result ≡ is_of_word c }
+{
+    !(is_space(c) || is_special(c))
+}
+
+/// Whether a word is `AND`, `OR` or `NOT`.
+pub(crate) fn is_reserved(word: &str) -> bool
+    ensures { result ≡ name_is_reserved word.now }
+{
+    word == "AND" || word == "OR" || word == "NOT"
+}
+
+/// The first character, and what follows it.
+pub(crate) fn split_first(text: &str) -> Option<(char, &str)>
+    ensures chars { MatchOption result (chars text.now ≡ []) (λ x. chars text.now ≡ x.0 ∷ chars x.1.now) }
+    ensures bytes { MatchOption result (length text.now ≡ 0) (λ x. text.now ≡ encode_utf8 x.0 ++ x.1.now) }
+    ensures short { MatchOption result (length text.now ≡ 0) (λ x. length x.1.now ≤ length text.now) }
+{
+    let mut rest = text.chars();
+    let first = rest.next()?;
+    Some((first, rest.as_str()))
+}
+
+/// What follows the white space at the front.
+#[tactic(auto, unfolding(crate::specs::Reading::skip))]
+fn behind_space(text: &str) -> &str
+    ensures chars { chars result.now ≡ skip (chars text.now) }
+    ensures short { length result.now ≤ length text.now }
+{
+    let mut rest = text;
+    while let Some((c, tail)) = split_first(rest) {
+        if !is_space(c) {
+            break;
+        }
+        rest = tail;
+    }
+    rest
+}
+
+/// What follows the word at the front.
+#[tactic(auto, unfolding(crate::specs::Reading::past))]
+fn behind_word(text: &str) -> &str
+    ensures chars { chars result.now ≡ past (chars text.now) }
+    ensures short { length result.now ≤ length text.now }
+{
+    let mut rest = text;
+    while let Some((c, tail)) = split_first(rest) {
+        if !is_word_char(c) {
+            break;
+        }
+        rest = tail;
+    }
+    rest
+}
+
+/// The word at the front, which may be empty, and what follows it.
+fn split_word(text: &str) -> (&str, &str)
+    ensures word { result.0.now ≡ word (chars text.now) }
+    ensures rest { chars result.1.now ≡ past (chars text.now) }
+    ensures word_short { length result.0.now ≤ length text.now }
+    ensures rest_short { length result.1.now ≤ length text.now }
+{
+    let rest = behind_word(text);
+    text.split_at(text.len() - rest.len())
+}
+
+/// What a quotation says, behind its opening quote, and what follows it. It is refused at the byte from which on nothing
+/// closes it, or at a `\\` before another character than `"` and `\\`.
+#[tactic(auto, using(crate::proofs::StepLemmas::front_more), unfolding(crate::specs::Reading::said, crate::specs::Reading::quoted_of))]
+fn quoted(alloc: Global, text: &str) -> Result<(String, &str), Stop>
+    ensures said { Finds (λ x. (string_bytes x.0, chars x.1.now)) result (quoted_of (chars text.now)) }
+    ensures said_short { IfOk result (λ x. length (string_bytes x.0) ≤ length text.now) }
+    ensures rest_short { IfOk result (λ x. length x.1.now ≤ length text.now) }
+{
+    let mut said = String::new(alloc);
+    let mut escaped = false;
+    let mut rest = text;
+    while let Some((c, tail)) = split_first(rest) {
+        if escaped {
+            if c != '"' && c != '\\' {
+                return Err(Stop::Syntax(rest.len()));
+            }
+            said.push(c)?;
+            escaped = false;
+        } else if c == '"' {
+            return Ok((said, tail));
+        } else if c == '\\' {
+            escaped = true;
+        } else {
+            said.push(c)?;
+        }
+        rest = tail;
+    }
+    Err(Stop::Syntax(0))
+}
+
+/// What is left of a query to read. Contracts see its characters.
+#[derive(Drop)]
+pub(crate) struct Input<'a> {
+    rest: &'a str,
+}
+
+impl<'a> Model for Input<'a> {
+    ghost use Rattle.std.specs.Prelude.{List, ℕ, ◌≤◌, length};
+    ghost use Rattle.std.specs.Str.{chars};
+
+    ghost Value = { List ℕ };
+
+    ghost view = { λ i. chars i.rest.now };
+
+    ghost invariant = { λ i. length i.rest.now ≤ 4096 };
+}
+
+impl<'a> Input<'a> {
+    ghost use Rattle.std.specs.Prelude.{◌≡◌, ◌≤◌, ◌∷◌, [], ℕ, List, length, option_map, MatchOption, IfOk, string_bytes};
+    ghost use Rattle.std.specs.Str.{chars};
+    ghost use Rattle.fts_query.specs.Reading.{skip, past, word, quoted_of, begins_space as does_begin_space, closes as does_close, space_at, operator_at};
+    ghost use Rattle.fts_query.specs.Steps.{Finds};
+
+    /// All of a text.
+    pub(crate) fn new(text: &'a str) -> Input<'a>
+        requires { length text.now ≤ 4096 }
+        ensures { result ≡ chars text.entry.now }
+    {
+        Input { rest: text }
+    }
+
+    /// How many bytes are left.
+    pub(crate) fn len(&self) -> usize {
+        self.rest.len()
+    }
+
+    /// The first character, and what follows it.
+    pub(crate) fn split_first(self) -> Option<(char, Input<'a>)>
+        ensures { MatchOption result (self.entry ≡ []) (λ x. self.entry ≡ x.0 ∷ x.1) }
+    {
+        let (first, rest) = split_first(self.rest)?;
+        Some((first, Input { rest }))
+    }
+
+    /// The first character.
+    pub(crate) fn first(&self) -> Option<char>
+        ensures { MatchOption result (self.now ≡ []) (λ c. (s : List ℕ) × (self.now ≡ c ∷ s)) }
+    {
+        let (first, _) = split_first(self.rest)?;
+        Some(first)
+    }
+
+    /// What follows the white space at the front.
+    pub(crate) fn behind_space(self) -> Input<'a>
+        ensures { result ≡ skip self.entry }
+    {
+        Input {
+            rest: behind_space(self.rest),
+        }
+    }
+
+    /// The word at the front, which may be empty, and what follows it.
+    pub(crate) fn split_word(self) -> (&'a str, Input<'a>)
+        ensures word { result.0.now ≡ word self.entry }
+        ensures short { length result.0.now ≤ 4096 }
+        ensures rest { result.1 ≡ past self.entry }
+    {
+        let (word, rest) = split_word(self.rest);
+        (word, Input { rest })
+    }
+
+    /// What a quotation says, behind its opening quote, and what follows it.
+    pub(crate) fn quoted(self, alloc: Global) -> Result<(String, Input<'a>), Stop>
+        ensures said { Finds (λ x. (string_bytes x.0, x.1)) result (quoted_of self.entry) }
+        ensures short { IfOk result (λ x. length (string_bytes x.0) ≤ 4096) }
+    {
+        let (said, rest) = quoted(alloc, self.rest)?;
+        Ok((said, Input { rest }))
+    }
+
+    /// Whether white space stands at the front.
+    pub(crate) fn begins_space(&self) -> bool
+        ensures { result ≡ does_begin_space self.now }
+    {
+        match self.first() {
+            None => false,
+            Some(c) => is_space(c),
+        }
+    }
+
+    /// Whether a list ends here: at the end, or at a `)`.
+    fn closes(&self) -> bool
+        ensures { result ≡ does_close self.now }
+    {
+        match self.first() {
+            None => true,
+            Some(c) => c == ')',
+        }
+    }
+
+    /// What follows the white space between two chains, if there is another.
+    #[tactic(auto, unfolding(crate::specs::Reading::space_at))]
+    pub(crate) fn behind_separator(&self) -> Option<Input<'a>>
+        ensures { option_map (λ x. x) result ≡ space_at self.now }
+    {
+        let rest = Input { rest: self.rest }.behind_space();
+        if self.begins_space() && !rest.closes() {
+            Some(rest)
+        } else {
+            None
+        }
+    }
+
+    /// What follows a word that stands between white space.
+    #[tactic(auto, unfolding(crate::specs::Reading::operator_at))]
+    pub(crate) fn behind_operator(&self, name: &str) -> Option<Input<'a>>
+        ensures { option_map (λ x. x) result ≡ operator_at name.now self.now }
+    {
+        let (word, rest) = Input { rest: self.rest }.behind_space().split_word();
+        if self.begins_space() && word == name && rest.begins_space() {
+            Some(rest.behind_space())
+        } else {
+            None
+        }
+    }
+}
