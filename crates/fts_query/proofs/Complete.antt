@@ -12,8 +12,10 @@ use Rattle.std.proofs.lemmas.Slice.Eq.{bytes_eq-Decides}
 use lib.Utf8.{encode}
 use Rattle.fts_model.specs.declared.schema.Field.{Field}
 use Rattle.fts_model.specs.Schemas.{is_reserved}
+use Rattle.fts_query.specs.declared.clauses.Sign.{Sign}
+use Rattle.fts_query.specs.declared.clauses.Sign.TheVariants.{Plain, Plus, Minus}
 use Rattle.fts_query.specs.QueryValues.{every}
-use Rattle.fts_query.specs.Meanings.{Meaning, Factor, Sign, plain, plus, minus, Value, literal, between, list_meaning, literal_anywhere, field_meaning}
+use Rattle.fts_query.specs.Meanings.{Meaning, Factor, Value, literal, between, list_meaning, literal_anywhere, field_meaning}
 use Rattle.fts_query.specs.Grammar
 use Rattle.fts_query.specs.Grammar.{is_space, is_word_char, is_bare, IsWord, IsBound, bound, IsValue, Opens, Closes, begins_equals, IsBlank, IsSpace, IsBare, IsOperator, IsUnit, IsFactor, IsConjunction, IsChain, IsList, IsQuery, quotation}
 use Rattle.fts_query.specs.Reading.{Parser, skip, run, past, word, begins_space, closes, space_at, operator_at, onto, bind, go_on, seq_by, signed, negated_of, factor_of, conjunction_of, chain_of, list_of, close, said, quoted_of, word_of, bound_of, range_end, range_of, compared_of, above_of, below_of, said_of, plain_of, value_of, behind_bare, is_sign, bare_of, quote_of, group_of, unit_by, unit_of, ended, query_of}
@@ -251,7 +253,7 @@ not_word : list_all is_word_char (codes "NOT") ≡ true
 unfolding is_word_char
 not_word = refl
 
-plain_again : (unit : Parser Meaning) (s r : List ℕ) (m : Meaning) → BeginsUnit (s ++ r) → unit (s ++ r) ≡ Some (m, r) → factor_of unit (s ++ r) ≡ Some ((plain, m), r)
+plain_again : (unit : Parser Meaning) (s r : List ℕ) (m : Meaning) → BeginsUnit (s ++ r) → unit (s ++ r) ≡ Some (m, r) → factor_of unit (s ++ r) ≡ Some ((Plain, m), r)
 unfolding factor_of
 plain_again unit s r m b e =
     let c = b.head in
@@ -263,7 +265,7 @@ plain_again unit s r m b e =
     let k4 : unit (c ∷ t) ≡ Some (m, r) = ap unit (sym h) ∙ e in
     rw (h, k1, k2, k3, k4) refl
 
-negated_again : (unit : Parser Meaning) (w s r : List ℕ) (m : Meaning) → IsSpace w → opens (s ++ r) ≡ true → unit (s ++ r) ≡ Some (m, r) → factor_of unit (((codes "NOT") ++ (w ++ s)) ++ r) ≡ Some ((minus, m), r)
+negated_again : (unit : Parser Meaning) (w s r : List ℕ) (m : Meaning) → IsSpace w → opens (s ++ r) ≡ true → unit (s ++ r) ≡ Some (m, r) → factor_of unit (((codes "NOT") ++ (w ++ s)) ++ r) ≡ Some ((Minus, m), r)
 unfolding factor_of negated_of encode
 negated_again unit w s r m h o e =
     let q = w ++ (s ++ r) in
@@ -482,11 +484,11 @@ list_whole : (unit : Parser Meaning) (s : List ℕ) (y : Option (List (List (Lis
 unfolding list_of
 list_whole unit s y e = e
 
-plus_again : (unit : Parser Meaning) (s r : List ℕ) (m : Meaning) → unit (s ++ r) ≡ Some (m, r) → factor_of unit ((43 ∷ s) ++ r) ≡ Some ((plus, m), r)
+plus_again : (unit : Parser Meaning) (s r : List ℕ) (m : Meaning) → unit (s ++ r) ≡ Some (m, r) → factor_of unit ((43 ∷ s) ++ r) ≡ Some ((Plus, m), r)
 unfolding factor_of
 plus_again unit s r m e = rw e refl
 
-minus_again : (unit : Parser Meaning) (s r : List ℕ) (m : Meaning) → unit (s ++ r) ≡ Some (m, r) → factor_of unit ((45 ∷ s) ++ r) ≡ Some ((minus, m), r)
+minus_again : (unit : Parser Meaning) (s r : List ℕ) (m : Meaning) → unit (s ++ r) ≡ Some (m, r) → factor_of unit ((45 ∷ s) ++ r) ≡ Some ((Minus, m), r)
 unfolding factor_of
 minus_again unit s r m e = rw e refl
 

@@ -8,10 +8,11 @@ use Rattle.fts_model.specs.declared.refusal.Refusal.{Refusal}
 use Rattle.fts_model.specs.declared.refusal.Refusal.TheVariants.{TooLong, Syntax, TooDeep, UnknownField, BadNumber, RangeOnText, NoDefaultField, AllNegative}
 use Rattle.fts_query.specs.declared.fault.Fault.{Fault}
 use Rattle.fts_query.specs.declared.fault.Fault.TheVariants as faults
+use Rattle.fts_query.specs.declared.nesting.Place.TheVariants.{Outside}
 use Rattle.fts_query.specs.QueryValues.{QueryValue, nothing}
 use Rattle.fts_query.specs.Meanings.{Meaning}
 use Rattle.fts_query.specs.Grammar.{is_space, IsBlank, IsQuery}
-use Rattle.fts_query.specs.Outcomes.{outside, is_too_deep, IsFit, Reads, without_byte}
+use Rattle.fts_query.specs.Outcomes.{is_too_deep, IsFit, Reads, without_byte}
 use Rattle.fts_query.specs.Reading.{query_of}
 use Rattle.fts_query.specs.Answers.{refusal_of, outcome_of, answer_from, answer}
 use Rattle.fts_query.proofs.Sound.{query_sound}
@@ -23,7 +24,7 @@ module _ (schema : List Field) (text : List ℕ) where
   unfolding answer
   answer_fit f b =
       let a : ltb 4096 (length text) ≡ false = le-ltb _ _ f.short in
-      let d : is_too_deep outside 0 (chars text) ≡ false = f.shallow in
+      let d : is_too_deep Outside 0 (chars text) ≡ false = f.shallow in
       let c : list_all is_space (chars text) ≡ false = false_from_ne_true _ b in
       rw (a, d, c) refl
 
@@ -43,7 +44,7 @@ module _ (schema : List Field) (text : List ℕ) where
   reads_answer (Err TooLong) h = let a : ltb 4096 (length text) ≡ true = lt-ltb _ _ h in rw a refl
   reads_answer (Err TooDeep) h =
       let a : ltb 4096 (length text) ≡ false = le-ltb _ _ h.0 in
-      let d : is_too_deep outside 0 (chars text) ≡ true = h.1 in
+      let d : is_too_deep Outside 0 (chars text) ≡ true = h.1 in
       rw (a, d) refl
   reads_answer (Err (Syntax byte)) h = sym (answer_fit h.0 h.1 ∙ none_from _ refl h.2)
   reads_answer (Err UnknownField) h = sym (answer_query (Err faults.UnknownField) h.0 h.1)
@@ -54,7 +55,7 @@ module _ (schema : List Field) (text : List ℕ) where
   reads_answer (Ok q) (f, inr h) = sym (answer_query (Ok q) f h)
   reads_answer (Ok q) (f, inl h) =
       let a : ltb 4096 (length text) ≡ false = le-ltb _ _ f.short in
-      let d : is_too_deep outside 0 (chars text) ≡ false = f.shallow in
+      let d : is_too_deep Outside 0 (chars text) ≡ false = f.shallow in
       let c : list_all is_space (chars text) ≡ true = h.0 in
       let e : q ≡ nothing = h.1 in
       rw (a, d, c) (ap (λ (x : QueryValue). Ok x) e)
@@ -75,7 +76,7 @@ module _ (schema : List Field) (text : List ℕ) where
   answer_reads =
       elim (cases_Bool (ltb 4096 (length text))) [
         | inl a ↦ rw a (ltb-true _ _ a)
-        | inr a ↦ elim (cases_Bool (is_too_deep outside 0 (chars text))) [
+        | inr a ↦ elim (cases_Bool (is_too_deep Outside 0 (chars text))) [
           | inl d ↦ rw (a, d) (ltb-false _ _ a, d)
           | inr d ↦
               let f : IsFit text = record { short = ltb-false _ _ a; shallow = d } in

@@ -4,3 +4,4 @@ pub mod Sound
 pub mod Complete
 pub mod Law
 pub mod StepLemmas
+pub mod NumberLemmas

@@ -9,8 +9,10 @@ use Rattle.std.specs.declared.ops.Bound.{Bound}
 use Rattle.std.specs.declared.ops.Bound.TheVariants.{Included, Excluded, Unbounded}
 use Rattle.fts_model.specs.declared.schema.Field.{Field}
 use Rattle.fts_model.specs.Schemas.{is_reserved}
+use Rattle.fts_query.specs.declared.clauses.Sign.{Sign}
+use Rattle.fts_query.specs.declared.clauses.Sign.TheVariants.{Plain, Plus, Minus}
 use Rattle.fts_query.specs.QueryValues.{every}
-use Rattle.fts_query.specs.Meanings.{Meaning, Factor, Sign, plain, plus, minus, Value, literal, between, list_meaning, literal_anywhere, field_meaning}
+use Rattle.fts_query.specs.Meanings.{Meaning, Factor, Value, literal, between, list_meaning, literal_anywhere, field_meaning}
 use Rattle.fts_query.specs.Grammar
 use Rattle.fts_query.specs.Grammar.{is_word_char, is_bare, IsBare, IsWord, IsBound, bound, IsValue, Opens, Closes, begins_equals, IsBlank, IsSpace, IsOperator, IsUnit, IsFactor, IsConjunction, IsChain, IsList, IsQuery, quotation}
 use Rattle.fts_query.specs.Reading.{Parser, skip, run, past, word, begins_space, closes, space_at, operator_at, onto, bind, go_on, seq_by, signed, negated_of, factor_of, conjunction_of, chain_of, list_of, close, said, in_bytes, quoted_of, word_of, bound_of, range_end, range_of, compared_of, above_of, below_of, said_of, plain_of, value_of, behind_bare, is_sign, bare_of, quote_of, group_of, unit_by, unit_of, ended, query_of}
@@ -90,10 +92,10 @@ module _ (schema : List Field) (unit : Parser Meaning) (unit_sound : Sound (IsUn
   negated_sound : (s t : List ℕ) (y : Factor × List ℕ) → s ≡ (codes "NOT") ++ t → negated_of unit t ≡ Some y → Front (IsFactor schema) s y
   unfolding negated_of
   negated_sound s t y e h =
-      let c = chosen (begins_space t) (signed minus (unit (skip t))) None (Some y) h in
+      let c = chosen (begins_space t) (signed Minus (unit (skip t))) None (Some y) h in
       elim c [
         | inl p ↦
-            let q = signed_some minus (unit (skip t)) y p.1 in
+            let q = signed_some Minus (unit (skip t)) y p.1 in
             let w = space_parts t p.0 in
             let f = unit_sound (skip t) q.0 q.1 in
             let parts : s ≡ ((codes "NOT") ++ (w.0 ++ f.0)) ++ q.0.1 = e ∙ ap (λ (x : List ℕ). (codes "NOT") ++ x) (w.2 ∙ ap (λ (x : List ℕ). w.0 ++ x) f.2 ∙ sym (append_assoc w.0 f.0 q.0.1)) in
@@ -108,14 +110,14 @@ module _ (schema : List Field) (unit : Parser Meaning) (unit_sound : Sound (IsUn
       elim (chosen (c == 43) _ _ _ e) [
         | inl p ↦
             let k : c ≡ 43 = eqb-true c 43 p.0 in
-            let q = signed_some plus (unit s) y p.1 in
+            let q = signed_some Plus (unit s) y p.1 in
             let f = unit_sound s q.0 q.1 in
             let parts : c ∷ s ≡ (43 ∷ f.0) ++ q.0.1 = rw k (ap (λ (x : List ℕ). 43 ∷ x) f.2) in
             subst (λ (p : Factor × List ℕ). Front (IsFactor schema) (c ∷ s) p) q.2 (43 ∷ f.0, Grammar.marked_plus f.1, parts)
         | inr n ↦ elim (chosen (c == 45) _ _ _ n.1) [
           | inl p ↦
               let k : c ≡ 45 = eqb-true c 45 p.0 in
-              let q = signed_some minus (unit s) y p.1 in
+              let q = signed_some Minus (unit s) y p.1 in
               let f = unit_sound s q.0 q.1 in
               let parts : c ∷ s ≡ (45 ∷ f.0) ++ q.0.1 = rw k (ap (λ (x : List ℕ). 45 ∷ x) f.2) in
               subst (λ (p : Factor × List ℕ). Front (IsFactor schema) (c ∷ s) p) q.2 (45 ∷ f.0, Grammar.marked_minus f.1, parts)
@@ -125,7 +127,7 @@ module _ (schema : List Field) (unit : Parser Meaning) (unit_sound : Sound (IsUn
                 let parts : c ∷ s ≡ (codes "NOT") ++ past (c ∷ s) = (run_parts (c ∷ s)).0 ∙ ap (λ (x : List ℕ). x ++ past (c ∷ s)) is-not in
                 negated_sound (c ∷ s) (past (c ∷ s)) y parts p.1
             | inr p ↦
-                let q = signed_some plain (unit (c ∷ s)) y p.1 in
+                let q = signed_some Plain (unit (c ∷ s)) y p.1 in
                 let f = unit_sound (c ∷ s) q.0 q.1 in
                 subst (λ (p : Factor × List ℕ). Front (IsFactor schema) (c ∷ s) p) q.2 (f.0, Grammar.alone f.1, f.2)
           ]

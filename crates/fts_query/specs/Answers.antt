@@ -7,10 +7,11 @@ use Rattle.fts_model.specs.declared.refusal.Refusal.{Refusal}
 use Rattle.fts_model.specs.declared.refusal.Refusal.TheVariants.{TooLong, Syntax, TooDeep, UnknownField, BadNumber, RangeOnText, NoDefaultField, AllNegative}
 use Rattle.fts_query.specs.declared.fault.Fault.{Fault}
 use Rattle.fts_query.specs.declared.fault.Fault.TheVariants as faults
+use Rattle.fts_query.specs.declared.nesting.Place.TheVariants.{Outside}
 use Rattle.fts_query.specs.QueryValues.{QueryValue, nothing}
 use Rattle.fts_query.specs.Meanings.{Meaning}
 use Rattle.fts_query.specs.Grammar.{is_space}
-use Rattle.fts_query.specs.Outcomes.{outside, is_too_deep}
+use Rattle.fts_query.specs.Outcomes.{is_too_deep}
 use Rattle.fts_query.specs.Reading.{query_of}
 
 -- the refusal that a fault is
@@ -32,6 +33,6 @@ answer_from (Some m) = outcome_of m
 unfoldable pub answer : List Field → List ℕ → Result QueryValue Refusal
 answer schema text =
     if nat_lt 4096 (length text) then Err TooLong
-    else (if is_too_deep outside 0 (chars text) then Err TooDeep
+    else (if is_too_deep Outside 0 (chars text) then Err TooDeep
     else (if list_all is_space (chars text) then Ok nothing
     else answer_from (query_of schema 4096 (chars text))))

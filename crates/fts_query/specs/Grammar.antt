@@ -6,8 +6,10 @@ use Rattle.std.specs.declared.ops.Bound.{Bound}
 use Rattle.std.specs.declared.ops.Bound.TheVariants.{Included, Excluded, Unbounded}
 use Rattle.fts_model.specs.declared.schema.Field.{Field}
 use Rattle.fts_model.specs.Schemas.{is_reserved}
+use Rattle.fts_query.specs.declared.clauses.Sign.{Sign}
+use Rattle.fts_query.specs.declared.clauses.Sign.TheVariants.{Plain, Plus, Minus}
 use Rattle.fts_query.specs.QueryValues.{every}
-use Rattle.fts_query.specs.Meanings.{Meaning, Factor, Sign, plain, plus, minus, Value, literal, between, list_meaning, literal_anywhere, field_meaning}
+use Rattle.fts_query.specs.Meanings.{Meaning, Factor, Value, literal, between, list_meaning, literal_anywhere, field_meaning}
 
 -- a space, a tab, a CR or an LF
 abbrev pub is_space : ℕ → Bool
@@ -97,10 +99,10 @@ mutual
 
   -- a unit behind nothing, `+`, `-` or `NOT`
   pub data IsFactor (schema : List Field) : List ℕ → Factor → Type 0 where
-    alone : {s : List ℕ} {m : Meaning} → IsUnit schema s m → IsFactor schema s (plain, m)
-    marked_plus : {s : List ℕ} {m : Meaning} → IsUnit schema s m → IsFactor schema (43 ∷ s) (plus, m)
-    marked_minus : {s : List ℕ} {m : Meaning} → IsUnit schema s m → IsFactor schema (45 ∷ s) (minus, m)
-    negated : (w s : List ℕ) {m : Meaning} → IsSpace w → IsUnit schema s m → IsFactor schema (codes "NOT" ++ (w ++ s)) (minus, m)
+    alone : {s : List ℕ} {m : Meaning} → IsUnit schema s m → IsFactor schema s (Plain, m)
+    marked_plus : {s : List ℕ} {m : Meaning} → IsUnit schema s m → IsFactor schema (43 ∷ s) (Plus, m)
+    marked_minus : {s : List ℕ} {m : Meaning} → IsUnit schema s m → IsFactor schema (45 ∷ s) (Minus, m)
+    negated : (w s : List ℕ) {m : Meaning} → IsSpace w → IsUnit schema s m → IsFactor schema (codes "NOT" ++ (w ++ s)) (Minus, m)
 
   -- factors with `AND` between them
   pub data IsConjunction (schema : List Field) : List ℕ → List Factor → Type 0 where

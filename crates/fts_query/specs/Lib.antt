@@ -5,3 +5,4 @@ pub mod Outcomes
 pub mod Reading
 pub mod Answers
 pub mod Steps
+pub mod Gathering

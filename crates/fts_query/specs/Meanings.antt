@@ -17,24 +17,17 @@ use Rattle.fts_model.specs.Schemas.{field_named, holds_numbers}
 use Rattle.fts_model.specs.Operations.{kind_at}
 use Rattle.fts_query.specs.declared.fault.Fault.{Fault}
 use Rattle.fts_query.specs.declared.fault.Fault.TheVariants.{UnknownField, BadNumber, RangeOnText, NoDefaultField, AllNegative}
+use Rattle.fts_query.specs.declared.clauses.Role.{Role}
+use Rattle.fts_query.specs.declared.clauses.Role.TheVariants.{Must, MustNot, Should}
+use Rattle.fts_query.specs.declared.clauses.Sign.{Sign}
+use Rattle.fts_query.specs.declared.clauses.Sign.TheVariants.{Plain, Plus, Minus}
 use Rattle.fts_query.specs.QueryValues.{QueryValue, every, nothing, term, phrase, range, boolean, query_list}
 
 -- what a part of a text means: a query, or the first fault in it
 abbrev pub Meaning : Type 0
 Meaning = Result QueryValue Fault
 
--- what stands before a unit: nothing, `+`, or `-` or `NOT`
-pub data Sign : Type 0 where
-  plain : Sign
-  plus : Sign
-  minus : Sign
-
--- what a member of a Boolean node is to it
-pub data Role : Type 0 where
-  must : Role
-  must_not : Role
-  should : Role
-
+-- a member of a Boolean node: what it is to the node, and what it means
 abbrev pub Clause : Type 0
 Clause = Role × Meaning
 
@@ -45,21 +38,21 @@ members (c ∷ cs) = result_and_then (λ q. result_map (λ qs. (c.0, q) ∷ qs) 
 
 abbrev pub musts : List (Role × QueryValue) → List QueryValue
 musts [] = []
-musts ((must, q) ∷ cs) = q ∷ musts cs
-musts ((must_not, q) ∷ cs) = musts cs
-musts ((should, q) ∷ cs) = musts cs
+musts ((Must, q) ∷ cs) = q ∷ musts cs
+musts ((MustNot, q) ∷ cs) = musts cs
+musts ((Should, q) ∷ cs) = musts cs
 
 abbrev pub must_nots : List (Role × QueryValue) → List QueryValue
 must_nots [] = []
-must_nots ((must, q) ∷ cs) = must_nots cs
-must_nots ((must_not, q) ∷ cs) = q ∷ must_nots cs
-must_nots ((should, q) ∷ cs) = must_nots cs
+must_nots ((Must, q) ∷ cs) = must_nots cs
+must_nots ((MustNot, q) ∷ cs) = q ∷ must_nots cs
+must_nots ((Should, q) ∷ cs) = must_nots cs
 
 abbrev pub shoulds : List (Role × QueryValue) → List QueryValue
 shoulds [] = []
-shoulds ((must, q) ∷ cs) = shoulds cs
-shoulds ((must_not, q) ∷ cs) = shoulds cs
-shoulds ((should, q) ∷ cs) = q ∷ shoulds cs
+shoulds ((Must, q) ∷ cs) = shoulds cs
+shoulds ((MustNot, q) ∷ cs) = shoulds cs
+shoulds ((Should, q) ∷ cs) = q ∷ shoulds cs
 
 -- must-nots alone are a fault
 abbrev pub boolean_of : List QueryValue → List QueryValue → List QueryValue → Meaning
@@ -71,19 +64,19 @@ boolean_of (q ∷ ms) ns ss = Ok (boolean (query_list (q ∷ ms)) (query_list ns
 unfoldable pub node : List Clause → Meaning
 node cs = result_and_then (λ qs. boolean_of (musts qs) (must_nots qs) (shoulds qs)) (members cs)
 
--- a unit behind a sign
+-- a unit, and what stands before it
 abbrev pub Factor : Type 0
 Factor = Sign × Meaning
 
 abbrev pub role_in_conjunction : Sign → Role
-role_in_conjunction plain = must
-role_in_conjunction plus = must
-role_in_conjunction minus = must_not
+role_in_conjunction Plain = Must
+role_in_conjunction Plus = Must
+role_in_conjunction Minus = MustNot
 
 abbrev pub role_alone : Sign → Role
-role_alone plain = should
-role_alone plus = must
-role_alone minus = must_not
+role_alone Plain = Should
+role_alone Plus = Must
+role_alone Minus = MustNot
 
 -- factors with AND between them
 abbrev pub conjunction : List Factor → Meaning
@@ -91,15 +84,15 @@ conjunction fs = node (map (λ f. (role_in_conjunction f.0, f.1)) fs)
 
 -- conjunctions with OR between them: a should for each
 abbrev pub disjunction : List (List Factor) → Meaning
-disjunction fss = node (map (λ fs. (should, conjunction fs)) fss)
+disjunction fss = node (map (λ fs. (Should, conjunction fs)) fss)
 
 -- what a chain is to its list: a factor alone goes by its sign, and every longer chain is a should
 unfoldable pub chain_clause : List (List Factor) → Clause
-chain_clause [] = (should, disjunction [])
-chain_clause ([] ∷ []) = (should, conjunction [])
+chain_clause [] = (Should, disjunction [])
+chain_clause ([] ∷ []) = (Should, conjunction [])
 chain_clause ((f ∷ []) ∷ []) = (role_alone f.0, f.1)
-chain_clause ((f ∷ g ∷ fs) ∷ []) = (should, conjunction (f ∷ g ∷ fs))
-chain_clause (c ∷ d ∷ cs) = (should, disjunction (c ∷ d ∷ cs))
+chain_clause ((f ∷ g ∷ fs) ∷ []) = (Should, conjunction (f ∷ g ∷ fs))
+chain_clause (c ∷ d ∷ cs) = (Should, disjunction (c ∷ d ∷ cs))
 
 -- chains with white space between them
 unfoldable pub list_meaning : List (List (List Factor)) → Meaning
@@ -163,7 +156,7 @@ literal_in field kinds.I64 said = result_map (with_value field) (value_in kinds.
 abbrev pub default_clauses : ℕ → List Field → List ℕ → List Clause
 default_clauses i [] said = []
 default_clauses i (field ∷ fields) said =
-    if field.default then (should, literal_in i field.kind said) ∷ default_clauses (i + 1) fields said
+    if field.default then (Should, literal_in i field.kind said) ∷ default_clauses (i + 1) fields said
     else default_clauses (i + 1) fields said
 
 -- a node of the default fields, if there is one

@@ -6,34 +6,30 @@ use Rattle.fts_model.specs.declared.refusal.Refusal.{Refusal}
 use Rattle.fts_model.specs.declared.refusal.Refusal.TheVariants.{TooLong, Syntax, TooDeep, UnknownField, BadNumber, RangeOnText, NoDefaultField, AllNegative}
 use Rattle.fts_query.specs.declared.fault.Fault.{Fault}
 use Rattle.fts_query.specs.declared.fault.Fault.TheVariants as faults
+use Rattle.fts_query.specs.declared.nesting.Place.{Place}
+use Rattle.fts_query.specs.declared.nesting.Place.TheVariants.{Outside, Quoted, Escaped}
 use Rattle.fts_query.specs.QueryValues.{QueryValue, nothing}
 use Rattle.fts_query.specs.Meanings.{Meaning}
 use Rattle.fts_query.specs.Grammar.{IsBlank, IsQuery}
 
--- where a reading from the left stands: outside of quotes, between them, or behind a `\` between them
-pub data Place : Type 0 where
-  outside : Place
-  quoted : Place
-  escaped : Place
-
 -- whether the parentheses outside of quotes nest over 32 deep, where so many are open before
 unfoldable pub is_too_deep : Place → ℕ → List ℕ → Bool
 is_too_deep place depth [] = false
-is_too_deep outside depth (c ∷ cs) =
-    if c == 34 then is_too_deep quoted depth cs
-    else (if c == 40 then (if nat_lt 31 depth then true else is_too_deep outside (depth + 1) cs)
-    else (if c == 41 then is_too_deep outside (depth - 1) cs
-    else is_too_deep outside depth cs))
-is_too_deep quoted depth (c ∷ cs) =
-    if c == 34 then is_too_deep outside depth cs
-    else (if c == 92 then is_too_deep escaped depth cs
-    else is_too_deep quoted depth cs)
-is_too_deep escaped depth (c ∷ cs) = is_too_deep quoted depth cs
+is_too_deep Outside depth (c ∷ cs) =
+    if c == 34 then is_too_deep Quoted depth cs
+    else (if c == 40 then (if nat_lt 31 depth then true else is_too_deep Outside (depth + 1) cs)
+    else (if c == 41 then is_too_deep Outside (depth - 1) cs
+    else is_too_deep Outside depth cs))
+is_too_deep Quoted depth (c ∷ cs) =
+    if c == 34 then is_too_deep Outside depth cs
+    else (if c == 92 then is_too_deep Escaped depth cs
+    else is_too_deep Quoted depth cs)
+is_too_deep Escaped depth (c ∷ cs) = is_too_deep Quoted depth cs
 
 -- neither too long nor too deep
 pub record IsFit (text : List ℕ) : Type 0 where
   pub short : length text ≤ 4096
-  pub shallow : is_too_deep outside 0 (chars text) ≡ false
+  pub shallow : is_too_deep Outside 0 (chars text) ≡ false
 
 -- a text of white space alone is the query for no document
 abbrev pub IsNothing : List ℕ → QueryValue → Type 0
@@ -43,7 +39,7 @@ IsNothing text query = IsBlank (chars text) × (query ≡ nothing)
 abbrev pub Reads : List Field → List ℕ → Result QueryValue Refusal → Type 0
 Reads schema text (Ok query) = IsFit text × (IsNothing text query ⊎ IsQuery schema (chars text) (Ok query))
 Reads schema text (Err TooLong) = 4096 < length text
-Reads schema text (Err TooDeep) = (length text ≤ 4096) × (is_too_deep outside 0 (chars text) ≡ true)
+Reads schema text (Err TooDeep) = (length text ≤ 4096) × (is_too_deep Outside 0 (chars text) ≡ true)
 Reads schema text (Err (Syntax byte)) = IsFit text × (IsBlank (chars text) → ⊥) × ((m : Meaning) → IsQuery schema (chars text) m → ⊥)
 Reads schema text (Err UnknownField) = IsFit text × IsQuery schema (chars text) (Err faults.UnknownField)
 Reads schema text (Err BadNumber) = IsFit text × IsQuery schema (chars text) (Err faults.BadNumber)

@@ -5,8 +5,10 @@ use Rattle.std.specs.declared.ops.Bound.TheVariants.{Included, Excluded, Unbound
 use Rattle.std.specs.declared.ops.Bound.{Bound}
 use Rattle.fts_model.specs.declared.schema.Field.{Field}
 use Rattle.fts_model.specs.Schemas.{is_reserved}
+use Rattle.fts_query.specs.declared.clauses.Sign.{Sign}
+use Rattle.fts_query.specs.declared.clauses.Sign.TheVariants.{Plain, Plus, Minus}
 use Rattle.fts_query.specs.QueryValues.{every}
-use Rattle.fts_query.specs.Meanings.{Meaning, Factor, Sign, plain, plus, minus, Value, literal, between, list_meaning, literal_anywhere, field_meaning}
+use Rattle.fts_query.specs.Meanings.{Meaning, Factor, Value, literal, between, list_meaning, literal_anywhere, field_meaning}
 use Rattle.fts_query.specs.Grammar.{is_space, is_word_char, bound}
 
 abbrev pub Parser : Type 0 → Type 0
@@ -69,15 +71,15 @@ signed sign (Some x) = Some ((sign, x.0), x.1)
 
 -- behind NOT
 unfoldable pub negated_of : Parser Meaning → Parser Factor
-negated_of unit t = if begins_space t then signed minus (unit (skip t)) else None
+negated_of unit t = if begins_space t then signed Minus (unit (skip t)) else None
 
 unfoldable pub factor_of : Parser Meaning → Parser Factor
 factor_of unit [] = None
 factor_of unit (c ∷ s) =
-    if c == 43 then signed plus (unit s)
-    else (if c == 45 then signed minus (unit s)
+    if c == 43 then signed Plus (unit s)
+    else (if c == 45 then signed Minus (unit s)
     else (if bytes_eq (word (c ∷ s)) (codes "NOT") then negated_of unit (past (c ∷ s))
-    else signed plain (unit (c ∷ s))))
+    else signed Plain (unit (c ∷ s))))
 
 unfoldable pub conjunction_of : Parser Meaning → Parser (List Factor)
 conjunction_of unit s = seq_by 4096 (operator_at (codes "AND")) (factor_of unit) s

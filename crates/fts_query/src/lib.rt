@@ -1,7 +1,10 @@
 //! The query language: which texts are queries of a schema, and what each means.
 #![tactic(auto)]
 
+mod clauses;
 mod fault;
 mod input;
 pub mod laws;
+mod nesting;
+mod number;
 mod stop;

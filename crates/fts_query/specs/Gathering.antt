@@ -1,0 +1,34 @@
+-- A Boolean node while its clauses come one by one.
+use Rattle.std.specs.Prelude.{List, [], ◌∷◌, ◌++◌, Option, Some, None, Result, Ok, Err, map}
+use Rattle.fts_query.specs.declared.fault.Fault.{Fault}
+use Rattle.fts_query.specs.declared.clauses.Role.TheVariants.{Must, MustNot, Should}
+use Rattle.fts_query.specs.declared.clauses.Clauses.{Clauses}
+use Rattle.fts_query.specs.QueryValues.{QueryValue, query_value}
+use Rattle.fts_query.specs.Meanings.{Meaning, Clause, boolean_of}
+
+-- musts, must-nots and shoulds, or the first fault
+abbrev pub Gathered : Type 0
+Gathered = Result (List QueryValue × List QueryValue × List QueryValue) Fault
+
+abbrev pub gathered : Option Fault → List QueryValue → List QueryValue → List QueryValue → Gathered
+gathered None ms ns ss = Ok (ms, ns, ss)
+gathered (Some fault) ms ns ss = Err fault
+
+abbrev pub gathered_of : Clauses → Gathered
+gathered_of c = gathered c.fault (map query_value c.must.items) (map query_value c.must_not.items) (map query_value c.should.items)
+
+abbrev pub gather : Gathered → Clause → Gathered
+gather (Err fault) c = Err fault
+gather (Ok g) (role, Err fault) = Err fault
+gather (Ok g) (Must, Ok q) = Ok (g.0 ++ q ∷ [], g.1, g.2)
+gather (Ok g) (MustNot, Ok q) = Ok (g.0, g.1 ++ q ∷ [], g.2)
+gather (Ok g) (Should, Ok q) = Ok (g.0, g.1, g.2 ++ q ∷ [])
+
+abbrev pub gather_all : Gathered → List Clause → Gathered
+gather_all g [] = g
+gather_all g (c ∷ cs) = gather_all (gather g c) cs
+
+-- the node of what was gathered
+abbrev pub gathered_node : Gathered → Meaning
+gathered_node (Err fault) = Err fault
+gathered_node (Ok g) = boolean_of g.0 g.1 g.2
