@@ -5,4 +5,5 @@ pub mod Outcomes
 pub mod Reading
 pub mod Answers
 pub mod Steps
+pub mod Values
 pub mod Gathering

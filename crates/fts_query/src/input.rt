@@ -163,6 +163,13 @@ impl<'a> Input<'a> {
         self.rest.len()
     }
 
+    /// The same again, to look ahead.
+    pub(crate) fn fork(&self) -> Input<'a>
+        ensures { result ≡ self.now }
+    {
+        Input { rest: self.rest }
+    }
+
     /// The first character, and what follows it.
     pub(crate) fn split_first(self) -> Option<(char, Input<'a>)>
         ensures { MatchOption result (self.entry ≡ []) (λ x. self.entry ≡ x.0 ∷ x.1) }
@@ -232,7 +239,7 @@ impl<'a> Input<'a> {
     pub(crate) fn behind_separator(&self) -> Option<Input<'a>>
         ensures { option_map (λ x. x) result ≡ space_at self.now }
     {
-        let rest = Input { rest: self.rest }.behind_space();
+        let rest = self.fork().behind_space();
         if self.begins_space() && !rest.closes() {
             Some(rest)
         } else {
@@ -245,7 +252,7 @@ impl<'a> Input<'a> {
     pub(crate) fn behind_operator(&self, name: &str) -> Option<Input<'a>>
         ensures { option_map (λ x. x) result ≡ operator_at name.now self.now }
     {
-        let (word, rest) = Input { rest: self.rest }.behind_space().split_word();
+        let (word, rest) = self.fork().behind_space().split_word();
         if self.begins_space() && word == name && rest.begins_space() {
             Some(rest.behind_space())
         } else {

@@ -8,3 +8,4 @@ pub mod laws;
 mod nesting;
 mod number;
 mod stop;
+mod value;
