@@ -18,7 +18,7 @@ use Rattle.fts_query.specs.QueryValues.{every}
 use Rattle.fts_query.specs.Meanings.{Meaning, Factor, Value, literal, between, list_meaning, literal_anywhere, field_meaning}
 use Rattle.fts_query.specs.Grammar
 use Rattle.fts_query.specs.Grammar.{is_space, is_word_char, is_bare, IsWord, IsBound, bound, IsValue, Opens, Closes, begins_equals, IsBlank, IsSpace, IsBare, IsOperator, IsUnit, IsFactor, IsConjunction, IsChain, IsList, IsQuery, quotation}
-use Rattle.fts_query.specs.Reading.{Parser, skip, run, past, word, begins_space, closes, space_at, operator_at, onto, bind, go_on, seq_by, signed, negated_of, factor_of, conjunction_of, chain_of, list_of, close, said, quoted_of, word_of, bound_of, range_end, range_of, compared_of, above_of, below_of, said_of, plain_of, value_of, behind_bare, is_sign, bare_of, quote_of, group_of, unit_by, unit_of, ended, query_of}
+use Rattle.fts_query.specs.Reading.{Parser, skip, run, past, word, begins_space, closes, space_at, operator_at, onto, bind, go_on, seq_by, signed, negated_of, factor_of, conjunction_of, chain_of, list_of, over, meaning_of, close, said, quoted_of, word_of, bound_of, range_end, range_of, compared_of, above_of, below_of, said_of, plain_of, value_of, behind_bare, is_sign, bare_of, quote_of, group_of, unit_by, unit_of, ended, query_of}
 use Rattle.fts_query.proofs.Texts.{IsPlain, bytes_eq-encoded, plain_and, plain_or, plain_not, plain_to, is_reserved-encoded, stops, opens, run_stops, run-append, run_at, WordEnds, skip-append, skip_opens, said_again, no_word_char}
 
 -- how a factor begins, and how a unit does
@@ -463,7 +463,7 @@ close_skip : (w r : List ℕ) → IsBlank w → skip (w ++ (41 ∷ r)) ≡ 41 �
 unfolding skip
 close_skip w r b = skip-append w (41 ∷ r) b
 
-group_again : (schema : List Field) (d : ℕ) (v s w r : List ℕ) (cs : List (List (List Factor))) → IsBlank v → IsBlank w → Begins (s ++ (w ++ (41 ∷ r))) → list_of (unit_of schema d) (s ++ (w ++ (41 ∷ r))) ≡ Some (cs, w ++ (41 ∷ r))
+group_again : (schema : List Field) (d : ℕ) (v s w r : List ℕ) (cs : List (List (List Factor))) → IsBlank v → IsBlank w → Begins (s ++ (w ++ (41 ∷ r))) → meaning_of (unit_of schema d) (s ++ (w ++ (41 ∷ r))) ≡ Some (list_meaning cs, w ++ (41 ∷ r))
     → unit_of schema (suc d) ((40 ∷ (v ++ (s ++ (w ++ 41 ∷ [])))) ++ r) ≡ Some (list_meaning cs, r)
 unfolding unit_of unit_by group_of
 group_again schema d v s w r cs a b g e =
@@ -480,9 +480,9 @@ chain_whole : (unit : Parser Meaning) (s : List ℕ) (y : Option (List (List Fac
 unfolding chain_of
 chain_whole unit s y e = e
 
-list_whole : (unit : Parser Meaning) (s : List ℕ) (y : Option (List (List (List Factor)) × List ℕ)) → seq_by 4096 space_at (chain_of unit) s ≡ y → list_of unit s ≡ y
-unfolding list_of
-list_whole unit s y e = e
+meaning_whole : (unit : Parser Meaning) (s r : List ℕ) (cs : List (List (List Factor))) → seq_by 4096 space_at (chain_of unit) s ≡ Some (cs, r) → meaning_of unit s ≡ Some (list_meaning cs, r)
+unfolding meaning_of list_of
+meaning_whole unit s r cs e = rw e refl
 
 plus_again : (unit : Parser Meaning) (s r : List ℕ) (m : Meaning) → unit (s ++ r) ≡ Some (m, r) → factor_of unit ((43 ∷ s) ++ r) ≡ Some ((Plus, m), r)
 unfolding factor_of
@@ -535,7 +535,7 @@ mutual
       let e : Ends (w ++ (41 ∷ r)) = blank_ends w (41 ∷ r) b refl (skip_close r) in
       let short : length s ≤ d = group_short d v s w n in
       let q = w ++ (41 ∷ r) in
-      group_again schema d v s w r cs a b (list_begins l q e.stop) (list_whole (unit_of schema d) (s ++ q) _ (list_again l d (omega arith) 4096 q e short (omega arith)))
+      group_again schema d v s w r cs a b (list_begins l q e.stop) (meaning_whole (unit_of schema d) (s ++ q) q cs (list_again l d (omega arith) 4096 q e short (omega arith)))
   unit_again Grammar.star zero cap r h n = absurd (omega arith)
   unit_again {schema = schema} Grammar.star (suc d) cap r h n = star_again schema d r
   unit_again (Grammar.bare {w = w} b) zero cap r h n = absurd (bare_long w b n)
@@ -621,7 +621,7 @@ query_again {schema = schema} {s = s} {m = m} d cap q n =
     let g : Ends w = subst (λ (t : List ℕ). Ends t) (append-nil w) (blank_ends w [] q.blank_after refl refl) in
     let len : length s ≡ length (q.before ++ (x ++ w)) = ap length q.parts in
     let short : length x ≤ d = back_short_mid d q.before x w (omega arith) in
-    let l : list_of (unit_of schema d) (x ++ w) ≡ Some (q.chains, w) = list_whole (unit_of schema d) (x ++ w) _ (list_again q.list d cap 4096 w g short (omega arith)) in
+    let l : meaning_of (unit_of schema d) (x ++ w) ≡ Some (list_meaning q.chains, w) = meaning_whole (unit_of schema d) (x ++ w) w q.chains (list_again q.list d cap 4096 w g short (omega arith)) in
     let k : skip w ≡ [] = blank_skip w q.blank_after in
     let h : Some (list_meaning q.chains) ≡ Some m = ap (λ (t : Meaning). Some t) (sym q.means) in
     rw (e, l, k) h

@@ -5,24 +5,26 @@ use Rattle.std.specs.List.{list_all}
 use Rattle.std.proofs.lemmas.Bool.{cases_Bool, ltb-true, ltb-false, le-ltb, lt-ltb, false_from_ne_true}
 use Rattle.fts_model.specs.declared.schema.Field.{Field}
 use Rattle.fts_model.specs.declared.refusal.Refusal.{Refusal}
-use Rattle.fts_model.specs.declared.refusal.Refusal.TheVariants.{TooLong, Syntax, TooDeep, UnknownField, BadNumber, RangeOnText, NoDefaultField, AllNegative}
+use Rattle.fts_model.specs.declared.refusal.Refusal.TheVariants.{Memory, TooLong, Syntax, TooDeep, UnknownField, BadNumber, RangeOnText, NoDefaultField, AllNegative}
+use Rattle.fts_model.specs.declared.query.Query.{Query}
+use Rattle.std.specs.Prelude.{IfOk, IfErr}
 use Rattle.fts_query.specs.declared.fault.Fault.{Fault}
 use Rattle.fts_query.specs.declared.fault.Fault.TheVariants as faults
 use Rattle.fts_query.specs.declared.nesting.Place.TheVariants.{Outside}
-use Rattle.fts_query.specs.QueryValues.{QueryValue, nothing}
+use Rattle.fts_query.specs.QueryValues.{QueryValue, nothing, query_value}
 use Rattle.fts_query.specs.Meanings.{Meaning}
 use Rattle.fts_query.specs.Grammar.{is_space, IsBlank, IsQuery}
 use Rattle.fts_query.specs.Outcomes.{is_too_deep, IsFit, Reads, without_byte}
-use Rattle.fts_query.specs.Reading.{query_of}
-use Rattle.fts_query.specs.Answers.{refusal_of, outcome_of, answer_from, answer}
+use Rattle.fts_query.specs.Reading.{query_of, skip}
+use Rattle.fts_query.specs.Answers.{refusal_of, outcome_of, answer_from, answer_fit, answer, IsAnswer}
 use Rattle.fts_query.proofs.Sound.{query_sound}
 use Rattle.fts_query.proofs.Complete.{query_again, no_query_is_blank}
 use Rattle.fts_query.proofs.CharLemmas.{length-chars}
 
 module _ (schema : List Field) (text : List ℕ) where
-  answer_fit : IsFit text → (IsBlank (chars text) → ⊥) → answer schema text ≡ answer_from (query_of schema 4096 (chars text))
+  answer_is_read : IsFit text → (IsBlank (chars text) → ⊥) → answer schema text ≡ answer_from (query_of schema 4096 (chars text))
   unfolding answer
-  answer_fit f b =
+  answer_is_read f b =
       let a : ltb 4096 (length text) ≡ false = le-ltb _ _ f.short in
       let d : is_too_deep Outside 0 (chars text) ≡ false = f.shallow in
       let c : list_all is_space (chars text) ≡ false = false_from_ne_true _ b in
@@ -32,7 +34,7 @@ module _ (schema : List Field) (text : List ℕ) where
   read_fit m f q = query_again 4096 (omega arith) q (omega (arith, length-chars text, f.short))
 
   answer_query : (m : Meaning) → IsFit text → IsQuery schema (chars text) m → answer schema text ≡ outcome_of m
-  answer_query m f q = answer_fit f (no_query_is_blank q) ∙ ap answer_from (read_fit m f q)
+  answer_query m f q = answer_is_read f (no_query_is_blank q) ∙ ap answer_from (read_fit m f q)
 
   none_from : (o : Option Meaning) → query_of schema 4096 (chars text) ≡ o → ((m : Meaning) → IsQuery schema (chars text) m → ⊥) → answer_from o ≡ Err (Syntax 0)
   none_from None e h = refl
@@ -46,7 +48,7 @@ module _ (schema : List Field) (text : List ℕ) where
       let a : ltb 4096 (length text) ≡ false = le-ltb _ _ h.0 in
       let d : is_too_deep Outside 0 (chars text) ≡ true = h.1 in
       rw (a, d) refl
-  reads_answer (Err (Syntax byte)) h = sym (answer_fit h.0 h.1 ∙ none_from _ refl h.2)
+  reads_answer (Err (Syntax byte)) h = sym (answer_is_read h.0 h.1 ∙ none_from _ refl h.2)
   reads_answer (Err UnknownField) h = sym (answer_query (Err faults.UnknownField) h.0 h.1)
   reads_answer (Err BadNumber) h = sym (answer_query (Err faults.BadNumber) h.0 h.1)
   reads_answer (Err RangeOnText) h = sym (answer_query (Err faults.RangeOnText) h.0 h.1)
@@ -89,3 +91,43 @@ module _ (schema : List Field) (text : List ℕ) where
 
   pub one_outcome : (x y : Result QueryValue Refusal) → Reads schema text x → Reads schema text y → without_byte x ≡ without_byte y
   one_outcome x y h k = reads_answer x h ∙ sym (reads_answer y k)
+
+-- nothing is left behind white space alone
+pub blank_skips : (s t : List ℕ) → skip s ≡ t → t ≡ [] → list_all is_space s ≡ true
+unfolding skip
+blank_skips [] t e f = refl
+blank_skips (c ∷ s) t e f =
+    elim (cases_Bool (is_space c)) [
+      | inl k ↦ let h : skip s ≡ t = rw k at e in rw k (blank_skips s t h f)
+      | inr k ↦ absurd (let h : c ∷ s ≡ t = rw k at e in cc)
+    ]
+
+pub no_blank_skips : (s t u : List ℕ) (c : ℕ) → skip s ≡ t → t ≡ c ∷ u → list_all is_space s ≡ false
+unfolding skip
+no_blank_skips [] t u c e f = absurd (let h = e in cc)
+no_blank_skips (d ∷ s) t u c e f =
+    elim (cases_Bool (is_space d)) [
+      | inl k ↦ let h : skip s ≡ t = rw k at e in rw k (no_blank_skips s t u c h f)
+      | inr k ↦ rw k refl
+    ]
+
+module _ (schema : List Field) (text : List ℕ) (f : IsFit text) where
+  fit_answer : answer schema text ≡ answer_fit schema (chars text)
+  unfolding answer
+  fit_answer =
+      let a : ltb 4096 (length text) ≡ false = le-ltb _ _ f.short in
+      let d : is_too_deep Outside 0 (chars text) ≡ false = f.shallow in
+      rw (a, d) refl
+
+  outcome_reads : (x : Result QueryValue Refusal) → answer_fit schema (chars text) ≡ x → Reads schema text x
+  outcome_reads x e = subst (λ (o : Result QueryValue Refusal). Reads schema text o) (fit_answer ∙ e) (answer_reads schema text)
+
+  pub answered : (r : Result Query Refusal) → IsAnswer r (answer_fit schema (chars text)) → IfOk r (λ q. Reads schema text (Ok (query_value q)))
+  answered (Ok q) h = outcome_reads (Ok (query_value q)) h
+  answered (Err e) h = tt
+
+  pub refused : (r : Result Query Refusal) → IsAnswer r (answer_fit schema (chars text)) → IfErr r (λ e. (e ≡ Memory → ⊥) → Reads schema text (Err e))
+  refused (Ok q) h = tt
+  refused (Err Memory) h = λ n. absurd (n refl)
+  refused (Err (Syntax byte)) h = λ n. outcome_reads (Err (Syntax 0)) h
+  refused (Err e) h = λ n. outcome_reads (Err e) h

@@ -5,3 +5,7 @@ pub mod Complete
 pub mod Law
 pub mod StepLemmas
 pub mod NumberLemmas
+pub mod GatherLemmas
+pub mod QueryLemmas
+pub mod MeaningLemmas
+pub mod UnitLemmas

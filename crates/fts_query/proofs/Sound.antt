@@ -15,7 +15,7 @@ use Rattle.fts_query.specs.QueryValues.{every}
 use Rattle.fts_query.specs.Meanings.{Meaning, Factor, Value, literal, between, list_meaning, literal_anywhere, field_meaning}
 use Rattle.fts_query.specs.Grammar
 use Rattle.fts_query.specs.Grammar.{is_word_char, is_bare, IsBare, IsWord, IsBound, bound, IsValue, Opens, Closes, begins_equals, IsBlank, IsSpace, IsOperator, IsUnit, IsFactor, IsConjunction, IsChain, IsList, IsQuery, quotation}
-use Rattle.fts_query.specs.Reading.{Parser, skip, run, past, word, begins_space, closes, space_at, operator_at, onto, bind, go_on, seq_by, signed, negated_of, factor_of, conjunction_of, chain_of, list_of, close, said, in_bytes, quoted_of, word_of, bound_of, range_end, range_of, compared_of, above_of, below_of, said_of, plain_of, value_of, behind_bare, is_sign, bare_of, quote_of, group_of, unit_by, unit_of, ended, query_of}
+use Rattle.fts_query.specs.Reading.{Parser, skip, run, past, word, begins_space, closes, space_at, operator_at, onto, bind, go_on, seq_by, signed, negated_of, factor_of, conjunction_of, chain_of, list_of, over, meaning_of, close, said, in_bytes, quoted_of, word_of, bound_of, range_end, range_of, compared_of, above_of, below_of, said_of, plain_of, value_of, behind_bare, is_sign, bare_of, quote_of, group_of, unit_by, unit_of, ended, query_of}
 use Rattle.fts_query.proofs.Texts.{IsPlain, plain_and, plain_or, plain_not, plain_to, run_is, is_reserved-encoded, run_parts, skip_parts, space_parts, said_sound, chosen}
 
 -- the front of a text is in the language P, for x
@@ -146,12 +146,29 @@ module _ (schema : List Field) (unit : Parser Meaning) (unit_sound : Sound (IsUn
   unfolding list_of
   list_sound = seq_sound space_at (chain_of unit) IsSpace (IsChain schema) (IsList schema) space_sound chain_sound (λ t a h. Grammar.chain h) (λ t w u a xs h k l. Grammar.chains t w u h k l) 4096
 
-close_some : (cs : List (List (List Factor))) (s : List ℕ) (y : Meaning × List ℕ) → close cs s ≡ Some y → (s ≡ 41 ∷ y.1) × (list_meaning cs ≡ y.0)
-close_some cs [] y e = absurd cc
-close_some cs (c ∷ s) y e =
-    let b = cond_some (c == 41) (list_meaning cs, s) y e in
+close_some : (m : Meaning) (s : List ℕ) (y : Meaning × List ℕ) → close m s ≡ Some y → (s ≡ 41 ∷ y.1) × (m ≡ y.0)
+close_some m [] y e = absurd cc
+close_some m (c ∷ s) y e =
+    let b = cond_some (c == 41) (m, s) y e in
     let k : c ≡ 41 = eqb-true c 41 b.0 in
     (rw k (ap (λ (p : Meaning × List ℕ). 41 ∷ p.1) b.1), ap (λ (p : Meaning × List ℕ). p.0) b.1)
+
+pub over_some : {A B : Type 0} (h : A → B) (o : Option (A × List ℕ)) (y : B × List ℕ) → over h o ≡ Some y → (x : A × List ℕ) × (o ≡ Some x) × (h x.0 ≡ y.0) × (x.1 ≡ y.1)
+over_some h None y e = absurd cc
+over_some {B = B} h (Some x) y e =
+    let k : ◌≡◌ {A = B × List ℕ} (h x.0, x.1) y = same_Some _ _ e in
+    (x, refl, ap (λ (p : B × List ℕ). p.0) k, ap (λ (p : B × List ℕ). p.1) k)
+
+-- a list at the front, by its meaning
+abbrev pub FrontMeaning : List Field → List ℕ → Meaning × List ℕ → Type 0
+FrontMeaning schema s y = (x : List ℕ) × (cs : List (List (List Factor))) × IsList schema x cs × (list_meaning cs ≡ y.0) × (s ≡ x ++ y.1)
+
+meaning_sound : (schema : List Field) (unit : Parser Meaning) → Sound (IsUnit schema) unit → (s : List ℕ) (y : Meaning × List ℕ) → meaning_of unit s ≡ Some y → FrontMeaning schema s y
+unfolding meaning_of
+meaning_sound schema unit u s y e =
+    let x = over_some list_meaning (list_of unit s) y e in
+    let f = list_sound schema unit u s x.0 x.1 in
+    (f.0, x.0.0, f.1, x.2, f.2 ∙ ap (λ (t : List ℕ). f.0 ++ t) x.3)
 
 -- the word at the front, and its bytes
 WordFront : List ℕ → List ℕ × List ℕ → Type 0
@@ -354,15 +371,17 @@ module _ (schema : List Field) where
         | inr p ↦ absurd (let k = p.1 in cc)
       ]
 
-  group_sound : (s : List ℕ) (x : List (List (List Factor)) × List ℕ) (y : Meaning × List ℕ) → Front (IsList schema) (skip s) x → close x.0 (skip x.1) ≡ Some y → Front (IsUnit schema) (40 ∷ s) y
+  group_sound : (s : List ℕ) (x : Meaning × List ℕ) (y : Meaning × List ℕ) → FrontMeaning schema (skip s) x → close x.0 (skip x.1) ≡ Some y → Front (IsUnit schema) (40 ∷ s) y
   group_sound s x y f e =
       let k = close_some x.0 (skip x.1) y e in
       let v = skip_parts s in
       let w = skip_parts x.1 in
       let parts : 40 ∷ s ≡ (40 ∷ (v.0 ++ (f.0 ++ (w.0 ++ 41 ∷ [])))) ++ y.1 =
-      ap (λ (t : List ℕ). 40 ∷ t) (v.2 ∙ ap (λ (t : List ℕ). v.0 ++ t) (f.2 ∙ ap (λ (t : List ℕ). f.0 ++ t) (w.2 ∙ ap (λ (t : List ℕ). w.0 ++ t) k.0)) ∙ simp append_assoc) in
-      let h : IsUnit schema (40 ∷ (v.0 ++ (f.0 ++ (w.0 ++ 41 ∷ [])))) y.0 = rw (← k.1) (Grammar.group v.0 f.0 w.0 x.0 v.1 f.1 w.1) in
-      (40 ∷ (v.0 ++ (f.0 ++ (w.0 ++ 41 ∷ []))), h, parts)
+      ap (λ (t : List ℕ). 40 ∷ t) (v.2 ∙ ap (λ (t : List ℕ). v.0 ++ t) (f.4 ∙ ap (λ (t : List ℕ). f.0 ++ t) (w.2 ∙ ap (λ (t : List ℕ). w.0 ++ t) k.0)) ∙ simp append_assoc) in
+      let m : list_meaning f.1 ≡ y.0 = f.3 ∙ k.1 in
+      let text : List ℕ = 40 ∷ (v.0 ++ (f.0 ++ (w.0 ++ 41 ∷ []))) in
+      let h : IsUnit schema text y.0 = subst (λ (z : Meaning). IsUnit schema text z) m (Grammar.group v.0 f.0 w.0 f.1 v.1 f.2 w.1) in
+      (text, h, parts)
 
   pub unit_sound : (d : ℕ) → Sound (IsUnit schema) (unit_of schema d)
   unfolding unit_of unit_by quote_of group_of
@@ -372,8 +391,8 @@ module _ (schema : List Field) where
       elim (chosen (c == 40) _ _ _ e) [
         | inl p ↦
             let k : c ≡ 40 = eqb-true c 40 p.0 in
-            let b = bind_some (list_of (unit_of schema d) (skip s)) (λ x. close x.0 (skip x.1)) y p.1 in
-            rw k (group_sound s b.0 y (list_sound schema (unit_of schema d) (unit_sound d) (skip s) b.0 b.1) b.2)
+            let b = bind_some (meaning_of (unit_of schema d) (skip s)) (λ x. close x.0 (skip x.1)) y p.1 in
+            rw k (group_sound s b.0 y (meaning_sound schema (unit_of schema d) (unit_sound d) (skip s) b.0 b.1) b.2)
         | inr m ↦ elim (chosen (c == 42) _ _ _ m.1) [
           | inl p ↦
               let k : c ≡ 42 = eqb-true c 42 p.0 in
@@ -392,15 +411,15 @@ module _ (schema : List Field) where
         ]
       ]
 
-  ended_some : (cs : List (List (List Factor))) (s : List ℕ) (m : Meaning) → ended cs s ≡ Some m → (s ≡ []) × (m ≡ list_meaning cs)
-  ended_some cs [] m e = (refl, sym (same_Some _ _ e))
-  ended_some cs (c ∷ s) m e = absurd cc
+  ended_some : (n : Meaning) (s : List ℕ) (m : Meaning) → ended n s ≡ Some m → (s ≡ []) × (m ≡ n)
+  ended_some n [] m e = (refl, sym (same_Some _ _ e))
+  ended_some n (c ∷ s) m e = absurd cc
 
   pub query_sound : (d : ℕ) (s : List ℕ) (m : Meaning) → query_of schema d s ≡ Some m → IsQuery schema s m
   unfolding query_of
   query_sound d s m e =
-      let b = bind_some (list_of (unit_of schema d) (skip s)) (λ x. ended x.0 (skip x.1)) m e in
-      let f = list_sound schema (unit_of schema d) (unit_sound d) (skip s) b.0 b.1 in
+      let b = bind_some (meaning_of (unit_of schema d) (skip s)) (λ x. ended x.0 (skip x.1)) m e in
+      let f = meaning_sound schema (unit_of schema d) (unit_sound d) (skip s) b.0 b.1 in
       let k = ended_some b.0.0 (skip b.0.1) m b.2 in
       let v = skip_parts s in
       let w = skip_parts b.0.1 in
@@ -408,10 +427,10 @@ module _ (schema : List Field) where
         before = v.0;
         inner = f.0;
         after = w.0;
-        chains = b.0.0;
-        parts = v.2 ∙ ap (λ (t : List ℕ). v.0 ++ t) (f.2 ∙ ap (λ (t : List ℕ). f.0 ++ t) (w.2 ∙ ap (λ (t : List ℕ). w.0 ++ t) k.0 ∙ simp append-nil));
+        chains = f.1;
+        parts = v.2 ∙ ap (λ (t : List ℕ). v.0 ++ t) (f.4 ∙ ap (λ (t : List ℕ). f.0 ++ t) (w.2 ∙ ap (λ (t : List ℕ). w.0 ++ t) k.0 ∙ simp append-nil));
         blank_before = v.1;
-        list = f.1;
+        list = f.2;
         blank_after = w.1;
-        means = k.1;
+        means = k.1 ∙ sym f.3;
       }

@@ -1,14 +1,15 @@
 -- The one outcome of a text, as a reading from the left finds it.
-use Rattle.std.specs.Prelude.{ℕ, nat_lt, List, length, Option, Some, None, Result, Ok, Err, if◌then◌else◌}
+use Rattle.std.specs.Prelude.{◌≡◌, ℕ, nat_lt, List, length, Option, Some, None, Result, Ok, Err, if◌then◌else◌}
 use Rattle.std.specs.List.{list_all}
 use Rattle.std.specs.Str.{chars}
 use Rattle.fts_model.specs.declared.schema.Field.{Field}
 use Rattle.fts_model.specs.declared.refusal.Refusal.{Refusal}
-use Rattle.fts_model.specs.declared.refusal.Refusal.TheVariants.{TooLong, Syntax, TooDeep, UnknownField, BadNumber, RangeOnText, NoDefaultField, AllNegative}
+use Rattle.fts_model.specs.declared.refusal.Refusal.TheVariants.{Memory, TooLong, Syntax, TooDeep, UnknownField, BadNumber, RangeOnText, NoDefaultField, AllNegative}
+use Rattle.fts_model.specs.declared.query.Query.{Query}
 use Rattle.fts_query.specs.declared.fault.Fault.{Fault}
 use Rattle.fts_query.specs.declared.fault.Fault.TheVariants as faults
 use Rattle.fts_query.specs.declared.nesting.Place.TheVariants.{Outside}
-use Rattle.fts_query.specs.QueryValues.{QueryValue, nothing}
+use Rattle.fts_query.specs.QueryValues.{QueryValue, nothing, query_value}
 use Rattle.fts_query.specs.Meanings.{Meaning}
 use Rattle.fts_query.specs.Grammar.{is_space}
 use Rattle.fts_query.specs.Outcomes.{is_too_deep}
@@ -30,9 +31,23 @@ abbrev pub answer_from : Option Meaning → Result QueryValue Refusal
 answer_from None = Err (Syntax 0)
 answer_from (Some m) = outcome_of m
 
+-- the same of the characters of a text that is neither too long nor too deep
+abbrev pub answer_fit : List Field → List ℕ → Result QueryValue Refusal
+answer_fit schema text = if list_all is_space text then Ok nothing else answer_from (query_of schema 4096 text)
+
 unfoldable pub answer : List Field → List ℕ → Result QueryValue Refusal
 answer schema text =
     if nat_lt 4096 (length text) then Err TooLong
     else (if is_too_deep Outside 0 (chars text) then Err TooDeep
-    else (if list_all is_space (chars text) then Ok nothing
-    else answer_from (query_of schema 4096 (chars text))))
+    else answer_fit schema (chars text))
+
+-- the refusal is the outcome, the byte of a fault of syntax aside, unless memory ran out
+abbrev pub IsRefusal : Refusal → Result QueryValue Refusal → Type 0
+IsRefusal Memory outcome = Unit {0}
+IsRefusal (Syntax byte) outcome = outcome ≡ Err (Syntax 0)
+IsRefusal refusal outcome = outcome ≡ Err refusal
+
+-- what the code answered is the outcome
+abbrev pub IsAnswer : Result Query Refusal → Result QueryValue Refusal → Type 0
+IsAnswer (Ok query) outcome = outcome ≡ Ok (query_value query)
+IsAnswer (Err refusal) outcome = IsRefusal refusal outcome

@@ -7,3 +7,4 @@ pub mod Answers
 pub mod Steps
 pub mod Values
 pub mod Gathering
+pub mod Parts

@@ -90,14 +90,23 @@ chain_of unit s = seq_by 4096 (operator_at (codes "OR")) (conjunction_of unit) s
 unfoldable pub list_of : Parser Meaning → Parser (List (List (List Factor)))
 list_of unit s = seq_by 4096 space_at (chain_of unit) s
 
+-- what was read, seen by a function
+abbrev pub over : {A B : Type 0} → (A → B) → Option (A × List ℕ) → Option (B × List ℕ)
+over h None = None
+over h (Some x) = Some (h x.0, x.1)
+
+-- a list, by its meaning
+unfoldable pub meaning_of : Parser Meaning → Parser Meaning
+meaning_of unit s = over list_meaning (list_of unit s)
+
 -- behind a list in parentheses
-abbrev pub close : List (List (List Factor)) → List ℕ → Option (Meaning × List ℕ)
-close cs [] = None
-close cs (c ∷ s) = if c == 41 then Some (list_meaning cs, s) else None
+abbrev pub close : Meaning → Parser Meaning
+close m [] = None
+close m (c ∷ s) = if c == 41 then Some (m, s) else None
 
 -- behind an opening parenthesis
 unfoldable pub group_of : Parser Meaning → Parser Meaning
-group_of unit s = bind (list_of unit (skip s)) (λ x. close x.0 (skip x.1))
+group_of unit s = bind (meaning_of unit (skip s)) (λ x. close x.0 (skip x.1))
 
 abbrev pub char_onto : ℕ → Option (List ℕ × List ℕ) → Option (List ℕ × List ℕ)
 char_onto c None = None
@@ -203,10 +212,10 @@ unfoldable pub unit_of : List Field → ℕ → Parser Meaning
 unit_of schema zero s = None
 unit_of schema (suc d) s = unit_by schema (unit_of schema d) s
 
-abbrev pub ended : List (List (List Factor)) → List ℕ → Option Meaning
-ended cs [] = Some (list_meaning cs)
-ended cs (c ∷ s) = None
+abbrev pub ended : Meaning → List ℕ → Option Meaning
+ended m [] = Some m
+ended m (c ∷ s) = None
 
 -- a whole text
 unfoldable pub query_of : List Field → ℕ → List ℕ → Option Meaning
-query_of schema d s = bind (list_of (unit_of schema d) (skip s)) (λ x. ended x.0 (skip x.1))
+query_of schema d s = bind (meaning_of (unit_of schema d) (skip s)) (λ x. ended x.0 (skip x.1))

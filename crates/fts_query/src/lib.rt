@@ -5,7 +5,12 @@ mod clauses;
 mod fault;
 mod input;
 pub mod laws;
+mod meaning;
 mod nesting;
 mod number;
+mod parser;
+mod reader;
 mod stop;
 mod value;
+
+pub use parser::parse;
