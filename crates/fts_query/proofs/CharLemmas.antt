@@ -35,12 +35,10 @@ abbrev pub WordSplit : (text rest : List ℕ) → ℕ → Type 0
 WordSplit text rest n = IsCharBoundary text n × (take n text ≡ word (chars text)) × (drop n text ≡ rest)
 
 pub word_split : (text rest : List ℕ) → IsUtf8 text → IsUtf8 rest → chars rest ≡ past (chars text) → WordSplit text rest (length text - length rest)
-
 word_split text rest u v e =
     let p = text_parts text rest u v e in
     let w = word (chars text) in
-    let n : length w ≡ length text - length rest = omega (arith, ap length p ∙ length-append w rest) in
-    (
+    let n : length w ≡ length text - length rest = omega (arith, ap length p ∙ length-append w rest) in (
       subst (IsCharBoundary text) n (IsCharBoundary-at_seam text w rest p v),
       ap (λ (x : List ℕ). take (length text - length rest) x) p ∙ take_at w rest (length text - length rest) n,
       ap (λ (x : List ℕ). drop (length text - length rest) x) p ∙ drop_at w rest (length text - length rest) n,

@@ -102,7 +102,7 @@ module _ {A B : Type 0} (sep : List ℕ → Option (List ℕ)) (item : Parser A)
       let m : n - i ≡ suc (n - (i + 1)) = omega arith in
       let se : sep x.0.1 ≡ Some t = ap sep x.3 ∙ f in
       let one : then_gathered g clause (seq_by (n - i) sep item s) ≡ then_gathered (gather g (clause x.0.0)) clause (seq_by (n - (i + 1)) sep item t) =
-          ap (λ (z : ℕ). then_gathered g clause (seq_by z sep item s)) m ∙ gathered_step g (n - (i + 1)) s t x.0.1 x.0.0 x.1 se in
+      ap (λ (z : ℕ). then_gathered g clause (seq_by z sep item s)) m ∙ gathered_step g (n - (i + 1)) s t x.0.1 x.0.0 x.1 se in
       subst (λ (z : B). then_gathered (gather g (k z)) clause (seq_by (n - (i + 1)) sep item t) ≡ total) x.2 (sym one ∙ total-is)
 
   -- an item and no separator
@@ -114,7 +114,7 @@ module _ {A B : Type 0} (sep : List ℕ → Option (List ℕ)) (item : Parser A)
       let m : n - i ≡ suc (n - (i + 1)) = omega arith in
       let se : sep x.0.1 ≡ None = ap sep x.3 ∙ f in
       let one : then_gathered g clause (seq_by (n - i) sep item s) ≡ Some (gather g (clause x.0.0), x.0.1) =
-          ap (λ (z : ℕ). then_gathered g clause (seq_by z sep item s)) m ∙ ap (then_gathered g clause) (seq_one (n - (i + 1)) s x.0.1 x.0.0 x.1 se) in
+      ap (λ (z : ℕ). then_gathered g clause (seq_by z sep item s)) m ∙ ap (then_gathered g clause) (seq_one (n - (i + 1)) s x.0.1 x.0.0 x.1 se) in
       sym total-is ∙ subst (λ (z : B). then_gathered g clause (seq_by (n - i) sep item s) ≡ Some (gather g (k z), rest)) x.2 (subst (λ (z : List ℕ). then_gathered g clause (seq_by (n - i) sep item s) ≡ Some (gather g (clause x.0.0), z)) x.3 one)
 
   none_over : (o : Option (A × List ℕ)) → over h o ≡ None → o ≡ None
@@ -175,7 +175,7 @@ module _ {A B : Type 0} (sep : List ℕ → Option (List ℕ)) (item : Parser A)
       let tail : seq_by n sep item next ≡ Some (w.0 ∷ w.1, rest) = z.1 ∙ ap (λ (p : List A). Some (p, z.0.1)) w.2 ∙ ap (λ (p : List ℕ). Some (w.0 ∷ w.1, p)) z.3 in
       let whole : seq_by (suc n) sep item s ≡ Some (x.0.0 ∷ w.0 ∷ w.1, rest) = seq_more n s next x.0.1 x.0.0 (Some (w.0 ∷ w.1, rest)) x.1 se tail in
       let all : gather_all nothing_gathered (map clause (x.0.0 ∷ w.0 ∷ w.1)) ≡ g =
-          ap (λ (b : B). gather_all (gather nothing_gathered (k b)) (map clause (w.0 ∷ w.1))) x.2 ∙ ap (λ (p : List A). gather_all (gather nothing_gathered (k y)) (map clause p)) (sym w.2) ∙ z.2 in
+      ap (λ (b : B). gather_all (gather nothing_gathered (k b)) (map clause (w.0 ∷ w.1))) x.2 ∙ ap (λ (p : List A). gather_all (gather nothing_gathered (k y)) (map clause p)) (sym w.2) ∙ z.2 in
       (x.0.0, w.0, w.1, whole, ap gathered_node (sym all) ∙ gathered_node-all (map clause (x.0.0 ∷ w.0 ∷ w.1)))
 
   -- none

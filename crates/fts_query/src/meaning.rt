@@ -80,12 +80,7 @@ fn with_number(field: usize, kind: Kind, said: &str) -> Meaning
 }
 
 /// What a word or a quoted text means in a field.
-fn literal_in(
-    alloc: Global,
-    field: usize,
-    kind: Kind,
-    said: &str,
-) -> Result<Meaning, AllocError>
+fn literal_in(alloc: Global, field: usize, kind: Kind, said: &str) -> Result<Meaning, AllocError>
     requires { length said.now ≤ 4096 }
     ensures { IfOk result (λ m. result_map query_value m ≡ literal_of_field field kind said.now) }
 {

@@ -25,9 +25,7 @@ fn unsigned(text: &[u8]) -> Option<u64>
         if !is_digit(*byte) {
             return None;
         }
-        value = value
-            .checked_mul(10)?
-            .checked_add((*byte - b'0') as u64)?;
+        value = value.checked_mul(10)?.checked_add((*byte - b'0') as u64)?;
     }
     Some(value)
 }

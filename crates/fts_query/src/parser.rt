@@ -76,3 +76,6 @@ pub fn parse(alloc: Global, schema: &Schema, text: &str) -> Result<Query, Refusa
     }
     outcome_of(alloc, schema, text)
 }
+
+#[cfg(test)]
+mod tests;

@@ -20,7 +20,7 @@ token-requires c = Gathers-place c.args.said.now c.args.from c.loop-place.patter
 pub loop-place-preserved : goal.loop-place-preserved
 loop-place-preserved c =
     let grown : c.push.new.self.items ≡ c.loop-place.pattern.items ++ member c.args.said.now c.args.from c.in-Some.place ∷ [] = cc (c.in_ok-push.ensures.items, c.in_ok-token.ensures, c.saturating_sub-offset.ensures) in (
-  tt,
-  tt,
-  Gathers-next c.args.said.now c.args.from c.loop-place.pattern.items c.push.new.self.items c.in-Some.place _ (places_left c.next.new.self) c.in-Some.ensures.steps grown c.loop-place.invariant.2,
-)
+      tt,
+      tt,
+      Gathers-next c.args.said.now c.args.from c.loop-place.pattern.items c.push.new.self.items c.in-Some.place _ (places_left c.next.new.self) c.in-Some.ensures.steps grown c.loop-place.invariant.2,
+    )
