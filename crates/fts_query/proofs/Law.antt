@@ -17,6 +17,8 @@ use Rattle.fts_query.specs.Grammar.{is_space, IsBlank, IsQuery}
 use Rattle.fts_query.specs.Outcomes.{is_too_deep, IsFit, Reads, without_byte}
 use Rattle.fts_query.specs.Reading.{query_of, skip}
 use Rattle.fts_query.specs.Answers.{refusal_of, outcome_of, answer_from, answer_fit, answer, IsAnswer}
+use Rattle.fts_model.specs.Queries.{query_fits}
+use Rattle.fts_query.proofs.FitLemmas.{fits_value, query_meaning_fits, query_fits-value}
 use Rattle.fts_query.proofs.Sound.{query_sound}
 use Rattle.fts_query.proofs.Complete.{query_again, no_query_is_blank}
 use Rattle.fts_query.proofs.CharLemmas.{length-chars}
@@ -111,6 +113,11 @@ no_blank_skips (d ∷ s) t u c e f =
       | inr k ↦ rw k refl
     ]
 
+-- what a text reads as fits the schema
+reads_fits : (schema : List Field) (text : List ℕ) (q : QueryValue) → Reads schema text (Ok q) → fits_value schema q ≡ true
+reads_fits schema text q (f, inl h) = subst (λ (x : QueryValue). fits_value schema x ≡ true) (sym h.1) refl
+reads_fits schema text q (f, inr h) = query_meaning_fits schema h
+
 module _ (schema : List Field) (text : List ℕ) (f : IsFit text) where
   fit_answer : answer schema text ≡ answer_fit schema (chars text)
   unfolding answer
@@ -131,3 +138,7 @@ module _ (schema : List Field) (text : List ℕ) (f : IsFit text) where
   refused (Err Memory) h = λ n. absurd (n refl)
   refused (Err (Syntax byte)) h = λ n. outcome_reads (Err (Syntax 0)) h
   refused (Err e) h = λ n. outcome_reads (Err e) h
+
+  pub fitted : (r : Result Query Refusal) → IsAnswer r (answer_fit schema (chars text)) → IfOk r (λ q. query_fits schema q ≡ true)
+  fitted (Ok q) h = query_fits-value schema q ∙ reads_fits schema text (query_value q) (outcome_reads (Ok (query_value q)) h)
+  fitted (Err e) h = tt

@@ -9,3 +9,4 @@ pub mod GatherLemmas
 pub mod QueryLemmas
 pub mod MeaningLemmas
 pub mod UnitLemmas
+pub mod FitLemmas

@@ -145,7 +145,7 @@ impl<'a> Model for Input<'a> {
 }
 
 impl<'a> Input<'a> {
-    ghost use Rattle.std.specs.Prelude.{◌≡◌, ◌≤◌, ◌∷◌, [], ℕ, List, length, option_map, MatchOption, IfOk, string_bytes};
+    ghost use Rattle.std.specs.Prelude.{◌≡◌, ◌≤◌, ◌∷◌, [], ℕ, List, length, codes, option_map, MatchOption, IfOk, string_bytes};
     ghost use Rattle.std.specs.Str.{chars};
     ghost use Rattle.fts_query.specs.Reading.{skip, past, word, quoted_of, begins_space as does_begin_space, closes as does_close, space_at, operator_at};
     ghost use Rattle.fts_query.specs.Steps.{Finds};
@@ -247,9 +247,30 @@ impl<'a> Input<'a> {
         }
     }
 
+    /// What follows an `AND`.
+    pub(crate) fn behind_and(&self) -> Option<Input<'a>>
+        ensures { option_map (λ x. x) result ≡ operator_at (codes "AND") self.now }
+    {
+        self.behind_operator("AND")
+    }
+
+    /// What follows an `OR`.
+    pub(crate) fn behind_or(&self) -> Option<Input<'a>>
+        ensures { option_map (λ x. x) result ≡ operator_at (codes "OR") self.now }
+    {
+        self.behind_operator("OR")
+    }
+
+    /// What follows a `TO`.
+    pub(crate) fn behind_to(&self) -> Option<Input<'a>>
+        ensures { option_map (λ x. x) result ≡ operator_at (codes "TO") self.now }
+    {
+        self.behind_operator("TO")
+    }
+
     /// What follows a word that stands between white space.
     #[tactic(auto, unfolding(crate::specs::Reading::operator_at))]
-    pub(crate) fn behind_operator(&self, name: &str) -> Option<Input<'a>>
+    fn behind_operator(&self, name: &str) -> Option<Input<'a>>
         ensures { option_map (λ x. x) result ≡ operator_at name.now self.now }
     {
         let (word, rest) = self.fork().behind_space().split_word();

@@ -67,6 +67,7 @@ pub fn parse(alloc: Global, schema: &Schema, text: &str) -> Result<Query, Refusa
     ensures reads { IfOk result (λ query. Reads schema.now text.now (Ok (query_value query))) }
     ensures refused { IfErr result (λ refusal. refusal ≢ Memory → Reads schema.now text.now (Err refusal)) }
     ensures byte { IfErr result (λ refusal. byte_of refusal ≤ length text.now) }
+    ensures fits { IfOk result (λ query. query_fits schema.now query ≡ true) }
 {
     if text.len() > LONGEST {
         return Err(Refusal::TooLong);

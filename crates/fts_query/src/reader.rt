@@ -256,7 +256,7 @@ fn factors_at<'a>(
     for _ in 0..LONGEST - 1 {
         let (factor, rest) = factor_at(alloc, schema, depth, next)?;
         push_factor(clauses, factor)?;
-        match rest.behind_operator("AND") {
+        match rest.behind_and() {
             None => return Ok(rest),
             Some(behind) => next = behind,
         }
@@ -275,7 +275,7 @@ fn conjunction_at<'a>(
     ensures { Finds (λ x. (part_seen x.0, x.1)) result (over conjunction_part (conjunction_of (unit_of schema.now depth) text.entry)) }
 {
     let (first, rest) = factor_at(alloc, schema, depth, text)?;
-    match rest.behind_operator("AND") {
+    match rest.behind_and() {
         None => Ok((Part::Lone(first), rest)),
         Some(next) => {
             let mut clauses = Clauses::new(alloc);
@@ -301,7 +301,7 @@ fn conjunctions_at<'a>(
     for _ in 0..LONGEST - 1 {
         let (part, rest) = conjunction_at(alloc, schema, depth, next)?;
         push_alternative(alloc, clauses, part)?;
-        match rest.behind_operator("OR") {
+        match rest.behind_or() {
             None => return Ok(rest),
             Some(behind) => next = behind,
         }
@@ -320,7 +320,7 @@ fn chain_at<'a>(
     ensures { Finds (λ x. (part_seen x.0, x.1)) result (over chain_part (chain_of (unit_of schema.now depth) text.entry)) }
 {
     let (first, rest) = conjunction_at(alloc, schema, depth, text)?;
-    match rest.behind_operator("OR") {
+    match rest.behind_or() {
         None => Ok((first, rest)),
         Some(next) => {
             let mut clauses = Clauses::new(alloc);

@@ -104,7 +104,7 @@ fn range_at<'a>(included: bool, text: Input<'a>) -> Result<(Value<'a>, Input<'a>
     ensures short { IfOk result (λ x. IsShort (value_seen x.0)) }
 {
     let (lower, rest) = bound_at(text.behind_space())?;
-    match rest.behind_operator("TO") {
+    match rest.behind_to() {
         None => Err(Stop::Syntax(rest.len())),
         Some(next) => {
             let (upper, rest) = bound_at(next)?;
