@@ -1,25 +1,22 @@
 -- What is in the grammar is read from the front.
-use Rattle.std.proofs.Common.{◌≡◌, ℕ, zero, suc, ◌+◌, ◌<◌, ◌≤◌, Bool, true, false, not, ◌&&◌, ◌||◌, cond, List, [], ◌∷◌, ◌++◌, length, codes, Option, Some, None, Ok, refl, sym, ap, subst, ◌∙◌, append_assoc, length-append, arith, inl, inr}
+use Rattle.std.proofs.Common.{◌≡◌, ℕ, zero, suc, ◌<◌, ◌≤◌, Bool, true, false, not, ◌||◌, List, [], ◌∷◌, ◌++◌, length, codes, Option, Some, None, Ok, refl, sym, ap, subst, ◌∙◌, append_assoc, length-append, arith, inl, inr}
 use Rattle.std.specs.Prelude.{◌==◌}
 use Rattle.std.specs.List.{list_all}
 use Rattle.std.specs.Str.{encode_utf8_all, bytes_eq}
 use Rattle.std.specs.declared.ops.Bound.{Bound}
-use Rattle.std.specs.declared.ops.Bound.TheVariants.{Included, Excluded, Unbounded}
-use Rattle.std.proofs.lemmas.Bool.{and_parts, and_from, eqb-true, or_left, not-true, or_parts, cases_Bool}
+use Rattle.std.specs.declared.ops.Bound.TheVariants.{Unbounded}
+use Rattle.std.proofs.lemmas.Bool.{and_parts, eqb-true, or_left, not-true, or_parts, cases_Bool}
 use Rattle.std.proofs.lemmas.List.{append-nil}
-use Rattle.std.proofs.lemmas.Option.{same_Some}
-use Rattle.std.proofs.lemmas.Slice.Eq.{bytes_eq-Decides}
 use lib.Utf8.{encode}
 use Rattle.fts_model.specs.declared.schema.Field.{Field}
 use Rattle.fts_model.specs.Schemas.{is_reserved}
-use Rattle.fts_query.specs.declared.clauses.Sign.{Sign}
 use Rattle.fts_query.specs.declared.clauses.Sign.TheVariants.{Plain, Plus, Minus}
 use Rattle.fts_query.specs.QueryValues.{every}
 use Rattle.fts_query.specs.Meanings.{Meaning, Factor, Value, literal, between, list_meaning, literal_anywhere, field_meaning}
 use Rattle.fts_query.specs.Grammar
 use Rattle.fts_query.specs.Grammar.{is_space, is_word_char, is_bare, IsWord, IsBound, bound, IsValue, Opens, Closes, begins_equals, IsBlank, IsSpace, IsBare, IsOperator, IsUnit, IsFactor, IsConjunction, IsChain, IsList, IsQuery, quotation}
-use Rattle.fts_query.specs.Reading.{Parser, skip, run, past, word, begins_space, closes, space_at, operator_at, onto, bind, go_on, seq_by, signed, negated_of, factor_of, conjunction_of, chain_of, list_of, over, meaning_of, close, said, quoted_of, word_of, bound_of, range_end, range_of, compared_of, above_of, below_of, said_of, plain_of, value_of, behind_bare, is_sign, bare_of, quote_of, group_of, unit_by, unit_of, ended, query_of}
-use Rattle.fts_query.proofs.Texts.{IsPlain, bytes_eq-encoded, plain_and, plain_or, plain_not, plain_to, is_reserved-encoded, stops, opens, run_stops, run-append, run_at, WordEnds, skip-append, skip_opens, said_again, no_word_char}
+use Rattle.fts_query.specs.Reading.{Parser, skip, run, past, word, begins_space, closes, space_at, operator_at, seq_by, negated_of, factor_of, conjunction_of, chain_of, list_of, meaning_of, said, quoted_of, word_of, bound_of, range_end, range_of, compared_of, above_of, below_of, said_of, plain_of, value_of, behind_bare, is_sign, bare_of, quote_of, group_of, unit_by, unit_of, query_of}
+use Rattle.fts_query.proofs.Texts.{bytes_eq-encoded, plain_and, plain_or, plain_not, is_reserved-encoded, stops, opens, run_stops, run-append, run_at, WordEnds, skip-append, skip_opens, said_again, no_word_char}
 
 -- how a factor begins, and how a unit does
 record Begins (b : List ℕ) : Type 0 where

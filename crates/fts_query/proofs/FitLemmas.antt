@@ -1,7 +1,6 @@
 -- A query that a text reads as fits the schema.
-use Rattle.std.proofs.Common.{◌≡◌, ℕ, ◌+◌, ◌<◌, ◌^◌, Bool, true, false, ◌&&◌, List, [], ◌∷◌, ◌++◌, length, get_or, drop, map, Option, Some, None, Result, Ok, Err, refl, sym, ap, subst, ◌∙◌, arith, inl, inr, ℤ, pos, neg_ℤ, slice_get, option_map, if◌then◌else◌}
+use Rattle.std.proofs.Common.{◌≡◌, ℕ, ◌+◌, ◌^◌, Bool, true, false, ◌&&◌, List, [], ◌∷◌, length, get_or, drop, map, Option, Some, None, Result, Ok, Err, refl, sym, ap, subst, ◌∙◌, inl, inr, pos, neg_ℤ, slice_get, option_map, if◌then◌else◌}
 use Rattle.std.specs.Option.{option_map_or}
-use Rattle.std.specs.Str.{chars}
 use Rattle.std.specs.declared.ops.Bound.{Bound}
 use Rattle.std.specs.declared.ops.Bound.TheVariants.{Included, Excluded, Unbounded}
 use Rattle.std.proofs.lemmas.Bool.{cases_Bool, cases_lt}
@@ -11,7 +10,6 @@ use Rattle.fts_text.specs.Tokens.{tokens}
 use Rattle.fts_model.specs.declared.schema.Kind.{Kind}
 use Rattle.fts_model.specs.declared.schema.Kind.TheVariants as kinds
 use Rattle.fts_model.specs.declared.schema.Field.{Field}
-use Rattle.fts_model.specs.declared.value.Number.{Number}
 use Rattle.fts_model.specs.declared.value.Number.TheVariants as numbers
 use Rattle.fts_model.specs.declared.value.FieldValue.{FieldValue}
 use Rattle.fts_model.specs.declared.value.FieldValue.TheVariants as values
@@ -28,9 +26,8 @@ use Rattle.fts_query.specs.declared.fault.Fault.{Fault}
 use Rattle.fts_query.specs.declared.fault.Fault.TheVariants.{BadNumber, UnknownField}
 use Rattle.fts_query.specs.declared.clauses.Role.{Role}
 use Rattle.fts_query.specs.declared.clauses.Role.TheVariants.{Must, MustNot, Should}
-use Rattle.fts_query.specs.declared.clauses.Sign.TheVariants.{Plain, Plus, Minus}
 use Rattle.fts_query.specs.QueryValues.{QueryValue, every, nothing, term, phrase, range, boolean, QueryValues, none, query, query_list, value_by_parts, query_value}
-use Rattle.fts_query.specs.Meanings.{Meaning, Factor, Clause, members, musts, must_nots, shoulds, boolean_of, node, conjunction, disjunction, chain_clause, list_meaning, role_in_conjunction, role_alone, number_below, number_in, value_in, begins_minus, with_value, with_tokens, literal_in, default_clauses, some_default, literal_anywhere, bound_in, Value, literal, between, meaning_in, meaning_at, field_meaning}
+use Rattle.fts_query.specs.Meanings.{Meaning, Factor, Clause, members, musts, must_nots, shoulds, boolean_of, node, conjunction, disjunction, chain_clause, list_meaning, role_in_conjunction, number_below, value_in, begins_minus, with_value, with_tokens, literal_in, default_clauses, some_default, literal_anywhere, bound_in, Value, literal, between, meaning_in, meaning_at, field_meaning}
 use Rattle.fts_query.specs.Grammar
 use Rattle.fts_query.specs.Grammar.{IsUnit, IsFactor, IsConjunction, IsChain, IsList, IsQuery}
 

@@ -1,5 +1,5 @@
 -- Clauses that come one by one make the node of all of them.
-use Rattle.std.proofs.Common.{◌≡◌, ℕ, zero, suc, ◌+◌, ◌-◌, ◌<◌, ◌≤◌, List, [], ◌∷◌, ◌++◌, length, codes, map, Option, Some, None, Ok, Err, Result, refl, sym, ap, subst, ◌∙◌, append_assoc, arith}
+use Rattle.std.proofs.Common.{◌≡◌, ℕ, zero, suc, ◌+◌, ◌-◌, ◌<◌, ◌≤◌, List, [], ◌∷◌, ◌++◌, codes, map, Option, Some, None, Ok, Err, Result, refl, sym, ap, subst, ◌∙◌, append_assoc, arith}
 use Rattle.std.proofs.lemmas.List.{append-nil}
 use Rattle.std.proofs.lemmas.Option.{same_Some}
 use Rattle.fts_query.specs.declared.fault.Fault.{Fault}
@@ -7,7 +7,7 @@ use Rattle.fts_query.specs.declared.clauses.Role.{Role}
 use Rattle.fts_query.specs.declared.clauses.Role.TheVariants.{Must, MustNot, Should}
 use Rattle.fts_query.specs.declared.stop.Stop.{Stop}
 use Rattle.fts_query.specs.declared.stop.Stop.TheVariants.{Memory, Syntax}
-use Rattle.fts_model.specs.Outcomes.{result_and_then, result_map}
+use Rattle.fts_model.specs.Outcomes.{result_map}
 use Rattle.fts_query.specs.QueryValues.{QueryValue}
 use Rattle.fts_query.specs.Meanings.{Meaning, Factor, Clause, members, musts, must_nots, shoulds, boolean_of, node, conjunction, disjunction, chain_clause, list_meaning}
 use Rattle.fts_query.specs.Gathering.{Gathered, gather, gather_all, gathered_node}

@@ -1,6 +1,6 @@
 -- A text has one outcome, and the reading from the left finds it.
-use Rattle.std.proofs.Common.{◌≡◌, ℕ, ◌<◌, ◌≤◌, Bool, true, false, List, [], ◌∷◌, length, subst, Option, Some, None, Result, Ok, Err, refl, sym, ap, ◌∙◌, arith, inl, inr, ltb}
-use Rattle.std.specs.Str.{chars, IsUtf8}
+use Rattle.std.proofs.Common.{◌≡◌, ℕ, true, false, List, [], ◌∷◌, length, subst, Option, Some, None, Result, Ok, Err, refl, sym, ap, ◌∙◌, arith, inl, inr, ltb}
+use Rattle.std.specs.Str.{chars}
 use Rattle.std.specs.List.{list_all}
 use Rattle.std.proofs.lemmas.Bool.{cases_Bool, ltb-true, ltb-false, le-ltb, lt-ltb, false_from_ne_true}
 use Rattle.fts_model.specs.declared.schema.Field.{Field}
@@ -8,7 +8,6 @@ use Rattle.fts_model.specs.declared.refusal.Refusal.{Refusal}
 use Rattle.fts_model.specs.declared.refusal.Refusal.TheVariants.{Memory, TooLong, Syntax, TooDeep, UnknownField, BadNumber, RangeOnText, NoDefaultField, AllNegative}
 use Rattle.fts_model.specs.declared.query.Query.{Query}
 use Rattle.std.specs.Prelude.{IfOk, IfErr}
-use Rattle.fts_query.specs.declared.fault.Fault.{Fault}
 use Rattle.fts_query.specs.declared.fault.Fault.TheVariants as faults
 use Rattle.fts_query.specs.declared.nesting.Place.TheVariants.{Outside}
 use Rattle.fts_query.specs.QueryValues.{QueryValue, nothing, query_value}
@@ -16,7 +15,7 @@ use Rattle.fts_query.specs.Meanings.{Meaning}
 use Rattle.fts_query.specs.Grammar.{is_space, IsBlank, IsQuery}
 use Rattle.fts_query.specs.Outcomes.{is_too_deep, IsFit, Reads, without_byte}
 use Rattle.fts_query.specs.Reading.{query_of, skip}
-use Rattle.fts_query.specs.Answers.{refusal_of, outcome_of, answer_from, answer_fit, answer, IsAnswer}
+use Rattle.fts_query.specs.Answers.{outcome_of, answer_from, answer_fit, answer, IsAnswer}
 use Rattle.fts_model.specs.Queries.{query_fits}
 use Rattle.fts_query.proofs.FitLemmas.{fits_value, query_meaning_fits, query_fits-value}
 use Rattle.fts_query.proofs.Sound.{query_sound}

@@ -1,5 +1,5 @@
 -- The tokens of a literal, and the default fields.
-use Rattle.std.proofs.Common.{◌≡◌, ℕ, ◌+◌, ◌-◌, ◌<◌, ◌≤◌, ◌^◌, ◌||◌, Bool, true, false, List, [], ◌∷◌, ◌++◌, length, drop, map, refl, sym, ap, subst, ◌∙◌, append_assoc, All, arith, Ok, Err, inl, inr}
+use Rattle.std.proofs.Common.{◌≡◌, ℕ, ◌+◌, ◌-◌, ◌<◌, ◌≤◌, ◌^◌, Bool, true, false, List, [], ◌∷◌, ◌++◌, length, drop, map, refl, sym, ap, subst, ◌∙◌, append_assoc, All, arith, Err, inl, inr}
 use Rattle.std.specs.List.{list_any}
 use Rattle.std.specs.Str.{IsUtf8}
 use Rattle.std.proofs.lemmas.Bool.{cases_Bool}
@@ -11,8 +11,8 @@ use Rattle.fts_text.proofs.StretchLemmas.{All-IsPlaceIn, IsPlaceIn-first, tokens
 use Rattle.fts_model.specs.declared.schema.Field.{Field}
 use Rattle.fts_model.specs.declared.value.FieldValue.TheVariants as values
 use Rattle.fts_query.specs.declared.fault.Fault.TheVariants.{NoDefaultField}
-use Rattle.fts_query.specs.QueryValues.{QueryValue, phrase, nothing}
-use Rattle.fts_query.specs.Meanings.{Meaning, Clause, node, with_tokens, with_value, default_clauses, some_default, literal_anywhere}
+use Rattle.fts_query.specs.QueryValues.{phrase, nothing}
+use Rattle.fts_query.specs.Meanings.{Clause, node, with_tokens, with_value, default_clauses, some_default, literal_anywhere}
 use Rattle.fts_query.specs.Gathering.{Gathered, gather_all, gathered_node}
 use Rattle.fts_query.proofs.GatherLemmas.{nothing_gathered, gathered_node-all}
 

@@ -1,17 +1,16 @@
 -- White space, words and quoted text at the front of a text.
-use Rattle.std.proofs.Common.{◌≡◌, ℕ, zero, suc, ◌+◌, ◌-◌, take, drop, length-append, ◌<◌, ◌≤◌, Bool, true, false, not, ◌&&◌, ◌||◌, ◌⊎◌, cond, List, [], ◌∷◌, ◌++◌, length, codes, Option, Some, None, refl, sym, ap, subst, ◌∙◌, append_assoc, arith, inl, inr}
+use Rattle.std.proofs.Common.{◌≡◌, ℕ, Bool, true, false, not, ◌||◌, ◌⊎◌, cond, List, [], ◌∷◌, ◌++◌, codes, Option, Some, None, refl, sym, ap, ◌∙◌, arith, inl, inr}
 use Rattle.std.specs.Prelude.{◌==◌}
 use Rattle.std.specs.List.{list_all}
 use Rattle.std.specs.Str.{encode_utf8_all, bytes_eq}
 use Rattle.std.proofs.lemmas.Bool.{and_parts, and_from, or_cases, cases_Bool, eqb-true, not-true, or_parts}
-use Rattle.std.proofs.lemmas.List.{take_at, drop_at}
-use Rattle.std.proofs.lemmas.Option.{cond_some, same_Some}
+use Rattle.std.proofs.lemmas.Option.{same_Some}
 use Rattle.std.proofs.lemmas.Slice.Eq.{bytes_eq-Decides}
 use Rattle.std.proofs.lemmas.Str.{encodes_same}
 use lib.Utf8.{encode}
 use Rattle.fts_model.specs.Schemas.{is_reserved}
-use Rattle.fts_query.specs.Grammar.{is_space, is_special, is_word_char, IsBlank, IsSpace, piece, quotation}
-use Rattle.fts_query.specs.Reading.{skip, run, past, word, begins_space, closes, said, char_onto}
+use Rattle.fts_query.specs.Grammar.{is_space, is_word_char, IsBlank, IsSpace, piece, quotation}
+use Rattle.fts_query.specs.Reading.{skip, run, past, word, begins_space, said, char_onto}
 
 -- a name in ASCII is its own spelling
 abbrev pub IsPlain : List ℕ → Type 0

@@ -1,5 +1,5 @@
 -- What the parts of a query mean under a schema.
-use Rattle.std.specs.Prelude.{ℕ, ◌+◌, ◌-◌, ◌*◌, ◌^◌, ◌==◌, ◌&&◌, not, nat_lt, nat_le, Bool, true, false, List, [], ◌∷◌, length, map, drop, Option, Some, None, Result, Ok, Err, if◌then◌else◌, option_map, ℤ, pos, neg_ℤ}
+use Rattle.std.specs.Prelude.{ℕ, ◌+◌, ◌-◌, ◌*◌, ◌^◌, ◌==◌, ◌&&◌, nat_lt, nat_le, Bool, false, List, [], ◌∷◌, map, drop, Option, Some, None, Result, Ok, Err, if◌then◌else◌, option_map, pos, neg_ℤ}
 use Rattle.std.specs.List.{list_all}
 use Rattle.std.specs.Option.{option_map_or}
 use Rattle.std.specs.declared.ops.Bound.{Bound}
@@ -21,7 +21,7 @@ use Rattle.fts_query.specs.declared.clauses.Role.{Role}
 use Rattle.fts_query.specs.declared.clauses.Role.TheVariants.{Must, MustNot, Should}
 use Rattle.fts_query.specs.declared.clauses.Sign.{Sign}
 use Rattle.fts_query.specs.declared.clauses.Sign.TheVariants.{Plain, Plus, Minus}
-use Rattle.fts_query.specs.QueryValues.{QueryValue, every, nothing, term, phrase, range, boolean, query_list}
+use Rattle.fts_query.specs.QueryValues.{QueryValue, nothing, term, phrase, range, boolean, query_list}
 
 -- what a part of a text means: a query, or the first fault in it
 abbrev pub Meaning : Type 0

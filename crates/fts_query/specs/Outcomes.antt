@@ -1,10 +1,9 @@
 -- What a text reads as: a query, or a refusal.
-use Rattle.std.specs.Prelude.{◌≡◌, ℕ, ◌+◌, ◌-◌, ◌<◌, ◌≤◌, ◌⊎◌, Bool, true, false, ◌==◌, nat_lt, List, [], ◌∷◌, length, Option, Some, None, Result, Ok, Err, if◌then◌else◌}
+use Rattle.std.specs.Prelude.{◌≡◌, ℕ, ◌+◌, ◌-◌, ◌<◌, ◌≤◌, ◌⊎◌, Bool, true, false, ◌==◌, nat_lt, List, [], ◌∷◌, length, Result, Ok, Err, if◌then◌else◌}
 use Rattle.std.specs.Str.{chars}
 use Rattle.fts_model.specs.declared.schema.Field.{Field}
 use Rattle.fts_model.specs.declared.refusal.Refusal.{Refusal}
 use Rattle.fts_model.specs.declared.refusal.Refusal.TheVariants.{TooLong, Syntax, TooDeep, UnknownField, BadNumber, RangeOnText, NoDefaultField, AllNegative}
-use Rattle.fts_query.specs.declared.fault.Fault.{Fault}
 use Rattle.fts_query.specs.declared.fault.Fault.TheVariants as faults
 use Rattle.fts_query.specs.declared.nesting.Place.{Place}
 use Rattle.fts_query.specs.declared.nesting.Place.TheVariants.{Outside, Quoted, Escaped}

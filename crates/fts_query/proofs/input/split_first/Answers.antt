@@ -1,6 +1,3 @@
-use Rattle.std.proofs.lemmas.Str.{chars_past_char}
-use Rattle.std.proofs.Common.{sym, ◌∙◌, ap}
-use Rattle.std.specs.Str.{chars}
 use Rattle.fts_query.proofs.CharLemmas.{chars-cons}
 use Rattle.fts_query.proofs.input.split_first.Goals as goal
 

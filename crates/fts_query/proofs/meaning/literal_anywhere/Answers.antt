@@ -1,5 +1,4 @@
-use Rattle.std.proofs.Common.{◌≡◌, length, ap, sym, ◌∙◌, arith}
-use Rattle.fts_query.specs.Gathering.{gathered_of, gathered_node}
+use Rattle.std.proofs.Common.{length, ap, sym, ◌∙◌, arith}
 use Rattle.fts_query.proofs.MeaningLemmas.{no_default, defaults}
 use Rattle.fts_query.proofs.meaning.literal_anywhere.Goals as goal
 

@@ -1,6 +1,6 @@
-use Rattle.std.proofs.Common.{◌≡◌, ◌-◌, ◌++◌, ◌∷◌, [], ap, sym, ◌∙◌, arith}
+use Rattle.std.proofs.Common.{◌≡◌, ◌++◌, ◌∷◌, [], arith}
 use Rattle.fts_text.specs.Places.{places, places_left}
-use Rattle.fts_query.proofs.MeaningLemmas.{Gathers-start, Gathers-place, Gathers-next, Gathers-none, position_fits, member}
+use Rattle.fts_query.proofs.MeaningLemmas.{Gathers-start, Gathers-place, Gathers-next, position_fits, member}
 use Rattle.fts_query.proofs.meaning.pattern.Goals as goal
 
 pub loop-place-init : goal.loop-place-init

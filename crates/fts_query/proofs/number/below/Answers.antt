@@ -1,4 +1,4 @@
-use Rattle.std.proofs.Common.{sym, ◌∙◌, arith}
+use Rattle.std.proofs.Common.{sym, arith}
 use Rattle.fts_query.proofs.NumberLemmas.{smaller_found, smaller_beyond, smaller_none}
 use Rattle.fts_query.proofs.number.below.Goals as goal
 

@@ -1,4 +1,4 @@
-use Rattle.std.proofs.Common.{sym, ◌∙◌, arith}
+use Rattle.std.proofs.Common.{sym, ◌∙◌}
 use Rattle.fts_query.proofs.NumberLemmas.{whole_is}
 use Rattle.fts_query.proofs.number.unsigned.Goals as goal
 

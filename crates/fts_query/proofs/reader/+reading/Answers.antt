@@ -1,11 +1,11 @@
-use Rattle.std.proofs.Common.{◌≡◌, refl, sym, ap, ◌∙◌, arith, Some, Ok}
+use Rattle.std.proofs.Common.{◌≡◌, sym, ap, ◌∙◌, Some, Ok}
 use Rattle.fts_query.proofs.QueryLemmas.{value-all}
 use Rattle.std.proofs.lemmas.Result.{err_from_is_err_and}
 use Rattle.fts_model.specs.Outcomes.{result_map}
 use Rattle.fts_query.specs.QueryValues.{QueryValue, query_value}
 use Rattle.fts_query.specs.Gathering.{Gathered, gathered_of, gather}
-use Rattle.fts_query.specs.Parts.{factor_seen, part_seen, conjunction_part, chain_part, part_clause, part_should, factor_clause}
-use Rattle.fts_query.specs.Reading.{unit_of, factor_of, conjunction_of, chain_of, list_of, meaning_of}
+use Rattle.fts_query.specs.Parts.{factor_seen, part_seen, part_should, factor_clause}
+use Rattle.fts_query.specs.Reading.{unit_of}
 use Rattle.fts_query.proofs.GatherLemmas.{nothing_gathered, factors_more, factors_last, factors_fail, factors_over, conjunction_fails, conjunction_lone, conjunction_several, conjunction_stops, conjunctions_more, conjunctions_last, conjunctions_fail, conjunctions_over, chain_fails, chain_lone, chain_several, chain_stops, chains_more, chains_last, chains_fail, chains_over, list_is, list_stops}
 use Rattle.fts_query.proofs.UnitLemmas.{unit_none, unit_empty, unit_group, unit_star, unit_quote, unit_bare}
 use Rattle.fts_query.proofs.reader.+reading.Goals as goal
