@@ -1,5 +1,7 @@
 pub mod Adds
-pub mod Boundaries
+pub mod AnswerLemmas
+pub mod BlankLemmas
+pub mod CarrierLemmas
+pub mod HistoryLemmas
 pub mod LineLemmas
 pub mod RunLemmas
-pub mod KeptLemmas

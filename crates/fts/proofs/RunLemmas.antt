@@ -1,14 +1,15 @@
 -- What a step of a run keeps.
 use Rattle.std.proofs.Common.{inl, ltb, lt-ltb, IfOk, IfSome, Result, Ok, Err, OnErr, OnOk, ◌≡◌, ◌<◌, ◌≤◌, ◌-◌, Bool, true, false, cond, eqb, ◌&&◌, ℕ, ◌+◌, Option, Some, None, List, [], ◌∷◌, ◌++◌, length, take, drop, refl, ap, sym, ◌∙◌, append_assoc, append-nil, take-append-drop, subst, arith, rules, tests}
-use Rattle.std.proofs.lemmas.List.{take_all, length-drop, length-append, length-take-le}
+use Rattle.std.proofs.lemmas.List.{take_all, length-drop, length-append, length-take-le, nil_from_length}
 use Rattle.std.proofs.Math.Seq.{take-add}
 use Rattle.std.proofs.KnownBytes.{Appends-nil, Appends-trans, Consumes-trans}
 use Rattle.std.specs.Io.KnownBytes.{Appends, Consumes, IsAtEnd}
 use Rattle.fts.specs.declared.lines.PartialLine.{PartialLine}
 use Rattle.fts.specs.Streams.{Moved, Wrote}
 use Rattle.fts.specs.Text.{lines_of, IsWhole, HasNoEnd}
-use Rattle.fts.specs.Replies.{Script, start, after_line, reply_to, replies, after_lines, output}
+use Rattle.fts.specs.Outputs.{Script, start, after_line, reply_to, replies, after_lines, output}
 use Rattle.fts.specs.Runs.{Holds, Answered, AnswersFirst, AnswersEnded, BeginsOutput, BeginsOutputUnless, BeginsWith, Ends, Leads, LeadsFirst, Reached}
+use Rattle.fts.proofs.BlankLemmas.{Holds-length, Holds-nothing-short}
 use Rattle.fts.proofs.LineLemmas.{lines_of-append, lines_of-ended, lines_of-unended, HasNoEnd-append, IsWhole-ended}
 
 replies-append : (s : Script) (xs ys : List (List ℕ)) → replies s (xs ++ ys) ≡ replies s xs ++ replies (after_lines s xs) ys
@@ -208,12 +209,10 @@ pub Wrote-same : (before now : Option (List ℕ)) (s : Script) (p : PartialLine)
 Wrote-same before now s p input r =
     subst (λ v. Wrote before now (AnswersFirst v)) (append-nil input) (Wrote-more before now s p input [] r)
 
-Holds-nothing : (p : PartialLine) (line : List ℕ) → Holds p [] → Holds p line → line ≡ []
-Holds-nothing p line none some = held p.too_long refl
-  where
-    held : (t : Option Bool) → p.too_long ≡ t → line ≡ []
-    held None e = sym (some.kept e) ∙ none.kept e
-    held (Some blank) e = absurd (omega (arith, (none.too_long blank e).0))
+pub Holds-nothing : (p : PartialLine) (line : List ℕ) → Holds p [] → Holds p line → line ≡ []
+Holds-nothing p line none some =
+    let short = Holds-nothing-short p none in
+    nil_from_length line (Holds-length p line short some ∙ sym (Holds-length p [] short none))
 
 -- the input ended behind an LF
 pub Ends-nothing : (s : Script) (p : PartialLine) → Holds p [] → Ends s p []

@@ -1,13 +1,15 @@
 pub mod Arguments
+pub mod Carriers
 pub mod CommandViews
 pub mod Commands
+pub mod Histories
 pub mod Indexes
 pub mod ListIndexes
 pub mod Lists
+pub mod Outputs
 pub mod Replies
 pub mod Runs
+pub mod Sessions
 pub mod Steps
 pub mod Streams
 pub mod Text
-pub mod Words
-pub mod Kept

@@ -1,44 +1,26 @@
--- What a script replies.
-use Rattle.std.specs.Prelude.{ℕ, ◌+◌, List, [], ◌∷◌, ◌++◌, length, nat_lt, codes, Result, Ok, Err, Option, Some, None, if◌then◌else◌}
-use Rattle.std.specs.Option.{ok_or}
-use Rattle.serde_json.specs.Data.{Data, number, unsigned, string, object, member, no_members}
+-- What a script replies: its lines, the command that each is, a step for each command, and the reply that prints it.
+use Rattle.std.specs.Prelude.{ℕ, ◌+◌, List, [], ◌∷◌, ◌++◌, length, codes, Result, Ok, Err, Option, Some, None, if◌then◌else◌, option_map}
+use Rattle.serde_json.specs.Data.{Data, number, unsigned, string, array, Items, item, no_items, object, Members, member, no_members}
 use Rattle.serde_json.specs.Written.{compact_text}
 use Rattle.fts_model.specs.declared.refusal.Refusal.{Refusal}
-use Rattle.fts_model.specs.declared.refusal.Refusal.TheVariants.{LineTooLong, BadJson, BadCommand, NoSchema, SchemaTwice}
+use Rattle.fts_model.specs.declared.refusal.Refusal.TheVariants.{NoSchema, SchemaTwice}
 use Rattle.fts_model.specs.declared.schema.Field.{Field}
 use Rattle.fts_model.specs.declared.operation.Op.TheVariants as ops
-use Rattle.fts_model.specs.declared.operation.Term.{Term}
+use Rattle.fts_model.specs.declared.value.Number.{Number}
+use Rattle.fts_model.specs.declared.value.FieldValue.TheVariants as values
+use Rattle.fts_model.specs.declared.answer.Hit.{Hit}
 use Rattle.fts_model.specs.Refusals.{name_of}
-use Rattle.fts_model.specs.Outcomes.{ok_unless}
+use Rattle.fts_model.specs.Outcomes.{ok_unless, result_and_then, result_map}
 use Rattle.fts_model.specs.Schemas.{schema_fault}
-use Rattle.fts_model.specs.Documents.{DocumentValue, document_of}
+use Rattle.fts_model.specs.Documents.{document_of, data_of, json_of}
+use Rattle.fts_model.specs.Operations.{term_of}
+use Rattle.fts_model.specs.Queries.{request_of}
+use Rattle.fts_model.specs.Answers.{AnswerValue}
+use Rattle.fts_query.specs.Answers.{answer as query_of}
 use Rattle.fts.specs.Text.{lines_of, is_blank}
-use Rattle.fts.specs.Commands.{Command, Schema, Add, Commit, Search, json_in, command_in}
-use Rattle.fts.specs.Words.{terms_in}
-use Rattle.fts.specs.Indexes.{Index, opened, next_stamp, submitted, committed, with_any}
-
--- the most bytes of a line that is read
-abbrev pub longest : ℕ
-longest = 4194304
-
--- what is carried from line to line: how many lines there were, and the index, once a schema was taken
-pub record Script : Type 0 where
-  pub number : ℕ
-  pub index : Option Index
-
--- the script before the first line
-abbrev pub start : Script
-start = record { number = 0; index = None }
-
--- what a command leaves, and its reply
-pub record Obeyed : Type 0 where
-  pub index : Option Index
-  pub reply : Data
-
-infixl 10 ◌>>=◌
-abbrev pub ◌>>=◌ : {A B : Type 0} → Result A Refusal → (A → Result B Refusal) → Result B Refusal
-(Ok x) >>= f = f x
-(Err e) >>= f = Err e
+use Rattle.fts.specs.Commands.{Command, Schema, Add, Delete, DeleteAll, Commit, Rollback, Merge, Find, Search, command}
+use Rattle.fts.specs.Carriers.{Carrier}
+use Rattle.fts.specs.Steps.{submit, commit, rollback, merge, search_commit}
 
 -- an object of a name and a number
 abbrev pub number_reply : List ℕ → ℕ → Data
@@ -48,37 +30,80 @@ number_reply name n = object (member name (number (unsigned n)) no_members)
 abbrev pub refusal_reply : Refusal → ℕ → Data
 refusal_reply refusal line = object (member (codes "error") (string (name_of refusal)) (member (codes "line") (number (unsigned line)) no_members))
 
--- a schema is taken
-abbrev pub take_schema : List Field → Result Obeyed Refusal
-take_schema fields = ok_unless (schema_fault fields) (record { index = Some (opened fields); reply = number_reply (codes "fields") (length fields) })
+-- a number as JSON
+abbrev pub number_data : Number → Data
+number_data n = data_of (values.Number n)
 
--- a document is added
-abbrev pub add_document : Index → DocumentValue → Obeyed
-add_document i document = record { index = Some (submitted i (ops.Add document)); reply = number_reply (codes "stamp") (next_stamp i) }
+-- a value and how many hits have it, as JSON
+abbrev pub group_data : Number × ℕ → Data
+group_data group = array (item (number_data group.0) (item (number (unsigned group.1)) no_items))
 
--- the hits of the last commit are counted
-abbrev pub count_hits : Index → List Term → Obeyed
-count_hits i terms = record { index = Some i; reply = number_reply (codes "count") (length (with_any i terms)) }
+abbrev pub groups_data : List (Number × ℕ) → Items
+groups_data [] = no_items
+groups_data (group ∷ groups) = item (group_data group) (groups_data groups)
+
+-- a hit of a top list as JSON
+abbrev pub hit_data : Hit → Data
+hit_data hit = object (member (codes "doc") (json_of hit.document) (member (codes "stamp") (number (unsigned hit.stamp)) (member (codes "value") (number_data hit.value) no_members)))
+
+abbrev pub hits_data : List Hit → Items
+hits_data [] = no_items
+hits_data (hit ∷ hits) = item (hit_data hit) (hits_data hits)
+
+-- a list in front of members, if it is asked for
+abbrev pub list_member : List ℕ → Option Items → Members → Members
+list_member name None ms = ms
+list_member name (Some items) ms = member name (array items) ms
+
+-- an answer as JSON
+abbrev pub answer_data : AnswerValue → Data
+answer_data a =
+    object (member (codes "count") (number (unsigned a.count))
+    (list_member (codes "groups") (option_map groups_data a.groups) (list_member (codes "top") (option_map hits_data a.top) no_members)))
+
+-- what a command leaves, and its reply
+pub record Outcome (S : Type 0) : Type 0 where
+  pub index : Option S
+  pub reply : Data
+
+-- a step whose answer is printed so
+abbrev pub replied : {S X : Type 0} → (X → Data) → Result (S × X) Refusal → Result (Outcome S) Refusal
+replied print step = result_map (λ done. record { index = Some done.0; reply = print done.1 }) step
+
+-- The last commit is searched: the query is looked at first, then the groups and the top list.
+abbrev pub answer_search : {S : Type 0} → Carrier S → Search → S → Result (Outcome S) Refusal
+answer_search on asked s =
+    result_and_then (λ query. result_and_then (λ request. replied answer_data (search_commit on query request s))
+    (request_of (on.schema s) asked.groups asked.top)) (query_of (on.schema s) asked.query)
 
 -- what a command does to an index, if there is one, or its refusal
-abbrev pub obey : Option Index → Command → Result Obeyed Refusal
-obey None (Schema fields) = take_schema fields
-obey None (Add value) = Err NoSchema
-obey None Commit = Err NoSchema
-obey None (Search text) = Err NoSchema
-obey (Some i) (Schema fields) = Err SchemaTwice
-obey (Some i) (Add value) = document_of i.schema value >>= λ document. Ok (add_document i document)
-obey (Some i) Commit = Ok (record { index = Some (committed i); reply = number_reply (codes "commit") (next_stamp i) })
-obey (Some i) (Search text) = terms_in i.schema text >>= λ terms. Ok (count_hits i terms)
+abbrev pub execute : {S : Type 0} → Carrier S → Option S → Command → Result (Outcome S) Refusal
+execute on None (Schema fields) =
+    ok_unless (schema_fault fields) (record { index = Some (on.opened fields); reply = number_reply (codes "fields") (length fields) })
+execute on None (Add value) = Err NoSchema
+execute on None (Delete name value) = Err NoSchema
+execute on None DeleteAll = Err NoSchema
+execute on None Commit = Err NoSchema
+execute on None Rollback = Err NoSchema
+execute on None Merge = Err NoSchema
+execute on None (Find asked) = Err NoSchema
+execute on (Some s) (Schema fields) = Err SchemaTwice
+execute on (Some s) (Add value) =
+    result_and_then (λ document. replied (number_reply (codes "stamp")) (submit on (ops.Add document) s)) (document_of (on.schema s) value)
+execute on (Some s) (Delete name value) =
+    result_and_then (λ term. replied (number_reply (codes "stamp")) (submit on (ops.Delete term) s)) (term_of (on.schema s) name value)
+execute on (Some s) DeleteAll = replied (number_reply (codes "stamp")) (submit on ops.DeleteAll s)
+execute on (Some s) Commit = replied (number_reply (codes "commit")) (commit on s)
+execute on (Some s) Rollback = replied (number_reply (codes "rollback")) (rollback on s)
+execute on (Some s) Merge = replied (number_reply (codes "merged")) (merge on s)
+execute on (Some s) (Find asked) = answer_search on asked s
 
 -- what a line that isn't blank does, or its refusal
-abbrev pub obey_line : Option Index → List ℕ → Result Obeyed Refusal
-obey_line index line =
-    if nat_lt longest (length line) then Err LineTooLong
-    else ok_or (json_in line) BadJson >>= λ value. ok_or (command_in value) BadCommand >>= obey index
+abbrev pub execute_line : {S : Type 0} → Carrier S → Option S → List ℕ → Result (Outcome S) Refusal
+execute_line on index line = result_and_then (execute on index) (command line)
 
 -- the index that is left
-abbrev pub index_after : Option Index → Result Obeyed Refusal → Option Index
+abbrev pub index_after : {S : Type 0} → Option S → Result (Outcome S) Refusal → Option S
 index_after index (Ok done) = done.index
 index_after index (Err refusal) = index
 
@@ -86,28 +111,31 @@ index_after index (Err refusal) = index
 abbrev pub line_of : Data → List ℕ
 line_of reply = compact_text reply ++ 10 ∷ []
 
-abbrev pub text_of : ℕ → Result Obeyed Refusal → List ℕ
+abbrev pub text_of : {S : Type 0} → ℕ → Result (Outcome S) Refusal → List ℕ
 text_of line (Ok done) = line_of done.reply
 text_of line (Err refusal) = line_of (refusal_reply refusal line)
 
--- the script behind a line
-unfoldable pub after_line : Script → List ℕ → Script
-after_line s line = record { number = s.number + 1; index = if is_blank line then s.index else index_after s.index (obey_line s.index line) }
+-- what is carried from line to line: how many lines there were, and the index, once a schema was taken
+pub record Carried (S : Type 0) : Type 0 where
+  pub number : ℕ
+  pub index : Option S
 
--- what it replies to the line: nothing to a blank one
-unfoldable pub reply_to : Script → List ℕ → List ℕ
-reply_to s line = if is_blank line then [] else text_of (s.number + 1) (obey_line s.index line)
+-- what is carried behind a line
+unfoldable pub carried_over : {S : Type 0} → Carrier S → Carried S → List ℕ → Carried S
+carried_over on s line = record {
+  number = s.number + 1;
+  index = if is_blank line then s.index else index_after s.index (execute_line on s.index line);
+}
 
--- the replies to these lines, in order
-abbrev pub replies : Script → List (List ℕ) → List ℕ
-replies s [] = []
-replies s (line ∷ lines) = reply_to s line ++ replies (after_line s line) lines
+-- what is replied to a line: nothing to a blank one
+unfoldable pub reply_on : {S : Type 0} → Carrier S → Carried S → List ℕ → List ℕ
+reply_on on s line = if is_blank line then [] else text_of (s.number + 1) (execute_line on s.index line)
 
--- the script behind these lines
-abbrev pub after_lines : Script → List (List ℕ) → Script
-after_lines s [] = s
-after_lines s (line ∷ lines) = after_lines (after_line s line) lines
+-- the replies to lines, in order
+abbrev pub replies_on : {S : Type 0} → Carrier S → Carried S → List (List ℕ) → List ℕ
+replies_on on s [] = []
+replies_on on s (line ∷ lines) = reply_on on s line ++ replies_on on (carried_over on s line) lines
 
--- what is written for a whole input
-abbrev pub output : List ℕ → List ℕ
-output input = replies start (lines_of input)
+-- what is written for a whole input, where an index is carried so
+abbrev pub output_on : {S : Type 0} → Carrier S → List ℕ → List ℕ
+output_on on input = replies_on on (record { number = 0; index = None }) (lines_of input)

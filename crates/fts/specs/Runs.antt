@@ -1,8 +1,9 @@
 -- How far a run has come.
-use Rattle.std.specs.Prelude.{ℕ, ◌≡◌, ◌<◌, Bool, List, [], ◌++◌, length, Option, None, Some}
+use Rattle.std.specs.Prelude.{ℕ, ◌≡◌, ◌<◌, Bool, true, List, [], ◌++◌, length, Option, None, Some}
 use Rattle.std.specs.Io.KnownBytes.{Appends}
 use Rattle.fts.specs.Text.{lines_of, is_blank, IsWhole, HasNoEnd}
-use Rattle.fts.specs.Replies.{Script, start, after_lines, output, longest}
+use Rattle.fts.specs.Commands.{longest}
+use Rattle.fts.specs.Outputs.{Script, start, after_lines, output}
 use Rattle.fts.specs.declared.lines.PartialLine.{PartialLine}
 
 -- xs begins with front
@@ -34,9 +35,17 @@ pub record AnswersEnded (input out : List ℕ) : Type 0 where
   pub unended : HasNoEnd line
   pub replied : out ≡ output done
 
--- the beginning of a line is held: its bytes, or of one that is too long whether it is blank
+-- a line of so many spaces, tabs and CRs, and then these bytes
+pub record Indented (count : ℕ) (bytes line : List ℕ) : Type 0 where
+  pub white : List ℕ
+  pub blank : is_blank white ≡ true
+  pub counted : length white ≡ count
+  pub split : line ≡ white ++ bytes
+
+-- the beginning of a line is held: how much white space it begins with and the bytes behind it, or of one that is too
+-- long whether it is blank
 pub record Holds (p : PartialLine) (line : List ℕ) : Type 0 where
-  pub kept : p.too_long ≡ None → p.bytes.items ≡ line
+  pub kept : p.too_long ≡ None → Indented p.white p.bytes.items line
   pub too_long : (blank : Bool) → p.too_long ≡ Some blank → (longest < length line) × (blank ≡ is_blank line)
 
 -- After this input the lines that have ended were answered by `out`, and the rest of it is the line in hand.

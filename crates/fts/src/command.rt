@@ -1,13 +1,24 @@
 // The commands of a script, as they stand in JSON.
 ghost use Rattle.std.specs.Prelude.{◌≡◌, ℕ, List, Option, Some, None, IfOk, IfErr, option_map, OnErr};
 ghost use Rattle.serde_json.specs.View.{view};
-ghost use Rattle.fts.specs.Commands.{count_of as members_in, text_at as text_in, kind_named as kind_of_name, flag_or_false, field_in, fields_in, only_member as only_member_in, search_in, schema_in, command_named as command_of_name, command_in, json_in};
-ghost use Rattle.fts.specs.CommandViews.{seen};
+ghost use Rattle.fts.specs.Commands.{count_of as members_in, text_at as text_in, kind_named as kind_of_name, flag_or_false, field_in, fields_in, only_member as only_member_in, if_there, order_named as order_of_name, whole_number as number_of, top_in, search_in, schema_in, command_if as command_if_true, command_named as command_of_name, command_in, json_in};
+ghost use Rattle.fts.specs.CommandViews.{seen, search_seen};
+ghost use Rattle.serde_json.specs.Find.{as_str, as_bool};
 ghost use Rattle.serde_json.specs.View.{items_view};
 
-use fts_model::{Field, Kind, Text};
+use fts_model::{Field, Kind, Order, Text};
 use serde_json::Value;
 use std::alloc::{AllocError, Global};
+
+/// What a search asks for.
+#[derive(Clone, Copy)]
+pub struct Search<'a> {
+    pub query: &'a str,
+    /// The name of a field by whose values the hits are counted.
+    pub groups: Option<&'a str>,
+    /// The name of a field, how many hits are wanted, and in which order of that field.
+    pub top: Option<(&'a str, u64, Order)>,
+}
 
 /// A command of a script.
 #[derive(Drop)]
@@ -16,9 +27,13 @@ pub enum Command<'a> {
     Schema(Vec<Field>),
     /// Adds a document.
     Add(&'a Value),
+    /// Deletes the documents with a value in the field of this name.
+    Delete(&'a str, &'a Value),
+    DeleteAll,
     Commit,
-    /// Searches for a query.
-    Search(&'a str),
+    Rollback,
+    Merge,
+    Search(Search<'a>),
 }
 
 fn count_of(json: &Value) -> usize
@@ -109,13 +124,67 @@ fn only_member(json: &Value) -> Option<(&str, &Value)>
     }
 }
 
-fn search_of(json: &Value) -> Option<&str>
-    ensures { option_map (λ text. text.now) result ≡ search_in (view json.entry.now) }
+fn order_named(name: &str) -> Option<Order>
+    ensures { result ≡ order_of_name name.now }
 {
-    if count_of(json) != 1 {
+    match name {
+        "rising" => Some(Order::Rising),
+        "falling" => Some(Order::Falling),
+        _ => None,
+    }
+}
+
+fn whole_number(json: &Value) -> Option<u64>
+    ensures { result ≡ number_of (view json.now) }
+{
+    json.as_number()?.as_u64()
+}
+
+fn top_of(json: &Value) -> Option<(&str, u64, Order)>
+    ensures { option_map (λ top. (top.0.now, top.1, top.2)) result ≡ top_in (view json.entry.now) }
+{
+    if count_of(json) != 3 {
         return None;
     }
-    text_at(json, "query")
+    let by = text_at(json, "by")?;
+    let k = whole_number(json.get("k")?)?;
+    let order = order_named(text_at(json, "order")?)?;
+    Some((by, k, order))
+}
+
+/// The name of the field of the groups, if it is there and is one.
+fn groups_of(json: Option<&Value>) -> Option<Option<&str>>
+    ensures { option_map (λ groups. option_map (λ name. name.now) groups) result ≡ if_there as_str (option_map (λ v. view v.now) json.entry) }
+{
+    match json {
+        None => Some(None),
+        Some(json) => Some(Some(json.as_str()?)),
+    }
+}
+
+/// The top list, if it is there and is one.
+fn asked_top(json: Option<&Value>) -> Option<Option<(&str, u64, Order)>>
+    ensures { option_map (λ top. option_map (λ t. (t.0.now, t.1, t.2)) top) result ≡ if_there top_in (option_map (λ v. view v.now) json.entry) }
+{
+    match json {
+        None => Some(None),
+        Some(json) => Some(Some(top_of(json)?)),
+    }
+}
+
+fn search_of(json: &Value) -> Option<Search<'_>>
+    ensures { option_map search_seen result ≡ search_in (view json.entry.now) }
+{
+    let groups = json.get("groups");
+    let top = json.get("top");
+    let wanted = 1 + groups.is_some() as usize + top.is_some() as usize;
+    if count_of(json) != wanted {
+        return None;
+    }
+    let query = text_at(json, "query")?;
+    let groups = groups_of(groups)?;
+    let top = asked_top(top)?;
+    Some(Search { query, groups, top })
 }
 
 /// The schema that a list of fields is.
@@ -131,6 +200,16 @@ fn schema_of(alloc: Global, json: &Value) -> Result<Option<Command<'_>>, AllocEr
     }
 }
 
+/// A command that asks for `true`.
+fn command_if<'a>(command: Command<'a>, json: &Value) -> Option<Command<'a>>
+    ensures { option_map seen result ≡ command_if_true (seen command.entry) (as_bool (view json.now)) }
+{
+    match json.as_bool() {
+        Some(true) => Some(command),
+        _ => None,
+    }
+}
+
 /// The command of this name, where its value has the form that it asks for.
 fn command_named<'a>(
     alloc: Global,
@@ -142,12 +221,16 @@ fn command_named<'a>(
     match name {
         "schema" => schema_of(alloc, json),
         "add" => Ok(Some(Command::Add(json))),
-        "commit" => match json.as_bool() {
-            Some(true) => Ok(Some(Command::Commit)),
-            _ => Ok(None),
+        "delete" => match only_member(json) {
+            Some((name, value)) => Ok(Some(Command::Delete(name, value))),
+            None => Ok(None),
         },
+        "delete_all" => Ok(command_if(Command::DeleteAll, json)),
+        "commit" => Ok(command_if(Command::Commit, json)),
+        "rollback" => Ok(command_if(Command::Rollback, json)),
+        "merge" => Ok(command_if(Command::Merge, json)),
         "search" => match search_of(json) {
-            Some(text) => Ok(Some(Command::Search(text))),
+            Some(search) => Ok(Some(Command::Search(search))),
             None => Ok(None),
         },
         _ => Ok(None),

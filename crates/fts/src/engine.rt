@@ -1,38 +1,83 @@
 // What a script needs of an index, however it is kept.
-ghost use Rattle.std.specs.Prelude.{◌≡◌, ◌^◌, ◌<◌, [], IfOk, OnOk, OnErr, length};
+ghost use Rattle.std.specs.Prelude.{◌≡◌, ◌+◌, ◌^◌, ◌≤◌, ℕ, Ok, IfOk};
+ghost use Rattle.fts_model.specs.Outcomes.{Gives};
+ghost use Rattle.fts_model.specs.QueryValues.{query_value};
 
-use fts_model::{Op, Schema, Stamp, Term};
-use std::alloc::{AllocError, Global};
+use crate::options::Options;
+use fts_model::{Answer, Op, Query, Refusal, Request, Schema, Stamp};
+use std::sync::Wait;
+use std::thread::Threads;
 
-/// An index under a script. Its methods are the steps of a script, and an `Err` leaves it as it was.
-pub trait Engine: Drop {
-    ghost use Rattle.fts.specs.Indexes.{Index, opened, next_stamp, submitted, committed, with_any};
+/// An index under a script. Each method is a step of a script, and a refused one leaves the index as it was.
+///
+/// An engine isn't dropped but closed, since it may have threads and readers to end.
+pub trait Engine {
+    ghost use Rattle.fts.specs.Indexes.{Index, indexes};
+    ghost use Rattle.fts.specs.Steps.{next_stamp, submit as submit_step, commit as commit_step, rollback as rollback_step, merge as merge_step, search_commit, Steps};
 
     /// What the index stands for.
     ghost index: { Self → Index };
 
-    /// A new index.
-    fn open(alloc: Global, schema: Schema) -> Result<Self, AllocError>
-        ensures { IfOk result (λ engine. index engine ≡ opened schema) };
+    /// A bound on what an engine counts: it rises by at most one in each call that may change the index.
+    ghost changes: { Self → ℕ };
+
+    /// A new index. How it works is up to the options; what it stands for is not.
+    fn open(
+        rt: &(impl AllocGlobal + Threads + Wait),
+        options: Options,
+        schema: Schema,
+    ) -> Result<Self, Refusal>
+        ensures index { Gives (λ engine. index engine) result (Ok (indexes.opened schema)) }
+        ensures changes { IfOk result (λ engine. changes engine ≡ 0) };
 
     fn schema(&self) -> &Schema
         ensures { result.now ≡ (index self.now).schema };
 
-    /// Takes an operation, and answers its stamp.
-    fn submit(&mut self, op: Op) -> Result<Stamp, AllocError>
-        requires { next_stamp (index self.old) < 2 ^ 63 }
-        ensures stamp { IfOk result (λ stamp. stamp ≡ next_stamp (index self.old)) }
-        ensures ok { OnOk result (index self.new ≡ submitted (index self.old) op) }
-        ensures err { OnErr result (index self.new ≡ index self.old) };
+    /// The stamp of the last commit.
+    fn commit_stamp(&self) -> Stamp
+        ensures { result ≡ (index self.now).commit_stamp };
+
+    /// The stamp of the next operation or commit.
+    fn next_stamp(&self) -> Stamp
+        requires { changes self.now ≤ 2 ^ 61 }
+        ensures { result ≡ next_stamp indexes (index self.now) };
+
+    /// Takes an operation, and answers its stamp. It is refused as `LaneFull` where 1,000,000 wait for a commit.
+    fn submit(&mut self, op: Op) -> Result<Stamp, Refusal>
+        requires { changes self.old ≤ 2 ^ 61 }
+        ensures step { Steps (submit_step indexes op (index self.old)) (index self.old) (index self.new) result }
+        ensures changes { changes self.new ≤ changes self.old + 1 };
 
     /// Commits the operations since the last commit, and answers the commit's stamp.
-    fn commit(&mut self) -> Result<Stamp, AllocError>
-        requires { next_stamp (index self.old) < 2 ^ 63 }
-        ensures stamp { IfOk result (λ stamp. stamp ≡ next_stamp (index self.old)) }
-        ensures ok { OnOk result (index self.new ≡ committed (index self.old)) }
-        ensures err { OnErr result (index self.new ≡ index self.old) };
+    fn commit(&mut self, rt: &(impl AllocGlobal + Threads + Wait)) -> Result<Stamp, Refusal>
+        requires { changes self.old ≤ 2 ^ 61 }
+        ensures step { Steps (commit_step indexes (index self.old)) (index self.old) (index self.new) result }
+        ensures changes { changes self.new ≤ changes self.old + 1 };
 
-    /// How many documents of the last commit have one of these terms.
-    fn count_with_any(&self, terms: &[Term]) -> Result<usize, AllocError>
-        ensures { IfOk result (λ count. count ≡ length (with_any (index self.now) terms.now)) };
+    /// Gives up the operations since the last commit, and answers that commit's stamp.
+    fn rollback(&mut self, rt: &(impl AllocGlobal + Threads + Wait)) -> Result<Stamp, Refusal>
+        requires { changes self.old ≤ 2 ^ 61 }
+        ensures step { Steps (rollback_step indexes (index self.old)) (index self.old) (index self.new) result }
+        ensures changes { changes self.new ≤ changes self.old + 1 };
+
+    /// Merges what the last commit holds, and answers how many documents there are. It is refused as `TooLarge` where
+    /// there are over 1,048,576. What waits for a commit goes on waiting.
+    fn merge(&mut self, rt: &(impl AllocGlobal + Threads + Wait)) -> Result<u64, Refusal>
+        requires { changes self.old ≤ 2 ^ 61 }
+        ensures step { Steps (merge_step indexes (index self.old)) (index self.old) (index self.new) result }
+        ensures changes { changes self.new ≤ changes self.old + 1 };
+
+    /// The answer over the documents of the last commit. The only refusal is `Memory`.
+    fn search(
+        &mut self,
+        rt: &(impl AllocGlobal + Threads + Wait),
+        query: &Query,
+        request: &Request,
+    ) -> Result<Answer, Refusal>
+        ensures step { Steps (search_commit indexes (query_value query.now) request.now (index self.old))
+            (index self.old) (index self.new) result }
+        ensures changes { changes self.new ≤ changes self.old };
+
+    /// Ends the index.
+    fn close(self, rt: &(impl AllocGlobal + Threads + Wait));
 }

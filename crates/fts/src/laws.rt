@@ -2,8 +2,7 @@
 ghost use Rattle.std.specs.Prelude.{◌≡◌, ℕ, List, [], ◌∷◌, codes};
 ghost use Rattle.clap.specs.declared.error.kind.ErrorKind.TheVariants.{DisplayHelp, MissingSubcommand};
 ghost use Rattle.fts.specs.Arguments.{faults_of};
-ghost use Rattle.fts.specs.Kept.{output_by_commands};
-ghost use Rattle.fts.specs.Replies.{output};
+ghost use Rattle.fts.specs.Outputs.{output, output_by_commands};
 
 /// Behind the program's name, `run` alone asks for a run, `--help` for help, and nothing for nothing.
 pub fn command_line()

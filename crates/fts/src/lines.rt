@@ -1,30 +1,53 @@
 // The line in hand, where a block of the input has cut it.
-ghost use Rattle.std.specs.Prelude.{ℕ, ◌≡◌, ◌+◌, ◌^◌, ◌<◌, ◌≤◌, ◌↔◌, ◌++◌, List, [], IsTrue, OnOk, OnErr, string_bytes, vec_len};
-ghost use Rattle.fts.specs.Text.{is_blank as blank_line};
-ghost use Rattle.fts.specs.Replies.{longest, reply_to, after_line};
+ghost use Rattle.std.specs.Prelude.{ℕ, ◌≡◌, ◌+◌, ◌^◌, ◌<◌, ◌≤◌, ◌↔◌, ◌++◌, List, [], length, IsTrue, OnOk, OnErr, string_bytes, vec_len};
+ghost use Rattle.std.specs.List.{prefix_len};
+ghost use Rattle.fts.specs.Text.{is_white as white_byte, is_blank as blank_line};
+ghost use Rattle.fts.specs.Commands.{longest};
+ghost use Rattle.fts.specs.Outputs.{reply_to, after_line};
 
-use crate::list_engine::ListSession as Session;
+use crate::engine::Engine;
+use crate::session::Session;
 use std::alloc::{AllocError, Global};
+use std::sync::Wait;
+use std::thread::Threads;
 
 /// The most bytes of a line, before its LF.
 pub const LONGEST: usize = 4_194_304;
+
+/// Whether a byte is a space, a tab or a CR.
+fn is_white(byte: u8) -> bool
+    ensures { result ≡ white_byte byte }
+{
+    byte == b' ' || byte == b'\t' || byte == b'\r'
+}
 
 /// Whether a line has only spaces, tabs and CRs.
 pub fn is_blank(line: &[u8]) -> bool
     ensures { result ≡ blank_line line.now }
 {
-    line.iter()
-        .all(|byte| *byte == b' ' || *byte == b'\t' || *byte == b'\r')
+    line.iter().all(|byte| is_white(*byte))
+}
+
+/// How many spaces, tabs and CRs a line begins with.
+fn count_white(line: &[u8]) -> usize
+    ensures value { result ≡ prefix_len white_byte line.now }
+    ensures within { result ≤ length line.now }
+{
+    line.iter().take_while(|byte| is_white(**byte)).count()
 }
 
 /// The beginning of a line, without its LF. One buffer serves all lines.
 #[derive(Drop)]
 pub struct PartialLine {
-    /// The beginning itself, while it may still become a line.
+    /// How many spaces, tabs and CRs it begins with. They change no reply, and are not kept.
+    white: usize,
+    /// What follows them, while it may still become a line.
     bytes: Vec<u8>,
     /// Once it is longer than a line may be: whether it is blank so far.
     too_long: Option<bool>,
-    ghost short: { vec_len bytes ≤ longest },
+    ghost short: { white + vec_len bytes ≤ longest },
+    // Of a blank line nothing is kept.
+    ghost bare: { IsTrue (blank_line bytes.items) → vec_len bytes ≡ 0 },
 }
 
 impl PartialLine {
@@ -34,6 +57,7 @@ impl PartialLine {
         ensures { Holds result [] }
     {
         PartialLine {
+            white: 0,
             bytes: Vec::new(alloc),
             too_long: None,
         }
@@ -42,7 +66,7 @@ impl PartialLine {
     pub fn is_empty(&self) -> bool
         ensures { IsTrue result ↔ Holds self.now [] }
     {
-        self.too_long.is_none() && self.bytes.is_empty()
+        self.too_long.is_none() && self.white == 0 && self.bytes.is_empty()
     }
 
     /// Takes more of the line.
@@ -53,10 +77,16 @@ impl PartialLine {
         match self.too_long {
             Some(blank) => self.too_long = Some(blank && is_blank(piece)),
             None => {
-                if self.bytes.len() + piece.len() <= LONGEST {
-                    self.bytes.extend_from_slice(piece)?;
+                if self.white + self.bytes.len() + piece.len() <= LONGEST {
+                    if self.bytes.is_empty() {
+                        let white = count_white(piece);
+                        self.bytes.extend_from_slice(&piece[white..])?;
+                        self.white += white;
+                    } else {
+                        self.bytes.extend_from_slice(piece)?;
+                    }
                 } else {
-                    self.too_long = Some(is_blank(&self.bytes) && is_blank(piece));
+                    self.too_long = Some(self.bytes.is_empty() && is_blank(piece));
                     self.bytes.clear();
                 }
             }
@@ -65,8 +95,13 @@ impl PartialLine {
     }
 
     /// Replies to the line, which is whole now, and begins the next.
-    pub fn answer(&mut self, session: &mut Session, replies: &mut String) -> Result<(), AllocError>
-        requires { session.old.number < 2 ^ 62 }
+    pub fn answer<E: Engine>(
+        &mut self,
+        rt: &(impl AllocGlobal + Threads + Wait),
+        session: &mut Session<E>,
+        replies: &mut String,
+    ) -> Result<(), AllocError>
+        requires { session.old.number ≤ 2 ^ 61 }
         ensures reply { OnOk result ((line : List ℕ) → Holds self.old line →
             string_bytes replies.new ≡ string_bytes replies.old ++ reply_to session.old line) }
         ensures script { OnOk result ((line : List ℕ) → Holds self.old line →
@@ -76,9 +111,10 @@ impl PartialLine {
         ensures counted { session.new.number ≤ session.old.number + 1 }
     {
         match self.too_long {
-            Some(blank) => session.answer_too_long(blank, replies)?,
-            None => session.answer(self.bytes.as_slice(), replies)?,
+            Some(blank) => session.answer_too_long(rt.alloc(), blank, replies)?,
+            None => session.answer(rt, self.bytes.as_slice(), replies)?,
         }
+        self.white = 0;
         self.bytes.clear();
         self.too_long = None;
         Ok(())

@@ -1,61 +1,30 @@
 // An index as a plain list of documents: the first engine of scripts, and the comparison for every later one.
-ghost use Rattle.std.specs.Prelude.{◌≡◌, ◌++◌, IfOk, OnOk, OnErr, length};
-ghost use Rattle.std.specs.List.{list_all, list_any, filter};
-ghost use Rattle.fts_model.specs.Operations.{has as has_term, alive as alive_after, adds};
+ghost use Rattle.std.specs.Prelude.{◌≡◌, ◌++◌, Ok, IfOk, IfErr, OnOk, OnErr};
+ghost use Rattle.std.specs.List.{list_all};
+ghost use Rattle.fts_model.specs.Operations.{alive as alive_after, adds};
+ghost use Rattle.fts_model.specs.Outcomes.{Gives};
 ghost use Rattle.fts.specs.Lists.{is_add, added_by, added};
 
 use crate::engine::Engine;
-use crate::session::Session;
-use fts_model::{Document, Op, Refusal, Schema, Stamp, Stamped, Term, scan};
+use crate::options::Options;
+use fts_model::{Answer, Document, Op, Query, Refusal, Request, Schema, Stamp, Stamped, scan};
 use std::alloc::{AllocError, Global};
+use std::sync::Wait;
+use std::thread::Threads;
+
+/// The most operations that wait for a commit.
+const MOST_PENDING: usize = 1_000_000;
+
+/// The most documents that are merged.
+const MOST_MERGED: usize = 1_048_576;
 
 /// The documents of the last commit and the operations since, both in the order of their stamps.
 #[derive(Drop)]
 pub struct ListEngine {
-    alloc: Global,
     schema: Schema,
     documents: Vec<Stamped<Document>>,
     commit_stamp: Stamp,
     pending: Vec<Stamped<Op>>,
-}
-
-/// A script over a plain list.
-pub type ListSession = Session<ListEngine>;
-
-/// Whether a document has one of these terms. The tokens of its texts are folded in `scratch`.
-fn has_any(
-    schema: &Schema,
-    document: &Document,
-    terms: &[Term],
-    scratch: &mut String,
-) -> Result<bool, AllocError>
-    ensures { IfOk result (λ found. found ≡ list_any (has_term schema.now document.now) terms.now) }
-{
-    for term in terms {
-        if scan::has(schema, document, term, scratch)? {
-            return Ok(true);
-        }
-    }
-    Ok(false)
-}
-
-/// How many documents have one of these terms.
-fn count_with_any(
-    alloc: Global,
-    schema: &Schema,
-    documents: &[Stamped<Document>],
-    terms: &[Term],
-) -> Result<usize, AllocError>
-    ensures { IfOk result (λ count. count ≡ length (filter (λ d. list_any (has_term schema.now d.value) terms.now) documents.now)) }
-{
-    let mut scratch = String::new(alloc);
-    let mut count = 0;
-    for document in documents {
-        if has_any(schema, &document.value, terms, &mut scratch)? {
-            count += 1;
-        }
-    }
-    Ok(count)
 }
 
 /// Whether all of the operations add documents.
@@ -130,14 +99,11 @@ fn survivors(
     schema: &Schema,
     documents: &[Stamped<Document>],
     ops: &[Stamped<Op>],
-) -> Result<Vec<Stamped<Document>>, AllocError>
-    ensures { IfOk result (λ left. left.items ≡ alive_after schema.now (adds documents.now ++ ops.now)) }
+) -> Result<Vec<Stamped<Document>>, Refusal>
+    ensures { Gives (λ left. left.items) result (Ok (alive_after schema.now (adds documents.now ++ ops.now))) }
 {
     let all = history(alloc, documents, ops)?;
-    match scan::alive(alloc, schema, &all) {
-        Ok(left) => Ok(left),
-        Err(_) => Err(AllocError),
-    }
+    scan::alive(alloc, schema, &all)
 }
 
 /// Puts the documents alive after operations in the place of those before.
@@ -146,26 +112,36 @@ fn commit(
     schema: &Schema,
     documents: &mut Vec<Stamped<Document>>,
     ops: &[Stamped<Op>],
-) -> Result<(), AllocError>
+) -> Result<(), Refusal>
     ensures ok { OnOk result (documents.new.items ≡ alive_after schema.now (adds documents.old.items ++ ops.now)) }
     ensures err { OnErr result (documents.new.items ≡ documents.old.items) }
+    ensures memory { IfErr result (λ refusal. refusal ≡ Refusal.Memory) }
 {
     if all_add(ops) {
         // Adds alone go behind what is there, so that a commit costs no more than its operations.
-        return append(documents, ops);
+        append(documents, ops)?;
+        return Ok(());
     }
     *documents = survivors(alloc, schema, documents, ops)?;
     Ok(())
 }
 
 impl Engine for ListEngine {
+    ghost use Rattle.std.specs.Prelude.{◌+◌, length};
     ghost use Rattle.fts.specs.ListIndexes.{index_of};
 
     ghost index = { index_of };
 
-    fn open(alloc: Global, schema: Schema) -> Result<Self, AllocError> {
+    ghost changes = { λ e. e.commit_stamp + length e.pending.items };
+
+    fn open(
+        rt: &(impl AllocGlobal + Threads + Wait),
+        options: Options,
+        schema: Schema,
+    ) -> Result<Self, Refusal> {
+        let _ = options;
+        let alloc = rt.alloc();
         Ok(ListEngine {
-            alloc,
             schema,
             documents: Vec::new(alloc),
             commit_stamp: 0,
@@ -177,21 +153,52 @@ impl Engine for ListEngine {
         &self.schema
     }
 
-    fn submit(&mut self, op: Op) -> Result<Stamp, AllocError> {
-        let stamp = self.commit_stamp + self.pending.len() as u64 + 1;
+    fn commit_stamp(&self) -> Stamp {
+        self.commit_stamp
+    }
+
+    fn next_stamp(&self) -> Stamp {
+        self.commit_stamp + self.pending.len() as u64 + 1
+    }
+
+    fn submit(&mut self, op: Op) -> Result<Stamp, Refusal> {
+        if self.pending.len() >= MOST_PENDING {
+            return Err(Refusal::LaneFull);
+        }
+        let stamp = self.next_stamp();
         self.pending.push(Stamped { stamp, value: op })?;
         Ok(stamp)
     }
 
-    fn commit(&mut self) -> Result<Stamp, AllocError> {
-        let stamp = self.commit_stamp + self.pending.len() as u64 + 1;
-        commit(self.alloc, &self.schema, &mut self.documents, &self.pending)?;
+    fn commit(&mut self, rt: &(impl AllocGlobal + Threads + Wait)) -> Result<Stamp, Refusal> {
+        let stamp = self.next_stamp();
+        commit(rt.alloc(), &self.schema, &mut self.documents, &self.pending)?;
         self.pending.clear();
         self.commit_stamp = stamp;
         Ok(stamp)
     }
 
-    fn count_with_any(&self, terms: &[Term]) -> Result<usize, AllocError> {
-        count_with_any(self.alloc, &self.schema, &self.documents, terms)
+    fn rollback(&mut self, _rt: &(impl AllocGlobal + Threads + Wait)) -> Result<Stamp, Refusal> {
+        self.pending.clear();
+        Ok(self.commit_stamp)
     }
+
+    fn merge(&mut self, _rt: &(impl AllocGlobal + Threads + Wait)) -> Result<u64, Refusal> {
+        let count = self.documents.len();
+        if count > MOST_MERGED {
+            return Err(Refusal::TooLarge);
+        }
+        Ok(count as u64)
+    }
+
+    fn search(
+        &mut self,
+        rt: &(impl AllocGlobal + Threads + Wait),
+        query: &Query,
+        request: &Request,
+    ) -> Result<Answer, Refusal> {
+        scan::answer(rt.alloc(), &self.schema, query, request, &self.documents)
+    }
+
+    fn close(self, _rt: &(impl AllocGlobal + Threads + Wait)) {}
 }

@@ -1,6 +1,7 @@
 // Runs a script of an index over standard input and standard output.
 #![tactic(auto)]
 
+mod answer;
 mod args;
 mod command;
 mod engine;
@@ -15,15 +16,18 @@ mod run_plain;
 mod session;
 mod status;
 mod streams;
-mod word;
 
 use args::{ArgFault, Asked, args};
 use fault::Fault;
+use list_engine::ListEngine;
 use options::Options;
 use run_plain::run_plain;
 use status::{arg_status, status};
 use std::env::Env;
+use std::io::{Eprint, Stdin, Stdout};
 use std::process::ExitCode;
+use std::sync::Wait;
+use std::thread::Threads;
 use std::{env, io};
 
 /// What the process's own command line asks for.
@@ -39,8 +43,13 @@ fn asked(rt: &(impl Env + AllocGlobal)) -> Result<Asked, ArgFault> {
 }
 
 /// Runs the script over the standard streams, which buffer nothing: the run reads and writes in blocks.
-fn run_standard(rt: &HostRuntime, options: Options) -> u8 {
-    let (outcome, _, _) = run_plain(rt, rt.stdin(), rt.stdout(), options);
+fn run_standard(
+    rt: &(impl AllocGlobal + Threads + Wait + Eprint),
+    input: Stdin,
+    output: Stdout,
+    options: Options,
+) -> u8 {
+    let (outcome, _, _) = run_plain::<ListEngine, _, _>(rt, input, output, options);
     match outcome {
         Ok(()) => 0,
         Err(fault) => {
@@ -52,7 +61,7 @@ fn run_standard(rt: &HostRuntime, options: Options) -> u8 {
 
 fn main(rt: HostRuntime) -> ExitCode {
     ExitCode::from(match asked(&rt) {
-        Ok(Asked::Run(options)) => run_standard(&rt, options),
+        Ok(Asked::Run(options)) => run_standard(&rt, rt.stdin(), rt.stdout(), options),
         Ok(Asked::Help(text)) => match rt.print(text) {
             Ok(()) => 0,
             Err(_) => status(&Fault::Write),

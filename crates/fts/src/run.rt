@@ -3,16 +3,20 @@ ghost use Rattle.std.specs.Prelude.{ℕ, ◌≡◌, ◌+◌, ◌^◌, ◌<◌, �
 ghost use Rattle.std.specs.Io.KnownBytes.{Appends, IsAtEnd};
 ghost use Rattle.fts.specs.Streams.{Moved, Wrote};
 ghost use Rattle.fts.specs.Text.{HasNoEnd};
-ghost use Rattle.fts.specs.Replies.{longest, output, reply_to, after_line};
+ghost use Rattle.fts.specs.Commands.{longest};
+ghost use Rattle.fts.specs.Outputs.{start, output, reply_to, after_line};
 ghost use Rattle.fts.specs.Runs.{AnswersEnded, AnswersFirst, BeginsOutput, BeginsOutputUnless, BeginsWith, Ends, Holds, Leads, LeadsFirst, Reached};
 
+use crate::engine::Engine;
 use crate::fault::Fault;
 use crate::lines::PartialLine;
-use crate::list_engine::ListSession as Session;
 use crate::options::Options;
+use crate::session::Session;
 use crate::streams::{ScriptIn, ScriptOut};
 use memchr::memchr;
 use std::alloc::{AllocError, Global};
+use std::sync::Wait;
+use std::thread::Threads;
 
 /// How many bytes are read at a time, and how many bytes of replies wait at most before a line is answered.
 const BLOCK: usize = 65_536;
@@ -28,13 +32,14 @@ fn zeros(alloc: Global, count: usize) -> Result<Vec<u8>, AllocError>
 }
 
 /// Replies to the line that ends with `piece`.
-fn end_line(
-    session: &mut Session,
+fn end_line<E: Engine>(
+    rt: &(impl AllocGlobal + Threads + Wait),
+    session: &mut Session<E>,
     line: &mut PartialLine,
     piece: &[u8],
     replies: &mut String,
 ) -> Result<(), AllocError>
-    requires few { session.old.number < 2 ^ 62 }
+    requires few { session.old.number ≤ 2 ^ 61 }
     requires short { length piece.now ≤ longest }
     ensures reply { OnOk result ((start : List ℕ) → Holds line.old start →
         string_bytes replies.new ≡ string_bytes replies.old ++ reply_to session.old (start ++ piece.now)) }
@@ -46,20 +51,21 @@ fn end_line(
 {
     if line.is_empty() {
         // The line lies whole in its block, and is read there.
-        return session.answer(piece, replies);
+        return session.answer(rt, piece, replies);
     }
     line.grow(piece)?;
-    line.answer(session, replies)
+    line.answer(rt, session, replies)
 }
 
 /// Takes the bytes up to the end of a line, or all where none ends, and says how many.
-fn take_line(
-    session: &mut Session,
+fn take_line<E: Engine>(
+    rt: &(impl AllocGlobal + Threads + Wait),
+    session: &mut Session<E>,
     line: &mut PartialLine,
     bytes: &[u8],
     replies: &mut String,
 ) -> Result<usize, AllocError>
-    requires few { session.old.number < 2 ^ 62 }
+    requires few { session.old.number ≤ 2 ^ 61 }
     requires some { 0 < length bytes.now }
     requires short { length bytes.now ≤ longest }
     ensures some { IfOk result (λ n. 0 < n) }
@@ -71,7 +77,7 @@ fn take_line(
 {
     match memchr(b'\n', bytes) {
         Some(end) => {
-            end_line(session, line, &bytes[..end], replies)?;
+            end_line(rt, session, line, &bytes[..end], replies)?;
             Ok(end + 1)
         }
         None => {
@@ -82,13 +88,14 @@ fn take_line(
 }
 
 /// Takes lines until the bytes are done or many replies wait, and says how many bytes it took.
-fn take_lines(
-    session: &mut Session,
+fn take_lines<E: Engine>(
+    rt: &(impl AllocGlobal + Threads + Wait),
+    session: &mut Session<E>,
     line: &mut PartialLine,
     bytes: &[u8],
     replies: &mut String,
 ) -> Result<usize, AllocError>
-    requires few { session.old.number + length bytes.now < 2 ^ 62 }
+    requires few { session.old.number + length bytes.now ≤ 2 ^ 61 }
     requires some { 0 < length bytes.now }
     requires short { length bytes.now ≤ longest }
     requires none_wait { string_bytes replies.old ≡ [] }
@@ -102,7 +109,7 @@ fn take_lines(
 {
     let mut at = 0;
     while at < bytes.len() && replies.len() < BLOCK {
-        at += take_line(session, line, &bytes[at..], replies)?;
+        at += take_line(rt, session, line, &bytes[at..], replies)?;
     }
     Ok(at)
 }
@@ -132,14 +139,15 @@ fn send<W: ScriptOut>(writer: &mut W, replies: &mut String) -> Result<(), Fault>
 }
 
 /// Replies to the lines of a block.
-fn take_block<W: ScriptOut>(
-    session: &mut Session,
+fn take_block<E: Engine, W: ScriptOut>(
+    rt: &(impl AllocGlobal + Threads + Wait),
+    session: &mut Session<E>,
     line: &mut PartialLine,
     block: &[u8],
     replies: &mut String,
     writer: &mut W,
 ) -> Result<(), Fault>
-    requires few { session.old.number + length block.now < 2 ^ 62 }
+    requires few { session.old.number + length block.now ≤ 2 ^ 61 }
     requires short { length block.now ≤ longest }
     requires none_wait { string_bytes replies.old ≡ [] }
     ensures ok { OnOk result ((before : Option (List ℕ)) (input : List ℕ) →
@@ -161,7 +169,7 @@ fn take_block<W: ScriptOut>(
 {
     let mut at = 0;
     while at < block.len() {
-        let taken = take_lines(session, line, &block[at..], replies);
+        let taken = take_lines(rt, session, line, &block[at..], replies);
         // The replies go out before more is read, and where memory ran out too.
         send(writer, replies)?;
         at += taken?;
@@ -170,29 +178,31 @@ fn take_block<W: ScriptOut>(
 }
 
 /// Replies to the line that the end of the input ends, if there is one.
-fn end_input(
-    session: &mut Session,
+fn end_input<E: Engine>(
+    rt: &(impl AllocGlobal + Threads + Wait),
+    session: &mut Session<E>,
     line: &mut PartialLine,
     replies: &mut String,
 ) -> Result<(), AllocError>
-    requires few { session.old.number < 2 ^ 62 }
+    requires few { session.old.number ≤ 2 ^ 61 }
     requires none_wait { string_bytes replies.old ≡ [] }
     ensures ok { OnOk result (Ends session.old line.old (string_bytes replies.new)) }
 {
     if line.is_empty() {
         return Ok(());
     }
-    line.answer(session, replies)
+    line.answer(rt, session, replies)
 }
 
 /// Replies to the last line, and writes and flushes all.
-fn finish<W: ScriptOut>(
-    session: &mut Session,
+fn finish<E: Engine, W: ScriptOut>(
+    rt: &(impl AllocGlobal + Threads + Wait),
+    session: &mut Session<E>,
     line: &mut PartialLine,
     replies: &mut String,
     writer: &mut W,
 ) -> Result<(), Fault>
-    requires few { session.old.number < 2 ^ 62 }
+    requires few { session.old.number ≤ 2 ^ 61 }
     requires none_wait { string_bytes replies.old ≡ [] }
     ensures ok { OnOk result ((before : Option (List ℕ)) (input : List ℕ) →
         Reached before (W.written writer.old) session.old line.old input →
@@ -208,7 +218,7 @@ fn finish<W: ScriptOut>(
     ensures fails { IsErrOf result Fault.Write → W.failed writer.old < W.failed writer.new }
     ensures flushed { OnOk result (W.flushes writer.old < W.flushes writer.new) }
 {
-    end_input(session, line, replies)?;
+    end_input(rt, session, line, replies)?;
     send(writer, replies)?;
     match writer.flush() {
         Ok(()) => Ok(()),
@@ -216,9 +226,57 @@ fn finish<W: ScriptOut>(
     }
 }
 
-/// Reads a script to its end, and writes its replies, whatever the options.
-pub fn run_script<R: ScriptIn, W: ScriptOut>(
-    rt: &impl AllocGlobal,
+/// Reads a script to its end, and writes its replies.
+fn run_session<E: Engine, R: ScriptIn, W: ScriptOut>(
+    rt: &(impl AllocGlobal + Threads + Wait),
+    reader: &mut R,
+    writer: &mut W,
+    session: &mut Session<E>,
+) -> Result<(), Fault>
+    requires { session.old ≡ start }
+    ensures ok { OnOk result (Moved (R.remaining reader.old) (R.remaining reader.new)
+        (W.written writer.old) (W.written writer.new) (λ input out. out ≡ output input)) }
+    ensures end { OnOk result (R.ends reader.old < R.ends reader.new) }
+    ensures flushed { OnOk result (W.flushes writer.old < W.flushes writer.new) }
+    ensures nothing_left { R.ends reader.old < R.ends reader.new → IsAtEnd (R.remaining reader.new) }
+    ensures err { OnErr result (Moved (R.remaining reader.old) (R.remaining reader.new)
+        (W.written writer.old) (W.written writer.new)
+        (BeginsOutputUnless (R.ends reader.old < R.ends reader.new))) }
+    ensures memory { IsErrOf result Fault.Memory → Moved (R.remaining reader.old) (R.remaining reader.new)
+        (W.written writer.old) (W.written writer.new) AnswersFirst }
+    ensures read { IsErrOf result Fault.Read → Moved (R.remaining reader.old) (R.remaining reader.new)
+        (W.written writer.old) (W.written writer.new) AnswersEnded }
+    ensures read_failed { IsErrOf result Fault.Read → R.failed reader.old < R.failed reader.new }
+    ensures write_failed { IsErrOf result Fault.Write → W.failed writer.old < W.failed writer.new }
+    ensures used_up { IsErrOf result Fault.StampsUsedUp →
+        Moved (R.remaining reader.old) (R.remaining reader.new)
+        (W.written writer.old) (W.written writer.new)
+        (λ input out. AnswersFirst input out × (2 ^ 61 < length input)) }
+{
+    let alloc = rt.alloc();
+    let mut block = zeros(alloc, BLOCK)?;
+    let block = block.as_mut_slice();
+    let mut line = PartialLine::new(alloc);
+    let mut replies = String::new(alloc);
+    let mut count = 0;
+    'reads: loop {
+        match reader.read(block) {
+            Ok(0) => return finish(rt, session, &mut line, &mut replies, writer),
+            Ok(n) => {
+                if n as u64 > MOST - count {
+                    return Err(Fault::StampsUsedUp);
+                }
+                count += n as u64;
+                take_block(rt, session, &mut line, &block[..n], &mut replies, writer)?;
+            }
+            Err(_) => return Err(Fault::Read),
+        }
+    }
+}
+
+/// Reads a script to its end, and writes its replies, whatever the options and whatever the engine.
+pub fn run_script<E: Engine, R: ScriptIn, W: ScriptOut>(
+    rt: &(impl AllocGlobal + Threads + Wait),
     reader: &mut R,
     writer: &mut W,
     options: Options,
@@ -250,27 +308,10 @@ pub fn run_script<R: ScriptIn, W: ScriptOut>(
         (W.written writer.old) (W.written writer.new)
         (λ input out. AnswersFirst input out × (2 ^ 61 < length input)) }
 {
-    let alloc = rt.alloc();
-    let _ = options;
-    let mut block = zeros(alloc, BLOCK)?;
-    let block = block.as_mut_slice();
-    let mut session = Session::new(alloc);
-    let mut line = PartialLine::new(alloc);
-    let mut replies = String::new(alloc);
-    let mut count = 0;
-    'reads: loop {
-        match reader.read(block) {
-            Ok(0) => return finish(&mut session, &mut line, &mut replies, writer),
-            Ok(n) => {
-                if n as u64 > MOST - count {
-                    return Err(Fault::StampsUsedUp);
-                }
-                count += n as u64;
-                take_block(&mut session, &mut line, &block[..n], &mut replies, writer)?;
-            }
-            Err(_) => return Err(Fault::Read),
-        }
-    }
+    let mut session = Session::<E>::new(options);
+    let outcome = run_session(rt, reader, writer, &mut session);
+    session.close(rt);
+    outcome
 }
 
 #[cfg(test)]

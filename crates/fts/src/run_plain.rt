@@ -1,19 +1,22 @@
 // A run over a reader and a writer of std.
 ghost use Rattle.std.specs.Prelude.{◌≡◌, List, ℕ, IfSome, OnOk, OnErr, IsErrOf};
 ghost use Rattle.fts.specs.Streams.{Moved, Wrote};
-ghost use Rattle.fts.specs.Replies.{output};
+ghost use Rattle.fts.specs.Outputs.{output};
 ghost use Rattle.fts.specs.Runs.{AnswersEnded, AnswersFirst, BeginsWith};
 
+use crate::engine::Engine;
 use crate::fault::Fault;
 use crate::options::Options;
 use crate::plain::Plain;
 use crate::run::run_script;
 use std::io::{Read, Write};
 use std::marker::Brand;
+use std::sync::Wait;
 use std::sync::ledger::{Blank, Ledger};
+use std::thread::Threads;
 
-fn run_counted<L: Ledger, M: Ledger, R: Read, W: Write>(
-    rt: &impl AllocGlobal,
+fn run_counted<E: Engine, L: Ledger, M: Ledger, R: Read, W: Write>(
+    rt: &(impl AllocGlobal + Threads + Wait),
     reader: R,
     writer: W,
     options: Options,
@@ -37,13 +40,13 @@ fn run_counted<L: Ledger, M: Ledger, R: Read, W: Write>(
 {
     let mut reader = Plain::<R, L>::new(reader, reading);
     let mut writer = Plain::<W, M>::new(writer, writing);
-    let outcome = run_script(rt, &mut reader, &mut writer, options);
+    let outcome = run_script::<E, Plain<R, L>, Plain<W, M>>(rt, &mut reader, &mut writer, options);
     (outcome, reader.into_inner(), writer.into_inner())
 }
 
 /// Runs a script over a reader and a writer of std.
-pub fn run_plain<R: Read, W: Write>(
-    rt: &impl AllocGlobal,
+pub fn run_plain<E: Engine, R: Read, W: Write>(
+    rt: &(impl AllocGlobal + Threads + Wait),
     reader: R,
     writer: W,
     options: Options,
@@ -60,5 +63,5 @@ pub fn run_plain<R: Read, W: Write>(
     ensures read { IsErrOf result.0 Fault.Read → Moved (R.remaining reader) (R.remaining result.1)
         (W.contents writer) (W.contents result.2) AnswersEnded }
 {
-    run_counted::<Brand, Brand, R, W>(rt, reader, writer, options, Blank::new(3), Blank::new(3))
+    run_counted::<E, Brand, Brand, R, W>(rt, reader, writer, options, Blank::new(3), Blank::new(3))
 }

@@ -1,38 +1,42 @@
 // A script line by line: what it has come to, and its replies.
-ghost use Rattle.std.specs.Prelude.{◌≡◌, ◌≢◌, ◌⊎◌, ◌+◌, ◌^◌, ◌<◌, ◌≤◌, ◌++◌, [], ◌∷◌, Bool, List, ℕ, Option, Some, None, Ok, Err, true, false, IfOk, IfErr, OnOk, OnErr, MatchOption, ⊤, length, string_bytes, option_map, codes};
+ghost use Rattle.std.specs.Prelude.{◌≡◌, ◌+◌, ◌^◌, ◌<◌, ◌≤◌, ◌++◌, List, ℕ, Option, Some, None, Ok, Err, false, IfOk, OnOk, OnErr, MatchOption, ⊤, length, string_bytes, option_map, codes};
 ghost use Rattle.serde_json.specs.View.{view};
 ghost use Rattle.std.specs.Option.{ok_or};
 ghost use Rattle.fts_model.specs.Outcomes.{Gives};
-ghost use Rattle.serde_json.specs.Written.{compact_text, has_float};
+ghost use Rattle.fts_model.specs.Operations.{term_of};
+ghost use Rattle.fts_model.specs.QueryValues.{query_value};
+ghost use Rattle.fts_query.specs.Outcomes.{refusal_without_byte};
+ghost use Rattle.fts_query.specs.Answers.{answer as query_in};
+ghost use Rattle.serde_json.specs.Written.{has_float};
 ghost use Rattle.fts.specs.Text.{is_blank as is_blank_line};
-ghost use Rattle.fts.specs.Commands.{Add, Commit, Search, json_in, command_in};
-ghost use Rattle.fts.specs.CommandViews.{seen};
-ghost use Rattle.fts.specs.Indexes.{next_stamp};
-ghost use Rattle.fts.specs.Replies.{longest, start, take_schema, obey as obeyed, obey_line, number_reply as number_data, refusal_reply as refusal_data, line_of, text_of, index_after, after_line, reply_to};
-ghost use Rattle.fts.specs.Steps.{Obeys, KeepsSteady};
+ghost use Rattle.fts.specs.Commands.{longest, Add, Delete, Commit, Rollback, Merge, json_in};
+ghost use Rattle.fts.specs.CommandViews.{seen, search_seen};
+ghost use Rattle.fts.specs.Indexes.{indexes};
+ghost use Rattle.fts.specs.Steps.{submit as submit_step};
+ghost use Rattle.fts.specs.Replies.{replied, answer_search, execute as execute_command, execute_line, number_reply as number_data, refusal_reply as refusal_data, line_of, text_of, index_after};
+ghost use Rattle.fts.specs.Outputs.{start, after_line, reply_to};
+ghost use Rattle.fts.specs.Sessions.{Executes, ChangesAtMost, ChangesOnce};
 
-use crate::command::{Command, command_of};
+use crate::answer::answer_value;
+use crate::command::{Command, Search, command_of};
 use crate::engine::Engine;
 use crate::lines::is_blank;
-use crate::word::terms_of;
-use fts_model::{Document, Field, Op, Refusal, Schema};
+use crate::options::Options;
+use fts_model::{Document, Field, Op, Query, Refusal, Request, Schema, Term};
+use fts_query::parse;
 use serde_json::{Value, json};
 use std::alloc::{AllocError, Global};
 use std::marker::Model;
+use std::sync::Wait;
+use std::thread::Threads;
 
 /// An object of a name and a number.
-fn number_reply(alloc: Global, name: &str, n: u64) -> Result<Value, Refusal>
-    ensures ok { IfOk result (λ reply. view reply ≡ number_data name.now n) }
-    ensures memory { IfErr result (λ e. e ≡ Refusal.Memory) }
+fn number_reply(alloc: Global, name: &str, n: u64) -> Result<Value, AllocError>
+    ensures { IfOk result (λ reply. view reply ≡ number_data name.now n) }
 {
     let mut members = serde_json::Map::new(alloc);
-    let Ok(name) = String::from_str(alloc, name) else {
-        return Err(Refusal::Memory);
-    };
-    match members.insert(name, Value::from(n)) {
-        Ok(_) => Ok(Value::Object(members)),
-        Err(_) => Err(Refusal::Memory),
-    }
+    members.insert(String::from_str(alloc, name)?, Value::from(n))?;
+    Ok(Value::Object(members))
 }
 
 /// A refusal in the line of this number.
@@ -44,105 +48,194 @@ fn refusal_reply(alloc: Global, refusal: Refusal, line: u64) -> Result<Value, Al
 }
 
 /// Takes a schema: a new index, and the reply.
-fn take<E: Engine>(alloc: Global, fields: Vec<Field>) -> Result<(E, Value), Refusal>
-    ensures ok { IfOk result (λ p. (take_schema fields.items ≡ Ok (record { index = Some (E.index p.0); reply = view p.1 })) × (has_float (view p.1) ≡ false)) }
-    ensures err { IfErr result (λ e. (e ≡ Refusal.Memory) ⊎ (take_schema fields.items ≡ Err e)) }
+fn open<E: Engine>(
+    rt: &(impl AllocGlobal + Threads + Wait),
+    options: Options,
+    index: &mut Option<E>,
+    fields: Vec<Field>,
+) -> Result<Value, Refusal>
+    requires { option_map E.index index.old ≡ None }
+    ensures executes { Executes (execute_command indexes None (seen (Command.Schema fields))) None (option_map E.index index.new) result }
+    ensures changes { ChangesAtMost E.changes 0 index.new }
 {
-    let count = fields.len();
-    let schema = match Schema::new(alloc, fields) {
+    let reply = number_reply(rt.alloc(), "fields", fields.len() as u64)?;
+    let schema = match Schema::new(rt.alloc(), fields) {
         Ok(schema) => schema,
         Err((_, refusal)) => return Err(refusal),
     };
-    match (
-        E::open(alloc, schema),
-        number_reply(alloc, "fields", count as u64),
-    ) {
-        (Ok(engine), Ok(reply)) => Ok((engine, reply)),
-        _ => Err(Refusal::Memory),
+    let engine = E::open(rt, options, schema)?;
+    if let Some(before) = index.replace(engine) {
+        before.close(rt);
     }
+    Ok(reply)
+}
+
+/// Takes an operation.
+fn submit<E: Engine>(alloc: Global, engine: &mut E, op: Op) -> Result<Value, Refusal>
+    requires { E.changes engine.old ≤ 2 ^ 61 }
+    ensures executes { Executes (replied (number_data (codes "stamp")) (submit_step indexes op (E.index engine.old)))
+        (Some (E.index engine.old)) (Some (E.index engine.new)) result }
+    ensures changes { E.changes engine.new ≤ E.changes engine.old + 1 }
+{
+    let reply = number_reply(alloc, "stamp", engine.next_stamp())?;
+    engine.submit(op)?;
+    Ok(reply)
 }
 
 /// Adds a document.
 fn add<E: Engine>(alloc: Global, engine: &mut E, json: &Value) -> Result<Value, Refusal>
-    requires { next_stamp (E.index engine.old) < 2 ^ 63 }
-    ensures obeys { Obeys (obeyed (Some (E.index engine.old)) (Add (view json.now))) (Some (E.index engine.old)) (Some (E.index engine.new)) result }
-    ensures steady { KeepsSteady (Some (E.index engine.old)) (Some (E.index engine.new)) }
+    requires { E.changes engine.old ≤ 2 ^ 61 }
+    ensures executes { Executes (execute_command indexes (Some (E.index engine.old)) (Add (view json.now)))
+        (Some (E.index engine.old)) (Some (E.index engine.new)) result }
+    ensures changes { E.changes engine.new ≤ E.changes engine.old + 1 }
 {
-    let document = match Document::from_json(alloc, engine.schema(), json) {
-        Ok(document) => document,
-        Err(refusal) => return Err(refusal),
-    };
-    match engine.submit(Op::Add(document)) {
-        Ok(stamp) => number_reply(alloc, "stamp", stamp),
-        Err(_) => Err(Refusal::Memory),
-    }
+    let document = Document::from_json(alloc, engine.schema(), json)?;
+    submit(alloc, engine, Op::Add(document))
+}
+
+/// The term that a value is in the field of a name.
+fn term_in<E: Engine>(alloc: Global, engine: &E, name: &str, json: &Value) -> Result<Term, Refusal>
+    ensures { Gives (λ term. term) result (term_of (E.index engine.now).schema name.now (view json.now)) }
+{
+    Term::new(alloc, engine.schema(), name, json)
+}
+
+/// Deletes the documents with a term.
+fn delete<E: Engine>(
+    alloc: Global,
+    engine: &mut E,
+    name: &str,
+    json: &Value,
+) -> Result<Value, Refusal>
+    requires { E.changes engine.old ≤ 2 ^ 61 }
+    ensures executes { Executes (execute_command indexes (Some (E.index engine.old)) (Delete name.now (view json.now)))
+        (Some (E.index engine.old)) (Some (E.index engine.new)) result }
+    ensures changes { E.changes engine.new ≤ E.changes engine.old + 1 }
+{
+    let term = term_in(alloc, engine, name, json)?;
+    submit(alloc, engine, Op::Delete(term))
 }
 
 /// Commits.
-fn commit<E: Engine>(alloc: Global, engine: &mut E) -> Result<Value, Refusal>
-    requires { next_stamp (E.index engine.old) < 2 ^ 63 }
-    ensures obeys { Obeys (obeyed (Some (E.index engine.old)) Commit) (Some (E.index engine.old)) (Some (E.index engine.new)) result }
-    ensures steady { KeepsSteady (Some (E.index engine.old)) (Some (E.index engine.new)) }
+fn commit<E: Engine>(
+    rt: &(impl AllocGlobal + Threads + Wait),
+    engine: &mut E,
+) -> Result<Value, Refusal>
+    requires { E.changes engine.old ≤ 2 ^ 61 }
+    ensures executes { Executes (execute_command indexes (Some (E.index engine.old)) Commit)
+        (Some (E.index engine.old)) (Some (E.index engine.new)) result }
+    ensures changes { E.changes engine.new ≤ E.changes engine.old + 1 }
 {
-    match engine.commit() {
-        Ok(stamp) => number_reply(alloc, "commit", stamp),
-        Err(_) => Err(Refusal::Memory),
+    let reply = number_reply(rt.alloc(), "commit", engine.next_stamp())?;
+    engine.commit(rt)?;
+    Ok(reply)
+}
+
+/// Goes back to the last commit.
+fn rollback<E: Engine>(
+    rt: &(impl AllocGlobal + Threads + Wait),
+    engine: &mut E,
+) -> Result<Value, Refusal>
+    requires { E.changes engine.old ≤ 2 ^ 61 }
+    ensures executes { Executes (execute_command indexes (Some (E.index engine.old)) Rollback)
+        (Some (E.index engine.old)) (Some (E.index engine.new)) result }
+    ensures changes { E.changes engine.new ≤ E.changes engine.old + 1 }
+{
+    let reply = number_reply(rt.alloc(), "rollback", engine.commit_stamp())?;
+    engine.rollback(rt)?;
+    Ok(reply)
+}
+
+/// Merges what the last commit holds, which changes nothing that is found.
+fn merge<E: Engine>(
+    rt: &(impl AllocGlobal + Threads + Wait),
+    engine: &mut E,
+) -> Result<Value, Refusal>
+    requires { E.changes engine.old ≤ 2 ^ 61 }
+    ensures executes { Executes (execute_command indexes (Some (E.index engine.old)) Merge)
+        (Some (E.index engine.old)) (Some (E.index engine.new)) result }
+    ensures changes { E.changes engine.new ≤ E.changes engine.old + 1 }
+{
+    let count = engine.merge(rt)?;
+    Ok(number_reply(rt.alloc(), "merged", count)?)
+}
+
+/// A refusal without the byte of a fault of syntax, which no reply shows.
+fn without_byte(refusal: Refusal) -> Refusal
+    ensures { result ≡ refusal_without_byte refusal }
+{
+    match refusal {
+        Refusal::Syntax(_) => Refusal::Syntax(0),
+        refusal => refusal,
     }
 }
 
-/// Counts the hits of a query.
-fn search<E: Engine>(alloc: Global, engine: &E, query: &str) -> Result<Value, Refusal>
-    ensures { Obeys (obeyed (Some (E.index engine.now)) (Search query.now)) (Some (E.index engine.now)) (Some (E.index engine.now)) result }
+/// The query that a text is.
+fn query_of(alloc: Global, schema: &Schema, text: &str) -> Result<Query, Refusal>
+    ensures { Gives query_value result (query_in schema.now text.now) }
 {
-    let terms = match terms_of(alloc, engine.schema().fields(), query) {
-        Ok(terms) => terms,
-        Err(refusal) => return Err(refusal),
-    };
-    match engine.count_with_any(&terms) {
-        Ok(count) => number_reply(alloc, "count", count as u64),
-        Err(_) => Err(Refusal::Memory),
+    match parse(alloc, schema, text) {
+        Ok(query) => Ok(query),
+        Err(refusal) => Err(without_byte(refusal)),
     }
 }
 
-/// Obeys a command that comes behind the schema.
-fn obey_index<E: Engine>(
-    alloc: Global,
+/// Answers a search.
+fn search<E: Engine>(
+    rt: &(impl AllocGlobal + Threads + Wait),
+    engine: &mut E,
+    asked: Search<'_>,
+) -> Result<Value, Refusal>
+    ensures executes { Executes (answer_search indexes (search_seen asked.entry) (E.index engine.old))
+        (Some (E.index engine.old)) (Some (E.index engine.new)) result }
+    ensures changes { E.changes engine.new ≤ E.changes engine.old }
+{
+    let query = query_of(rt.alloc(), engine.schema(), asked.query)?;
+    let request = Request::new(engine.schema(), asked.groups, asked.top)?;
+    let answer = engine.search(rt, &query, &request)?;
+    Ok(answer_value(rt.alloc(), &answer)?)
+}
+
+/// Executes a command that comes behind the schema.
+fn execute_open<E: Engine>(
+    rt: &(impl AllocGlobal + Threads + Wait),
     engine: &mut E,
     command: Command<'_>,
 ) -> Result<Value, Refusal>
-    requires { next_stamp (E.index engine.old) < 2 ^ 63 }
-    ensures obeys { Obeys (obeyed (Some (E.index engine.old)) (seen command.entry)) (Some (E.index engine.old)) (Some (E.index engine.new)) result }
-    ensures steady { KeepsSteady (Some (E.index engine.old)) (Some (E.index engine.new)) }
+    requires { E.changes engine.old ≤ 2 ^ 61 }
+    ensures executes { Executes (execute_command indexes (Some (E.index engine.old)) (seen command.entry))
+        (Some (E.index engine.old)) (Some (E.index engine.new)) result }
+    ensures changes { E.changes engine.new ≤ E.changes engine.old + 1 }
 {
     match command {
         Command::Schema(_) => Err(Refusal::SchemaTwice),
-        Command::Add(json) => add(alloc, engine, json),
-        Command::Commit => commit(alloc, engine),
-        Command::Search(query) => search(alloc, engine, query),
+        Command::Add(json) => add(rt.alloc(), engine, json),
+        Command::Delete(name, json) => delete(rt.alloc(), engine, name, json),
+        Command::DeleteAll => submit(rt.alloc(), engine, Op::DeleteAll),
+        Command::Commit => commit(rt, engine),
+        Command::Rollback => rollback(rt, engine),
+        Command::Merge => merge(rt, engine),
+        Command::Search(asked) => search(rt, engine, asked),
     }
 }
 
-/// Obeys a command.
-fn obey<E: Engine>(
-    alloc: Global,
-    engine: &mut Option<E>,
+/// Executes a command.
+fn execute<E: Engine>(
+    rt: &(impl AllocGlobal + Threads + Wait),
+    options: Options,
+    index: &mut Option<E>,
     command: Command<'_>,
 ) -> Result<Value, Refusal>
-    requires { MatchOption (option_map E.index engine.old) ⊤ (λ i. next_stamp i < 2 ^ 63) }
-    ensures obeys { Obeys (obeyed (option_map E.index engine.old) (seen command.entry)) (option_map E.index engine.old) (option_map E.index engine.new) result }
-    ensures steady { KeepsSteady (option_map E.index engine.old) (option_map E.index engine.new) }
+    requires { ChangesAtMost E.changes (2 ^ 61) index.old }
+    ensures executes { Executes (execute_command indexes (option_map E.index index.old) (seen command.entry))
+        (option_map E.index index.old) (option_map E.index index.new) result }
+    ensures changes { ChangesOnce E.changes index.old index.new }
 {
-    if let Some(engine) = engine {
-        return obey_index(alloc, engine, command);
+    if let Some(engine) = index {
+        return execute_open(rt, engine, command);
     }
     match command {
-        Command::Schema(fields) => match take(alloc, fields) {
-            Ok((taken, reply)) => {
-                *engine = Some(taken);
-                Ok(reply)
-            }
-            Err(refusal) => Err(refusal),
-        },
+        Command::Schema(fields) => open(rt, options, index, fields),
         _ => Err(Refusal::NoSchema),
     }
 }
@@ -163,25 +256,23 @@ fn json_of(alloc: Global, line: &[u8]) -> Result<Value, Refusal>
     }
 }
 
-/// Obeys a line that isn't blank and isn't too long.
-fn obey_whole<E: Engine>(
-    alloc: Global,
-    engine: &mut Option<E>,
+/// The outcome of a line that isn't blank and isn't too long.
+fn execute_whole<E: Engine>(
+    rt: &(impl AllocGlobal + Threads + Wait),
+    options: Options,
+    index: &mut Option<E>,
     line: &[u8],
 ) -> Result<Value, Refusal>
-    requires room { MatchOption (option_map E.index engine.old) ⊤ (λ i. next_stamp i < 2 ^ 63) }
-    requires short { length line.now ≤ longest }
-    ensures obeys { Obeys (obey_line (option_map E.index engine.old) line.now) (option_map E.index engine.old) (option_map E.index engine.new) result }
-    ensures steady { KeepsSteady (option_map E.index engine.old) (option_map E.index engine.new) }
+    requires changes { ChangesAtMost E.changes (2 ^ 61) index.old }
+    requires fits_line { length line.now ≤ longest }
+    ensures executes { Executes (execute_line indexes (option_map E.index index.old) line.now)
+        (option_map E.index index.old) (option_map E.index index.new) result }
+    ensures changes { ChangesOnce E.changes index.old index.new }
 {
-    let json = match json_of(alloc, line) {
-        Ok(json) => json,
-        Err(refusal) => return Err(refusal),
-    };
-    match command_of(alloc, &json) {
-        Ok(Some(command)) => obey(alloc, engine, command),
-        Ok(None) => Err(Refusal::BadCommand),
-        Err(_) => Err(Refusal::Memory),
+    let json = json_of(rt.alloc(), line)?;
+    match command_of(rt.alloc(), &json)? {
+        Some(command) => execute(rt, options, index, command),
+        None => Err(Refusal::BadCommand),
     }
 }
 
@@ -198,64 +289,71 @@ fn push_reply(alloc: Global, reply: &Value, out: &mut String) -> Result<(), Allo
 
 /// Replies to a line that isn't blank and isn't too long.
 fn answer_whole<E: Engine>(
-    alloc: Global,
-    engine: &mut Option<E>,
+    rt: &(impl AllocGlobal + Threads + Wait),
+    options: Options,
+    index: &mut Option<E>,
     number: u64,
     line: &[u8],
     out: &mut String,
 ) -> Result<(), AllocError>
-    requires room { MatchOption (option_map E.index engine.old) ⊤ (λ i. next_stamp i < 2 ^ 63) }
-    requires short { length line.now ≤ longest }
-    ensures reply { OnOk result (string_bytes out.new ≡ string_bytes out.old ++ text_of number (obey_line (option_map E.index engine.old) line.now)) }
-    ensures index { OnOk result (option_map E.index engine.new ≡ index_after (option_map E.index engine.old) (obey_line (option_map E.index engine.old) line.now)) }
+    requires changes { ChangesAtMost E.changes (2 ^ 61) index.old }
+    requires fits_line { length line.now ≤ longest }
+    ensures reply { OnOk result (string_bytes out.new
+        ≡ string_bytes out.old ++ text_of number (execute_line indexes (option_map E.index index.old) line.now)) }
+    ensures index { OnOk result (option_map E.index index.new
+        ≡ index_after (option_map E.index index.old) (execute_line indexes (option_map E.index index.old) line.now)) }
     ensures err { OnErr result (string_bytes out.new ≡ string_bytes out.old) }
-    ensures steady { KeepsSteady (option_map E.index engine.old) (option_map E.index engine.new) }
+    ensures changes { ChangesOnce E.changes index.old index.new }
 {
-    let reply = match obey_whole(alloc, engine, line) {
+    let reply = match execute_whole(rt, options, index, line) {
         Ok(reply) => reply,
         Err(Refusal::Memory) => return Err(AllocError),
-        Err(refusal) => refusal_reply(alloc, refusal, number)?,
+        Err(refusal) => refusal_reply(rt.alloc(), refusal, number)?,
     };
-    push_reply(alloc, &reply, out)
+    push_reply(rt.alloc(), &reply, out)
 }
 
-/// What is carried from line to line.
-#[derive(Drop)]
+/// What is carried from line to line. It is ended by `close`.
 pub struct Session<E: Engine> {
-    alloc: Global,
+    options: Options,
     /// How many lines there were.
     number: u64,
     /// The index, once a schema was taken.
-    engine: Option<E>,
+    index: Option<E>,
 }
 
 impl<E: Engine> Model for Session<E> {
     ghost use Rattle.std.specs.Prelude.{option_map};
-    ghost use Rattle.fts.specs.Replies.{Script};
-    ghost use Rattle.fts.specs.Steps.{IsSteady};
+    ghost use Rattle.fts.specs.Outputs.{Script};
+    ghost use Rattle.fts.specs.Sessions.{ChangesAtMost};
 
     ghost Value = { Script };
 
-    ghost view = { λ s. record { number = s.number; index = option_map E.index s.engine } };
+    ghost view = { λ s. record { number = s.number; index = option_map E.index s.index } };
 
-    ghost invariant = { λ s. IsSteady s.number (option_map E.index s.engine) };
+    ghost invariant = { λ s. ChangesAtMost E.changes s.number s.index };
 }
 
 impl<E: Engine> Session<E> {
-    pub fn new(alloc: Global) -> Self
+    pub fn new(options: Options) -> Self
         ensures { result ≡ start }
     {
         Session {
-            alloc,
+            options,
             number: 0,
-            engine: None,
+            index: None,
         }
     }
 
     /// Replies to a line. At an `Err` the replies are as they were.
-    #[tactic(auto, unfolding(crate::specs::Replies::reply_to, crate::specs::Replies::after_line))]
-    pub fn answer(&mut self, line: &[u8], out: &mut String) -> Result<(), AllocError>
-        requires few { self.old.number < 2 ^ 62 }
+    #[tactic(auto, unfolding(crate::specs::Replies::reply_on, crate::specs::Replies::carried_over))]
+    pub fn answer(
+        &mut self,
+        rt: &(impl AllocGlobal + Threads + Wait),
+        line: &[u8],
+        out: &mut String,
+    ) -> Result<(), AllocError>
+        requires few { self.old.number ≤ 2 ^ 61 }
         requires short { length line.now ≤ longest }
         ensures reply { OnOk result (string_bytes out.new ≡ string_bytes out.old ++ reply_to self.old line.now) }
         ensures script { OnOk result (self.new ≡ after_line self.old line.now) }
@@ -266,16 +364,21 @@ impl<E: Engine> Session<E> {
         let answered = if is_blank(line) {
             Ok(())
         } else {
-            answer_whole(self.alloc, &mut self.engine, number, line, out)
+            answer_whole(rt, self.options, &mut self.index, number, line, out)
         };
         self.number = number;
         answered
     }
 
     /// Replies to a line that is longer than a line may be, of which it is known whether it is blank.
-    #[tactic(auto, unfolding(crate::specs::Replies::reply_to, crate::specs::Replies::after_line))]
-    pub fn answer_too_long(&mut self, blank: bool, out: &mut String) -> Result<(), AllocError>
-        requires few { self.old.number < 2 ^ 62 }
+    #[tactic(auto, unfolding(crate::specs::Replies::reply_on, crate::specs::Replies::carried_over))]
+    pub fn answer_too_long(
+        &mut self,
+        alloc: Global,
+        blank: bool,
+        out: &mut String,
+    ) -> Result<(), AllocError>
+        requires few { self.old.number ≤ 2 ^ 61 }
         ensures reply { OnOk result ((line : List ℕ) → longest < length line → is_blank_line line ≡ blank →
             string_bytes out.new ≡ string_bytes out.old ++ reply_to self.old line) }
         ensures script { OnOk result ((line : List ℕ) → longest < length line → is_blank_line line ≡ blank →
@@ -288,7 +391,19 @@ impl<E: Engine> Session<E> {
         if blank {
             return Ok(());
         }
-        let reply = refusal_reply(self.alloc, Refusal::LineTooLong, number)?;
-        push_reply(self.alloc, &reply, out)
+        let reply = refusal_reply(alloc, Refusal::LineTooLong, number)?;
+        push_reply(alloc, &reply, out)
+    }
+
+    /// Ends the index, if there is one.
+    pub fn close(self, rt: &(impl AllocGlobal + Threads + Wait)) {
+        let Session {
+            options: _,
+            number: _,
+            index,
+        } = self;
+        if let Some(index) = index {
+            index.close(rt);
+        }
     }
 }

@@ -8,10 +8,10 @@ use Rattle.std.specs.declared.cmp.Ordering.TheVariants.{Less, Equal, Greater}
 use Rattle.fts_model.specs.declared.value.Number.{Number}
 use Rattle.fts_model.specs.declared.operation.Stamped.{Stamped}
 use Rattle.fts_model.specs.declared.schema.Field.{Field}
-use Rattle.fts_model.specs.declared.query.Query.{Query}
 use Rattle.fts_model.specs.declared.query.Order.{Order}
 use Rattle.fts_model.specs.declared.answer.Hit.{Hit}
 use Rattle.fts_model.specs.Documents.{DocumentValue}
+use Rattle.fts_model.specs.QueryValues.{QueryValue}
 use Rattle.fts_model.specs.Queries.{hits, matches}
 use Rattle.fts_model.specs.Answers.{number_cmp, number_in_field, count_number, groups, numbers_in, hit_in, hits_in, comes_before, put_hit, sorted_hits, top}
 use Rattle.fts_model.specs.Scans.{hits_counted, group_place, is_group_at, hit_place}
@@ -86,7 +86,7 @@ hits_counted-at (group ∷ others) zero d h = omega arith
 hits_counted-at (group ∷ others) (suc k) d h = omega (arith, hits_counted-at others k d (omega (arith, h)))
 
 -- the hits among documents with one more
-pub hits-more : (schema : List Field) (query : Query) (documents : List (Stamped DocumentValue)) (document : Stamped DocumentValue) →
+pub hits-more : (schema : List Field) (query : QueryValue) (documents : List (Stamped DocumentValue)) (document : Stamped DocumentValue) →
     hits schema query (documents ++ document ∷ []) ≡ hits schema query documents ++ hits schema query (document ∷ [])
 hits-more schema query documents document = filter-append (λ (d : Stamped DocumentValue). matches schema d.value query) documents (document ∷ [])
 

@@ -2,35 +2,56 @@
 use Rattle.std.proofs.Common.{◌≡◌, Bool, true, false, ◌&&◌, ◌||◌, not, List, [], ◌∷◌, map, refl, sym, ap, ◌∙◌}
 use Rattle.std.specs.List.{list_all, list_any}
 use Rattle.fts_model.specs.declared.schema.Field.{Field}
+use Rattle.fts_model.specs.declared.query.Query.{Query}
 use Rattle.fts_model.specs.declared.query.Query.TheOpen.{Query-F}
 use Rattle.fts_model.specs.declared.query.Query.TheViews as views
 use Rattle.fts_model.specs.declared.query.Query.TheVariants.{rolls-Bool}
 use Rattle.fts_model.specs.declared.query.Query.TheFolds.{fold-roll-Query}
 use Rattle.fts_model.specs.Documents.{DocumentValue}
-use Rattle.fts_model.specs.Queries.{query_fits, query_fits_by_parts, matches, matches_by_parts, is_nonempty}
+use Rattle.fts_model.specs.QueryValues.{QueryValue, boolean, query_list, value_by_parts, query_value}
+use Rattle.fts_model.specs.Queries.{query_fits, all_fit, matches, all_match, any_matches, are_some, is_nonempty}
 
-list_all-map : {X : Type 0} (f : X → Bool) (xs : List X) → list_all (λ b. b) (map f xs) ≡ list_all f xs
-list_all-map f [] = refl
-list_all-map f (x ∷ xs) = ap (λ b. f x && b) (list_all-map f xs)
+-- whether a query of the code fits a schema, and whether it matches a document
+abbrev pub fits_in : List Field → Query → Bool
+fits_in schema q = query_fits schema (query_value q)
 
-list_any-map : {X : Type 0} (f : X → Bool) (xs : List X) → list_any (λ b. b) (map f xs) ≡ list_any f xs
-list_any-map f [] = refl
-list_any-map f (x ∷ xs) = ap (λ b. f x || b) (list_any-map f xs)
+abbrev pub matches_in : List Field → DocumentValue → Query → Bool
+matches_in schema document q = matches schema document (query_value q)
 
-is_nonempty-map : {X : Type 0} (f : X → Bool) (xs : List X) → is_nonempty (map f xs) ≡ is_nonempty xs
-is_nonempty-map f [] = refl
-is_nonempty-map f (x ∷ xs) = refl
+-- what a Boolean query is
+value_at_bool : (must must_not should : _) →
+    query_value (views.Bool must must_not should)
+    ≡ boolean (query_list (map query_value must.items)) (query_list (map query_value must_not.items)) (query_list (map query_value should.items))
+value_at_bool must must_not should =
+    ap query_value (sym (rolls-Bool must must_not should)) ∙ fold-roll-Query QueryValue value_by_parts (Query-F.Bool must must_not should)
+
+all_fit-list : (schema : List Field) (qs : List Query) → all_fit schema (query_list (map query_value qs)) ≡ list_all (fits_in schema) qs
+all_fit-list schema [] = refl
+all_fit-list schema (q ∷ qs) = ap (λ b. fits_in schema q && b) (all_fit-list schema qs)
+
+all_match-list : (schema : List Field) (document : DocumentValue) (qs : List Query) →
+    all_match schema document (query_list (map query_value qs)) ≡ list_all (matches_in schema document) qs
+all_match-list schema document [] = refl
+all_match-list schema document (q ∷ qs) = ap (λ b. matches_in schema document q && b) (all_match-list schema document qs)
+
+any_matches-list : (schema : List Field) (document : DocumentValue) (qs : List Query) →
+    any_matches schema document (query_list (map query_value qs)) ≡ list_any (matches_in schema document) qs
+any_matches-list schema document [] = refl
+any_matches-list schema document (q ∷ qs) = ap (λ b. matches_in schema document q || b) (any_matches-list schema document qs)
+
+are_some-list : (qs : List Query) → are_some (query_list (map query_value qs)) ≡ is_nonempty qs
+are_some-list [] = refl
+are_some-list (q ∷ qs) = refl
 
 all_three : {a b c d e f : Bool} → a ≡ d → b ≡ e → c ≡ f → (a && b && c) ≡ (d && e && f)
 all_three p q r = cc
 
 -- a Boolean query fits where each query in it does
 pub query_fits_at_bool : (schema : List Field) (must must_not should : _) →
-    query_fits schema (views.Bool must must_not should) ≡ (list_all (query_fits schema) must.items && list_all (query_fits schema) must_not.items && list_all (query_fits schema) should.items)
+    fits_in schema (views.Bool must must_not should) ≡ (list_all (fits_in schema) must.items && list_all (fits_in schema) must_not.items && list_all (fits_in schema) should.items)
 query_fits_at_bool schema must must_not should =
-    ap (query_fits schema) (sym (rolls-Bool must must_not should))
-    ∙ fold-roll-Query Bool (query_fits_by_parts schema) (Query-F.Bool must must_not should)
-    ∙ all_three (list_all-map (query_fits schema) must.items) (list_all-map (query_fits schema) must_not.items) (list_all-map (query_fits schema) should.items)
+    ap (query_fits schema) (value_at_bool must must_not should)
+    ∙ all_three (all_fit-list schema must.items) (all_fit-list schema must_not.items) (all_fit-list schema should.items)
 
 pub last_of_three : (a b c r : Bool) → a ≡ true → b ≡ true → r ≡ c → r ≡ (a && b && c)
 last_of_three true true c r p q e = e
@@ -47,13 +68,12 @@ all_of_parts p q r s = cc
 
 -- a Boolean query matches where all of its musts, none of its must-nots and, with no must, one of its shoulds match
 pub matches_at_bool : (schema : List Field) (document : DocumentValue) (must must_not should : _) →
-    matches schema document (views.Bool must must_not should)
-    ≡ (list_all (matches schema document) must.items && not (list_any (matches schema document) must_not.items) && (is_nonempty must.items || list_any (matches schema document) should.items))
+    matches_in schema document (views.Bool must must_not should)
+    ≡ (list_all (matches_in schema document) must.items && not (list_any (matches_in schema document) must_not.items) && (is_nonempty must.items || list_any (matches_in schema document) should.items))
 matches_at_bool schema document must must_not should =
-    ap (matches schema document) (sym (rolls-Bool must must_not should))
-    ∙ fold-roll-Query Bool (matches_by_parts schema document) (Query-F.Bool must must_not should)
-    ∙ all_of_parts (list_all-map (matches schema document) must.items) (list_any-map (matches schema document) must_not.items)
-    (is_nonempty-map (matches schema document) must.items) (list_any-map (matches schema document) should.items)
+    ap (matches schema document) (value_at_bool must must_not should)
+    ∙ all_of_parts (all_match-list schema document must.items) (any_matches-list schema document must_not.items)
+    (are_some-list must.items) (any_matches-list schema document should.items)
 
 pub not_all_must : (a b c d : Bool) → a ≡ false → (a && not b && (c || d)) ≡ false
 not_all_must true b c d h = cc

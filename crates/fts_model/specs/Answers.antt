@@ -10,12 +10,12 @@ use Rattle.fts_model.specs.declared.value.Number.TheVariants.{U64, I64}
 use Rattle.fts_model.specs.declared.value.FieldValue.{FieldValue}
 use Rattle.fts_model.specs.declared.value.FieldValue.TheVariants as values
 use Rattle.fts_model.specs.declared.operation.Stamped.{Stamped}
-use Rattle.fts_model.specs.declared.query.Query.{Query}
 use Rattle.fts_model.specs.declared.query.Order.{Order}
 use Rattle.fts_model.specs.declared.query.Order.TheVariants.{Rising, Falling}
 use Rattle.fts_model.specs.declared.query.Request.{Request}
 use Rattle.fts_model.specs.declared.answer.Hit.{Hit}
 use Rattle.fts_model.specs.Documents.{DocumentValue, value_in_field}
+use Rattle.fts_model.specs.QueryValues.{QueryValue}
 use Rattle.fts_model.specs.Queries.{hits}
 
 -- an answer: the number of hits, the groups if they were asked for, and the top list if it was
@@ -100,5 +100,5 @@ answer_of request hits = record {
 }
 
 -- the answer to a query and a request over documents
-abbrev pub answer : List Field → Query → Request → List (Stamped DocumentValue) → AnswerValue
+abbrev pub answer : List Field → QueryValue → Request → List (Stamped DocumentValue) → AnswerValue
 answer schema query request documents = answer_of request (hits schema query documents)

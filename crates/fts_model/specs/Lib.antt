@@ -4,6 +4,7 @@ pub mod Schemas
 pub mod Documents
 pub mod Stored
 pub mod Operations
+pub mod QueryValues
 pub mod Queries
 pub mod Answers
 pub mod Scans

@@ -16,8 +16,6 @@ use Rattle.fts_model.specs.declared.value.Number.TheVariants.{U64, I64}
 use Rattle.fts_model.specs.declared.value.FieldValue.{FieldValue}
 use Rattle.fts_model.specs.declared.value.FieldValue.TheVariants as values
 use Rattle.fts_model.specs.declared.operation.Stamped.{Stamped}
-use Rattle.fts_model.specs.declared.query.Query.{Query, fold-Query}
-use Rattle.fts_model.specs.declared.query.Query.TheOpen.{Query-F}
 use Rattle.fts_model.specs.declared.query.Order.{Order}
 use Rattle.fts_model.specs.declared.query.Top.{Top}
 use Rattle.fts_model.specs.declared.query.Request.{Request}
@@ -25,6 +23,7 @@ use Rattle.fts_model.specs.Outcomes.{result_and_then, result_map}
 use Rattle.fts_model.specs.Schemas.{field_named, holds_numbers}
 use Rattle.fts_model.specs.Documents.{DocumentValue, value_in_field, is_of_kind}
 use Rattle.fts_model.specs.Operations.{has, kind_at, term_fits}
+use Rattle.fts_model.specs.QueryValues.{QueryValue, every, nothing, term, phrase, range, boolean, QueryValues, no_queries, queries}
 
 -- a token stands at a position
 abbrev pub stands_at : List (ℕ × List ℕ) → ℕ → List ℕ → Bool
@@ -83,22 +82,32 @@ abbrev pub is_nonempty : {X : Type 0} → List X → Bool
 is_nonempty [] = false
 is_nonempty (x ∷ xs) = true
 
--- a query matches a document, where each query in it is seen as whether it does
-abbrev pub matches_by_parts : List Field → DocumentValue → Query-F Bool → Bool
-matches_by_parts schema document Query-F.All = true
-matches_by_parts schema document Query-F.None = false
-matches_by_parts schema document (Query-F.Term term) = has schema document term
-matches_by_parts schema document (Query-F.Phrase field pattern) = option_map_or (value_has_phrase pattern.items) (value_in_field document field) false
-matches_by_parts schema document (Query-F.Range field lower upper) = option_map_or (λ v. admits_from lower v && admits_to upper v) (value_in_field document field) false
-matches_by_parts schema document (Query-F.Bool must must_not should) =
-    list_all (λ b. b) must.items && not (list_any (λ b. b) must_not.items) && (is_nonempty must.items || list_any (λ b. b) should.items)
+-- whether there are queries
+abbrev pub are_some : QueryValues → Bool
+are_some no_queries = false
+are_some (queries q qs) = true
 
--- a query matches a document
-abbrev pub matches : List Field → DocumentValue → Query → Bool
-matches schema document = fold-Query Bool (matches_by_parts schema document)
+-- a query matches a document; all of some queries do; one of them does
+abbrev mutual
+  pub matches : List Field → DocumentValue → QueryValue → Bool
+  matches schema document every = true
+  matches schema document nothing = false
+  matches schema document (term t) = has schema document t
+  matches schema document (phrase field pattern) = option_map_or (value_has_phrase pattern) (value_in_field document field) false
+  matches schema document (range field lower upper) = option_map_or (λ v. admits_from lower v && admits_to upper v) (value_in_field document field) false
+  matches schema document (boolean must must_not should) =
+      all_match schema document must && not (any_matches schema document must_not) && (are_some must || any_matches schema document should)
+
+  pub all_match : List Field → DocumentValue → QueryValues → Bool
+  all_match schema document no_queries = true
+  all_match schema document (queries q qs) = matches schema document q && all_match schema document qs
+
+  pub any_matches : List Field → DocumentValue → QueryValues → Bool
+  any_matches schema document no_queries = false
+  any_matches schema document (queries q qs) = matches schema document q || any_matches schema document qs
 
 -- the documents, with their stamps, that a query matches
-abbrev pub hits : List Field → Query → List (Stamped DocumentValue) → List (Stamped DocumentValue)
+abbrev pub hits : List Field → QueryValue → List (Stamped DocumentValue) → List (Stamped DocumentValue)
 hits schema query documents = filter (λ d. matches schema d.value query) documents
 
 -- whether fields of this kind hold phrases
@@ -116,18 +125,19 @@ is_bound_of kind Unbounded = true
 abbrev pub is_range_of : Bound FieldValue → Bound FieldValue → Kind → Bool
 is_range_of lower upper kind = holds_numbers kind && is_bound_of kind lower && is_bound_of kind upper
 
--- a query fits a schema, where each query in it is seen as whether it does
-abbrev pub query_fits_by_parts : List Field → Query-F Bool → Bool
-query_fits_by_parts schema Query-F.All = true
-query_fits_by_parts schema Query-F.None = true
-query_fits_by_parts schema (Query-F.Term term) = term_fits schema term
-query_fits_by_parts schema (Query-F.Phrase field pattern) = option_map_or holds_phrases (kind_at schema field) false && is_nonempty pattern.items
-query_fits_by_parts schema (Query-F.Range field lower upper) = option_map_or (is_range_of lower upper) (kind_at schema field) false
-query_fits_by_parts schema (Query-F.Bool must must_not should) = list_all (λ b. b) must.items && list_all (λ b. b) must_not.items && list_all (λ b. b) should.items
+-- whether a query fits a schema: a term's value is of its field's kind, a phrase is of a text field and has a member, a range is of a number field and so are its bounds; whether all of some queries do
+abbrev mutual
+  pub query_fits : List Field → QueryValue → Bool
+  query_fits schema every = true
+  query_fits schema nothing = true
+  query_fits schema (term t) = term_fits schema t
+  query_fits schema (phrase field pattern) = option_map_or holds_phrases (kind_at schema field) false && is_nonempty pattern
+  query_fits schema (range field lower upper) = option_map_or (is_range_of lower upper) (kind_at schema field) false
+  query_fits schema (boolean must must_not should) = all_fit schema must && all_fit schema must_not && all_fit schema should
 
--- whether a query fits a schema: a term's value is of its field's kind, a phrase is of a text field and has a member, a range is of a number field and so are its bounds
-abbrev pub query_fits : List Field → Query → Bool
-query_fits schema query = fold-Query Bool (query_fits_by_parts schema) query
+  pub all_fit : List Field → QueryValues → Bool
+  all_fit schema no_queries = true
+  all_fit schema (queries q qs) = query_fits schema q && all_fit schema qs
 
 -- whether the field of this number holds numbers
 abbrev pub is_number_field : List Field → ℕ → Bool

@@ -2,6 +2,7 @@
 ghost use Rattle.std.specs.Prelude.{◌≡◌, option_map, option_copied};
 ghost use Rattle.std.specs.List.{list_all};
 ghost use Rattle.fts_model.specs.Outcomes.{Gives};
+ghost use Rattle.fts_model.specs.QueryValues.{query_value};
 ghost use Rattle.fts_model.specs.Queries.{query_fits, is_bound_of, is_range_of, holds_phrases as may_hold_phrases, is_number_field as is_field_of_numbers, is_limit as is_limit_of, number_field_named, groups_of, top_of};
 
 use crate::operation::{Term, kind_at};
@@ -68,7 +69,7 @@ impl Query {
     /// a member, a range is of a number field and so are its bounds.
     #[cycle(query_fits)]
     pub fn fits(&self, schema: &Schema) -> bool
-        ensures { result ≡ query_fits schema.now self.now }
+        ensures { result ≡ query_fits schema.now (query_value self.now) }
     {
         match self {
             Query::All | Query::None => true,
@@ -96,7 +97,7 @@ impl Query {
 /// Whether each of these fits the schema.
 #[cycle(query_fits)]
 fn all_fit(queries: &[Query], schema: &Schema) -> bool
-    ensures { result ≡ list_all (query_fits schema.now) queries.now }
+    ensures { result ≡ list_all (λ q. query_fits schema.now (query_value q)) queries.now }
 {
     for query in queries {
         if !query.fits(schema) {

@@ -1,6 +1,9 @@
 // What a call of the index refuses, each cause with its number and its name.
 ghost use Rattle.std.specs.Prelude.{◌≡◌, List, ℕ};
 ghost use Rattle.fts_model.specs.Refusals.{name_of, number_of};
+ghost use Rattle.fts_model.specs.declared.refusal.Refusal.TheVariants.{Memory};
+
+use std::alloc::{AllocError, AllocFailed};
 
 /// Why a call was refused. A refused call leaves everything that it was lent as it was.
 ///
@@ -176,5 +179,21 @@ impl Refusal {
             Refusal::LineTooLong => "LineTooLong",
             Refusal::NoReader => "NoReader",
         }
+    }
+}
+
+impl From<AllocError> for Refusal {
+    ghost from_gives = { λ _ refusal. refusal ≡ Memory };
+
+    fn from(_: AllocError) -> Self {
+        Refusal::Memory
+    }
+}
+
+impl<T: Drop> From<AllocFailed<T>> for Refusal {
+    ghost from_gives = { λ _ refusal. refusal ≡ Memory };
+
+    fn from(_: AllocFailed<T>) -> Self {
+        Refusal::Memory
     }
 }

@@ -8,6 +8,7 @@ ghost use Rattle.std.specs.Str.{bytes_eq};
 ghost use Rattle.fts_text.specs.Tokens.{tokens};
 ghost use Rattle.fts_text.specs.Places.{IsPlaceIn, token_at};
 ghost use Rattle.fts_model.specs.Outcomes.{Gives};
+ghost use Rattle.fts_model.specs.QueryValues.{query_value};
 ghost use Rattle.fts_model.specs.Queries.{stands_at as stands_in_text_at, stands_from as stands_in_text_from, phrase_in, value_has_phrase as has_phrase_in_value, number_lt as is_number_lt, number_le as is_number_le, value_lt as is_value_lt, value_le as is_value_le, admits_from as is_admitted_from, admits_to as is_admitted_to, matches as is_match};
 ghost use Rattle.fts_model.specs.Scans.{leads as leads_pattern};
 ghost use Rattle.fts_model.specs.Operations.{has_token as text_has, value_has as has_value, has as has_term, strikes, alive as alive_after};
@@ -340,7 +341,7 @@ pub fn matches(
     document: &Document,
     scratch: &mut String,
 ) -> Result<bool, AllocError>
-    ensures { IfOk result (λ matches. matches ≡ is_match schema.now document.now query.now) }
+    ensures { IfOk result (λ matches. matches ≡ is_match schema.now document.now (query_value query.now)) }
 {
     match query {
         Query::All => Ok(true),
@@ -385,7 +386,7 @@ fn all_match(
     document: &Document,
     scratch: &mut String,
 ) -> Result<bool, AllocError>
-    ensures { IfOk result (λ matches. matches ≡ list_all (is_match schema.now document.now) queries.now) }
+    ensures { IfOk result (λ matches. matches ≡ list_all (λ q. is_match schema.now document.now (query_value q)) queries.now) }
 {
     for query in queries {
         if !matches(schema, query, document, scratch)? {
@@ -403,7 +404,7 @@ fn any_matches(
     document: &Document,
     scratch: &mut String,
 ) -> Result<bool, AllocError>
-    ensures { IfOk result (λ matches. matches ≡ list_any (is_match schema.now document.now) queries.now) }
+    ensures { IfOk result (λ matches. matches ≡ list_any (λ q. is_match schema.now document.now (query_value q)) queries.now) }
 {
     for query in queries {
         if matches(schema, query, document, scratch)? {

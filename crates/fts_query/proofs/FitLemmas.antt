@@ -17,33 +17,15 @@ use Rattle.fts_model.specs.Outcomes.{result_and_then, result_map}
 use Rattle.fts_model.specs.Schemas.{field_named, holds_numbers}
 use Rattle.fts_model.specs.Documents.{is_of_kind}
 use Rattle.fts_model.specs.Operations.{kind_at, term_fits}
-use Rattle.fts_model.specs.declared.query.Query.{Query, map-Query}
-use Rattle.std.specs.List.{list_all}
-use Rattle.fts_model.specs.declared.query.Query.TheOpen.{Query-F}
-use Rattle.fts_model.specs.declared.query.Query.TheFolds.{fold-roll-Query, ind-Query}
-use Rattle.fts_model.specs.Queries.{query_fits, query_fits_by_parts, is_nonempty, holds_phrases, is_range_of, is_bound_of}
+use Rattle.fts_model.specs.Queries.{query_fits, all_fit, holds_phrases, is_range_of, is_bound_of}
 use Rattle.fts_query.specs.declared.fault.Fault.{Fault}
 use Rattle.fts_query.specs.declared.fault.Fault.TheVariants.{BadNumber, UnknownField}
 use Rattle.fts_query.specs.declared.clauses.Role.{Role}
 use Rattle.fts_query.specs.declared.clauses.Role.TheVariants.{Must, MustNot, Should}
-use Rattle.fts_query.specs.QueryValues.{QueryValue, every, nothing, term, phrase, range, boolean, QueryValues, none, query, query_list, value_by_parts, query_value}
+use Rattle.fts_model.specs.QueryValues.{QueryValue, range, query_list}
 use Rattle.fts_query.specs.Meanings.{Meaning, Factor, Clause, members, musts, must_nots, shoulds, boolean_of, node, conjunction, disjunction, chain_clause, list_meaning, role_in_conjunction, number_below, value_in, begins_minus, with_value, with_tokens, literal_in, default_clauses, some_default, literal_anywhere, bound_in, Value, literal, between, meaning_in, meaning_at, field_meaning}
 use Rattle.fts_query.specs.Grammar
 use Rattle.fts_query.specs.Grammar.{IsUnit, IsFactor, IsConjunction, IsChain, IsList, IsQuery}
-
-module _ (schema : List Field) where
-  abbrev mutual
-    pub fits_value : QueryValue → Bool
-    fits_value every = true
-    fits_value nothing = true
-    fits_value (term t) = term_fits schema t
-    fits_value (phrase field pattern) = option_map_or holds_phrases (kind_at schema field) false && is_nonempty pattern
-    fits_value (range field lower upper) = option_map_or (is_range_of lower upper) (kind_at schema field) false
-    fits_value (boolean ms ns ss) = fits_values ms && fits_values ns && fits_values ss
-
-    pub fits_values : QueryValues → Bool
-    fits_values none = true
-    fits_values (query q qs) = fits_value q && fits_values qs
 
 both_true : {a b : Bool} → a ≡ true → b ≡ true → (a && b) ≡ true
 both_true p q = cc
@@ -62,10 +44,10 @@ slice_get-drop {X = X} xs ys i y e =
 
 module _ (schema : List Field) where
   abbrev fits : QueryValue → Type 0
-  fits q = fits_value schema q ≡ true
+  fits q = query_fits schema q ≡ true
 
   abbrev fit : List QueryValue → Type 0
-  fit qs = fits_values schema (query_list qs) ≡ true
+  fit qs = all_fit schema (query_list qs) ≡ true
 
   abbrev pub MeaningFits : Meaning → Type 0
   MeaningFits (Ok q) = fits q
@@ -279,30 +261,3 @@ module _ (schema : List Field) where
 
   pub query_meaning_fits : {s : List ℕ} {m : Meaning} → IsQuery schema s m → MeaningFits m
   query_meaning_fits q = subst MeaningFits (sym q.means) (list_meaning_fits q.chains (list_fits q.list))
-
--- a query of the code fits where what it says does
-module _ (schema : List Field) where
-  abbrev Same : Query → Type 0
-  Same q = query_fits schema q ≡ fits_value schema (query_value q)
-
-  all_same : {T : Type 0} (f : T → Query) (p : (e : T) → Same (f e)) (es : List T) → list_all (λ b. b) (map (query_fits schema) (map f es)) ≡ fits_values schema (query_list (map query_value (map f es)))
-  all_same f p [] = refl
-  all_same f p (e ∷ es) = let a = p e in let b = all_same f p es in cc
-
-  all_three : {a b c d e f : Bool} → a ≡ d → b ≡ e → c ≡ f → (a && b && c) ≡ (d && e && f)
-  all_three p q r = cc
-
-  same_layer : {T : Type 0} (f : T → Query) (p : (e : T) → Same (f e)) (y : Query-F T) →
-      query_fits_by_parts schema (map-Query Query Bool (query_fits schema) (map-Query T Query f y)) ≡ fits_value schema (value_by_parts (map-Query Query QueryValue query_value (map-Query T Query f y)))
-  same_layer f p Query-F.All = refl
-  same_layer f p Query-F.None = refl
-  same_layer f p (Query-F.Term t) = refl
-  same_layer f p (Query-F.Phrase field pattern) = refl
-  same_layer f p (Query-F.Range field lower upper) = refl
-  same_layer f p (Query-F.Bool must must_not should) = all_three (all_same f p must.items) (all_same f p must_not.items) (all_same f p should.items)
-
-  pub query_fits-value : (q : Query) → query_fits schema q ≡ fits_value schema (query_value q)
-  query_fits-value = ind-Query Same (λ x y is.
-      fold-roll-Query Bool (query_fits_by_parts schema) x
-      ∙ subst (λ z. query_fits_by_parts schema (map-Query Query Bool (query_fits schema) z) ≡ fits_value schema (value_by_parts (map-Query Query QueryValue query_value z))) is (same_layer (λ e. e.0) (λ e. e.1) y)
-      ∙ sym (ap (fits_value schema) (fold-roll-Query QueryValue value_by_parts x)))

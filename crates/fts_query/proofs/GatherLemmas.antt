@@ -8,7 +8,7 @@ use Rattle.fts_query.specs.declared.clauses.Role.TheVariants.{Must, MustNot, Sho
 use Rattle.fts_query.specs.declared.stop.Stop.{Stop}
 use Rattle.fts_query.specs.declared.stop.Stop.TheVariants.{Memory, Syntax}
 use Rattle.fts_model.specs.Outcomes.{result_map}
-use Rattle.fts_query.specs.QueryValues.{QueryValue}
+use Rattle.fts_model.specs.QueryValues.{QueryValue}
 use Rattle.fts_query.specs.Meanings.{Meaning, Factor, Clause, members, musts, must_nots, shoulds, boolean_of, node, conjunction, disjunction, chain_clause, list_meaning}
 use Rattle.fts_query.specs.Gathering.{Gathered, gather, gather_all, gathered_node}
 use Rattle.fts_query.specs.Parts.{Part, lone, several, conjunction_part, chain_part, part_meaning, part_clause, part_should, factor_clause, then_gathered}

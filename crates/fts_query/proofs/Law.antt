@@ -1,5 +1,5 @@
 -- A text has one outcome, and the reading from the left finds it.
-use Rattle.std.proofs.Common.{◌≡◌, ℕ, true, false, List, [], ◌∷◌, length, subst, Option, Some, None, Result, Ok, Err, refl, sym, ap, ◌∙◌, arith, inl, inr, ltb}
+use Rattle.std.proofs.Common.{◌≡◌, ◌⊎◌, ℕ, true, false, List, [], ◌∷◌, length, subst, Option, Some, None, Result, Ok, Err, refl, sym, ap, ◌∙◌, arith, inl, inr, ltb}
 use Rattle.std.specs.Str.{chars}
 use Rattle.std.specs.List.{list_all}
 use Rattle.std.proofs.lemmas.Bool.{cases_Bool, ltb-true, ltb-false, le-ltb, lt-ltb, false_from_ne_true}
@@ -10,14 +10,14 @@ use Rattle.fts_model.specs.declared.query.Query.{Query}
 use Rattle.std.specs.Prelude.{IfOk, IfErr}
 use Rattle.fts_query.specs.declared.fault.Fault.TheVariants as faults
 use Rattle.fts_query.specs.declared.nesting.Place.TheVariants.{Outside}
-use Rattle.fts_query.specs.QueryValues.{QueryValue, nothing, query_value}
+use Rattle.fts_model.specs.QueryValues.{QueryValue, nothing, query_value}
 use Rattle.fts_query.specs.Meanings.{Meaning}
 use Rattle.fts_query.specs.Grammar.{is_space, IsBlank, IsQuery}
 use Rattle.fts_query.specs.Outcomes.{is_too_deep, IsFit, Reads, without_byte}
 use Rattle.fts_query.specs.Reading.{query_of, skip}
 use Rattle.fts_query.specs.Answers.{outcome_of, answer_from, answer_fit, answer, IsAnswer}
 use Rattle.fts_model.specs.Queries.{query_fits}
-use Rattle.fts_query.proofs.FitLemmas.{fits_value, query_meaning_fits, query_fits-value}
+use Rattle.fts_query.proofs.FitLemmas.{query_meaning_fits}
 use Rattle.fts_query.proofs.Sound.{query_sound}
 use Rattle.fts_query.proofs.Complete.{query_again, no_query_is_blank}
 use Rattle.fts_query.proofs.CharLemmas.{length-chars}
@@ -113,8 +113,8 @@ no_blank_skips (d ∷ s) t u c e f =
     ]
 
 -- what a text reads as fits the schema
-reads_fits : (schema : List Field) (text : List ℕ) (q : QueryValue) → Reads schema text (Ok q) → fits_value schema q ≡ true
-reads_fits schema text q (f, inl h) = subst (λ (x : QueryValue). fits_value schema x ≡ true) (sym h.1) refl
+reads_fits : (schema : List Field) (text : List ℕ) (q : QueryValue) → Reads schema text (Ok q) → query_fits schema q ≡ true
+reads_fits schema text q (f, inl h) = subst (λ (x : QueryValue). query_fits schema x ≡ true) (sym h.1) refl
 reads_fits schema text q (f, inr h) = query_meaning_fits schema h
 
 module _ (schema : List Field) (text : List ℕ) (f : IsFit text) where
@@ -132,12 +132,12 @@ module _ (schema : List Field) (text : List ℕ) (f : IsFit text) where
   answered (Ok q) h = outcome_reads (Ok (query_value q)) h
   answered (Err e) h = tt
 
-  pub refused : (r : Result Query Refusal) → IsAnswer r (answer_fit schema (chars text)) → IfErr r (λ e. (e ≡ Memory → ⊥) → Reads schema text (Err e))
+  pub refused : (r : Result Query Refusal) → IsAnswer r (answer_fit schema (chars text)) → IfErr r (λ e. (e ≡ Memory) ⊎ Reads schema text (Err e))
   refused (Ok q) h = tt
-  refused (Err Memory) h = λ n. absurd (n refl)
-  refused (Err (Syntax byte)) h = λ n. outcome_reads (Err (Syntax 0)) h
-  refused (Err e) h = λ n. outcome_reads (Err e) h
+  refused (Err Memory) h = inl refl
+  refused (Err (Syntax byte)) h = inr (outcome_reads (Err (Syntax 0)) h)
+  refused (Err e) h = inr (outcome_reads (Err e) h)
 
-  pub fitted : (r : Result Query Refusal) → IsAnswer r (answer_fit schema (chars text)) → IfOk r (λ q. query_fits schema q ≡ true)
-  fitted (Ok q) h = query_fits-value schema q ∙ reads_fits schema text (query_value q) (outcome_reads (Ok (query_value q)) h)
+  pub fitted : (r : Result Query Refusal) → IsAnswer r (answer_fit schema (chars text)) → IfOk r (λ q. query_fits schema (query_value q) ≡ true)
+  fitted (Ok q) h = reads_fits schema text (query_value q) (outcome_reads (Ok (query_value q)) h)
   fitted (Err e) h = tt

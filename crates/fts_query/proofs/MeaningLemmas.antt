@@ -11,7 +11,7 @@ use Rattle.fts_text.proofs.StretchLemmas.{All-IsPlaceIn, IsPlaceIn-first, tokens
 use Rattle.fts_model.specs.declared.schema.Field.{Field}
 use Rattle.fts_model.specs.declared.value.FieldValue.TheVariants as values
 use Rattle.fts_query.specs.declared.fault.Fault.TheVariants.{NoDefaultField}
-use Rattle.fts_query.specs.QueryValues.{phrase, nothing}
+use Rattle.fts_model.specs.QueryValues.{phrase, nothing}
 use Rattle.fts_query.specs.Meanings.{Clause, node, with_tokens, with_value, default_clauses, some_default, literal_anywhere}
 use Rattle.fts_query.specs.Gathering.{Gathered, gather_all, gathered_node}
 use Rattle.fts_query.proofs.GatherLemmas.{nothing_gathered, gathered_node-all}

@@ -4,7 +4,7 @@ use Rattle.std.specs.Global.{Vec}
 use Rattle.fts_model.specs.declared.operation.Term.{Term}
 use Rattle.fts_model.specs.declared.query.Query.{Query, the_lemmas}
 use Rattle.fts_model.specs.declared.query.Query as queries
-use Rattle.fts_query.specs.QueryValues.{every, nothing, term, phrase, query_value}
+use Rattle.fts_model.specs.QueryValues.{every, nothing, term, phrase, query_value}
 
 pub value-all : query_value queries.All ≡ every
 value-all = search (rules, the_lemmas)

@@ -11,7 +11,7 @@ use Rattle.fts_model.specs.declared.schema.Field.{Field}
 use Rattle.fts_model.specs.Schemas.{is_reserved}
 use Rattle.fts_query.specs.declared.clauses.Sign.{Sign}
 use Rattle.fts_query.specs.declared.clauses.Sign.TheVariants.{Plain, Plus, Minus}
-use Rattle.fts_query.specs.QueryValues.{every}
+use Rattle.fts_model.specs.QueryValues.{every}
 use Rattle.fts_query.specs.Meanings.{Meaning, Factor, Value, literal, between, list_meaning, literal_anywhere, field_meaning}
 use Rattle.fts_query.specs.Grammar
 use Rattle.fts_query.specs.Grammar.{is_word_char, is_bare, IsBare, IsWord, IsBound, bound, IsValue, Opens, Closes, begins_equals, IsBlank, IsSpace, IsOperator, IsUnit, IsFactor, IsConjunction, IsChain, IsList, IsQuery, quotation}

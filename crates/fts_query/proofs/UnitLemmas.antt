@@ -3,7 +3,7 @@ use Rattle.std.proofs.Common.{◌≡◌, ℕ, zero, suc, ◌-◌, false, List, [
 use Rattle.std.specs.Prelude.{◌==◌}
 use Rattle.std.proofs.lemmas.Bool.{ne_eqb}
 use Rattle.fts_model.specs.declared.schema.Field.{Field}
-use Rattle.fts_query.specs.QueryValues.{every}
+use Rattle.fts_model.specs.QueryValues.{every}
 use Rattle.fts_query.specs.Reading.{group_of, quote_of, bare_of, unit_by, unit_of}
 
 unit_at_end : (schema : List Field) (d : ℕ) → unit_of schema d [] ≡ None

@@ -9,7 +9,7 @@ use Rattle.fts_model.specs.declared.query.Query.{Query}
 use Rattle.fts_query.specs.declared.fault.Fault.{Fault}
 use Rattle.fts_query.specs.declared.fault.Fault.TheVariants as faults
 use Rattle.fts_query.specs.declared.nesting.Place.TheVariants.{Outside}
-use Rattle.fts_query.specs.QueryValues.{QueryValue, nothing, query_value}
+use Rattle.fts_model.specs.QueryValues.{QueryValue, nothing, query_value}
 use Rattle.fts_query.specs.Meanings.{Meaning}
 use Rattle.fts_query.specs.Grammar.{is_space}
 use Rattle.fts_query.specs.Outcomes.{is_too_deep}

@@ -3,7 +3,7 @@ use Rattle.std.specs.Prelude.{List, [], ◌∷◌, ◌++◌, Option, Some, None,
 use Rattle.fts_query.specs.declared.fault.Fault.{Fault}
 use Rattle.fts_query.specs.declared.clauses.Role.TheVariants.{Must, MustNot, Should}
 use Rattle.fts_query.specs.declared.clauses.Clauses.{Clauses}
-use Rattle.fts_query.specs.QueryValues.{QueryValue, query_value}
+use Rattle.fts_model.specs.QueryValues.{QueryValue, query_value}
 use Rattle.fts_query.specs.Meanings.{Meaning, Clause, boolean_of}
 
 -- musts, must-nots and shoulds, or the first fault

@@ -1,4 +1,3 @@
-pub mod QueryValues
 pub mod Meanings
 pub mod Grammar
 pub mod Outcomes

@@ -21,7 +21,7 @@ use Rattle.fts_query.specs.declared.clauses.Role.{Role}
 use Rattle.fts_query.specs.declared.clauses.Role.TheVariants.{Must, MustNot, Should}
 use Rattle.fts_query.specs.declared.clauses.Sign.{Sign}
 use Rattle.fts_query.specs.declared.clauses.Sign.TheVariants.{Plain, Plus, Minus}
-use Rattle.fts_query.specs.QueryValues.{QueryValue, nothing, term, phrase, range, boolean, query_list}
+use Rattle.fts_model.specs.QueryValues.{QueryValue, nothing, term, phrase, range, boolean, query_list}
 
 -- what a part of a text means: a query, or the first fault in it
 abbrev pub Meaning : Type 0

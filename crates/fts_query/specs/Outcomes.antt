@@ -7,7 +7,7 @@ use Rattle.fts_model.specs.declared.refusal.Refusal.TheVariants.{TooLong, Syntax
 use Rattle.fts_query.specs.declared.fault.Fault.TheVariants as faults
 use Rattle.fts_query.specs.declared.nesting.Place.{Place}
 use Rattle.fts_query.specs.declared.nesting.Place.TheVariants.{Outside, Quoted, Escaped}
-use Rattle.fts_query.specs.QueryValues.{QueryValue, nothing}
+use Rattle.fts_model.specs.QueryValues.{QueryValue, nothing}
 use Rattle.fts_query.specs.Meanings.{Meaning}
 use Rattle.fts_query.specs.Grammar.{IsBlank, IsQuery}
 
@@ -52,7 +52,11 @@ abbrev pub byte_of : Refusal → ℕ
 byte_of (Syntax byte) = byte
 byte_of refusal = 0
 
--- an outcome, the byte of a fault of syntax aside
+-- a refusal and an outcome, the byte of a fault of syntax aside
+abbrev pub refusal_without_byte : Refusal → Refusal
+refusal_without_byte (Syntax byte) = Syntax 0
+refusal_without_byte refusal = refusal
+
 abbrev pub without_byte : Result QueryValue Refusal → Result QueryValue Refusal
-without_byte (Err (Syntax byte)) = Err (Syntax 0)
-without_byte outcome = outcome
+without_byte (Ok query) = Ok query
+without_byte (Err refusal) = Err (refusal_without_byte refusal)

@@ -5,7 +5,7 @@ use Rattle.fts_query.specs.declared.clauses.Role.TheVariants.{Should}
 use Rattle.fts_query.specs.declared.reader.Factor.{Factor as CodeFactor}
 use Rattle.fts_query.specs.declared.reader.Part.{Part as CodePart}
 use Rattle.fts_query.specs.declared.reader.Part.TheVariants as parts
-use Rattle.fts_query.specs.QueryValues.{query_value}
+use Rattle.fts_model.specs.QueryValues.{query_value}
 use Rattle.fts_query.specs.Meanings.{Meaning, Factor, Clause, role_in_conjunction, role_alone, conjunction, disjunction}
 use Rattle.fts_query.specs.Gathering.{Gathered, gather_all}
 

@@ -61,7 +61,7 @@ pub(crate) struct Clauses {
 impl Clauses {
     ghost use Rattle.std.specs.Prelude.{◌≡◌, [], OnOk, Ok};
     ghost use Rattle.fts_model.specs.Outcomes.{result_map};
-    ghost use Rattle.fts_query.specs.QueryValues.{query_value};
+    ghost use Rattle.fts_model.specs.QueryValues.{query_value};
     ghost use Rattle.fts_query.specs.Gathering.{gathered_of, gather, gathered_node};
 
     /// No clauses.

@@ -2,7 +2,7 @@
 ghost use Rattle.std.specs.Prelude.{◌≡◌, ℕ, List, Result};
 ghost use Rattle.fts_model.specs.declared.schema.Field.{Field};
 ghost use Rattle.fts_model.specs.declared.refusal.Refusal.{Refusal};
-ghost use Rattle.fts_query.specs.QueryValues.{QueryValue};
+ghost use Rattle.fts_model.specs.QueryValues.{QueryValue};
 ghost use Rattle.fts_query.specs.Outcomes.{Reads, without_byte};
 
 /// A text reads as one query or one refusal, the byte of a fault of syntax aside.

@@ -4,7 +4,7 @@ ghost use Rattle.std.specs.List.{list_any};
 ghost use Rattle.fts_text.specs.Tokens.{tokens};
 ghost use Rattle.fts_text.specs.Places.{IsPlaceIn, token_at};
 ghost use Rattle.fts_model.specs.Outcomes.{result_map};
-ghost use Rattle.fts_query.specs.QueryValues.{query_value};
+ghost use Rattle.fts_model.specs.QueryValues.{query_value};
 ghost use Rattle.fts_query.specs.Values.{value_seen, bound_seen, IsShort};
 ghost use Rattle.fts_query.specs.Meanings.{between, with_value, value_in as value_of_kind, with_tokens as tokens_in_field, literal_in as literal_of_field, literal_anywhere as literal_in_defaults, bound_in as bound_of_kind, meaning_in as meaning_in_field, field_meaning as meaning_of_field};
 

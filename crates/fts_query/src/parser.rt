@@ -1,10 +1,10 @@
 // The query that a text is.
-ghost use Rattle.std.specs.Prelude.{◌≡◌, ◌≢◌, ◌≤◌, length, Ok, Err, IfOk, IfErr, true};
+ghost use Rattle.std.specs.Prelude.{◌≡◌, ◌⊎◌, ◌≤◌, length, Ok, Err, IfOk, IfErr, true};
 ghost use Rattle.std.specs.List.{list_all};
 ghost use Rattle.std.specs.Str.{chars};
 ghost use Rattle.fts_model.specs.declared.refusal.Refusal.TheVariants.{Memory};
 ghost use Rattle.fts_model.specs.Queries.{query_fits};
-ghost use Rattle.fts_query.specs.QueryValues.{query_value};
+ghost use Rattle.fts_model.specs.QueryValues.{query_value};
 ghost use Rattle.fts_query.specs.Grammar.{is_space};
 ghost use Rattle.fts_query.specs.Reading.{skip};
 ghost use Rattle.fts_query.specs.Outcomes.{Reads, byte_of};
@@ -65,9 +65,9 @@ fn outcome_of(alloc: Global, schema: &Schema, text: &str) -> Result<Query, Refus
 /// text of white space alone is the query for no document. `Memory` is answered only where a growth was refused.
 pub fn parse(alloc: Global, schema: &Schema, text: &str) -> Result<Query, Refusal>
     ensures reads { IfOk result (λ query. Reads schema.now text.now (Ok (query_value query))) }
-    ensures refused { IfErr result (λ refusal. refusal ≢ Memory → Reads schema.now text.now (Err refusal)) }
+    ensures refused { IfErr result (λ refusal. (refusal ≡ Memory) ⊎ Reads schema.now text.now (Err refusal)) }
     ensures byte { IfErr result (λ refusal. byte_of refusal ≤ length text.now) }
-    ensures fits { IfOk result (λ query. query_fits schema.now query ≡ true) }
+    ensures fits { IfOk result (λ query. query_fits schema.now (query_value query) ≡ true) }
 {
     if text.len() > LONGEST {
         return Err(Refusal::TooLong);

@@ -1,7 +1,7 @@
 // Reading a query from left to right: units, factors, conjunctions, chains and lists.
 ghost use Rattle.std.specs.Prelude.{◌≡◌, ◌≤◌, length, codes, IfOk, OnOk};
 ghost use Rattle.fts_model.specs.Outcomes.{result_map};
-ghost use Rattle.fts_query.specs.QueryValues.{query_value};
+ghost use Rattle.fts_model.specs.QueryValues.{query_value};
 ghost use Rattle.fts_query.specs.Gathering.{gathered_of, gather};
 ghost use Rattle.fts_query.specs.Parts.{factor_seen, part_seen, conjunction_part, chain_part, part_meaning, part_clause as clause_of_part, part_should, factor_clause, then_gathered};
 ghost use Rattle.fts_query.specs.Steps.{Finds};

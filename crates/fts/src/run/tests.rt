@@ -1,5 +1,6 @@
 // Scripts over memory, by readers and writers that are slow or fail.
 use crate::fault::Fault;
+use crate::list_engine::ListEngine;
 use crate::options::Options;
 use crate::run_plain::run_plain;
 use std::alloc::Global;
@@ -7,7 +8,9 @@ use std::cell::Cell;
 use std::io;
 use std::io::{Read, Write};
 use std::process::Abort;
+use std::sync::Wait;
 use std::test::Fail;
+use std::thread::Threads;
 
 /// The lines of a script, each with its reply; the last line lacks its LF.
 static SCRIPT: [(&str, &str); 10] = [
@@ -147,32 +150,64 @@ fn writer_of(
     }
 }
 
-#[test]
-fn whole_script(rt: HostRuntime) -> Result<(), Fail> {
-    let script = input(&rt)?;
-    let wanted = replies(&rt, script.len(), true)?;
+/// Whether a script has these replies, whatever the size of its reads.
+fn replies_to(
+    rt: &(impl AllocGlobal + Abort + Threads + Wait),
+    script: &[u8],
+    wanted: &[u8],
+) -> Result<(), Fail> {
     for step in [1, 2, 7, 1000] {
-        let reader = reader_of(script.as_slice(), step, 0, io::ErrorKind::Other);
-        let writer = writer_of(&rt, step, 0, None);
-        let (outcome, _, written) = run_plain(&rt, reader, writer, Options::default());
+        let reader = reader_of(script, step, 0, io::ErrorKind::Other);
+        let writer = writer_of(rt, step, 0, None);
+        let (outcome, _, written) = run_plain::<ListEngine, _, _>(
+            rt,
+            reader,
+            writer,
+            Options::default(),
+        );
         assert_eq!(rt; outcome, Ok(()));
-        assert_eq!(rt; written.bytes.as_slice(), wanted.as_slice());
+        assert_eq!(rt; written.bytes.as_slice(), wanted);
         assert_eq!(rt; written.flushes, 1);
     }
     Ok(())
 }
 
+#[test]
+fn whole_script(rt: HostRuntime) -> Result<(), Fail> {
+    let script = input(&rt)?;
+    let wanted = replies(&rt, script.len(), true)?;
+    replies_to(&rt, script.as_slice(), wanted.as_slice())
+}
+
+// White space at the beginning of a line changes no reply, wherever a read cuts it.
+#[test]
+fn lines_behind_white_space(rt: HostRuntime) -> Result<(), Fail> {
+    let mut script = Vec::new(rt.alloc());
+    for (line, _) in &SCRIPT {
+        script.extend_from_slice(b"  \t\r ")?;
+        script.extend_from_slice(line.as_bytes())?;
+        script.push(b'\n')?;
+    }
+    let wanted = replies(&rt, script.len(), true)?;
+    replies_to(&rt, script.as_slice(), wanted.as_slice())
+}
+
 /// Runs the script over a writer with room for its replies. A run that ends for memory has written the replies to the
 /// lines before the one that the last byte belongs to.
 fn ends_for_memory(
-    rt: &(impl AllocGlobal + Abort),
+    rt: &(impl AllocGlobal + Abort + Threads + Wait),
     script: &[u8],
     room: usize,
 ) -> Result<bool, Fail> {
     let mut writer = writer_of(rt, 1000, 0, None);
     writer.bytes.reserve(room)?;
     let reader = reader_of(script, 1, 0, io::ErrorKind::Other);
-    let (outcome, reader, written) = run_plain(rt, reader, writer, Options::default());
+    let (outcome, reader, written) = run_plain::<ListEngine, _, _>(
+        rt,
+        reader,
+        writer,
+        Options::default(),
+    );
     if outcome == Ok(()) {
         let wanted = replies(rt, script.len(), true)?;
         assert_eq!(rt; written.bytes.as_slice(), wanted.as_slice());
@@ -203,7 +238,12 @@ fn each_read_fails(rt: HostRuntime) -> Result<(), Fail> {
         for fails in 1..script.len() + 2 {
             let reader = reader_of(script.as_slice(), 1, fails, kind);
             let writer = writer_of(&rt, 5, 0, None);
-            let (outcome, _, written) = run_plain(&rt, reader, writer, Options::default());
+            let (outcome, _, written) = run_plain::<ListEngine, _, _>(
+                &rt,
+                reader,
+                writer,
+                Options::default(),
+            );
             assert_eq!(rt; outcome, Err(Fault::Read), "call {fails}");
             let wanted = replies(&rt, fails - 1, false)?;
             assert_eq!(rt; written.bytes.as_slice(), wanted.as_slice(), "call {fails}");
@@ -213,7 +253,7 @@ fn each_read_fails(rt: HostRuntime) -> Result<(), Fail> {
 }
 
 fn write_fails(
-    rt: &(impl AllocGlobal + Abort),
+    rt: &(impl AllocGlobal + Abort + Threads + Wait),
     step: usize,
     fails: usize,
     kind: Option<io::ErrorKind>,
@@ -222,7 +262,12 @@ fn write_fails(
     let whole = replies(rt, script.len(), true)?;
     let reader = reader_of(script.as_slice(), step, 0, io::ErrorKind::Other);
     let writer = writer_of(rt, step, fails, kind);
-    let (outcome, _, written) = run_plain(rt, reader, writer, Options::default());
+    let (outcome, _, written) = run_plain::<ListEngine, _, _>(
+        rt,
+        reader,
+        writer,
+        Options::default(),
+    );
     assert!(rt;
         whole.as_slice().starts_with(written.bytes.as_slice()),
         "call {fails}"
@@ -311,7 +356,7 @@ fn answers_come_before_the_next_read(rt: HostRuntime) {
         wanted: 0,
         written: &written,
     };
-    let (outcome, reader, _) = run_plain(
+    let (outcome, reader, _) = run_plain::<ListEngine, _, _>(
         &rt,
         reader,
         Counter { written: &written },
@@ -322,10 +367,12 @@ fn answers_come_before_the_next_read(rt: HostRuntime) {
     assert_eq!(rt; written.get(), reader.wanted);
 }
 
-fn push_line(bytes: &mut Vec<u8>, byte: u8, count: usize) -> Result<(), Fail> {
+/// A line of `count` times `byte`, and then `rest`.
+fn push_line(bytes: &mut Vec<u8>, byte: u8, count: usize, rest: &str) -> Result<(), Fail> {
     for _ in 0..count {
         bytes.push(byte)?;
     }
+    bytes.extend_from_slice(rest.as_bytes())?;
     bytes.push(b'\n')?;
     Ok(())
 }
@@ -333,13 +380,18 @@ fn push_line(bytes: &mut Vec<u8>, byte: u8, count: usize) -> Result<(), Fail> {
 #[test]
 fn long_lines(rt: HostRuntime) -> Result<(), Fail> {
     let mut script = Vec::new(rt.alloc());
-    push_line(&mut script, b'x', 4_194_304)?;
-    push_line(&mut script, b'x', 4_194_305)?;
-    push_line(&mut script, b' ', 4_194_305)?;
-    push_line(&mut script, b' ', 5_000_000)?;
-    push_line(&mut script, b'x', 1)?;
+    push_line(&mut script, b'x', 4_194_304, "")?;
+    push_line(&mut script, b'x', 4_194_305, "")?;
+    push_line(&mut script, b' ', 4_194_305, "")?;
+    push_line(&mut script, b' ', 5_000_000, "")?;
+    push_line(&mut script, b'x', 1, "")?;
     let writer = Vec::new(rt.alloc());
-    let (outcome, _, written) = run_plain(&rt, script.as_slice(), writer, Options::default());
+    let (outcome, _, written) = run_plain::<ListEngine, _, _>(
+        &rt,
+        script.as_slice(),
+        writer,
+        Options::default(),
+    );
     assert_eq!(rt; outcome, Ok(()));
     assert_eq!(rt;
         written.as_slice(),
@@ -348,14 +400,44 @@ fn long_lines(rt: HostRuntime) -> Result<(), Fail> {
     Ok(())
 }
 
+// The white space that a line begins with counts towards its length.
+#[test]
+fn lines_behind_much_white_space(rt: HostRuntime) -> Result<(), Fail> {
+    let mut script = Vec::new(rt.alloc());
+    push_line(&mut script, b' ', 4_194_300, "{}")?;
+    push_line(&mut script, b' ', 4_194_302, "{}")?;
+    push_line(&mut script, b' ', 4_194_303, "{}")?;
+    push_line(&mut script, b' ', 5_000_000, "x")?;
+    push_line(&mut script, b' ', 5_000_000, "")?;
+    push_line(&mut script, b' ', 1, "{}")?;
+    let writer = Vec::new(rt.alloc());
+    let (outcome, _, written) = run_plain::<ListEngine, _, _>(
+        &rt,
+        script.as_slice(),
+        writer,
+        Options::default(),
+    );
+    assert_eq!(rt; outcome, Ok(()));
+    assert_eq!(rt;
+        written.as_slice(),
+        b"{\"error\":\"BadCommand\",\"line\":1}\n{\"error\":\"BadCommand\",\"line\":2}\n{\"error\":\"LineTooLong\",\"line\":3}\n{\"error\":\"LineTooLong\",\"line\":4}\n{\"error\":\"BadCommand\",\"line\":6}\n".as_slice()
+    );
+    Ok(())
+}
+
 #[test]
 fn many_replies_in_a_block(rt: HostRuntime) -> Result<(), Fail> {
     let mut script = Vec::new(rt.alloc());
     for _ in 0..40_000 {
-        push_line(&mut script, b'x', 1)?;
+        push_line(&mut script, b'x', 1, "")?;
     }
     let writer = Vec::new(rt.alloc());
-    let (outcome, _, written) = run_plain(&rt, script.as_slice(), writer, Options::default());
+    let (outcome, _, written) = run_plain::<ListEngine, _, _>(
+        &rt,
+        script.as_slice(),
+        writer,
+        Options::default(),
+    );
     assert_eq!(rt; outcome, Ok(()));
     // 28 bytes around each number, and 188,894 digits.
     assert_eq!(rt; written.len(), 1_308_894);
@@ -363,11 +445,15 @@ fn many_replies_in_a_block(rt: HostRuntime) -> Result<(), Fail> {
 }
 
 /// Whether a script has these replies behind that to the schema.
-fn gives(rt: &(impl AllocGlobal + Abort), lines: &str, wanted: &str) -> Result<(), Fail> {
+fn gives(
+    rt: &(impl AllocGlobal + Abort + Threads + Wait),
+    lines: &str,
+    wanted: &str,
+) -> Result<(), Fail> {
     let script = format!(in rt.alloc(); "{SCHEMA}\n{lines}")?;
     let wanted = format!(in rt.alloc(); "{{\"fields\":4}}\n{wanted}")?;
     let writer = Vec::new(rt.alloc());
-    let (outcome, _, written) = run_plain(
+    let (outcome, _, written) = run_plain::<ListEngine, _, _>(
         rt,
         script.as_str().as_bytes(),
         writer,
@@ -381,7 +467,12 @@ fn gives(rt: &(impl AllocGlobal + Abort), lines: &str, wanted: &str) -> Result<(
 #[test]
 fn nothing_in_nothing_out(rt: HostRuntime) {
     let writer = Vec::new(rt.alloc());
-    let (outcome, _, written) = run_plain(&rt, b"".as_slice(), writer, Options::default());
+    let (outcome, _, written) = run_plain::<ListEngine, _, _>(
+        &rt,
+        b"".as_slice(),
+        writer,
+        Options::default(),
+    );
     assert_eq!(rt; outcome, Ok(()));
     assert!(rt; written.is_empty());
 }
@@ -437,12 +528,52 @@ fn commands(rt: HostRuntime) -> Result<(), Fail> {
             "{\"error\":\"BadCommand\",\"line\":2}\n",
         ),
         (
-            "{\"delete_all\":true}\n{\"rollback\":true}\n{\"merge\":true}",
-            "{\"error\":\"BadCommand\",\"line\":2}\n{\"error\":\"BadCommand\",\"line\":3}\n{\"error\":\"BadCommand\",\"line\":4}\n",
+            "{\"delete_all\":false}\n{\"rollback\":1}\n{\"merge\":null}\n{\"delete\":{}}\n{\"delete\":{\"tag\":\"x\",\"price\":1}}",
+            "{\"error\":\"BadCommand\",\"line\":2}\n{\"error\":\"BadCommand\",\"line\":3}\n{\"error\":\"BadCommand\",\"line\":4}\n{\"error\":\"BadCommand\",\"line\":5}\n{\"error\":\"BadCommand\",\"line\":6}\n",
         ),
         (
-            "{\"search\":{\"query\":\"x\",\"groups\":\"price\"}}",
-            "{\"error\":\"BadCommand\",\"line\":2}\n",
+            "{\"search\":{\"query\":\"x\",\"groups\":1}}\n{\"search\":{\"query\":\"x\",\"top\":{\"by\":\"price\",\"k\":-1,\"order\":\"rising\"}}}\n{\"search\":{\"query\":\"x\",\"top\":{\"by\":\"price\",\"k\":1,\"order\":\"up\"}}}\n{\"search\":{\"query\":\"x\",\"limit\":1}}\n{\"search\":\"x\"}",
+            "{\"error\":\"BadCommand\",\"line\":2}\n{\"error\":\"BadCommand\",\"line\":3}\n{\"error\":\"BadCommand\",\"line\":4}\n{\"error\":\"BadCommand\",\"line\":5}\n{\"error\":\"BadCommand\",\"line\":6}\n",
+        ),
+        // A delete strikes what came before it, and what has the term as it is kept.
+        (
+            "{\"add\":{\"tag\":\"x\"}}\n{\"delete\":{\"tag\":\"x\"}}\n{\"add\":{\"tag\":\"x\"}}\n{\"commit\":true}\n{\"search\":{\"query\":\"tag:x\"}}",
+            "{\"stamp\":1}\n{\"stamp\":2}\n{\"stamp\":3}\n{\"commit\":4}\n{\"count\":1}\n",
+        ),
+        (
+            "{\"delete\":{\"tag\":\"x\"}}\n{\"add\":{\"tag\":\"x\"}}\n{\"commit\":true}\n{\"search\":{\"query\":\"tag:x\"}}",
+            "{\"stamp\":1}\n{\"stamp\":2}\n{\"commit\":3}\n{\"count\":1}\n",
+        ),
+        (
+            "{\"add\":{\"title\":\"Rust book\"}}\n{\"delete\":{\"title\":\"Rust\"}}\n{\"commit\":true}\n{\"search\":{\"query\":\"rust\"}}\n{\"delete\":{\"title\":\"rust\"}}\n{\"commit\":true}\n{\"search\":{\"query\":\"rust\"}}",
+            "{\"stamp\":1}\n{\"stamp\":2}\n{\"commit\":3}\n{\"count\":1}\n{\"stamp\":4}\n{\"commit\":5}\n{\"count\":0}\n",
+        ),
+        (
+            "{\"delete\":{\"nope\":1}}\n{\"delete\":{\"tag\":null}}\n{\"delete\":{\"price\":\"1\"}}",
+            "{\"error\":\"UnknownField\",\"line\":2}\n{\"error\":\"WrongKind\",\"line\":3}\n{\"error\":\"WrongKind\",\"line\":4}\n",
+        ),
+        // A rollback takes the stamps since the last commit back.
+        (
+            "{\"add\":{\"tag\":\"x\"}}\n{\"rollback\":true}\n{\"add\":{\"tag\":\"y\"}}\n{\"commit\":true}\n{\"search\":{\"query\":\"*\"}}\n{\"search\":{\"query\":\"tag:x\"}}",
+            "{\"stamp\":1}\n{\"rollback\":0}\n{\"stamp\":1}\n{\"commit\":2}\n{\"count\":1}\n{\"count\":0}\n",
+        ),
+        (
+            "{\"add\":{\"tag\":\"x\"}}\n{\"delete_all\":true}\n{\"add\":{\"tag\":\"y\"}}\n{\"commit\":true}\n{\"search\":{\"query\":\"*\"}}\n{\"delete_all\":true}\n{\"rollback\":true}\n{\"search\":{\"query\":\"*\"}}\n{\"add\":{}}\n{\"merge\":true}",
+            "{\"stamp\":1}\n{\"stamp\":2}\n{\"stamp\":3}\n{\"commit\":4}\n{\"count\":1}\n{\"stamp\":5}\n{\"rollback\":4}\n{\"count\":1}\n{\"stamp\":5}\n{\"merged\":1}\n",
+        ),
+        // Groups and top lists.
+        (
+            "{\"add\":{\"price\":3}}\n{\"add\":{\"price\":7}}\n{\"add\":{\"price\":3}}\n{\"add\":{}}\n{\"commit\":true}\n{\"search\":{\"query\":\"*\",\"groups\":\"price\",\"top\":{\"by\":\"price\",\"k\":2,\"order\":\"falling\"}}}",
+            "{\"stamp\":1}\n{\"stamp\":2}\n{\"stamp\":3}\n{\"stamp\":4}\n{\"commit\":5}\n{\"count\":4,\"groups\":[[3,2],[7,1]],\"top\":[{\"doc\":{\"price\":7},\"stamp\":2,\"value\":7},{\"doc\":{\"price\":3},\"stamp\":1,\"value\":3}]}\n",
+        ),
+        (
+            "{\"add\":{\"temp\":-9223372036854775808}}\n{\"add\":{\"temp\":-1}}\n{\"add\":{\"temp\":0}}\n{\"add\":{}}\n{\"commit\":true}\n{\"search\":{\"query\":\"*\",\"groups\":\"temp\",\"top\":{\"by\":\"temp\",\"k\":4,\"order\":\"rising\"}}}",
+            "{\"stamp\":1}\n{\"stamp\":2}\n{\"stamp\":3}\n{\"stamp\":4}\n{\"commit\":5}\n{\"count\":4,\"groups\":[[-9223372036854775808,1],[-1,1],[0,1]],\"top\":[{\"doc\":{\"temp\":-9223372036854775808},\"stamp\":1,\"value\":-9223372036854775808},{\"doc\":{\"temp\":-1},\"stamp\":2,\"value\":-1},{\"doc\":{\"temp\":0},\"stamp\":3,\"value\":0}]}\n",
+        ),
+        // The query is looked at first, then the groups, then the top list: its field, then its limit.
+        (
+            "{\"search\":{\"query\":\"a OR\",\"groups\":\"title\"}}\n{\"search\":{\"query\":\"*\",\"groups\":\"title\",\"top\":{\"by\":\"nope\",\"k\":0,\"order\":\"rising\"}}}\n{\"search\":{\"query\":\"*\",\"top\":{\"by\":\"title\",\"k\":1,\"order\":\"rising\"}}}\n{\"search\":{\"query\":\"*\",\"top\":{\"by\":\"price\",\"k\":0,\"order\":\"rising\"}}}",
+            "{\"error\":\"Syntax\",\"line\":2}\n{\"error\":\"NotANumberField\",\"line\":3}\n{\"error\":\"NotANumberField\",\"line\":4}\n{\"error\":\"BadLimit\",\"line\":5}\n",
         ),
         (
             "{\"add\":{\"nope\":1}}\n{\"add\":{\"price\":-1}}\n{\"add\":{\"price\":null}}\n{\"add\":7}",
@@ -454,37 +585,88 @@ fn commands(rt: HostRuntime) -> Result<(), Fail> {
     Ok(())
 }
 
-#[test]
-fn queries(rt: HostRuntime) -> Result<(), Fail> {
+/// Whether queries have these replies, over three titles.
+fn answers(
+    rt: &(impl AllocGlobal + Abort + Threads + Wait),
+    titles: [&str; 3],
+    queries: &[(&str, &str)],
+) -> Result<(), Fail> {
+    let [a, b, c] = titles;
     let alloc = rt.alloc();
-    for (query, reply) in [
-        ("", "{\"count\":0}"),
-        (" \\t ", "{\"count\":0}"),
-        (" book\\n", "{\"count\":1}"),
-        ("BOOK", "{\"count\":1}"),
-        ("boo", "{\"count\":0}"),
-        ("rust book", "{\"error\":\"Syntax\",\"line\":4}"),
-        ("foo-bar", "{\"error\":\"Syntax\",\"line\":4}"),
-        ("!!!", "{\"error\":\"Syntax\",\"line\":4}"),
-        ("-book", "{\"error\":\"Syntax\",\"line\":4}"),
-        ("title:book", "{\"error\":\"Syntax\",\"line\":4}"),
-        ("OR", "{\"error\":\"Syntax\",\"line\":4}"),
-        (
-            "xxxxxxxxxxxxxxxxxxxxxxxxxxxxxxxxxxxxxxxx",
-            "{\"error\":\"Syntax\",\"line\":4}",
-        ),
-        (
-            "a,xxxxxxxxxxxxxxxxxxxxxxxxxxxxxxxxxxxxxxxx",
-            "{\"error\":\"Syntax\",\"line\":4}",
-        ),
-    ] {
+    for (query, reply) in queries {
         let lines = format!(in alloc;
-            "{{\"add\":{{\"title\":\"Rust book\"}}}}\n{{\"commit\":true}}\n{{\"search\":{{\"query\":\"{query}\"}}}}"
+            "{{\"add\":{{\"title\":\"{a}\"}}}}\n{{\"add\":{{\"title\":\"{b}\",\"price\":0}}}}\n{{\"add\":{{\"title\":\"{c}\",\"price\":18446744073709551615}}}}\n{{\"commit\":true}}\n{{\"search\":{{\"query\":\"{query}\"}}}}"
         )?;
-        let wanted = format!(in alloc; "{{\"stamp\":1}}\n{{\"commit\":2}}\n{reply}\n")?;
-        gives(&rt, lines.as_str(), wanted.as_str())?;
+        let wanted = format!(in alloc;
+            "{{\"stamp\":1}}\n{{\"stamp\":2}}\n{{\"stamp\":3}}\n{{\"commit\":4}}\n{reply}\n"
+        )?;
+        gives(rt, lines.as_str(), wanted.as_str())?;
     }
     Ok(())
+}
+
+#[test]
+fn queries(rt: HostRuntime) -> Result<(), Fail> {
+    answers(
+        &rt,
+        ["a", "a b", "c"],
+        &[
+            ("", "{\"count\":0}"),
+            (" \\t ", "{\"count\":0}"),
+            ("*", "{\"count\":3}"),
+            (" B\\n", "{\"count\":1}"),
+            ("!!!", "{\"count\":0}"),
+            ("a AND NOT b OR c", "{\"count\":2}"),
+            ("+a b", "{\"count\":2}"),
+            ("a -b", "{\"count\":1}"),
+            ("(a OR c) -b", "{\"count\":2}"),
+            ("price:[* TO 18446744073709551615}", "{\"count\":1}"),
+            ("price:[* TO *]", "{\"count\":2}"),
+            ("price:>18446744073709551615", "{\"count\":0}"),
+            ("price:>=18446744073709551615", "{\"count\":1}"),
+            ("price:{0 TO *]", "{\"count\":1}"),
+            ("price:[5 TO 3]", "{\"count\":0}"),
+            ("-a", "{\"error\":\"AllNegative\",\"line\":6}"),
+            ("a OR", "{\"error\":\"Syntax\",\"line\":6}"),
+            ("nope:a", "{\"error\":\"UnknownField\",\"line\":6}"),
+            ("price:-1", "{\"error\":\"BadNumber\",\"line\":6}"),
+            ("title:>a", "{\"error\":\"RangeOnText\",\"line\":6}"),
+        ],
+    )
+}
+
+#[test]
+fn phrases(rt: HostRuntime) -> Result<(), Fail> {
+    answers(
+        &rt,
+        ["a b a b a", "foo-bar", "bar foo"],
+        &[
+            ("\\\"a b a\\\"", "{\"count\":1}"),
+            ("\\\"b b\\\"", "{\"count\":0}"),
+            ("foo-bar", "{\"count\":1}"),
+        ],
+    )?;
+    answers(
+        &rt,
+        [
+            "a xxxxxxxxxxxxxxxxxxxxxxxxxxxxxxxxxxxxxxxx b",
+            "a xxxxxxxxxxxxxxxxxxxxxxxxxxxxxxxxxxxxxxx b",
+            "none",
+        ],
+        &[
+            ("\\\"a b\\\"", "{\"count\":0}"),
+            (
+                "\\\"a xxxxxxxxxxxxxxxxxxxxxxxxxxxxxxxxxxxxxxxx b\\\"",
+                "{\"count\":2}",
+            ),
+            (
+                "\\\"a xxxxxxxxxxxxxxxxxxxxxxxxxxxxxxxxxxxxxxx b\\\"",
+                "{\"count\":1}",
+            ),
+            ("xxxxxxxxxxxxxxxxxxxxxxxxxxxxxxxxxxxxxxx", "{\"count\":1}"),
+            ("xxxxxxxxxxxxxxxxxxxxxxxxxxxxxxxxxxxxxxxx", "{\"count\":0}"),
+        ],
+    )
 }
 
 /// A line with `count` times `open` and then `count` times `close` as a document.
@@ -519,7 +701,12 @@ fn before_the_schema(rt: HostRuntime) {
     let writer = Vec::new(rt.alloc());
     let script =
         b"{\"commit\":true}\n\n{\"schema\":[]}\n{\"schema\":[{\"name\":\"x\",\"kind\":\"u64\"}]}\n{\"search\":{\"query\":\"x\"}}\n{\"search\":{\"query\":\"+\"}}";
-    let (outcome, _, written) = run_plain(&rt, script.as_slice(), writer, Options::default());
+    let (outcome, _, written) = run_plain::<ListEngine, _, _>(
+        &rt,
+        script.as_slice(),
+        writer,
+        Options::default(),
+    );
     assert_eq!(rt; outcome, Ok(()));
     assert_eq!(rt;
         written.as_slice(),

@@ -1,6 +1,7 @@
 // The answer over the documents that are alive: the hits are counted, grouped and put into a top list one by one.
 ghost use Rattle.std.specs.Prelude.{◌≡◌, ◌<◌, ◌≤◌, ◌+◌, ◌^◌, ◌++◌, ◌∷◌, [], IfOk, OnOk, Ok, option_map, option_to_list, fold, take};
 ghost use Rattle.fts_model.specs.Outcomes.{Gives};
+ghost use Rattle.fts_model.specs.QueryValues.{query_value};
 ghost use Rattle.fts_model.specs.Queries.{hits as hits_among};
 ghost use Rattle.fts_model.specs.Answers.{answer as answer_over, number_in_field as number_of_document, number_cmp as cmp_of_numbers, count_number as with_number, groups as groups_of, cmp_by as cmp_in_order, comes_before as is_before, hit_in as hit_of, put_hit as with_hit, top as top_list};
 ghost use Rattle.fts_model.specs.Scans.{hits_counted, group_place as place_of_group, is_group_at as is_group_of, hit_place as place_of_hit};
@@ -37,7 +38,7 @@ fn push_if_hit(
     document: &Stamped<Document>,
     scratch: &mut String,
 ) -> Result<(), AllocError>
-    ensures { OnOk result (hits.new.items ≡ hits.old.items ++ hits_among schema.now query.now (document.now ∷ [])) }
+    ensures { OnOk result (hits.new.items ≡ hits.old.items ++ hits_among schema.now (query_value query.now) (document.now ∷ [])) }
 {
     if !matches(schema, query, &document.value, scratch)? {
         return Ok(());
@@ -52,7 +53,7 @@ fn hits(
     query: &Query,
     documents: &[Stamped<Document>],
 ) -> Result<Vec<Stamped<Document>>, AllocError>
-    ensures { IfOk result (λ hits. hits.items ≡ hits_among schema.now query.now documents.now) }
+    ensures { IfOk result (λ hits. hits.items ≡ hits_among schema.now (query_value query.now) documents.now) }
 {
     let mut scratch = String::new(alloc);
     let mut hits = Vec::new(alloc);
@@ -266,7 +267,7 @@ fn answer_in_memory(
     request: &Request,
     documents: &[Stamped<Document>],
 ) -> Result<Answer, AllocError>
-    ensures { IfOk result (λ answer. answer ≡ answer_over schema.now query.now request.now documents.now) }
+    ensures { IfOk result (λ answer. answer ≡ answer_over schema.now (query_value query.now) request.now documents.now) }
 {
     let hits = hits(alloc, schema, query, documents)?;
     let count = hits.len() as u64;
@@ -283,7 +284,7 @@ pub fn answer(
     request: &Request,
     documents: &[Stamped<Document>],
 ) -> Result<Answer, Refusal>
-    ensures { Gives (λ answer. answer) result (Ok (answer_over schema.now query.now request.now documents.now)) }
+    ensures { Gives (λ answer. answer) result (Ok (answer_over schema.now (query_value query.now) request.now documents.now)) }
 {
     match answer_in_memory(alloc, schema, query, request, documents) {
         Ok(answer) => Ok(answer),

@@ -1,12 +1,12 @@
 use Rattle.std.proofs.Common.{◌++◌, ◌∙◌, ap}
 use Rattle.std.proofs.lemmas.Bool.{false≢true}
 use Rattle.std.proofs.lemmas.Result.{on_ok_weaker}
-use Rattle.fts.specs.Replies.{reply_to}
+use Rattle.fts.specs.Outputs.{reply_to}
 use Rattle.fts.proofs.RunLemmas.{Ends-line}
 use Rattle.fts.proofs.run.end_input.Goals as goal
 
 pub returns : goal.returns
-returns c = record {
+returns g c = record {
   ok = on_ok_weaker c.answer.result
       (λ h. Ends-line c.args.session.now c.args.line.now _ (λ none. absurd (false≢true (c.if-is_empty.ensures.1 none)))
       (λ line held. h line held ∙ ap (λ v. v ++ reply_to c.args.session.now line) c.requires.none_wait))

@@ -6,7 +6,7 @@ use Rattle.fts.proofs.RunLemmas.{Leads-ended, Leads-unended}
 use Rattle.fts.proofs.run.take_line.Goals as goal
 
 pub returns-in_ok-end_line-in-Some-clause-ok : goal.returns-in_ok-end_line-in-Some-clause-ok
-returns-in_ok-end_line-in-Some-clause-ok c =
+returns-in_ok-end_line-in-Some-clause-ok g c =
     let bytes = c.args.bytes.now in
     let waited = string_bytes c.args.replies.now in
     let waits = string_bytes c.end_line.new.replies in
@@ -19,7 +19,7 @@ returns-in_ok-end_line-in-Some-clause-ok c =
     c.in_ok-end_line-in-Some.ensures.next)
 
 pub returns-in_ok-grow-in-None-clause-ok : goal.returns-in_ok-grow-in-None-clause-ok
-returns-in_ok-grow-in-None-clause-ok c =
+returns-in_ok-grow-in-None-clause-ok g c =
     let bytes = c.args.bytes.now in
     let waits = string_bytes c.args.replies.now in
     subst (λ v. Leads c.args.session.now c.args.session.now c.args.line.now c.grow.new.self v waits waits)

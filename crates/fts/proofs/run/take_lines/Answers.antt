@@ -4,7 +4,7 @@ use Rattle.fts.proofs.RunLemmas.{Leads-then, LeadsFirst-leads, on_err, sent_more
 use Rattle.fts.proofs.run.take_lines.Goals as goal
 
 pub returns-in_err-at-clause-err : goal.returns-in_err-at-clause-err
-returns-in_err-at-clause-err c =
+returns-in_err-at-clause-err g c =
     let bytes = c.args.bytes.now in
     let at = c.loop-at.at in
     on_err c.from_residual.result _
@@ -14,7 +14,7 @@ returns-in_err-at-clause-err c =
     c.loop-at.invariant.leads)))
 
 pub loop-at-preserved : goal.loop-at-preserved
-loop-at-preserved c =
+loop-at-preserved g c =
     let bytes = c.args.bytes.now in
     let at = c.loop-at.at in
     let n = c.in_ok-at.field-0 in record {

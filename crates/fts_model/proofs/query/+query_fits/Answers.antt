@@ -1,14 +1,13 @@
 use Rattle.std.proofs.Common.{◌≡◌, ◌&&◌, sym, ◌∙◌, ap}
 use Rattle.std.specs.List.{list_all}
-use Rattle.fts_model.specs.Queries.{query_fits}
-use Rattle.fts_model.proofs.QueryLemmas.{query_fits_at_bool, last_of_three, first_two_false}
+use Rattle.fts_model.proofs.QueryLemmas.{fits_in, query_fits_at_bool, last_of_three, first_two_false}
 use Rattle.fts_model.proofs.query.+query_fits.Goals as goal
 use Rattle.fts_model.proofs.query.+query_fits.Goals.{Query::fits-then-all_fit, Query::fits-else-all_fit}
 
 pub Query::fits-returns-then-all_fit-2 : goal.Query::fits-returns-then-all_fit-2
 Query::fits-returns-then-all_fit-2 t c =
-    let all = list_all (query_fits c.args.schema.now) in
-    let whole = ap (query_fits c.args.schema.now) c.in-Bool.is ∙ query_fits_at_bool c.args.schema.now c.in-Bool.must c.in-Bool.must_not c.in-Bool.should in
+    let all = list_all (fits_in c.args.schema.now) in
+    let whole = ap (fits_in c.args.schema.now) c.in-Bool.is ∙ query_fits_at_bool c.args.schema.now c.in-Bool.must c.in-Bool.must_not c.in-Bool.should in
     let first : c.all_fit.result ≡ all c.in-Bool.must.items = c.all_fit.ensures ∙ ap all c.deref.ensures.value in
     let third : c.all_fit-then-all_fit-2.result ≡ all c.in-Bool.should.items = c.all_fit-then-all_fit-2.ensures ∙ ap all c.deref-then-all_fit-2.ensures.value in
     elim c.if-all_fit.branch [
@@ -20,8 +19,8 @@ Query::fits-returns-then-all_fit-2 t c =
 
 pub Query::fits-returns-else-all_fit-2 : goal.Query::fits-returns-else-all_fit-2
 Query::fits-returns-else-all_fit-2 t c =
-    let all = list_all (query_fits c.args.schema.now) in
-    let whole = ap (query_fits c.args.schema.now) c.in-Bool.is ∙ query_fits_at_bool c.args.schema.now c.in-Bool.must c.in-Bool.must_not c.in-Bool.should in
+    let all = list_all (fits_in c.args.schema.now) in
+    let whole = ap (fits_in c.args.schema.now) c.in-Bool.is ∙ query_fits_at_bool c.args.schema.now c.in-Bool.must c.in-Bool.must_not c.in-Bool.should in
     let first : c.all_fit.result ≡ all c.in-Bool.must.items = c.all_fit.ensures ∙ ap all c.deref.ensures.value in
     elim c.if-all_fit.branch [
       | Query::fits-then-all_fit w ↦

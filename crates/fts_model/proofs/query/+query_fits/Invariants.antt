@@ -1,8 +1,8 @@
 use Rattle.std.proofs.Common.{◌≡◌, drop}
 use Rattle.std.specs.List.{list_all}
-use Rattle.fts_model.specs.Queries.{query_fits}
+use Rattle.fts_model.proofs.QueryLemmas.{fits_in}
 use Rattle.fts_model.proofs.query.+query_fits.Given as goal
 
 -- all fit where those that are left do
 abbrev pub invariant-all_fit-loop-query : goal.invariant-all_fit-loop-query
-invariant-all_fit-loop-query l = list_all (query_fits l.schema) (drop l.query-index l.queries) ≡ list_all (query_fits l.schema) l.queries
+invariant-all_fit-loop-query l = list_all (fits_in l.schema) (drop l.query-index l.queries) ≡ list_all (fits_in l.schema) l.queries

@@ -1,13 +1,13 @@
 use Rattle.std.proofs.Common.{◌≡◌, ◌==◌, Bool, IfOk, length, sym, ap, subst, ◌∙◌}
 use Rattle.std.specs.List.{list_all, list_any}
-use Rattle.fts_model.specs.Queries.{matches, is_nonempty}
+use Rattle.fts_model.specs.Queries.{is_nonempty}
 use Rattle.fts_model.proofs.PhraseLemmas.{is_nonempty-length, is_nonempty-none}
-use Rattle.fts_model.proofs.QueryLemmas.{matches_at_bool, not_all_must, one_must_not, musts_suffice, shoulds_decide}
+use Rattle.fts_model.proofs.QueryLemmas.{matches_in, matches_at_bool, not_all_must, one_must_not, musts_suffice, shoulds_decide}
 use Rattle.fts_model.proofs.scan.+matches.Goals as goal
 
 pub matches-returns-then-not-branch : goal.matches-returns-then-not-branch
 matches-returns-then-not-branch t c =
-    let test = matches c.args.schema.now c.args.document.now in
+    let test = matches_in c.args.schema.now c.args.document.now in
     let whole = ap test c.in-Bool.is ∙ matches_at_bool c.args.schema.now c.args.document.now c.in-Bool.must c.in-Bool.must_not c.in-Bool.should in
     let all : list_all test c.in-Bool.must.items ≡ c.in_ok-all_match-in-Bool.field-0 = ap (list_all test) (sym c.deref-in-Bool.ensures.value) ∙ sym c.in_ok-all_match-in-Bool.ensures in
     sym (whole
@@ -16,7 +16,7 @@ matches-returns-then-not-branch t c =
 
 pub matches-returns-then-branch : goal.matches-returns-then-branch
 matches-returns-then-branch t c =
-    let test = matches c.args.schema.now c.args.document.now in
+    let test = matches_in c.args.schema.now c.args.document.now in
     let whole = ap test c.in-Bool.is ∙ matches_at_bool c.args.schema.now c.args.document.now c.in-Bool.must c.in-Bool.must_not c.in-Bool.should in
     let any : list_any test c.in-Bool.must_not.items ≡ c.in_ok-any_matches-in-Bool.field-0 = ap (list_any test) (sym c.deref-in-Bool-2.ensures.value) ∙ sym c.in_ok-any_matches-in-Bool.ensures in
     sym (whole
@@ -25,7 +25,7 @@ matches-returns-then-branch t c =
 
 pub matches-returns-then-not-is_empty : goal.matches-returns-then-not-is_empty
 matches-returns-then-not-is_empty t c =
-    let test = matches c.args.schema.now c.args.document.now in
+    let test = matches_in c.args.schema.now c.args.document.now in
     let whole = ap test c.in-Bool.is ∙ matches_at_bool c.args.schema.now c.args.document.now c.in-Bool.must c.in-Bool.must_not c.in-Bool.should in
     let all : list_all test c.in-Bool.must.items ≡ c.in_ok-all_match-in-Bool.field-0 = ap (list_all test) (sym c.deref-in-Bool.ensures.value) ∙ sym c.in_ok-all_match-in-Bool.ensures in
     let any : list_any test c.in-Bool.must_not.items ≡ c.in_ok-any_matches-in-Bool.field-0 = ap (list_any test) (sym c.deref-in-Bool-2.ensures.value) ∙ sym c.in_ok-any_matches-in-Bool.ensures in
@@ -37,7 +37,7 @@ matches-returns-then-not-is_empty t c =
 
 pub matches-returns-else-not-is_empty : goal.matches-returns-else-not-is_empty
 matches-returns-else-not-is_empty t c =
-    let test = matches c.args.schema.now c.args.document.now in
+    let test = matches_in c.args.schema.now c.args.document.now in
     let whole = ap test c.in-Bool.is ∙ matches_at_bool c.args.schema.now c.args.document.now c.in-Bool.must c.in-Bool.must_not c.in-Bool.should in
     let all : list_all test c.in-Bool.must.items ≡ c.in_ok-all_match-in-Bool.field-0 = ap (list_all test) (sym c.deref-in-Bool.ensures.value) ∙ sym c.in_ok-all_match-in-Bool.ensures in
     let any : list_any test c.in-Bool.must_not.items ≡ c.in_ok-any_matches-in-Bool.field-0 = ap (list_any test) (sym c.deref-in-Bool-2.ensures.value) ∙ sym c.in_ok-any_matches-in-Bool.ensures in

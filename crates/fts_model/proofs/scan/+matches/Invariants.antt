@@ -1,11 +1,11 @@
 use Rattle.std.proofs.Common.{◌≡◌, drop}
 use Rattle.std.specs.List.{list_all, list_any}
-use Rattle.fts_model.specs.Queries.{matches}
+use Rattle.fts_model.proofs.QueryLemmas.{matches_in}
 use Rattle.fts_model.proofs.scan.+matches.Given as goal
 
 -- the answer is that of the queries that are left
 abbrev pub invariant-all_match-loop-query : goal.invariant-all_match-loop-query
-invariant-all_match-loop-query l = list_all (matches l.schema l.document) (drop l.query-index l.queries) ≡ list_all (matches l.schema l.document) l.queries
+invariant-all_match-loop-query l = list_all (matches_in l.schema l.document) (drop l.query-index l.queries) ≡ list_all (matches_in l.schema l.document) l.queries
 
 abbrev pub invariant-any_matches-loop-query : goal.invariant-any_matches-loop-query
-invariant-any_matches-loop-query l = list_any (matches l.schema l.document) (drop l.query-index l.queries) ≡ list_any (matches l.schema l.document) l.queries
+invariant-any_matches-loop-query l = list_any (matches_in l.schema l.document) (drop l.query-index l.queries) ≡ list_any (matches_in l.schema l.document) l.queries

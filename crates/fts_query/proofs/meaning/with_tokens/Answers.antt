@@ -3,7 +3,7 @@ use Rattle.fts_model.specs.declared.value.FieldValue.TheVariants as values
 use Rattle.fts_query.specs.Meanings.{with_value}
 use Rattle.fts_text.specs.Places.{places_left}
 use Rattle.fts_query.proofs.MeaningLemmas.{no_token, one_token, more_tokens, first_place}
-use Rattle.fts_query.specs.QueryValues.{phrase}
+use Rattle.fts_model.specs.QueryValues.{phrase}
 use Rattle.fts_query.proofs.QueryLemmas.{value-none, value-term, value-phrase}
 use Rattle.fts_query.proofs.meaning.with_tokens.Goals as goal
 

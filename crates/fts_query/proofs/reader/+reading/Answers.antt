@@ -2,7 +2,7 @@ use Rattle.std.proofs.Common.{◌≡◌, sym, ap, ◌∙◌, Some, Ok}
 use Rattle.fts_query.proofs.QueryLemmas.{value-all}
 use Rattle.std.proofs.lemmas.Result.{err_from_is_err_and}
 use Rattle.fts_model.specs.Outcomes.{result_map}
-use Rattle.fts_query.specs.QueryValues.{QueryValue, query_value}
+use Rattle.fts_model.specs.QueryValues.{QueryValue, query_value}
 use Rattle.fts_query.specs.Gathering.{Gathered, gathered_of, gather}
 use Rattle.fts_query.specs.Parts.{factor_seen, part_seen, part_should, factor_clause}
 use Rattle.fts_query.specs.Reading.{unit_of}

@@ -1,7 +1,7 @@
 use Rattle.std.proofs.Common.{◌≡◌, [], ◌∷◌, ap, sym, ◌∙◌}
 use Rattle.fts_model.specs.Outcomes.{result_map}
 use Rattle.fts_query.specs.declared.clauses.Role.{Role}
-use Rattle.fts_query.specs.QueryValues.{query_value}
+use Rattle.fts_model.specs.QueryValues.{query_value}
 use Rattle.fts_query.specs.Gathering.{Gathered, gathered_of, gather, gathered_node}
 use Rattle.fts_query.specs.Parts.{part_meaning, part_seen, factor_seen, factor_clause}
 use Rattle.fts_query.proofs.GatherLemmas.{gathered_node-all}

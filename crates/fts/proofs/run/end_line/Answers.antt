@@ -1,0 +1,27 @@
+use Rattle.std.proofs.Common.{◌++◌, ◌∙◌, ap, sym, string_bytes}
+use Rattle.std.proofs.lemmas.Result.{on_ok_weaker}
+use Rattle.fts.specs.Outputs.{after_line, reply_to}
+use Rattle.fts.proofs.RunLemmas.{Holds-nothing}
+use Rattle.fts.proofs.run.end_line.Goals as goal
+
+pub returns-then-is_empty-clause-reply : goal.returns-then-is_empty-clause-reply
+returns-then-is_empty-clause-reply g c =
+    on_ok_weaker c.answer.result
+    (λ h start held. h ∙ ap (λ v. string_bytes c.args.replies.now ++ reply_to c.args.session.now (v ++ c.args.piece.now))
+    (sym (Holds-nothing c.args.line.now start (c.is_empty.ensures.0 c.if-is_empty.true) held)))
+    c.answer.ensures.reply
+
+pub returns-then-is_empty-clause-script : goal.returns-then-is_empty-clause-script
+returns-then-is_empty-clause-script g c =
+    on_ok_weaker c.answer.result
+    (λ h start held. h ∙ ap (λ v. after_line c.args.session.now (v ++ c.args.piece.now))
+    (sym (Holds-nothing c.args.line.now start (c.is_empty.ensures.0 c.if-is_empty.true) held)))
+    c.answer.ensures.script
+
+pub returns-clause-reply : goal.returns-clause-reply
+returns-clause-reply g c =
+    on_ok_weaker c.answer-2.result (λ h start held. h (start ++ c.args.piece.now) (c.in_ok-grow.ensures start held)) c.answer-2.ensures.reply
+
+pub returns-clause-script : goal.returns-clause-script
+returns-clause-script g c =
+    on_ok_weaker c.answer-2.result (λ h start held. h (start ++ c.args.piece.now) (c.in_ok-grow.ensures start held)) c.answer-2.ensures.script

@@ -1,0 +1,22 @@
+use Rattle.std.proofs.Common.{◌≡◌, ◌≤◌, ◌^◌, ◌-◌, length, List, ℕ, [], string_bytes}
+use Rattle.std.specs.Io.KnownBytes.{Consumes}
+use Rattle.fts.specs.Runs.{Reached}
+use Rattle.fts.proofs.run.run_session.Given as goal
+
+abbrev pub invariant-reads : goal.invariant-reads
+invariant-reads g l = record {
+  input : List ℕ;
+  consumed : Consumes (g.R.ScriptIn.remaining l.fn.reader) (g.R.ScriptIn.remaining l.reader) input;
+  reached : Reached (g.W.ScriptOut.written l.fn.writer) (g.W.ScriptOut.written l.writer) l.session l.line input;
+  none_wait : string_bytes l.replies ≡ [];
+  ends : g.R.ScriptIn.ends l.reader ≡ g.R.ScriptIn.ends l.fn.reader;
+  failed : g.R.ScriptIn.failed l.reader ≡ g.R.ScriptIn.failed l.fn.reader;
+  counted : l.count ≡ length input;
+  most : l.count ≤ 2 ^ 61;
+  number : l.session.number ≤ l.count;
+  write_failed : g.W.ScriptOut.failed l.fn.writer ≤ g.W.ScriptOut.failed l.writer;
+  flushes : g.W.ScriptOut.flushes l.writer ≡ g.W.ScriptOut.flushes l.fn.writer;
+}
+
+abbrev pub decreases-reads : goal.decreases-reads
+decreases-reads g l = 2 ^ 61 - l.count
