@@ -5,3 +5,4 @@ pub mod CarrierLemmas
 pub mod HistoryLemmas
 pub mod LineLemmas
 pub mod RunLemmas
+pub mod StreamLemmas

@@ -1,7 +1,7 @@
 -- The lines of a text that is cut in two.
-use Rattle.std.proofs.Common.{◌≡◌, ◌≢◌, ◌<◌, ◌+◌, ℕ, zero, suc, Bool, true, false, cond, eqb, List, [], ◌∷◌, ◌++◌, length, take, get_or, refl, ap, subst, ◌∙◌, ⊎_elim, append_assoc, arith, rules, tests, inr, None, Some, eq-eqb}
+use Rattle.std.proofs.Common.{◌≡◌, ◌≢◌, ◌<◌, ◌≤◌, ◌+◌, ◌-◌, ℕ, zero, suc, Bool, true, false, cond, eqb, List, [], ◌∷◌, ◌++◌, length, take, get_or, refl, ap, subst, ◌∙◌, ⊎_elim, append_assoc, arith, rules, tests, inr, None, Some, eq-eqb}
 use Rattle.std.proofs.lemmas.Bool.{eqb-true}
-use Rattle.std.proofs.lemmas.List.{take_more, take_all}
+use Rattle.std.proofs.lemmas.List.{length-append, take_more, take_all}
 use Rattle.memchr.specs.Find.{IsFirstByte, is_byte}
 use Rattle.fts.specs.Text.{onto_first, lines_of, IsWhole, HasNoEnd}
 
@@ -81,3 +81,20 @@ HasNoEnd-none bytes h =
 pub take-ended : (bytes : List ℕ) (k : ℕ) → IsFirstByte (is_byte 10) bytes (Some k) → take (k + 1) bytes ≡ take k bytes ++ 10 ∷ []
 take-ended bytes k h =
     take_more bytes k 0 h.0.high ∙ ap (λ b. take k bytes ++ b ∷ []) (eqb-true (get_or bytes k 0) 10 h.1)
+
+-- a part of bytes that have none has none
+pub HasNoEnd-shorter : (xs : List ℕ) (j k : ℕ) → j ≤ k → HasNoEnd (take k xs) → HasNoEnd (take j xs)
+HasNoEnd-shorter xs zero k h e = tt
+HasNoEnd-shorter [] (suc j) k h e = tt
+HasNoEnd-shorter (x ∷ xs) (suc j) zero h e = absurd (omega (arith, h))
+HasNoEnd-shorter (x ∷ xs) (suc j) (suc k) h e = (e.0, HasNoEnd-shorter xs j k (omega (arith, h)) e.1)
+
+HasNoEnd-front : (line more : List ℕ) (k : ℕ) → k ≤ length line → HasNoEnd line → HasNoEnd (take k (line ++ more))
+HasNoEnd-front line more zero h none = tt
+HasNoEnd-front [] more (suc k) h none = absurd (omega (arith, h))
+HasNoEnd-front (x ∷ line) more (suc k) h none = (none.0, HasNoEnd-front line more k (omega (arith, h)) none.1)
+
+-- a line and no more than n bytes behind it
+pub HasNoEnd-late : (line more : List ℕ) (n : ℕ) → length more ≤ n → HasNoEnd line → HasNoEnd (take (length (line ++ more) - n) (line ++ more))
+HasNoEnd-late line more n h none =
+    HasNoEnd-front line more (length (line ++ more) - n) (omega (arith, h, length-append line more)) none

@@ -1,16 +1,15 @@
 -- What a step of a run keeps.
-use Rattle.std.proofs.Common.{inl, ltb, lt-ltb, IfOk, IfSome, Result, Ok, Err, OnErr, OnOk, ◌≡◌, ◌<◌, ◌≤◌, ◌-◌, Bool, true, false, cond, eqb, ◌&&◌, ℕ, ◌+◌, Option, Some, None, List, [], ◌∷◌, ◌++◌, length, take, drop, refl, ap, sym, ◌∙◌, append_assoc, append-nil, take-append-drop, subst, arith, rules, tests}
+use Rattle.std.proofs.Common.{inl, ltb, lt-ltb, IfOk, Result, Ok, Err, OnErr, OnOk, ◌≡◌, ◌<◌, ◌≤◌, ◌-◌, Bool, true, false, cond, eqb, ◌&&◌, ℕ, ◌+◌, Option, Some, None, List, [], ◌∷◌, ◌++◌, length, take, drop, refl, ap, sym, ◌∙◌, append_assoc, append-nil, take-append-drop, subst, arith, rules, tests}
 use Rattle.std.proofs.lemmas.List.{take_all, length-drop, length-append, length-take-le, nil_from_length}
 use Rattle.std.proofs.Math.Seq.{take-add}
-use Rattle.std.proofs.KnownBytes.{Appends-nil, Appends-trans, Consumes-trans}
-use Rattle.std.specs.Io.KnownBytes.{Appends, Consumes, IsAtEnd}
 use Rattle.fts.specs.declared.lines.PartialLine.{PartialLine}
-use Rattle.fts.specs.Streams.{Moved, Wrote}
+use Rattle.fts.specs.Streams.{Transferred, Wrote}
 use Rattle.fts.specs.Text.{lines_of, IsWhole, HasNoEnd}
 use Rattle.fts.specs.Outputs.{Script, start, after_line, reply_to, replies, after_lines, output}
 use Rattle.fts.specs.Runs.{Holds, Answered, AnswersFirst, AnswersEnded, BeginsOutput, BeginsOutputUnless, BeginsWith, Ends, Leads, LeadsFirst, Reached}
 use Rattle.fts.proofs.BlankLemmas.{Holds-length, Holds-nothing-short}
-use Rattle.fts.proofs.LineLemmas.{lines_of-append, lines_of-ended, lines_of-unended, HasNoEnd-append, IsWhole-ended}
+use Rattle.fts.proofs.StreamLemmas.{append_more}
+use Rattle.fts.proofs.LineLemmas.{lines_of-append, lines_of-ended, lines_of-unended, HasNoEnd-append, HasNoEnd-late, HasNoEnd-shorter, IsWhole-ended}
 
 replies-append : (s : Script) (xs ys : List (List ℕ)) → replies s (xs ++ ys) ≡ replies s xs ++ replies (after_lines s xs) ys
 replies-append s [] ys = refl
@@ -103,31 +102,32 @@ LeadsFirst-leads s t p q xs more a b first = record {
         split = sym (append_assoc input xs more) ∙ ap (λ v. v ++ more) r.split ∙ append_assoc r.done r.line more;
         whole = r.whole;
         replied = r.replied;
+        late = HasNoEnd-late r.line more (length (xs ++ more)) (omega (arith, length-append xs more)) r.unended;
       };
 }
 
 -- the replies of some lines went out
-pub Reached-sent : (before now after : Option (List ℕ)) (s t : Script) (p q : PartialLine) (input bytes gathered : List ℕ) →
-    Leads s t p q bytes [] gathered → Appends now after gathered →
+pub Reached-sent : (before now after : List ℕ) (s t : Script) (p q : PartialLine) (input bytes gathered : List ℕ) →
+    Leads s t p q bytes [] gathered → after ≡ now ++ gathered →
     Reached before now s p input → Reached before after t q (input ++ bytes)
 Reached-sent before now after s t p q input bytes gathered step sent r = record {
   out = r.out ++ gathered;
-  appended = Appends-trans before now after r.out gathered r.appended sent;
+  taken = append_more before now after r.out gathered r.taken sent;
   answered = step.leads input r.out (subst (λ v. Answered s p input v) (sym (append-nil r.out)) r.answered);
 }
 
 -- memory ran out, and the replies of the lines before went out
-pub Wrote-first : (before now after : Option (List ℕ)) (s : Script) (p : PartialLine) (input bytes gathered : List ℕ) →
-    LeadsFirst s p bytes [] gathered → Appends now after gathered →
-    Reached before now s p input → Wrote before after (AnswersFirst (input ++ bytes))
+pub Wrote-first : (before now after : List ℕ) (s : Script) (p : PartialLine) (input bytes gathered : List ℕ) →
+    LeadsFirst s p bytes [] gathered → after ≡ now ++ gathered →
+    Reached before now s p input → Wrote before after (AnswersFirst (length bytes) (input ++ bytes))
 Wrote-first before now after s p input bytes gathered step sent r = record {
   bytes = r.out ++ gathered;
-  appended = Appends-trans before now after r.out gathered r.appended sent;
+  taken = append_more before now after r.out gathered r.taken sent;
   so = step.leads input r.out (subst (λ v. Answered s p input v) (sym (append-nil r.out)) r.answered);
 }
 
-AnswersFirst-begins : (input out : List ℕ) → AnswersFirst input out → BeginsOutput input out
-AnswersFirst-begins input out r = λ more. (
+AnswersFirst-begins : (n : ℕ) (input out : List ℕ) → AnswersFirst n input out → BeginsOutput input out
+AnswersFirst-begins n input out r = λ more. (
   replies (after_lines start (lines_of r.done)) (lines_of (r.rest ++ more)),
   ap output (ap (λ v. v ++ more) r.split ∙ append_assoc r.done r.rest more)
       ∙ output-append r.done (r.rest ++ more) r.whole
@@ -142,43 +142,76 @@ BeginsWith-take xs out gathered n h = (
 )
 
 -- a write failed among the replies of some lines
-pub Wrote-cut : (before now after : Option (List ℕ)) (s : Script) (p : PartialLine) (input bytes gathered : List ℕ) (n : ℕ) →
-    LeadsFirst s p bytes [] gathered → Appends now after (take n gathered) →
+pub Wrote-cut : (before now after : List ℕ) (s : Script) (p : PartialLine) (input bytes gathered : List ℕ) (n : ℕ) →
+    LeadsFirst s p bytes [] gathered → after ≡ now ++ take n gathered →
     Reached before now s p input → Wrote before after (BeginsOutput (input ++ bytes))
 Wrote-cut before now after s p input bytes gathered n step sent r = record {
   bytes = r.out ++ take n gathered;
-  appended = Appends-trans before now after r.out (take n gathered) r.appended sent;
-  so = λ more. BeginsWith-take _ r.out gathered n (AnswersFirst-begins (input ++ bytes) (r.out ++ gathered)
+  taken = append_more before now after r.out (take n gathered) r.taken sent;
+  so = λ more. BeginsWith-take _ r.out gathered n (AnswersFirst-begins (length bytes) (input ++ bytes) (r.out ++ gathered)
       (step.leads input r.out (subst (λ v. Answered s p input v) (sym (append-nil r.out)) r.answered)) more);
 }
 
-pub Wrote-begins : (before now : Option (List ℕ)) (input : List ℕ) → Wrote before now (AnswersFirst input) → Wrote before now (BeginsOutput input)
-Wrote-begins before now input w = record {
+pub Wrote-begins : (before now input : List ℕ) (n : ℕ) → Wrote before now (AnswersFirst n input) → Wrote before now (BeginsOutput input)
+Wrote-begins before now input n w = record {
   bytes = w.bytes;
-  appended = w.appended;
-  so = AnswersFirst-begins input w.bytes w.so;
+  taken = w.taken;
+  so = AnswersFirst-begins n input w.bytes w.so;
 }
 
-pub Wrote-unless : (before now : Option (List ℕ)) (input : List ℕ) (ended : Type 0) → Wrote before now (BeginsOutput input) → Wrote before now (BeginsOutputUnless ended input)
+pub Wrote-unless : (before now : List ℕ) (input : List ℕ) (ended : Type 0) → Wrote before now (BeginsOutput input) → Wrote before now (BeginsOutputUnless ended input)
 Wrote-unless before now input ended w = record {
   bytes = w.bytes;
-  appended = w.appended;
+  taken = w.taken;
   so = λ more _. w.so more;
 }
 
-pub Wrote-ended : (before now : Option (List ℕ)) (input : List ℕ) (ended : Type 0) → ended → Wrote before now (BeginsWith (output input)) → Wrote before now (BeginsOutputUnless ended input)
+pub Wrote-ended : (before now : List ℕ) (input : List ℕ) (ended : Type 0) → ended → Wrote before now (BeginsWith (output input)) → Wrote before now (BeginsOutputUnless ended input)
 Wrote-ended before now input ended h w = record {
   bytes = w.bytes;
-  appended = w.appended;
+  taken = w.taken;
   so = λ more only. (w.so.0, ap (λ v. output (input ++ v)) (only h) ∙ ap output (append-nil input) ∙ w.so.1);
 }
 
+-- what was answered before the last m bytes was before the last n
+pub Wrote-late : (before now input : List ℕ) (m n : ℕ) → m ≤ n → Wrote before now (AnswersFirst m input) → Wrote before now (AnswersFirst n input)
+Wrote-late before now input m n h w =
+    let r = w.so in record {
+      bytes = w.bytes;
+      taken = w.taken;
+      so = record {
+        done = r.done;
+        rest = r.rest;
+        split = r.split;
+        whole = r.whole;
+        replied = r.replied;
+        late = HasNoEnd-shorter r.rest (length r.rest - n) (length r.rest - m) (omega (arith, h)) r.late;
+      };
+    }
+
+-- the last bytes are those of the latest read
+pub Wrote-latest : (before now input bytes latest : List ℕ) → latest ≡ bytes →
+    Wrote before now (AnswersFirst (length bytes) input) → Wrote before now (AnswersFirst (length latest) input)
+Wrote-latest before now input bytes latest e w = subst (λ v. Wrote before now (AnswersFirst (length v) input)) (sym e) w
+
+-- before the first read
+pub Transferred-none : (given taken : List ℕ) (n : ℕ) → Transferred given given taken taken (AnswersFirst n)
+Transferred-none given taken n = record {
+  input = [];
+  read = sym (append-nil given);
+  wrote = record {
+    bytes = [];
+    taken = sym (append-nil taken);
+    so = record { done = []; rest = []; split = refl; whole = inl refl; replied = refl; late = HasNoEnd-late [] [] n (omega arith) tt };
+  };
+}
+
 -- the lines that ended were answered
-pub Wrote-reached : (before now : Option (List ℕ)) (s : Script) (p : PartialLine) (input : List ℕ) →
+pub Wrote-reached : (before now : List ℕ) (s : Script) (p : PartialLine) (input : List ℕ) →
     Reached before now s p input → Wrote before now (AnswersEnded input)
 Wrote-reached before now s p input r = record {
   bytes = r.out;
-  appended = r.appended;
+  taken = r.taken;
   so = record {
     done = r.answered.done;
     line = r.answered.line;
@@ -190,24 +223,25 @@ Wrote-reached before now s p input r = record {
 }
 
 -- whatever comes behind the input
-pub Wrote-more : (before now : Option (List ℕ)) (s : Script) (p : PartialLine) (input more : List ℕ) →
-    Reached before now s p input → Wrote before now (AnswersFirst (input ++ more))
+pub Wrote-more : (before now : List ℕ) (s : Script) (p : PartialLine) (input more : List ℕ) →
+    Reached before now s p input → Wrote before now (AnswersFirst (length more) (input ++ more))
 Wrote-more before now s p input more r = record {
   bytes = r.out;
-  appended = r.appended;
+  taken = r.taken;
   so = record {
     done = r.answered.done;
     rest = r.answered.line ++ more;
     split = ap (λ v. v ++ more) r.answered.split ∙ append_assoc r.answered.done r.answered.line more;
     whole = r.answered.whole;
     replied = r.answered.replied;
+    late = HasNoEnd-late r.answered.line more (length more) (omega arith) r.answered.unended;
   };
 }
 
-pub Wrote-same : (before now : Option (List ℕ)) (s : Script) (p : PartialLine) (input : List ℕ) →
-    Reached before now s p input → Wrote before now (AnswersFirst input)
+pub Wrote-same : (before now : List ℕ) (s : Script) (p : PartialLine) (input : List ℕ) →
+    Reached before now s p input → Wrote before now (AnswersFirst 0 input)
 Wrote-same before now s p input r =
-    subst (λ v. Wrote before now (AnswersFirst v)) (append-nil input) (Wrote-more before now s p input [] r)
+    subst (λ v. Wrote before now (AnswersFirst 0 v)) (append-nil input) (Wrote-more before now s p input [] r)
 
 pub Holds-nothing : (p : PartialLine) (line : List ℕ) → Holds p [] → Holds p line → line ≡ []
 Holds-nothing p line none some =
@@ -234,39 +268,39 @@ Ends-line s p reply some replies_to = record {
       ∙ ap output (sym r.split);
 }
 
-pub Wrote-output : (before now after : Option (List ℕ)) (s : Script) (p : PartialLine) (input gathered : List ℕ) →
-    Ends s p gathered → Appends now after gathered →
+pub Wrote-output : (before now after : List ℕ) (s : Script) (p : PartialLine) (input gathered : List ℕ) →
+    Ends s p gathered → after ≡ now ++ gathered →
     Reached before now s p input → Wrote before after (λ out. out ≡ output input)
 Wrote-output before now after s p input gathered last sent r = record {
   bytes = r.out ++ gathered;
-  appended = Appends-trans before now after r.out gathered r.appended sent;
+  taken = append_more before now after r.out gathered r.taken sent;
   so = last.ends input r.out r.answered;
 }
 
 -- a write failed in the last reply
-pub Wrote-part : (before now after : Option (List ℕ)) (s : Script) (p : PartialLine) (input gathered : List ℕ) (n : ℕ) →
-    Ends s p gathered → Appends now after (take n gathered) →
+pub Wrote-part : (before now after : List ℕ) (s : Script) (p : PartialLine) (input gathered : List ℕ) (n : ℕ) →
+    Ends s p gathered → after ≡ now ++ take n gathered →
     Reached before now s p input → Wrote before after (BeginsWith (output input))
 Wrote-part before now after s p input gathered n last sent r = record {
   bytes = r.out ++ take n gathered;
-  appended = Appends-trans before now after r.out (take n gathered) r.appended sent;
+  taken = append_more before now after r.out (take n gathered) r.taken sent;
   so = BeginsWith-take (output input) r.out gathered n ([], sym (last.ends input r.out r.answered) ∙ sym (append-nil (r.out ++ gathered)));
 }
 
-pub Wrote-whole : (before now : Option (List ℕ)) (input : List ℕ) → Wrote before now (λ out. out ≡ output input) → Wrote before now (BeginsWith (output input))
+pub Wrote-whole : (before now : List ℕ) (input : List ℕ) → Wrote before now (λ out. out ≡ output input) → Wrote before now (BeginsWith (output input))
 Wrote-whole before now input w = record {
   bytes = w.bytes;
-  appended = w.appended;
+  taken = w.taken;
   so = ([], sym w.so ∙ sym (append-nil w.bytes));
 }
 
-pub Wrote-start : (before now : Option (List ℕ)) (s : Script) (p : PartialLine) (input : List ℕ) →
+pub Wrote-start : (before now : List ℕ) (s : Script) (p : PartialLine) (input : List ℕ) →
     Reached before now s p input → Wrote before now (BeginsWith (output input))
 Wrote-start before now s p input r =
     let first = Wrote-same before now s p input r in
-    let begins = AnswersFirst-begins input first.bytes first.so [] in record {
+    let begins = AnswersFirst-begins 0 input first.bytes first.so [] in record {
       bytes = first.bytes;
-      appended = first.appended;
+      taken = first.taken;
       so = (begins.0, ap output (sym (append-nil input)) ∙ begins.1);
     }
 
@@ -316,20 +350,27 @@ part_is input bytes i n =
     append_assoc input (take i bytes) (take n (take (length bytes - i) (drop i bytes)))
     ∙ ap (λ v. input ++ v) (sent_more bytes i n)
 
+-- the last bytes are the rest of a block
+pub Wrote-block : (before now input bytes : List ℕ) (i : ℕ) →
+    (let rest : List ℕ = take (length bytes - i) (drop i bytes) in Wrote before now (AnswersFirst (length rest) ((input ++ take i bytes) ++ rest))) →
+    Wrote before now (AnswersFirst (length bytes) (input ++ bytes))
+Wrote-block before now input bytes i w =
+    let rest : List ℕ = take (length bytes - i) (drop i bytes) in
+    let shorter : length rest ≤ length bytes = omega (arith, ap length (tail_is bytes i), length-drop i bytes) in
+    Wrote-late before now (input ++ bytes) (length rest) (length bytes) shorter
+    (subst (λ v. Wrote before now (AnswersFirst (length rest) v)) (whole_is input bytes i) w)
+
 -- before the first byte
-pub Reached-start : (a : Option (List ℕ)) (s : Script) (p : PartialLine) → s ≡ start → Holds p [] → Reached a a s p []
+pub Reached-start : (a : List ℕ) (s : Script) (p : PartialLine) → s ≡ start → Holds p [] → Reached a a s p []
 Reached-start a s p e none = record {
   out = [];
-  appended = Appends-nil a;
+  taken = sym (append-nil a);
   answered = record { done = []; line = []; split = refl; whole = inl refl; unended = tt; script = e; holds = none; replied = refl };
 }
 
 -- a read that gave nothing
-pub Consumes-end : (a b c : Option (List ℕ)) (xs buffer : List ℕ) (n : ℕ) → n ≡ 0 →
-    Consumes a b xs → Consumes b c (take n buffer) → Consumes a c xs
-Consumes-end a b c xs buffer n e h k =
-    let none : Consumes b c [] = subst (λ v. Consumes b c (take v buffer)) e k in
-    subst (λ v. Consumes a c v) (append-nil xs) (Consumes-trans a b c xs [] h none)
+pub given_none : (a b c input buffer : List ℕ) (n : ℕ) → n ≡ 0 → b ≡ a ++ input → c ≡ b ++ take n buffer → c ≡ a ++ input
+given_none a b c input buffer n z e f = f ∙ ap (λ k. b ++ take k buffer) z ∙ append-nil b ∙ e
 
 not_zero : (n : ℕ) → (n ≡ 0 → ⊥) → eqb n 0 ≡ false
 not_zero n h = search (rules, tests)
@@ -348,14 +389,12 @@ counted_end e h n m z room k =
 pub length_more : (input buffer : List ℕ) (n m : ℕ) → n ≤ length buffer → m ≡ length input → m + n ≡ length (input ++ take n buffer)
 length_more input buffer n m h e = omega (arith, length-append input (take n buffer), length-take-le n buffer h)
 
--- where the reader tells its bytes, what was written is a beginning of their output
-pub if_some_from_moved : (unread left before now : Option (List ℕ)) (ended : Type 0) → (ended → IsAtEnd left) →
-    Moved unread left before now (BeginsOutputUnless ended) → IfSome unread (λ input. Wrote before now (BeginsWith (output input)))
-if_some_from_moved None left before now ended told m = tt
-if_some_from_moved (Some xs) None before now ended told m = absurd m.consumed
-if_some_from_moved (Some xs) (Some ys) before now ended told m =
-    let begins = m.wrote.so ys told in record {
-      bytes = m.wrote.bytes;
-      appended = m.wrote.appended;
-      so = (begins.0, ap output m.consumed ∙ begins.1);
-    }
+-- the streams of a run that has just begun
+pub begins_from_none : (a b c d : List ℕ) (m n : ℕ) → a ≡ [] → c ≡ [] → m ≡ 0 →
+    Transferred a b c d (BeginsOutputUnless (m < n)) → BeginsOutputUnless (0 < n) b d
+begins_from_none a b c d m n unread unwritten none t = λ more only.
+    let begins = t.wrote.so more (λ told. only (omega (arith, none, told))) in (
+      begins.0,
+      ap (λ v. output (v ++ more)) (t.read ∙ ap (λ v. v ++ t.input) unread) ∙ begins.1
+          ∙ ap (λ v. v ++ begins.0) (sym (t.wrote.taken ∙ ap (λ v. v ++ t.wrote.bytes) unwritten)),
+    )

@@ -1,5 +1,5 @@
 -- What the words of a command line ask for, and what a fault makes the exit status.
-use Rattle.std.specs.Prelude.{ℕ, ◌≡◌, ◌≢◌, true, List, [], codes}
+use Rattle.std.specs.Prelude.{ℕ, ◌≡◌, ◌≢◌, true, Result, Ok, Err, List, [], codes}
 use Rattle.clap.specs.Kinds.{IsAmong, Kinds}
 use Rattle.clap.specs.Faults.{fault_of}
 use Rattle.clap.specs.Simple.{App, new_app, on_top, with_subcommand}
@@ -41,6 +41,11 @@ status_of Memory = 3
 status_of Read = 4
 status_of Write = 4
 status_of StampsUsedUp = 5
+
+-- the exit status of a run
+abbrev pub run_status_of : {T : Type 0} → Result T Fault → ℕ
+run_status_of (Ok done) = 0
+run_status_of (Err fault) = status_of fault
 
 -- the exit status of arguments that were refused
 abbrev pub arg_status_of : ArgFault → ℕ

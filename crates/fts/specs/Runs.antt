@@ -1,6 +1,5 @@
 -- How far a run has come.
-use Rattle.std.specs.Prelude.{ℕ, ◌≡◌, ◌<◌, Bool, true, List, [], ◌++◌, length, Option, None, Some}
-use Rattle.std.specs.Io.KnownBytes.{Appends}
+use Rattle.std.specs.Prelude.{ℕ, ◌≡◌, ◌<◌, ◌-◌, Bool, true, List, [], ◌++◌, length, take, None, Some}
 use Rattle.fts.specs.Text.{lines_of, is_blank, IsWhole, HasNoEnd}
 use Rattle.fts.specs.Commands.{longest}
 use Rattle.fts.specs.Outputs.{Script, start, after_lines, output}
@@ -18,13 +17,14 @@ BeginsOutput input out = (more : List ℕ) → BeginsWith (output (input ++ more
 abbrev pub BeginsOutputUnless : Type 0 → List ℕ → List ℕ → Type 0
 BeginsOutputUnless ended input out = (more : List ℕ) → (ended → more ≡ []) → BeginsWith (output (input ++ more)) out
 
--- the replies to some first lines of the input
-pub record AnswersFirst (input out : List ℕ) : Type 0 where
+-- the replies to the first lines of the input, to each at least that ended before the last n bytes
+pub record AnswersFirst (n : ℕ) (input out : List ℕ) : Type 0 where
   pub done : List ℕ
   pub rest : List ℕ
   pub split : input ≡ done ++ rest
   pub whole : IsWhole done
   pub replied : out ≡ output done
+  pub late : HasNoEnd (take (length rest - n) rest)
 
 -- the replies to all lines that have ended
 pub record AnswersEnded (input out : List ℕ) : Type 0 where
@@ -63,16 +63,16 @@ pub record Answered (s : Script) (p : PartialLine) (input out : List ℕ) : Type
 pub record Leads (s t : Script) (p q : PartialLine) (bytes a b : List ℕ) : Type 0 where
   pub leads : (input out : List ℕ) → Answered s p input (out ++ a) → Answered t q (input ++ bytes) (out ++ b)
 
--- Some first lines of these bytes were answered.
+-- The lines that had ended before these bytes are answered, and some first lines that end in them.
 pub record LeadsFirst (s : Script) (p : PartialLine) (bytes a b : List ℕ) : Type 0 where
-  pub leads : (input out : List ℕ) → Answered s p input (out ++ a) → AnswersFirst (input ++ bytes) (out ++ b)
+  pub leads : (input out : List ℕ) → Answered s p input (out ++ a) → AnswersFirst (length bytes) (input ++ bytes) (out ++ b)
 
 -- With these replies all of the input is answered, if it ends here.
 pub record Ends (s : Script) (p : PartialLine) (replies : List ℕ) : Type 0 where
   pub ends : (input out : List ℕ) → Answered s p input out → out ++ replies ≡ output input
 
 -- The same of what is written: no reply waits.
-pub record Reached (before now : Option (List ℕ)) (s : Script) (p : PartialLine) (input : List ℕ) : Type 0 where
+pub record Reached (before now : List ℕ) (s : Script) (p : PartialLine) (input : List ℕ) : Type 0 where
   pub out : List ℕ
-  pub appended : Appends before now out
+  pub taken : now ≡ before ++ out
   pub answered : Answered s p input out

@@ -1,6 +1,10 @@
 // Runs a script of an index over standard input and standard output.
 #![tactic(auto)]
 
+ghost use Rattle.std.specs.Prelude.{◌≡◌, ◌≢◌, ◌<◌};
+ghost use Rattle.fts.specs.Outputs.{output};
+ghost use Rattle.fts.specs.Runs.{BeginsOutputUnless};
+
 mod answer;
 mod args;
 mod command;
@@ -10,25 +14,26 @@ mod laws;
 mod lines;
 mod list_engine;
 mod options;
-mod plain;
 mod run;
-mod run_plain;
+mod run_std;
 mod session;
 mod status;
+mod std_streams;
 mod streams;
 
 use args::{ArgFault, Asked, args};
 use fault::Fault;
 use list_engine::ListEngine;
 use options::Options;
-use run_plain::run_plain;
-use status::{arg_status, status};
+use run_std::run_std;
+use status::{arg_status, run_status, status};
 use std::env::Env;
 use std::io::{Eprint, Stdin, Stdout};
 use std::process::ExitCode;
 use std::sync::Wait;
 use std::thread::Threads;
 use std::{env, io};
+use std_streams::Plain;
 
 /// What the process's own command line asks for.
 fn asked(rt: &(impl Env + AllocGlobal)) -> Result<Asked, ArgFault> {
@@ -43,25 +48,33 @@ fn asked(rt: &(impl Env + AllocGlobal)) -> Result<Asked, ArgFault> {
 }
 
 /// Runs the script over the standard streams, which buffer nothing: the run reads and writes in blocks.
+///
+/// The exit status, and the streams with the bytes that were read and written.
 fn run_standard(
     rt: &(impl AllocGlobal + Threads + Wait + Eprint),
-    input: Stdin,
-    output: Stdout,
+    stdin: Stdin,
+    stdout: Stdout,
     options: Options,
-) -> u8 {
-    let (outcome, _, _) = run_plain::<ListEngine, _, _>(rt, input, output, options);
-    match outcome {
-        Ok(()) => 0,
-        Err(fault) => {
-            let _ = rt.eprintln(format_args!("fts: {fault}"));
-            status(&fault)
-        }
+) -> (u8, Plain<Stdin>, Plain<Stdout>)
+    // At status 0, what was written is the output of all that was read, and it was flushed.
+    ensures ok { result.0 ≡ 0 → result.2.moved.bytes ≡ output result.1.moved.bytes }
+    ensures end { result.0 ≡ 0 → 0 < result.1.ends.count }
+    ensures flushed { result.0 ≡ 0 → 0 < result.2.flushes.count }
+
+    // At any other, it is a beginning of the output, however the input goes on, if it goes on.
+    ensures stopped { result.0 ≢ 0 →
+        BeginsOutputUnless (0 < result.1.ends.count) result.1.moved.bytes result.2.moved.bytes }
+{
+    let (outcome, reader, writer) = run_std::<ListEngine, _, _>(rt, stdin, stdout, options);
+    if let Err(fault) = &outcome {
+        let _ = rt.eprintln(format_args!("fts: {fault}"));
     }
+    (run_status(&outcome), reader, writer)
 }
 
 fn main(rt: HostRuntime) -> ExitCode {
     ExitCode::from(match asked(&rt) {
-        Ok(Asked::Run(options)) => run_standard(&rt, rt.stdin(), rt.stdout(), options),
+        Ok(Asked::Run(options)) => run_standard(&rt, rt.stdin(), rt.stdout(), options).0,
         Ok(Asked::Help(text)) => match rt.print(text) {
             Ok(()) => 0,
             Err(_) => status(&Fault::Write),

@@ -1,7 +1,7 @@
 // A run of a script: blocks of the input, the lines in them, and the replies on their way out.
-ghost use Rattle.std.specs.Prelude.{ℕ, ◌≡◌, ◌+◌, ◌^◌, ◌<◌, ◌≤◌, ◌++◌, List, [], Option, length, take, string_bytes, vec_len, IfOk, OnOk, OnErr, IsErrOf};
-ghost use Rattle.std.specs.Io.KnownBytes.{Appends, IsAtEnd};
-ghost use Rattle.fts.specs.Streams.{Moved, Wrote};
+ghost use Rattle.std.specs.Prelude.{ℕ, ◌≡◌, ◌+◌, ◌^◌, ◌<◌, ◌≤◌, ◌++◌, List, [], length, take, string_bytes, vec_len, IfOk, OnOk, OnErr, IsErrOf};
+ghost use Rattle.std.specs.Io.KnownBytes.{IsAtEnd};
+ghost use Rattle.fts.specs.Streams.{GainsTaken, LosesGiven, Transferred, Wrote};
 ghost use Rattle.fts.specs.Text.{HasNoEnd};
 ghost use Rattle.fts.specs.Commands.{longest};
 ghost use Rattle.fts.specs.Outputs.{start, output, reply_to, after_line};
@@ -117,10 +117,11 @@ fn take_lines<E: Engine>(
 /// Writes the replies that wait.
 fn send<W: ScriptOut>(writer: &mut W, replies: &mut String) -> Result<(), Fault>
     ensures ok { OnOk result
-        (Appends (W.written writer.old) (W.written writer.new) (string_bytes replies.old)) }
+        (W.taken writer.new ≡ W.taken writer.old ++ string_bytes replies.old) }
     ensures none_wait { OnOk result (string_bytes replies.new ≡ []) }
     ensures err { OnErr result ((n : ℕ)
-        × Appends (W.written writer.old) (W.written writer.new) (take n (string_bytes replies.old))) }
+        × (W.taken writer.new ≡ W.taken writer.old ++ take n (string_bytes replies.old))) }
+    ensures held { GainsTaken (W.taken writer.old) (W.taken writer.new) (W.held writer.old) (W.held writer.new) }
     ensures write { OnErr result (result ≡ Err Fault.Write) }
     ensures fails { OnErr result (W.failed writer.old < W.failed writer.new) }
     ensures counted { W.failed writer.old ≤ W.failed writer.new }
@@ -150,16 +151,17 @@ fn take_block<E: Engine, W: ScriptOut>(
     requires few { session.old.number + length block.now ≤ 2 ^ 61 }
     requires short { length block.now ≤ longest }
     requires none_wait { string_bytes replies.old ≡ [] }
-    ensures ok { OnOk result ((before : Option (List ℕ)) (input : List ℕ) →
-        Reached before (W.written writer.old) session.old line.old input →
-        Reached before (W.written writer.new) session.new line.new (input ++ block.now)) }
+    ensures ok { OnOk result ((before input : List ℕ) →
+        Reached before (W.taken writer.old) session.old line.old input →
+        Reached before (W.taken writer.new) session.new line.new (input ++ block.now)) }
     ensures none_wait { OnOk result (string_bytes replies.new ≡ []) }
-    ensures memory { IsErrOf result Fault.Memory → ((before : Option (List ℕ)) (input : List ℕ) →
-        Reached before (W.written writer.old) session.old line.old input →
-        Wrote before (W.written writer.new) (AnswersFirst (input ++ block.now))) }
-    ensures err { OnErr result ((before : Option (List ℕ)) (input : List ℕ) →
-        Reached before (W.written writer.old) session.old line.old input →
-        Wrote before (W.written writer.new) (BeginsOutput (input ++ block.now))) }
+    ensures memory { IsErrOf result Fault.Memory → ((before input : List ℕ) →
+        Reached before (W.taken writer.old) session.old line.old input →
+        Wrote before (W.taken writer.new) (AnswersFirst (length block.now) (input ++ block.now))) }
+    ensures err { OnErr result ((before input : List ℕ) →
+        Reached before (W.taken writer.old) session.old line.old input →
+        Wrote before (W.taken writer.new) (BeginsOutput (input ++ block.now))) }
+    ensures held { GainsTaken (W.taken writer.old) (W.taken writer.new) (W.held writer.old) (W.held writer.new) }
     ensures no_read { IsErrOf result Fault.Read → ⊥ }
     ensures not_used_up { IsErrOf result Fault.StampsUsedUp → ⊥ }
     ensures fails { IsErrOf result Fault.Write → W.failed writer.old < W.failed writer.new }
@@ -204,15 +206,16 @@ fn finish<E: Engine, W: ScriptOut>(
 ) -> Result<(), Fault>
     requires few { session.old.number ≤ 2 ^ 61 }
     requires none_wait { string_bytes replies.old ≡ [] }
-    ensures ok { OnOk result ((before : Option (List ℕ)) (input : List ℕ) →
-        Reached before (W.written writer.old) session.old line.old input →
-        Wrote before (W.written writer.new) (λ out. out ≡ output input)) }
-    ensures memory { IsErrOf result Fault.Memory → ((before : Option (List ℕ)) (input : List ℕ) →
-        Reached before (W.written writer.old) session.old line.old input →
-        Wrote before (W.written writer.new) (AnswersFirst input)) }
-    ensures err { OnErr result ((before : Option (List ℕ)) (input : List ℕ) →
-        Reached before (W.written writer.old) session.old line.old input →
-        Wrote before (W.written writer.new) (BeginsWith (output input))) }
+    ensures ok { OnOk result ((before input : List ℕ) →
+        Reached before (W.taken writer.old) session.old line.old input →
+        Wrote before (W.taken writer.new) (λ out. out ≡ output input)) }
+    ensures memory { IsErrOf result Fault.Memory → ((before input : List ℕ) →
+        Reached before (W.taken writer.old) session.old line.old input →
+        Wrote before (W.taken writer.new) (AnswersFirst 0 input)) }
+    ensures err { OnErr result ((before input : List ℕ) →
+        Reached before (W.taken writer.old) session.old line.old input →
+        Wrote before (W.taken writer.new) (BeginsWith (output input))) }
+    ensures held { GainsTaken (W.taken writer.old) (W.taken writer.new) (W.held writer.old) (W.held writer.new) }
     ensures no_read { IsErrOf result Fault.Read → ⊥ }
     ensures not_used_up { IsErrOf result Fault.StampsUsedUp → ⊥ }
     ensures fails { IsErrOf result Fault.Write → W.failed writer.old < W.failed writer.new }
@@ -234,24 +237,26 @@ fn run_session<E: Engine, R: ScriptIn, W: ScriptOut>(
     session: &mut Session<E>,
 ) -> Result<(), Fault>
     requires { session.old ≡ start }
-    ensures ok { OnOk result (Moved (R.remaining reader.old) (R.remaining reader.new)
-        (W.written writer.old) (W.written writer.new) (λ input out. out ≡ output input)) }
+    ensures ok { OnOk result (Transferred (R.given reader.old) (R.given reader.new)
+        (W.taken writer.old) (W.taken writer.new) (λ input out. out ≡ output input)) }
     ensures end { OnOk result (R.ends reader.old < R.ends reader.new) }
     ensures flushed { OnOk result (W.flushes writer.old < W.flushes writer.new) }
+    ensures left { LosesGiven (R.given reader.old) (R.given reader.new) (R.remaining reader.old) (R.remaining reader.new) }
+    ensures held { GainsTaken (W.taken writer.old) (W.taken writer.new) (W.held writer.old) (W.held writer.new) }
     ensures nothing_left { R.ends reader.old < R.ends reader.new → IsAtEnd (R.remaining reader.new) }
-    ensures err { OnErr result (Moved (R.remaining reader.old) (R.remaining reader.new)
-        (W.written writer.old) (W.written writer.new)
+    ensures err { OnErr result (Transferred (R.given reader.old) (R.given reader.new)
+        (W.taken writer.old) (W.taken writer.new)
         (BeginsOutputUnless (R.ends reader.old < R.ends reader.new))) }
-    ensures memory { IsErrOf result Fault.Memory → Moved (R.remaining reader.old) (R.remaining reader.new)
-        (W.written writer.old) (W.written writer.new) AnswersFirst }
-    ensures read { IsErrOf result Fault.Read → Moved (R.remaining reader.old) (R.remaining reader.new)
-        (W.written writer.old) (W.written writer.new) AnswersEnded }
+    ensures memory { IsErrOf result Fault.Memory → Transferred (R.given reader.old) (R.given reader.new)
+        (W.taken writer.old) (W.taken writer.new) (AnswersFirst (length (R.latest reader.new))) }
+    ensures read { IsErrOf result Fault.Read → Transferred (R.given reader.old) (R.given reader.new)
+        (W.taken writer.old) (W.taken writer.new) AnswersEnded }
     ensures read_failed { IsErrOf result Fault.Read → R.failed reader.old < R.failed reader.new }
     ensures write_failed { IsErrOf result Fault.Write → W.failed writer.old < W.failed writer.new }
     ensures used_up { IsErrOf result Fault.StampsUsedUp →
-        Moved (R.remaining reader.old) (R.remaining reader.new)
-        (W.written writer.old) (W.written writer.new)
-        (λ input out. AnswersFirst input out × (2 ^ 61 < length input)) }
+        Transferred (R.given reader.old) (R.given reader.new)
+        (W.taken writer.old) (W.taken writer.new)
+        (λ input out. AnswersFirst (length (R.latest reader.new)) input out × (2 ^ 61 < length input)) }
 {
     let alloc = rt.alloc();
     let mut block = zeros(alloc, BLOCK)?;
@@ -282,31 +287,34 @@ pub fn run_script<E: Engine, R: ScriptIn, W: ScriptOut>(
     options: Options,
 ) -> Result<(), Fault>
     // What was written is the output of what was read, the reader told its end, and the writer was flushed.
-    ensures ok { OnOk result (Moved (R.remaining reader.old) (R.remaining reader.new)
-        (W.written writer.old) (W.written writer.new) (λ input out. out ≡ output input)) }
+    ensures ok { OnOk result (Transferred (R.given reader.old) (R.given reader.new)
+        (W.taken writer.old) (W.taken writer.new) (λ input out. out ≡ output input)) }
     ensures end { OnOk result (R.ends reader.old < R.ends reader.new) }
     ensures flushed { OnOk result (W.flushes writer.old < W.flushes writer.new) }
 
-    // At the end, nothing is left of what the reader tells.
+    // The same bytes are lost by a reader that tells what it has left, and gained by a writer that tells what it holds.
+    ensures left { LosesGiven (R.given reader.old) (R.given reader.new) (R.remaining reader.old) (R.remaining reader.new) }
+    ensures held { GainsTaken (W.taken writer.old) (W.taken writer.new) (W.held writer.old) (W.held writer.new) }
     ensures nothing_left { R.ends reader.old < R.ends reader.new → IsAtEnd (R.remaining reader.new) }
 
     // After any fault, what was written is a beginning of the output, however the input goes on, if it goes on.
-    ensures err { OnErr result (Moved (R.remaining reader.old) (R.remaining reader.new)
-        (W.written writer.old) (W.written writer.new)
+    ensures err { OnErr result (Transferred (R.given reader.old) (R.given reader.new)
+        (W.taken writer.old) (W.taken writer.new)
         (BeginsOutputUnless (R.ends reader.old < R.ends reader.new))) }
 
-    // After these two, it is the replies to the lines before the one in hand.
-    ensures memory { IsErrOf result Fault.Memory → Moved (R.remaining reader.old) (R.remaining reader.new)
-        (W.written writer.old) (W.written writer.new) AnswersFirst }
-    ensures read { IsErrOf result Fault.Read → Moved (R.remaining reader.old) (R.remaining reader.new)
-        (W.written writer.old) (W.written writer.new) AnswersEnded }
+    // After want of memory, it is the replies to first lines, to all at least that ended before the last read;
+    // after a failed read, to all lines that ended.
+    ensures memory { IsErrOf result Fault.Memory → Transferred (R.given reader.old) (R.given reader.new)
+        (W.taken writer.old) (W.taken writer.new) (AnswersFirst (length (R.latest reader.new))) }
+    ensures read { IsErrOf result Fault.Read → Transferred (R.given reader.old) (R.given reader.new)
+        (W.taken writer.old) (W.taken writer.new) AnswersEnded }
 
     ensures read_failed { IsErrOf result Fault.Read → R.failed reader.old < R.failed reader.new }
     ensures write_failed { IsErrOf result Fault.Write → W.failed writer.old < W.failed writer.new }
     ensures used_up { IsErrOf result Fault.StampsUsedUp →
-        Moved (R.remaining reader.old) (R.remaining reader.new)
-        (W.written writer.old) (W.written writer.new)
-        (λ input out. AnswersFirst input out × (2 ^ 61 < length input)) }
+        Transferred (R.given reader.old) (R.given reader.new)
+        (W.taken writer.old) (W.taken writer.new)
+        (λ input out. AnswersFirst (length (R.latest reader.new)) input out × (2 ^ 61 < length input)) }
 {
     let mut session = Session::<E>::new(options);
     let outcome = run_session(rt, reader, writer, &mut session);

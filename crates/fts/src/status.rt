@@ -1,6 +1,6 @@
 // The exit status of the program.
 ghost use Rattle.std.specs.Prelude.{◌≡◌};
-ghost use Rattle.fts.specs.Arguments.{arg_status_of, status_of};
+ghost use Rattle.fts.specs.Arguments.{arg_status_of, run_status_of, status_of};
 
 use crate::args::ArgFault;
 use crate::fault::Fault;
@@ -13,6 +13,16 @@ pub fn status(fault: &Fault) -> u8
         Fault::Memory => 3,
         Fault::Read | Fault::Write => 4,
         Fault::StampsUsedUp => 5,
+    }
+}
+
+/// The exit status of a run.
+pub fn run_status(outcome: &Result<(), Fault>) -> u8
+    ensures { result ≡ run_status_of outcome.now }
+{
+    match outcome {
+        Ok(()) => 0,
+        Err(fault) => status(fault),
     }
 }
 

@@ -5,6 +5,7 @@ mod answer;
 mod document;
 #[cfg(test)]
 mod fixtures;
+mod ghosts;
 pub mod laws;
 mod operation;
 mod query;
@@ -16,6 +17,7 @@ mod value;
 
 pub use answer::{Answer, Hit};
 pub use document::Document;
+pub use ghosts::{GhostBytes, GhostCount};
 pub use operation::{Op, Stamp, Stamped, Term};
 pub use query::{Order, Query, Request, Top};
 pub use refusal::Refusal;

@@ -9,7 +9,6 @@ pub mod laws;
 mod list;
 mod list_source;
 mod long_list;
-mod openings;
 mod packing;
 mod signed;
 mod skip;

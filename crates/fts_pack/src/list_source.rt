@@ -3,13 +3,13 @@ ghost use Rattle.std.specs.List.Sorted.{IsStrictlyIncreasing};
 
 use crate::blocks::Blocks;
 use crate::list::List;
-use crate::openings::Openings;
+use fts_model::GhostCount;
 
 /// The blocks of a list. Whenever one is opened, a number goes up that contracts alone read.
 #[derive(Drop)]
 pub struct ListSource<'a> {
     list: &'a List,
-    opened: Openings,
+    opened: GhostCount,
     ghost rises: { IsStrictlyIncreasing list.now },
 }
 
@@ -26,7 +26,7 @@ impl<'a> ListSource<'a> {
     {
         ListSource {
             list,
-            opened: Openings::none(),
+            opened: GhostCount::zero(),
         }
     }
 }

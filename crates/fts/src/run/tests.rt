@@ -2,7 +2,7 @@
 use crate::fault::Fault;
 use crate::list_engine::ListEngine;
 use crate::options::Options;
-use crate::run_plain::run_plain;
+use crate::run_std::run_std;
 use std::alloc::Global;
 use std::cell::Cell;
 use std::io;
@@ -57,6 +57,17 @@ fn replies(rt: &impl AllocGlobal, count: usize, ended: bool) -> Result<Vec<u8>, 
         bytes.extend_from_slice(reply.as_bytes())?;
     }
     Ok(bytes)
+}
+
+/// Runs a script, and hands the reader and the writer back.
+fn run_over<R: Read, W: Write>(
+    rt: &(impl AllocGlobal + Threads + Wait),
+    reader: R,
+    writer: W,
+    options: Options,
+) -> (Result<(), Fault>, R, W) {
+    let (outcome, reader, writer) = run_std::<ListEngine, _, _>(rt, reader, writer, options);
+    (outcome, reader.into_inner(), writer.into_inner())
 }
 
 /// Gives at most `step` bytes a call, and fails once, at the call numbered `fails`.
@@ -159,12 +170,7 @@ fn replies_to(
     for step in [1, 2, 7, 1000] {
         let reader = reader_of(script, step, 0, io::ErrorKind::Other);
         let writer = writer_of(rt, step, 0, None);
-        let (outcome, _, written) = run_plain::<ListEngine, _, _>(
-            rt,
-            reader,
-            writer,
-            Options::default(),
-        );
+        let (outcome, _, written) = run_over(rt, reader, writer, Options::default());
         assert_eq!(rt; outcome, Ok(()));
         assert_eq!(rt; written.bytes.as_slice(), wanted);
         assert_eq!(rt; written.flushes, 1);
@@ -202,12 +208,7 @@ fn ends_for_memory(
     let mut writer = writer_of(rt, 1000, 0, None);
     writer.bytes.reserve(room)?;
     let reader = reader_of(script, 1, 0, io::ErrorKind::Other);
-    let (outcome, reader, written) = run_plain::<ListEngine, _, _>(
-        rt,
-        reader,
-        writer,
-        Options::default(),
-    );
+    let (outcome, reader, written) = run_over(rt, reader, writer, Options::default());
     if outcome == Ok(()) {
         let wanted = replies(rt, script.len(), true)?;
         assert_eq!(rt; written.bytes.as_slice(), wanted.as_slice());
@@ -238,12 +239,7 @@ fn each_read_fails(rt: HostRuntime) -> Result<(), Fail> {
         for fails in 1..script.len() + 2 {
             let reader = reader_of(script.as_slice(), 1, fails, kind);
             let writer = writer_of(&rt, 5, 0, None);
-            let (outcome, _, written) = run_plain::<ListEngine, _, _>(
-                &rt,
-                reader,
-                writer,
-                Options::default(),
-            );
+            let (outcome, _, written) = run_over(&rt, reader, writer, Options::default());
             assert_eq!(rt; outcome, Err(Fault::Read), "call {fails}");
             let wanted = replies(&rt, fails - 1, false)?;
             assert_eq!(rt; written.bytes.as_slice(), wanted.as_slice(), "call {fails}");
@@ -262,12 +258,7 @@ fn write_fails(
     let whole = replies(rt, script.len(), true)?;
     let reader = reader_of(script.as_slice(), step, 0, io::ErrorKind::Other);
     let writer = writer_of(rt, step, fails, kind);
-    let (outcome, _, written) = run_plain::<ListEngine, _, _>(
-        rt,
-        reader,
-        writer,
-        Options::default(),
-    );
+    let (outcome, _, written) = run_over(rt, reader, writer, Options::default());
     assert!(rt;
         whole.as_slice().starts_with(written.bytes.as_slice()),
         "call {fails}"
@@ -356,7 +347,7 @@ fn answers_come_before_the_next_read(rt: HostRuntime) {
         wanted: 0,
         written: &written,
     };
-    let (outcome, reader, _) = run_plain::<ListEngine, _, _>(
+    let (outcome, reader, _) = run_over(
         &rt,
         reader,
         Counter { written: &written },
@@ -386,12 +377,7 @@ fn long_lines(rt: HostRuntime) -> Result<(), Fail> {
     push_line(&mut script, b' ', 5_000_000, "")?;
     push_line(&mut script, b'x', 1, "")?;
     let writer = Vec::new(rt.alloc());
-    let (outcome, _, written) = run_plain::<ListEngine, _, _>(
-        &rt,
-        script.as_slice(),
-        writer,
-        Options::default(),
-    );
+    let (outcome, _, written) = run_over(&rt, script.as_slice(), writer, Options::default());
     assert_eq!(rt; outcome, Ok(()));
     assert_eq!(rt;
         written.as_slice(),
@@ -411,12 +397,7 @@ fn lines_behind_much_white_space(rt: HostRuntime) -> Result<(), Fail> {
     push_line(&mut script, b' ', 5_000_000, "")?;
     push_line(&mut script, b' ', 1, "{}")?;
     let writer = Vec::new(rt.alloc());
-    let (outcome, _, written) = run_plain::<ListEngine, _, _>(
-        &rt,
-        script.as_slice(),
-        writer,
-        Options::default(),
-    );
+    let (outcome, _, written) = run_over(&rt, script.as_slice(), writer, Options::default());
     assert_eq!(rt; outcome, Ok(()));
     assert_eq!(rt;
         written.as_slice(),
@@ -432,12 +413,7 @@ fn many_replies_in_a_block(rt: HostRuntime) -> Result<(), Fail> {
         push_line(&mut script, b'x', 1, "")?;
     }
     let writer = Vec::new(rt.alloc());
-    let (outcome, _, written) = run_plain::<ListEngine, _, _>(
-        &rt,
-        script.as_slice(),
-        writer,
-        Options::default(),
-    );
+    let (outcome, _, written) = run_over(&rt, script.as_slice(), writer, Options::default());
     assert_eq!(rt; outcome, Ok(()));
     // 28 bytes around each number, and 188,894 digits.
     assert_eq!(rt; written.len(), 1_308_894);
@@ -453,7 +429,7 @@ fn gives(
     let script = format!(in rt.alloc(); "{SCHEMA}\n{lines}")?;
     let wanted = format!(in rt.alloc(); "{{\"fields\":4}}\n{wanted}")?;
     let writer = Vec::new(rt.alloc());
-    let (outcome, _, written) = run_plain::<ListEngine, _, _>(
+    let (outcome, _, written) = run_over(
         rt,
         script.as_str().as_bytes(),
         writer,
@@ -467,12 +443,7 @@ fn gives(
 #[test]
 fn nothing_in_nothing_out(rt: HostRuntime) {
     let writer = Vec::new(rt.alloc());
-    let (outcome, _, written) = run_plain::<ListEngine, _, _>(
-        &rt,
-        b"".as_slice(),
-        writer,
-        Options::default(),
-    );
+    let (outcome, _, written) = run_over(&rt, b"".as_slice(), writer, Options::default());
     assert_eq!(rt; outcome, Ok(()));
     assert!(rt; written.is_empty());
 }
@@ -701,12 +672,7 @@ fn before_the_schema(rt: HostRuntime) {
     let writer = Vec::new(rt.alloc());
     let script =
         b"{\"commit\":true}\n\n{\"schema\":[]}\n{\"schema\":[{\"name\":\"x\",\"kind\":\"u64\"}]}\n{\"search\":{\"query\":\"x\"}}\n{\"search\":{\"query\":\"+\"}}";
-    let (outcome, _, written) = run_plain::<ListEngine, _, _>(
-        &rt,
-        script.as_slice(),
-        writer,
-        Options::default(),
-    );
+    let (outcome, _, written) = run_over(&rt, script.as_slice(), writer, Options::default());
     assert_eq!(rt; outcome, Ok(()));
     assert_eq!(rt;
         written.as_slice(),

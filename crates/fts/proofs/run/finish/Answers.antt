@@ -1,4 +1,4 @@
-use Rattle.std.proofs.KnownBytes.{Appends-kept}
+use Rattle.std.proofs.Common.{◌∙◌}
 use Rattle.fts.proofs.RunLemmas.{Wrote-output, Wrote-part, Wrote-start, Wrote-whole, on_err}
 use Rattle.fts.proofs.run.finish.Goals as goal
 
@@ -7,21 +7,21 @@ returns-in_err-end_input-clause-err g c = on_err c.from_residual.result _ (λ be
 
 pub returns-in_err-send-clause-err : goal.returns-in_err-send-clause-err
 returns-in_err-send-clause-err g c = on_err c.from_residual-in_err-send.result _ (λ before input r.
-    Wrote-part before (g.W.ScriptOut.written c.args.writer.now) (g.W.ScriptOut.written c.send.new.writer)
+    Wrote-part before (g.W.ScriptOut.taken c.args.writer.now) (g.W.ScriptOut.taken c.send.new.writer)
     c.args.session.now c.args.line.now input _ c.in_err-send.ensures.err.0
     c.in_ok-end_input.ensures.ok c.in_err-send.ensures.err.1 r)
 
 pub returns-in-Ok-clause-ok : goal.returns-in-Ok-clause-ok
 returns-in-Ok-clause-ok g c = λ before input r.
-    Wrote-output before (g.W.ScriptOut.written c.args.writer.now) (g.W.ScriptOut.written c.flush.new.self)
+    Wrote-output before (g.W.ScriptOut.taken c.args.writer.now) (g.W.ScriptOut.taken c.flush.new.self)
     c.args.session.now c.args.line.now input _ c.in_ok-end_input.ensures.ok
-    (Appends-kept _ (g.W.ScriptOut.written c.send.new.writer) (g.W.ScriptOut.written c.flush.new.self) _ c.in_ok-send.ensures.ok c.in-Ok.ensures.bytes)
+    (c.in-Ok.ensures.taken ∙ c.in_ok-send.ensures.ok)
     r
 
 pub returns-in-Err-clause-err : goal.returns-in-Err-clause-err
 returns-in-Err-clause-err g c = λ before input r.
-    Wrote-whole before (g.W.ScriptOut.written c.flush.new.self) input
-    (Wrote-output before (g.W.ScriptOut.written c.args.writer.now) (g.W.ScriptOut.written c.flush.new.self)
+    Wrote-whole before (g.W.ScriptOut.taken c.flush.new.self) input
+    (Wrote-output before (g.W.ScriptOut.taken c.args.writer.now) (g.W.ScriptOut.taken c.flush.new.self)
     c.args.session.now c.args.line.now input _ c.in_ok-end_input.ensures.ok
-    (Appends-kept _ (g.W.ScriptOut.written c.send.new.writer) (g.W.ScriptOut.written c.flush.new.self) _ c.in_ok-send.ensures.ok c.in-Err.ensures.bytes)
+    (c.in-Err.ensures.taken ∙ c.in_ok-send.ensures.ok)
     r)

@@ -1,16 +1,18 @@
-use Rattle.std.proofs.Common.{arith, ◌<◌, ◌++◌, [], length, take, ◌∙◌, ◌≡◌, ap, refl}
+use Rattle.std.proofs.Common.{arith, ◌<◌, ◌++◌, [], length, take, ◌∙◌, ◌≡◌, ap, refl, sym, append-nil}
 use Rattle.std.proofs.lemmas.Result.{on_ok_weaker, on_err_weaker, err_from_is_err_and}
 use Rattle.std.proofs.lemmas.List.{length-take-le}
-use Rattle.std.proofs.KnownBytes.{Consumes-nil, Consumes-trans, Consumes-kept}
 use Rattle.fts.specs.Outputs.{Script}
-use Rattle.fts.proofs.RunLemmas.{Consumes-end, Reached-start, Wrote-ended, Wrote-begins, Wrote-more, Wrote-reached, Wrote-same, Wrote-unless, counted_end, length_more, not_counted, on_err, on_ok}
+use Rattle.fts.proofs.RunLemmas.{Reached-start, Wrote-ended, Wrote-begins, Wrote-late, Wrote-latest, Wrote-more, Wrote-reached, Wrote-same, Wrote-unless, counted_end, given_none, length_more, not_counted, on_err, on_ok}
+use Rattle.fts.proofs.StreamLemmas.{append_more, GainsTaken-none, GainsTaken-trans, LosesGiven-none, LosesGiven-read}
 use Rattle.fts.proofs.run.run_session.Goals as goal
 
 pub reads-init : goal.reads-init
 reads-init g c = record {
   input = [];
-  consumed = Consumes-nil (g.R.ScriptIn.remaining c.args.reader.now);
-  reached = Reached-start (g.W.ScriptOut.written c.args.writer.now) c.args.session.now c.new-line.result c.requires c.new-line.ensures;
+  given = sym (append-nil (g.R.ScriptIn.given c.args.reader.now));
+  left = LosesGiven-none _ _;
+  held = GainsTaken-none _ _;
+  reached = Reached-start (g.W.ScriptOut.taken c.args.writer.now) c.args.session.now c.new-line.result c.requires c.new-line.ensures;
   none_wait = c.new-replies.ensures.bytes;
   ends = refl;
   failed = refl;
@@ -24,8 +26,9 @@ reads-init g c = record {
 pub reads-preserved : goal.reads-preserved
 reads-preserved g c = record {
   input = c.reads.invariant.input ++ take c.in-Ok.n c.read.new.buffer;
-  consumed = Consumes-trans (g.R.ScriptIn.remaining c.args.reader.now) (g.R.ScriptIn.remaining c.reads.reader) (g.R.ScriptIn.remaining c.read.new.self) _ _
-      c.reads.invariant.consumed c.in-Ok.ensures.bytes.0;
+  given = append_more (g.R.ScriptIn.given c.args.reader.now) _ _ c.reads.invariant.input (take c.in-Ok.n c.read.new.buffer) c.reads.invariant.given c.in-Ok.ensures.given;
+  left = LosesGiven-read c.read.result c.read.new.buffer _ _ _ _ _ (g.R.ScriptIn.remaining c.read.new.self) c.reads.invariant.left c.read.ensures.given c.read.ensures.left;
+  held = GainsTaken-trans _ _ _ _ _ (g.W.ScriptOut.held c.take_block.new.writer) c.reads.invariant.held c.take_block.ensures.held;
   reached = c.in_ok-take_block-in-Ok.ensures.ok _ _ c.reads.invariant.reached;
   none_wait = c.in_ok-take_block-in-Ok.ensures.none_wait;
   ends = not_counted c.in-Ok.n _ _ _ c.in-Ok.n-test.1 c.in-Ok.ensures.end ∙ c.reads.invariant.ends;
@@ -42,7 +45,7 @@ returns-in-Ok-eq0-clause-ok g c =
     on_ok_weaker c.finish.result
     (λ h. record {
       input = c.reads.invariant.input;
-      consumed = Consumes-end _ (g.R.ScriptIn.remaining c.reads.reader) (g.R.ScriptIn.remaining c.read.new.self) _ _ _ c.in-Ok-eq0.field-0-test c.reads.invariant.consumed c.in-Ok-eq0.ensures.bytes.0;
+      read = given_none (g.R.ScriptIn.given c.args.reader.now) _ _ c.reads.invariant.input c.read.new.buffer _ c.in-Ok-eq0.field-0-test c.reads.invariant.given c.in-Ok-eq0.ensures.given;
       wrote = h _ _ c.reads.invariant.reached;
     })
     c.finish.ensures.ok
@@ -58,7 +61,7 @@ returns-in-Ok-eq0-clause-end g c =
 pub returns-in-Ok-eq0-clause-nothing_left : goal.returns-in-Ok-eq0-clause-nothing_left
 returns-in-Ok-eq0-clause-nothing_left g c = λ _.
     let room : 0 < length c.read.new.buffer = omega (arith, c.in_ok-block.ensures) in
-    c.in-Ok-eq0.ensures.bytes.1 c.in-Ok-eq0.field-0-test room
+    c.in-Ok-eq0.ensures.left.1 c.in-Ok-eq0.field-0-test room
 
 pub returns-in-Ok-eq0-clause-err : goal.returns-in-Ok-eq0-clause-err
 returns-in-Ok-eq0-clause-err g c =
@@ -69,7 +72,7 @@ returns-in-Ok-eq0-clause-err g c =
     on_err_weaker c.finish.result
     (λ h. record {
       input = c.reads.invariant.input;
-      consumed = Consumes-end _ (g.R.ScriptIn.remaining c.reads.reader) (g.R.ScriptIn.remaining c.read.new.self) _ _ _ c.in-Ok-eq0.field-0-test c.reads.invariant.consumed c.in-Ok-eq0.ensures.bytes.0;
+      read = given_none (g.R.ScriptIn.given c.args.reader.now) _ _ c.reads.invariant.input c.read.new.buffer _ c.in-Ok-eq0.field-0-test c.reads.invariant.given c.in-Ok-eq0.ensures.given;
       wrote = Wrote-ended _ _ c.reads.invariant.input _ ended (h _ _ c.reads.invariant.reached);
     })
     c.finish.ensures.err
@@ -77,8 +80,8 @@ returns-in-Ok-eq0-clause-err g c =
 pub returns-in-Ok-eq0-clause-memory : goal.returns-in-Ok-eq0-clause-memory
 returns-in-Ok-eq0-clause-memory g c = λ e. record {
   input = c.reads.invariant.input;
-  consumed = Consumes-end _ (g.R.ScriptIn.remaining c.reads.reader) (g.R.ScriptIn.remaining c.read.new.self) _ _ _ c.in-Ok-eq0.field-0-test c.reads.invariant.consumed c.in-Ok-eq0.ensures.bytes.0;
-  wrote = c.finish.ensures.memory e _ _ c.reads.invariant.reached;
+  read = given_none (g.R.ScriptIn.given c.args.reader.now) _ _ c.reads.invariant.input c.read.new.buffer _ c.in-Ok-eq0.field-0-test c.reads.invariant.given c.in-Ok-eq0.ensures.given;
+  wrote = Wrote-late _ _ c.reads.invariant.input 0 (length (g.R.ScriptIn.latest c.read.new.self)) (omega arith) (c.finish.ensures.memory e _ _ c.reads.invariant.reached);
 }
 
 pub returns-then-n-count-clause-nothing_left : goal.returns-then-n-count-clause-nothing_left
@@ -88,21 +91,20 @@ returns-then-n-count-clause-nothing_left g c = λ told.
 pub returns-then-n-count-clause-err : goal.returns-then-n-count-clause-err
 returns-then-n-count-clause-err g c = record {
   input = c.reads.invariant.input ++ take c.in-Ok.n c.read.new.buffer;
-  consumed = Consumes-trans (g.R.ScriptIn.remaining c.args.reader.now) (g.R.ScriptIn.remaining c.reads.reader) (g.R.ScriptIn.remaining c.read.new.self) _ _
-      c.reads.invariant.consumed c.in-Ok.ensures.bytes.0;
-  wrote = Wrote-unless _ _ (c.reads.invariant.input ++ take c.in-Ok.n c.read.new.buffer) _ (Wrote-begins _ _ _
+  read = append_more (g.R.ScriptIn.given c.args.reader.now) _ _ c.reads.invariant.input (take c.in-Ok.n c.read.new.buffer) c.reads.invariant.given c.in-Ok.ensures.given;
+  wrote = Wrote-unless _ _ (c.reads.invariant.input ++ take c.in-Ok.n c.read.new.buffer) _ (Wrote-begins _ _ _ _
       (Wrote-more _ _ _ _ c.reads.invariant.input (take c.in-Ok.n c.read.new.buffer) c.reads.invariant.reached));
 }
 
 pub returns-then-n-count-clause-used_up : goal.returns-then-n-count-clause-used_up
 returns-then-n-count-clause-used_up g c = λ _.
-    let wrote = Wrote-more _ _ _ _ c.reads.invariant.input (take c.in-Ok.n c.read.new.buffer) c.reads.invariant.reached in record {
+    let wrote = Wrote-latest _ _ _ (take c.in-Ok.n c.read.new.buffer) (g.R.ScriptIn.latest c.read.new.self) c.in-Ok.ensures.latest
+    (Wrote-more _ _ _ _ c.reads.invariant.input (take c.in-Ok.n c.read.new.buffer) c.reads.invariant.reached) in record {
       input = c.reads.invariant.input ++ take c.in-Ok.n c.read.new.buffer;
-      consumed = Consumes-trans (g.R.ScriptIn.remaining c.args.reader.now) (g.R.ScriptIn.remaining c.reads.reader) (g.R.ScriptIn.remaining c.read.new.self) _ _
-          c.reads.invariant.consumed c.in-Ok.ensures.bytes.0;
+      read = append_more (g.R.ScriptIn.given c.args.reader.now) _ _ c.reads.invariant.input (take c.in-Ok.n c.read.new.buffer) c.reads.invariant.given c.in-Ok.ensures.given;
       wrote = record {
         bytes = wrote.bytes;
-        appended = wrote.appended;
+        taken = wrote.taken;
         so = (
           wrote.so,
           omega (
@@ -122,8 +124,7 @@ returns-in_err-take_block-in-Ok-clause-nothing_left g c = λ told.
 pub returns-in_err-take_block-in-Ok-clause-err : goal.returns-in_err-take_block-in-Ok-clause-err
 returns-in_err-take_block-in-Ok-clause-err g c = on_err c.from_residual-in_err-take_block-in-Ok.result _ (record {
   input = c.reads.invariant.input ++ take c.in-Ok.n c.read.new.buffer;
-  consumed = Consumes-trans (g.R.ScriptIn.remaining c.args.reader.now) (g.R.ScriptIn.remaining c.reads.reader) (g.R.ScriptIn.remaining c.read.new.self) _ _
-      c.reads.invariant.consumed c.in-Ok.ensures.bytes.0;
+  read = append_more (g.R.ScriptIn.given c.args.reader.now) _ _ c.reads.invariant.input (take c.in-Ok.n c.read.new.buffer) c.reads.invariant.given c.in-Ok.ensures.given;
   wrote = Wrote-unless _ _ (c.reads.invariant.input ++ take c.in-Ok.n c.read.new.buffer) _ (c.in_err-take_block-in-Ok.ensures.err _ _ c.reads.invariant.reached);
 })
 
@@ -131,23 +132,45 @@ pub returns-in_err-take_block-in-Ok-clause-memory : goal.returns-in_err-take_blo
 returns-in_err-take_block-in-Ok-clause-memory g c = λ e.
     let p = err_from_is_err_and c.from_residual-in_err-take_block-in-Ok.result c.from_residual-in_err-take_block-in-Ok.ensures.1 in record {
       input = c.reads.invariant.input ++ take c.in-Ok.n c.read.new.buffer;
-      consumed = Consumes-trans (g.R.ScriptIn.remaining c.args.reader.now) (g.R.ScriptIn.remaining c.reads.reader) (g.R.ScriptIn.remaining c.read.new.self) _ _
-          c.reads.invariant.consumed c.in-Ok.ensures.bytes.0;
-      wrote = c.in_err-take_block-in-Ok.ensures.memory (cc (p.1, p.2, e)) _ _ c.reads.invariant.reached;
+      read = append_more (g.R.ScriptIn.given c.args.reader.now) _ _ c.reads.invariant.input (take c.in-Ok.n c.read.new.buffer) c.reads.invariant.given c.in-Ok.ensures.given;
+      wrote = Wrote-latest _ _ _ (take c.in-Ok.n c.read.new.buffer) (g.R.ScriptIn.latest c.read.new.self) c.in-Ok.ensures.latest
+          (c.in_err-take_block-in-Ok.ensures.memory (cc (p.1, p.2, e)) _ _ c.reads.invariant.reached);
     }
 
 pub returns-in-Err-clause-err : goal.returns-in-Err-clause-err
 returns-in-Err-clause-err g c = record {
   input = c.reads.invariant.input;
-  consumed = Consumes-kept (g.R.ScriptIn.remaining c.args.reader.now) (g.R.ScriptIn.remaining c.reads.reader) (g.R.ScriptIn.remaining c.read.new.self) _
-      c.reads.invariant.consumed c.in-Err.ensures.bytes;
-  wrote = Wrote-unless _ _ c.reads.invariant.input _ (Wrote-begins _ _ _ (Wrote-same _ _ _ _ _ c.reads.invariant.reached));
+  read = c.in-Err.ensures.given ∙ append-nil (g.R.ScriptIn.given c.reads.reader) ∙ c.reads.invariant.given;
+  wrote = Wrote-unless _ _ c.reads.invariant.input _ (Wrote-begins _ _ _ 0 (Wrote-same _ _ _ _ _ c.reads.invariant.reached));
 }
 
 pub returns-in-Err-clause-read : goal.returns-in-Err-clause-read
 returns-in-Err-clause-read g c = λ _. record {
   input = c.reads.invariant.input;
-  consumed = Consumes-kept (g.R.ScriptIn.remaining c.args.reader.now) (g.R.ScriptIn.remaining c.reads.reader) (g.R.ScriptIn.remaining c.read.new.self) _
-      c.reads.invariant.consumed c.in-Err.ensures.bytes;
+  read = c.in-Err.ensures.given ∙ append-nil (g.R.ScriptIn.given c.reads.reader) ∙ c.reads.invariant.given;
   wrote = Wrote-reached _ _ _ _ _ c.reads.invariant.reached;
 }
+
+pub returns-in-Ok-eq0-clause-left : goal.returns-in-Ok-eq0-clause-left
+returns-in-Ok-eq0-clause-left g c =
+    LosesGiven-read c.read.result c.read.new.buffer _ _ _ _ _ (g.R.ScriptIn.remaining c.read.new.self) c.reads.invariant.left c.read.ensures.given c.read.ensures.left
+
+pub returns-then-n-count-clause-left : goal.returns-then-n-count-clause-left
+returns-then-n-count-clause-left g c =
+    LosesGiven-read c.read.result c.read.new.buffer _ _ _ _ _ (g.R.ScriptIn.remaining c.read.new.self) c.reads.invariant.left c.read.ensures.given c.read.ensures.left
+
+pub returns-in_err-take_block-in-Ok-clause-left : goal.returns-in_err-take_block-in-Ok-clause-left
+returns-in_err-take_block-in-Ok-clause-left g c =
+    LosesGiven-read c.read.result c.read.new.buffer _ _ _ _ _ (g.R.ScriptIn.remaining c.read.new.self) c.reads.invariant.left c.read.ensures.given c.read.ensures.left
+
+pub returns-in-Err-clause-left : goal.returns-in-Err-clause-left
+returns-in-Err-clause-left g c =
+    LosesGiven-read c.read.result c.read.new.buffer _ _ _ _ _ (g.R.ScriptIn.remaining c.read.new.self) c.reads.invariant.left c.read.ensures.given c.read.ensures.left
+
+pub returns-in-Ok-eq0-clause-held : goal.returns-in-Ok-eq0-clause-held
+returns-in-Ok-eq0-clause-held g c =
+    GainsTaken-trans _ _ _ _ _ (g.W.ScriptOut.held c.finish.new.writer) c.reads.invariant.held c.finish.ensures.held
+
+pub returns-in_err-take_block-in-Ok-clause-held : goal.returns-in_err-take_block-in-Ok-clause-held
+returns-in_err-take_block-in-Ok-clause-held g c =
+    GainsTaken-trans _ _ _ _ _ (g.W.ScriptOut.held c.take_block.new.writer) c.reads.invariant.held c.take_block.ensures.held

@@ -1,13 +1,15 @@
-use Rattle.std.proofs.Common.{◌≡◌, ◌≤◌, ◌^◌, ◌-◌, length, List, ℕ, [], string_bytes}
-use Rattle.std.specs.Io.KnownBytes.{Consumes}
+use Rattle.std.proofs.Common.{◌≡◌, ◌≤◌, ◌^◌, ◌-◌, ◌++◌, length, List, ℕ, [], string_bytes}
+use Rattle.fts.specs.Streams.{GainsTaken, LosesGiven}
 use Rattle.fts.specs.Runs.{Reached}
 use Rattle.fts.proofs.run.run_session.Given as goal
 
 abbrev pub invariant-reads : goal.invariant-reads
 invariant-reads g l = record {
   input : List ℕ;
-  consumed : Consumes (g.R.ScriptIn.remaining l.fn.reader) (g.R.ScriptIn.remaining l.reader) input;
-  reached : Reached (g.W.ScriptOut.written l.fn.writer) (g.W.ScriptOut.written l.writer) l.session l.line input;
+  given : g.R.ScriptIn.given l.reader ≡ g.R.ScriptIn.given l.fn.reader ++ input;
+  left : LosesGiven (g.R.ScriptIn.given l.fn.reader) (g.R.ScriptIn.given l.reader) (g.R.ScriptIn.remaining l.fn.reader) (g.R.ScriptIn.remaining l.reader);
+  held : GainsTaken (g.W.ScriptOut.taken l.fn.writer) (g.W.ScriptOut.taken l.writer) (g.W.ScriptOut.held l.fn.writer) (g.W.ScriptOut.held l.writer);
+  reached : Reached (g.W.ScriptOut.taken l.fn.writer) (g.W.ScriptOut.taken l.writer) l.session l.line input;
   none_wait : string_bytes l.replies ≡ [];
   ends : g.R.ScriptIn.ends l.reader ≡ g.R.ScriptIn.ends l.fn.reader;
   failed : g.R.ScriptIn.failed l.reader ≡ g.R.ScriptIn.failed l.fn.reader;

@@ -1,4 +1,5 @@
-use Rattle.std.proofs.Common.{length, ◌-◌, ◌+◌, ◌≤◌, ◌≡◌, ◌++◌, take, [], List, ℕ, Option, string_bytes}
+use Rattle.std.proofs.Common.{length, ◌-◌, ◌+◌, ◌≤◌, ◌≡◌, ◌++◌, take, [], List, ℕ, string_bytes}
+use Rattle.fts.specs.Streams.{GainsTaken}
 use Rattle.fts.specs.Runs.{Reached}
 use Rattle.fts.proofs.run.take_block.Given as goal
 
@@ -6,10 +7,11 @@ abbrev pub invariant-loop-at : goal.invariant-loop-at
 invariant-loop-at g l = record {
   within : l.at ≤ length l.block;
   none_wait : string_bytes l.replies ≡ [];
-  reached : (before : Option (List ℕ)) (input : List ℕ) →
-      Reached before (g.W.ScriptOut.written l.fn.writer) l.fn.session l.fn.line input →
-      Reached before (g.W.ScriptOut.written l.writer) l.session l.line (input ++ take l.at l.block);
+  reached : (before input : List ℕ) →
+      Reached before (g.W.ScriptOut.taken l.fn.writer) l.fn.session l.fn.line input →
+      Reached before (g.W.ScriptOut.taken l.writer) l.session l.line (input ++ take l.at l.block);
   counted : l.session.number ≤ l.fn.session.number + l.at;
+  held : GainsTaken (g.W.ScriptOut.taken l.fn.writer) (g.W.ScriptOut.taken l.writer) (g.W.ScriptOut.held l.fn.writer) (g.W.ScriptOut.held l.writer);
   failed : g.W.ScriptOut.failed l.fn.writer ≤ g.W.ScriptOut.failed l.writer;
   flushes : g.W.ScriptOut.flushes l.writer ≡ g.W.ScriptOut.flushes l.fn.writer;
 }

@@ -1,4 +1,4 @@
--- `none` makes the empty struct, with the count 0.
+-- `zero` makes the empty struct, with the count 0.
 use mathlib.Core.Path.{refl}
 use mathlib.Core.List.{[], ◌∷◌}
 use seplogic.Ra.Ura.{Ura}
@@ -21,11 +21,11 @@ use denote.Triple.Entry.{on_entry, alive}
 use denote.Triple.Spec.{Meets, triple_of}
 use denote.Triple.Table.{entered}
 use denote.Triple.Walked.{says, Stays, walk_of, Walks, ends_at, walked, walk_Meets}
-use Rattle.fts_pack.specs.contracts.openings.Openings.none.Key.{name as key}
-use Rattle.fts_pack.specs.contracts.openings.Openings.none as f
-use Rattle.fts_pack.proofs.openings.Openings.none.Statement as stated
-use Rattle.fts_pack.proofs.openings.Openings.none.Code as code
-use Rattle.fts_pack.specs.contracts.openings.Openings as made
+use Rattle.fts_model.specs.contracts.ghosts.GhostCount.zero.Key.{name as key}
+use Rattle.fts_model.specs.contracts.ghosts.GhostCount.zero as f
+use Rattle.fts_model.proofs.ghosts.GhostCount.zero.Statement as stated
+use Rattle.fts_model.proofs.ghosts.GhostCount.zero.Code as code
+use Rattle.fts_model.specs.contracts.ghosts.GhostCount as made
 
 abbrev stayed : Stays (f.ended).signature.params (f.ended).kept
 stayed = tt
@@ -56,9 +56,9 @@ meets {𝓤 = 𝓤} 𝓛 mem run 𝓣 =
     walk_Meets 𝓛 f.ended stayed tt (f.clauses 𝓛 mem run) (WpFn 𝓤 𝓛.H 𝓣.C 𝓣.Λ code.function)
     (WpFn-mono 𝓤 𝓛.H 𝓛.laws 𝓣 code.function) (walks 𝓛 mem run 𝓣.C 𝓣.Λ)
 
-pub none_spec : {M : Type 1} → stated.statement M
+pub zero_spec : {M : Type 1} → stated.statement M
 unfolding tables_of
-none_spec 𝓤 𝓛 𝓜 𝓡 wired =
+zero_spec 𝓤 𝓛 𝓜 𝓡 wired =
     entered 𝓤 𝓛.H (triple_of 𝓛 f.signature (f.spec 𝓛 𝓜.mem 𝓡.returns))
     (tables 𝓤 𝓛.H 𝓜 𝓡 𝓡.env).C (tables 𝓤 𝓛.H 𝓜 𝓡 𝓡.env).Λ key code.function (code.unfolded 𝓤 𝓛.H 𝓜 𝓡 wired)
     (meets 𝓛 𝓜.mem 𝓡.returns (tables_of 𝓤 𝓛.H 𝓜 (tables 𝓤 𝓛.H 𝓜 𝓡 𝓡.env)))
