@@ -1,14 +1,15 @@
 -- What is alive after operations that come in two parts.
-use Rattle.std.proofs.Common.{◌≡◌, ◌≢◌, ℕ, suc, Bool, true, false, cond, ◌||◌, not, List, [], ◌∷◌, ◌++◌, filter, refl, sym, ap, ◌∙◌, append_assoc, arith, All, AllPairs}
+use Rattle.std.proofs.Common.{◌≡◌, ℕ, Bool, true, false, cond, ◌||◌, not, List, [], ◌∷◌, ◌++◌, filter, refl, sym, ap, ◌∙◌, append_assoc, arith, All, AllPairs}
 use Rattle.std.specs.List.{list_any}
 use Rattle.std.proofs.lemmas.List.Elements.{All-cons, All-tail}
 use Rattle.std.proofs.lemmas.List.Kept.{AllPairs-cons}
+use Rattle.fts_model.proofs.ListLemmas.{pairs_behind, pairs_front, pairs_none}
 use Rattle.fts_model.specs.declared.schema.Field.{Field}
 use Rattle.fts_model.specs.declared.operation.Op.{Op}
 use Rattle.fts_model.specs.declared.operation.Op.TheVariants.{Add, Delete, DeleteAll}
 use Rattle.fts_model.specs.declared.operation.Stamped.{Stamped}
 use Rattle.fts_model.specs.Documents.{DocumentValue}
-use Rattle.fts_model.specs.Operations.{strikes, is_struck, left_by, alive, adds, HasEachStampOnce}
+use Rattle.fts_model.specs.Operations.{strikes, is_struck, left_by, alive, adds}
 
 list_any-append : {X : Type 0} (p : X → Bool) (xs ys : List X) → list_any p (xs ++ ys) ≡ (list_any p xs || list_any p ys)
 list_any-append p [] ys = refl
@@ -65,17 +66,8 @@ alive-history schema before later =
 pub All-front : {X : Type 0} (P : X → Type 0) (x : X) (xs : List X) → All P (x ∷ xs) → P x
 All-front P x xs h = h 0 x (omega arith)
 
-pub pairs_behind : {X : Type 0} (R : X → X → Type 0) (x : X) (xs : List X) → AllPairs R (x ∷ xs) → AllPairs R xs
-pairs_behind R x xs h i j d lt within = h (suc i) (suc j) d (omega (arith, lt)) (omega (arith, within))
-
-pub pairs_front : {X : Type 0} (R : X → X → Type 0) (x : X) (xs : List X) → AllPairs R (x ∷ xs) → All (R x) xs
-pairs_front R x xs h k d within = h 0 (suc k) d (omega arith) (omega (arith, within))
-
 pub All-none : {X : Type 0} (P : X → Type 0) → All P []
 All-none P k d lt = absurd (omega (arith, lt))
-
-pub pairs_none : {X : Type 0} (R : X → X → Type 0) → AllPairs R []
-pairs_none R i j d lt within = absurd (omega (arith, within))
 
 All-if_kept : (b : Bool) (P : Stamped DocumentValue → Type 0) (d : Stamped DocumentValue) (ds : List (Stamped DocumentValue)) →
     P d → All P ds → All P (cond b [] (d ∷ []) ++ ds)
@@ -94,20 +86,21 @@ All-alive P schema (op ∷ ops) h =
       | DeleteAll ↦ behind
     ]
 
-once_if_kept : (b : Bool) (d : Stamped DocumentValue) (ds : List (Stamped DocumentValue)) →
-    All (λ e. d.stamp ≢ e.stamp) ds → HasEachStampOnce ds → HasEachStampOnce (cond b [] (d ∷ []) ++ ds)
-once_if_kept true d ds others once = once
-once_if_kept false d ds others once = AllPairs-cons (λ x y. x.stamp ≢ y.stamp) d ds others once
+pairs_if_kept : (R : ℕ → ℕ → Type 0) (b : Bool) (d : Stamped DocumentValue) (ds : List (Stamped DocumentValue)) →
+    All (λ e. R d.stamp e.stamp) ds → AllPairs (λ x y. R x.stamp y.stamp) ds → AllPairs (λ x y. R x.stamp y.stamp) (cond b [] (d ∷ []) ++ ds)
+pairs_if_kept R true d ds others pairs = pairs
+pairs_if_kept R false d ds others pairs = AllPairs-cons (λ x y. R x.stamp y.stamp) d ds others pairs
 
-pub alive-once : (schema : List Field) (ops : List (Stamped Op)) → HasEachStampOnce ops → HasEachStampOnce (alive schema ops)
-alive-once schema [] h = pairs_none (λ x y. x.stamp ≢ y.stamp)
-alive-once schema (op ∷ ops) h =
-    let others = All-alive (λ stamp. op.stamp ≢ stamp) schema ops (pairs_front (λ x y. x.stamp ≢ y.stamp) op ops h) in
-    let once = alive-once schema ops (pairs_behind (λ x y. x.stamp ≢ y.stamp) op ops h) in
-    elim op.value as (λ value. HasEachStampOnce (left_by schema op.stamp value ops ++ alive schema ops)) [
-      | Add document ↦ once_if_kept (is_struck schema ops document) (record { stamp = op.stamp; value = document }) (alive schema ops) others once
-      | Delete term ↦ once
-      | DeleteAll ↦ once
+-- how the stamps of the operations stand to each other, so do those of what is alive
+pub alive-pairs : (R : ℕ → ℕ → Type 0) (schema : List Field) (ops : List (Stamped Op)) → AllPairs (λ x y. R x.stamp y.stamp) ops → AllPairs (λ x y. R x.stamp y.stamp) (alive schema ops)
+alive-pairs R schema [] h = pairs_none (λ x y. R x.stamp y.stamp)
+alive-pairs R schema (op ∷ ops) h =
+    let others = All-alive (R op.stamp) schema ops (pairs_front (λ x y. R x.stamp y.stamp) op ops h) in
+    let pairs = alive-pairs R schema ops (pairs_behind (λ x y. R x.stamp y.stamp) op ops h) in
+    elim op.value as (λ value. AllPairs (λ x y. R x.stamp y.stamp) (left_by schema op.stamp value ops ++ alive schema ops)) [
+      | Add document ↦ pairs_if_kept R (is_struck schema ops document) (record { stamp = op.stamp; value = document }) (alive schema ops) others pairs
+      | Delete term ↦ pairs
+      | DeleteAll ↦ pairs
     ]
 
 filter-same : {X : Type 0} (p q : X → Bool) → ((x : X) → p x ≡ q x) → (xs : List X) → filter p xs ≡ filter q xs

@@ -1,9 +1,13 @@
 pub mod AliveLemmas
 pub mod AnswerLemmas
 pub mod Fields
+pub mod GroupLemmas
+pub mod ListLemmas
+pub mod NumberLemmas
 pub mod PhraseLemmas
 pub mod QueryLemmas
 pub mod ReadsBack
+pub mod StampLemmas
 pub mod TokenLemmas
 pub mod TopLemmas
 pub mod Zips

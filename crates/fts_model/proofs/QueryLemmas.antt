@@ -1,6 +1,7 @@
 -- What a Boolean query says of the queries in it.
-use Rattle.std.proofs.Common.{◌≡◌, Bool, true, false, ◌&&◌, ◌||◌, not, List, [], ◌∷◌, map, refl, sym, ap, ◌∙◌}
+use Rattle.std.proofs.Common.{◌≡◌, ◌==◌, Bool, true, false, ◌&&◌, ◌||◌, not, List, [], ◌∷◌, length, map, refl, sym, ap, ◌∙◌, arith}
 use Rattle.std.specs.List.{list_all, list_any}
+use Rattle.std.proofs.lemmas.Bool.{eqb-true}
 use Rattle.fts_model.specs.declared.schema.Field.{Field}
 use Rattle.fts_model.specs.declared.query.Query.{Query}
 use Rattle.fts_model.specs.declared.query.Query.TheOpen.{Query-F}
@@ -95,3 +96,11 @@ shoulds_decide true false false d p q r = refl
 shoulds_decide true false true d p q r = cc
 shoulds_decide true true c d p q r = cc
 shoulds_decide false b c d p q r = cc
+
+pub is_nonempty-length : {X : Type 0} (xs : List X) → (length xs == 0) ≡ false → is_nonempty xs ≡ true
+is_nonempty-length [] h = cc
+is_nonempty-length (x ∷ xs) h = refl
+
+pub is_nonempty-none : {X : Type 0} (xs : List X) → (length xs == 0) ≡ true → is_nonempty xs ≡ false
+is_nonempty-none [] h = refl
+is_nonempty-none (x ∷ xs) h = absurd (omega (arith, eqb-true (length (x ∷ xs)) 0 h))

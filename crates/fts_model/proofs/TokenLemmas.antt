@@ -1,5 +1,5 @@
 -- A loop over the tokens of a text that looks for one which passes a test.
-use Rattle.std.proofs.Common.{◌≡◌, ℕ, Bool, true, false, ◌||◌, List, [], ◌∷◌, map, sym, ap, subst, ◌∙◌, All}
+use Rattle.std.proofs.Common.{◌≡◌, ℕ, Bool, false, ◌||◌, List, ◌∷◌, map, sym, ap, subst, ◌∙◌, All}
 use Rattle.std.specs.List.{list_any}
 use Rattle.std.specs.Str.{IsUtf8}
 use Rattle.fts_text.specs.declared.tokenizer.Token.{Token}
@@ -28,16 +28,9 @@ any_of_first : (text : List ℕ) (test : ℕ × List ℕ → Bool) (token : Toke
 any_of_first text test token left rest b first e s =
     ap (λ b. b || list_any test (map (token_at text) rest)) (sym e) ∙ ap (λ ps. list_any test (map (token_at text) ps)) (sym first) ∙ s.passes
 
-pub Seeks-found : (text : List ℕ) (test : ℕ × List ℕ → Bool) (token : Token) (left rest : List Token) → left ≡ token ∷ rest → test (token_at text token) ≡ true →
-    Seeks text test left → list_any test (tokens text) ≡ true
-Seeks-found text test token left rest first e s = sym (any_of_first text test token left rest true first e s)
-
 pub Seeks-next : (text : List ℕ) (test : ℕ × List ℕ → Bool) (token : Token) (left rest : List Token) → left ≡ token ∷ rest → test (token_at text token) ≡ false →
     Seeks text test left → Seeks text test rest
 Seeks-next text test token left rest first e s = record {
   within = (IsPlaceIn-first text token left rest first s.within).1;
   passes = any_of_first text test token left rest false first e s;
 }
-
-pub Seeks-none : (text : List ℕ) (test : ℕ × List ℕ → Bool) (left : List Token) → left ≡ [] → Seeks text test left → list_any test (tokens text) ≡ false
-Seeks-none text test left none s = sym s.passes ∙ ap (λ ps. list_any test (map (token_at text) ps)) none

@@ -1,5 +1,5 @@
 -- The top list, and that there is but one.
-use Rattle.std.proofs.Common.{◌≡◌, ◌≢◌, ℕ, zero, suc, ◌<◌, ◌≤◌, ◌==◌, nat_lt, min, Bool, true, false, cond, ◌⊎◌, inl, inr, ⊎_elim, List, [], ◌∷◌, ◌++◌, length, take, Option, Some, None, refl, sym, ap, subst, ◌∙◌, arith, append_assoc, append-nil, All, AllPairs, Contains, get_or, fold, option_map}
+use Rattle.std.proofs.Common.{◌≡◌, ◌≢◌, ℕ, ◌<◌, ◌≤◌, ◌==◌, nat_lt, min, Bool, true, false, cond, ◌⊎◌, inl, inr, ⊎_elim, List, [], ◌∷◌, ◌++◌, length, take, Option, Some, None, refl, sym, ap, subst, ◌∙◌, arith, append_assoc, append-nil, All, AllPairs, Contains, get_or, fold, option_map}
 use Rattle.std.specs.Cmp.{IsTotalOrder}
 use Rattle.std.specs.FinMap.{nat_cmp-IsAntisymmetric}
 use Rattle.std.specs.List.{cons_option, list_any}
@@ -8,50 +8,25 @@ use Rattle.std.specs.declared.cmp.Ordering.{Ordering}
 use Rattle.std.specs.declared.cmp.Ordering.TheVariants.{Less, Equal, Greater}
 use Rattle.std.proofs.lemmas.Bool.{cases_lt, cases_order, cases_Bool, eqb-true, eq-eqb}
 use Rattle.std.proofs.lemmas.List.Folds.{Any-from_list_any, list_any-from_Any}
-use Rattle.std.proofs.lemmas.Cmp.{nat_cmp_total, int_cmp_total, then_total, on_total, back_total}
+use Rattle.std.proofs.lemmas.Cmp.{nat_cmp_total, then_total, on_total, back_total}
 use Rattle.std.proofs.lemmas.List.{length-take, get_or-take, get_or_default}
 use Rattle.std.proofs.lemmas.List.Elements.{All-cons, All-tail, All-contains_itself}
 use Rattle.std.proofs.lemmas.List.Kept.{AllPairs-cons}
 use Rattle.std.proofs.lemmas.List.Sorted.{IsPermutation-refl, IsPermutation-insert, IsPermutation-push_more, All-permutation, Contains-permutation, length_permutation}
 use Rattle.std.specs.List.Sorted.{IsPermutation}
 use Rattle.fts_model.specs.declared.value.Number.{Number}
-use Rattle.fts_model.specs.declared.value.Number.TheVariants.{U64, I64}
 use Rattle.fts_model.specs.declared.operation.Stamped.{Stamped}
 use Rattle.fts_model.specs.declared.query.Order.{Order}
 use Rattle.fts_model.specs.declared.query.Order.TheVariants.{Rising, Falling}
 use Rattle.fts_model.specs.declared.answer.Hit.{Hit}
 use Rattle.fts_model.specs.Documents.{DocumentValue}
 use Rattle.fts_model.specs.Operations.{HasEachStampOnce}
-use Rattle.fts_model.specs.Answers.{number_cmp, cmp_by, comes_before, put_hit, hits_in, sorted_hits, top, IsTop, number_in_field}
+use Rattle.fts_model.specs.Answers.{cmp_by, comes_before, put_hit, hits_in, sorted_hits, top, IsTop, number_in_field}
 use Rattle.fts_model.specs.Scans.{hit_place}
 use Rattle.fts_model.proofs.AnswerLemmas.{put_hit-insert}
-use Rattle.fts_model.proofs.AliveLemmas.{All-front, All-none, pairs_none, pairs_front, pairs_behind}
-
-number_antisymm : (x y : Number) → number_cmp x y ≡ ordering_reverse (number_cmp y x)
-number_antisymm (U64 n) (U64 m) = nat_cmp_total.antisymm n m
-number_antisymm (U64 n) (I64 m) = refl
-number_antisymm (I64 n) (U64 m) = refl
-number_antisymm (I64 n) (I64 m) = int_cmp_total.antisymm n m
-
-number_trans : (x y z : Number) → number_cmp x y ≡ Less → number_cmp y z ≡ Less → number_cmp x z ≡ Less
-number_trans (U64 n) (U64 m) (U64 k) h l = nat_cmp_total.trans n m k h l
-number_trans (U64 n) (U64 m) (I64 k) h l = refl
-number_trans (U64 n) (I64 m) (U64 k) h l = cc
-number_trans (U64 n) (I64 m) (I64 k) h l = refl
-number_trans (I64 n) (U64 m) z h l = cc
-number_trans (I64 n) (I64 m) (U64 k) h l = cc
-number_trans (I64 n) (I64 m) (I64 k) h l = int_cmp_total.trans n m k h l
-
-number_congr : (x y z : Number) → number_cmp x y ≡ Equal → number_cmp x z ≡ number_cmp y z
-number_congr (U64 n) (U64 m) (U64 k) h = nat_cmp_total.congr n m k h
-number_congr (U64 n) (U64 m) (I64 k) h = refl
-number_congr (U64 n) (I64 m) z h = cc
-number_congr (I64 n) (U64 m) z h = cc
-number_congr (I64 n) (I64 m) (U64 k) h = refl
-number_congr (I64 n) (I64 m) (I64 k) h = int_cmp_total.congr n m k h
-
-number_total : IsTotalOrder number_cmp
-number_total = record { antisymm = number_antisymm; trans = number_trans; congr = number_congr }
+use Rattle.fts_model.proofs.AliveLemmas.{All-front, All-none}
+use Rattle.fts_model.proofs.ListLemmas.{pairs_none, pairs_front, pairs_behind, Contains-cases}
+use Rattle.fts_model.proofs.NumberLemmas.{number_total}
 
 order_total : (order : Order) → IsTotalOrder (cmp_by order)
 order_total Rising = number_total
@@ -224,10 +199,6 @@ top-IsTop k order field hits once =
       first = λ other at out. first_ones order k all other sorted (Contains-permutation found all other moved at) out;
     }
 
-contains_cases : (y : Hit) (ys : List Hit) (z : Hit) → Contains (y ∷ ys) z → (y ≡ z) ⊎ Contains ys z
-contains_cases y ys z (zero, within, e) = inl e
-contains_cases y ys z (suc k, within, e) = inr (k, omega (arith, within), e)
-
 -- a hit is in a list, or behind all of it
 abbrev IsInOrBehind : Order → List Hit → Hit → Type 0
 IsInOrBehind order list hit = Contains list hit ⊎ All (λ member. Before order member hit) list
@@ -237,7 +208,7 @@ head_of order x y ys sorted h =
     ⊎_elim
     (λ (at : Contains (y ∷ ys) x). ⊎_elim (λ (same : y ≡ x). inl same)
     (λ (later : Contains ys x). inr (let P : Hit → Type 0 = Before order y in subst P later.2 (pairs_front (Before order) y ys sorted later.0 x later.1)))
-    (contains_cases y ys x at))
+    (Contains-cases y ys x at))
     (λ (behind : All (λ member. Before order member x) (y ∷ ys)). inr (All-front (λ member. Before order member x) y ys behind))
     h
 
@@ -254,7 +225,7 @@ behind_head order x y ys z same up h =
     (λ (at : Contains (y ∷ ys) z). ⊎_elim
     (λ (here : y ≡ z). let P : Hit → Type 0 = Before order x in
     let self : Before order x x = subst P (sym here ∙ sym same) up in absurd (Before-one_way order x x self self))
-    (λ (later : Contains ys z). inl later) (contains_cases y ys z at))
+    (λ (later : Contains ys z). inl later) (Contains-cases y ys z at))
     (λ (behind : All (λ member. Before order member z) (y ∷ ys)). inr (All-tail (λ member. Before order member z) y ys behind))
     h
 

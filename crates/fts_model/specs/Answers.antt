@@ -1,7 +1,8 @@
 -- What the answer to a query and a request is.
-use Rattle.std.specs.Prelude.{◌≡◌, ℕ, ◌+◌, nat_lt, min, Bool, true, false, List, [], ◌∷◌, length, take, fold, Option, Some, None, if◌then◌else◌, option_map, option_and_then, All, AllPairs, Contains}
-use Rattle.std.specs.Ordering.{nat_cmp, int_cmp, match_ordering}
+use Rattle.std.specs.Prelude.{◌≡◌, ◌↔◌, ℕ, ◌+◌, ◌<◌, nat_lt, min, Bool, true, false, List, [], ◌∷◌, length, take, fold, Option, Some, None, if◌then◌else◌, option_map, option_and_then, count_by, All, AllPairs, Contains}
+use Rattle.std.specs.Ordering.{nat_cmp, int_cmp, match_ordering, is_eq}
 use Rattle.std.specs.List.{filter_map}
+use Rattle.std.specs.Option.{option_map_or}
 use Rattle.std.specs.declared.cmp.Ordering.{Ordering}
 use Rattle.std.specs.declared.cmp.Ordering.TheVariants.{Less, Greater}
 use Rattle.fts_model.specs.declared.schema.Field.{Field}
@@ -53,6 +54,19 @@ count_number (group ∷ groups) n =
 -- each number that a hit has in a field, rising, with the number of hits that have it
 abbrev pub groups : ℕ → List (Stamped DocumentValue) → List (Number × ℕ)
 groups field hits = fold count_number [] (numbers_in field hits)
+
+-- whether a document has this number in a field
+abbrev pub has_number : ℕ → Number → DocumentValue → Bool
+has_number field n document = option_map_or (λ m. is_eq (number_cmp n m)) (number_in_field document field) false
+
+-- how many hits have this number in a field
+abbrev pub hits_with : ℕ → Number → List (Stamped DocumentValue) → ℕ
+hits_with field n hits = count_by (λ hit. has_number field n hit.value) hits
+
+-- the groups: the numbers rise, and one stands there with a count exactly where so many hits have it, and not none
+pub record IsGroups (field : ℕ) (hits : List (Stamped DocumentValue)) (list : List (Number × ℕ)) : Type 0 where
+  pub rising : AllPairs (λ a b. number_cmp a.0 b.0 ≡ Less) list
+  pub counted : (n : Number) (count : ℕ) → Contains list (n, count) ↔ ((count ≡ hits_with field n hits) × (0 < count))
 
 -- a hit with its number in a field, if it has one
 abbrev pub hit_in : ℕ → Stamped DocumentValue → Option Hit

@@ -1,5 +1,5 @@
 -- What operations do to documents.
-use Rattle.std.specs.Prelude.{◌≢◌, ℕ, ◌==◌, Bool, true, false, List, [], ◌∷◌, ◌++◌, Option, Some, None, Result, Ok, Err, if◌then◌else◌, slice_get, map, option_map, AllPairs}
+use Rattle.std.specs.Prelude.{◌≢◌, ℕ, ◌==◌, ◌<◌, ◌&&◌, not, nat_lt, Bool, true, false, List, [], ◌∷◌, ◌++◌, Option, Some, None, Result, Ok, Err, if◌then◌else◌, slice_get, map, option_map, AllPairs}
 use Rattle.std.specs.Ordering.{int_eq}
 use Rattle.std.specs.List.{list_any}
 use Rattle.std.specs.Option.{ok_or, option_map_or}
@@ -103,3 +103,26 @@ adds documents = map (λ d. record { stamp = d.stamp; value = Add d.value }) doc
 -- no stamp stands twice
 abbrev pub HasEachStampOnce : {X : Type 0} → List (Stamped X) → Type 0
 HasEachStampOnce stamped = AllPairs (λ x y. x.stamp ≢ y.stamp) stamped
+
+-- the stamps rise
+abbrev pub StampsRise : {X : Type 0} → List (Stamped X) → Type 0
+StampsRise stamped = AllPairs (λ x y. x.stamp < y.stamp) stamped
+
+-- an operation of a later stamp strikes a document
+abbrev pub strikes_later : List Field → Stamped Op → Stamped DocumentValue → Bool
+strikes_later schema op document = nat_lt document.stamp op.stamp && strikes schema op.value document.value
+
+-- no operation of a later stamp strikes a document
+abbrev pub survives : List Field → List (Stamped Op) → Stamped DocumentValue → Bool
+survives schema ops document = not (list_any (λ op. strikes_later schema op document) ops)
+
+-- the document that an operation adds, if it adds one
+abbrev pub added_by : ℕ → Op → List (Stamped DocumentValue)
+added_by stamp (Add document) = record { stamp = stamp; value = document } ∷ []
+added_by stamp (Delete term) = []
+added_by stamp DeleteAll = []
+
+-- the documents that operations add
+abbrev pub added : List (Stamped Op) → List (Stamped DocumentValue)
+added [] = []
+added (op ∷ ops) = added_by op.stamp op.value ++ added ops

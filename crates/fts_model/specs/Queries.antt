@@ -1,6 +1,6 @@
 -- Which documents a query matches, and what may be asked of those.
-use Rattle.std.specs.Prelude.{ℕ, ◌+◌, ◌==◌, ◌&&◌, ◌||◌, not, nat_lt, nat_le, int_lt, Bool, true, false, List, [], ◌∷◌, length, Option, Some, None, Result, Ok, Err, if◌then◌else◌, All, Contains}
-use Rattle.std.specs.List.{list_any, list_all, range_with_len, filter}
+use Rattle.std.specs.Prelude.{◌≡◌, ℕ, ◌+◌, ◌==◌, ℤ, pos, ◌+ℤ◌, ◌&&◌, ◌||◌, not, nat_lt, nat_le, int_lt, Bool, true, false, List, [], ◌∷◌, Option, Some, None, Result, Ok, Err, if◌then◌else◌, All, Contains}
+use Rattle.std.specs.List.{list_any, list_all, filter}
 use Rattle.std.specs.Option.{option_map_or}
 use Rattle.std.specs.Str.{bytes_eq}
 use Rattle.std.specs.declared.ops.Bound.{Bound}
@@ -25,21 +25,22 @@ use Rattle.fts_model.specs.Documents.{DocumentValue, value_in_field, is_of_kind}
 use Rattle.fts_model.specs.Operations.{has, kind_at, term_fits}
 use Rattle.fts_model.specs.QueryValues.{QueryValue, every, nothing, term, phrase, range, boolean, QueryValues, no_queries, queries}
 
--- a token stands at a position
-abbrev pub stands_at : List (ℕ × List ℕ) → ℕ → List ℕ → Bool
-stands_at ts position token = list_any (λ t. (t.0 == position) && bytes_eq t.1 token) ts
+-- where a member of a pattern is a token, another member is one as far behind it as their offsets are apart
+abbrev pub stands_with : List (ℕ × List ℕ) → ℕ × List ℕ → ℕ × List ℕ → ℕ × List ℕ → Bool
+stands_with ts member token other = list_any (λ t. (t.0 + member.0 == token.0 + other.0) && bytes_eq t.1 other.1) ts
 
--- each member of a pattern stands at its offset from a position
-abbrev pub stands_from : List (ℕ × List ℕ) → List (ℕ × List ℕ) → ℕ → Bool
-stands_from ts pattern position = list_all (λ m. stands_at ts (position + m.0) m.1) pattern
+-- a token is the first member of a pattern, and the others stand with it
+abbrev pub leads : List (ℕ × List ℕ) → ℕ × List ℕ → List (ℕ × List ℕ) → ℕ × List ℕ → Bool
+leads ts first others token = bytes_eq token.1 first.1 && list_all (stands_with ts first token) others
 
--- a phrase stands in a text: its pattern stands from some position, and none is beyond the text's bytes
+-- a phrase stands in a text: some token leads its pattern
 abbrev pub phrase_in : List ℕ → List (ℕ × List ℕ) → Bool
-phrase_in text pattern = list_any (stands_from (tokens text) pattern) (range_with_len 0 (length text + 1))
+phrase_in text [] = true
+phrase_in text (first ∷ others) = list_any (leads (tokens text) first others) (tokens text)
 
--- the same as a relation: for some whole number, each member is a token whose position is that number and the member's offset together
+-- for some whole number, below 0 or not, each member is a token whose position is that number and the member's offset together
 abbrev pub PhraseIn : List ℕ → List (ℕ × List ℕ) → Type 0
-PhraseIn text pattern = (p : ℕ) × All (λ m. Contains (tokens text) (p + m.0, m.1)) pattern
+PhraseIn text pattern = (shift : ℤ) × All (λ m. (position : ℕ) × (pos position ≡ shift +ℤ pos m.0) × Contains (tokens text) (position, m.1)) pattern
 
 -- a value has a phrase
 abbrev pub value_has_phrase : List (ℕ × List ℕ) → FieldValue → Bool

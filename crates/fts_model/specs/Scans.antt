@@ -1,18 +1,11 @@
 -- What the steps of the plain search are.
-use Rattle.std.specs.Prelude.{ℕ, suc, ◌+◌, ◌-◌, ◌&&◌, nat_le, Bool, true, false, List, [], ◌∷◌, if◌then◌else◌, slice_get}
+use Rattle.std.specs.Prelude.{ℕ, suc, ◌+◌, Bool, false, List, [], ◌∷◌, if◌then◌else◌, slice_get}
 use Rattle.std.specs.Ordering.{match_ordering, is_eq}
 use Rattle.std.specs.Option.{option_map_or}
-use Rattle.std.specs.Str.{bytes_eq}
 use Rattle.fts_model.specs.declared.value.Number.{Number}
 use Rattle.fts_model.specs.declared.query.Order.{Order}
 use Rattle.fts_model.specs.declared.answer.Hit.{Hit}
-use Rattle.fts_model.specs.Queries.{stands_from}
 use Rattle.fts_model.specs.Answers.{number_cmp, comes_before}
-
--- a pattern stands so that this token is its first member
-abbrev pub leads : List (ℕ × List ℕ) → List (ℕ × List ℕ) → ℕ × List ℕ → Bool
-leads ts [] t = true
-leads ts (m ∷ ms) t = nat_le m.0 t.0 && (bytes_eq t.1 m.1 && stands_from ts (m ∷ ms) (t.0 - m.0))
 
 -- how many groups are below a number, up to the first that is not
 abbrev pub group_place : List (Number × ℕ) → Number → ℕ

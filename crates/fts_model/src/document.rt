@@ -302,6 +302,3 @@ fn values_fit(schema: &[Field], fields: &[Field], values: &[Option<FieldValue>])
     }
     true
 }
-
-#[cfg(test)]
-mod tests;

@@ -1,14 +1,16 @@
 //! What ties the definitions to each other: each contract is a law, and the body is empty.
-ghost use Rattle.std.specs.Prelude.{◌≡◌, ◌↔◌, ◌++◌, ℕ, List, IsTrue};
+ghost use Rattle.std.specs.Prelude.{◌≡◌, ◌↔◌, ◌++◌, ◌<◌, ℕ, List, false, filter, All, Contains, IsTrue};
 ghost use Rattle.fts_model.specs.declared.schema.Field.{Field};
 ghost use Rattle.fts_model.specs.declared.operation.Op.{Op};
+ghost use Rattle.fts_model.specs.declared.operation.Op.TheVariants.{Add};
 ghost use Rattle.fts_model.specs.declared.operation.Stamped.{Stamped};
-ghost use Rattle.fts_model.specs.Operations.{alive, adds, HasEachStampOnce};
+ghost use Rattle.fts_model.specs.Operations.{alive, adds, added, strikes, survives, HasEachStampOnce, StampsRise};
 ghost use Rattle.fts_model.specs.Queries.{phrase_in, PhraseIn};
-ghost use Rattle.fts_model.specs.Answers.{IsTop, top};
+ghost use Rattle.fts_model.specs.Answers.{IsGroups, groups, IsTop, top};
 ghost use Rattle.fts_model.specs.Documents.{DocumentValue};
 ghost use Rattle.fts_model.specs.declared.answer.Hit.{Hit};
 ghost use Rattle.fts_model.specs.declared.query.Order.{Order};
+ghost use Rattle.fts_model.specs.declared.value.Number.{Number};
 
 /// The documents that are alive after some operations stand for these: with more operations behind, it is alive what would be if the documents alone had been added.
 pub fn alive_stands_for_history()
@@ -20,9 +22,38 @@ pub fn alive_has_each_stamp_once()
     ensures { (schema : List Field) (ops : List (Stamped Op)) → HasEachStampOnce ops → HasEachStampOnce (alive schema ops) }
 {}
 
-/// A phrase stands in a text where each of its members is a token, at its offset from some one position.
-pub fn phrase_stands_at_its_offsets(text: &str)
-    ensures { (pattern : List (ℕ × List ℕ)) → IsTrue (phrase_in text.now pattern) ↔ PhraseIn text.now pattern }
+/// The stamps of the documents alive rise, where those of the operations do.
+pub fn alive_is_in_the_order_of_stamps()
+    ensures { (schema : List Field) (ops : List (Stamped Op)) → StampsRise ops → StampsRise (alive schema ops) }
+{}
+
+/// Where the stamps rise, those documents are alive that are added and not struck by an operation of a later stamp.
+pub fn alive_is_what_survives()
+    ensures { (schema : List Field) (ops : List (Stamped Op)) → StampsRise ops → alive schema ops ≡ filter (survives schema ops) (added ops) }
+{}
+
+/// Where the stamps rise, a document is alive exactly where an operation adds it and none of a later stamp strikes it.
+pub fn each_document_alive_was_added_and_not_struck()
+    ensures { (schema : List Field) (ops : List (Stamped Op)) (document : Stamped DocumentValue) → StampsRise ops →
+        Contains (alive schema ops) document
+        ↔ (Contains ops (record { stamp = document.stamp; value = Add document.value })
+        × All (λ op. document.stamp < op.stamp → strikes schema op.value document.value ≡ false) ops) }
+{}
+
+/// A phrase stands in a text where each of its members is a token, at its offset from some one position, which may be
+/// before the text.
+pub fn phrase_stands_at_its_offsets()
+    ensures { (text : List ℕ) (pattern : List (ℕ × List ℕ)) → IsTrue (phrase_in text pattern) ↔ PhraseIn text pattern }
+{}
+
+/// The groups that are folded hit by hit are the groups.
+pub fn groups_are_groups()
+    ensures { (field : ℕ) (hits : List (Stamped DocumentValue)) → IsGroups field hits (groups field hits) }
+{}
+
+/// There is one list of groups.
+pub fn there_is_one_list_of_groups()
+    ensures { (field : ℕ) (hits : List (Stamped DocumentValue)) (a b : List (Number × ℕ)) → IsGroups field hits a → IsGroups field hits b → a ≡ b }
 {}
 
 /// The first hits that have a number in a field are the top list, where no stamp stands twice among the hits.

@@ -3,8 +3,6 @@
 
 mod answer;
 mod document;
-#[cfg(test)]
-mod fixtures;
 mod ghosts;
 pub mod laws;
 mod operation;

@@ -9,13 +9,10 @@ ghost use Rattle.fts_text.specs.Tokens.{tokens};
 ghost use Rattle.fts_text.specs.Places.{IsPlaceIn, token_at};
 ghost use Rattle.fts_model.specs.Outcomes.{Gives};
 ghost use Rattle.fts_model.specs.QueryValues.{query_value};
-ghost use Rattle.fts_model.specs.Queries.{stands_at as stands_in_text_at, stands_from as stands_in_text_from, phrase_in, value_has_phrase as has_phrase_in_value, number_lt as is_number_lt, number_le as is_number_le, value_lt as is_value_lt, value_le as is_value_le, admits_from as is_admitted_from, admits_to as is_admitted_to, matches as is_match};
-ghost use Rattle.fts_model.specs.Scans.{leads as leads_pattern};
+ghost use Rattle.fts_model.specs.Queries.{stands_with as stands_with_token, leads as leads_pattern, phrase_in, value_has_phrase as has_phrase_in_value, number_lt as is_number_lt, number_le as is_number_le, value_lt as is_value_lt, value_le as is_value_le, admits_from as is_admitted_from, admits_to as is_admitted_to, matches as is_match};
 ghost use Rattle.fts_model.specs.Operations.{has_token as text_has, value_has as has_value, has as has_term, strikes, alive as alive_after};
 
 mod answers;
-#[cfg(test)]
-mod tests;
 
 use crate::document::Document;
 use crate::operation::{Op, Stamped, Term};
@@ -164,95 +161,91 @@ pub fn alive(
     }
 }
 
-/// Whether the token at a place is this one, at its offset from a position.
-fn is_member(
+/// Whether the token at a place is this one, and its position with an offset makes this sum.
+fn is_token_at(
     text: &str,
     place: Token,
-    from: usize,
-    offset: usize,
+    offset: u32,
+    sum: usize,
     token: &str,
     scratch: &mut String,
 ) -> Result<bool, AllocError>
     requires { IsPlaceIn text.now place }
-    ensures { IfOk result (λ same. same ≡ (((token_at text.now place).0 == from + offset) && bytes_eq (token_at text.now place).1 token.now)) }
+    ensures { IfOk result (λ same. same ≡ (((token_at text.now place).0 + offset == sum) && bytes_eq (token_at text.now place).1 token.now)) }
 {
-    if place.position < from || place.position - from != offset {
+    if place.position + offset as usize != sum {
         return Ok(false);
     }
     is_token(text, place, token, scratch)
 }
 
-/// Whether a token stands at its offset from a position.
-fn stands_at(
+/// Whether another member of a pattern is a token, as far behind a member's place as their offsets are apart.
+fn stands_with(
     text: &str,
-    from: usize,
-    offset: usize,
-    token: &str,
+    member: &(u32, Text),
+    place: Token,
+    other: &(u32, Text),
     scratch: &mut String,
 ) -> Result<bool, AllocError>
-    ensures { IfOk result (λ stands. stands ≡ stands_in_text_at (tokens text.now) (from + offset) token.now) }
+    requires { IsPlaceIn text.now place }
+    ensures { IfOk result (λ stands. stands ≡ stands_with_token (tokens text.now) member.now (token_at text.now place) other.now) }
 {
-    for place in Tokens::new(text) {
-        if is_member(text, place, from, offset, token, scratch)? {
+    let sum = place.position + other.0 as usize;
+    for there in Tokens::new(text) {
+        if is_token_at(text, there, member.0, sum, other.1.as_str(), scratch)? {
             return Ok(true);
         }
     }
     Ok(false)
 }
 
-/// Whether each member of a pattern stands at its offset from a position.
-fn stands_from(
+/// Whether the token at a place is the first member of a pattern, and the others stand with it.
+fn leads(
     text: &str,
-    pattern: &[(u32, Text)],
-    from: usize,
+    first: &(u32, Text),
+    others: &[(u32, Text)],
+    place: Token,
     scratch: &mut String,
 ) -> Result<bool, AllocError>
-    ensures { IfOk result (λ stands. stands ≡ stands_in_text_from (tokens text.now) pattern.now from) }
+    requires { IsPlaceIn text.now place }
+    ensures { IfOk result (λ leads. leads ≡ leads_pattern (tokens text.now) first.now others.now (token_at text.now place)) }
 {
-    for (offset, token) in pattern {
-        if !stands_at(text, from, *offset as usize, token.as_str(), scratch)? {
+    if !is_token(text, place, first.1.as_str(), scratch)? {
+        return Ok(false);
+    }
+    for other in others {
+        if !stands_with(text, first, place, other, scratch)? {
             return Ok(false);
         }
     }
     Ok(true)
 }
 
-/// Whether a pattern stands so that the token at a place is its first member.
-fn leads(
+/// Whether some token of a text is the first member of a pattern, and the others stand with it.
+fn any_leads(
     text: &str,
-    pattern: &[(u32, Text)],
-    place: Token,
+    first: &(u32, Text),
+    others: &[(u32, Text)],
     scratch: &mut String,
 ) -> Result<bool, AllocError>
-    requires { IsPlaceIn text.now place }
-    ensures { IfOk result (λ stands. stands ≡ leads_pattern (tokens text.now) pattern.now (token_at text.now place)) }
+    ensures { IfOk result (λ stands. stands ≡ list_any (leads_pattern (tokens text.now) first.now others.now) (tokens text.now)) }
 {
-    let [(offset, token), ..] = pattern else {
-        return Ok(true);
-    };
-    let offset = *offset as usize;
-    if place.position < offset {
-        return Ok(false);
+    for place in Tokens::new(text) {
+        if leads(text, first, others, place, scratch)? {
+            return Ok(true);
+        }
     }
-    if !is_token(text, place, token.as_str(), scratch)? {
-        return Ok(false);
-    }
-    stands_from(text, pattern, place.position - offset, scratch)
+    Ok(false)
 }
 
 /// Whether a phrase stands in a text.
 fn has_phrase(text: &str, pattern: &[(u32, Text)], scratch: &mut String) -> Result<bool, AllocError>
     ensures { IfOk result (λ stands. stands ≡ phrase_in text.now pattern.now) }
 {
-    if pattern.is_empty() {
-        return Ok(true);
+    match pattern {
+        [] => Ok(true),
+        [first, others @ ..] => any_leads(text, first, others, scratch),
     }
-    for place in Tokens::new(text) {
-        if leads(text, pattern, place, scratch)? {
-            return Ok(true);
-        }
-    }
-    Ok(false)
 }
 
 /// Whether a value has a phrase.

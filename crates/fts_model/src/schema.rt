@@ -219,6 +219,3 @@ impl Clone for Schema {
         })
     }
 }
-
-#[cfg(test)]
-mod tests;

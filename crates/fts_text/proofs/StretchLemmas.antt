@@ -1,5 +1,5 @@
 -- Each run stands in its text.
-use Rattle.std.proofs.Common.{◌≡◌, ◌<◌, ◌≤◌, ◌-◌, ℕ, zero, suc, ◌+◌, Bool, true, false, cond, ◌&&◌, List, [], ◌∷◌, ◌++◌, length, take, drop, map, filter, refl, sym, ap, subst, ◌∙◌, arith, inl, inr, get_or, not, nat_lt, length-append, append_assoc}
+use Rattle.std.proofs.Common.{◌≡◌, ◌<◌, ◌≤◌, ◌-◌, ℕ, zero, suc, ◌+◌, Bool, true, false, cond, ◌&&◌, List, [], ◌∷◌, ◌++◌, length, take, drop, map, filter, refl, sym, ap, subst, ◌∙◌, arith, inl, inr, not, nat_lt, length-append, append_assoc}
 use Rattle.std.proofs.Math.Seq.{take-append_seam, drop-append_seam}
 use Rattle.std.proofs.lemmas.Bool.{and_parts, cases_lt}
 use Rattle.std.proofs.lemmas.List.{length-map}
@@ -222,12 +222,6 @@ unfolding places tokens
 tokens-places text utf8 =
     map-map (token_at text) place_of (kept 0 (runs 0 (chars text)))
     ∙ map-same (StandsInBytes text) (λ r. token_at text (place_of r)) (λ r. (r.0, fold_chars (chars_of r.1))) (kept 0 (runs 0 (chars text))) (token_at-from text) (StandsInBytes-all text utf8)
-
--- the token that comes after k others stands in the text
-pub IsPlaceIn-at : (text : List ℕ) → IsUtf8 text → (k : ℕ) (token : Token) → (k < length (places text)) × (token ≡ get_or (places text) k token) → IsPlaceIn text token
-IsPlaceIn-at text utf8 k token at =
-    let P : Token → Type 0 = IsPlaceIn text in
-    subst P (sym at.1) (All-IsPlaceIn text utf8 k token at.0)
 
 length-cond : {X : Type 0} (b : Bool) (x : X) (xs : List X) → (length xs ≤ length (cond b (x ∷ xs) xs)) × (length (cond b (x ∷ xs) xs) ≤ length xs + 1)
 length-cond true x xs = (omega arith, omega arith)

@@ -18,8 +18,6 @@
 mod characters;
 mod folding;
 pub mod laws;
-#[cfg(test)]
-mod tests;
 mod tokenizer;
 
 pub use characters::is_alphanumeric;

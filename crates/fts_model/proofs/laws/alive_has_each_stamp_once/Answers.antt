@@ -1,5 +1,6 @@
-use Rattle.fts_model.proofs.AliveLemmas.{alive-once}
+use Rattle.std.proofs.Common.{◌≢◌}
+use Rattle.fts_model.proofs.AliveLemmas.{alive-pairs}
 use Rattle.fts_model.proofs.laws.alive_has_each_stamp_once.Goals as goal
 
 pub returns : goal.returns
-returns c = alive-once
+returns c = alive-pairs (λ s t. s ≢ t)

@@ -2,4 +2,4 @@ use Rattle.fts_model.proofs.PhraseLemmas.{phrase_in-PhraseIn}
 use Rattle.fts_model.proofs.laws.phrase_stands_at_its_offsets.Goals as goal
 
 pub returns : goal.returns
-returns c = phrase_in-PhraseIn c.args.text.now c.utf8.text
+returns c = phrase_in-PhraseIn

@@ -1,8 +1,7 @@
 use Rattle.std.proofs.Common.{◌≡◌, ◌==◌, Bool, IfOk, length, sym, ap, subst, ◌∙◌}
 use Rattle.std.specs.List.{list_all, list_any}
 use Rattle.fts_model.specs.Queries.{is_nonempty}
-use Rattle.fts_model.proofs.PhraseLemmas.{is_nonempty-length, is_nonempty-none}
-use Rattle.fts_model.proofs.QueryLemmas.{matches_in, matches_at_bool, not_all_must, one_must_not, musts_suffice, shoulds_decide}
+use Rattle.fts_model.proofs.QueryLemmas.{is_nonempty-length, is_nonempty-none, matches_in, matches_at_bool, not_all_must, one_must_not, musts_suffice, shoulds_decide}
 use Rattle.fts_model.proofs.scan.+matches.Goals as goal
 
 pub matches-returns-then-not-branch : goal.matches-returns-then-not-branch

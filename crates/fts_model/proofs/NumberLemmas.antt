@@ -1,0 +1,52 @@
+-- Numbers stand in one order.
+use Rattle.std.proofs.Common.{◌≡◌, refl, ap, ◌∙◌}
+use Rattle.std.specs.Cmp.{IsTotalOrder}
+use Rattle.std.specs.FinMap.{nat_cmp-IsAntisymmetric, int_cmp-IsAntisymmetric}
+use Rattle.std.specs.Ordering.{ordering_reverse}
+use Rattle.std.specs.declared.cmp.Ordering.TheVariants.{Less, Equal, Greater}
+use Rattle.std.proofs.lemmas.Cmp.{nat_cmp_total, int_cmp_total}
+use Rattle.fts_model.specs.declared.value.Number.{Number}
+use Rattle.fts_model.specs.declared.value.Number.TheVariants.{U64, I64}
+use Rattle.fts_model.specs.Answers.{number_cmp}
+
+number_antisymm : (x y : Number) → number_cmp x y ≡ ordering_reverse (number_cmp y x)
+number_antisymm (U64 n) (U64 m) = nat_cmp_total.antisymm n m
+number_antisymm (U64 n) (I64 m) = refl
+number_antisymm (I64 n) (U64 m) = refl
+number_antisymm (I64 n) (I64 m) = int_cmp_total.antisymm n m
+
+number_trans : (x y z : Number) → number_cmp x y ≡ Less → number_cmp y z ≡ Less → number_cmp x z ≡ Less
+number_trans (U64 n) (U64 m) (U64 k) h l = nat_cmp_total.trans n m k h l
+number_trans (U64 n) (U64 m) (I64 k) h l = refl
+number_trans (U64 n) (I64 m) (U64 k) h l = cc
+number_trans (U64 n) (I64 m) (I64 k) h l = refl
+number_trans (I64 n) (U64 m) z h l = cc
+number_trans (I64 n) (I64 m) (U64 k) h l = cc
+number_trans (I64 n) (I64 m) (I64 k) h l = int_cmp_total.trans n m k h l
+
+number_congr : (x y z : Number) → number_cmp x y ≡ Equal → number_cmp x z ≡ number_cmp y z
+number_congr (U64 n) (U64 m) (U64 k) h = nat_cmp_total.congr n m k h
+number_congr (U64 n) (U64 m) (I64 k) h = refl
+number_congr (U64 n) (I64 m) z h = cc
+number_congr (I64 n) (U64 m) z h = cc
+number_congr (I64 n) (I64 m) (U64 k) h = refl
+number_congr (I64 n) (I64 m) (I64 k) h = int_cmp_total.congr n m k h
+
+-- the order of numbers is a total order
+pub number_total : IsTotalOrder number_cmp
+number_total = record { antisymm = number_antisymm; trans = number_trans; congr = number_congr }
+
+-- numbers that compare as equal are one
+pub number_same : (x y : Number) → number_cmp x y ≡ Equal → x ≡ y
+number_same (U64 n) (U64 m) h = ap U64 (nat_cmp-IsAntisymmetric n m h)
+number_same (U64 n) (I64 m) h = cc
+number_same (I64 n) (U64 m) h = cc
+number_same (I64 n) (I64 m) h = ap I64 (int_cmp-IsAntisymmetric n m h)
+
+-- where one number is below another, that one is above it
+pub number_above : (x y : Number) → number_cmp x y ≡ Less → number_cmp y x ≡ Greater
+number_above x y h = number_antisymm y x ∙ ap ordering_reverse h
+
+-- where one number is above another, that one is below it
+pub number_below : (x y : Number) → number_cmp x y ≡ Greater → number_cmp y x ≡ Less
+number_below x y h = number_antisymm y x ∙ ap ordering_reverse h

@@ -1,0 +1,9 @@
+//! What the public calls of the other crates do: each value is compared with one from outside.
+#![tactic(auto)]
+
+#[cfg(test)]
+mod fixtures;
+#[cfg(test)]
+mod model;
+#[cfg(test)]
+mod text;
