@@ -6,8 +6,8 @@ use Rattle.fts_model.specs.declared.schema.Field.{Field}
 use Rattle.fts_model.specs.declared.refusal.Refusal.{Refusal}
 use Rattle.fts_model.specs.declared.refusal.Refusal.TheVariants.{Memory, TooLong, Syntax, TooDeep, UnknownField, BadNumber, RangeOnText, NoDefaultField, AllNegative}
 use Rattle.fts_model.specs.declared.query.Query.{Query}
-use Rattle.fts_query.specs.declared.fault.Fault.{Fault}
-use Rattle.fts_query.specs.declared.fault.Fault.TheVariants as faults
+use Rattle.fts_query.specs.declared.error.QueryError.{QueryError}
+use Rattle.fts_query.specs.declared.error.QueryError.TheVariants as errors
 use Rattle.fts_query.specs.declared.nesting.Place.TheVariants.{Outside}
 use Rattle.fts_model.specs.QueryValues.{QueryValue, nothing, query_value}
 use Rattle.fts_query.specs.Meanings.{Meaning}
@@ -15,13 +15,13 @@ use Rattle.fts_query.specs.Grammar.{is_space}
 use Rattle.fts_query.specs.Outcomes.{is_too_deep}
 use Rattle.fts_query.specs.Reading.{query_of}
 
--- the refusal that a fault is
-abbrev pub refusal_of : Fault → Refusal
-refusal_of faults.UnknownField = UnknownField
-refusal_of faults.BadNumber = BadNumber
-refusal_of faults.RangeOnText = RangeOnText
-refusal_of faults.NoDefaultField = NoDefaultField
-refusal_of faults.AllNegative = AllNegative
+-- the refusal that an error is
+abbrev pub refusal_of : QueryError → Refusal
+refusal_of errors.UnknownField = UnknownField
+refusal_of errors.BadNumber = BadNumber
+refusal_of errors.RangeOnText = RangeOnText
+refusal_of errors.NoDefaultField = NoDefaultField
+refusal_of errors.AllNegative = AllNegative
 
 abbrev pub outcome_of : Meaning → Result QueryValue Refusal
 outcome_of (Ok q) = Ok q
@@ -31,7 +31,7 @@ abbrev pub answer_from : Option Meaning → Result QueryValue Refusal
 answer_from None = Err (Syntax 0)
 answer_from (Some m) = outcome_of m
 
--- the same of the characters of a text that is neither too long nor too deep
+-- the outcome of the characters of a text that is neither too long nor too deep
 abbrev pub answer_fit : List Field → List ℕ → Result QueryValue Refusal
 answer_fit schema text = if list_all is_space text then Ok nothing else answer_from (query_of schema 4096 text)
 
@@ -41,7 +41,7 @@ answer schema text =
     else (if is_too_deep Outside 0 (chars text) then Err TooDeep
     else answer_fit schema (chars text))
 
--- the refusal is the outcome, the byte of a fault of syntax aside, unless memory ran out
+-- the refusal is the outcome, the byte of a syntax error aside, unless memory ran out
 abbrev pub IsRefusal : Refusal → Result QueryValue Refusal → Type 0
 IsRefusal Memory outcome = Unit {0}
 IsRefusal (Syntax byte) outcome = outcome ≡ Err (Syntax 0)

@@ -1,3 +1,4 @@
+pub mod Characters
 pub mod Meanings
 pub mod Grammar
 pub mod Outcomes
@@ -6,4 +7,4 @@ pub mod Answers
 pub mod Steps
 pub mod Values
 pub mod Gathering
-pub mod Parts
+pub mod Sequences

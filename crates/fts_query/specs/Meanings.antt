@@ -15,99 +15,100 @@ use Rattle.fts_model.specs.declared.value.FieldValue.TheVariants as values
 use Rattle.fts_model.specs.Outcomes.{result_and_then, result_map}
 use Rattle.fts_model.specs.Schemas.{field_named, holds_numbers}
 use Rattle.fts_model.specs.Operations.{kind_at}
-use Rattle.fts_query.specs.declared.fault.Fault.{Fault}
-use Rattle.fts_query.specs.declared.fault.Fault.TheVariants.{UnknownField, BadNumber, RangeOnText, NoDefaultField, AllNegative}
-use Rattle.fts_query.specs.declared.clauses.Role.{Role}
-use Rattle.fts_query.specs.declared.clauses.Role.TheVariants.{Must, MustNot, Should}
-use Rattle.fts_query.specs.declared.clauses.Sign.{Sign}
-use Rattle.fts_query.specs.declared.clauses.Sign.TheVariants.{Plain, Plus, Minus}
+use Rattle.fts_query.specs.declared.error.QueryError.{QueryError}
+use Rattle.fts_query.specs.declared.error.QueryError.TheVariants.{UnknownField, BadNumber, RangeOnText, NoDefaultField, AllNegative}
+use Rattle.fts_query.specs.declared.clauses.Occur.{Occur}
+use Rattle.fts_query.specs.declared.clauses.Occur.TheVariants.{Must, MustNot, Should}
+use Rattle.fts_query.specs.declared.clauses.Modifier.{Modifier}
+use Rattle.fts_query.specs.declared.clauses.Modifier.TheVariants.{Plain, Plus, Minus}
+use Rattle.fts_query.specs.Characters.{minus, digit_0, digit_9}
 use Rattle.fts_model.specs.QueryValues.{QueryValue, nothing, term, phrase, range, boolean, query_list}
 
--- what a part of a text means: a query, or the first fault in it
+-- what a part of a text means: a query, or the first error in it
 abbrev pub Meaning : Type 0
-Meaning = Result QueryValue Fault
+Meaning = Result QueryValue QueryError
 
 -- a member of a Boolean node: what it is to the node, and what it means
 abbrev pub Clause : Type 0
-Clause = Role × Meaning
+Clause = Occur × Meaning
 
--- the clauses' queries with their roles, or the first fault
-abbrev pub members : List Clause → Result (List (Role × QueryValue)) Fault
+-- the clauses' queries, each with what it is to the node, or the first error
+abbrev pub members : List Clause → Result (List (Occur × QueryValue)) QueryError
 members [] = Ok []
 members (c ∷ cs) = result_and_then (λ q. result_map (λ qs. (c.0, q) ∷ qs) (members cs)) c.1
 
-abbrev pub musts : List (Role × QueryValue) → List QueryValue
+abbrev pub musts : List (Occur × QueryValue) → List QueryValue
 musts [] = []
 musts ((Must, q) ∷ cs) = q ∷ musts cs
 musts ((MustNot, q) ∷ cs) = musts cs
 musts ((Should, q) ∷ cs) = musts cs
 
-abbrev pub must_nots : List (Role × QueryValue) → List QueryValue
+abbrev pub must_nots : List (Occur × QueryValue) → List QueryValue
 must_nots [] = []
 must_nots ((Must, q) ∷ cs) = must_nots cs
 must_nots ((MustNot, q) ∷ cs) = q ∷ must_nots cs
 must_nots ((Should, q) ∷ cs) = must_nots cs
 
-abbrev pub shoulds : List (Role × QueryValue) → List QueryValue
+abbrev pub shoulds : List (Occur × QueryValue) → List QueryValue
 shoulds [] = []
 shoulds ((Must, q) ∷ cs) = shoulds cs
 shoulds ((MustNot, q) ∷ cs) = shoulds cs
 shoulds ((Should, q) ∷ cs) = q ∷ shoulds cs
 
--- must-nots alone are a fault
+-- must-nots alone are an error
 abbrev pub boolean_of : List QueryValue → List QueryValue → List QueryValue → Meaning
 boolean_of [] ns [] = Err AllNegative
 boolean_of [] ns (q ∷ ss) = Ok (boolean (query_list []) (query_list ns) (query_list (q ∷ ss)))
 boolean_of (q ∷ ms) ns ss = Ok (boolean (query_list (q ∷ ms)) (query_list ns) (query_list ss))
 
--- a Boolean node of clauses; its own fault comes after those of its members
+-- a Boolean node of clauses; its own error comes after those of its members
 unfoldable pub node : List Clause → Meaning
 node cs = result_and_then (λ qs. boolean_of (musts qs) (must_nots qs) (shoulds qs)) (members cs)
 
 -- a unit, and what stands before it
 abbrev pub Factor : Type 0
-Factor = Sign × Meaning
+Factor = Modifier × Meaning
 
-abbrev pub role_in_conjunction : Sign → Role
-role_in_conjunction Plain = Must
-role_in_conjunction Plus = Must
-role_in_conjunction Minus = MustNot
+abbrev pub occur_in_conjunction : Modifier → Occur
+occur_in_conjunction Plain = Must
+occur_in_conjunction Plus = Must
+occur_in_conjunction Minus = MustNot
 
-abbrev pub role_alone : Sign → Role
-role_alone Plain = Should
-role_alone Plus = Must
-role_alone Minus = MustNot
+abbrev pub occur_alone : Modifier → Occur
+occur_alone Plain = Should
+occur_alone Plus = Must
+occur_alone Minus = MustNot
 
 -- factors with AND between them
 abbrev pub conjunction : List Factor → Meaning
-conjunction fs = node (map (λ f. (role_in_conjunction f.0, f.1)) fs)
+conjunction fs = node (map (λ f. (occur_in_conjunction f.0, f.1)) fs)
 
 -- conjunctions with OR between them: a should for each
 abbrev pub disjunction : List (List Factor) → Meaning
 disjunction fss = node (map (λ fs. (Should, conjunction fs)) fss)
 
--- what a chain is to its list: a factor alone goes by its sign, and every longer chain is a should
-unfoldable pub chain_clause : List (List Factor) → Clause
-chain_clause [] = (Should, disjunction [])
-chain_clause ([] ∷ []) = (Should, conjunction [])
-chain_clause ((f ∷ []) ∷ []) = (role_alone f.0, f.1)
-chain_clause ((f ∷ g ∷ fs) ∷ []) = (Should, conjunction (f ∷ g ∷ fs))
-chain_clause (c ∷ d ∷ cs) = (Should, disjunction (c ∷ d ∷ cs))
+-- what a disjunction is to its list: a factor alone goes by its modifier, and every longer disjunction is a should
+unfoldable pub disjunction_clause : List (List Factor) → Clause
+disjunction_clause [] = (Should, disjunction [])
+disjunction_clause ([] ∷ []) = (Should, conjunction [])
+disjunction_clause ((f ∷ []) ∷ []) = (occur_alone f.0, f.1)
+disjunction_clause ((f ∷ g ∷ fs) ∷ []) = (Should, conjunction (f ∷ g ∷ fs))
+disjunction_clause (c ∷ d ∷ cs) = (Should, disjunction (c ∷ d ∷ cs))
 
--- chains with white space between them
+-- disjunctions with white space between them
 unfoldable pub list_meaning : List (List (List Factor)) → Meaning
-list_meaning chains = node (map chain_clause chains)
+list_meaning disjunctions = node (map disjunction_clause disjunctions)
 
 abbrev pub is_digit : ℕ → Bool
-is_digit b = nat_le 48 b && nat_le b 57
+is_digit b = nat_le digit_0 b && nat_le b digit_9
 
--- the number that digits are, behind others
-abbrev pub decimal_behind : ℕ → List ℕ → ℕ
-decimal_behind n [] = n
-decimal_behind n (b ∷ bs) = decimal_behind (n * 10 + (b - 48)) bs
+-- the number that digits are, after others
+abbrev pub decimal_after : ℕ → List ℕ → ℕ
+decimal_after n [] = n
+decimal_after n (b ∷ bs) = decimal_after (n * 10 + (b - digit_0)) bs
 
 abbrev pub decimal : List ℕ → ℕ
-decimal digits = decimal_behind 0 digits
+decimal digits = decimal_after 0 digits
 
 -- one or more digits
 abbrev pub are_digits : List ℕ → Bool
@@ -120,7 +121,7 @@ number_below limit text = if are_digits text && nat_lt (decimal text) limit then
 
 abbrev pub begins_minus : List ℕ → Bool
 begins_minus [] = false
-begins_minus (b ∷ bs) = b == 45
+begins_minus (b ∷ bs) = b == minus
 
 -- the number that a text is in a field of this kind
 abbrev pub number_in : Kind → List ℕ → Option Number
@@ -132,7 +133,7 @@ number_in kinds.I64 text =
     else option_map (λ n. numbers.I64 (pos n)) (number_below (2 ^ 63) text)
 
 -- the value of a number field that a text is
-abbrev pub value_in : Kind → List ℕ → Result FieldValue Fault
+abbrev pub value_in : Kind → List ℕ → Result FieldValue QueryError
 value_in kind text = option_map_or (λ n. Ok (values.Number n)) (number_in kind text) (Err BadNumber)
 
 -- the documents with a value in a field
@@ -147,17 +148,17 @@ with_tokens field (t ∷ u ∷ ts) = phrase field (map (λ x. (x.0 - t.0, x.1)) 
 
 -- a word or a quoted text in a field of this kind
 abbrev pub literal_in : ℕ → Kind → List ℕ → Meaning
-literal_in field kinds.Text said = Ok (with_tokens field (tokens said))
-literal_in field kinds.Keyword said = Ok (with_value field (values.Text said))
-literal_in field kinds.U64 said = result_map (with_value field) (value_in kinds.U64 said)
-literal_in field kinds.I64 said = result_map (with_value field) (value_in kinds.I64 said)
+literal_in field kinds.Text text = Ok (with_tokens field (tokens text))
+literal_in field kinds.Keyword text = Ok (with_value field (values.Text text))
+literal_in field kinds.U64 text = result_map (with_value field) (value_in kinds.U64 text)
+literal_in field kinds.I64 text = result_map (with_value field) (value_in kinds.I64 text)
 
 -- the default fields, in their order, the first of which has this number: a should in each
 abbrev pub default_clauses : ℕ → List Field → List ℕ → List Clause
-default_clauses i [] said = []
-default_clauses i (field ∷ fields) said =
-    if field.default then (Should, literal_in i field.kind said) ∷ default_clauses (i + 1) fields said
-    else default_clauses (i + 1) fields said
+default_clauses i [] text = []
+default_clauses i (field ∷ fields) text =
+    if field.default then (Should, literal_in i field.kind text) ∷ default_clauses (i + 1) fields text
+    else default_clauses (i + 1) fields text
 
 -- a node of the default fields, if there is one
 abbrev pub some_default : List Clause → Meaning
@@ -166,22 +167,22 @@ some_default (c ∷ cs) = node (c ∷ cs)
 
 -- a literal without a field
 unfoldable pub literal_anywhere : List Field → List ℕ → Meaning
-literal_anywhere schema said = some_default (default_clauses 0 schema said)
+literal_anywhere schema text = some_default (default_clauses 0 schema text)
 
 -- a bound in a number field
-abbrev pub bound_in : Kind → Bound (List ℕ) → Result (Bound FieldValue) Fault
+abbrev pub bound_in : Kind → Bound (List ℕ) → Result (Bound FieldValue) QueryError
 bound_in kind (Included text) = result_map Included (value_in kind text)
 bound_in kind (Excluded text) = result_map Excluded (value_in kind text)
 bound_in kind Unbounded = Ok Unbounded
 
--- what may stand behind a field: a literal, or bounds
+-- what may stand after a field: a literal, or bounds
 pub data Value : Type 0 where
   literal : List ℕ → Value
   between : Bound (List ℕ) → Bound (List ℕ) → Value
 
--- the same in the field of this number and kind
+-- what that means in the field of this number and kind
 abbrev pub meaning_in : ℕ → Kind → Value → Meaning
-meaning_in field kind (literal said) = literal_in field kind said
+meaning_in field kind (literal text) = literal_in field kind text
 meaning_in field kind (between lower upper) =
     if holds_numbers kind then result_and_then (λ low. result_map (range field low) (bound_in kind upper)) (bound_in kind lower)
     else Err RangeOnText
@@ -189,6 +190,6 @@ meaning_in field kind (between lower upper) =
 abbrev pub meaning_at : List Field → Value → ℕ → Meaning
 meaning_at schema value field = option_map_or (λ kind. meaning_in field kind value) (kind_at schema field) (Err UnknownField)
 
--- a field, by its name, and what stands behind it
+-- a field, by its name, and what stands after it
 unfoldable pub field_meaning : List Field → List ℕ → Value → Meaning
 field_meaning schema name value = option_map_or (meaning_at schema value) (field_named name schema) (Err UnknownField)

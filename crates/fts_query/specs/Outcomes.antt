@@ -4,10 +4,11 @@ use Rattle.std.specs.Str.{chars}
 use Rattle.fts_model.specs.declared.schema.Field.{Field}
 use Rattle.fts_model.specs.declared.refusal.Refusal.{Refusal}
 use Rattle.fts_model.specs.declared.refusal.Refusal.TheVariants.{TooLong, Syntax, TooDeep, UnknownField, BadNumber, RangeOnText, NoDefaultField, AllNegative}
-use Rattle.fts_query.specs.declared.fault.Fault.TheVariants as faults
+use Rattle.fts_query.specs.declared.error.QueryError.TheVariants as errors
 use Rattle.fts_query.specs.declared.nesting.Place.{Place}
 use Rattle.fts_query.specs.declared.nesting.Place.TheVariants.{Outside, Quoted, Escaped}
 use Rattle.fts_model.specs.QueryValues.{QueryValue, nothing}
+use Rattle.fts_query.specs.Characters.{quote, open_parenthesis, close_parenthesis, backslash}
 use Rattle.fts_query.specs.Meanings.{Meaning}
 use Rattle.fts_query.specs.Grammar.{IsBlank, IsQuery}
 
@@ -15,13 +16,13 @@ use Rattle.fts_query.specs.Grammar.{IsBlank, IsQuery}
 unfoldable pub is_too_deep : Place → ℕ → List ℕ → Bool
 is_too_deep place depth [] = false
 is_too_deep Outside depth (c ∷ cs) =
-    if c == 34 then is_too_deep Quoted depth cs
-    else (if c == 40 then (if nat_lt 31 depth then true else is_too_deep Outside (depth + 1) cs)
-    else (if c == 41 then is_too_deep Outside (depth - 1) cs
+    if c == quote then is_too_deep Quoted depth cs
+    else (if c == open_parenthesis then (if nat_lt 31 depth then true else is_too_deep Outside (depth + 1) cs)
+    else (if c == close_parenthesis then is_too_deep Outside (depth - 1) cs
     else is_too_deep Outside depth cs))
 is_too_deep Quoted depth (c ∷ cs) =
-    if c == 34 then is_too_deep Outside depth cs
-    else (if c == 92 then is_too_deep Escaped depth cs
+    if c == quote then is_too_deep Outside depth cs
+    else (if c == backslash then is_too_deep Escaped depth cs
     else is_too_deep Quoted depth cs)
 is_too_deep Escaped depth (c ∷ cs) = is_too_deep Quoted depth cs
 
@@ -40,11 +41,11 @@ Reads schema text (Ok query) = IsFit text × (IsNothing text query ⊎ IsQuery s
 Reads schema text (Err TooLong) = 4096 < length text
 Reads schema text (Err TooDeep) = (length text ≤ 4096) × (is_too_deep Outside 0 (chars text) ≡ true)
 Reads schema text (Err (Syntax byte)) = IsFit text × (IsBlank (chars text) → ⊥) × ((m : Meaning) → IsQuery schema (chars text) m → ⊥)
-Reads schema text (Err UnknownField) = IsFit text × IsQuery schema (chars text) (Err faults.UnknownField)
-Reads schema text (Err BadNumber) = IsFit text × IsQuery schema (chars text) (Err faults.BadNumber)
-Reads schema text (Err RangeOnText) = IsFit text × IsQuery schema (chars text) (Err faults.RangeOnText)
-Reads schema text (Err NoDefaultField) = IsFit text × IsQuery schema (chars text) (Err faults.NoDefaultField)
-Reads schema text (Err AllNegative) = IsFit text × IsQuery schema (chars text) (Err faults.AllNegative)
+Reads schema text (Err UnknownField) = IsFit text × IsQuery schema (chars text) (Err errors.UnknownField)
+Reads schema text (Err BadNumber) = IsFit text × IsQuery schema (chars text) (Err errors.BadNumber)
+Reads schema text (Err RangeOnText) = IsFit text × IsQuery schema (chars text) (Err errors.RangeOnText)
+Reads schema text (Err NoDefaultField) = IsFit text × IsQuery schema (chars text) (Err errors.NoDefaultField)
+Reads schema text (Err AllNegative) = IsFit text × IsQuery schema (chars text) (Err errors.AllNegative)
 Reads schema text (Err refusal) = ⊥
 
 -- the byte that a refusal names, or 0
@@ -52,7 +53,7 @@ abbrev pub byte_of : Refusal → ℕ
 byte_of (Syntax byte) = byte
 byte_of refusal = 0
 
--- a refusal and an outcome, the byte of a fault of syntax aside
+-- a refusal and an outcome, the byte of a syntax error aside
 abbrev pub refusal_without_byte : Refusal → Refusal
 refusal_without_byte (Syntax byte) = Syntax 0
 refusal_without_byte refusal = refusal

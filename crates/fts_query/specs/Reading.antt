@@ -1,18 +1,25 @@
 -- Reading from left to right: what stands at the front of a text, and what follows it.
-use Rattle.std.specs.Prelude.{ℕ, zero, suc, Bool, true, false, not, ◌&&◌, ◌||◌, ◌==◌, List, [], ◌∷◌, codes, Option, Some, None, Ok, if◌then◌else◌}
+--
+-- The code finds exactly what is said here, and the proofs tie it to the grammar. No public contract of this crate names it.
+use Rattle.std.specs.Prelude.{ℕ, zero, suc, Bool, true, false, not, ◌&&◌, ◌||◌, ◌==◌, List, [], ◌∷◌, length, codes, Option, Some, None, option_and_then, Ok, if◌then◌else◌}
 use Rattle.std.specs.Str.{encode_utf8_all, bytes_eq}
 use Rattle.std.specs.declared.ops.Bound.TheVariants.{Unbounded}
 use Rattle.std.specs.declared.ops.Bound.{Bound}
 use Rattle.fts_model.specs.declared.schema.Field.{Field}
 use Rattle.fts_model.specs.Schemas.{is_reserved}
-use Rattle.fts_query.specs.declared.clauses.Sign.{Sign}
-use Rattle.fts_query.specs.declared.clauses.Sign.TheVariants.{Plain, Plus, Minus}
+use Rattle.fts_query.specs.declared.clauses.Modifier.{Modifier}
+use Rattle.fts_query.specs.declared.clauses.Modifier.TheVariants.{Plain, Plus, Minus}
 use Rattle.fts_model.specs.QueryValues.{every}
+use Rattle.fts_query.specs.Characters.{quote, open_parenthesis, close_parenthesis, star, plus, minus, colon, less_than, equals, greater_than, open_bracket, backslash, close_bracket, open_brace, close_brace}
 use Rattle.fts_query.specs.Meanings.{Meaning, Factor, Value, literal, between, list_meaning, literal_anywhere, field_meaning}
 use Rattle.fts_query.specs.Grammar.{is_space, is_word_char, bound}
 
+-- what was read, and what follows it
+abbrev pub Read : Type 0 → Type 0
+Read A = A × List ℕ
+
 abbrev pub Parser : Type 0 → Type 0
-Parser A = List ℕ → Option (A × List ℕ)
+Parser A = List ℕ → Option (Read A)
 
 -- the text without the white space at its front
 unfoldable pub skip : List ℕ → List ℕ
@@ -38,7 +45,7 @@ begins_space (c ∷ s) = is_space c
 
 abbrev pub closes : List ℕ → Bool
 closes [] = true
-closes (c ∷ s) = c == 41
+closes (c ∷ s) = c == close_parenthesis
 
 -- what follows a separator
 unfoldable pub space_at : List ℕ → Option (List ℕ)
@@ -51,44 +58,40 @@ abbrev pub onto : {A : Type 0} → A → Option (List A × List ℕ) → Option 
 onto x None = None
 onto x (Some y) = Some (x ∷ y.0, y.1)
 
-abbrev pub bind : {A B : Type 0} → Option A → (A → Option B) → Option B
-bind None f = None
-bind (Some x) f = f x
-
--- after an item: the next ones, where a separator stands
-abbrev pub go_on : {A : Type 0} → Option (List ℕ) → A → List ℕ → (List ℕ → Option (List A × List ℕ)) → Option (List A × List ℕ)
-go_on None x rest next = Some (x ∷ [], rest)
-go_on (Some t) x rest next = onto x (next t)
+-- what is found behind a separator, or nothing more where there is none
+abbrev pub follow : {A : Type 0} → Option (List ℕ) → List ℕ → Parser (List A) → Option (List A × List ℕ)
+follow None rest next = Some ([], rest)
+follow (Some t) rest next = next t
 
 -- items with separators, n at most
 unfoldable pub seq_by : {A : Type 0} → ℕ → (List ℕ → Option (List ℕ)) → Parser A → Parser (List A)
-seq_by zero sep item s = None
-seq_by (suc n) sep item s = bind (item s) (λ x. go_on (sep x.1) x.0 x.1 (λ t. seq_by n sep item t))
+seq_by {A} zero sep item s = None
+seq_by {A} (suc n) sep item s = option_and_then (λ (x : Read A). onto x.0 (follow (sep x.1) x.1 (λ t. seq_by n sep item t))) (item s)
 
-abbrev pub signed : Sign → Option (Meaning × List ℕ) → Option (Factor × List ℕ)
-signed sign None = None
-signed sign (Some x) = Some ((sign, x.0), x.1)
+-- `NOT` and white space, behind `NOT`
+abbrev pub negation_of : Parser Modifier
+negation_of t = if begins_space t then Some (Minus, skip t) else None
 
--- behind NOT
-unfoldable pub negated_of : Parser Meaning → Parser Factor
-negated_of unit t = if begins_space t then signed Minus (unit (skip t)) else None
+unfoldable pub modifier_of : Parser Modifier
+modifier_of [] = None
+modifier_of (c ∷ s) =
+    if c == plus then Some (Plus, s)
+    else (if c == minus then Some (Minus, s)
+    else (if bytes_eq (word (c ∷ s)) (codes "NOT") then negation_of (past (c ∷ s))
+    else Some (Plain, c ∷ s)))
 
+-- a modifier, then a unit
 unfoldable pub factor_of : Parser Meaning → Parser Factor
-factor_of unit [] = None
-factor_of unit (c ∷ s) =
-    if c == 43 then signed Plus (unit s)
-    else (if c == 45 then signed Minus (unit s)
-    else (if bytes_eq (word (c ∷ s)) (codes "NOT") then negated_of unit (past (c ∷ s))
-    else signed Plain (unit (c ∷ s))))
+factor_of unit s = option_and_then (λ (m : Read Modifier). option_and_then (λ (u : Read Meaning). Some ((m.0, u.0), u.1)) (unit m.1)) (modifier_of s)
 
 unfoldable pub conjunction_of : Parser Meaning → Parser (List Factor)
-conjunction_of unit s = seq_by 4096 (operator_at (codes "AND")) (factor_of unit) s
+conjunction_of unit s = seq_by (suc (length s)) (operator_at (codes "AND")) (factor_of unit) s
 
-unfoldable pub chain_of : Parser Meaning → Parser (List (List Factor))
-chain_of unit s = seq_by 4096 (operator_at (codes "OR")) (conjunction_of unit) s
+unfoldable pub disjunction_of : Parser Meaning → Parser (List (List Factor))
+disjunction_of unit s = seq_by (suc (length s)) (operator_at (codes "OR")) (conjunction_of unit) s
 
 unfoldable pub list_of : Parser Meaning → Parser (List (List (List Factor)))
-list_of unit s = seq_by 4096 space_at (chain_of unit) s
+list_of unit s = seq_by (suc (length s)) space_at (disjunction_of unit) s
 
 -- what was read, seen by a function
 abbrev pub over : {A B : Type 0} → (A → B) → Option (A × List ℕ) → Option (B × List ℕ)
@@ -102,32 +105,32 @@ meaning_of unit s = over list_meaning (list_of unit s)
 -- behind a list in parentheses
 abbrev pub close : Meaning → Parser Meaning
 close m [] = None
-close m (c ∷ s) = if c == 41 then Some (m, s) else None
+close m (c ∷ s) = if c == close_parenthesis then Some (m, s) else None
 
 -- behind an opening parenthesis
 unfoldable pub group_of : Parser Meaning → Parser Meaning
-group_of unit s = bind (meaning_of unit (skip s)) (λ x. close x.0 (skip x.1))
+group_of unit s = option_and_then (λ (x : Read Meaning). close x.0 (skip x.1)) (meaning_of unit (skip s))
 
 abbrev pub char_onto : ℕ → Option (List ℕ × List ℕ) → Option (List ℕ × List ℕ)
 char_onto c None = None
 char_onto c (Some x) = Some (c ∷ x.0, x.1)
 
--- behind an opening quote, or behind an escape: what the pieces say, up to the closing quote
-unfoldable pub said : Bool → List ℕ → Option (List ℕ × List ℕ)
-said escaped [] = None
-said false (c ∷ s) =
-    if c == 34 then Some ([], s)
-    else (if c == 92 then said true s
-    else char_onto c (said false s))
-said true (c ∷ s) = if c == 34 || c == 92 then char_onto c (said false s) else None
+-- behind an opening quote, or behind an escape: the text of the pieces up to the closing quote
+unfoldable pub unquoted : Bool → List ℕ → Option (List ℕ × List ℕ)
+unquoted escaped [] = None
+unquoted false (c ∷ s) =
+    if c == quote then Some ([], s)
+    else (if c == backslash then unquoted true s
+    else char_onto c (unquoted false s))
+unquoted true (c ∷ s) = if c == quote || c == backslash then char_onto c (unquoted false s) else None
 
--- the same in bytes
+-- a text that was read, in bytes
 abbrev pub in_bytes : Option (List ℕ × List ℕ) → Option (List ℕ × List ℕ)
 in_bytes None = None
 in_bytes (Some x) = Some (encode_utf8_all x.0, x.1)
 
 unfoldable pub quoted_of : Parser (List ℕ)
-quoted_of s = in_bytes (said false s)
+quoted_of s = in_bytes (unquoted false s)
 
 -- a word, which may not be empty
 unfoldable pub word_of : Parser (List ℕ)
@@ -136,75 +139,80 @@ word_of (c ∷ s) = if is_word_char c then Some (word (c ∷ s), past (c ∷ s))
 
 unfoldable pub bound_of : Parser (Option (List ℕ))
 bound_of [] = None
-bound_of (c ∷ s) = if c == 42 then Some (None, s) else bind (word_of (c ∷ s)) (λ x. Some (Some x.0, x.1))
+bound_of (c ∷ s) = if c == star then Some (None, s) else option_and_then (λ (x : Read (List ℕ)). Some (Some x.0, x.1)) (word_of (c ∷ s))
 
 -- behind the upper bound of a range
 unfoldable pub range_end : Bound (List ℕ) → Option (List ℕ) → Parser Value
 range_end low high [] = None
 range_end low high (c ∷ s) =
-    if c == 93 then Some (between low (bound true high), s)
-    else (if c == 125 then Some (between low (bound false high), s) else None)
+    if c == close_bracket then Some (between low (bound true high), s)
+    else (if c == close_brace then Some (between low (bound false high), s) else None)
 
 unfoldable pub range_of : Bool → Parser Value
-range_of i s = bind (bound_of (skip s)) (λ x. bind (operator_at (codes "TO") x.1) (λ t. bind (bound_of t) (λ y. range_end (bound i x.0) y.0 (skip y.1))))
+range_of i s =
+    option_and_then (λ (x : Read (Option (List ℕ))).
+      option_and_then (λ (t : List ℕ).
+        option_and_then (λ (y : Read (Option (List ℕ))). range_end (bound i x.0) y.0 (skip y.1)) (bound_of t))
+      (operator_at (codes "TO") x.1))
+    (bound_of (skip s))
 
 -- behind a mark: the word behind it, and whether `=` stands between
 unfoldable pub compared_of : Parser (Bool × List ℕ)
 compared_of [] = None
 compared_of (c ∷ s) =
-    if c == 61 then bind (word_of s) (λ x. Some ((true, x.0), x.1))
-    else bind (word_of (c ∷ s)) (λ x. Some ((false, x.0), x.1))
+    if c == equals then option_and_then (λ (x : Read (List ℕ)). Some ((true, x.0), x.1)) (word_of s)
+    else option_and_then (λ (x : Read (List ℕ)). Some ((false, x.0), x.1)) (word_of (c ∷ s))
 
 unfoldable pub above_of : Parser Value
-above_of s = bind (compared_of s) (λ x. Some (between (bound x.0.0 (Some x.0.1)) Unbounded, x.1))
+above_of s = option_and_then (λ (x : Read (Bool × List ℕ)). Some (between (bound x.0.0 (Some x.0.1)) Unbounded, x.1)) (compared_of s)
 
 unfoldable pub below_of : Parser Value
-below_of s = bind (compared_of s) (λ x. Some (between Unbounded (bound x.0.0 (Some x.0.1)), x.1))
+below_of s = option_and_then (λ (x : Read (Bool × List ℕ)). Some (between Unbounded (bound x.0.0 (Some x.0.1)), x.1)) (compared_of s)
 
-unfoldable pub said_of : Parser Value
-said_of s = bind (quoted_of s) (λ x. Some (literal x.0, x.1))
+unfoldable pub quoted_value_of : Parser Value
+quoted_value_of s = option_and_then (λ (x : Read (List ℕ)). Some (literal x.0, x.1)) (quoted_of s)
 
 unfoldable pub plain_of : Parser Value
-plain_of s = bind (word_of s) (λ x. Some (literal x.0, x.1))
+plain_of s = option_and_then (λ (x : Read (List ℕ)). Some (literal x.0, x.1)) (word_of s)
 
 -- behind a field and a colon
 unfoldable pub value_of : Parser Value
 value_of [] = None
 value_of (c ∷ s) =
-    if c == 34 then said_of s
-    else (if c == 91 then range_of true s
-    else (if c == 123 then range_of false s
-    else (if c == 62 then above_of s
-    else (if c == 60 then below_of s
+    if c == quote then quoted_value_of s
+    else (if c == open_bracket then range_of true s
+    else (if c == open_brace then range_of false s
+    else (if c == greater_than then above_of s
+    else (if c == less_than then below_of s
     else plain_of (c ∷ s)))))
 
 -- behind a bare word
-unfoldable pub behind_bare : List Field → List ℕ → Parser Meaning
-behind_bare schema w [] = Some (literal_anywhere schema w, [])
-behind_bare schema w (c ∷ s) =
-    if c == 58 then bind (value_of s) (λ v. Some (field_meaning schema w v.0, v.1))
+unfoldable pub after_bare : List Field → List ℕ → Parser Meaning
+after_bare schema w [] = Some (literal_anywhere schema w, [])
+after_bare schema w (c ∷ s) =
+    if c == colon then option_and_then (λ (v : Read Value). Some (field_meaning schema w v.0, v.1)) (value_of s)
     else Some (literal_anywhere schema w, c ∷ s)
 
 -- whether a character begins no bare word
-abbrev pub is_sign : ℕ → Bool
-is_sign c = c == 43 || c == 45
+abbrev pub begins_modifier : ℕ → Bool
+begins_modifier c = c == plus || c == minus
 
 unfoldable pub bare_of : List Field → Parser Meaning
 bare_of schema [] = None
 bare_of schema (c ∷ s) =
-    if is_word_char c && not (is_sign c) && not (is_reserved (word (c ∷ s))) then behind_bare schema (word (c ∷ s)) (past (c ∷ s)) else None
+    if is_word_char c && not (begins_modifier c) && not (is_reserved (word (c ∷ s))) then after_bare schema (word (c ∷ s)) (past (c ∷ s)) else None
 
 -- behind an opening quote
-unfoldable pub quote_of : List Field → Parser Meaning
-quote_of schema s = bind (quoted_of s) (λ x. Some (literal_anywhere schema x.0, x.1))
+unfoldable pub quoted_literal_of : List Field → Parser Meaning
+quoted_literal_of schema s = option_and_then (λ (x : Read (List ℕ)). Some (literal_anywhere schema x.0, x.1)) (quoted_of s)
 
 -- a unit, whose inner units are read by unit
 unfoldable pub unit_by : List Field → Parser Meaning → Parser Meaning
 unit_by schema unit [] = None
 unit_by schema unit (c ∷ s) =
-    if c == 40 then group_of unit s
-    else (if c == 42 then Some (Ok every, s)
-    else (if c == 34 then quote_of schema s
+    if c == open_parenthesis then group_of unit s
+    else (if c == star then Some (Ok every, s)
+    else (if c == quote then quoted_literal_of schema s
     else bare_of schema (c ∷ s)))
 
 -- a unit of at most d nestings
@@ -218,4 +226,4 @@ ended m (c ∷ s) = None
 
 -- a whole text
 unfoldable pub query_of : List Field → ℕ → List ℕ → Option Meaning
-query_of schema d s = bind (meaning_of (unit_of schema d) (skip s)) (λ x. ended x.0 (skip x.1))
+query_of schema d s = option_and_then (λ (x : Read Meaning). ended x.0 (skip x.1)) (meaning_of (unit_of schema d) (skip s))

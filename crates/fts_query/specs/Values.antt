@@ -1,4 +1,6 @@
--- What stands behind a field, without where it lies in memory.
+-- What stands after a field, without where it lies in memory.
+--
+-- Only proofs and contracts within the crate need this file.
 use Rattle.std.specs.Prelude.{ℕ, ◌≤◌, List, length}
 use Rattle.std.specs.String.{string_bytes}
 use Rattle.std.specs.declared.ops.Bound.{Bound}
@@ -15,10 +17,10 @@ bound_seen Unbounded = Unbounded
 
 abbrev pub value_seen : CodeValue → Value
 value_seen (values.Word word) = literal word.now
-value_seen (values.Quoted said) = literal (string_bytes said)
+value_seen (values.Quoted text) = literal (string_bytes text)
 value_seen (values.Range lower upper) = between (bound_seen lower) (bound_seen upper)
 
 -- a literal that is no longer than a query
 abbrev pub IsShort : Value → Type 0
-IsShort (literal said) = length said ≤ 4096
+IsShort (literal text) = length text ≤ 4096
 IsShort (between lower upper) = Unit {0}

@@ -1,17 +1,17 @@
 // A Boolean node while its clauses are read.
 ghost use Rattle.std.specs.Prelude.{◌≡◌};
-ghost use Rattle.fts_query.specs.Meanings.{role_in_conjunction as conjunction_role, role_alone as lone_role};
+ghost use Rattle.fts_query.specs.Meanings.{occur_in_conjunction, occur_alone};
 
-use crate::fault::Fault;
+use crate::error::QueryError;
 use fts_model::Query;
 use std::alloc::{AllocError, Global};
 
-/// A query, or the first fault in it.
-pub(crate) type Meaning = Result<Query, Fault>;
+/// A query, or the first error in it.
+pub(crate) type Meaning = Result<Query, QueryError>;
 
 /// What stands before a unit.
 #[derive(Clone, Copy, Debug, PartialEq, Eq)]
-pub enum Sign {
+pub enum Modifier {
     /// Nothing.
     Plain,
     /// `+`.
@@ -22,40 +22,40 @@ pub enum Sign {
 
 /// What a clause is to its node.
 #[derive(Clone, Copy, Debug, PartialEq, Eq)]
-pub enum Role {
+pub enum Occur {
     Must,
     MustNot,
     Should,
 }
 
 /// What a factor of a conjunction is to it.
-pub(crate) fn role_in_conjunction(sign: Sign) -> Role
-    ensures { result ≡ conjunction_role sign }
+pub(crate) fn occur_in_conjunction(modifier: Modifier) -> Occur
+    ensures { result ≡ occur_in_conjunction modifier }
 {
-    match sign {
-        Sign::Plain | Sign::Plus => Role::Must,
-        Sign::Minus => Role::MustNot,
+    match modifier {
+        Modifier::Plain | Modifier::Plus => Occur::Must,
+        Modifier::Minus => Occur::MustNot,
     }
 }
 
-/// What a factor that is a chain by itself is to its list.
-pub(crate) fn role_alone(sign: Sign) -> Role
-    ensures { result ≡ lone_role sign }
+/// What a factor that is a disjunction by itself is to its list.
+pub(crate) fn occur_alone(modifier: Modifier) -> Occur
+    ensures { result ≡ occur_alone modifier }
 {
-    match sign {
-        Sign::Plain => Role::Should,
-        Sign::Plus => Role::Must,
-        Sign::Minus => Role::MustNot,
+    match modifier {
+        Modifier::Plain => Occur::Should,
+        Modifier::Plus => Occur::Must,
+        Modifier::Minus => Occur::MustNot,
     }
 }
 
-/// The clauses of a Boolean node so far, or the first fault in them.
+/// The clauses of a Boolean node so far, or the first error in them.
 #[derive(Drop)]
 pub(crate) struct Clauses {
     must: Vec<Query>,
     must_not: Vec<Query>,
     should: Vec<Query>,
-    fault: Option<Fault>,
+    error: Option<QueryError>,
 }
 
 impl Clauses {
@@ -72,28 +72,28 @@ impl Clauses {
             must: Vec::new(alloc),
             must_not: Vec::new(alloc),
             should: Vec::new(alloc),
-            fault: None,
+            error: None,
         }
     }
 
-    /// Adds a clause. Behind a fault nothing is kept.
-    pub(crate) fn push(&mut self, role: Role, meaning: Meaning) -> Result<(), AllocError>
-        ensures { OnOk result (gathered_of self.new ≡ gather (gathered_of self.old) (role, result_map query_value meaning)) }
+    /// Adds a clause. Behind an error nothing is kept.
+    pub(crate) fn push(&mut self, occur: Occur, meaning: Meaning) -> Result<(), AllocError>
+        ensures { OnOk result (gathered_of self.new ≡ gather (gathered_of self.old) (occur, result_map query_value meaning)) }
     {
-        if self.fault.is_some() {
+        if self.error.is_some() {
             return Ok(());
         }
         let query = match meaning {
             Ok(query) => query,
-            Err(fault) => {
-                self.fault = Some(fault);
+            Err(error) => {
+                self.error = Some(error);
                 return Ok(());
             }
         };
-        match role {
-            Role::Must => self.must.push(query)?,
-            Role::MustNot => self.must_not.push(query)?,
-            Role::Should => self.should.push(query)?,
+        match occur {
+            Occur::Must => self.must.push(query)?,
+            Occur::MustNot => self.must_not.push(query)?,
+            Occur::Should => self.should.push(query)?,
         }
         Ok(())
     }
@@ -102,11 +102,11 @@ impl Clauses {
     pub(crate) fn into_node(self) -> Meaning
         ensures { result_map query_value result ≡ gathered_node (gathered_of self) }
     {
-        if let Some(fault) = self.fault {
-            return Err(fault);
+        if let Some(error) = self.error {
+            return Err(error);
         }
         if self.must.is_empty() && self.should.is_empty() {
-            return Err(Fault::AllNegative);
+            return Err(QueryError::AllNegative);
         }
         Ok(Query::Bool {
             must: self.must,

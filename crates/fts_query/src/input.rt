@@ -2,12 +2,12 @@
 ghost use Rattle.std.specs.Prelude.{◌≡◌, ◌≤◌, ◌∷◌, ◌++◌, [], length, MatchOption, IfOk, string_bytes, false};
 ghost use Rattle.std.specs.Char.{encode_utf8};
 ghost use Rattle.std.specs.Str.{chars};
-ghost use Rattle.fts_model.specs.Schemas.{is_reserved as name_is_reserved};
-ghost use Rattle.fts_query.specs.Grammar.{is_space as is_white, is_special as is_of_language, is_word_char as is_of_word};
+ghost use Rattle.fts_model.specs.Schemas.{is_reserved};
+ghost use Rattle.fts_query.specs.Grammar.{is_space, is_special, is_word_char};
 ghost use Rattle.fts_query.specs.Reading.{skip, past, word, quoted_of};
 ghost use Rattle.fts_query.specs.Steps.{Finds};
 
-use crate::stop::Stop;
+use crate::error::ParseError;
 use std::alloc::Global;
 use std::marker::Model;
 
@@ -15,13 +15,13 @@ use std::marker::Model;
 pub(crate) const LONGEST: usize = 4096;
 
 fn is_space(c: char) -> bool
-    ensures { result ≡ is_white c }
+    ensures { result ≡ is_space c }
 {
     matches!(c, ' ' | '\t' | '\r' | '\n')
 }
 
 fn is_special(c: char) -> bool
-    ensures { result ≡ is_of_language c }
+    ensures { result ≡ is_special c }
 {
     matches!(
         c,
@@ -31,14 +31,14 @@ fn is_special(c: char) -> bool
 
 #[tactic(auto, unfolding(crate::specs::Grammar::is_word_char))]
 pub(crate) fn is_word_char(c: char) -> bool
-    ensures { result ≡ is_of_word c }
+    ensures { result ≡ is_word_char c }
 {
     !(is_space(c) || is_special(c))
 }
 
 /// Whether a word is `AND`, `OR` or `NOT`.
 pub(crate) fn is_reserved(word: &str) -> bool
-    ensures { result ≡ name_is_reserved word.now }
+    ensures { result ≡ is_reserved word.now }
 {
     word == "AND" || word == "OR" || word == "NOT"
 }
@@ -56,7 +56,7 @@ pub(crate) fn split_first(text: &str) -> Option<(char, &str)>
 
 /// What follows the white space at the front.
 #[tactic(auto, unfolding(crate::specs::Reading::skip))]
-fn behind_space(text: &str) -> &str
+fn after_space(text: &str) -> &str
     ensures chars { chars result.now ≡ skip (chars text.now) }
     ensures short { length result.now ≤ length text.now }
 {
@@ -72,7 +72,7 @@ fn behind_space(text: &str) -> &str
 
 /// What follows the word at the front.
 #[tactic(auto, unfolding(crate::specs::Reading::past))]
-fn behind_word(text: &str) -> &str
+fn after_word(text: &str) -> &str
     ensures chars { chars result.now ≡ past (chars text.now) }
     ensures short { length result.now ≤ length text.now }
 {
@@ -93,38 +93,38 @@ fn split_word(text: &str) -> (&str, &str)
     ensures word_short { length result.0.now ≤ length text.now }
     ensures rest_short { length result.1.now ≤ length text.now }
 {
-    let rest = behind_word(text);
+    let rest = after_word(text);
     text.split_at(text.len() - rest.len())
 }
 
-/// What a quotation says, behind its opening quote, and what follows it. It is refused at the byte from which on nothing
-/// closes it, or at a `\\` before another character than `"` and `\\`.
-#[tactic(auto, using(crate::proofs::StepLemmas::front_more), unfolding(crate::specs::Reading::said, crate::specs::Reading::quoted_of))]
-fn quoted(alloc: Global, text: &str) -> Result<(String, &str), Stop>
-    ensures said { Finds (λ x. (string_bytes x.0, chars x.1.now)) result (quoted_of (chars text.now)) }
-    ensures said_short { IfOk result (λ x. length (string_bytes x.0) ≤ length text.now) }
+/// A quoted text, after its opening quote, with its escapes resolved, and what follows it. It is refused at the byte from
+/// which on nothing closes it, or at a `\\` before another character than `"` and `\\`.
+#[tactic(auto, using(crate::proofs::ReadingLemmas::front_more), unfolding(crate::specs::Reading::unquoted, crate::specs::Reading::quoted_of))]
+fn unquote(alloc: Global, text: &str) -> Result<(String, &str), ParseError>
+    ensures unquoted { Finds (λ x. (string_bytes x.0, chars x.1.now)) result (quoted_of (chars text.now)) }
+    ensures short { IfOk result (λ x. length (string_bytes x.0) ≤ length text.now) }
     ensures rest_short { IfOk result (λ x. length x.1.now ≤ length text.now) }
 {
-    let mut said = String::new(alloc);
+    let mut unquoted = String::new(alloc);
     let mut escaped = false;
     let mut rest = text;
     while let Some((c, tail)) = split_first(rest) {
         if escaped {
             if c != '"' && c != '\\' {
-                return Err(Stop::Syntax(rest.len()));
+                return Err(ParseError::Syntax(rest.len()));
             }
-            said.push(c)?;
+            unquoted.push(c)?;
             escaped = false;
         } else if c == '"' {
-            return Ok((said, tail));
+            return Ok((unquoted, tail));
         } else if c == '\\' {
             escaped = true;
         } else {
-            said.push(c)?;
+            unquoted.push(c)?;
         }
         rest = tail;
     }
-    Err(Stop::Syntax(0))
+    Err(ParseError::Syntax(0))
 }
 
 /// What is left of a query to read. Contracts see its characters.
@@ -145,9 +145,9 @@ impl<'a> Model for Input<'a> {
 }
 
 impl<'a> Input<'a> {
-    ghost use Rattle.std.specs.Prelude.{◌≡◌, ◌≤◌, ◌∷◌, [], ℕ, List, length, codes, option_map, MatchOption, IfOk, string_bytes};
+    ghost use Rattle.std.specs.Prelude.{◌≡◌, ◌≤◌, ◌∷◌, [], ℕ, List, length, option_map, MatchOption, IfOk, string_bytes};
     ghost use Rattle.std.specs.Str.{chars};
-    ghost use Rattle.fts_query.specs.Reading.{skip, past, word, quoted_of, begins_space as does_begin_space, closes as does_close, space_at, operator_at};
+    ghost use Rattle.fts_query.specs.Reading.{skip, past, word, quoted_of, begins_space, closes, space_at, operator_at};
     ghost use Rattle.fts_query.specs.Steps.{Finds};
 
     /// All of a text.
@@ -187,11 +187,11 @@ impl<'a> Input<'a> {
     }
 
     /// What follows the white space at the front.
-    pub(crate) fn behind_space(self) -> Input<'a>
+    pub(crate) fn after_space(self) -> Input<'a>
         ensures { result ≡ skip self.entry }
     {
         Input {
-            rest: behind_space(self.rest),
+            rest: after_space(self.rest),
         }
     }
 
@@ -205,18 +205,18 @@ impl<'a> Input<'a> {
         (word, Input { rest })
     }
 
-    /// What a quotation says, behind its opening quote, and what follows it.
-    pub(crate) fn quoted(self, alloc: Global) -> Result<(String, Input<'a>), Stop>
-        ensures said { Finds (λ x. (string_bytes x.0, x.1)) result (quoted_of self.entry) }
+    /// A quoted text, after its opening quote, with its escapes resolved, and what follows it.
+    pub(crate) fn unquote(self, alloc: Global) -> Result<(String, Input<'a>), ParseError>
+        ensures unquoted { Finds (λ x. (string_bytes x.0, x.1)) result (quoted_of self.entry) }
         ensures short { IfOk result (λ x. length (string_bytes x.0) ≤ 4096) }
     {
-        let (said, rest) = quoted(alloc, self.rest)?;
-        Ok((said, Input { rest }))
+        let (unquoted, rest) = unquote(alloc, self.rest)?;
+        Ok((unquoted, Input { rest }))
     }
 
     /// Whether white space stands at the front.
     pub(crate) fn begins_space(&self) -> bool
-        ensures { result ≡ does_begin_space self.now }
+        ensures { result ≡ begins_space self.now }
     {
         match self.first() {
             None => false,
@@ -226,7 +226,7 @@ impl<'a> Input<'a> {
 
     /// Whether a list ends here: at the end, or at a `)`.
     fn closes(&self) -> bool
-        ensures { result ≡ does_close self.now }
+        ensures { result ≡ closes self.now }
     {
         match self.first() {
             None => true,
@@ -234,12 +234,12 @@ impl<'a> Input<'a> {
         }
     }
 
-    /// What follows the white space between two chains, if there is another.
+    /// What follows the white space at the front, where a list goes on after it.
     #[tactic(auto, unfolding(crate::specs::Reading::space_at))]
-    pub(crate) fn behind_separator(&self) -> Option<Input<'a>>
+    pub(crate) fn after_gap(&self) -> Option<Input<'a>>
         ensures { option_map (λ x. x) result ≡ space_at self.now }
     {
-        let rest = self.fork().behind_space();
+        let rest = self.fork().after_space();
         if self.begins_space() && !rest.closes() {
             Some(rest)
         } else {
@@ -247,35 +247,14 @@ impl<'a> Input<'a> {
         }
     }
 
-    /// What follows an `AND`.
-    pub(crate) fn behind_and(&self) -> Option<Input<'a>>
-        ensures { option_map (λ x. x) result ≡ operator_at (codes "AND") self.now }
-    {
-        self.behind_operator("AND")
-    }
-
-    /// What follows an `OR`.
-    pub(crate) fn behind_or(&self) -> Option<Input<'a>>
-        ensures { option_map (λ x. x) result ≡ operator_at (codes "OR") self.now }
-    {
-        self.behind_operator("OR")
-    }
-
-    /// What follows a `TO`.
-    pub(crate) fn behind_to(&self) -> Option<Input<'a>>
-        ensures { option_map (λ x. x) result ≡ operator_at (codes "TO") self.now }
-    {
-        self.behind_operator("TO")
-    }
-
     /// What follows a word that stands between white space.
     #[tactic(auto, unfolding(crate::specs::Reading::operator_at))]
-    fn behind_operator(&self, name: &str) -> Option<Input<'a>>
+    pub(crate) fn after_operator(&self, name: &str) -> Option<Input<'a>>
         ensures { option_map (λ x. x) result ≡ operator_at name.now self.now }
     {
-        let (word, rest) = self.fork().behind_space().split_word();
+        let (word, rest) = self.fork().after_space().split_word();
         if self.begins_space() && word == name && rest.begins_space() {
-            Some(rest.behind_space())
+            Some(rest.after_space())
         } else {
             None
         }

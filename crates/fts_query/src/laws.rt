@@ -4,8 +4,15 @@ ghost use Rattle.fts_model.specs.declared.schema.Field.{Field};
 ghost use Rattle.fts_model.specs.declared.refusal.Refusal.{Refusal};
 ghost use Rattle.fts_model.specs.QueryValues.{QueryValue};
 ghost use Rattle.fts_query.specs.Outcomes.{Reads, without_byte};
+ghost use Rattle.fts_query.specs.Answers.{answer};
 
-/// A text reads as one query or one refusal, the byte of a fault of syntax aside.
+/// A text reads as one query or one refusal, the byte of a syntax error aside.
 pub fn a_text_reads_as_one_thing()
     ensures { (schema : List Field) (text : List ℕ) (x y : Result QueryValue Refusal) → Reads schema text x → Reads schema text y → without_byte x ≡ without_byte y }
+{}
+
+/// Each text reads as something, and `answer` is what it reads as.
+pub fn each_text_has_an_outcome()
+    ensures outcome { (schema : List Field) (text : List ℕ) → (x : Result QueryValue Refusal) × Reads schema text x }
+    ensures answer { (schema : List Field) (text : List ℕ) → Reads schema text (answer schema text) }
 {}

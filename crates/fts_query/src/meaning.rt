@@ -6,10 +6,10 @@ ghost use Rattle.fts_text.specs.Places.{IsPlaceIn, token_at};
 ghost use Rattle.fts_model.specs.Outcomes.{result_map};
 ghost use Rattle.fts_model.specs.QueryValues.{query_value};
 ghost use Rattle.fts_query.specs.Values.{value_seen, bound_seen, IsShort};
-ghost use Rattle.fts_query.specs.Meanings.{between, with_value, value_in as value_of_kind, with_tokens as tokens_in_field, literal_in as literal_of_field, literal_anywhere as literal_in_defaults, bound_in as bound_of_kind, meaning_in as meaning_in_field, field_meaning as meaning_of_field};
+ghost use Rattle.fts_query.specs.Meanings.{between, with_value, value_in, with_tokens, literal_in, literal_anywhere, bound_in, meaning_in, field_meaning};
 
-use crate::clauses::{Clauses, Meaning, Role};
-use crate::fault::Fault;
+use crate::clauses::{Clauses, Meaning, Occur};
+use crate::error::QueryError;
 use crate::number::number_in;
 use crate::value::Value;
 use fts_model::{FieldValue, Kind, Query, Schema, Term, Text};
@@ -18,79 +18,79 @@ use std::alloc::{AllocError, Global};
 use std::ops::Bound;
 
 /// The token at a place of a text.
-fn token(alloc: Global, said: &str, place: Token) -> Result<Text, AllocError>
-    requires { IsPlaceIn said.now place }
-    ensures { IfOk result (λ t. t ≡ (token_at said.now place).1) }
+fn token(alloc: Global, text: &str, place: Token) -> Result<Text, AllocError>
+    requires { IsPlaceIn text.now place }
+    ensures { IfOk result (λ t. t ≡ (token_at text.now place).1) }
 {
     let mut token = String::new(alloc);
-    fold_into(place.run(said), &mut token)?;
+    fold_into(place.run(text), &mut token)?;
     Ok(Text::new(token))
 }
 
-/// The tokens of a text, each with how far it stands behind a position.
-fn pattern(alloc: Global, said: &str, from: usize) -> Result<Vec<(u32, Text)>, AllocError>
-    requires { length said.now ≤ 4096 }
-    ensures { IfOk result (λ p. p.items ≡ map (λ t. (t.0 - from, t.1)) (tokens said.now)) }
+/// The tokens of a text, each with how far it stands after a position.
+fn pattern(alloc: Global, text: &str, from: usize) -> Result<Vec<(u32, Text)>, AllocError>
+    requires { length text.now ≤ 4096 }
+    ensures { IfOk result (λ p. p.items ≡ map (λ t. (t.0 - from, t.1)) (tokens text.now)) }
 {
     let mut pattern = Vec::new(alloc);
-    for place in Tokens::new(said) {
+    for place in Tokens::new(text) {
         let offset = place.position.saturating_sub(from) as u32;
-        pattern.push((offset, token(alloc, said, place)?))?;
+        pattern.push((offset, token(alloc, text, place)?))?;
     }
     Ok(pattern)
 }
 
 /// The documents with the tokens of a text in a text field.
-fn with_tokens(alloc: Global, field: usize, said: &str) -> Result<Query, AllocError>
-    requires { length said.now ≤ 4096 }
-    ensures { IfOk result (λ q. query_value q ≡ tokens_in_field field (tokens said.now)) }
+fn with_tokens(alloc: Global, field: usize, text: &str) -> Result<Query, AllocError>
+    requires { length text.now ≤ 4096 }
+    ensures { IfOk result (λ q. query_value q ≡ with_tokens field (tokens text.now)) }
 {
-    let mut places = Tokens::new(said);
+    let mut places = Tokens::new(text);
     let Some(first) = places.next() else {
         return Ok(Query::None);
     };
     match places.next() {
         None => {
-            let value = FieldValue::Text(token(alloc, said, first)?);
+            let value = FieldValue::Text(token(alloc, text, first)?);
             Ok(Query::Term(Term { field, value }))
         }
         Some(_) => {
-            let pattern = pattern(alloc, said, first.position)?;
+            let pattern = pattern(alloc, text, first.position)?;
             Ok(Query::Phrase { field, pattern })
         }
     }
 }
 
 /// The number that a text is in a field of this kind.
-fn value_in(kind: Kind, text: &str) -> Result<FieldValue, Fault>
-    ensures { result ≡ value_of_kind kind text.now }
+fn value_in(kind: Kind, text: &str) -> Result<FieldValue, QueryError>
+    ensures { result ≡ value_in kind text.now }
 {
     match number_in(kind, text) {
         Some(number) => Ok(FieldValue::Number(number)),
-        None => Err(Fault::BadNumber),
+        None => Err(QueryError::BadNumber),
     }
 }
 
 /// The documents with a number in a number field.
-fn with_number(field: usize, kind: Kind, said: &str) -> Meaning
-    ensures { result_map query_value result ≡ result_map (λ v. with_value field v) (value_of_kind kind said.now) }
+fn with_number(field: usize, kind: Kind, text: &str) -> Meaning
+    ensures { result_map query_value result ≡ result_map (λ v. with_value field v) (value_in kind text.now) }
 {
-    let value = value_in(kind, said)?;
+    let value = value_in(kind, text)?;
     Ok(Query::Term(Term { field, value }))
 }
 
 /// What a word or a quoted text means in a field.
-fn literal_in(alloc: Global, field: usize, kind: Kind, said: &str) -> Result<Meaning, AllocError>
-    requires { length said.now ≤ 4096 }
-    ensures { IfOk result (λ m. result_map query_value m ≡ literal_of_field field kind said.now) }
+fn literal_in(alloc: Global, field: usize, kind: Kind, text: &str) -> Result<Meaning, AllocError>
+    requires { length text.now ≤ 4096 }
+    ensures { IfOk result (λ m. result_map query_value m ≡ literal_in field kind text.now) }
 {
     match kind {
-        Kind::Text => Ok(Ok(with_tokens(alloc, field, said)?)),
+        Kind::Text => Ok(Ok(with_tokens(alloc, field, text)?)),
         Kind::Keyword => {
-            let value = FieldValue::Text(Text::new(String::from_str(alloc, said)?));
+            let value = FieldValue::Text(Text::new(String::from_str(alloc, text)?));
             Ok(Ok(Query::Term(Term { field, value })))
         }
-        Kind::U64 | Kind::I64 => Ok(with_number(field, kind, said)),
+        Kind::U64 | Kind::I64 => Ok(with_number(field, kind, text)),
     }
 }
 
@@ -106,26 +106,26 @@ fn has_default(schema: &Schema) -> bool
 pub(crate) fn literal_anywhere(
     alloc: Global,
     schema: &Schema,
-    said: &str,
+    text: &str,
 ) -> Result<Meaning, AllocError>
-    requires { length said.now ≤ 4096 }
-    ensures { IfOk result (λ m. result_map query_value m ≡ literal_in_defaults schema.now said.now) }
+    requires { length text.now ≤ 4096 }
+    ensures { IfOk result (λ m. result_map query_value m ≡ literal_anywhere schema.now text.now) }
 {
     if !has_default(schema) {
-        return Ok(Err(Fault::NoDefaultField));
+        return Ok(Err(QueryError::NoDefaultField));
     }
     let mut clauses = Clauses::new(alloc);
     for (i, field) in schema.fields().iter().enumerate() {
         if field.default {
-            clauses.push(Role::Should, literal_in(alloc, i, field.kind, said)?)?;
+            clauses.push(Occur::Should, literal_in(alloc, i, field.kind, text)?)?;
         }
     }
     Ok(clauses.into_node())
 }
 
 /// A bound in a number field.
-fn bound_in(kind: Kind, bound: Bound<&str>) -> Result<Bound<FieldValue>, Fault>
-    ensures { result ≡ bound_of_kind kind (bound_seen bound.entry) }
+fn bound_in(kind: Kind, bound: Bound<&str>) -> Result<Bound<FieldValue>, QueryError>
+    ensures { result ≡ bound_in kind (bound_seen bound.entry) }
 {
     match bound {
         Bound::Included(text) => Ok(Bound::Included(value_in(kind, text)?)),
@@ -136,10 +136,10 @@ fn bound_in(kind: Kind, bound: Bound<&str>) -> Result<Bound<FieldValue>, Fault>
 
 /// What bounds mean in a field.
 fn range_in(field: usize, kind: Kind, lower: Bound<&str>, upper: Bound<&str>) -> Meaning
-    ensures { result_map query_value result ≡ meaning_in_field field kind (between (bound_seen lower.entry) (bound_seen upper.entry)) }
+    ensures { result_map query_value result ≡ meaning_in field kind (between (bound_seen lower.entry) (bound_seen upper.entry)) }
 {
     if !kind.holds_numbers() {
-        return Err(Fault::RangeOnText);
+        return Err(QueryError::RangeOnText);
     }
     let lower = bound_in(kind, lower)?;
     let upper = bound_in(kind, upper)?;
@@ -150,7 +150,7 @@ fn range_in(field: usize, kind: Kind, lower: Bound<&str>, upper: Bound<&str>) ->
     })
 }
 
-/// What stands behind a field, in the field of this number and kind.
+/// What stands after a field, in the field of this number and kind.
 fn meaning_in(
     alloc: Global,
     field: usize,
@@ -158,16 +158,16 @@ fn meaning_in(
     value: Value<'_>,
 ) -> Result<Meaning, AllocError>
     requires { IsShort (value_seen value) }
-    ensures { IfOk result (λ m. result_map query_value m ≡ meaning_in_field field kind (value_seen value.entry)) }
+    ensures { IfOk result (λ m. result_map query_value m ≡ meaning_in field kind (value_seen value.entry)) }
 {
     match value {
         Value::Word(word) => literal_in(alloc, field, kind, word),
-        Value::Quoted(said) => literal_in(alloc, field, kind, said.as_str()),
+        Value::Quoted(text) => literal_in(alloc, field, kind, text.as_str()),
         Value::Range(lower, upper) => Ok(range_in(field, kind, lower, upper)),
     }
 }
 
-/// What a field, by its name, and what stands behind it mean.
+/// What a field, by its name, and what stands after it mean.
 #[tactic(auto, unfolding(crate::specs::Meanings::field_meaning))]
 pub(crate) fn field_meaning(
     alloc: Global,
@@ -176,13 +176,13 @@ pub(crate) fn field_meaning(
     value: Value<'_>,
 ) -> Result<Meaning, AllocError>
     requires { IsShort (value_seen value) }
-    ensures { IfOk result (λ m. result_map query_value m ≡ meaning_of_field schema.now name.now (value_seen value.entry)) }
+    ensures { IfOk result (λ m. result_map query_value m ≡ field_meaning schema.now name.now (value_seen value.entry)) }
 {
     let Some(number) = schema.field(name) else {
-        return Ok(Err(Fault::UnknownField));
+        return Ok(Err(QueryError::UnknownField));
     };
     let Some(field) = schema.fields().get(number) else {
-        return Ok(Err(Fault::UnknownField));
+        return Ok(Err(QueryError::UnknownField));
     };
     meaning_in(alloc, number, field.kind, value)
 }

@@ -2,7 +2,7 @@
 ghost use Rattle.std.specs.Prelude.{◌≡◌};
 ghost use Rattle.std.specs.Str.{chars};
 ghost use Rattle.fts_query.specs.declared.nesting.Place.TheVariants.{Outside};
-ghost use Rattle.fts_query.specs.Outcomes.{is_too_deep as does_nest_too_deep};
+ghost use Rattle.fts_query.specs.Outcomes.{is_too_deep};
 
 use crate::input::split_first;
 
@@ -13,7 +13,7 @@ pub enum Place {
     Outside,
     /// Between quotes.
     Quoted,
-    /// Between quotes, behind a `\`.
+    /// Between quotes, after a `\`.
     Escaped,
 }
 
@@ -23,7 +23,7 @@ const DEEPEST: u32 = 32;
 /// Whether the parentheses outside of quotes nest over 32 deep. A `)` too many closes nothing.
 #[tactic(auto, unfolding(crate::specs::Outcomes::is_too_deep))]
 pub(crate) fn is_too_deep(text: &str) -> bool
-    ensures { result ≡ does_nest_too_deep Outside 0 (chars text.now) }
+    ensures { result ≡ is_too_deep Outside 0 (chars text.now) }
 {
     let mut place = Place::Outside;
     let mut depth = 0;

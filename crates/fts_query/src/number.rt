@@ -1,17 +1,17 @@
 // Decimal numbers.
 ghost use Rattle.std.specs.Prelude.{◌≡◌, ◌+◌, ◌^◌, ◌<◌, ◌≤◌, option_map, pos, neg_ℤ, drop, IfSome};
-ghost use Rattle.fts_query.specs.Meanings.{number_below, number_in as number_of_kind, begins_minus as does_begin_minus, is_digit as is_decimal};
+ghost use Rattle.fts_query.specs.Meanings.{number_below, number_in, is_digit};
 
 use fts_model::{Kind, Number};
 
 fn is_digit(byte: u8) -> bool
-    ensures { result ≡ is_decimal byte }
+    ensures { result ≡ is_digit byte }
 {
     byte >= b'0' && byte <= b'9'
 }
 
 /// The number that one or more digits are, if it fits a `u64`.
-#[tactic(auto, using(crate::proofs::NumberLemmas::overflows), unfolding(crate::specs::Meanings::number_below))]
+#[tactic(auto, using(crate::proofs::MeaningsLemmas::overflows), unfolding(crate::specs::Meanings::number_below))]
 fn unsigned(text: &[u8]) -> Option<u64>
     ensures { result ≡ number_below (2 ^ 64) text.now }
 {
@@ -58,7 +58,7 @@ fn negated(value: u64) -> i64
     }
 }
 
-/// The number that digits behind a `-` are negated, if it fits an `i64`.
+/// The number that digits after a `-` are negated, if it fits an `i64`.
 fn negative(digits: &[u8]) -> Option<i64>
     ensures { result ≡ option_map (λ n. neg_ℤ (pos n)) (number_below (2 ^ 63 + 1) digits.now) }
 {
@@ -74,9 +74,9 @@ fn positive(digits: &[u8]) -> Option<i64>
     Some(value as i64)
 }
 
-/// The number that a text is in a field of this kind: digits, behind a `-` too in an `i64` field.
+/// The number that a text is in a field of this kind: digits, after a `-` too in an `i64` field.
 pub(crate) fn number_in(kind: Kind, text: &str) -> Option<Number>
-    ensures { result ≡ number_of_kind kind text.now }
+    ensures { result ≡ number_in kind text.now }
 {
     match kind {
         Kind::Text | Kind::Keyword => None,
@@ -85,9 +85,9 @@ pub(crate) fn number_in(kind: Kind, text: &str) -> Option<Number>
     }
 }
 
-/// The same in an `i64` field.
+/// The number that a text is in an `i64` field.
 fn signed(text: &[u8]) -> Option<i64>
-    ensures { option_map (λ z. Number.I64 z) result ≡ number_of_kind Kind.I64 text.now }
+    ensures { option_map (λ z. Number.I64 z) result ≡ number_in Kind.I64 text.now }
 {
     match text {
         [b'-', digits @ ..] => negative(digits),

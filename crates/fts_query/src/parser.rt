@@ -2,41 +2,40 @@
 ghost use Rattle.std.specs.Prelude.{◌≡◌, ◌⊎◌, ◌≤◌, length, Ok, Err, IfOk, IfErr, true};
 ghost use Rattle.std.specs.List.{list_all};
 ghost use Rattle.std.specs.Str.{chars};
-ghost use Rattle.fts_model.specs.declared.refusal.Refusal.TheVariants.{Memory};
+ghost use Rattle.fts_model.specs.declared.refusal.Refusal.TheVariants.{Memory, TooLong, TooDeep};
 ghost use Rattle.fts_model.specs.Queries.{query_fits};
 ghost use Rattle.fts_model.specs.QueryValues.{query_value};
-ghost use Rattle.fts_query.specs.Grammar.{is_space};
-ghost use Rattle.fts_query.specs.Reading.{skip};
-ghost use Rattle.fts_query.specs.Outcomes.{Reads, byte_of};
-ghost use Rattle.fts_query.specs.Answers.{refusal_of as refusal_of_fault, answer_fit, IsAnswer};
+ghost use Rattle.fts_query.specs.Grammar.{is_space, IsBlank};
+ghost use Rattle.fts_query.specs.Outcomes.{IsFit, Reads, byte_of};
+ghost use Rattle.fts_query.specs.Answers.{refusal_of, answer_fit, IsAnswer};
 
-use crate::fault::Fault;
+use crate::error::QueryError;
 use crate::input::{Input, LONGEST};
 use crate::nesting::is_too_deep;
 use crate::reader::query_at;
-use crate::stop::Stop;
+use crate::error::ParseError;
 use fts_model::{Query, Refusal, Schema};
 use std::alloc::Global;
 
-/// The refusal that a fault is.
-fn refusal_of(fault: Fault) -> Refusal
-    ensures { result ≡ refusal_of_fault fault }
+/// The refusal that an error is.
+fn refusal_of(error: QueryError) -> Refusal
+    ensures { result ≡ refusal_of error }
 {
-    match fault {
-        Fault::UnknownField => Refusal::UnknownField,
-        Fault::BadNumber => Refusal::BadNumber,
-        Fault::RangeOnText => Refusal::RangeOnText,
-        Fault::NoDefaultField => Refusal::NoDefaultField,
-        Fault::AllNegative => Refusal::AllNegative,
+    match error {
+        QueryError::UnknownField => Refusal::UnknownField,
+        QueryError::BadNumber => Refusal::BadNumber,
+        QueryError::RangeOnText => Refusal::RangeOnText,
+        QueryError::NoDefaultField => Refusal::NoDefaultField,
+        QueryError::AllNegative => Refusal::AllNegative,
     }
 }
 
 /// Whether a text is white space alone.
-#[tactic(auto, using(crate::proofs::Law::blank_skips, crate::proofs::Law::no_blank_skips))]
+#[tactic(auto, using(crate::proofs::AnswersLemmas::blank_skips, crate::proofs::AnswersLemmas::no_blank_skips))]
 fn is_blank(text: Input<'_>) -> bool
     ensures { result ≡ list_all is_space text.entry }
 {
-    text.behind_space().first().is_none()
+    text.after_space().first().is_none()
 }
 
 /// The outcome of a text that is neither too long nor too deep.
@@ -44,15 +43,16 @@ fn outcome_of(alloc: Global, schema: &Schema, text: &str) -> Result<Query, Refus
     requires { length text.now ≤ 4096 }
     ensures is { IsAnswer result (answer_fit schema.now (chars text.now)) }
     ensures byte { IfErr result (λ e. byte_of e ≤ length text.now) }
+    ensures blank { IsBlank (chars text.now) → result ≡ Ok Query.None }
 {
     if is_blank(Input::new(text)) {
         return Ok(Query::None);
     }
     match query_at(alloc, schema, Input::new(text)) {
         Ok(Ok(query)) => Ok(query),
-        Ok(Err(fault)) => Err(refusal_of(fault)),
-        Err(Stop::Memory) => Err(Refusal::Memory),
-        Err(Stop::Syntax(left)) => Err(Refusal::Syntax(text.len().saturating_sub(left))),
+        Ok(Err(error)) => Err(refusal_of(error)),
+        Err(ParseError::Memory) => Err(Refusal::Memory),
+        Err(ParseError::Syntax(left)) => Err(Refusal::Syntax(text.len().saturating_sub(left))),
     }
 }
 
@@ -60,14 +60,22 @@ fn outcome_of(alloc: Global, schema: &Schema, text: &str) -> Result<Query, Refus
 ///
 /// A text is refused as `TooLong` (over 4,096 bytes), else as `TooDeep` (parentheses outside of quotes nest over 32
 /// deep), else as `Syntax` (it is neither white space alone nor in the grammar, which docs/QUERIES.md has; the byte
-/// says how far it could be read), else by the first fault from the left: `UnknownField`, `RangeOnText`, `BadNumber`,
+/// says how far it could be read), else by the first error from the left: `UnknownField`, `RangeOnText`, `BadNumber`,
 /// `NoDefaultField` (a literal without a field, where no field is a default) or `AllNegative` (must-nots alone). A
-/// text of white space alone is the query for no document. `Memory` is answered only where a growth was refused.
+/// text of white space alone is the query for no document.
+///
+/// `Memory` is answered only where a growth was refused; a text that is too long, too deep or white space alone needs
+/// none, and has its outcome whatever memory there is.
 pub fn parse(alloc: Global, schema: &Schema, text: &str) -> Result<Query, Refusal>
     ensures reads { IfOk result (λ query. Reads schema.now text.now (Ok (query_value query))) }
     ensures refused { IfErr result (λ refusal. (refusal ≡ Memory) ⊎ Reads schema.now text.now (Err refusal)) }
     ensures byte { IfErr result (λ refusal. byte_of refusal ≤ length text.now) }
     ensures fits { IfOk result (λ query. query_fits schema.now (query_value query) ≡ true) }
+
+    // These outcomes need no memory.
+    ensures too_long { Reads schema.now text.now (Err TooLong) → result ≡ Err TooLong }
+    ensures too_deep { Reads schema.now text.now (Err TooDeep) → result ≡ Err TooDeep }
+    ensures blank { IsFit text.now → IsBlank (chars text.now) → result ≡ Ok Query.None }
 {
     if text.len() > LONGEST {
         return Err(Refusal::TooLong);
@@ -77,6 +85,3 @@ pub fn parse(alloc: Global, schema: &Schema, text: &str) -> Result<Query, Refusa
     }
     outcome_of(alloc, schema, text)
 }
-
-#[cfg(test)]
-mod tests;

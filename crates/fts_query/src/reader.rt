@@ -1,83 +1,100 @@
-// Reading a query from left to right: units, factors, conjunctions, chains and lists.
-ghost use Rattle.std.specs.Prelude.{◌≡◌, ◌≤◌, length, codes, IfOk, OnOk};
+// Reading a query from left to right: units, factors, and the sequences that they stand in.
+ghost use Rattle.std.specs.Prelude.{◌≡◌, ◌≤◌, ◌∷◌, [], ℕ, length, IfOk, OnOk, option_map};
 ghost use Rattle.fts_model.specs.Outcomes.{result_map};
 ghost use Rattle.fts_model.specs.QueryValues.{query_value};
 ghost use Rattle.fts_query.specs.Gathering.{gathered_of, gather};
-ghost use Rattle.fts_query.specs.Parts.{factor_seen, part_seen, conjunction_part, chain_part, part_meaning, part_clause as clause_of_part, part_should, factor_clause, then_gathered};
+ghost use Rattle.fts_query.specs.Sequences.{factor_seen, part_seen, clause_of, node_of, separator_of, item_of, sequence_of, following};
 ghost use Rattle.fts_query.specs.Steps.{Finds};
-ghost use Rattle.fts_query.specs.Reading.{over, operator_at, space_at, seq_by, behind_bare, bare_of, quote_of, close, unit_of, group_of, negated_of, factor_of, conjunction_of, chain_of, list_of, meaning_of, ended, query_of};
+ghost use Rattle.fts_query.specs.Reading.{over, onto, after_bare, bare_of, quoted_literal_of, close, unit_of, group_of, modifier_of, factor_of, meaning_of, query_of};
+ghost use Rattle.fts_query.specs.Meanings.{conjunction};
 
-use crate::clauses::{Clauses, Meaning, Role, Sign, role_alone, role_in_conjunction};
+use crate::clauses::{Clauses, Meaning, Modifier, Occur, occur_alone, occur_in_conjunction};
+use crate::error::ParseError;
 use crate::input::{Input, LONGEST, is_reserved, is_word_char};
 use crate::meaning::{field_meaning, literal_anywhere};
-use crate::stop::Stop;
 use crate::value::value_at;
 use fts_model::{Query, Schema};
 use std::alloc::{AllocError, Global};
 
+/// The levels of a list, each a sequence of items of the level above it.
+#[derive(Clone, Copy, Debug, PartialEq, Eq)]
+pub enum Level {
+    /// Factors with `AND` between them.
+    Conjunction,
+    /// Conjunctions with `OR` between them.
+    Disjunction,
+    /// Disjunctions with white space between them.
+    List,
+}
+
 /// A unit, and what stands before it.
 #[derive(Drop)]
 pub(crate) struct Factor {
-    sign: Sign,
+    modifier: Modifier,
     unit: Meaning,
 }
 
-/// A conjunction or a chain: one factor, or the node of several.
+/// What a sequence is to the next level: its only factor, or the node of its clauses.
 #[derive(Drop)]
 pub(crate) enum Part {
     Lone(Factor),
     Several(Meaning),
 }
 
-/// What a part means as a conjunction.
-fn meaning_of_part(alloc: Global, part: Part) -> Result<Meaning, AllocError>
-    ensures { IfOk result (λ m. result_map query_value m ≡ part_meaning (part_seen part)) }
+/// What a factor means as a conjunction.
+fn conjunction_of_one(alloc: Global, factor: Factor) -> Result<Meaning, AllocError>
+    ensures { IfOk result (λ m. result_map query_value m ≡ conjunction (factor_seen factor ∷ [])) }
 {
-    match part {
-        Part::Lone(factor) => {
-            let mut clauses = Clauses::new(alloc);
-            clauses.push(role_in_conjunction(factor.sign), factor.unit)?;
-            Ok(clauses.into_node())
-        }
-        Part::Several(meaning) => Ok(meaning),
+    let mut clauses = Clauses::new(alloc);
+    clauses.push(occur_in_conjunction(factor.modifier), factor.unit)?;
+    Ok(clauses.into_node())
+}
+
+/// Adds the clause that an item is to the node of its level.
+fn push_item(
+    alloc: Global,
+    level: Level,
+    clauses: &mut Clauses,
+    item: Part,
+) -> Result<(), AllocError>
+    ensures { OnOk result (gathered_of clauses.new ≡ gather (gathered_of clauses.old) (clause_of level (part_seen item))) }
+{
+    match item {
+        Part::Several(meaning) => clauses.push(Occur::Should, meaning),
+        Part::Lone(factor) => match level {
+            Level::Conjunction => {
+                clauses.push(occur_in_conjunction(factor.modifier), factor.unit)
+            }
+            Level::Disjunction => {
+                let meaning = conjunction_of_one(alloc, factor)?;
+                clauses.push(Occur::Should, meaning)
+            }
+            Level::List => clauses.push(occur_alone(factor.modifier), factor.unit),
+        },
     }
 }
 
-/// Adds the clause that a factor is to its conjunction.
-fn push_factor(clauses: &mut Clauses, factor: Factor) -> Result<(), AllocError>
-    ensures { OnOk result (gathered_of clauses.new ≡ gather (gathered_of clauses.old) (factor_clause (factor_seen factor))) }
+/// What follows the separator of a level, where one stands.
+fn after_separator<'a>(level: Level, text: &Input<'a>) -> Option<Input<'a>>
+    ensures { option_map (λ x. x) result ≡ separator_of level text.now }
 {
-    clauses.push(role_in_conjunction(factor.sign), factor.unit)
-}
-
-/// Adds the clause that a conjunction is between `OR`s.
-fn push_alternative(alloc: Global, clauses: &mut Clauses, part: Part) -> Result<(), AllocError>
-    ensures { OnOk result (gathered_of clauses.new ≡ gather (gathered_of clauses.old) (part_should (part_seen part))) }
-{
-    let meaning = meaning_of_part(alloc, part)?;
-    clauses.push(Role::Should, meaning)
-}
-
-/// Adds the clause that a chain is to its list.
-fn push_chain(clauses: &mut Clauses, chain: Part) -> Result<(), AllocError>
-    ensures { OnOk result (gathered_of clauses.new ≡ gather (gathered_of clauses.old) (clause_of_part (part_seen chain))) }
-{
-    match chain {
-        Part::Lone(factor) => clauses.push(role_alone(factor.sign), factor.unit),
-        Part::Several(meaning) => clauses.push(Role::Should, meaning),
+    match level {
+        Level::Conjunction => text.after_operator("AND"),
+        Level::Disjunction => text.after_operator("OR"),
+        Level::List => text.after_gap(),
     }
 }
 
-/// A bare word that ends, or a field and what stands behind it.
-#[tactic(auto, unfolding(crate::specs::Reading::behind_bare))]
-fn behind_bare_at<'a>(
+/// A bare word that ends, or a field and what stands after it.
+#[tactic(auto, unfolding(crate::specs::Reading::after_bare))]
+fn after_bare_at<'a>(
     alloc: Global,
     schema: &Schema,
     word: &str,
     text: Input<'a>,
-) -> Result<(Meaning, Input<'a>), Stop>
+) -> Result<(Meaning, Input<'a>), ParseError>
     requires { length word.now ≤ 4096 }
-    ensures { Finds (λ x. (result_map query_value x.0, x.1)) result (behind_bare schema.now word.now text.entry) }
+    ensures { Finds (λ x. (result_map query_value x.0, x.1)) result (after_bare schema.now word.now text.entry) }
 {
     match text.fork().split_first() {
         None => Ok((literal_anywhere(alloc, schema, word)?, text)),
@@ -97,47 +114,74 @@ fn bare_at<'a>(
     alloc: Global,
     schema: &Schema,
     text: Input<'a>,
-) -> Result<(Meaning, Input<'a>), Stop>
+) -> Result<(Meaning, Input<'a>), ParseError>
     ensures { Finds (λ x. (result_map query_value x.0, x.1)) result (bare_of schema.now text.entry) }
 {
     let left = text.len();
     match text.fork().split_first() {
-        None => Err(Stop::Syntax(left)),
+        None => Err(ParseError::Syntax(left)),
         Some((c, _)) => {
             let (word, rest) = text.split_word();
             if !is_word_char(c) || c == '+' || c == '-' || is_reserved(word) {
-                return Err(Stop::Syntax(left));
+                return Err(ParseError::Syntax(left));
             }
-            behind_bare_at(alloc, schema, word, rest)
+            after_bare_at(alloc, schema, word, rest)
         }
     }
 }
 
-/// A quotation, behind its opening quote.
-#[tactic(auto, unfolding(crate::specs::Reading::quote_of))]
-fn quote_at<'a>(
+/// A quoted text, after its opening quote.
+#[tactic(auto, unfolding(crate::specs::Reading::quoted_literal_of))]
+fn quoted_literal_at<'a>(
     alloc: Global,
     schema: &Schema,
     text: Input<'a>,
-) -> Result<(Meaning, Input<'a>), Stop>
-    ensures { Finds (λ x. (result_map query_value x.0, x.1)) result (quote_of schema.now text.entry) }
+) -> Result<(Meaning, Input<'a>), ParseError>
+    ensures { Finds (λ x. (result_map query_value x.0, x.1)) result (quoted_literal_of schema.now text.entry) }
 {
-    let (said, rest) = text.quoted(alloc)?;
-    Ok((literal_anywhere(alloc, schema, said.as_str())?, rest))
+    let (literal, rest) = text.unquote(alloc)?;
+    Ok((literal_anywhere(alloc, schema, literal.as_str())?, rest))
 }
 
 /// What follows a list in parentheses.
-fn close_at<'a>(meaning: Meaning, text: Input<'a>) -> Result<(Meaning, Input<'a>), Stop>
+fn close_at<'a>(meaning: Meaning, text: Input<'a>) -> Result<(Meaning, Input<'a>), ParseError>
     ensures { Finds (λ x. (result_map query_value x.0, x.1)) result (close (result_map query_value meaning) text.entry) }
 {
     let left = text.len();
     match text.split_first() {
-        None => Err(Stop::Syntax(left)),
+        None => Err(ParseError::Syntax(left)),
         Some((c, rest)) => {
             if c != ')' {
-                return Err(Stop::Syntax(left));
+                return Err(ParseError::Syntax(left));
             }
             Ok((meaning, rest))
+        }
+    }
+}
+
+/// The modifier at the front of a factor, and what follows it.
+#[tactic(auto, unfolding(crate::specs::Reading::modifier_of))]
+fn modifier_at<'a>(text: Input<'a>) -> Result<(Modifier, Input<'a>), ParseError>
+    ensures { Finds (λ x. x) result (modifier_of text.entry) }
+{
+    let left = text.len();
+    match text.fork().split_first() {
+        None => Err(ParseError::Syntax(left)),
+        Some((c, rest)) => {
+            if c == '+' {
+                return Ok((Modifier::Plus, rest));
+            }
+            if c == '-' {
+                return Ok((Modifier::Minus, rest));
+            }
+            let (word, rest) = text.fork().split_word();
+            if word != "NOT" {
+                return Ok((Modifier::Plain, text));
+            }
+            if !rest.begins_space() {
+                return Err(ParseError::Syntax(rest.len()));
+            }
+            Ok((Modifier::Minus, rest.after_space()))
         }
     }
 }
@@ -149,22 +193,22 @@ fn unit_at<'a>(
     schema: &Schema,
     depth: usize,
     text: Input<'a>,
-) -> Result<(Meaning, Input<'a>), Stop>
+) -> Result<(Meaning, Input<'a>), ParseError>
     ensures { Finds (λ x. (result_map query_value x.0, x.1)) result (unit_of schema.now depth text.entry) }
 {
     let left = text.len();
     if depth == 0 {
-        return Err(Stop::Syntax(left));
+        return Err(ParseError::Syntax(left));
     }
     match text.fork().split_first() {
-        None => Err(Stop::Syntax(left)),
+        None => Err(ParseError::Syntax(left)),
         Some((c, rest)) => {
             if c == '(' {
                 group_at(alloc, schema, depth - 1, rest)
             } else if c == '*' {
                 Ok((Ok(Query::All), rest))
             } else if c == '"' {
-                quote_at(alloc, schema, rest)
+                quoted_literal_at(alloc, schema, rest)
             } else {
                 bare_at(alloc, schema, text)
             }
@@ -172,7 +216,7 @@ fn unit_at<'a>(
     }
 }
 
-/// A list behind an opening parenthesis.
+/// A list after an opening parenthesis.
 #[cycle(reading)]
 #[tactic(auto, unfolding(crate::specs::Reading::group_of))]
 fn group_at<'a>(
@@ -180,33 +224,14 @@ fn group_at<'a>(
     schema: &Schema,
     depth: usize,
     text: Input<'a>,
-) -> Result<(Meaning, Input<'a>), Stop>
+) -> Result<(Meaning, Input<'a>), ParseError>
     ensures { Finds (λ x. (result_map query_value x.0, x.1)) result (group_of (unit_of schema.now depth) text.entry) }
 {
-    let (meaning, rest) = list_at(alloc, schema, depth, text.behind_space())?;
-    close_at(meaning, rest.behind_space())
+    let (meaning, rest) = list_at(alloc, schema, depth, text.after_space())?;
+    close_at(meaning, rest.after_space())
 }
 
-/// A unit behind `NOT`.
-#[cycle(reading)]
-#[tactic(auto, unfolding(crate::specs::Reading::negated_of))]
-fn negated_at<'a>(
-    alloc: Global,
-    schema: &Schema,
-    depth: usize,
-    text: Input<'a>,
-) -> Result<(Factor, Input<'a>), Stop>
-    ensures { Finds (λ x. (factor_seen x.0, x.1)) result (negated_of (unit_of schema.now depth) text.entry) }
-{
-    if !text.begins_space() {
-        return Err(Stop::Syntax(text.len()));
-    }
-    let (unit, rest) = unit_at(alloc, schema, depth, text.behind_space())?;
-    let sign = Sign::Minus;
-    Ok((Factor { sign, unit }, rest))
-}
-
-/// A unit, and what stands before it.
+/// A modifier, then a unit.
 #[cycle(reading)]
 #[tactic(auto, unfolding(crate::specs::Reading::factor_of))]
 fn factor_at<'a>(
@@ -214,171 +239,103 @@ fn factor_at<'a>(
     schema: &Schema,
     depth: usize,
     text: Input<'a>,
-) -> Result<(Factor, Input<'a>), Stop>
+) -> Result<(Factor, Input<'a>), ParseError>
     ensures { Finds (λ x. (factor_seen x.0, x.1)) result (factor_of (unit_of schema.now depth) text.entry) }
 {
-    match text.fork().split_first() {
-        None => Err(Stop::Syntax(0)),
-        Some((c, behind)) => {
-            if c == '+' {
-                let (unit, rest) = unit_at(alloc, schema, depth, behind)?;
-                let sign = Sign::Plus;
-                return Ok((Factor { sign, unit }, rest));
-            }
-            if c == '-' {
-                let (unit, rest) = unit_at(alloc, schema, depth, behind)?;
-                let sign = Sign::Minus;
-                return Ok((Factor { sign, unit }, rest));
-            }
-            let (word, behind) = text.fork().split_word();
-            if word == "NOT" {
-                return negated_at(alloc, schema, depth, behind);
-            }
-            let (unit, rest) = unit_at(alloc, schema, depth, text)?;
-            let sign = Sign::Plain;
-            Ok((Factor { sign, unit }, rest))
-        }
-    }
+    let (modifier, rest) = modifier_at(text)?;
+    let (unit, rest) = unit_at(alloc, schema, depth, rest)?;
+    Ok((Factor { modifier, unit }, rest))
 }
 
-/// Reads factors with `AND` between them into the clauses of their node.
+/// An item of a level.
 #[cycle(reading)]
-fn factors_at<'a>(
+fn item_at<'a>(
     alloc: Global,
     schema: &Schema,
     depth: usize,
-    clauses: &mut Clauses,
+    level: Level,
     text: Input<'a>,
-) -> Result<Input<'a>, Stop>
-    ensures { Finds (λ rest. (gathered_of clauses.new, rest)) result (then_gathered (gathered_of clauses.old) factor_clause (seq_by 4095 (operator_at (codes "AND")) (factor_of (unit_of schema.now depth)) text.entry)) }
+) -> Result<(Part, Input<'a>), ParseError>
+    ensures { Finds (λ x. (part_seen x.0, x.1)) result (item_of level (unit_of schema.now depth) text.entry) }
 {
-    let mut next = text;
-    for _ in 0..LONGEST - 1 {
-        let (factor, rest) = factor_at(alloc, schema, depth, next)?;
-        push_factor(clauses, factor)?;
-        match rest.behind_and() {
-            None => return Ok(rest),
-            Some(behind) => next = behind,
+    match level {
+        Level::Conjunction => {
+            let (factor, rest) = factor_at(alloc, schema, depth, text)?;
+            Ok((Part::Lone(factor), rest))
         }
-    }
-    Err(Stop::Syntax(next.len()))
-}
-
-/// Factors with `AND` between them.
-#[cycle(reading)]
-fn conjunction_at<'a>(
-    alloc: Global,
-    schema: &Schema,
-    depth: usize,
-    text: Input<'a>,
-) -> Result<(Part, Input<'a>), Stop>
-    ensures { Finds (λ x. (part_seen x.0, x.1)) result (over conjunction_part (conjunction_of (unit_of schema.now depth) text.entry)) }
-{
-    let (first, rest) = factor_at(alloc, schema, depth, text)?;
-    match rest.behind_and() {
-        None => Ok((Part::Lone(first), rest)),
-        Some(next) => {
-            let mut clauses = Clauses::new(alloc);
-            push_factor(&mut clauses, first)?;
-            let rest = factors_at(alloc, schema, depth, &mut clauses, next)?;
-            Ok((Part::Several(clauses.into_node()), rest))
-        }
+        Level::Disjunction => sequence_at(alloc, schema, depth, Level::Conjunction, text),
+        Level::List => sequence_at(alloc, schema, depth, Level::Disjunction, text),
     }
 }
 
-/// Reads conjunctions with `OR` between them into the clauses of their node.
+/// The node of an item, which stands before the text, and of those that follow it at its level.
 #[cycle(reading)]
-fn conjunctions_at<'a>(
+fn node_at<'a>(
     alloc: Global,
     schema: &Schema,
     depth: usize,
-    clauses: &mut Clauses,
+    level: Level,
+    first: Part,
     text: Input<'a>,
-) -> Result<Input<'a>, Stop>
-    ensures { Finds (λ rest. (gathered_of clauses.new, rest)) result (then_gathered (gathered_of clauses.old) (λ fs. part_should (conjunction_part fs)) (seq_by 4095 (operator_at (codes "OR")) (conjunction_of (unit_of schema.now depth)) text.entry)) }
+) -> Result<(Meaning, Input<'a>), ParseError>
+    ensures { (n : ℕ) → length text.entry ≤ n → Finds (λ x. (result_map query_value x.0, x.1)) result (over (node_of level) (onto (part_seen first) (following n level (unit_of schema.now depth) text.entry))) }
 {
-    let mut next = text;
-    for _ in 0..LONGEST - 1 {
-        let (part, rest) = conjunction_at(alloc, schema, depth, next)?;
-        push_alternative(alloc, clauses, part)?;
-        match rest.behind_or() {
-            None => return Ok(rest),
-            Some(behind) => next = behind,
-        }
+    let mut clauses = Clauses::new(alloc);
+    push_item(alloc, level, &mut clauses, first)?;
+    let mut rest = text;
+    while let Some(next) = after_separator(level, &rest) {
+        let (item, left) = item_at(alloc, schema, depth, level, next)?;
+        push_item(alloc, level, &mut clauses, item)?;
+        rest = left;
     }
-    Err(Stop::Syntax(next.len()))
+    Ok((clauses.into_node(), rest))
 }
 
-/// Conjunctions with `OR` between them.
+/// A sequence of a level: its only item, or the node of all of them.
 #[cycle(reading)]
-fn chain_at<'a>(
+fn sequence_at<'a>(
     alloc: Global,
     schema: &Schema,
     depth: usize,
+    level: Level,
     text: Input<'a>,
-) -> Result<(Part, Input<'a>), Stop>
-    ensures { Finds (λ x. (part_seen x.0, x.1)) result (over chain_part (chain_of (unit_of schema.now depth) text.entry)) }
+) -> Result<(Part, Input<'a>), ParseError>
+    ensures { Finds (λ x. (part_seen x.0, x.1)) result (sequence_of level (unit_of schema.now depth) text.entry) }
 {
-    let (first, rest) = conjunction_at(alloc, schema, depth, text)?;
-    match rest.behind_or() {
+    let (first, rest) = item_at(alloc, schema, depth, level, text)?;
+    match after_separator(level, &rest) {
         None => Ok((first, rest)),
-        Some(next) => {
-            let mut clauses = Clauses::new(alloc);
-            push_alternative(alloc, &mut clauses, first)?;
-            let rest = conjunctions_at(alloc, schema, depth, &mut clauses, next)?;
-            Ok((Part::Several(clauses.into_node()), rest))
+        Some(_) => {
+            let (node, rest) = node_at(alloc, schema, depth, level, first, rest)?;
+            Ok((Part::Several(node), rest))
         }
     }
 }
 
-/// Reads chains with white space between them into the clauses of their node.
-#[cycle(reading)]
-fn chains_at<'a>(
-    alloc: Global,
-    schema: &Schema,
-    depth: usize,
-    clauses: &mut Clauses,
-    text: Input<'a>,
-) -> Result<Input<'a>, Stop>
-    ensures { Finds (λ rest. (gathered_of clauses.new, rest)) result (then_gathered (gathered_of clauses.old) (λ cs. clause_of_part (chain_part cs)) (seq_by 4096 space_at (chain_of (unit_of schema.now depth)) text.entry)) }
-{
-    let mut next = text;
-    for _ in 0..LONGEST {
-        let (chain, rest) = chain_at(alloc, schema, depth, next)?;
-        push_chain(clauses, chain)?;
-        match rest.behind_separator() {
-            None => return Ok(rest),
-            Some(behind) => next = behind,
-        }
-    }
-    Err(Stop::Syntax(next.len()))
-}
-
-/// Chains with white space between them.
+/// A list: the node of one disjunction or more.
 #[cycle(reading)]
 fn list_at<'a>(
     alloc: Global,
     schema: &Schema,
     depth: usize,
     text: Input<'a>,
-) -> Result<(Meaning, Input<'a>), Stop>
+) -> Result<(Meaning, Input<'a>), ParseError>
     ensures { Finds (λ x. (result_map query_value x.0, x.1)) result (meaning_of (unit_of schema.now depth) text.entry) }
 {
-    let mut clauses = Clauses::new(alloc);
-    let rest = chains_at(alloc, schema, depth, &mut clauses, text)?;
-    Ok((clauses.into_node(), rest))
+    let (first, rest) = item_at(alloc, schema, depth, Level::List, text)?;
+    node_at(alloc, schema, depth, Level::List, first, rest)
 }
 
 /// The meaning of a whole text.
 #[tactic(auto, unfolding(crate::specs::Reading::query_of))]
-pub(crate) fn query_at(alloc: Global, schema: &Schema, text: Input<'_>) -> Result<Meaning, Stop>
+pub(crate) fn query_at(alloc: Global, schema: &Schema, text: Input<'_>) -> Result<Meaning, ParseError>
     ensures { Finds (λ m. result_map query_value m) result (query_of schema.now 4096 text.entry) }
 {
-    let (meaning, rest) = list_at(alloc, schema, LONGEST, text.behind_space())?;
-    let rest = rest.behind_space();
+    let (meaning, rest) = list_at(alloc, schema, LONGEST, text.after_space())?;
+    let rest = rest.after_space();
     let left = rest.len();
     match rest.split_first() {
         None => Ok(meaning),
-        Some(_) => Err(Stop::Syntax(left)),
+        Some(_) => Err(ParseError::Syntax(left)),
     }
 }

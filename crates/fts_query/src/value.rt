@@ -1,16 +1,16 @@
-// What stands behind a field and a colon.
+// What stands after a field and a colon.
 ghost use Rattle.std.specs.Prelude.{◌≡◌, ◌≤◌, length, option_map, IfOk, true, false, codes};
 ghost use Rattle.fts_query.specs.Steps.{Finds};
 ghost use Rattle.fts_query.specs.Values.{value_seen, bound_seen, IsShort};
 ghost use Rattle.fts_query.specs.Grammar.{bound};
-ghost use Rattle.fts_query.specs.Reading.{word_of, bound_of, range_end, range_of, compared_of, above_of, below_of, said_of, plain_of, value_of};
+ghost use Rattle.fts_query.specs.Reading.{word_of, bound_of, range_end, range_of, compared_of, above_of, below_of, quoted_value_of, plain_of, value_of};
 
 use crate::input::{Input, is_word_char};
-use crate::stop::Stop;
+use crate::error::ParseError;
 use std::alloc::Global;
 use std::ops::Bound;
 
-/// What stands behind a field and a colon: a literal, or the bounds of a range.
+/// What stands after a field and a colon: a literal, or the bounds of a range.
 #[derive(Drop)]
 pub(crate) enum Value<'a> {
     Word(&'a str),
@@ -20,16 +20,16 @@ pub(crate) enum Value<'a> {
 
 /// A word, which isn't empty.
 #[tactic(auto, unfolding(crate::specs::Reading::word_of))]
-fn word_at<'a>(text: Input<'a>) -> Result<(&'a str, Input<'a>), Stop>
+fn word_at<'a>(text: Input<'a>) -> Result<(&'a str, Input<'a>), ParseError>
     ensures read { Finds (λ x. (x.0.now, x.1)) result (word_of text.entry) }
     ensures short { IfOk result (λ x. length x.0.now ≤ 4096) }
 {
     let left = text.len();
     match text.fork().split_first() {
-        None => Err(Stop::Syntax(left)),
+        None => Err(ParseError::Syntax(left)),
         Some((c, _)) => {
             if !is_word_char(c) {
-                return Err(Stop::Syntax(left));
+                return Err(ParseError::Syntax(left));
             }
             Ok(text.split_word())
         }
@@ -38,12 +38,12 @@ fn word_at<'a>(text: Input<'a>) -> Result<(&'a str, Input<'a>), Stop>
 
 /// A bound of a range, if it isn't `*`.
 #[tactic(auto, unfolding(crate::specs::Reading::bound_of))]
-fn bound_at<'a>(text: Input<'a>) -> Result<(Option<&'a str>, Input<'a>), Stop>
+fn bound_at<'a>(text: Input<'a>) -> Result<(Option<&'a str>, Input<'a>), ParseError>
     ensures { Finds (λ x. (option_map (λ w. w.now) x.0, x.1)) result (bound_of text.entry) }
 {
     let left = text.len();
     match text.fork().split_first() {
-        None => Err(Stop::Syntax(left)),
+        None => Err(ParseError::Syntax(left)),
         Some((c, rest)) => {
             if c == '*' {
                 return Ok((None, rest));
@@ -70,19 +70,19 @@ fn bound_of_word(included: bool, word: Option<&str>) -> Bound<&str>
     }
 }
 
-/// The end of a range, behind its upper bound.
+/// The end of a range, after its upper bound.
 #[tactic(auto, unfolding(crate::specs::Reading::range_end))]
 fn range_end_at<'a>(
     lower: Bound<&'a str>,
     upper: Option<&'a str>,
     text: Input<'a>,
-) -> Result<(Value<'a>, Input<'a>), Stop>
+) -> Result<(Value<'a>, Input<'a>), ParseError>
     ensures read { Finds (λ x. (value_seen x.0, x.1)) result (range_end (bound_seen lower.entry) (option_map (λ w. w.now) upper.entry) text.entry) }
     ensures short { IfOk result (λ x. IsShort (value_seen x.0)) }
 {
     let left = text.len();
     match text.split_first() {
-        None => Err(Stop::Syntax(left)),
+        None => Err(ParseError::Syntax(left)),
         Some((c, rest)) => {
             if c == ']' {
                 let upper = bound_of_word(true, upper);
@@ -92,35 +92,35 @@ fn range_end_at<'a>(
                 let upper = bound_of_word(false, upper);
                 return Ok((Value::Range(lower, upper), rest));
             }
-            Err(Stop::Syntax(left))
+            Err(ParseError::Syntax(left))
         }
     }
 }
 
-/// A range, behind what opens it.
+/// A range, after what opens it.
 #[tactic(auto, unfolding(crate::specs::Reading::range_of))]
-fn range_at<'a>(included: bool, text: Input<'a>) -> Result<(Value<'a>, Input<'a>), Stop>
+fn range_at<'a>(included: bool, text: Input<'a>) -> Result<(Value<'a>, Input<'a>), ParseError>
     ensures read { Finds (λ x. (value_seen x.0, x.1)) result (range_of included text.entry) }
     ensures short { IfOk result (λ x. IsShort (value_seen x.0)) }
 {
-    let (lower, rest) = bound_at(text.behind_space())?;
-    match rest.behind_to() {
-        None => Err(Stop::Syntax(rest.len())),
+    let (lower, rest) = bound_at(text.after_space())?;
+    match rest.after_operator("TO") {
+        None => Err(ParseError::Syntax(rest.len())),
         Some(next) => {
             let (upper, rest) = bound_at(next)?;
-            range_end_at(bound_of_word(included, lower), upper, rest.behind_space())
+            range_end_at(bound_of_word(included, lower), upper, rest.after_space())
         }
     }
 }
 
-/// The word behind `>` or `<`, and whether `=` stands before it.
+/// The word after `>` or `<`, and whether `=` stands before it.
 #[tactic(auto, unfolding(crate::specs::Reading::compared_of))]
-fn compared_at<'a>(text: Input<'a>) -> Result<((bool, &'a str), Input<'a>), Stop>
+fn compared_at<'a>(text: Input<'a>) -> Result<((bool, &'a str), Input<'a>), ParseError>
     ensures { Finds (λ x. ((x.0.0, x.0.1.now), x.1)) result (compared_of text.entry) }
 {
     let left = text.len();
     match text.fork().split_first() {
-        None => Err(Stop::Syntax(left)),
+        None => Err(ParseError::Syntax(left)),
         Some((c, rest)) => {
             if c == '=' {
                 let (word, rest) = word_at(rest)?;
@@ -132,9 +132,9 @@ fn compared_at<'a>(text: Input<'a>) -> Result<((bool, &'a str), Input<'a>), Stop
     }
 }
 
-/// A comparison, behind its `>`.
+/// A comparison, after its `>`.
 #[tactic(auto, unfolding(crate::specs::Reading::above_of))]
-fn above_at<'a>(text: Input<'a>) -> Result<(Value<'a>, Input<'a>), Stop>
+fn above_at<'a>(text: Input<'a>) -> Result<(Value<'a>, Input<'a>), ParseError>
     ensures read { Finds (λ x. (value_seen x.0, x.1)) result (above_of text.entry) }
     ensures short { IfOk result (λ x. IsShort (value_seen x.0)) }
 {
@@ -143,9 +143,9 @@ fn above_at<'a>(text: Input<'a>) -> Result<(Value<'a>, Input<'a>), Stop>
     Ok((Value::Range(lower, Bound::Unbounded), rest))
 }
 
-/// A comparison, behind its `<`.
+/// A comparison, after its `<`.
 #[tactic(auto, unfolding(crate::specs::Reading::below_of))]
-fn below_at<'a>(text: Input<'a>) -> Result<(Value<'a>, Input<'a>), Stop>
+fn below_at<'a>(text: Input<'a>) -> Result<(Value<'a>, Input<'a>), ParseError>
     ensures read { Finds (λ x. (value_seen x.0, x.1)) result (below_of text.entry) }
     ensures short { IfOk result (λ x. IsShort (value_seen x.0)) }
 {
@@ -154,19 +154,19 @@ fn below_at<'a>(text: Input<'a>) -> Result<(Value<'a>, Input<'a>), Stop>
     Ok((Value::Range(Bound::Unbounded, upper), rest))
 }
 
-/// A quotation, behind its opening quote.
-#[tactic(auto, unfolding(crate::specs::Reading::said_of))]
-fn said_at<'a>(alloc: Global, text: Input<'a>) -> Result<(Value<'a>, Input<'a>), Stop>
-    ensures read { Finds (λ x. (value_seen x.0, x.1)) result (said_of text.entry) }
+/// A quoted text, after its opening quote.
+#[tactic(auto, unfolding(crate::specs::Reading::quoted_value_of))]
+fn quoted_value_at<'a>(alloc: Global, text: Input<'a>) -> Result<(Value<'a>, Input<'a>), ParseError>
+    ensures read { Finds (λ x. (value_seen x.0, x.1)) result (quoted_value_of text.entry) }
     ensures short { IfOk result (λ x. IsShort (value_seen x.0)) }
 {
-    let (said, rest) = text.quoted(alloc)?;
-    Ok((Value::Quoted(said), rest))
+    let (unquoted, rest) = text.unquote(alloc)?;
+    Ok((Value::Quoted(unquoted), rest))
 }
 
 /// A word.
 #[tactic(auto, unfolding(crate::specs::Reading::plain_of))]
-fn plain_at<'a>(text: Input<'a>) -> Result<(Value<'a>, Input<'a>), Stop>
+fn plain_at<'a>(text: Input<'a>) -> Result<(Value<'a>, Input<'a>), ParseError>
     ensures read { Finds (λ x. (value_seen x.0, x.1)) result (plain_of text.entry) }
     ensures short { IfOk result (λ x. IsShort (value_seen x.0)) }
 {
@@ -174,17 +174,17 @@ fn plain_at<'a>(text: Input<'a>) -> Result<(Value<'a>, Input<'a>), Stop>
     Ok((Value::Word(word), rest))
 }
 
-/// What stands behind a field and a colon, and what follows it.
+/// What stands after a field and a colon, and what follows it.
 #[tactic(auto, unfolding(crate::specs::Reading::value_of))]
-pub(crate) fn value_at<'a>(alloc: Global, text: Input<'a>) -> Result<(Value<'a>, Input<'a>), Stop>
+pub(crate) fn value_at<'a>(alloc: Global, text: Input<'a>) -> Result<(Value<'a>, Input<'a>), ParseError>
     ensures read { Finds (λ x. (value_seen x.0, x.1)) result (value_of text.entry) }
     ensures short { IfOk result (λ x. IsShort (value_seen x.0)) }
 {
     let left = text.len();
     match text.fork().split_first() {
-        None => Err(Stop::Syntax(left)),
+        None => Err(ParseError::Syntax(left)),
         Some((c, rest)) => match c {
-            '"' => said_at(alloc, rest),
+            '"' => quoted_value_at(alloc, rest),
             '[' => range_at(true, rest),
             '{' => range_at(false, rest),
             '>' => above_at(rest),

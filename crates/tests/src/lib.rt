@@ -6,4 +6,6 @@ mod fixtures;
 #[cfg(test)]
 mod model;
 #[cfg(test)]
+mod query;
+#[cfg(test)]
 mod text;

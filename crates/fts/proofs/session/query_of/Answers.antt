@@ -5,7 +5,7 @@ use Rattle.fts_model.specs.declared.schema.Field.{Field}
 use Rattle.fts_model.specs.QueryValues.{query_value}
 use Rattle.fts_query.specs.Outcomes.{Reads, refusal_without_byte}
 use Rattle.fts_query.specs.Answers.{answer}
-use Rattle.fts_query.proofs.Law.{reads_answer}
+use Rattle.fts_query.proofs.AnswersLemmas.{reads_answer}
 use Rattle.fts.proofs.session.query_of.Goals as goal
 
 pub returns-in-Ok : goal.returns-in-Ok

@@ -1,4 +1,4 @@
-use Rattle.fts_query.proofs.CharLemmas.{chars-cons}
+use Rattle.fts_query.proofs.ReadingLemmas.{chars-cons}
 use Rattle.fts_query.proofs.input.split_first.Goals as goal
 
 pub returns-clause-chars : goal.returns-clause-chars

@@ -1,5 +1,5 @@
 use Rattle.std.proofs.Common.{sym, arith}
-use Rattle.fts_query.proofs.NumberLemmas.{smaller_found, smaller_beyond, smaller_none}
+use Rattle.fts_query.proofs.MeaningsLemmas.{smaller_found, smaller_beyond, smaller_none}
 use Rattle.fts_query.proofs.number.below.Goals as goal
 
 pub returns-in-None-clause-value : goal.returns-in-None-clause-value

@@ -1,5 +1,5 @@
 use Rattle.std.proofs.Common.{sym, ◌∙◌}
-use Rattle.fts_query.proofs.NumberLemmas.{whole_is}
+use Rattle.fts_query.proofs.MeaningsLemmas.{whole_is}
 use Rattle.fts_query.proofs.number.unsigned.Goals as goal
 
 pub returns : goal.returns

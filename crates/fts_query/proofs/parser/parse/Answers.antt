@@ -1,6 +1,6 @@
 use Rattle.std.proofs.Common.{sym, ◌∙◌}
 use Rattle.fts_query.specs.Outcomes.{IsFit}
-use Rattle.fts_query.proofs.Law.{answered, refused, fitted}
+use Rattle.fts_query.proofs.AnswersLemmas.{answered, refused, fitted}
 use Rattle.fts_query.proofs.parser.parse.Goals as goal
 
 pub returns-clause-reads : goal.returns-clause-reads

@@ -1,50 +1,40 @@
-use Rattle.std.proofs.Common.{◌≡◌, ◌+◌, ◌*◌, ◌-◌, codes}
+use Rattle.std.proofs.Common.{ℕ, ◌+◌, ◌*◌, ◌≤◌, length}
+use Rattle.fts_query.specs.declared.reader.Level.{Level}
 use Rattle.fts_query.specs.Gathering.{gathered_of}
-use Rattle.fts_query.specs.Parts.{then_gathered, factor_clause, part_should, conjunction_part, part_clause, chain_part}
-use Rattle.fts_query.specs.Reading.{seq_by, operator_at, space_at, unit_of, factor_of, conjunction_of, chain_of}
+use Rattle.fts_query.specs.Sequences.{part_seen}
+use Rattle.fts_query.proofs.SequencesLemmas.{Goes, total_of}
+use Rattle.fts_query.specs.declared.reader.Level.TheVariants as levels
 use Rattle.fts_query.proofs.reader.+reading.Given as goal
 
-abbrev pub decreases-unit_at : goal.decreases-unit_at
-decreases-unit_at l = 10 * l.depth
+-- how far above a factor a level stands
+abbrev height : Level → ℕ
+height levels.Conjunction = 1
+height levels.Disjunction = 4
+height levels.List = 7
 
-abbrev pub decreases-negated_at : goal.decreases-negated_at
-decreases-negated_at l = 10 * l.depth + 1
+abbrev pub decreases-unit_at : goal.decreases-unit_at
+decreases-unit_at l = 20 * l.depth
 
 abbrev pub decreases-factor_at : goal.decreases-factor_at
-decreases-factor_at l = 10 * l.depth + 2
+decreases-factor_at l = 20 * l.depth + 1
 
-abbrev pub decreases-factors_at : goal.decreases-factors_at
-decreases-factors_at l = 10 * l.depth + 3
+abbrev pub decreases-item_at : goal.decreases-item_at
+decreases-item_at l = 20 * l.depth + 1 + height l.level
 
-abbrev pub decreases-conjunction_at : goal.decreases-conjunction_at
-decreases-conjunction_at l = 10 * l.depth + 4
+abbrev pub decreases-node_at : goal.decreases-node_at
+decreases-node_at l = 20 * l.depth + 2 + height l.level
 
-abbrev pub decreases-conjunctions_at : goal.decreases-conjunctions_at
-decreases-conjunctions_at l = 10 * l.depth + 5
-
-abbrev pub decreases-chain_at : goal.decreases-chain_at
-decreases-chain_at l = 10 * l.depth + 6
-
-abbrev pub decreases-chains_at : goal.decreases-chains_at
-decreases-chains_at l = 10 * l.depth + 7
+abbrev pub decreases-sequence_at : goal.decreases-sequence_at
+decreases-sequence_at l = 20 * l.depth + 3 + height l.level
 
 abbrev pub decreases-list_at : goal.decreases-list_at
-decreases-list_at l = 10 * l.depth + 8
+decreases-list_at l = 20 * l.depth + 11
 
 abbrev pub decreases-group_at : goal.decreases-group_at
-decreases-group_at l = 10 * l.depth + 9
+decreases-group_at l = 20 * l.depth + 12
 
-abbrev pub invariant-factors_at-loop : goal.invariant-factors_at-loop
-invariant-factors_at-loop l =
-    then_gathered (gathered_of l.clauses) factor_clause (seq_by (4095 - l.counter) (operator_at (codes "AND")) (factor_of (unit_of l.schema l.depth)) l.next)
-    ≡ then_gathered (gathered_of l.fn.clauses) factor_clause (seq_by 4095 (operator_at (codes "AND")) (factor_of (unit_of l.schema l.depth)) l.fn.text)
+abbrev pub invariant-node_at-loop-next : goal.invariant-node_at-loop-next
+invariant-node_at-loop-next l = (n : ℕ) → length l.fn.text ≤ n → Goes l.schema l.depth l.level (gathered_of l.clauses) l.rest (total_of l.schema l.depth l.level n (part_seen l.fn.first) l.fn.text)
 
-abbrev pub invariant-conjunctions_at-loop : goal.invariant-conjunctions_at-loop
-invariant-conjunctions_at-loop l =
-    then_gathered (gathered_of l.clauses) (λ fs. part_should (conjunction_part fs)) (seq_by (4095 - l.counter) (operator_at (codes "OR")) (conjunction_of (unit_of l.schema l.depth)) l.next)
-    ≡ then_gathered (gathered_of l.fn.clauses) (λ fs. part_should (conjunction_part fs)) (seq_by 4095 (operator_at (codes "OR")) (conjunction_of (unit_of l.schema l.depth)) l.fn.text)
-
-abbrev pub invariant-chains_at-loop : goal.invariant-chains_at-loop
-invariant-chains_at-loop l =
-    then_gathered (gathered_of l.clauses) (λ cs. part_clause (chain_part cs)) (seq_by (4096 - l.counter) space_at (chain_of (unit_of l.schema l.depth)) l.next)
-    ≡ then_gathered (gathered_of l.fn.clauses) (λ cs. part_clause (chain_part cs)) (seq_by 4096 space_at (chain_of (unit_of l.schema l.depth)) l.fn.text)
+abbrev pub decreases-node_at-loop-next : goal.decreases-node_at-loop-next
+decreases-node_at-loop-next l = length l.rest

@@ -1,0 +1,175 @@
+-- What literals mean: tokens, default fields, numbers.
+use Rattle.std.proofs.Common.{◌≡◌, ℕ, ◌+◌, ◌-◌, ◌<◌, ◌≤◌, ◌^◌, Bool, true, false, List, [], ◌∷◌, ◌++◌, length, drop, map, refl, sym, ap, subst, ◌∙◌, append_assoc, All, arith, Err, inl, inr, ◌*◌, ◌&&◌, Some, None, ltb}
+use Rattle.std.specs.List.{list_any, list_all}
+use Rattle.std.specs.Str.{IsUtf8}
+use Rattle.std.proofs.lemmas.Bool.{cases_Bool, le-ltb, lt-ltb, ltb-false, and_right, and_parts}
+use Rattle.std.proofs.lemmas.List.{append-nil, drop_all}
+use Rattle.fts_text.specs.declared.tokenizer.Token.{Token}
+use Rattle.fts_text.specs.Tokens.{tokens}
+use Rattle.fts_text.specs.Places.{places, token_at, IsPlaceIn}
+use Rattle.fts_text.proofs.StretchLemmas.{All-IsPlaceIn, IsPlaceIn-first, tokens-places}
+use Rattle.fts_model.specs.declared.schema.Field.{Field}
+use Rattle.fts_query.specs.declared.error.QueryError.TheVariants.{NoDefaultField}
+use Rattle.fts_model.specs.QueryValues.{phrase, nothing}
+use Rattle.fts_query.specs.Meanings.{Clause, node, with_tokens, with_value, default_clauses, some_default, literal_anywhere, is_digit, are_digits, decimal_after, decimal, number_below}
+use Rattle.fts_query.specs.Gathering.{Gathered, gather_all, gathered_node}
+use Rattle.fts_query.proofs.GatheringLemmas.{nothing_gathered, gathered_node-all}
+use Rattle.std.specs.Prelude.{◌==◌}
+use Rattle.std.proofs.lemmas.Option.{cond_some}
+use Rattle.fts_model.specs.declared.value.FieldValue.TheVariants as values
+
+-- tokens with their distances from a position
+abbrev pub distances : ℕ → List (ℕ × List ℕ) → List (ℕ × List ℕ)
+distances from ts = map (λ t. (t.0 - from, t.1)) ts
+
+-- the member of a pattern at a place
+abbrev pub member : List ℕ → ℕ → Token → ℕ × List ℕ
+member text from place = ((token_at text place).0 - from, (token_at text place).1)
+
+map-member : (text : List ℕ) (from : ℕ) (ps : List Token) → map (member text from) ps ≡ distances from (map (token_at text) ps)
+map-member text from [] = refl
+map-member text from (p ∷ ps) = ap (λ (l : List (ℕ × List ℕ)). member text from p ∷ l) (map-member text from ps)
+
+-- a pattern so far, and the places that are left
+pub record Gathers (text : List ℕ) (from : ℕ) (done : List (ℕ × List ℕ)) (left : List Token) : Type 0 where
+  pub within : All (IsPlaceIn text) left
+  pub members : done ++ map (member text from) left ≡ distances from (tokens text)
+
+pub Gathers-start : (text : List ℕ) (from : ℕ) (done : List (ℕ × List ℕ)) (left : List Token) → IsUtf8 text → done ≡ [] → left ≡ places text → Gathers text from done left
+Gathers-start text from done left u e start =
+    let P : List Token → Type 0 = All (IsPlaceIn text) in
+    record {
+      within = subst P (sym start) (All-IsPlaceIn text u);
+      members = ap (λ (d : List (ℕ × List ℕ)). d ++ map (member text from) left) e ∙ ap (map (member text from)) start ∙ map-member text from (places text) ∙ ap (distances from) (tokens-places text u);
+    }
+
+pub Gathers-place : (text : List ℕ) (from : ℕ) (done : List (ℕ × List ℕ)) (place : Token) (left rest : List Token) → left ≡ place ∷ rest → Gathers text from done left → IsPlaceIn text place
+Gathers-place text from done place left rest first g = (IsPlaceIn-first text place left rest first g.within).0
+
+pub Gathers-next : (text : List ℕ) (from : ℕ) (done more : List (ℕ × List ℕ)) (place : Token) (left rest : List Token) → left ≡ place ∷ rest → more ≡ done ++ member text from place ∷ [] → Gathers text from done left → Gathers text from more rest
+Gathers-next text from done more place left rest first e g = record {
+  within = (IsPlaceIn-first text place left rest first g.within).1;
+  members = ap (λ (d : List (ℕ × List ℕ)). d ++ map (member text from) rest) e ∙ append_assoc done (member text from place ∷ []) (map (member text from) rest)
+      ∙ ap (λ (l : List Token). done ++ map (member text from) l) (sym first) ∙ g.members;
+}
+
+pub Gathers-none : (text : List ℕ) (from : ℕ) (done : List (ℕ × List ℕ)) (left : List Token) → left ≡ [] → Gathers text from done left → done ≡ distances from (tokens text)
+Gathers-none text from done left none g = sym (append-nil done) ∙ ap (λ (l : List Token). done ++ map (member text from) l) (sym none) ∙ g.members
+
+-- a position in a text of a query fits 32 bits
+pub position_fits : (text : List ℕ) (place : Token) (from : ℕ) → length text ≤ 4096 → IsPlaceIn text place → place.position - from < 2 ^ 32
+position_fits text place from short at = omega (arith, at.nonempty, at.within, at.numbered)
+
+tokens_of : (text : List ℕ) (left : List Token) → IsUtf8 text → left ≡ places text → tokens text ≡ map (token_at text) left
+tokens_of text left u start = sym (tokens-places text u) ∙ ap (map (token_at text)) (sym start)
+
+pub no_token : (field : ℕ) (text : List ℕ) (left : List Token) → IsUtf8 text → left ≡ places text → left ≡ [] → with_tokens field (tokens text) ≡ nothing
+no_token field text left u start none = ap (with_tokens field) (tokens_of text left u start ∙ ap (map (token_at text)) none)
+
+pub one_token : (field : ℕ) (text : List ℕ) (left rest : List Token) (first : Token) → IsUtf8 text → left ≡ places text → left ≡ first ∷ rest → rest ≡ [] → with_tokens field (tokens text) ≡ with_value field (values.Text (token_at text first).1)
+one_token field text left rest first u start cons none =
+    ap (with_tokens field) (tokens_of text left u start ∙ ap (map (token_at text)) (cons ∙ ap (λ (l : List Token). first ∷ l) none))
+
+pub more_tokens : (field : ℕ) (text : List ℕ) (left rest others : List Token) (first second : Token) → IsUtf8 text → left ≡ places text → left ≡ first ∷ rest → rest ≡ second ∷ others → with_tokens field (tokens text) ≡ phrase field (distances first.position (tokens text))
+more_tokens field text left rest others first second u start cons more =
+    let e : tokens text ≡ token_at text first ∷ token_at text second ∷ map (token_at text) others = tokens_of text left u start ∙ ap (map (token_at text)) (cons ∙ ap (λ (l : List Token). first ∷ l) more) in
+    ap (with_tokens field) e ∙ ap (λ (ts : List (ℕ × List ℕ)). phrase field (distances first.position ts)) (sym e)
+
+-- the first place stands in the text
+pub first_place : (text : List ℕ) (left rest : List Token) (first : Token) → IsUtf8 text → left ≡ places text → left ≡ first ∷ rest → IsPlaceIn text first
+first_place text left rest first u start cons =
+    let P : List Token → Type 0 = All (IsPlaceIn text) in
+    (IsPlaceIn-first text first left rest cons (subst P (sym start) (All-IsPlaceIn text u))).0
+
+-- the default fields
+abbrev pub is_default : Field → Bool
+is_default f = f.default
+
+no_clauses : (i : ℕ) (fields : List Field) (text : List ℕ) → list_any is_default fields ≡ false → default_clauses i fields text ≡ []
+no_clauses i [] text e = refl
+no_clauses i (field ∷ fields) text e =
+    elim (cases_Bool field.default) [
+      | inl d ↦ absurd (let h : list_any is_default (field ∷ fields) ≡ true = rw d refl in cc)
+      | inr d ↦ let h : list_any is_default fields ≡ false = rw d at e in rw d (no_clauses (i + 1) fields text h)
+    ]
+
+some_clauses : (i : ℕ) (fields : List Field) (text : List ℕ) → list_any is_default fields ≡ true → (c : Clause) × (cs : List Clause) × (default_clauses i fields text ≡ c ∷ cs)
+some_clauses i [] text e = absurd (let h = e in cc)
+some_clauses i (field ∷ fields) text e =
+    elim (cases_Bool field.default) [
+      | inl d ↦ rw d (_, _, refl)
+      | inr d ↦ let h : list_any is_default fields ≡ true = rw d at e in rw d (some_clauses (i + 1) fields text h)
+    ]
+
+pub no_default : (fields : List Field) (text : List ℕ) → list_any is_default fields ≡ false → literal_anywhere fields text ≡ Err NoDefaultField
+unfolding literal_anywhere
+no_default fields text e = ap some_default (no_clauses 0 fields text e)
+
+pub defaults : (fields : List Field) (text : List ℕ) (i : ℕ) (g : Gathered) → list_any is_default fields ≡ true → length fields ≤ i
+    → gather_all g (default_clauses i (drop i fields) text) ≡ gather_all nothing_gathered (default_clauses 0 fields text) → gathered_node g ≡ literal_anywhere fields text
+unfolding literal_anywhere
+defaults fields text i g e l h =
+    let s = some_clauses 0 fields text e in
+    let done : drop i fields ≡ [] = drop_all i fields l in
+    let all : g ≡ gather_all nothing_gathered (default_clauses 0 fields text) = subst (λ (fs : List Field). gather_all g (default_clauses i fs text) ≡ gather_all nothing_gathered (default_clauses 0 fields text)) done h in
+    let whole : some_default (default_clauses 0 fields text) ≡ node (s.0 ∷ s.1) = ap some_default s.2 in
+    ap gathered_node all ∙ gathered_node-all (default_clauses 0 fields text) ∙ ap node s.2 ∙ sym whole
+
+pub grows : (n : ℕ) (w : List ℕ) → n ≤ decimal_after n w
+grows n [] = omega arith
+grows n (c ∷ w) = omega (arith, grows (n * 10 + (c - 48)) w)
+
+pub too_large : (limit : ℕ) (w : List ℕ) → limit ≤ decimal w → number_below limit w ≡ None
+unfolding number_below
+too_large limit w h =
+    let k : ltb (decimal w) limit ≡ false = le-ltb _ _ h in
+    let e : (are_digits w && ltb (decimal w) limit) ≡ false = and_right _ _ k in
+    rw e refl
+
+pub overflows : (n : ℕ) (w all : List ℕ) → decimal_after n w ≡ decimal all → 2 ^ 64 ≤ n → number_below (2 ^ 64) all ≡ None
+overflows n w all e h = too_large (2 ^ 64) all (omega (arith, grows n w))
+
+are_digits-nonempty : (w : List ℕ) → (length w == 0) ≡ false → are_digits w ≡ list_all is_digit w
+are_digits-nonempty [] h = absurd (let k = h in cc)
+are_digits-nonempty (c ∷ w) h = refl
+
+-- all digits are read
+pub whole_is : (all rest : List ℕ) (n : ℕ) → length rest < 1 → decimal_after n rest ≡ decimal all → list_all is_digit rest ≡ list_all is_digit all → (length all == 0) ≡ false → n < 2 ^ 64 → Some n ≡ number_below (2 ^ 64) all
+unfolding number_below
+whole_is all [] n l e d k h =
+    let a : decimal all ≡ n = sym e in
+    let b : are_digits all ≡ true = are_digits-nonempty all k ∙ sym d in
+    let t : ltb n (2 ^ 64) ≡ true = lt-ltb _ _ h in
+    rw (b, a, t) refl
+whole_is all (c ∷ rest) n l e d k h = absurd (omega arith)
+
+-- the same under a smaller limit
+module _ (limit : ℕ) (text : List ℕ) (small : limit ≤ 2 ^ 64) where
+  found : (n : ℕ) → number_below (2 ^ 64) text ≡ Some n → (are_digits text ≡ true) × (decimal text ≡ n)
+  unfolding number_below
+  found n e =
+      let c = cond_some (are_digits text && ltb (decimal text) (2 ^ 64)) (decimal text) n e in
+      ((and_parts (are_digits text) (ltb (decimal text) (2 ^ 64)) c.0).0, c.1)
+
+  pub smaller_found : (n : ℕ) → number_below (2 ^ 64) text ≡ Some n → n < limit → number_below limit text ≡ Some n
+  unfolding number_below
+  smaller_found n e l =
+      let f = found n e in
+      let a : are_digits text ≡ true = f.0 in
+      let d : decimal text ≡ n = f.1 in
+      let t : ltb n limit ≡ true = lt-ltb _ _ l in
+      rw (a, d, t) refl
+
+  pub smaller_beyond : (n : ℕ) → number_below (2 ^ 64) text ≡ Some n → limit ≤ n → number_below limit text ≡ None
+  smaller_beyond n e l = too_large limit text (let f = found n e in omega arith)
+
+  pub smaller_none : number_below (2 ^ 64) text ≡ None → number_below limit text ≡ None
+  unfolding number_below
+  smaller_none e =
+      elim (cases_Bool (are_digits text)) [
+        | inl a ↦ elim (cases_Bool (ltb (decimal text) (2 ^ 64))) [
+          | inl t ↦ absurd (let k : number_below (2 ^ 64) text ≡ Some (decimal text) = rw (a, t) refl in cc)
+          | inr t ↦ let b : ltb (decimal text) limit ≡ false = le-ltb _ _ (omega (arith, ltb-false _ _ t)) in rw (a, b) refl
+        ]
+        | inr a ↦ rw a refl
+      ]
