@@ -1,9 +1,13 @@
 """Times scripts of `fts run`, beside SQLite's FTS5 in memory over the same documents and words.
 
-    python3 bench/script.py [DOCUMENTS]
+    python3 bench/script.py [DOCUMENTS] [SEARCHES]
 
-Build the program first (README.md). Prints seconds; the documents have some 200 bytes each.
+Build the program first (README.md). Prints milliseconds a search for each kind of query, and seconds for building. The
+documents have 30 words each of a vocabulary of 50,000 with Zipf's law, a keyword, a `u64` and an `i64`. Each count is
+compared: with FTS5's for queries of words, with a loop over the documents for the others.
 """
+import bisect
+import itertools
 import json
 import random
 import sqlite3
@@ -13,41 +17,98 @@ import time
 
 PROGRAM = "crates/fts/out/fts"
 COUNT = int(sys.argv[1]) if len(sys.argv) > 1 else 100_000
-SEARCHES = 20
+SEARCHES = int(sys.argv[2]) if len(sys.argv) > 2 else 100
 
 random.seed(1)
-WORDS = ["".join(random.choice("abcdefghijklmnopqrstuvwxyz") for _ in range(random.randint(3, 9))) for _ in range(20_000)]
-TITLES = [" ".join(random.choice(WORDS) for _ in range(28)) for _ in range(COUNT)]
-ASKED = [random.choice(WORDS) for _ in range(SEARCHES)]
-SCHEMA = {"schema": [{"name": "title", "kind": "text", "default": True}, {"name": "n", "kind": "u64"}]}
+WORDS = sorted({"".join(random.choice("abcdefghijklmnopqrstuvwxyz") for _ in range(random.randint(4, 9))) for _ in range(50_000)})
+random.shuffle(WORDS)
+SUMS = list(itertools.accumulate(1 / (rank + 1) for rank in range(len(WORDS))))
+
+
+def word():
+    return WORDS[bisect.bisect(SUMS, random.random() * SUMS[-1])]
+
+
+DOCUMENTS = [
+    {"body": " ".join(word() for _ in range(30)), "tag": f"t{random.randrange(100)}", "n": random.randrange(1000), "z": i - COUNT // 2}
+    for i in range(COUNT)
+]
+SCHEMA = {"schema": [
+    {"name": "body", "kind": "text", "default": True}, {"name": "tag", "kind": "keyword"},
+    {"name": "n", "kind": "u64"}, {"name": "z", "kind": "i64"},
+]}
+PAIRS = [(word(), word()) for _ in range(SEARCHES)]
+LOWS = [random.randrange(900) for _ in range(SEARCHES)]
+
+
+def of(name, make):
+    return name, [make(i) for i in range(SEARCHES)]
+
+
+KINDS = [
+    of("term", lambda i: {"query": PAIRS[i][0]}),
+    of("+a +b", lambda i: {"query": "+{} +{}".format(*PAIRS[i])}),
+    of("a b", lambda i: {"query": "{} {}".format(*PAIRS[i])}),
+    of("phrase", lambda i: {"query": '"{} {}"'.format(*PAIRS[i])}),
+    of("range", lambda i: {"query": f"n:[{LOWS[i]} TO {LOWS[i] + 100}]"}),
+    of("groups", lambda i: {"query": PAIRS[i][0], "groups": "n"}),
+    of("top 10", lambda i: {"query": PAIRS[i][0], "top": {"by": "z", "k": 10, "order": "falling"}}),
+]
 
 
 def run(lines):
     text = "\n".join(json.dumps(line) for line in lines).encode()
     began = time.perf_counter()
     out = subprocess.run([PROGRAM, "run"], input=text, stdout=subprocess.PIPE, check=True).stdout
-    return time.perf_counter() - began, out.decode().split("\n")
+    return time.perf_counter() - began, out.decode().splitlines()
 
 
-adds = [{"add": {"title": t, "n": i}} for i, t in enumerate(TITLES)]
-empty, _ = run([SCHEMA])
-indexed, _ = run([SCHEMA, *adds, {"commit": True}])
-searched, replies = run([SCHEMA, *adds, {"commit": True}, *({"search": {"query": w}} for w in ASKED)])
-each, _ = run([SCHEMA, *(line for add in adds for line in (add, {"commit": True}))])
+def best(lines):
+    return min((run(lines) for _ in range(3)), key=lambda timed: timed[0])
+
+
+build = [SCHEMA, *({"add": d} for d in DOCUMENTS), {"commit": True}]
+empty, _ = best([SCHEMA])
+built, _ = best(build)
 
 began = time.perf_counter()
 base = sqlite3.connect(":memory:")
-base.execute("create virtual table docs using fts5(title)")
-base.executemany("insert into docs(title) values (?)", ((t,) for t in TITLES))
+base.execute("create virtual table docs using fts5(body)")
+base.execute("create table columns (tag text, n integer, z integer)")
+base.executemany("insert into docs(body) values (?)", ((d["body"],) for d in DOCUMENTS))
+base.executemany("insert into columns values (?, ?, ?)", ((d["tag"], d["n"], d["z"]) for d in DOCUMENTS))
+base.execute("create index by_n on columns(n)")
 base.commit()
-sqlite_indexed = time.perf_counter() - began
-began = time.perf_counter()
-counts = [base.execute("select count(*) from docs where docs match ?", (f'"{w}"',)).fetchone()[0] for w in ASKED]
-sqlite_searched = time.perf_counter() - began
+sqlite_built = time.perf_counter() - began
 
-assert [json.loads(r)["count"] for r in replies[-SEARCHES - 1:-1]] == counts, "the counts differ"
-print(f"{COUNT} documents, {sum(map(len, TITLES)) / COUNT:.0f} bytes each; {SEARCHES} searches of one word")
-print(f"{'':24}{'fts':>8}{'FTS5':>8}")
-print(f"{'add all, one commit':24}{indexed - empty:8.2f}{sqlite_indexed:8.2f}")
-print(f"{'a commit each':24}{each - empty:8.2f}")
-print(f"{'one search':24}{(searched - indexed) / SEARCHES:8.4f}{sqlite_searched / SEARCHES:8.4f}")
+MATCH = "select count(*) from docs where docs match ?"
+SQL = {
+    "term": lambda i: (MATCH, (f'"{PAIRS[i][0]}"',)),
+    "+a +b": lambda i: (MATCH, ('"{}" AND "{}"'.format(*PAIRS[i]),)),
+    "a b": lambda i: (MATCH, ('"{}" OR "{}"'.format(*PAIRS[i]),)),
+    "phrase": lambda i: (MATCH, ('"{} {}"'.format(*PAIRS[i]),)),
+    "range": lambda i: ("select count(*) from columns where n between ? and ?", (LOWS[i], LOWS[i] + 100)),
+    "groups": lambda i: (
+        "select n, count(*) from docs join columns on columns.rowid = docs.rowid where docs match ? group by n order by n",
+        (f'"{PAIRS[i][0]}"',)),
+    "top 10": lambda i: (
+        "select z from docs join columns on columns.rowid = docs.rowid where docs match ? order by z desc limit 10",
+        (f'"{PAIRS[i][0]}"',)),
+}
+TOLD = {
+    "groups": lambda reply: [tuple(g) for g in reply["groups"]],
+    "top 10": lambda reply: [(hit["value"],) for hit in reply["top"]],
+}
+
+print(f"{COUNT} documents of 30 words, {SEARCHES} searches a kind, one thread")
+print(f"{'':16}{'fts':>10}{'FTS5':>10}{'fts / FTS5':>12}")
+print(f"{'build, s':16}{built - empty:10.2f}{sqlite_built:10.2f}{(built - empty) / sqlite_built:12.2f}")
+for name, searches in KINDS:
+    took, replies = best([*build, *({"search": s} for s in searches)])
+    each = (took - built) / SEARCHES * 1000
+    began = time.perf_counter()
+    told = [base.execute(*SQL[name](i)).fetchall() for i in range(SEARCHES)]
+    sqlite_each = (time.perf_counter() - began) / SEARCHES * 1000
+    tell = TOLD.get(name, lambda reply: [(reply["count"],)])
+    assert [tell(json.loads(r)) for r in replies[-SEARCHES:]] == told, f"{name}: the answers differ"
+    print(f"{name + ', ms':16}{each:10.3f}{sqlite_each:10.3f}{each / sqlite_each:12.2f}")
