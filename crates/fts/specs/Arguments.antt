@@ -1,10 +1,10 @@
 -- What the words of a command line ask for, and what a fault makes the exit status.
-use Rattle.std.specs.Prelude.{ℕ, ◌≡◌, ◌≢◌, true, Result, Ok, Err, List, [], codes}
+use Rattle.std.specs.Prelude.{ℕ, ◌≡◌, ◌≢◌, ◌⊎◌, true, Result, Ok, Err, List, [], codes}
 use Rattle.clap.specs.Kinds.{IsAmong, Kinds}
 use Rattle.clap.specs.Faults.{fault_of}
 use Rattle.clap.specs.Simple.{App, new_app, on_top, with_subcommand}
 use Rattle.clap.specs.declared.error.kind.ErrorKind.{ErrorKind}
-use Rattle.clap.specs.declared.error.kind.ErrorKind.TheVariants.{DisplayHelp}
+use Rattle.clap.specs.declared.error.kind.ErrorKind.TheVariants.{DisplayHelp, DisplayVersion}
 use Rattle.fts.specs.declared.fault.Fault.{Fault}
 use Rattle.fts.specs.declared.fault.Fault.TheVariants.{Memory, Read, Write, StampsUsedUp}
 use Rattle.fts.specs.declared.args.ArgFault.{ArgFault}
@@ -17,9 +17,13 @@ use Rattle.fts.specs.declared.options.TheConstants.Options.{DEFAULT}
 abbrev pub required : App → App
 required = on_top (λ shape. record shape { subcommand_required = true })
 
+-- an application that tells its version
+abbrev pub versioned : App → App
+versioned = on_top (λ shape. record shape { has_version = true })
+
 -- the program's command, as clap's definitions see it: `fts` with the subcommand `run`
 abbrev pub command : App
-command = with_subcommand (required (new_app (codes "fts"))) (new_app (codes "run")).top
+command = with_subcommand (required (versioned (new_app (codes "fts")))) (new_app (codes "run")).top
 
 -- by clap's definitions: what is wrong with the words, or asked for in place of a run
 unfoldable pub faults_of : List (List ℕ) → Kinds
@@ -28,12 +32,12 @@ faults_of words = fault_of command words
 -- what is asked for by words with these faults
 abbrev pub Asks : Kinds → Asked → Type 0
 Asks faults (Run options) = (faults ≡ []) × (options ≡ DEFAULT)
-Asks faults (Help text) = IsAmong DisplayHelp faults
+Asks faults (Help text) = IsAmong DisplayHelp faults ⊎ IsAmong DisplayVersion faults
 
 -- why words with these faults ask for nothing
 abbrev pub Refuses : Kinds → ArgFault → Type 0
 Refuses faults refused.Memory = Unit {0}
-Refuses faults (refused.Usage text) = (kind : ErrorKind) × IsAmong kind faults × (kind ≢ DisplayHelp)
+Refuses faults (refused.Usage text) = (kind : ErrorKind) × IsAmong kind faults × (kind ≢ DisplayHelp) × (kind ≢ DisplayVersion)
 
 -- the exit status of a run that stopped
 abbrev pub status_of : Fault → ℕ

@@ -15,7 +15,7 @@ use thiserror::Error;
 pub enum Asked {
     /// A run of the script on standard input.
     Run(Options),
-    /// This text.
+    /// This text: help, or the version.
     Help(String),
 }
 
@@ -47,6 +47,7 @@ fn parse<'a>(alloc: Global, words: &'a [String]) -> Result<ArgMatches<'a>, clap:
     );
     let fts = Command::new(alloc, "fts")
         .about("A full-text index over JSON documents")
+        .version("0.1.0")
         .subcommand_required(true)
         .subcommand(run)?;
     fts.try_get_matches_from(words)
@@ -61,7 +62,9 @@ pub fn args(alloc: Global, words: Vec<String>) -> Result<Asked, ArgFault>
         Ok(_) => Ok(Asked::Run(Options::default())),
         Err(error) => match error.kind() {
             ErrorKind::OutOfMemory => Err(ArgFault::Memory),
-            ErrorKind::DisplayHelp => Ok(Asked::Help(error.to_string(alloc)?)),
+            ErrorKind::DisplayHelp | ErrorKind::DisplayVersion => {
+                Ok(Asked::Help(error.to_string(alloc)?))
+            }
             _ => Err(ArgFault::Usage(error.to_string(alloc)?)),
         },
     }

@@ -40,6 +40,17 @@ fn help(rt: HostRuntime) -> Result<(), Fail> {
 }
 
 #[test]
+fn version(rt: HostRuntime) -> Result<(), Fail> {
+    for words in [["fts", "--version"], ["fts", "-V"]] {
+        let Ok(Asked::Help(text)) = asked(&rt, &words)? else {
+            return Err(Fail::from("no version"));
+        };
+        assert_eq!(rt; text.as_str(), "fts 0.1.0\n");
+    }
+    Ok(())
+}
+
+#[test]
 fn usage(rt: HostRuntime) -> Result<(), Fail> {
     for (words, wrong) in [
         (["fts"].as_slice(), "requires a subcommand"),

@@ -5,4 +5,4 @@ use Rattle.fts.proofs.laws.command_line.Goals as goal
 
 pub returns : goal.returns
 unfolding clap_on_literals faults_of
-returns c = record { run = λ name. refl; help = λ name. refl; nothing = λ name. refl }
+returns c = record { run = λ name. refl; help = λ name. refl; version = λ name. refl; nothing = λ name. refl }
