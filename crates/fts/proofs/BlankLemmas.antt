@@ -1,5 +1,5 @@
 -- White space before a line changes no reply.
-use Rattle.std.proofs.Common.{◌≡◌, ◌≤◌, ◌+◌, ◌-◌, ℕ, suc, Bool, true, false, cond, eqb, ltb, List, [], ◌∷◌, ◌++◌, length, take, drop, refl, sym, ap, subst, ◌∙◌, append_assoc, append-nil, take-append-drop, arith, Option, Some, None, ◌&&◌, ◌||◌}
+use Rattle.std.proofs.Common.{◌≡◌, ◌<◌, ◌≤◌, ◌+◌, ◌-◌, ℕ, suc, Bool, true, false, cond, eqb, ltb, List, [], ◌∷◌, ◌++◌, length, take, drop, refl, sym, ap, subst, ◌∙◌, append_assoc, append-nil, take-append-drop, arith, Option, Some, None, ◌&&◌, ◌||◌}
 use Rattle.std.specs.Str.{is_utf8, chars}
 use Rattle.std.specs.Char.{encode_utf8}
 use Rattle.std.specs.List.{prefix_len}
@@ -9,13 +9,14 @@ use Rattle.std.proofs.lemmas.List.{length-append, length-drop, nil_from_length, 
 use Rattle.std.proofs.lemmas.List.Folds.{list_all-append, length-prefix_len}
 use Rattle.json.specs.Lex.{lex}
 use Rattle.fts.specs.declared.lines.PartialLine.{PartialLine}
-use Rattle.fts.specs.Text.{is_white, is_blank}
+use Rattle.fts.specs.Text.{is_white, is_blank, lines_of, onto_first, HasNoEnd}
 use Rattle.fts.specs.Commands.{json_in, longest, command}
 use Rattle.fts.specs.Replies.{execute, execute_line, reply_on, carried_over}
 use Rattle.fts_model.specs.Outcomes.{result_and_then}
 use Rattle.fts.specs.Outputs.{Script, after_line, reply_to}
 use Rattle.fts.specs.Indexes.{Index, indexes}
-use Rattle.fts.specs.Runs.{Holds, Indented}
+use Rattle.fts.specs.Runs.{Holds, Indented, IsWritten}
+use Rattle.fts.proofs.LineLemmas.{not_lf}
 
 -- what holds of each white byte
 of_white : (P : ℕ → Type 0) → P 32 → P 9 → P 13 → (b : ℕ) → is_white b ≡ true → P b
@@ -159,3 +160,47 @@ Indented-grown count k bytes kept line piece none k-is e r =
     subst (λ n. Indented (count + n) kept (line ++ piece)) (sym k-is)
     (subst (λ v. Indented (count + prefix_len is_white piece) v (line ++ piece)) (sym (kept_is bytes kept piece k none k-is e))
     (Indented-white count line piece nothing))
+
+-- ---- a line that isn't blank
+
+not_true : (t : Bool) → (t ≡ true → ⊥) → t ≡ false
+not_true true h = absurd (h refl)
+not_true false h = refl
+
+second_false : (s t : Bool) → t ≡ false → (s && t) ≡ false
+second_false true t h = h
+second_false false t h = refl
+
+pub not_blank-before : (xs ys : List ℕ) → is_blank xs ≡ false → is_blank (xs ++ ys) ≡ false
+not_blank-before xs ys h = list_all-append is_white xs ys ∙ ap (λ v. v && is_blank ys) h
+
+pub not_blank-behind : (xs ys : List ℕ) → is_blank ys ≡ false → is_blank (xs ++ ys) ≡ false
+not_blank-behind xs ys h = list_all-append is_white xs ys ∙ second_false (is_blank xs) (is_blank ys) h
+
+-- a byte follows its white space
+pub not_blank-some : (piece : List ℕ) (k : ℕ) → k ≡ prefix_len is_white piece → 0 < length (take (length piece - k) (drop k piece)) → is_blank piece ≡ false
+not_blank-some piece k k-is some = not_true (is_blank piece) (λ blank.
+    let parts = both (is_blank (take k piece)) (is_blank (drop k piece))
+    (sym (list_all-append is_white (take k piece) (drop k piece)) ∙ ap is_blank (take-append-drop k piece) ∙ blank) in
+    let none : drop k piece ≡ [] = ap (λ n. drop n piece) k-is ∙ bare-drop piece (ap (λ n. is_blank (drop n piece)) (sym k-is) ∙ parts.1) in
+    let nothing : length (take (length piece - k) (drop k piece)) ≡ 0 =
+    ap length (take_all (length piece - k) (drop k piece) (omega (arith, length-drop k piece))) ∙ ap length none in omega (arith, some, nothing))
+
+first_written : (b : ℕ) (ls : List (List ℕ)) → is_white b ≡ false → IsWritten (onto_first b ls)
+first_written b [] h = ap (λ v. v && true) h
+first_written b (line ∷ ls) h = ap (λ v. v && is_blank line) h
+
+first_white : (b : ℕ) (ls : List (List ℕ)) → is_white b ≡ true → IsWritten ls → IsWritten (onto_first b ls)
+first_white b [] h w = absurd w
+first_white b (line ∷ ls) h w = ap (λ v. v && is_blank line) h ∙ w
+
+-- whatever comes behind it
+pub IsWritten-front : (line more : List ℕ) → HasNoEnd line → is_blank line ≡ false → IsWritten (lines_of (line ++ more))
+IsWritten-front [] more none h = cc
+IsWritten-front (b ∷ line) more none h =
+    subst IsWritten (sym (ap (λ t. cond t ([] ∷ lines_of (line ++ more)) (onto_first b (lines_of (line ++ more)))) (not_lf b none.0)))
+    (by (is_white b) refl (IsWritten-front line more none.1))
+  where
+    by : (t : Bool) → is_white b ≡ t → (is_blank line ≡ false → IsWritten (lines_of (line ++ more))) → IsWritten (onto_first b (lines_of (line ++ more)))
+    by true e rest = first_white b (lines_of (line ++ more)) e (rest (sym (ap (λ v. v && is_blank line) e) ∙ h))
+    by false e rest = first_written b (lines_of (line ++ more)) e

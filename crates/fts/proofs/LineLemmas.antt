@@ -37,7 +37,7 @@ pub lines_of-append : (done more : List ℕ) → IsWhole done → lines_of (done
 lines_of-append done more h =
     ⊎_elim (λ e. rw e) (λ w. rw (w.1, append_assoc) (lines_of-cut w.0 more)) h
 
-not_lf : (b : ℕ) → b ≢ 10 → eqb b 10 ≡ false
+pub not_lf : (b : ℕ) → b ≢ 10 → eqb b 10 ≡ false
 not_lf b h = search (rules, tests)
 
 -- a line and its LF

@@ -4,10 +4,10 @@ use Rattle.std.proofs.lemmas.List.{take_all, length-drop, length-append, length-
 use Rattle.std.proofs.Math.Seq.{take-add}
 use Rattle.fts.specs.declared.lines.PartialLine.{PartialLine}
 use Rattle.fts.specs.Streams.{Transferred, Wrote}
-use Rattle.fts.specs.Text.{lines_of, IsWhole, HasNoEnd}
+use Rattle.fts.specs.Text.{is_blank, lines_of, IsWhole, HasNoEnd}
 use Rattle.fts.specs.Outputs.{Script, start, after_line, reply_to, replies, after_lines, output}
-use Rattle.fts.specs.Runs.{Holds, Answered, AnswersFirst, AnswersEnded, BeginsOutput, BeginsOutputUnless, BeginsWith, Ends, Leads, LeadsFirst, Reached}
-use Rattle.fts.proofs.BlankLemmas.{Holds-length, Holds-nothing-short}
+use Rattle.fts.specs.Runs.{Holds, Answered, AnswersFirst, AnswersEnded, BeginsOutput, BeginsOutputUnless, BeginsWith, Ends, IsWritten, Leads, LeadsFirst, LeadsToStop, Reached, StopsFirst}
+use Rattle.fts.proofs.BlankLemmas.{Holds-length, Holds-nothing-short, IsWritten-front}
 use Rattle.fts.proofs.StreamLemmas.{append_more}
 use Rattle.fts.proofs.LineLemmas.{lines_of-append, lines_of-ended, lines_of-unended, HasNoEnd-append, HasNoEnd-late, HasNoEnd-shorter, IsWhole-ended}
 
@@ -92,18 +92,29 @@ Leads-then s t u p q r xs ys a b c first second = record {
 }
 
 -- whatever comes behind them
+abbrev answers_first : (t : Script) (q : PartialLine) (input xs more out : List ℕ) → Answered t q (input ++ xs) out → AnswersFirst (length (xs ++ more)) (input ++ (xs ++ more)) out
+answers_first t q input xs more out r = record {
+  done = r.done;
+  rest = r.line ++ more;
+  split = sym (append_assoc input xs more) ∙ ap (λ v. v ++ more) r.split ∙ append_assoc r.done r.line more;
+  whole = r.whole;
+  replied = r.replied;
+  late = HasNoEnd-late r.line more (length (xs ++ more)) (omega (arith, length-append xs more)) r.unended;
+}
+
 pub LeadsFirst-leads : (s t : Script) (p q : PartialLine) (xs more a b : List ℕ) →
     Leads s t p q xs a b → LeadsFirst s p (xs ++ more) a b
 LeadsFirst-leads s t p q xs more a b first = record {
+  leads = λ input out from. answers_first t q input xs more (out ++ b) (first.leads input out from);
+}
+
+-- and memory runs out there
+pub LeadsToStop-leads : (s t : Script) (p q : PartialLine) (xs more a b : List ℕ) → Leads s t p q xs a b →
+    ((line : List ℕ) → Holds q line → HasNoEnd line → IsWritten (lines_of (line ++ more))) → LeadsToStop s p (xs ++ more) a b
+LeadsToStop-leads s t p q xs more a b first written = record {
   leads = λ input out from.
-      let r = first.leads input out from in record {
-        done = r.done;
-        rest = r.line ++ more;
-        split = sym (append_assoc input xs more) ∙ ap (λ v. v ++ more) r.split ∙ append_assoc r.done r.line more;
-        whole = r.whole;
-        replied = r.replied;
-        late = HasNoEnd-late r.line more (length (xs ++ more)) (omega (arith, length-append xs more)) r.unended;
-      };
+      let r = first.leads input out from in
+      (answers_first t q input xs more (out ++ b) r, λ some. written r.line r.holds r.unended);
 }
 
 -- the replies of some lines went out
@@ -118,8 +129,8 @@ Reached-sent before now after s t p q input bytes gathered step sent r = record 
 
 -- memory ran out, and the replies of the lines before went out
 pub Wrote-first : (before now after : List ℕ) (s : Script) (p : PartialLine) (input bytes gathered : List ℕ) →
-    LeadsFirst s p bytes [] gathered → after ≡ now ++ gathered →
-    Reached before now s p input → Wrote before after (AnswersFirst (length bytes) (input ++ bytes))
+    LeadsToStop s p bytes [] gathered → after ≡ now ++ gathered →
+    Reached before now s p input → Wrote before after (StopsFirst (length bytes) (input ++ bytes))
 Wrote-first before now after s p input bytes gathered step sent r = record {
   bytes = r.out ++ gathered;
   taken = append_more before now after r.out gathered r.taken sent;
@@ -173,36 +184,64 @@ Wrote-ended before now input ended h w = record {
   so = λ more only. (w.so.0, ap (λ v. output (input ++ v)) (only h) ∙ ap output (append-nil input) ∙ w.so.1);
 }
 
--- what was answered before the last m bytes was before the last n
-pub Wrote-late : (before now input : List ℕ) (m n : ℕ) → m ≤ n → Wrote before now (AnswersFirst m input) → Wrote before now (AnswersFirst n input)
-Wrote-late before now input m n h w =
-    let r = w.so in record {
-      bytes = w.bytes;
-      taken = w.taken;
-      so = record {
-        done = r.done;
-        rest = r.rest;
-        split = r.split;
-        whole = r.whole;
-        replied = r.replied;
-        late = HasNoEnd-shorter r.rest (length r.rest - n) (length r.rest - m) (omega (arith, h)) r.late;
-      };
+-- what ended before the last n bytes ended before the last m
+abbrev answers_late : (input out : List ℕ) (m n : ℕ) → m ≤ n → AnswersFirst m input out → AnswersFirst n input out
+answers_late input out m n h r = record {
+  done = r.done;
+  rest = r.rest;
+  split = r.split;
+  whole = r.whole;
+  replied = r.replied;
+  late = HasNoEnd-shorter r.rest (length r.rest - n) (length r.rest - m) (omega (arith, h)) r.late;
+}
+
+pub Wrote-late : (before now input : List ℕ) (m n : ℕ) → m ≤ n → Wrote before now (StopsFirst m input) → Wrote before now (StopsFirst n input)
+Wrote-late before now input m n h w = record {
+  bytes = w.bytes;
+  taken = w.taken;
+  so = (answers_late input w.bytes m n h w.so.0, w.so.1);
+}
+
+pub Wrote-stopped : (before now input : List ℕ) (n : ℕ) → Wrote before now (StopsFirst n input) → Wrote before now (AnswersFirst n input)
+Wrote-stopped before now input n w = record { bytes = w.bytes; taken = w.taken; so = w.so.0 }
+
+-- memory ran out at the end of the input
+pub Wrote-stop : (before now : List ℕ) (s : Script) (p : PartialLine) (input : List ℕ) → ((line : List ℕ) → Holds p line → is_blank line ≡ false) →
+    Reached before now s p input → Wrote before now (StopsFirst 0 input)
+Wrote-stop before now s p input written r =
+    let a = r.answered in record {
+      bytes = r.out;
+      taken = r.taken;
+      so = (
+        record {
+          done = a.done;
+          rest = a.line ++ [];
+          split = a.split ∙ ap (λ v. a.done ++ v) (sym (append-nil a.line));
+          whole = a.whole;
+          replied = a.replied;
+          late = HasNoEnd-late a.line [] 0 (omega arith) a.unended;
+        },
+        λ some. IsWritten-front a.line [] a.unended (written a.line a.holds),
+      );
     }
 
 -- the last bytes are those of the latest read
-pub Wrote-latest : (before now input bytes latest : List ℕ) → latest ≡ bytes →
-    Wrote before now (AnswersFirst (length bytes) input) → Wrote before now (AnswersFirst (length latest) input)
-Wrote-latest before now input bytes latest e w = subst (λ v. Wrote before now (AnswersFirst (length v) input)) (sym e) w
+pub Wrote-latest : (P : ℕ → List ℕ → List ℕ → Type 0) (before now input bytes latest : List ℕ) → latest ≡ bytes →
+    Wrote before now (P (length bytes) input) → Wrote before now (P (length latest) input)
+Wrote-latest P before now input bytes latest e w = subst (λ v. Wrote before now (P (length v) input)) (sym e) w
 
 -- before the first read
-pub Transferred-none : (given taken : List ℕ) (n : ℕ) → Transferred given given taken taken (AnswersFirst n)
+pub Transferred-none : (given taken : List ℕ) (n : ℕ) → Transferred given given taken taken (StopsFirst n)
 Transferred-none given taken n = record {
   input = [];
   read = sym (append-nil given);
   wrote = record {
     bytes = [];
     taken = sym (append-nil taken);
-    so = record { done = []; rest = []; split = refl; whole = inl refl; replied = refl; late = HasNoEnd-late [] [] n (omega arith) tt };
+    so = (
+      record { done = []; rest = []; split = refl; whole = inl refl; replied = refl; late = HasNoEnd-late [] [] n (omega arith) tt },
+      λ some. absurd (some refl),
+    );
   };
 }
 
@@ -305,7 +344,7 @@ Wrote-start before now s p input r =
     }
 
 -- what is left of the bytes to write
-tail_is : (bytes : List ℕ) (i : ℕ) → take (length bytes - i) (drop i bytes) ≡ drop i bytes
+pub tail_is : (bytes : List ℕ) (i : ℕ) → take (length bytes - i) (drop i bytes) ≡ drop i bytes
 tail_is bytes i = take_all (length bytes - i) (drop i bytes) (omega (arith, length-drop i bytes))
 
 pub sent_more : (bytes : List ℕ) (i n : ℕ) →
@@ -331,10 +370,10 @@ on_ok (Err e) Q h = tt
 
 -- whether lines were taken or memory ran out
 pub LeadsFirst-either : {E : Type 0} (result : Result ℕ E) (s t : Script) (p q : PartialLine) (bytes a b : List ℕ) →
-    IfOk result (λ n. Leads s t p q (take n bytes) a b) → OnErr result (LeadsFirst s p bytes a b) → LeadsFirst s p bytes a b
+    IfOk result (λ n. Leads s t p q (take n bytes) a b) → OnErr result (LeadsToStop s p bytes a b) → LeadsFirst s p bytes a b
 LeadsFirst-either (Ok n) s t p q bytes a b ok err =
     subst (λ v. LeadsFirst s p v a b) (take-append-drop n bytes) (LeadsFirst-leads s t p q (take n bytes) (drop n bytes) a b ok)
-LeadsFirst-either (Err e) s t p q bytes a b ok err = err
+LeadsFirst-either (Err e) s t p q bytes a b ok err = record { leads = λ input out from. (err.leads input out from).0 }
 
 -- the bytes up to a place, and those behind it
 pub whole_is : (input bytes : List ℕ) (i : ℕ) →
@@ -352,13 +391,13 @@ part_is input bytes i n =
 
 -- the last bytes are the rest of a block
 pub Wrote-block : (before now input bytes : List ℕ) (i : ℕ) →
-    (let rest : List ℕ = take (length bytes - i) (drop i bytes) in Wrote before now (AnswersFirst (length rest) ((input ++ take i bytes) ++ rest))) →
-    Wrote before now (AnswersFirst (length bytes) (input ++ bytes))
+    (let rest : List ℕ = take (length bytes - i) (drop i bytes) in Wrote before now (StopsFirst (length rest) ((input ++ take i bytes) ++ rest))) →
+    Wrote before now (StopsFirst (length bytes) (input ++ bytes))
 Wrote-block before now input bytes i w =
     let rest : List ℕ = take (length bytes - i) (drop i bytes) in
     let shorter : length rest ≤ length bytes = omega (arith, ap length (tail_is bytes i), length-drop i bytes) in
     Wrote-late before now (input ++ bytes) (length rest) (length bytes) shorter
-    (subst (λ v. Wrote before now (AnswersFirst (length rest) v)) (whole_is input bytes i) w)
+    (subst (λ v. Wrote before now (StopsFirst (length rest) v)) (whole_is input bytes i) w)
 
 -- before the first byte
 pub Reached-start : (a : List ℕ) (s : Script) (p : PartialLine) → s ≡ start → Holds p [] → Reached a a s p []
@@ -390,11 +429,12 @@ pub length_more : (input buffer : List ℕ) (n m : ℕ) → n ≤ length buffer 
 length_more input buffer n m h e = omega (arith, length-append input (take n buffer), length-take-le n buffer h)
 
 -- the streams of a run that has just begun
+pub from_none : (P : List ℕ → List ℕ → Type 0) (a b c d : List ℕ) → a ≡ [] → c ≡ [] → Transferred a b c d P → P b d
+from_none P a b c d unread unwritten t =
+    subst (λ v. P v d) (sym (t.read ∙ ap (λ v. v ++ t.input) unread))
+    (subst (P t.input) (sym (t.wrote.taken ∙ ap (λ v. v ++ t.wrote.bytes) unwritten)) t.wrote.so)
+
 pub begins_from_none : (a b c d : List ℕ) (m n : ℕ) → a ≡ [] → c ≡ [] → m ≡ 0 →
     Transferred a b c d (BeginsOutputUnless (m < n)) → BeginsOutputUnless (0 < n) b d
 begins_from_none a b c d m n unread unwritten none t = λ more only.
-    let begins = t.wrote.so more (λ told. only (omega (arith, none, told))) in (
-      begins.0,
-      ap (λ v. output (v ++ more)) (t.read ∙ ap (λ v. v ++ t.input) unread) ∙ begins.1
-          ∙ ap (λ v. v ++ begins.0) (sym (t.wrote.taken ∙ ap (λ v. v ++ t.wrote.bytes) unwritten)),
-    )
+    from_none (BeginsOutputUnless (m < n)) a b c d unread unwritten t more (λ told. only (omega (arith, none, told)))

@@ -1,5 +1,5 @@
 -- How far a run has come.
-use Rattle.std.specs.Prelude.{ℕ, ◌≡◌, ◌<◌, ◌-◌, Bool, true, List, [], ◌++◌, length, take, None, Some}
+use Rattle.std.specs.Prelude.{ℕ, ◌≡◌, ◌≢◌, ◌<◌, ◌-◌, Bool, true, false, List, [], ◌∷◌, ◌++◌, length, take, None, Some}
 use Rattle.fts.specs.Text.{lines_of, is_blank, IsWhole, HasNoEnd}
 use Rattle.fts.specs.Commands.{longest}
 use Rattle.fts.specs.Outputs.{Script, start, after_lines, output}
@@ -25,6 +25,15 @@ pub record AnswersFirst (n : ℕ) (input out : List ℕ) : Type 0 where
   pub whole : IsWhole done
   pub replied : out ≡ output done
   pub late : HasNoEnd (take (length rest - n) rest)
+
+-- there is a first line, and it isn't blank
+abbrev pub IsWritten : List (List ℕ) → Type 0
+IsWritten [] = ⊥
+IsWritten (line ∷ lines) = is_blank line ≡ false
+
+-- the same, and what isn't answered begins with a line that isn't blank, unless there was no input
+abbrev pub StopsFirst : ℕ → List ℕ → List ℕ → Type 0
+StopsFirst n input out = (first : AnswersFirst n input out) × (input ≢ [] → IsWritten (lines_of first.rest))
 
 -- the replies to all lines that have ended
 pub record AnswersEnded (input out : List ℕ) : Type 0 where
@@ -66,6 +75,10 @@ pub record Leads (s t : Script) (p q : PartialLine) (bytes a b : List ℕ) : Typ
 -- The lines that had ended before these bytes are answered, and some first lines that end in them.
 pub record LeadsFirst (s : Script) (p : PartialLine) (bytes a b : List ℕ) : Type 0 where
   pub leads : (input out : List ℕ) → Answered s p input (out ++ a) → AnswersFirst (length bytes) (input ++ bytes) (out ++ b)
+
+-- The same, and memory ran out at a line that isn't blank.
+pub record LeadsToStop (s : Script) (p : PartialLine) (bytes a b : List ℕ) : Type 0 where
+  pub leads : (input out : List ℕ) → Answered s p input (out ++ a) → StopsFirst (length bytes) (input ++ bytes) (out ++ b)
 
 -- With these replies all of the input is answered, if it ends here.
 pub record Ends (s : Script) (p : PartialLine) (replies : List ℕ) : Type 0 where

@@ -1,5 +1,5 @@
 // The line in hand, where a block of the input has cut it.
-ghost use Rattle.std.specs.Prelude.{ℕ, ◌≡◌, ◌+◌, ◌^◌, ◌<◌, ◌≤◌, ◌↔◌, ◌++◌, List, [], length, IsTrue, OnOk, OnErr, string_bytes, vec_len};
+ghost use Rattle.std.specs.Prelude.{ℕ, ◌≡◌, ◌+◌, ◌^◌, ◌<◌, ◌≤◌, ◌↔◌, ◌++◌, false, List, [], length, IsTrue, OnOk, OnErr, string_bytes, vec_len};
 ghost use Rattle.std.specs.List.{prefix_len};
 ghost use Rattle.fts.specs.Text.{is_white as white_byte, is_blank as blank_line};
 ghost use Rattle.fts.specs.Commands.{longest};
@@ -71,8 +71,10 @@ impl PartialLine {
 
     /// Takes more of the line.
     pub fn grow(&mut self, piece: &[u8]) -> Result<(), AllocError>
-        ensures { OnOk result
+        ensures ok { OnOk result
             ((line : List ℕ) → Holds self.old line → Holds self.new (line ++ piece.now)) }
+        ensures not_blank { OnErr result
+            ((line : List ℕ) → Holds self.old line → blank_line (line ++ piece.now) ≡ false) }
     {
         match self.too_long {
             Some(blank) => self.too_long = Some(blank && is_blank(piece)),
@@ -108,6 +110,7 @@ impl PartialLine {
             session.new ≡ after_line session.old line) }
         ensures next { OnOk result (Holds self.new []) }
         ensures err { OnErr result (string_bytes replies.new ≡ string_bytes replies.old) }
+        ensures not_blank { OnErr result ((line : List ℕ) → Holds self.old line → blank_line line ≡ false) }
         ensures counted { session.new.number ≤ session.old.number + 1 }
     {
         match self.too_long {

@@ -1,11 +1,11 @@
 // A run of a script: blocks of the input, the lines in them, and the replies on their way out.
-ghost use Rattle.std.specs.Prelude.{ℕ, ◌≡◌, ◌+◌, ◌^◌, ◌<◌, ◌≤◌, ◌++◌, List, [], length, take, string_bytes, vec_len, IfOk, OnOk, OnErr, IsErrOf};
+ghost use Rattle.std.specs.Prelude.{ℕ, ◌≡◌, ◌+◌, ◌^◌, ◌<◌, ◌≤◌, ◌++◌, false, List, [], length, take, string_bytes, vec_len, IfOk, OnOk, OnErr, IsErrOf};
 ghost use Rattle.std.specs.Io.KnownBytes.{IsAtEnd};
 ghost use Rattle.fts.specs.Streams.{GainsTaken, LosesGiven, Transferred, Wrote};
-ghost use Rattle.fts.specs.Text.{HasNoEnd};
+ghost use Rattle.fts.specs.Text.{is_blank, lines_of, HasNoEnd};
 ghost use Rattle.fts.specs.Commands.{longest};
 ghost use Rattle.fts.specs.Outputs.{start, output, reply_to, after_line};
-ghost use Rattle.fts.specs.Runs.{AnswersEnded, AnswersFirst, BeginsOutput, BeginsOutputUnless, BeginsWith, Ends, Holds, Leads, LeadsFirst, Reached};
+ghost use Rattle.fts.specs.Runs.{AnswersEnded, AnswersFirst, BeginsOutput, BeginsOutputUnless, BeginsWith, Ends, Holds, IsWritten, Leads, LeadsToStop, Reached, StopsFirst};
 
 use crate::engine::Engine;
 use crate::fault::Fault;
@@ -39,15 +39,16 @@ fn end_line<E: Engine>(
     piece: &[u8],
     replies: &mut String,
 ) -> Result<(), AllocError>
-    requires few { session.old.number ≤ 2 ^ 61 }
-    requires short { length piece.now ≤ longest }
+    requires line_number_fits { session.old.number ≤ 2 ^ 61 }
+    requires fits_line { length piece.now ≤ longest }
     ensures reply { OnOk result ((start : List ℕ) → Holds line.old start →
         string_bytes replies.new ≡ string_bytes replies.old ++ reply_to session.old (start ++ piece.now)) }
     ensures script { OnOk result ((start : List ℕ) → Holds line.old start →
         session.new ≡ after_line session.old (start ++ piece.now)) }
     ensures next { OnOk result (Holds line.new []) }
     ensures err { OnErr result (string_bytes replies.new ≡ string_bytes replies.old) }
-    ensures counted { session.new.number ≤ session.old.number + 1 }
+    ensures not_blank { OnErr result ((start : List ℕ) → Holds line.old start → is_blank (start ++ piece.now) ≡ false) }
+    ensures lines_counted { session.new.number ≤ session.old.number + 1 }
 {
     if line.is_empty() {
         // The line lies whole in its block, and is read there.
@@ -65,15 +66,17 @@ fn take_line<E: Engine>(
     bytes: &[u8],
     replies: &mut String,
 ) -> Result<usize, AllocError>
-    requires few { session.old.number ≤ 2 ^ 61 }
+    requires line_number_fits { session.old.number ≤ 2 ^ 61 }
     requires some { 0 < length bytes.now }
-    requires short { length bytes.now ≤ longest }
+    requires fits_line { length bytes.now ≤ longest }
     ensures some { IfOk result (λ n. 0 < n) }
     ensures bound { IfOk result (λ n. n ≤ length bytes.now) }
     ensures ok { IfOk result (λ n. Leads session.old session.new line.old line.new
         (take n bytes.now) (string_bytes replies.old) (string_bytes replies.new)) }
     ensures err { OnErr result (string_bytes replies.new ≡ string_bytes replies.old) }
-    ensures counted { session.new.number ≤ session.old.number + 1 }
+    ensures not_blank { OnErr result ((start : List ℕ) → Holds line.old start → HasNoEnd start →
+        IsWritten (lines_of (start ++ bytes.now))) }
+    ensures lines_counted { session.new.number ≤ session.old.number + 1 }
 {
     match memchr(b'\n', bytes) {
         Some(end) => {
@@ -95,17 +98,17 @@ fn take_lines<E: Engine>(
     bytes: &[u8],
     replies: &mut String,
 ) -> Result<usize, AllocError>
-    requires few { session.old.number + length bytes.now ≤ 2 ^ 61 }
+    requires line_number_fits { session.old.number + length bytes.now ≤ 2 ^ 61 }
     requires some { 0 < length bytes.now }
-    requires short { length bytes.now ≤ longest }
+    requires fits_line { length bytes.now ≤ longest }
     requires none_wait { string_bytes replies.old ≡ [] }
     ensures some { IfOk result (λ n. 0 < n) }
     ensures bound { IfOk result (λ n. n ≤ length bytes.now) }
     ensures ok { IfOk result (λ n. Leads session.old session.new line.old line.new
         (take n bytes.now) [] (string_bytes replies.new)) }
-    ensures err { OnErr result (LeadsFirst session.old line.old
+    ensures err { OnErr result (LeadsToStop session.old line.old
         bytes.now [] (string_bytes replies.new)) }
-    ensures counted { IfOk result (λ n. session.new.number ≤ session.old.number + n) }
+    ensures lines_counted { IfOk result (λ n. session.new.number ≤ session.old.number + n) }
 {
     let mut at = 0;
     while at < bytes.len() && replies.len() < BLOCK {
@@ -124,7 +127,7 @@ fn send<W: ScriptOut>(writer: &mut W, replies: &mut String) -> Result<(), Fault>
     ensures held { GainsTaken (W.taken writer.old) (W.taken writer.new) (W.held writer.old) (W.held writer.new) }
     ensures write { OnErr result (result ≡ Err Fault.Write) }
     ensures fails { OnErr result (W.failed writer.old < W.failed writer.new) }
-    ensures counted { W.failed writer.old ≤ W.failed writer.new }
+    ensures failed { W.failed writer.old ≤ W.failed writer.new }
     ensures flushes { W.flushes writer.new ≡ W.flushes writer.old }
 {
     let bytes = replies.as_bytes();
@@ -148,8 +151,8 @@ fn take_block<E: Engine, W: ScriptOut>(
     replies: &mut String,
     writer: &mut W,
 ) -> Result<(), Fault>
-    requires few { session.old.number + length block.now ≤ 2 ^ 61 }
-    requires short { length block.now ≤ longest }
+    requires line_number_fits { session.old.number + length block.now ≤ 2 ^ 61 }
+    requires fits_line { length block.now ≤ longest }
     requires none_wait { string_bytes replies.old ≡ [] }
     ensures ok { OnOk result ((before input : List ℕ) →
         Reached before (W.taken writer.old) session.old line.old input →
@@ -157,7 +160,7 @@ fn take_block<E: Engine, W: ScriptOut>(
     ensures none_wait { OnOk result (string_bytes replies.new ≡ []) }
     ensures memory { IsErrOf result Fault.Memory → ((before input : List ℕ) →
         Reached before (W.taken writer.old) session.old line.old input →
-        Wrote before (W.taken writer.new) (AnswersFirst (length block.now) (input ++ block.now))) }
+        Wrote before (W.taken writer.new) (StopsFirst (length block.now) (input ++ block.now))) }
     ensures err { OnErr result ((before input : List ℕ) →
         Reached before (W.taken writer.old) session.old line.old input →
         Wrote before (W.taken writer.new) (BeginsOutput (input ++ block.now))) }
@@ -167,7 +170,7 @@ fn take_block<E: Engine, W: ScriptOut>(
     ensures fails { IsErrOf result Fault.Write → W.failed writer.old < W.failed writer.new }
     ensures failed { W.failed writer.old ≤ W.failed writer.new }
     ensures flushes { W.flushes writer.new ≡ W.flushes writer.old }
-    ensures counted { OnOk result (session.new.number ≤ session.old.number + length block.now) }
+    ensures lines_counted { OnOk result (session.new.number ≤ session.old.number + length block.now) }
 {
     let mut at = 0;
     while at < block.len() {
@@ -186,9 +189,10 @@ fn end_input<E: Engine>(
     line: &mut PartialLine,
     replies: &mut String,
 ) -> Result<(), AllocError>
-    requires few { session.old.number ≤ 2 ^ 61 }
+    requires line_number_fits { session.old.number ≤ 2 ^ 61 }
     requires none_wait { string_bytes replies.old ≡ [] }
     ensures ok { OnOk result (Ends session.old line.old (string_bytes replies.new)) }
+    ensures not_blank { OnErr result ((start : List ℕ) → Holds line.old start → is_blank start ≡ false) }
 {
     if line.is_empty() {
         return Ok(());
@@ -204,14 +208,14 @@ fn finish<E: Engine, W: ScriptOut>(
     replies: &mut String,
     writer: &mut W,
 ) -> Result<(), Fault>
-    requires few { session.old.number ≤ 2 ^ 61 }
+    requires line_number_fits { session.old.number ≤ 2 ^ 61 }
     requires none_wait { string_bytes replies.old ≡ [] }
     ensures ok { OnOk result ((before input : List ℕ) →
         Reached before (W.taken writer.old) session.old line.old input →
         Wrote before (W.taken writer.new) (λ out. out ≡ output input)) }
     ensures memory { IsErrOf result Fault.Memory → ((before input : List ℕ) →
         Reached before (W.taken writer.old) session.old line.old input →
-        Wrote before (W.taken writer.new) (AnswersFirst 0 input)) }
+        Wrote before (W.taken writer.new) (StopsFirst 0 input)) }
     ensures err { OnErr result ((before input : List ℕ) →
         Reached before (W.taken writer.old) session.old line.old input →
         Wrote before (W.taken writer.new) (BeginsWith (output input))) }
@@ -248,7 +252,7 @@ fn run_session<E: Engine, R: ScriptIn, W: ScriptOut>(
         (W.taken writer.old) (W.taken writer.new)
         (BeginsOutputUnless (R.ends reader.old < R.ends reader.new))) }
     ensures memory { IsErrOf result Fault.Memory → Transferred (R.given reader.old) (R.given reader.new)
-        (W.taken writer.old) (W.taken writer.new) (AnswersFirst (length (R.latest reader.new))) }
+        (W.taken writer.old) (W.taken writer.new) (StopsFirst (length (R.latest reader.new))) }
     ensures read { IsErrOf result Fault.Read → Transferred (R.given reader.old) (R.given reader.new)
         (W.taken writer.old) (W.taken writer.new) AnswersEnded }
     ensures read_failed { IsErrOf result Fault.Read → R.failed reader.old < R.failed reader.new }
@@ -302,10 +306,10 @@ pub fn run_script<E: Engine, R: ScriptIn, W: ScriptOut>(
         (W.taken writer.old) (W.taken writer.new)
         (BeginsOutputUnless (R.ends reader.old < R.ends reader.new))) }
 
-    // After want of memory, it is the replies to first lines, to all at least that ended before the last read;
-    // after a failed read, to all lines that ended.
+    // After want of memory, it is the replies to first lines, to all at least that ended before the last read, and
+    // the next line isn't blank; after a failed read, to all lines that ended.
     ensures memory { IsErrOf result Fault.Memory → Transferred (R.given reader.old) (R.given reader.new)
-        (W.taken writer.old) (W.taken writer.new) (AnswersFirst (length (R.latest reader.new))) }
+        (W.taken writer.old) (W.taken writer.new) (StopsFirst (length (R.latest reader.new))) }
     ensures read { IsErrOf result Fault.Read → Transferred (R.given reader.old) (R.given reader.new)
         (W.taken writer.old) (W.taken writer.new) AnswersEnded }
 

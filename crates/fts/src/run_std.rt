@@ -2,7 +2,7 @@
 ghost use Rattle.std.specs.Prelude.{◌≡◌, ◌<◌, length, OnOk, OnErr, IsErrOf};
 ghost use Rattle.std.specs.Io.KnownBytes.{Appends, Consumes, IsAtEnd};
 ghost use Rattle.fts.specs.Outputs.{output};
-ghost use Rattle.fts.specs.Runs.{AnswersEnded, AnswersFirst, BeginsOutputUnless};
+ghost use Rattle.fts.specs.Runs.{AnswersEnded, BeginsOutputUnless, StopsFirst};
 
 use crate::engine::Engine;
 use crate::fault::Fault;
@@ -31,10 +31,10 @@ pub fn run_std<E: Engine, R: Read, W: Write>(
     ensures err { OnErr result.0
         (BeginsOutputUnless (0 < result.1.ends.count) result.1.moved.bytes result.2.moved.bytes) }
 
-    // After want of memory, it is the replies to first lines, to all at least that ended before the last read;
-    // after a failed read, to all lines that ended.
+    // After want of memory, it is the replies to first lines, to all at least that ended before the last read, and
+    // the next line isn't blank; after a failed read, to all lines that ended.
     ensures memory { IsErrOf result.0 Fault.Memory →
-        AnswersFirst (length result.1.latest.bytes) result.1.moved.bytes result.2.moved.bytes }
+        StopsFirst (length result.1.latest.bytes) result.1.moved.bytes result.2.moved.bytes }
     ensures read { IsErrOf result.0 Fault.Read → AnswersEnded result.1.moved.bytes result.2.moved.bytes }
 
     ensures read_failed { IsErrOf result.0 Fault.Read → 0 < result.1.failed.count }

@@ -358,6 +358,7 @@ impl<E: Engine> Session<E> {
         ensures reply { OnOk result (string_bytes out.new ≡ string_bytes out.old ++ reply_to self.old line.now) }
         ensures script { OnOk result (self.new ≡ after_line self.old line.now) }
         ensures err { OnErr result (string_bytes out.new ≡ string_bytes out.old) }
+        ensures not_blank { OnErr result (is_blank_line line.now ≡ false) }
         ensures counted { self.new.number ≤ self.old.number + 1 }
     {
         let number = self.number + 1;
@@ -384,6 +385,7 @@ impl<E: Engine> Session<E> {
         ensures script { OnOk result ((line : List ℕ) → longest < length line → is_blank_line line ≡ blank →
             self.new ≡ after_line self.old line) }
         ensures err { OnErr result (string_bytes out.new ≡ string_bytes out.old) }
+        ensures not_blank { OnErr result (blank ≡ false) }
         ensures counted { self.new.number ≤ self.old.number + 1 }
     {
         let number = self.number + 1;

@@ -11,4 +11,5 @@ returns g c = record {
       (λ h. Ends-line c.args.session.now c.args.line.now _ (λ none. absurd (false≢true (c.if-is_empty.ensures.1 none)))
       (λ line held. h line held ∙ ap (λ v. v ++ reply_to c.args.session.now line) c.requires.none_wait))
       c.answer.ensures.reply;
+  not_blank = c.answer.ensures.not_blank;
 }

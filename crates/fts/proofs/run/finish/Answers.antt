@@ -1,5 +1,5 @@
 use Rattle.std.proofs.Common.{◌∙◌}
-use Rattle.fts.proofs.RunLemmas.{Wrote-output, Wrote-part, Wrote-start, Wrote-whole, on_err}
+use Rattle.fts.proofs.RunLemmas.{Wrote-output, Wrote-part, Wrote-start, Wrote-stop, Wrote-whole, on_err}
 use Rattle.fts.proofs.run.finish.Goals as goal
 
 pub returns-in_err-end_input-clause-err : goal.returns-in_err-end_input-clause-err
@@ -25,3 +25,6 @@ returns-in-Err-clause-err g c = λ before input r.
     c.args.session.now c.args.line.now input _ c.in_ok-end_input.ensures.ok
     (c.in-Err.ensures.taken ∙ c.in_ok-send.ensures.ok)
     r)
+
+pub returns-in_err-end_input-clause-memory : goal.returns-in_err-end_input-clause-memory
+returns-in_err-end_input-clause-memory g c = λ _ before input r. Wrote-stop before _ _ _ input c.in_err-end_input.ensures.not_blank r

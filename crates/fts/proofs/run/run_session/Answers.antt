@@ -2,6 +2,7 @@ use Rattle.std.proofs.Common.{arith, ◌<◌, ◌++◌, [], length, take, ◌∙
 use Rattle.std.proofs.lemmas.Result.{on_ok_weaker, on_err_weaker, err_from_is_err_and}
 use Rattle.std.proofs.lemmas.List.{length-take-le}
 use Rattle.fts.specs.Outputs.{Script}
+use Rattle.fts.specs.Runs.{AnswersFirst, StopsFirst}
 use Rattle.fts.proofs.RunLemmas.{Reached-start, Wrote-ended, Wrote-begins, Wrote-late, Wrote-latest, Wrote-more, Wrote-reached, Wrote-same, Wrote-unless, counted_end, given_none, length_more, not_counted, on_err, on_ok}
 use Rattle.fts.proofs.StreamLemmas.{append_more, GainsTaken-none, GainsTaken-trans, LosesGiven-none, LosesGiven-read}
 use Rattle.fts.proofs.run.run_session.Goals as goal
@@ -35,7 +36,7 @@ reads-preserved g c = record {
   failed = c.in-Ok.ensures.fails ∙ c.reads.invariant.failed;
   counted = length_more c.reads.invariant.input c.read.new.buffer c.in-Ok.n c.reads.count c.in-Ok.ensures.bound c.reads.invariant.counted;
   most = omega (arith, c.reads.invariant.most, c.if-n-count.false);
-  number = omega (arith, c.in_ok-take_block-in-Ok.ensures.counted, c.reads.invariant.number, length-take-le c.in-Ok.n c.read.new.buffer c.in-Ok.ensures.bound);
+  number = omega (arith, c.in_ok-take_block-in-Ok.ensures.lines_counted, c.reads.invariant.number, length-take-le c.in-Ok.n c.read.new.buffer c.in-Ok.ensures.bound);
   write_failed = omega (arith, c.reads.invariant.write_failed, c.take_block.ensures.failed);
   flushes = c.take_block.ensures.flushes ∙ c.reads.invariant.flushes;
 }
@@ -98,7 +99,7 @@ returns-then-n-count-clause-err g c = record {
 
 pub returns-then-n-count-clause-used_up : goal.returns-then-n-count-clause-used_up
 returns-then-n-count-clause-used_up g c = λ _.
-    let wrote = Wrote-latest _ _ _ (take c.in-Ok.n c.read.new.buffer) (g.R.ScriptIn.latest c.read.new.self) c.in-Ok.ensures.latest
+    let wrote = Wrote-latest AnswersFirst _ _ _ (take c.in-Ok.n c.read.new.buffer) (g.R.ScriptIn.latest c.read.new.self) c.in-Ok.ensures.latest
     (Wrote-more _ _ _ _ c.reads.invariant.input (take c.in-Ok.n c.read.new.buffer) c.reads.invariant.reached) in record {
       input = c.reads.invariant.input ++ take c.in-Ok.n c.read.new.buffer;
       read = append_more (g.R.ScriptIn.given c.args.reader.now) _ _ c.reads.invariant.input (take c.in-Ok.n c.read.new.buffer) c.reads.invariant.given c.in-Ok.ensures.given;
@@ -133,7 +134,7 @@ returns-in_err-take_block-in-Ok-clause-memory g c = λ e.
     let p = err_from_is_err_and c.from_residual-in_err-take_block-in-Ok.result c.from_residual-in_err-take_block-in-Ok.ensures.1 in record {
       input = c.reads.invariant.input ++ take c.in-Ok.n c.read.new.buffer;
       read = append_more (g.R.ScriptIn.given c.args.reader.now) _ _ c.reads.invariant.input (take c.in-Ok.n c.read.new.buffer) c.reads.invariant.given c.in-Ok.ensures.given;
-      wrote = Wrote-latest _ _ _ (take c.in-Ok.n c.read.new.buffer) (g.R.ScriptIn.latest c.read.new.self) c.in-Ok.ensures.latest
+      wrote = Wrote-latest StopsFirst _ _ _ (take c.in-Ok.n c.read.new.buffer) (g.R.ScriptIn.latest c.read.new.self) c.in-Ok.ensures.latest
           (c.in_err-take_block-in-Ok.ensures.memory (cc (p.1, p.2, e)) _ _ c.reads.invariant.reached);
     }
 

@@ -1,6 +1,7 @@
-use Rattle.std.proofs.Common.{[], take, drop, subst, sym, arith, string_bytes, take-append-drop}
-use Rattle.fts.specs.Runs.{Leads, LeadsFirst}
-use Rattle.fts.proofs.RunLemmas.{Leads-then, LeadsFirst-leads, on_err, sent_more, within_more}
+use Rattle.std.proofs.Common.{[], ◌++◌, take, drop, subst, sym, arith, string_bytes, take-append-drop}
+use Rattle.fts.specs.Text.{lines_of}
+use Rattle.fts.specs.Runs.{IsWritten, Leads, LeadsToStop}
+use Rattle.fts.proofs.RunLemmas.{Leads-then, LeadsToStop-leads, on_err, sent_more, tail_is, within_more}
 use Rattle.fts.proofs.run.take_lines.Goals as goal
 
 pub returns-in_err-at-clause-err : goal.returns-in_err-at-clause-err
@@ -8,10 +9,11 @@ returns-in_err-at-clause-err g c =
     let bytes = c.args.bytes.now in
     let at = c.loop-at.at in
     on_err c.from_residual.result _
-    (subst (λ v. LeadsFirst c.args.session.now c.args.line.now bytes [] v) (sym c.in_err-at.ensures.err)
-    (subst (λ v. LeadsFirst c.args.session.now c.args.line.now v [] (string_bytes c.loop-at.replies)) (take-append-drop at bytes)
-    (LeadsFirst-leads c.args.session.now c.loop-at.session c.args.line.now c.loop-at.line (take at bytes) (drop at bytes) [] _
-    c.loop-at.invariant.leads)))
+    (subst (λ v. LeadsToStop c.args.session.now c.args.line.now bytes [] v) (sym c.in_err-at.ensures.err)
+    (subst (λ v. LeadsToStop c.args.session.now c.args.line.now v [] (string_bytes c.loop-at.replies)) (take-append-drop at bytes)
+    (LeadsToStop-leads c.args.session.now c.loop-at.session c.args.line.now c.loop-at.line (take at bytes) (drop at bytes) [] _
+    c.loop-at.invariant.leads
+    (λ line held none. subst (λ v. IsWritten (lines_of (line ++ v))) (tail_is bytes at) (c.in_err-at.ensures.not_blank line held none)))))
 
 pub loop-at-preserved : goal.loop-at-preserved
 loop-at-preserved g c =
@@ -25,5 +27,5 @@ loop-at-preserved g c =
           (sent_more bytes at n)
           (Leads-then c.args.session.now c.loop-at.session c.take_line.new.session c.args.line.now c.loop-at.line c.take_line.new.line _ _ _ _ _
           c.loop-at.invariant.leads c.in_ok-at.ensures.ok);
-      counted = omega (arith, c.loop-at.invariant.counted, c.take_line.ensures.counted, c.in_ok-at.ensures.some);
+      counted = omega (arith, c.loop-at.invariant.counted, c.take_line.ensures.lines_counted, c.in_ok-at.ensures.some);
     }
