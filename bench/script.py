@@ -104,7 +104,7 @@ print(f"{COUNT} documents of 30 words, {SEARCHES} searches a kind, one thread")
 print(f"{'':16}{'fts':>10}{'FTS5':>10}{'fts / FTS5':>12}")
 print(f"{'build, s':16}{built - empty:10.2f}{sqlite_built:10.2f}{(built - empty) / sqlite_built:12.2f}")
 for name, searches in KINDS:
-    took, replies = best([*build, *({"search": s} for s in searches)])
+    took, replies = run([*build, *({"search": s} for s in searches)])
     each = (took - built) / SEARCHES * 1000
     began = time.perf_counter()
     told = [base.execute(*SQL[name](i)).fetchall() for i in range(SEARCHES)]
