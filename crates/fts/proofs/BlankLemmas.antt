@@ -12,7 +12,7 @@ use Rattle.fts.specs.declared.lines.PartialLine.{PartialLine}
 use Rattle.fts.specs.Text.{is_white, is_blank, lines_of, onto_first, HasNoEnd}
 use Rattle.fts.specs.Commands.{json_in, longest, command}
 use Rattle.fts.specs.Replies.{execute, execute_line, reply_on, carried_over}
-use Rattle.fts_model.specs.Outcomes.{result_and_then}
+use Rattle.fts_model.specs.Results.{result_and_then}
 use Rattle.fts.specs.Outputs.{Script, after_line, reply_to}
 use Rattle.fts.specs.Indexes.{Index, indexes}
 use Rattle.fts.specs.Runs.{Holds, Indented, IsWritten}

@@ -9,7 +9,7 @@ use Rattle.fts_model.specs.declared.operation.Op.TheVariants as ops
 use Rattle.fts_model.specs.declared.operation.Stamped.{Stamped}
 use Rattle.fts_model.specs.declared.query.Request.{Request}
 use Rattle.fts_model.specs.QueryValues.{QueryValue}
-use Rattle.fts_model.specs.Outcomes.{ok_unless, result_and_then, result_map}
+use Rattle.fts_model.specs.Results.{ok_unless, result_and_then, result_map}
 use Rattle.fts_model.specs.Schemas.{schema_fault}
 use Rattle.fts_model.specs.Documents.{DocumentValue, document_of}
 use Rattle.fts_model.specs.Operations.{term_of}

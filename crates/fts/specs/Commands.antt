@@ -13,7 +13,7 @@ use Rattle.fts_model.specs.declared.query.Order.{Order}
 use Rattle.fts_model.specs.declared.query.Order.TheVariants as orders
 use Rattle.fts_model.specs.declared.refusal.Refusal.{Refusal}
 use Rattle.fts_model.specs.declared.refusal.Refusal.TheVariants.{LineTooLong, BadJson, BadCommand}
-use Rattle.fts_model.specs.Outcomes.{result_and_then}
+use Rattle.fts_model.specs.Results.{result_and_then}
 
 -- the most bytes of a line that is read
 abbrev pub longest : ℕ

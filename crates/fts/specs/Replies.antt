@@ -10,7 +10,7 @@ use Rattle.fts_model.specs.declared.value.Number.{Number}
 use Rattle.fts_model.specs.declared.value.FieldValue.TheVariants as values
 use Rattle.fts_model.specs.declared.answer.Hit.{Hit}
 use Rattle.fts_model.specs.Refusals.{name_of}
-use Rattle.fts_model.specs.Outcomes.{ok_unless, result_and_then, result_map}
+use Rattle.fts_model.specs.Results.{ok_unless, result_and_then, result_map}
 use Rattle.fts_model.specs.Schemas.{schema_fault}
 use Rattle.fts_model.specs.Documents.{document_of, data_of, json_of}
 use Rattle.fts_model.specs.Operations.{term_of}

@@ -1,6 +1,6 @@
 // What a script needs of an index, however it is kept.
 ghost use Rattle.std.specs.Prelude.{◌≡◌, ◌+◌, ◌^◌, ◌≤◌, ℕ, Ok, IfOk};
-ghost use Rattle.fts_model.specs.Outcomes.{Gives};
+ghost use Rattle.fts_model.specs.Results.{Gives};
 ghost use Rattle.fts_model.specs.QueryValues.{query_value};
 
 use crate::options::Options;

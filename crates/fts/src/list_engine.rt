@@ -2,7 +2,7 @@
 ghost use Rattle.std.specs.Prelude.{◌≡◌, ◌++◌, Ok, IfOk, IfErr, OnOk, OnErr};
 ghost use Rattle.std.specs.List.{list_all};
 ghost use Rattle.fts_model.specs.Operations.{alive as alive_after, adds};
-ghost use Rattle.fts_model.specs.Outcomes.{Gives};
+ghost use Rattle.fts_model.specs.Results.{Gives};
 ghost use Rattle.fts.specs.Lists.{is_add, added_by, added};
 
 use crate::engine::Engine;

@@ -1,7 +1,10 @@
 -- What a document is: a value, or none, for each field of a schema, and what a JSON value says of it.
-use Rattle.std.specs.Prelude.{◌≡◌, ℕ, ◌^◌, ℤ, pos, negsuc, ◌&&◌, nat_le, nat_lt, Bool, true, false, List, [], ◌∷◌, length, map, Result, Ok, Err, Option, Some, None, IfSome, drop, if◌then◌else◌, option_map, option_and_then, slice_get}
+use Rattle.std.specs.Prelude.{◌≡◌, ℕ, ◌^◌, ℤ, pos, negsuc, ◌&&◌, nat_le, nat_lt, Bool, true, false, List, [], ◌∷◌, length, map, Result, Ok, Err, Option, Some, None, IfSome, AllPairs, drop, if◌then◌else◌, option_map, option_and_then, slice_get}
 use Rattle.std.specs.List.{AllZip, find}
 use Rattle.std.specs.Str.{bytes_eq}
+use Rattle.std.specs.Ordering.{nat_cmp}
+use Rattle.std.specs.Cmp.Lexicographic.{slice_cmp}
+use Rattle.std.specs.declared.cmp.Ordering.TheVariants.{Less}
 use Rattle.std.specs.Option.{ok_or}
 use Rattle.serde_json.specs.Data.{Num, unsigned, Data, null, boolean, number, string, array, object, Members, no_members, member, put}
 use Rattle.serde_json.specs.Find.{as_u64, as_i64, of_integer, get_member}
@@ -13,7 +16,7 @@ use Rattle.fts_model.specs.declared.schema.Kind.TheVariants as kinds
 use Rattle.fts_model.specs.declared.schema.Field.{Field}
 use Rattle.fts_model.specs.declared.value.FieldValue.{FieldValue}
 use Rattle.fts_model.specs.declared.value.FieldValue.TheVariants as values
-use Rattle.fts_model.specs.Outcomes.{value_if_ok, error_if_err, ok_unless, first_of}
+use Rattle.fts_model.specs.Results.{value_if_ok, error_if_err, ok_unless, first_of}
 use Rattle.fts_model.specs.Schemas.{schema_fault, is_named}
 
 -- a document: the fields of its schema, and what it has in each
@@ -61,7 +64,16 @@ fault_in_field (Some field) value = error_if_err (value_in field.kind value)
 abbrev pub member_fault : List Field → List ℕ → Data → Option Refusal
 member_fault fields name value = fault_in_field (find (is_named name) fields) value
 
--- what is wrong with the members of an object: the first fault, in the order of their names
+-- the names of members, as they stand
+abbrev pub member_names : Members → List (List ℕ)
+member_names no_members = []
+member_names (member name value members) = name ∷ member_names members
+
+-- each name is before those behind it, in the order of their bytes
+abbrev pub NamesRise : Members → Type 0
+NamesRise members = AllPairs (λ a b. slice_cmp nat_cmp a b ≡ Less) (member_names members)
+
+-- what is wrong with the members of an object: the first fault, as they stand, which is in the order of their names
 abbrev pub members_fault : List Field → Members → Option Refusal
 members_fault fields no_members = None
 members_fault fields (member name value members) = first_of (member_fault fields name value) (members_fault fields members)

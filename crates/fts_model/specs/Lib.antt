@@ -1,10 +1,9 @@
 pub mod Refusals
-pub mod Outcomes
+pub mod Results
 pub mod Schemas
 pub mod Documents
-pub mod Stored
 pub mod Operations
 pub mod QueryValues
 pub mod Queries
 pub mod Answers
-pub mod Scans
+pub mod Internals

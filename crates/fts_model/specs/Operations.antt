@@ -18,7 +18,7 @@ use Rattle.fts_model.specs.declared.operation.Term.{Term}
 use Rattle.fts_model.specs.declared.operation.Op.{Op}
 use Rattle.fts_model.specs.declared.operation.Op.TheVariants.{Add, Delete, DeleteAll}
 use Rattle.fts_model.specs.declared.operation.Stamped.{Stamped}
-use Rattle.fts_model.specs.Outcomes.{result_and_then, result_map}
+use Rattle.fts_model.specs.Results.{result_and_then, result_map}
 use Rattle.fts_model.specs.Schemas.{field_named}
 use Rattle.fts_model.specs.Documents.{DocumentValue, value_in, value_in_field, is_of_kind, fits}
 
@@ -35,7 +35,7 @@ abbrev pub term_value : Kind → Data → Result FieldValue Refusal
 term_value kinds.Text (string token) = Ok (values.Text token)
 term_value kind value = some_value_in kind value
 
--- the same in the field of this number
+-- the term that a JSON value is in the field of this number
 abbrev pub term_at : List Field → ℕ → Data → Result Term Refusal
 term_at schema field value = option_map_or (λ kind. result_map (λ v. record { field = field; value = v }) (term_value kind value)) (kind_at schema field) (Err UnknownField)
 
@@ -65,7 +65,7 @@ value_has kinds.U64 (values.Number (numbers.U64 n)) (values.Number (numbers.U64 
 value_has kinds.I64 (values.Number (numbers.I64 n)) (values.Number (numbers.I64 m)) = int_eq n m
 value_has kind value term = false
 
--- the same of the value in a field, if there are both
+-- the value of a field has a term, if there is the field and it has a value
 abbrev pub field_has : Option Field → Option FieldValue → FieldValue → Bool
 field_has None value term = false
 field_has (Some field) None term = false

@@ -19,7 +19,7 @@ use Rattle.fts_model.specs.declared.operation.Stamped.{Stamped}
 use Rattle.fts_model.specs.declared.query.Order.{Order}
 use Rattle.fts_model.specs.declared.query.Top.{Top}
 use Rattle.fts_model.specs.declared.query.Request.{Request}
-use Rattle.fts_model.specs.Outcomes.{result_and_then, result_map}
+use Rattle.fts_model.specs.Results.{result_and_then, result_map}
 use Rattle.fts_model.specs.Schemas.{field_named, holds_numbers}
 use Rattle.fts_model.specs.Documents.{DocumentValue, value_in_field, is_of_kind}
 use Rattle.fts_model.specs.Operations.{has, kind_at, term_fits}
@@ -58,7 +58,7 @@ number_le (U64 n) (U64 m) = nat_le n m
 number_le (I64 n) (I64 m) = not (int_lt m n)
 number_le a b = false
 
--- the same of the numbers that values are
+-- one value is a number below another of its kind, or one not above it
 abbrev pub value_lt : FieldValue → FieldValue → Bool
 value_lt (values.Number n) (values.Number m) = number_lt n m
 value_lt a b = false

@@ -8,7 +8,7 @@ use Rattle.fts_model.specs.declared.refusal.Refusal.TheVariants.{NoFields, TooMa
 use Rattle.fts_model.specs.declared.schema.Kind.{Kind}
 use Rattle.fts_model.specs.declared.schema.Kind.TheVariants.{Text, Keyword, U64, I64}
 use Rattle.fts_model.specs.declared.schema.Field.{Field}
-use Rattle.fts_model.specs.Outcomes.{first_of}
+use Rattle.fts_model.specs.Results.{first_of}
 
 -- a letter or an underscore
 abbrev pub starts_name : ℕ → Bool

@@ -1,12 +1,12 @@
 // Documents: a value, or none, for each field of a schema.
-ghost use Rattle.std.specs.Prelude.{◌≡◌, ◌<◌, ◌≤◌, List, ℕ, Some, None, Ok, IfOk, IfErr, OnOk, map, length, slice_get, unwrap_or, option_map, option_copied};
+ghost use Rattle.std.specs.Prelude.{◌≡◌, ◌<◌, ◌≤◌, List, ℕ, Some, None, Ok, Err, IfOk, IfErr, IsErrOf, OnOk, map, length, slice_get, unwrap_or, option_map, option_copied};
 ghost use Rattle.std.specs.Arc.{arc_value};
 ghost use Rattle.std.specs.List.{find};
 ghost use Rattle.serde_json.specs.View.{view, members_view};
-ghost use Rattle.fts_model.specs.Outcomes.{Gives, error_if_err};
+ghost use Rattle.fts_model.specs.Results.{Gives, error_if_err};
 ghost use Rattle.serde_json.specs.Data.{object, no_members};
 ghost use Rattle.fts_model.specs.Schemas.{schema_fault, is_named};
-ghost use Rattle.fts_model.specs.Documents.{value_in, value_at, members_fault, member_fault, document_of, data_of, with_value, with_values, json_of, CanHave, AreValuesOf, IsDocument, may_stand as may_stand_in, fits_fields, fits, value_in_field};
+ghost use Rattle.fts_model.specs.Documents.{value_in, value_at, members_fault, member_fault, document_of, data_of, with_value, with_values, json_of, CanHave, AreValuesOf, IsDocument, may_stand, fits_fields, fits, value_in_field};
 ghost use Rattle.fts_model.specs.declared.refusal.Refusal.TheVariants.{Memory};
 
 use crate::refusal::Refusal;
@@ -112,7 +112,8 @@ fn values_of(
     requires object { view json.now ≡ object (members_view members.now.entries) }
     requires valid { schema_fault fields.now ≡ None }
     requires no_fault { members_fault fields.now (members_view members.now.entries) ≡ None }
-    ensures values { IfOk result (λ values. values.items ≡ map (value_at (members_view members.now.entries)) fields.now) }
+    ensures values { IfOk result
+        (λ values. values.items ≡ map (value_at (members_view members.now.entries)) fields.now) }
     ensures in_range { IfOk result (λ values. AreValuesOf fields.now values.items) }
 {
     let mut values = Vec::with_capacity(alloc, fields.len())?;
@@ -126,15 +127,15 @@ fn values_of(
     Ok(values)
 }
 
-/// What a document keeps.
+/// What a document shares with its copies.
 #[derive(Drop)]
 struct Stored {
     schema: Schema,
     values: Vec<Option<FieldValue>>,
 }
 
-/// Keeps the values of an object without a fault.
-fn keep(
+/// Stores the values of an object without a fault.
+fn store(
     alloc: Global,
     schema: &Schema,
     json: &Value,
@@ -143,15 +144,19 @@ fn keep(
     requires object { view json.now ≡ object (members_view members.now.entries) }
     requires no_fault { members_fault schema.now (members_view members.now.entries) ≡ None }
     ensures schema { IfOk result (λ stored. (arc_value stored).schema ≡ schema.now) }
-    ensures values { IfOk result (λ stored. (arc_value stored).values.items ≡ map (value_at (members_view members.now.entries)) schema.now) }
-    ensures document { IfOk result (λ stored. IsDocument (record { schema = schema.now; values = (arc_value stored).values.items })) }
+    ensures values { IfOk result
+        (λ stored. (arc_value stored).values.items
+        ≡ map (value_at (members_view members.now.entries)) schema.now) }
+    ensures document { IfOk result (λ stored.
+        IsDocument (record { schema = schema.now; values = (arc_value stored).values.items })) }
 {
     let values = values_of(alloc, schema.fields(), json, members)?;
     let schema = schema.clone()?;
     Ok(Arc::new(alloc, Stored { schema, values })?)
 }
 
-/// A document: at most one value for each field of the schema that it was made under. A copy shares it.
+/// A document: at most one value for each field of the schema that it was made under. A copy shares
+/// it.
 #[derive(Drop)]
 pub struct Document {
     stored: Arc<Stored>,
@@ -162,7 +167,7 @@ impl Model for Document {
 
     ghost Value = { DocumentValue };
 
-    ghost use Rattle.fts_model.specs.Stored.{stored_value, IsStored};
+    ghost use Rattle.fts_model.specs.Internals.Stored.{stored_value, IsStored};
 
     ghost view = { stored_value };
 
@@ -172,12 +177,15 @@ impl Model for Document {
 impl Document {
     /// The document that a JSON value is under a schema.
     ///
-    /// It is refused as `NotAnObject`, or else by the first fault of its members, which are looked at in the order of
-    /// their names' bytes: `UnknownField`, `WrongKind` (a text or keyword field takes a string, a `u64` or `i64` field
-    /// a whole number in its range; any takes null, which is no value), `TextTooLong` (over 1,048,576 bytes) or
-    /// `KeywordTooLong` (over 256 bytes).
+    /// It is refused as `NotAnObject`, or else by the first fault of its members, which are looked
+    /// at in the order of their names' bytes: `UnknownField`, `WrongKind` (a text or keyword field
+    /// takes a string, a `u64` or `i64` field a whole number in its range; any takes null, which is
+    /// no value), `TextTooLong` (over 1,048,576 bytes) or `KeywordTooLong` (over 256 bytes).
     pub fn from_json(alloc: Global, schema: &Schema, json: &Value) -> Result<Document, Refusal>
-        ensures { Gives (λ document. document) result (document_of schema.now (view json.now)) }
+        ensures document { Gives (λ document. document) result
+            (document_of schema.now (view json.now)) }
+        ensures refused { (fault : Refusal) →
+            document_of schema.now (view json.now) ≡ Err fault → IsErrOf result fault }
     {
         let Some(members) = json.as_object() else {
             return Err(Refusal::NotAnObject);
@@ -185,28 +193,25 @@ impl Document {
         if let Some(fault) = fault_of_members(schema, members) {
             return Err(fault);
         }
-        match keep(alloc, schema, json, members) {
-            Ok(stored) => Ok(Document { stored }),
-            Err(AllocError) => Err(Refusal::Memory),
-        }
+        let stored = store(alloc, schema, json, members)?;
+        Ok(Document { stored })
     }
 
-    /// The fields that have a value, as a JSON object with the names in the order of their bytes. `from_json` reads
-    /// the same document from it, under the schema that the document was made under.
+    /// The fields that have a value, as a JSON object with the names in the order of their bytes.
+    /// `from_json` reads the same document from it, under the schema that the document was made
+    /// under.
     pub fn to_json(&self, alloc: Global) -> Result<Value, Refusal>
         ensures json { IfOk result (λ json. view json ≡ json_of self.now) }
-        ensures reads_back { IfOk result (λ json. document_of self.now.schema (view json) ≡ Ok self.now) }
+        ensures reads_back { IfOk result
+            (λ json. document_of self.now.schema (view json) ≡ Ok self.now) }
         ensures memory { IfErr result (λ e. e ≡ Memory) }
     {
         let fields = self.stored.schema.fields();
-        match members_of(alloc, fields, &self.stored.values) {
-            Ok(members) => Ok(Value::Object(members)),
-            Err(AllocError) => Err(Refusal::Memory),
-        }
+        Ok(Value::Object(members_of(alloc, fields, &self.stored.values)?))
     }
 
-    /// Whether each field that has a value stands in the schema, at the same number and under the same name, and is
-    /// of a kind that holds such a value.
+    /// Whether each field that has a value stands in the schema, at the same number and under the
+    /// same name, and is of a kind that holds such a value.
     pub fn fits(&self, schema: &Schema) -> bool
         ensures { result ≡ fits schema.now self.now }
     {
@@ -253,7 +258,8 @@ fn put_value(
     field: &Field,
     value: &Option<FieldValue>,
 ) -> Result<(), AllocError>
-    ensures { OnOk result (members_view members.new.entries ≡ with_value (members_view members.old.entries) field.now value.now) }
+    ensures { OnOk result (members_view members.new.entries
+        ≡ with_value (members_view members.old.entries) field.now value.now) }
 {
     if let Some(value) = value {
         let name = String::from_str(alloc, field.name.as_str())?;
@@ -268,7 +274,8 @@ fn members_of(
     fields: &[Field],
     values: &[Option<FieldValue>],
 ) -> Result<Map<String, Value>, AllocError>
-    ensures { IfOk result (λ members. members_view members.entries ≡ with_values no_members fields.now values.now) }
+    ensures { IfOk result
+        (λ members. members_view members.entries ≡ with_values no_members fields.now values.now) }
 {
     let mut members = Map::new(alloc);
     for (field, value) in fields.iter().zip(values) {
@@ -279,7 +286,7 @@ fn members_of(
 
 /// Whether a value of one field may stand in another.
 fn may_stand(there: Option<&Field>, field: &Field, value: &Option<FieldValue>) -> bool
-    ensures { result ≡ may_stand_in (option_copied there.entry) field.now value.now }
+    ensures { result ≡ may_stand (option_copied there.entry) field.now value.now }
 {
     match (there, value) {
         (_, None) => true,

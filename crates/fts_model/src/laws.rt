@@ -1,5 +1,7 @@
 //! What ties the definitions to each other: each contract is a law, and the body is empty.
-ghost use Rattle.std.specs.Prelude.{◌≡◌, ◌↔◌, ◌++◌, ◌<◌, ℕ, List, false, filter, All, Contains, IsTrue};
+ghost use Rattle.serde_json.specs.Data.{Members, object};
+ghost use Rattle.serde_json.specs.Read.{read};
+ghost use Rattle.std.specs.Prelude.{◌≡◌, Some, ◌↔◌, ◌++◌, ◌<◌, ℕ, List, false, filter, All, Contains, IsTrue};
 ghost use Rattle.fts_model.specs.declared.schema.Field.{Field};
 ghost use Rattle.fts_model.specs.declared.operation.Op.{Op};
 ghost use Rattle.fts_model.specs.declared.operation.Op.TheVariants.{Add};
@@ -7,61 +9,83 @@ ghost use Rattle.fts_model.specs.declared.operation.Stamped.{Stamped};
 ghost use Rattle.fts_model.specs.Operations.{alive, adds, added, strikes, survives, HasEachStampOnce, StampsRise};
 ghost use Rattle.fts_model.specs.Queries.{phrase_in, PhraseIn};
 ghost use Rattle.fts_model.specs.Answers.{IsGroups, groups, IsTop, top};
-ghost use Rattle.fts_model.specs.Documents.{DocumentValue};
+ghost use Rattle.fts_model.specs.Documents.{DocumentValue, NamesRise};
 ghost use Rattle.fts_model.specs.declared.answer.Hit.{Hit};
 ghost use Rattle.fts_model.specs.declared.query.Order.{Order};
 ghost use Rattle.fts_model.specs.declared.value.Number.{Number};
 
-/// The documents that are alive after some operations stand for these: with more operations behind, it is alive what would be if the documents alone had been added.
+/// The members of an object that a text is read as stand in the order of their names, so the first
+/// fault of a document is the first in that order.
+pub fn members_stand_in_the_order_of_their_names()
+    ensures { (text : List ℕ) (members : Members) → read text ≡ Some (object members) →
+        NamesRise members }
+{}
+
+/// The documents that are alive after some operations stand for these: with more operations behind,
+/// that is alive which would be if the documents alone had been added.
 pub fn alive_stands_for_history()
-    ensures { (schema : List Field) (before after : List (Stamped Op)) → alive schema (before ++ after) ≡ alive schema (adds (alive schema before) ++ after) }
+    ensures { (schema : List Field) (before after : List (Stamped Op)) →
+        alive schema (before ++ after) ≡ alive schema (adds (alive schema before) ++ after) }
 {}
 
 /// No stamp stands twice among the documents alive, where none does among the operations.
 pub fn alive_has_each_stamp_once()
-    ensures { (schema : List Field) (ops : List (Stamped Op)) → HasEachStampOnce ops → HasEachStampOnce (alive schema ops) }
+    ensures { (schema : List Field) (ops : List (Stamped Op)) → HasEachStampOnce ops →
+        HasEachStampOnce (alive schema ops) }
 {}
 
 /// The stamps of the documents alive rise, where those of the operations do.
 pub fn alive_is_in_the_order_of_stamps()
-    ensures { (schema : List Field) (ops : List (Stamped Op)) → StampsRise ops → StampsRise (alive schema ops) }
+    ensures { (schema : List Field) (ops : List (Stamped Op)) → StampsRise ops →
+        StampsRise (alive schema ops) }
 {}
 
-/// Where the stamps rise, those documents are alive that are added and not struck by an operation of a later stamp.
+/// Where the stamps rise, those documents are alive that are added and not struck by an operation
+/// of a later stamp.
 pub fn alive_is_what_survives()
-    ensures { (schema : List Field) (ops : List (Stamped Op)) → StampsRise ops → alive schema ops ≡ filter (survives schema ops) (added ops) }
+    ensures { (schema : List Field) (ops : List (Stamped Op)) → StampsRise ops →
+        alive schema ops ≡ filter (survives schema ops) (added ops) }
 {}
 
-/// Where the stamps rise, a document is alive exactly where an operation adds it and none of a later stamp strikes it.
+/// Where the stamps rise, a document is alive exactly where an operation adds it and none of a
+/// later stamp strikes it.
 pub fn each_document_alive_was_added_and_not_struck()
-    ensures { (schema : List Field) (ops : List (Stamped Op)) (document : Stamped DocumentValue) → StampsRise ops →
+    ensures { (schema : List Field) (ops : List (Stamped Op)) (document : Stamped DocumentValue) →
+        StampsRise ops →
         Contains (alive schema ops) document
         ↔ (Contains ops (record { stamp = document.stamp; value = Add document.value })
         × All (λ op. document.stamp < op.stamp → strikes schema op.value document.value ≡ false) ops) }
 {}
 
-/// A phrase stands in a text where each of its members is a token, at its offset from some one position, which may be
-/// before the text.
+/// A phrase stands in a text where each of its members is a token, at its offset from some one
+/// position, which may be before the text.
 pub fn phrase_stands_at_its_offsets()
-    ensures { (text : List ℕ) (pattern : List (ℕ × List ℕ)) → IsTrue (phrase_in text pattern) ↔ PhraseIn text pattern }
+    ensures { (text : List ℕ) (pattern : List (ℕ × List ℕ)) →
+        IsTrue (phrase_in text pattern) ↔ PhraseIn text pattern }
 {}
 
 /// The groups that are folded hit by hit are the groups.
 pub fn groups_are_groups()
-    ensures { (field : ℕ) (hits : List (Stamped DocumentValue)) → IsGroups field hits (groups field hits) }
+    ensures { (field : ℕ) (hits : List (Stamped DocumentValue)) →
+        IsGroups field hits (groups field hits) }
 {}
 
 /// There is one list of groups.
 pub fn there_is_one_list_of_groups()
-    ensures { (field : ℕ) (hits : List (Stamped DocumentValue)) (a b : List (Number × ℕ)) → IsGroups field hits a → IsGroups field hits b → a ≡ b }
+    ensures { (field : ℕ) (hits : List (Stamped DocumentValue)) (a b : List (Number × ℕ)) →
+        IsGroups field hits a → IsGroups field hits b → a ≡ b }
 {}
 
-/// The first hits that have a number in a field are the top list, where no stamp stands twice among the hits.
+/// The first hits that have a number in a field are the top list, where no stamp stands twice among
+/// the hits.
 pub fn top_is_a_top_list()
-    ensures { (k : ℕ) (order : Order) (field : ℕ) (hits : List (Stamped DocumentValue)) → HasEachStampOnce hits → IsTop k order field hits (top k order field hits) }
+    ensures { (k : ℕ) (order : Order) (field : ℕ) (hits : List (Stamped DocumentValue)) →
+        HasEachStampOnce hits → IsTop k order field hits (top k order field hits) }
 {}
 
 /// There is at most one top list, where no stamp stands twice among the hits.
 pub fn there_is_one_top_list()
-    ensures { (k : ℕ) (order : Order) (field : ℕ) (hits : List (Stamped DocumentValue)) (a b : List Hit) → HasEachStampOnce hits → IsTop k order field hits a → IsTop k order field hits b → a ≡ b }
+    ensures { (k : ℕ) (order : Order) (field : ℕ) (hits : List (Stamped DocumentValue))
+        (a b : List Hit) → HasEachStampOnce hits →
+        IsTop k order field hits a → IsTop k order field hits b → a ≡ b }
 {}

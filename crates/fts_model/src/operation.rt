@@ -1,8 +1,8 @@
 // What is done to an index: documents are added, and those with a term are deleted.
-ghost use Rattle.std.specs.Prelude.{◌≡◌, option_copied};
+ghost use Rattle.std.specs.Prelude.{◌≡◌, Err, IsErrOf, option_copied};
 ghost use Rattle.serde_json.specs.View.{view};
-ghost use Rattle.fts_model.specs.Outcomes.{Gives};
-ghost use Rattle.fts_model.specs.Operations.{kind_at as kind_of_field, some_value_in, term_value as value_of_term};
+ghost use Rattle.fts_model.specs.Results.{Gives};
+ghost use Rattle.fts_model.specs.Operations.{kind_at, some_value_in, term_value};
 
 use crate::document::{Document, fault_of_value, value_of};
 use crate::refusal::Refusal;
@@ -10,48 +10,54 @@ use crate::schema::{Kind, Schema};
 use crate::text::Text;
 use crate::value::FieldValue;
 use serde_json::Value;
-use std::alloc::{AllocError, Global};
+use std::alloc::Global;
 
 /// A place in the order of all operations and commits. The first operation has stamp 1.
 pub type Stamp = u64;
 
 /// The kind of the field of this number, if there is one.
 pub(crate) fn kind_at(schema: &Schema, field: usize) -> Option<Kind>
-    ensures { result ≡ kind_of_field schema.now field }
+    ensures { result ≡ kind_at schema.now field }
 {
     Some(schema.fields().get(field)?.kind)
 }
 
 /// The value that a JSON value is in a field of this kind, where null is none.
 fn some_value_of(alloc: Global, kind: Kind, json: &Value) -> Result<FieldValue, Refusal>
-    ensures { Gives (λ value. value) result (some_value_in kind (view json.now)) }
+    ensures value { Gives (λ value. value) result (some_value_in kind (view json.now)) }
+    ensures refused { (fault : Refusal) →
+        some_value_in kind (view json.now) ≡ Err fault → IsErrOf result fault }
 {
     if let Some(fault) = fault_of_value(kind, json) {
         return Err(fault);
     }
-    match value_of(alloc, kind, json) {
-        Ok(Some(value)) => Ok(value),
-        Ok(None) => Err(Refusal::WrongKind),
-        Err(AllocError) => Err(Refusal::Memory),
+    if json.is_null() {
+        return Err(Refusal::WrongKind);
+    }
+    match value_of(alloc, kind, json)? {
+        Some(value) => Ok(value),
+        None => Err(Refusal::WrongKind),
     }
 }
 
 /// A token of any length.
 fn token(alloc: Global, json: &Value) -> Result<FieldValue, Refusal>
-    ensures { Gives (λ value. value) result (value_of_term Kind.Text (view json.now)) }
+    ensures value { Gives (λ value. value) result (term_value Kind.Text (view json.now)) }
+    ensures refused { (fault : Refusal) →
+        term_value Kind.Text (view json.now) ≡ Err fault → IsErrOf result fault }
 {
     let Some(token) = json.as_str() else {
         return Err(Refusal::WrongKind);
     };
-    match String::from_str(alloc, token) {
-        Ok(token) => Ok(FieldValue::Text(Text::new(token))),
-        Err(AllocError) => Err(Refusal::Memory),
-    }
+    let token = String::from_str(alloc, token)?;
+    Ok(FieldValue::Text(Text::new(token)))
 }
 
 /// The value of a term in a field of this kind.
 fn term_value(alloc: Global, kind: Kind, json: &Value) -> Result<FieldValue, Refusal>
-    ensures { Gives (λ value. value) result (value_of_term kind (view json.now)) }
+    ensures value { Gives (λ value. value) result (term_value kind (view json.now)) }
+    ensures refused { (fault : Refusal) →
+        term_value kind (view json.now) ≡ Err fault → IsErrOf result fault }
 {
     match kind {
         Kind::Text => token(alloc, json),
@@ -59,8 +65,9 @@ fn term_value(alloc: Global, kind: Kind, json: &Value) -> Result<FieldValue, Ref
     }
 }
 
-/// What a delete or a query looks for in a field: a token of a text field, the whole text of a keyword field, or the
-/// number of a number field. It isn't analysed: a token is given as it is folded.
+/// What a delete or a query looks for in a field: a token of a text field, the whole text of a
+/// keyword field, or the number of a number field. It isn't analysed: a token is given as it is
+/// folded.
 #[derive(Clone, Debug, Drop, PartialEq, Eq)]
 pub struct Term {
     /// The number of the field.
@@ -69,18 +76,20 @@ pub struct Term {
 }
 
 impl Term {
-    ghost use Rattle.std.specs.Prelude.{◌≡◌};
+    ghost use Rattle.std.specs.Prelude.{◌≡◌, Err, IsErrOf};
     ghost use Rattle.serde_json.specs.View.{view};
-    ghost use Rattle.fts_model.specs.Outcomes.{Gives};
+    ghost use Rattle.fts_model.specs.Results.{Gives};
     ghost use Rattle.fts_model.specs.Operations.{term_of, term_fits};
 
     /// The term that a JSON value is in the field of this name.
     ///
-    /// It is refused as `UnknownField`, or else as `WrongKind` (a text or keyword field takes a string, a `u64` or
-    /// `i64` field a whole number in its range; none takes null) or `KeywordTooLong` (over 256 bytes). A text field
-    /// takes a string of any length.
+    /// It is refused as `UnknownField`, or else as `WrongKind` (a text or keyword field takes a
+    /// string, a `u64` or `i64` field a whole number in its range; none takes null) or
+    /// `KeywordTooLong` (over 256 bytes). A text field takes a string of any length.
     pub fn new(alloc: Global, schema: &Schema, name: &str, json: &Value) -> Result<Term, Refusal>
-        ensures { Gives (λ term. term) result (term_of schema.now name.now (view json.now)) }
+        ensures term { Gives (λ term. term) result (term_of schema.now name.now (view json.now)) }
+        ensures refused { (fault : Refusal) →
+            term_of schema.now name.now (view json.now) ≡ Err fault → IsErrOf result fault }
     {
         let Some(field) = schema.field(name) else {
             return Err(Refusal::UnknownField);

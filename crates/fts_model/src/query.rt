@@ -1,9 +1,9 @@
 // What a search asks for.
 ghost use Rattle.std.specs.Prelude.{◌≡◌, option_map, option_copied};
 ghost use Rattle.std.specs.List.{list_all};
-ghost use Rattle.fts_model.specs.Outcomes.{Gives};
+ghost use Rattle.fts_model.specs.Results.{Gives};
 ghost use Rattle.fts_model.specs.QueryValues.{query_value};
-ghost use Rattle.fts_model.specs.Queries.{query_fits, is_bound_of, is_range_of, holds_phrases as may_hold_phrases, is_number_field as is_field_of_numbers, is_limit as is_limit_of, number_field_named, groups_of, top_of};
+ghost use Rattle.fts_model.specs.Queries.{query_fits, is_bound_of, is_range_of, holds_phrases, is_number_field, is_limit, number_field_named, groups_of, top_of};
 
 use crate::operation::{Term, kind_at};
 use crate::refusal::Refusal;
@@ -14,7 +14,7 @@ use std::ops::Bound;
 
 /// Whether fields of this kind hold phrases.
 fn holds_phrases(kind: Kind) -> bool
-    ensures { result ≡ may_hold_phrases kind }
+    ensures { result ≡ holds_phrases kind }
 {
     matches!(kind, Kind::Text)
 }
@@ -56,7 +56,8 @@ pub enum Query {
         lower: Bound<FieldValue>,
         upper: Bound<FieldValue>,
     },
-    /// The documents that match all of `must`, none of `must_not`, and, where `must` is empty, one of `should`.
+    /// The documents that match all of `must`, none of `must_not`, and, where `must` is empty, one
+    /// of `should`.
     Bool {
         must: Vec<Query>,
         must_not: Vec<Query>,
@@ -65,8 +66,8 @@ pub enum Query {
 }
 
 impl Query {
-    /// Whether the query fits the schema: a term's value is of its field's kind, a phrase is of a text field and has
-    /// a member, a range is of a number field and so are its bounds.
+    /// Whether the query fits the schema: a term's value is of its field's kind, a phrase is of a
+    /// text field and has a member, a range is of a number field and so are its bounds.
     #[cycle(query_fits)]
     pub fn fits(&self, schema: &Schema) -> bool
         ensures { result ≡ query_fits schema.now (query_value self.now) }
@@ -137,7 +138,7 @@ const MOST_HITS: u64 = 10_000;
 
 /// Whether the field of this number holds numbers.
 fn is_number_field(schema: &Schema, field: usize) -> bool
-    ensures { result ≡ is_field_of_numbers schema.now field }
+    ensures { result ≡ is_number_field schema.now field }
 {
     match kind_at(schema, field) {
         None => false,
@@ -147,7 +148,7 @@ fn is_number_field(schema: &Schema, field: usize) -> bool
 
 /// Whether a top list may have at most so many members.
 fn is_limit(k: u64) -> bool
-    ensures { result ≡ is_limit_of k }
+    ensures { result ≡ is_limit k }
 {
     1 <= k && k <= MOST_HITS
 }
@@ -193,16 +194,18 @@ impl Request {
     ghost use Rattle.std.specs.Prelude.{◌≡◌, option_map, option_copied};
     ghost use Rattle.fts_model.specs.Queries.{request_of, request_fits};
 
-    /// The request for groups by the field of a name, and for a top list of so many hits by the field of a name.
+    /// The request for groups by the field of a name, and for a top list of so many hits by the
+    /// field of a name.
     ///
-    /// It is refused by its groups as `UnknownField` or `NotANumberField`, or else by its top list as one of these or
-    /// as `BadLimit` (not within 1..=10,000).
+    /// It is refused by its groups as `UnknownField` or `NotANumberField`, or else by its top list
+    /// as one of these or as `BadLimit` (not within 1..=10,000).
     pub fn new(
         schema: &Schema,
         groups: Option<&str>,
         top: Option<(&str, u64, Order)>,
     ) -> Result<Request, Refusal>
-        ensures { result ≡ request_of schema.now (option_copied groups.entry) (option_map (λ t. (t.0.now, t.1, t.2)) top.entry) }
+        ensures { result ≡ request_of schema.now (option_copied groups.entry)
+            (option_map (λ t. (t.0.now, t.1, t.2)) top.entry) }
     {
         let groups = groups_in(schema, groups)?;
         let top = top_in(schema, top)?;

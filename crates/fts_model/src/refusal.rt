@@ -7,7 +7,8 @@ use std::alloc::{AllocError, AllocFailed};
 
 /// Why a call was refused. A refused call leaves everything that it was lent as it was.
 ///
-/// The numbers and the names are part of the format: scripts print the names, and neither ever changes.
+/// The numbers and the names are part of the format: scripts print the names, and neither ever
+/// changes.
 #[derive(Clone, Copy, Debug, PartialEq, Eq)]
 pub enum Refusal {
     /// 0: the allocator refused a growth.
@@ -86,6 +87,14 @@ pub enum Refusal {
     LineTooLong,
     /// 37: the writer gives no further place for a reader.
     NoReader,
+}
+
+impl From<AllocError> for Refusal {
+    ghost from_gives = { λ _ refusal. refusal ≡ Memory };
+
+    fn from(_refused: AllocError) -> Refusal {
+        Refusal::Memory
+    }
 }
 
 impl Refusal {
@@ -179,14 +188,6 @@ impl Refusal {
             Refusal::LineTooLong => "LineTooLong",
             Refusal::NoReader => "NoReader",
         }
-    }
-}
-
-impl From<AllocError> for Refusal {
-    ghost from_gives = { λ _ refusal. refusal ≡ Memory };
-
-    fn from(_: AllocError) -> Self {
-        Refusal::Memory
     }
 }
 

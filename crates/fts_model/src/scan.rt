@@ -1,16 +1,17 @@
-//! The plain, slow search: each operation is applied and each document is looked at, one after the other.
+//! The plain, slow search: each operation is applied and each document is looked at, one after the
+//! other.
 //!
-//! It is what every faster way is compared with. A text is gone over once for each term or member of a phrase; its
-//! tokens are folded, one at a time, into a buffer that the caller lends.
+//! It is what every faster way is compared with. A text is gone over once for each term or member
+//! of a phrase; its tokens are folded, one at a time, into one buffer.
 ghost use Rattle.std.specs.Prelude.{◌≡◌, ◌≤◌, ◌+◌, ◌==◌, ◌&&◌, ◌++◌, ◌∷◌, [], IfOk, IfErr, Ok, not, filter, length, option_copied, if◌then◌else◌};
 ghost use Rattle.std.specs.List.{list_any, list_all};
 ghost use Rattle.std.specs.Str.{bytes_eq};
 ghost use Rattle.fts_text.specs.Tokens.{tokens};
 ghost use Rattle.fts_text.specs.Places.{IsPlaceIn, token_at};
-ghost use Rattle.fts_model.specs.Outcomes.{Gives};
+ghost use Rattle.fts_model.specs.Results.{Gives};
 ghost use Rattle.fts_model.specs.QueryValues.{query_value};
-ghost use Rattle.fts_model.specs.Queries.{stands_with as stands_with_token, leads as leads_pattern, phrase_in, value_has_phrase as has_phrase_in_value, number_lt as is_number_lt, number_le as is_number_le, value_lt as is_value_lt, value_le as is_value_le, admits_from as is_admitted_from, admits_to as is_admitted_to, matches as is_match};
-ghost use Rattle.fts_model.specs.Operations.{has_token as text_has, value_has as has_value, has as has_term, strikes, alive as alive_after};
+ghost use Rattle.fts_model.specs.Queries.{stands_with, leads, phrase_in, value_has_phrase, number_lt, number_le, value_lt, value_le, admits_from, admits_to, matches};
+ghost use Rattle.fts_model.specs.Operations.{has_token, value_has, has, strikes, alive};
 
 mod answers;
 
@@ -38,7 +39,7 @@ fn is_token(text: &str, place: Token, token: &str, scratch: &mut String) -> Resu
 
 /// Whether a text has a token.
 fn has_token(text: &str, token: &str, scratch: &mut String) -> Result<bool, AllocError>
-    ensures { IfOk result (λ found. found ≡ text_has text.now token.now) }
+    ensures { IfOk result (λ found. found ≡ has_token text.now token.now) }
 {
     for place in Tokens::new(text) {
         if is_token(text, place, token, scratch)? {
@@ -55,7 +56,7 @@ fn value_has(
     term: &FieldValue,
     scratch: &mut String,
 ) -> Result<bool, AllocError>
-    ensures { IfOk result (λ found. found ≡ has_value kind value.now term.now) }
+    ensures { IfOk result (λ found. found ≡ value_has kind value.now term.now) }
 {
     match (kind, value, term) {
         (Kind::Text, FieldValue::Text(text), FieldValue::Text(token)) => {
@@ -73,18 +74,31 @@ fn value_has(
 }
 
 /// Whether a document has a term.
-pub fn has(
+fn document_has(
     schema: &Schema,
     document: &Document,
     term: &Term,
     scratch: &mut String,
 ) -> Result<bool, AllocError>
-    ensures { IfOk result (λ found. found ≡ has_term schema.now document.now term.now) }
+    ensures { IfOk result (λ found. found ≡ has schema.now document.now term.now) }
 {
     match (schema.fields().get(term.field), document.value(term.field)) {
         (Some(field), Some(value)) => value_has(field.kind, value, &term.value, scratch),
         _ => Ok(false),
     }
+}
+
+/// Whether a document has a term. The only refusal is `Memory`.
+pub fn has(
+    alloc: Global,
+    schema: &Schema,
+    document: &Document,
+    term: &Term,
+) -> Result<bool, Refusal>
+    ensures { Gives (λ found. found) result (Ok (has schema.now document.now term.now)) }
+{
+    let mut scratch = String::new(alloc);
+    Ok(document_has(schema, document, term, &mut scratch)?)
 }
 
 /// The documents without those that have a term.
@@ -95,11 +109,12 @@ fn strike(
     documents: Vec<Stamped<Document>>,
     scratch: &mut String,
 ) -> Result<Vec<Stamped<Document>>, AllocError>
-    ensures { IfOk result (λ left. left.items ≡ filter (λ d. not (has_term schema.now d.value term.now)) documents.items) }
+    ensures { IfOk result
+        (λ left. left.items ≡ filter (λ d. not (has schema.now d.value term.now)) documents.items) }
 {
     let mut left = Vec::new(alloc);
     for document in documents {
-        if !has(schema, &document.value, term, scratch)? {
+        if !document_has(schema, &document.value, term, scratch)? {
             left.push(document)?;
         }
     }
@@ -114,7 +129,10 @@ fn after(
     mut documents: Vec<Stamped<Document>>,
     scratch: &mut String,
 ) -> Result<Vec<Stamped<Document>>, AllocError>
-    ensures { IfOk result (λ left. left.items ≡ filter (λ d. not (strikes schema.now op.now.value d.value)) documents.items ++ alive_after schema.now (op.now ∷ [])) }
+    ensures { IfOk result
+        (λ left. left.items
+        ≡ filter (λ d. not (strikes schema.now op.now.value d.value)) documents.items
+        ++ alive schema.now (op.now ∷ [])) }
 {
     match &op.value {
         Op::Add(document) => {
@@ -128,13 +146,17 @@ fn after(
     }
 }
 
-/// The documents that are alive after these operations.
-fn all_after(
+/// The documents that are alive after operations in the order of their stamps, each with its own
+/// stamp.
+///
+/// An add costs the same whatever stands around it, a delete goes over each document that is alive
+/// before it. The only refusal is `Memory`.
+pub fn alive(
     alloc: Global,
     schema: &Schema,
     ops: &[Stamped<Op>],
-) -> Result<Vec<Stamped<Document>>, AllocError>
-    ensures { IfOk result (λ left. left.items ≡ alive_after schema.now ops.now) }
+) -> Result<Vec<Stamped<Document>>, Refusal>
+    ensures { Gives (λ documents. documents.items) result (Ok (alive schema.now ops.now)) }
 {
     let mut scratch = String::new(alloc);
     let mut documents = Vec::new(alloc);
@@ -142,23 +164,6 @@ fn all_after(
         documents = after(alloc, schema, op, documents, &mut scratch)?;
     }
     Ok(documents)
-}
-
-/// The documents that are alive after operations in the order of their stamps, each with its own stamp.
-///
-/// An add costs the same whatever stands around it, a delete goes over each document that is alive before it. The
-/// only refusal is `Memory`.
-pub fn alive(
-    alloc: Global,
-    schema: &Schema,
-    ops: &[Stamped<Op>],
-) -> Result<Vec<Stamped<Document>>, Refusal>
-    ensures { Gives (λ documents. documents.items) result (Ok (alive_after schema.now ops.now)) }
-{
-    match all_after(alloc, schema, ops) {
-        Ok(documents) => Ok(documents),
-        Err(AllocError) => Err(Refusal::Memory),
-    }
 }
 
 /// Whether the token at a place is this one, and its position with an offset makes this sum.
@@ -171,7 +176,10 @@ fn is_token_at(
     scratch: &mut String,
 ) -> Result<bool, AllocError>
     requires { IsPlaceIn text.now place }
-    ensures { IfOk result (λ same. same ≡ (((token_at text.now place).0 + offset == sum) && bytes_eq (token_at text.now place).1 token.now)) }
+    ensures { IfOk result
+        (λ same. same
+        ≡ (((token_at text.now place).0 + offset == sum)
+        && bytes_eq (token_at text.now place).1 token.now)) }
 {
     if place.position + offset as usize != sum {
         return Ok(false);
@@ -179,7 +187,8 @@ fn is_token_at(
     is_token(text, place, token, scratch)
 }
 
-/// Whether another member of a pattern is a token, as far behind a member's place as their offsets are apart.
+/// Whether another member of a pattern is a token, as far behind a member's place as their offsets
+/// are apart.
 fn stands_with(
     text: &str,
     member: &(u32, Text),
@@ -188,7 +197,9 @@ fn stands_with(
     scratch: &mut String,
 ) -> Result<bool, AllocError>
     requires { IsPlaceIn text.now place }
-    ensures { IfOk result (λ stands. stands ≡ stands_with_token (tokens text.now) member.now (token_at text.now place) other.now) }
+    ensures { IfOk result
+        (λ stands. stands
+        ≡ stands_with (tokens text.now) member.now (token_at text.now place) other.now) }
 {
     let sum = place.position + other.0 as usize;
     for there in Tokens::new(text) {
@@ -208,7 +219,8 @@ fn leads(
     scratch: &mut String,
 ) -> Result<bool, AllocError>
     requires { IsPlaceIn text.now place }
-    ensures { IfOk result (λ leads. leads ≡ leads_pattern (tokens text.now) first.now others.now (token_at text.now place)) }
+    ensures { IfOk result
+        (λ found. found ≡ leads (tokens text.now) first.now others.now (token_at text.now place)) }
 {
     if !is_token(text, place, first.1.as_str(), scratch)? {
         return Ok(false);
@@ -228,7 +240,9 @@ fn any_leads(
     others: &[(u32, Text)],
     scratch: &mut String,
 ) -> Result<bool, AllocError>
-    ensures { IfOk result (λ stands. stands ≡ list_any (leads_pattern (tokens text.now) first.now others.now) (tokens text.now)) }
+    ensures { IfOk result
+        (λ stands. stands
+        ≡ list_any (leads (tokens text.now) first.now others.now) (tokens text.now)) }
 {
     for place in Tokens::new(text) {
         if leads(text, first, others, place, scratch)? {
@@ -254,7 +268,7 @@ fn value_has_phrase(
     pattern: &[(u32, Text)],
     scratch: &mut String,
 ) -> Result<bool, AllocError>
-    ensures { IfOk result (λ stands. stands ≡ has_phrase_in_value pattern.now value.now) }
+    ensures { IfOk result (λ stands. stands ≡ value_has_phrase pattern.now value.now) }
 {
     match value {
         FieldValue::Text(text) => has_phrase(text.as_str(), pattern, scratch),
@@ -264,7 +278,7 @@ fn value_has_phrase(
 
 /// Whether one number is below another of its kind.
 fn number_lt(a: Number, b: Number) -> bool
-    ensures { result ≡ is_number_lt a b }
+    ensures { result ≡ number_lt a b }
 {
     match (a, b) {
         (Number::U64(n), Number::U64(m)) => n < m,
@@ -275,7 +289,7 @@ fn number_lt(a: Number, b: Number) -> bool
 
 /// Whether one number is not above another of its kind.
 fn number_le(a: Number, b: Number) -> bool
-    ensures { result ≡ is_number_le a b }
+    ensures { result ≡ number_le a b }
 {
     match (a, b) {
         (Number::U64(n), Number::U64(m)) => n <= m,
@@ -286,7 +300,7 @@ fn number_le(a: Number, b: Number) -> bool
 
 /// Whether one value is a number below another.
 fn value_lt(a: &FieldValue, b: &FieldValue) -> bool
-    ensures { result ≡ is_value_lt a.now b.now }
+    ensures { result ≡ value_lt a.now b.now }
 {
     match (a, b) {
         (FieldValue::Number(n), FieldValue::Number(m)) => number_lt(*n, *m),
@@ -296,7 +310,7 @@ fn value_lt(a: &FieldValue, b: &FieldValue) -> bool
 
 /// Whether one value is a number not above another.
 fn value_le(a: &FieldValue, b: &FieldValue) -> bool
-    ensures { result ≡ is_value_le a.now b.now }
+    ensures { result ≡ value_le a.now b.now }
 {
     match (a, b) {
         (FieldValue::Number(n), FieldValue::Number(m)) => number_le(*n, *m),
@@ -306,7 +320,7 @@ fn value_le(a: &FieldValue, b: &FieldValue) -> bool
 
 /// Whether a lower bound admits a value.
 fn admits_from(bound: &Bound<FieldValue>, value: &FieldValue) -> bool
-    ensures { result ≡ is_admitted_from bound.now value.now }
+    ensures { result ≡ admits_from bound.now value.now }
 {
     match bound {
         Bound::Included(bound) => value_le(bound, value),
@@ -317,7 +331,7 @@ fn admits_from(bound: &Bound<FieldValue>, value: &FieldValue) -> bool
 
 /// Whether an upper bound admits a value.
 fn admits_to(bound: &Bound<FieldValue>, value: &FieldValue) -> bool
-    ensures { result ≡ is_admitted_to bound.now value.now }
+    ensures { result ≡ admits_to bound.now value.now }
 {
     match bound {
         Bound::Included(bound) => value_le(value, bound),
@@ -326,20 +340,21 @@ fn admits_to(bound: &Bound<FieldValue>, value: &FieldValue) -> bool
     }
 }
 
-/// Whether a query matches a document. What `scratch` holds before and after is of no account.
+/// Whether a query matches a document.
 #[cycle(matches)]
-pub fn matches(
+fn query_matches(
     schema: &Schema,
     query: &Query,
     document: &Document,
     scratch: &mut String,
 ) -> Result<bool, AllocError>
-    ensures { IfOk result (λ matches. matches ≡ is_match schema.now document.now (query_value query.now)) }
+    ensures { IfOk result
+        (λ found. found ≡ matches schema.now document.now (query_value query.now)) }
 {
     match query {
         Query::All => Ok(true),
         Query::None => Ok(false),
-        Query::Term(term) => has(schema, document, term, scratch),
+        Query::Term(term) => document_has(schema, document, term, scratch),
         Query::Phrase { field, pattern } => match document.value(*field) {
             None => Ok(false),
             Some(value) => value_has_phrase(value, pattern, scratch),
@@ -379,10 +394,12 @@ fn all_match(
     document: &Document,
     scratch: &mut String,
 ) -> Result<bool, AllocError>
-    ensures { IfOk result (λ matches. matches ≡ list_all (λ q. is_match schema.now document.now (query_value q)) queries.now) }
+    ensures { IfOk result
+        (λ found. found
+        ≡ list_all (λ q. matches schema.now document.now (query_value q)) queries.now) }
 {
     for query in queries {
-        if !matches(schema, query, document, scratch)? {
+        if !query_matches(schema, query, document, scratch)? {
             return Ok(false);
         }
     }
@@ -397,12 +414,28 @@ fn any_matches(
     document: &Document,
     scratch: &mut String,
 ) -> Result<bool, AllocError>
-    ensures { IfOk result (λ matches. matches ≡ list_any (λ q. is_match schema.now document.now (query_value q)) queries.now) }
+    ensures { IfOk result
+        (λ found. found
+        ≡ list_any (λ q. matches schema.now document.now (query_value q)) queries.now) }
 {
     for query in queries {
-        if matches(schema, query, document, scratch)? {
+        if query_matches(schema, query, document, scratch)? {
             return Ok(true);
         }
     }
     Ok(false)
+}
+
+/// Whether a query matches a document. The only refusal is `Memory`.
+pub fn matches(
+    alloc: Global,
+    schema: &Schema,
+    query: &Query,
+    document: &Document,
+) -> Result<bool, Refusal>
+    ensures { Gives (λ found. found) result
+        (Ok (matches schema.now document.now (query_value query.now))) }
+{
+    let mut scratch = String::new(alloc);
+    Ok(query_matches(schema, query, document, &mut scratch)?)
 }

@@ -1,7 +1,7 @@
 // The fields of an index.
 ghost use Rattle.std.specs.Prelude.{◌≡◌, ◌<◌, ◌≤◌, List, ℕ, Some, None, IfOk, IfErr, IsErrAnd, OnOk, length, slice_get, vec_len, option_map};
-ghost use Rattle.fts_model.specs.Outcomes.{first_of};
-ghost use Rattle.fts_model.specs.Schemas.{is_name as name_is_valid, is_reserved as name_is_reserved, starts_name as may_start_name, goes_on_name as may_go_on_name, has_name_start as may_begin_name, holds_numbers, is_named, field_fault, first_fault, schema_fault, field_named};
+ghost use Rattle.fts_model.specs.Results.{first_of};
+ghost use Rattle.fts_model.specs.Schemas.{is_name, is_reserved, starts_name, goes_on_name, has_name_start, holds_numbers, is_named, field_fault, first_fault, schema_fault, field_named};
 ghost use Rattle.fts_model.specs.declared.refusal.Refusal.TheVariants.{Memory};
 ghost use Rattle.std.specs.Arc.{arc_value};
 ghost use Rattle.std.specs.List.{list_all, list_any};
@@ -65,25 +65,25 @@ pub struct Field {
 const MOST_FIELDS: usize = 32;
 
 fn starts_name(byte: u8) -> bool
-    ensures { result ≡ may_start_name byte }
+    ensures { result ≡ starts_name byte }
 {
     byte.is_ascii_alphabetic() || byte == b'_'
 }
 
 fn goes_on_name(byte: u8) -> bool
-    ensures { result ≡ may_go_on_name byte }
+    ensures { result ≡ goes_on_name byte }
 {
     byte.is_ascii_alphanumeric() || byte == b'_'
 }
 
 fn is_reserved(name: &str) -> bool
-    ensures { result ≡ name_is_reserved name.now }
+    ensures { result ≡ is_reserved name.now }
 {
     name == "AND" || name == "OR" || name == "NOT"
 }
 
 fn has_name_start(name: &[u8]) -> bool
-    ensures { result ≡ may_begin_name name.now }
+    ensures { result ≡ has_name_start name.now }
 {
     match name {
         [] => false,
@@ -92,13 +92,13 @@ fn has_name_start(name: &[u8]) -> bool
 }
 
 fn goes_on(name: &[u8]) -> bool
-    ensures { result ≡ list_all may_go_on_name name.now }
+    ensures { result ≡ list_all goes_on_name name.now }
 {
     name.iter().all(|byte| goes_on_name(*byte))
 }
 
 fn is_name(name: &str) -> bool
-    ensures { result ≡ name_is_valid name.now }
+    ensures { result ≡ is_name name.now }
 {
     let bytes = name.as_bytes();
     has_name_start(bytes) && goes_on(bytes) && bytes.len() <= 32 && !is_reserved(name)
@@ -163,14 +163,15 @@ impl Model for Schema {
 }
 
 impl Schema {
-    /// The schema of these fields. A refusal hands them back: `NoFields`, `TooManyFields` (more than 32), and then
-    /// the first fault field by field, of one field in this order: `BadName` (not `[A-Za-z_][A-Za-z0-9_]*` of 1 to
-    /// 32 bytes, or `AND`, `OR`, `NOT`), `NameTwice` (an earlier field has the name), `BadDefault` (a number field
-    /// is marked default).
+    /// The schema of these fields. A refusal hands them back: `NoFields`, `TooManyFields` (more
+    /// than 32), and then the first fault field by field, of one field in this order: `BadName`
+    /// (not `[A-Za-z_][A-Za-z0-9_]*` of 1 to 32 bytes, or `AND`, `OR`, `NOT`), `NameTwice` (an
+    /// earlier field has the name), `BadDefault` (a number field is marked default).
     pub fn new(alloc: Global, fields: Vec<Field>) -> Result<Schema, (Vec<Field>, Refusal)>
         ensures ok { IfOk result (λ schema. schema ≡ fields.items) }
         ensures valid { OnOk result (schema_fault fields.items ≡ None) }
-        ensures refused { (fault : Refusal) → schema_fault fields.items ≡ Some fault → IsErrAnd result (λ e. e.1 ≡ fault) }
+        ensures refused { (fault : Refusal) → schema_fault fields.items ≡ Some fault →
+            IsErrAnd result (λ e. e.1 ≡ fault) }
         ensures memory { IfErr result (λ e. schema_fault fields.items ≡ None → e.1 ≡ Memory) }
         ensures handed_back { IfErr result (λ e. e.0.items ≡ fields.items) }
     {

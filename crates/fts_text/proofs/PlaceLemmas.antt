@@ -6,13 +6,16 @@ use Rattle.fts_text.specs.declared.tokenizer.Tokens.{Tokens}
 use Rattle.fts_text.specs.Tokens.{Run, kept, byte_len}
 use Rattle.fts_text.specs.Places.{place_of, places_left, runs_left, YieldsRun}
 
+-- a run is short enough for a token
 abbrev is_kept : ℕ × Run → Bool
 is_kept r = nat_lt (byte_len r.1) 40
 
+-- the kept runs, by whether the first is one
 kept-cons : (n : ℕ) (run : Run) (rs : List Run) → kept n (run ∷ rs) ≡ cond (is_kept (n, run)) ((n, run) ∷ kept (n + 1) rs) (kept (n + 1) rs)
 unfolding kept
 kept-cons n run rs = refl
 
+-- the places of runs with one in front that is kept or not
 map-cond : (b : Bool) (r : ℕ × Run) (rs : List (ℕ × Run)) → map place_of (cond b (r ∷ rs) rs) ≡ cond b (place_of r ∷ map place_of rs) (map place_of rs)
 map-cond true r rs = refl
 map-cond false r rs = refl
@@ -28,6 +31,7 @@ places_left-cons s t token b h test =
     ∙ ap (λ u. cond b (u ∷ map place_of (kept (s.next_position + 1) (runs_left t))) (map place_of (kept (s.next_position + 1) (runs_left t)))) (sym h.2)
     ∙ ap (λ n. cond b (token ∷ map place_of (kept n (runs_left t))) (map place_of (kept n (runs_left t)))) (sym h.3)
 
+-- a place is as long as its run
 byte_len-of_place : (n : ℕ) (run : Run) (token : Token) → token ≡ place_of (n, run) → token.end - token.start ≡ byte_len run
 byte_len-of_place n run token e =
     let starts = ap (λ u. u.start) e in

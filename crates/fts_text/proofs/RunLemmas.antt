@@ -16,16 +16,20 @@ use Rattle.fts_text.proofs.SpanLemmas.{front, after, length-front, chars-drop-sp
 abbrev pub separates : ℕ × ℕ → Bool
 separates p = not (is_alphanumeric p.1)
 
+-- a run has a character
 abbrev pub is_nonempty : Run → Bool
 is_nonempty run = nat_lt 0 (length run)
 
+-- the parts between separators, empty ones too
 abbrev pub parts : ℕ → List ℕ → List Run
 parts at cs = slice_split separates (char_indices at cs)
 
+-- the characters of indexed characters
 pub chars_of-char_indices : (at : ℕ) (cs : List ℕ) → chars_of (char_indices at cs) ≡ cs
 chars_of-char_indices at [] = refl
 chars_of-char_indices at (c ∷ cs) = ap (λ l. c ∷ l) (chars_of-char_indices (at + len_utf8 c) cs)
 
+-- no characters have no run
 pub runs-nil : (at : ℕ) → runs at [] ≡ []
 unfolding runs
 runs-nil at = refl
@@ -50,6 +54,7 @@ runs-gap at (c ∷ cs) = runs-gap-at at c cs (is_alphanumeric c) refl (runs-gap 
 abbrev pub BeginsWithFront : ℕ → List ℕ → Type 0
 BeginsWithFront at cs = (tail : List Run) × (parts at cs ≡ char_indices at (front true cs) ∷ tail) × (filter is_nonempty tail ≡ runs (at + span_len true cs) (after true cs))
 
+-- the parts begin with the characters before the first separator, whether the first is one or not
 parts-front-at : (at c : ℕ) (cs : List ℕ) (b : Bool) → is_alphanumeric c ≡ b → BeginsWithFront (at + len_utf8 c) cs
     → (tail : List Run) × (parts at (c ∷ cs) ≡ char_indices at (cond (beq b true) (c ∷ front true cs) []) ∷ tail)
     × (filter is_nonempty tail ≡ runs (at + cond (beq b true) (len_utf8 c + span_len true cs) 0) (cond (beq b true) (after true cs) (c ∷ cs)))
@@ -66,11 +71,13 @@ parts-front-at at c cs false is ih = (
       ∙ ap (λ n. runs n (c ∷ cs)) (sym (add-zero at)),
 )
 
+-- the parts begin with the characters before the first separator
 pub parts-front : (at : ℕ) (cs : List ℕ) → BeginsWithFront at cs
 unfolding runs
 parts-front at [] = ([], refl, refl)
 parts-front at (c ∷ cs) = parts-front-at at c cs (is_alphanumeric c) refl (parts-front (at + len_utf8 c) cs)
 
+-- a part with a byte is kept
 filter-first : (at : ℕ) (ds : List ℕ) (tail : List Run) → 0 < length (encode_utf8_all ds) → filter is_nonempty (char_indices at ds ∷ tail) ≡ char_indices at ds ∷ filter is_nonempty tail
 filter-first at [] tail some = absurd (omega arith)
 filter-first at (d ∷ ds) tail some =
@@ -95,6 +102,7 @@ after-gap-at c cs true is ih none =
     absurd (omega (arith, len_utf8_bounds c))
 after-gap-at c cs false is ih none = ih none
 
+-- where no run follows a gap, nothing does
 pub after-gap : (cs : List ℕ) → span_len true (after false cs) ≡ 0 → after false cs ≡ []
 after-gap [] none = refl
 after-gap (c ∷ cs) none = after-gap-at c cs (is_alphanumeric c) refl (after-gap cs) none
@@ -131,10 +139,12 @@ runs-end at gap len bs mid rest text gap_is mid_is mid_text len_is rest_is none 
       ap (runs (at + gap + len)) (chars-rest true mid rest len mid_text len_is rest_is ∙ ap (after true) mid_empty) ∙ runs-nil (at + gap + len),
     )
 
+-- a run begins where its characters are counted from
 pub start_of-char_indices : (at : ℕ) (ds : List ℕ) → 0 < length (encode_utf8_all ds) → start_of (char_indices at ds) ≡ at
 start_of-char_indices at [] some = absurd (omega arith)
 start_of-char_indices at (d ∷ ds) some = refl
 
+-- a run is as long as its characters
 pub byte_len-char_indices : (at : ℕ) (ds : List ℕ) → byte_len (char_indices at ds) ≡ length (encode_utf8_all ds)
 byte_len-char_indices at ds = ap (λ l. length (encode_utf8_all l)) (chars_of-char_indices at ds)
 

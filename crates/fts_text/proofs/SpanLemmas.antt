@@ -9,10 +9,12 @@ use Rattle.std.specs.Char.{encode_utf8, len_utf8}
 use Rattle.std.specs.Str.{chars, IsUtf8, IsCharBoundary}
 use Rattle.fts_text.specs.Characters.{is_alphanumeric, span_len}
 
+-- what isn't not so is so
 true_from_not : (b : Bool) → not b ≡ false → b ≡ true
 true_from_not true h = refl
 true_from_not false h = cc
 
+-- what is not so isn't
 false_from_not : (b : Bool) → not b ≡ true → b ≡ false
 false_from_not true h = cc
 false_from_not false h = refl
@@ -39,6 +41,7 @@ abbrev pub front : Bool → List ℕ → List ℕ
 front a [] = []
 front a (c ∷ cs) = cond (beq (is_alphanumeric c) a) (c ∷ front a cs) []
 
+-- the characters behind a span
 abbrev pub after : Bool → List ℕ → List ℕ
 after a [] = []
 after a (c ∷ cs) = cond (beq (is_alphanumeric c) a) (after a cs) (c ∷ cs)
@@ -51,10 +54,12 @@ length-front-at a true c cs h =
     omega arith
 length-front-at a false c cs h = refl
 
+-- a span is as long as its characters
 pub length-front : (a : Bool) (cs : List ℕ) → length (encodes (front a cs)) ≡ span_len a cs
 length-front a [] = refl
 length-front a (c ∷ cs) = length-front-at a (beq (is_alphanumeric c) a) c cs (length-front a cs)
 
+-- what is behind a span's bytes is behind its characters, whether the first is of it or not
 drop-span-at : (a b : Bool) (c : ℕ) (cs : List ℕ) → drop (span_len a cs) (encodes cs) ≡ encodes (after a cs) → drop (cond b (len_utf8 c + span_len a cs) 0) (encodes (c ∷ cs)) ≡ encodes (cond b (after a cs) (c ∷ cs))
 drop-span-at a true c cs h =
     ap (λ n. drop (n + span_len a cs) (encodes (c ∷ cs))) (sym (length-encode c))
@@ -62,18 +67,22 @@ drop-span-at a true c cs h =
     ∙ h
 drop-span-at a false c cs h = refl
 
+-- what is behind a span's bytes is behind its characters
 drop-span : (a : Bool) (cs : List ℕ) → drop (span_len a cs) (encodes cs) ≡ encodes (after a cs)
 drop-span a [] = refl
 drop-span a (c ∷ cs) = drop-span-at a (beq (is_alphanumeric c) a) c cs (drop-span a cs)
 
+-- characters behind a span are characters, whether the first is of it or not
 scalars-after-at : (a b : Bool) (c : ℕ) (cs : List ℕ) → scalars (c ∷ cs) ≡ true → (scalars cs ≡ true → scalars (after a cs) ≡ true) → scalars (cond b (after a cs) (c ∷ cs)) ≡ true
 scalars-after-at a true c cs all h = h (and_parts (scalar c) (scalars cs) all).1
 scalars-after-at a false c cs all h = all
 
+-- characters behind a span are characters
 scalars-after : (a : Bool) (cs : List ℕ) → scalars cs ≡ true → scalars (after a cs) ≡ true
 scalars-after a [] all = all
 scalars-after a (c ∷ cs) all = scalars-after-at a (beq (is_alphanumeric c) a) c cs all (scalars-after a cs)
 
+-- a span is no longer than the text, whether the first character is of it or not
 span_len-le-at : (a b : Bool) (c : ℕ) (cs : List ℕ) → span_len a cs ≤ length (encodes cs) → cond b (len_utf8 c + span_len a cs) 0 ≤ length (encodes (c ∷ cs))
 span_len-le-at a true c cs h =
     let both = length-append (encode_utf8 c) (encodes cs) in
@@ -81,6 +90,7 @@ span_len-le-at a true c cs h =
     omega arith
 span_len-le-at a false c cs h = omega arith
 
+-- a span is no longer than the characters
 span_len-le-encodes : (a : Bool) (cs : List ℕ) → span_len a cs ≤ length (encodes cs)
 span_len-le-encodes a [] = omega arith
 span_len-le-encodes a (c ∷ cs) = span_len-le-at a (beq (is_alphanumeric c) a) c cs (span_len-le-encodes a cs)
@@ -91,14 +101,17 @@ span_len-le a bs text =
     let P : List ℕ → Type 0 = λ l. span_len a (chars bs) ≤ length l in
     subst P (encodes-chars bs text) (span_len-le-encodes a (chars bs))
 
+-- what is behind a span's bytes in a text
 drop-span_len : (a : Bool) (bs : List ℕ) → IsUtf8 bs → drop (span_len a (chars bs)) bs ≡ encodes (after a (chars bs))
 drop-span_len a bs text =
     ap (drop (span_len a (chars bs))) (sym (encodes-chars bs text)) ∙ drop-span a (chars bs)
 
+-- the characters of what is behind a span's bytes
 pub chars-drop-span_len : (a : Bool) (bs : List ℕ) → IsUtf8 bs → chars (drop (span_len a (chars bs)) bs) ≡ after a (chars bs)
 chars-drop-span_len a bs text =
     ap chars (drop-span_len a bs text) ∙ chars-encodes (after a (chars bs)) (scalars-after a (chars bs) (scalars-chars bs text))
 
+-- a span ends between characters
 pub IsCharBoundary-span_len : (a : Bool) (bs : List ℕ) → IsUtf8 bs → IsCharBoundary bs (span_len a (chars bs))
 IsCharBoundary-span_len a bs text =
     let rest : IsUtf8 (drop (span_len a (chars bs)) bs) = (after a (chars bs), (scalars-after a (chars bs) (scalars-chars bs text), sym (drop-span_len a bs text))) in

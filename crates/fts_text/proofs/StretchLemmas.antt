@@ -23,6 +23,7 @@ front-after-at : (a b : Bool) (c : ℕ) (cs : List ℕ) → cs ≡ front a cs ++
 front-after-at a true c cs h = ap (λ l. c ∷ l) h
 front-after-at a false c cs h = refl
 
+-- characters are a span and what is behind it
 front-after : (a : Bool) (cs : List ℕ) → cs ≡ front a cs ++ after a cs
 front-after a [] = refl
 front-after a (c ∷ cs) = front-after-at a (beq (is_alphanumeric c) a) c cs (front-after a cs)
@@ -37,6 +38,7 @@ pub record Stands (n at : ℕ) (cs : List ℕ) (r : ℕ × Run) : Type 0 where
   pub some : 0 < length (encodes here)
   pub numbered : r.0 ≤ n + length (encodes before)
 
+-- two lists of characters are as long as both
 length-encodes-append : (xs ys : List ℕ) → length (encodes (xs ++ ys)) ≡ length (encodes xs) + length (encodes ys)
 length-encodes-append xs ys = ap length (encodes-append xs ys) ∙ length-append (encodes xs) (encodes ys)
 
@@ -55,10 +57,12 @@ Stands-later n at cs xs rest r whole some s =
       numbered = omega (arith, s.numbered);
     }
 
+-- what follows from a fact of all holds of all
 AllByRecursion-weaker : {X : Type 0} (P Q : X → Type 0) (xs : List X) → ((x : X) → P x → Q x) → AllByRecursion P xs → AllByRecursion Q xs
 AllByRecursion-weaker P Q [] h all = tt
 AllByRecursion-weaker P Q (x ∷ xs) h all = (h x all.0, AllByRecursion-weaker P Q xs h all.1)
 
+-- characters with a byte are some
 length-some : (xs : List ℕ) → 0 < length (encodes xs) → 0 < length xs
 length-some [] some = absurd (omega arith)
 length-some (x ∷ xs) some = omega arith
@@ -104,20 +108,24 @@ Stands-all (suc fuel) n at cs few =
           subst P (sym (runs-gap at cs ∙ ap (runs (at + span_len false cs)) empty ∙ runs-nil (at + span_len false cs))) tt
     ]
 
+-- what holds of all holds of those kept
 AllByRecursion-filter : {X : Type 0} (P : X → Type 0) (test : X → Bool) (xs : List X) → AllByRecursion P xs → AllByRecursion P (filter test xs)
 AllByRecursion-filter P test [] all = tt
 AllByRecursion-filter P test (x ∷ xs) all =
     let rest = AllByRecursion-filter P test xs all.1 in
     elim (test x) as (λ b. AllByRecursion P (cond b (x ∷ filter test xs) (filter test xs))) [ true ↦ (all.0, rest) | false ↦ rest ]
 
+-- what holds of all holds of what they are mapped to
 AllByRecursion-map : {X Y : Type 0} (P : X → Type 0) (Q : Y → Type 0) (f : X → Y) (xs : List X) → ((x : X) → P x → Q (f x)) → AllByRecursion P xs → AllByRecursion Q (map f xs)
 AllByRecursion-map P Q f [] h all = tt
 AllByRecursion-map P Q f (x ∷ xs) h all = (h x all.0, AllByRecursion-map P Q f xs h all.1)
 
+-- two functions that agree on a list's members map it alike
 map-same : {X Y : Type 0} (P : X → Type 0) (f g : X → Y) (xs : List X) → ((x : X) → P x → f x ≡ g x) → AllByRecursion P xs → map f xs ≡ map g xs
 map-same P f g [] h all = refl
 map-same P f g (x ∷ xs) h all = λ i. h x all.0 i ∷ map-same P f g xs h all.1 i
 
+-- a map of a map is one
 map-map : {X Y Z : Type 0} (f : Y → Z) (g : X → Y) (xs : List X) → map f (map g xs) ≡ map (λ x. f (g x)) xs
 map-map f g [] = refl
 map-map f g (x ∷ xs) = ap (λ l. f (g x) ∷ l) (map-map f g xs)
@@ -127,6 +135,7 @@ Stands-kept : (cs : List ℕ) → AllByRecursion (Stands 0 0 cs) (kept 0 (runs 0
 unfolding kept
 Stands-kept cs = AllByRecursion-filter (Stands 0 0 cs) _ (enumerate_from 0 (runs 0 cs)) (Stands-all (length cs) 0 0 cs (omega arith))
 
+-- characters of two lists are characters of each
 scalars-both : (xs ys : List ℕ) → scalars (xs ++ ys) ≡ true → (scalars xs ≡ true) × (scalars ys ≡ true)
 scalars-both [] ys all = (refl, all)
 scalars-both (x ∷ xs) ys all =
@@ -149,6 +158,7 @@ record StandsInBytes (text : List ℕ) (r : ℕ × Run) : Type 0 where
   some : 0 < length (encodes here)
   numbered : r.0 ≤ length (encodes before)
 
+-- a run of a text's characters stands in its bytes
 StandsInBytes-from : (text : List ℕ) → IsUtf8 text → (r : ℕ × Run) → Stands 0 0 (chars text) r → StandsInBytes text r
 StandsInBytes-from text utf8 r s =
     let all : scalars (s.before ++ (s.here ++ s.behind)) ≡ true = ap scalars (sym s.whole) ∙ scalars-chars text utf8 in
@@ -171,6 +181,7 @@ StandsInBytes-from text utf8 r s =
       numbered = omega (arith, s.numbered);
     }
 
+-- the place of a run that stands in a text stands there
 IsPlaceIn-from : (text : List ℕ) (r : ℕ × Run) → StandsInBytes text r → IsPlaceIn text (place_of r)
 IsPlaceIn-from text r s =
     let here = encodes s.here in
@@ -188,6 +199,7 @@ IsPlaceIn-from text r s =
       numbered = omega (arith, s.starts, s.numbered);
     }
 
+-- what stands between two parts is the range between them
 slice_range-seam : (text before here behind : List ℕ) (a b : ℕ) → text ≡ before ++ (here ++ behind) → a ≡ length before → b ≡ a + length here → slice_range text a b ≡ here
 slice_range-seam text before here behind a b whole starts ends =
     let long : b - a ≡ length here = omega arith in
@@ -197,6 +209,7 @@ slice_range-seam text before here behind a b whole starts ends =
     ∙ ap (take (length here)) (drop-append_seam before (here ++ behind))
     ∙ take-append_seam here behind
 
+-- the token at a run's place is the run, folded
 token_at-from : (text : List ℕ) (r : ℕ × Run) → StandsInBytes text r → token_at text (place_of r) ≡ (r.0, fold_chars (chars_of r.1))
 unfolding folded
 token_at-from text r s =
@@ -205,6 +218,7 @@ token_at-from text r s =
     let spelled = ap chars bytes ∙ chars-encodes s.here s.here_text ∙ sym s.spelled in
     ap (λ cs. (r.0, fold_chars cs)) spelled
 
+-- the kept runs stand in the text's bytes
 StandsInBytes-all : (text : List ℕ) → IsUtf8 text → AllByRecursion (StandsInBytes text) (kept 0 (runs 0 (chars text)))
 StandsInBytes-all text utf8 =
     AllByRecursion-weaker (Stands 0 0 (chars text)) (StandsInBytes text) (kept 0 (runs 0 (chars text))) (StandsInBytes-from text utf8) (Stands-kept (chars text))
@@ -223,10 +237,12 @@ tokens-places text utf8 =
     map-map (token_at text) place_of (kept 0 (runs 0 (chars text)))
     ∙ map-same (StandsInBytes text) (λ r. token_at text (place_of r)) (λ r. (r.0, fold_chars (chars_of r.1))) (kept 0 (runs 0 (chars text))) (token_at-from text) (StandsInBytes-all text utf8)
 
+-- a list with one in front or not is no shorter, and at most one longer
 length-cond : {X : Type 0} (b : Bool) (x : X) (xs : List X) → (length xs ≤ length (cond b (x ∷ xs) xs)) × (length (cond b (x ∷ xs) xs) ≤ length xs + 1)
 length-cond true x xs = (omega arith, omega arith)
 length-cond false x xs = (omega arith, omega arith)
 
+-- a character more makes at most one part more
 length-onto_first : (p : ℕ × ℕ) (ps : List Run) → length (filter is_nonempty (onto_first p ps)) ≤ length (filter is_nonempty ps) + 1
 length-onto_first p [] = omega (arith, length-cond (is_nonempty (p ∷ [])) (p ∷ []) [])
 length-onto_first p (first ∷ rest) =
@@ -246,6 +262,7 @@ length-runs at (c ∷ cs) =
       | false ↦ omega (arith, rest)
     ]
 
+-- no more are kept than there are
 length-filter-le : {X : Type 0} (test : X → Bool) (xs : List X) → length (filter test xs) ≤ length xs
 length-filter-le test [] = omega arith
 length-filter-le test (x ∷ xs) =

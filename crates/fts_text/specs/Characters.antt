@@ -17,7 +17,7 @@ is_alphanumeric c = is_alphabetic c || in_group Number (general_category c)
 abbrev pub fold_chars : List ℕ → List ℕ
 fold_chars cs = encode_utf8_all (map simple_fold cs)
 
--- the same of the bytes of a text
+-- a text, each of its characters by its simple case folding
 unfoldable pub folded : List ℕ → List ℕ
 folded text = fold_chars (chars text)
 

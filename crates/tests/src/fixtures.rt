@@ -17,7 +17,8 @@ pub(crate) fn field(
     })
 }
 
-/// The fields `title` (text) and `tag` (keyword), both marked default, `price` (`u64`) and `temp` (`i64`).
+/// The fields `title` (text) and `tag` (keyword), both marked default, `price` (`u64`) and `temp`
+/// (`i64`).
 pub(crate) fn schema(alloc: Global) -> Result<Schema, Fail> {
     let mut fields = Vec::new(alloc);
     fields.push(field(alloc, "title", Kind::Text, true)?)?;

@@ -1,17 +1,18 @@
-// The answer over the documents that are alive: the hits are counted, grouped and put into a top list one by one.
+// The answer over the documents that are alive: the hits are counted, grouped and put into a top
+// list one by one.
 ghost use Rattle.std.specs.Prelude.{◌≡◌, ◌<◌, ◌≤◌, ◌+◌, ◌^◌, ◌++◌, ◌∷◌, [], IfOk, OnOk, Ok, option_map, option_to_list, fold, take};
-ghost use Rattle.fts_model.specs.Outcomes.{Gives};
+ghost use Rattle.fts_model.specs.Results.{Gives};
 ghost use Rattle.fts_model.specs.QueryValues.{query_value};
-ghost use Rattle.fts_model.specs.Queries.{hits as hits_among};
-ghost use Rattle.fts_model.specs.Answers.{answer as answer_over, number_in_field as number_of_document, number_cmp as cmp_of_numbers, count_number as with_number, groups as groups_of, cmp_by as cmp_in_order, comes_before as is_before, hit_in as hit_of, put_hit as with_hit, top as top_list};
-ghost use Rattle.fts_model.specs.Scans.{hits_counted, group_place as place_of_group, is_group_at as is_group_of, hit_place as place_of_hit};
+ghost use Rattle.fts_model.specs.Queries.{hits};
+ghost use Rattle.fts_model.specs.Answers.{answer, number_in_field, number_cmp, count_number, groups, cmp_by, comes_before, hit_in, put_hit, top};
+ghost use Rattle.fts_model.specs.Internals.Scans.{hits_counted, group_place, is_group_at, hit_place};
 
 use crate::answer::{Answer, Hit};
 use crate::document::Document;
 use crate::operation::Stamped;
 use crate::query::{Order, Query, Request, Top};
 use crate::refusal::Refusal;
-use crate::scan::matches;
+use crate::scan::query_matches;
 use crate::schema::Schema;
 use crate::value::{FieldValue, Number};
 use std::alloc::{AllocError, Global};
@@ -34,16 +35,17 @@ fn push_copy(
 fn push_if_hit(
     schema: &Schema,
     query: &Query,
-    hits: &mut Vec<Stamped<Document>>,
+    found: &mut Vec<Stamped<Document>>,
     document: &Stamped<Document>,
     scratch: &mut String,
 ) -> Result<(), AllocError>
-    ensures { OnOk result (hits.new.items ≡ hits.old.items ++ hits_among schema.now (query_value query.now) (document.now ∷ [])) }
+    ensures { OnOk result (found.new.items ≡ found.old.items
+        ++ hits schema.now (query_value query.now) (document.now ∷ [])) }
 {
-    if !matches(schema, query, &document.value, scratch)? {
+    if !query_matches(schema, query, &document.value, scratch)? {
         return Ok(());
     }
-    push_copy(hits, document)
+    push_copy(found, document)
 }
 
 /// The documents that a query matches.
@@ -53,7 +55,8 @@ fn hits(
     query: &Query,
     documents: &[Stamped<Document>],
 ) -> Result<Vec<Stamped<Document>>, AllocError>
-    ensures { IfOk result (λ hits. hits.items ≡ hits_among schema.now (query_value query.now) documents.now) }
+    ensures { IfOk result
+        (λ found. found.items ≡ hits schema.now (query_value query.now) documents.now) }
 {
     let mut scratch = String::new(alloc);
     let mut hits = Vec::new(alloc);
@@ -65,7 +68,7 @@ fn hits(
 
 /// The number that a document has in a field.
 fn number_in_field(document: &Document, field: usize) -> Option<Number>
-    ensures { result ≡ number_of_document document.now field }
+    ensures { result ≡ number_in_field document.now field }
 {
     match document.value(field) {
         Some(FieldValue::Number(number)) => Some(*number),
@@ -75,7 +78,7 @@ fn number_in_field(document: &Document, field: usize) -> Option<Number>
 
 /// How two numbers stand to each other.
 fn number_cmp(a: Number, b: Number) -> Ordering
-    ensures { result ≡ cmp_of_numbers a b }
+    ensures { result ≡ number_cmp a b }
 {
     match (a, b) {
         (Number::U64(n), Number::U64(m)) => n.cmp(&m),
@@ -87,7 +90,7 @@ fn number_cmp(a: Number, b: Number) -> Ordering
 
 /// How many groups are below a number, up to the first that is not.
 fn group_place(groups: &[(Number, u64)], number: Number) -> usize
-    ensures { result ≡ place_of_group groups.now number }
+    ensures { result ≡ group_place groups.now number }
 {
     for (i, group) in groups.iter().enumerate() {
         if number_cmp(number, group.0) != Ordering::Greater {
@@ -99,7 +102,7 @@ fn group_place(groups: &[(Number, u64)], number: Number) -> usize
 
 /// Whether the group at this place is of a number.
 fn is_group_at(groups: &[(Number, u64)], place: usize, number: Number) -> bool
-    ensures { result ≡ is_group_of groups.now place number }
+    ensures { result ≡ is_group_at groups.now place number }
 {
     match groups.get(place) {
         None => false,
@@ -110,7 +113,7 @@ fn is_group_at(groups: &[(Number, u64)], place: usize, number: Number) -> bool
 /// Counts one more hit that has this number.
 fn count_number(groups: &mut Vec<(Number, u64)>, number: Number) -> Result<(), AllocError>
     requires { hits_counted groups.old.items + 1 < 2 ^ 64 }
-    ensures { OnOk result (groups.new.items ≡ with_number groups.old.items number) }
+    ensures { OnOk result (groups.new.items ≡ count_number groups.old.items number) }
 {
     let place = group_place(groups, number);
     if is_group_at(groups, place, number) {
@@ -128,7 +131,9 @@ fn count_hit(
     hit: &Stamped<Document>,
 ) -> Result<(), AllocError>
     requires { hits_counted groups.old.items + 1 < 2 ^ 64 }
-    ensures { OnOk result (groups.new.items ≡ fold with_number groups.old.items (option_to_list (number_of_document hit.now.value field))) }
+    ensures { OnOk result (groups.new.items
+        ≡ fold count_number groups.old.items
+        (option_to_list (number_in_field hit.now.value field))) }
 {
     match number_in_field(&hit.value, field) {
         None => Ok(()),
@@ -142,7 +147,7 @@ fn groups(
     field: usize,
     hits: &[Stamped<Document>],
 ) -> Result<Vec<(Number, u64)>, AllocError>
-    ensures { IfOk result (λ groups. groups.items ≡ groups_of field hits.now) }
+    ensures { IfOk result (λ found. found.items ≡ groups field hits.now) }
 {
     let mut groups = Vec::new(alloc);
     for hit in hits {
@@ -153,7 +158,7 @@ fn groups(
 
 /// How two numbers stand in a top list.
 fn cmp_by(order: Order, a: Number, b: Number) -> Ordering
-    ensures { result ≡ cmp_in_order order a b }
+    ensures { result ≡ cmp_by order a b }
 {
     match order {
         Order::Rising => number_cmp(a, b),
@@ -163,7 +168,7 @@ fn cmp_by(order: Order, a: Number, b: Number) -> Ordering
 
 /// Whether one hit stands before another in a top list.
 fn comes_before(order: Order, a: &Hit, b: &Hit) -> bool
-    ensures { result ≡ is_before order a.now b.now }
+    ensures { result ≡ comes_before order a.now b.now }
 {
     match cmp_by(order, a.value, b.value) {
         Ordering::Less => true,
@@ -174,7 +179,7 @@ fn comes_before(order: Order, a: &Hit, b: &Hit) -> bool
 
 /// How many hits of a list stand before the first that a hit comes before.
 fn hit_place(order: Order, hits: &[Hit], hit: &Hit) -> usize
-    ensures { result ≡ place_of_hit order hits.now hit.now }
+    ensures { result ≡ hit_place order hits.now hit.now }
 {
     for (i, other) in hits.iter().enumerate() {
         if comes_before(order, hit, other) {
@@ -186,7 +191,7 @@ fn hit_place(order: Order, hits: &[Hit], hit: &Hit) -> usize
 
 /// Puts a hit into a list of at most so many, and drops what is then too many.
 fn put_hit(order: Order, k: u64, hits: &mut Vec<Hit>, hit: Hit) -> Result<(), AllocError>
-    ensures { OnOk result (hits.new.items ≡ take k (with_hit order hits.old.items hit)) }
+    ensures { OnOk result (hits.new.items ≡ take k (put_hit order hits.old.items hit)) }
 {
     let place = hit_place(order, hits, &hit);
     hits.insert(place, hit)?;
@@ -196,7 +201,7 @@ fn put_hit(order: Order, k: u64, hits: &mut Vec<Hit>, hit: Hit) -> Result<(), Al
 
 /// A hit of a top list by a field, if the document has a number there.
 fn hit_in(field: usize, hit: &Stamped<Document>) -> Result<Option<Hit>, AllocError>
-    ensures { IfOk result (λ found. found ≡ hit_of field hit.now) }
+    ensures { IfOk result (λ found. found ≡ hit_in field hit.now) }
 {
     let Some(value) = number_in_field(&hit.value, field) else {
         return Ok(None);
@@ -212,7 +217,9 @@ fn hit_in(field: usize, hit: &Stamped<Document>) -> Result<Option<Hit>, AllocErr
 
 /// Puts a hit into a top list, if it has a number in its field.
 fn take_hit(top: Top, list: &mut Vec<Hit>, hit: &Stamped<Document>) -> Result<(), AllocError>
-    ensures { OnOk result (list.new.items ≡ fold (λ hits h. take top.k (with_hit top.order hits h)) list.old.items (option_to_list (hit_of top.by hit.now))) }
+    ensures { OnOk result (list.new.items
+        ≡ fold (λ hits h. take top.k (put_hit top.order hits h)) list.old.items
+        (option_to_list (hit_in top.by hit.now))) }
 {
     match hit_in(top.by, hit)? {
         None => Ok(()),
@@ -221,12 +228,12 @@ fn take_hit(top: Top, list: &mut Vec<Hit>, hit: &Stamped<Document>) -> Result<()
 }
 
 /// The first hits that have a number in a field.
-fn top(alloc: Global, top: Top, hits: &[Stamped<Document>]) -> Result<Vec<Hit>, AllocError>
-    ensures { IfOk result (λ list. list.items ≡ top_list top.k top.order top.by hits.now) }
+fn top(alloc: Global, wanted: Top, hits: &[Stamped<Document>]) -> Result<Vec<Hit>, AllocError>
+    ensures { IfOk result (λ list. list.items ≡ top wanted.k wanted.order wanted.by hits.now) }
 {
     let mut list = Vec::new(alloc);
     for hit in hits {
-        take_hit(top, &mut list, hit)?;
+        take_hit(wanted, &mut list, hit)?;
     }
     Ok(list)
 }
@@ -237,7 +244,9 @@ fn asked_groups(
     request: &Request,
     hits: &[Stamped<Document>],
 ) -> Result<Option<Vec<(Number, u64)>>, AllocError>
-    ensures { IfOk result (λ groups. option_map (λ g. g.items) groups ≡ option_map (λ field. groups_of field hits.now) request.now.groups) }
+    ensures { IfOk result
+        (λ found. option_map (λ g. g.items) found
+        ≡ option_map (λ field. groups field hits.now) request.now.groups) }
 {
     match request.groups {
         None => Ok(None),
@@ -251,7 +260,9 @@ fn asked_top(
     request: &Request,
     hits: &[Stamped<Document>],
 ) -> Result<Option<Vec<Hit>>, AllocError>
-    ensures { IfOk result (λ list. option_map (λ l. l.items) list ≡ option_map (λ t. top_list t.k t.order t.by hits.now) request.now.top) }
+    ensures { IfOk result
+        (λ list. option_map (λ l. l.items) list
+        ≡ option_map (λ t. top t.k t.order t.by hits.now) request.now.top) }
 {
     match request.top {
         None => Ok(None),
@@ -259,24 +270,8 @@ fn asked_top(
     }
 }
 
-/// The answer over these documents.
-fn answer_in_memory(
-    alloc: Global,
-    schema: &Schema,
-    query: &Query,
-    request: &Request,
-    documents: &[Stamped<Document>],
-) -> Result<Answer, AllocError>
-    ensures { IfOk result (λ answer. answer ≡ answer_over schema.now (query_value query.now) request.now documents.now) }
-{
-    let hits = hits(alloc, schema, query, documents)?;
-    let count = hits.len() as u64;
-    let groups = asked_groups(alloc, request, &hits)?;
-    let top = asked_top(alloc, request, &hits)?;
-    Ok(Answer { count, groups, top })
-}
-
-/// The answer to a query and a request over documents in the order of their stamps. The only refusal is `Memory`.
+/// The answer to a query and a request over documents in the order of their stamps. The only
+/// refusal is `Memory`.
 pub fn answer(
     alloc: Global,
     schema: &Schema,
@@ -284,10 +279,12 @@ pub fn answer(
     request: &Request,
     documents: &[Stamped<Document>],
 ) -> Result<Answer, Refusal>
-    ensures { Gives (λ answer. answer) result (Ok (answer_over schema.now (query_value query.now) request.now documents.now)) }
+    ensures { Gives (λ found. found) result
+        (Ok (answer schema.now (query_value query.now) request.now documents.now)) }
 {
-    match answer_in_memory(alloc, schema, query, request, documents) {
-        Ok(answer) => Ok(answer),
-        Err(AllocError) => Err(Refusal::Memory),
-    }
+    let hits = hits(alloc, schema, query, documents)?;
+    let count = hits.len() as u64;
+    let groups = asked_groups(alloc, request, &hits)?;
+    let top = asked_top(alloc, request, &hits)?;
+    Ok(Answer { count, groups, top })
 }

@@ -1,4 +1,5 @@
-// What JSON values are documents, under the fields `title` (text), `tag` (keyword), `price` (`u64`) and `temp` (`i64`).
+// What JSON values are documents, under the fields `title` (text), `tag` (keyword), `price` (`u64`)
+// and `temp` (`i64`).
 use crate::fixtures::{field, schema};
 use fts_model::{Document, FieldValue, Kind, Number, Refusal, Schema};
 use serde_json::Value;

@@ -1,6 +1,6 @@
 // What is alive after operations, and what a search answers: values from worked examples.
 use crate::fixtures::schema;
-use fts_model::scan::{alive, answer};
+use fts_model::scan::{alive, answer, has, matches};
 use fts_model::{
     Answer, Document, FieldValue, Number, Op, Order, Query, Refusal, Request, Schema, Stamped,
     Term, Text,
@@ -220,7 +220,8 @@ fn term(alloc: Global, schema: &Schema, name: &str, text: &str) -> Result<Term, 
     Ok(Term::new(alloc, schema, name, &json)?)
 }
 
-// The stamps of what is alive after these operations: an object is added, a string is a term that is deleted.
+// The stamps of what is alive after these operations: an object is added, a string is a term that
+// is deleted.
 fn alive_stamps(alloc: Global, lines: &[&str]) -> Result<Vec<u64>, Fail> {
     let schema = schema(alloc)?;
     let mut ops = Vec::new(alloc);
@@ -259,6 +260,36 @@ fn deletes_strike_what_came_before(rt: HostRuntime) -> Result<(), Fail> {
         [1].as_slice()
     );
     assert_eq!(rt; alive_stamps(alloc, &[rust, "\"rust\""])?.len(), 0);
+    Ok(())
+}
+
+#[test]
+fn one_document_is_looked_at(rt: HostRuntime) -> Result<(), Fail> {
+    let alloc = rt.alloc();
+    let schema = schema(alloc)?;
+    let book = document(alloc, &schema, "{\"title\": \"Rust book\"}")?;
+    let rust = term(alloc, &schema, "title", "\"rust\"")?;
+    assert!(rt; has(alloc, &schema, &book, &rust)?);
+    let pattern = phrase(alloc, &[(1, "rust"), (0, "book")])?;
+    assert!(rt; !matches(alloc, &schema, &pattern, &book)?);
+    assert!(rt; matches(alloc, &schema, &Query::Term(rust), &book)?);
+    Ok(())
+}
+
+// The example of the crate's front page.
+#[test]
+fn a_document_is_added_and_found(rt: HostRuntime) -> Result<(), Fail> {
+    let alloc = rt.alloc();
+    let schema = schema(alloc)?;
+    let document = document(alloc, &schema, "{\"title\": \"Rust book\", \"price\": 30}")?;
+    let mut ops = Vec::new(alloc);
+    push(&mut ops, 1, Op::Add(document))?;
+    let documents = alive(alloc, &schema, &ops)?;
+    let request = Request::new(&schema, Some("price"), None)?;
+    let found = answer(alloc, &schema, &Query::All, &request, &documents)?;
+    assert_eq!(rt; found.count, 1);
+    let groups = found.groups.unwrap_or(Vec::new(alloc));
+    assert_eq!(rt; groups.as_slice(), [(Number::U64(30), 1)].as_slice());
     Ok(())
 }
 

@@ -1,6 +1,6 @@
 use Rattle.std.proofs.Common.{subst}
 use Rattle.serde_json.specs.View.{view}
-use Rattle.fts_model.specs.Outcomes.{Gives}
+use Rattle.fts_model.specs.Results.{Gives}
 use Rattle.fts_model.specs.Operations.{term_of}
 use Rattle.fts.proofs.session.term_in.Goals as goal
 

@@ -1,6 +1,6 @@
 use Rattle.std.proofs.Common.{sym, ◌∙◌}
 use Rattle.std.proofs.lemmas.Slice.Zip.{either_empty_from_Zip}
-use Rattle.fts_model.proofs.Zips.{with_values_done}
+use Rattle.fts_model.proofs.DocumentsZips.{with_values_done}
 use Rattle.fts_model.proofs.document.members_of.Goals as goal
 
 pub returns : goal.returns

@@ -1,6 +1,6 @@
 use Rattle.std.proofs.Common.{sym, ◌∙◌}
 use Rattle.std.proofs.lemmas.Slice.Zip.{either_empty_from_Zip}
-use Rattle.fts_model.proofs.Zips.{fits_fields_done}
+use Rattle.fts_model.proofs.DocumentsZips.{fits_fields_done}
 use Rattle.fts_model.proofs.document.values_fit.Goals as goal
 
 pub returns : goal.returns

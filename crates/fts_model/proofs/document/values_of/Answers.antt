@@ -4,8 +4,8 @@ use Rattle.std.proofs.lemmas.Option.{slice_get_read}
 use Rattle.serde_json.specs.View.{members_view, view}
 use Rattle.serde_json.specs.Find.{get, get_member}
 use Rattle.fts_model.specs.Documents.{CanHave}
-use Rattle.fts_model.proofs.Fields.{value_without_fault}
-use Rattle.fts_model.proofs.Zips.{values_more}
+use Rattle.fts_model.proofs.DocumentsFields.{value_without_fault}
+use Rattle.fts_model.proofs.DocumentsZips.{values_more}
 use Rattle.fts_model.proofs.document.values_of.Goals as goal
 
 pub value_of-requires : goal.value_of-requires

@@ -1,4 +1,4 @@
-use Rattle.fts_model.proofs.GroupLemmas.{groups-IsGroups}
+use Rattle.fts_model.proofs.AnswersGroups.{groups-IsGroups}
 use Rattle.fts_model.proofs.laws.groups_are_groups.Goals as goal
 
 pub returns : goal.returns

@@ -1,4 +1,4 @@
-use Rattle.fts_model.proofs.TopLemmas.{top-IsTop}
+use Rattle.fts_model.proofs.AnswersTop.{top-IsTop}
 use Rattle.fts_model.proofs.laws.top_is_a_top_list.Goals as goal
 
 pub returns : goal.returns

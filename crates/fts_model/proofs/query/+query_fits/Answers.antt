@@ -1,6 +1,6 @@
 use Rattle.std.proofs.Common.{◌≡◌, ◌&&◌, sym, ◌∙◌, ap}
 use Rattle.std.specs.List.{list_all}
-use Rattle.fts_model.proofs.QueryLemmas.{fits_in, query_fits_at_bool, last_of_three, first_two_false}
+use Rattle.fts_model.proofs.QueriesBoolean.{fits_in, query_fits_at_bool, last_of_three, first_two_false}
 use Rattle.fts_model.proofs.query.+query_fits.Goals as goal
 use Rattle.fts_model.proofs.query.+query_fits.Goals.{Query::fits-then-all_fit, Query::fits-else-all_fit}
 

@@ -1,6 +1,6 @@
 use Rattle.std.proofs.Common.{◌≡◌, drop}
 use Rattle.std.specs.List.{list_all}
-use Rattle.fts_model.proofs.QueryLemmas.{fits_in}
+use Rattle.fts_model.proofs.QueriesBoolean.{fits_in}
 use Rattle.fts_model.proofs.query.+query_fits.Given as goal
 
 -- all fit where those that are left do

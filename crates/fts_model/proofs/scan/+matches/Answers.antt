@@ -1,11 +1,11 @@
 use Rattle.std.proofs.Common.{◌≡◌, ◌==◌, Bool, IfOk, length, sym, ap, subst, ◌∙◌}
 use Rattle.std.specs.List.{list_all, list_any}
 use Rattle.fts_model.specs.Queries.{is_nonempty}
-use Rattle.fts_model.proofs.QueryLemmas.{is_nonempty-length, is_nonempty-none, matches_in, matches_at_bool, not_all_must, one_must_not, musts_suffice, shoulds_decide}
+use Rattle.fts_model.proofs.QueriesBoolean.{is_nonempty-length, is_nonempty-none, matches_in, matches_at_bool, not_all_must, one_must_not, musts_suffice, shoulds_decide}
 use Rattle.fts_model.proofs.scan.+matches.Goals as goal
 
-pub matches-returns-then-not-branch : goal.matches-returns-then-not-branch
-matches-returns-then-not-branch t c =
+pub query_matches-returns-then-not-branch : goal.query_matches-returns-then-not-branch
+query_matches-returns-then-not-branch t c =
     let test = matches_in c.args.schema.now c.args.document.now in
     let whole = ap test c.in-Bool.is ∙ matches_at_bool c.args.schema.now c.args.document.now c.in-Bool.must c.in-Bool.must_not c.in-Bool.should in
     let all : list_all test c.in-Bool.must.items ≡ c.in_ok-all_match-in-Bool.field-0 = ap (list_all test) (sym c.deref-in-Bool.ensures.value) ∙ sym c.in_ok-all_match-in-Bool.ensures in
@@ -13,8 +13,8 @@ matches-returns-then-not-branch t c =
     ∙ not_all_must (list_all test c.in-Bool.must.items) (list_any test c.in-Bool.must_not.items) (is_nonempty c.in-Bool.must.items) (list_any test c.in-Bool.should.items)
     (all ∙ c.if-not-branch.true))
 
-pub matches-returns-then-branch : goal.matches-returns-then-branch
-matches-returns-then-branch t c =
+pub query_matches-returns-then-branch : goal.query_matches-returns-then-branch
+query_matches-returns-then-branch t c =
     let test = matches_in c.args.schema.now c.args.document.now in
     let whole = ap test c.in-Bool.is ∙ matches_at_bool c.args.schema.now c.args.document.now c.in-Bool.must c.in-Bool.must_not c.in-Bool.should in
     let any : list_any test c.in-Bool.must_not.items ≡ c.in_ok-any_matches-in-Bool.field-0 = ap (list_any test) (sym c.deref-in-Bool-2.ensures.value) ∙ sym c.in_ok-any_matches-in-Bool.ensures in
@@ -22,8 +22,8 @@ matches-returns-then-branch t c =
     ∙ one_must_not (list_all test c.in-Bool.must.items) (list_any test c.in-Bool.must_not.items) (is_nonempty c.in-Bool.must.items) (list_any test c.in-Bool.should.items)
     (any ∙ c.if-branch.true))
 
-pub matches-returns-then-not-is_empty : goal.matches-returns-then-not-is_empty
-matches-returns-then-not-is_empty t c =
+pub query_matches-returns-then-not-is_empty : goal.query_matches-returns-then-not-is_empty
+query_matches-returns-then-not-is_empty t c =
     let test = matches_in c.args.schema.now c.args.document.now in
     let whole = ap test c.in-Bool.is ∙ matches_at_bool c.args.schema.now c.args.document.now c.in-Bool.must c.in-Bool.must_not c.in-Bool.should in
     let all : list_all test c.in-Bool.must.items ≡ c.in_ok-all_match-in-Bool.field-0 = ap (list_all test) (sym c.deref-in-Bool.ensures.value) ∙ sym c.in_ok-all_match-in-Bool.ensures in
@@ -34,8 +34,8 @@ matches-returns-then-not-is_empty t c =
     ∙ musts_suffice (list_all test c.in-Bool.must.items) (list_any test c.in-Bool.must_not.items) (is_nonempty c.in-Bool.must.items) (list_any test c.in-Bool.should.items)
     (all ∙ c.if-not-branch.false) (any ∙ c.if-branch.false) some)
 
-pub matches-returns-else-not-is_empty : goal.matches-returns-else-not-is_empty
-matches-returns-else-not-is_empty t c =
+pub query_matches-returns-else-not-is_empty : goal.query_matches-returns-else-not-is_empty
+query_matches-returns-else-not-is_empty t c =
     let test = matches_in c.args.schema.now c.args.document.now in
     let whole = ap test c.in-Bool.is ∙ matches_at_bool c.args.schema.now c.args.document.now c.in-Bool.must c.in-Bool.must_not c.in-Bool.should in
     let all : list_all test c.in-Bool.must.items ≡ c.in_ok-all_match-in-Bool.field-0 = ap (list_all test) (sym c.deref-in-Bool.ensures.value) ∙ sym c.in_ok-all_match-in-Bool.ensures in

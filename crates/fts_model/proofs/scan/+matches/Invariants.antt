@@ -1,6 +1,6 @@
 use Rattle.std.proofs.Common.{◌≡◌, drop}
 use Rattle.std.specs.List.{list_all, list_any}
-use Rattle.fts_model.proofs.QueryLemmas.{matches_in}
+use Rattle.fts_model.proofs.QueriesBoolean.{matches_in}
 use Rattle.fts_model.proofs.scan.+matches.Given as goal
 
 -- the answer is that of the queries that are left

@@ -1,6 +1,6 @@
 use Rattle.std.proofs.Common.{sym, ◌∙◌, ◌++◌, ◌∷◌, [], ap}
 use Rattle.fts_model.specs.Documents.{DocumentValue}
-use Rattle.fts_model.proofs.AliveLemmas.{alive-add, alive-delete_all}
+use Rattle.fts_model.proofs.OperationsAlive.{alive-add, alive-delete_all}
 use Rattle.fts_model.proofs.scan.after.Goals as goal
 
 pub returns-in_ok-push-in-Add : goal.returns-in_ok-push-in-Add

@@ -2,7 +2,7 @@ use Rattle.std.proofs.Common.{◌≡◌, sym, ◌∙◌}
 use Rattle.fts_text.specs.Tokens.{tokens}
 use Rattle.fts_text.specs.Places.{places, places_left}
 use Rattle.fts_model.specs.Queries.{leads}
-use Rattle.fts_model.proofs.TokenLemmas.{Seeks-start, Seeks-place, Seeks-next}
+use Rattle.fts_model.proofs.PlacesSought.{Seeks-start, Seeks-place, Seeks-next}
 use Rattle.fts_model.proofs.scan.any_leads.Goals as goal
 
 pub loop-place-init : goal.loop-place-init

@@ -1,7 +1,7 @@
 use Rattle.fts_text.specs.Tokens.{tokens}
 use Rattle.fts_text.specs.Places.{places_left}
 use Rattle.fts_model.specs.Queries.{leads}
-use Rattle.fts_model.proofs.TokenLemmas.{Seeks}
+use Rattle.fts_model.proofs.PlacesSought.{Seeks}
 use Rattle.fts_model.proofs.scan.any_leads.Given as goal
 
 abbrev pub invariant-loop-place : goal.invariant-loop-place

@@ -1,7 +1,7 @@
 use Rattle.std.proofs.Common.{◌≡◌, sym, ◌∙◌}
 use Rattle.std.specs.Str.{bytes_eq}
 use Rattle.fts_text.specs.Places.{places, places_left}
-use Rattle.fts_model.proofs.TokenLemmas.{Seeks-start, Seeks-place, Seeks-next}
+use Rattle.fts_model.proofs.PlacesSought.{Seeks-start, Seeks-place, Seeks-next}
 use Rattle.fts_model.proofs.scan.has_token.Goals as goal
 
 pub loop-place-init : goal.loop-place-init

@@ -1,6 +1,6 @@
 use Rattle.std.specs.Str.{bytes_eq}
 use Rattle.fts_text.specs.Places.{places_left}
-use Rattle.fts_model.proofs.TokenLemmas.{Seeks}
+use Rattle.fts_model.proofs.PlacesSought.{Seeks}
 use Rattle.fts_model.proofs.scan.has_token.Given as goal
 
 abbrev pub invariant-loop-place : goal.invariant-loop-place

@@ -1,7 +1,7 @@
 use Rattle.std.proofs.Common.{◌+◌, ◌==◌, ◌&&◌}
 use Rattle.std.specs.Str.{bytes_eq}
 use Rattle.fts_text.specs.Places.{places_left}
-use Rattle.fts_model.proofs.TokenLemmas.{Seeks}
+use Rattle.fts_model.proofs.PlacesSought.{Seeks}
 use Rattle.fts_model.proofs.scan.stands_with.Given as goal
 
 abbrev pub invariant-loop-there : goal.invariant-loop-there

@@ -1,8 +1,8 @@
 use Rattle.std.proofs.Common.{◌≡◌, ◌≤◌, ◌+◌, ℕ, true, false, get_or, set, sym, ap, ◌∙◌, arith}
 use Rattle.std.specs.List.{insert}
 use Rattle.fts_model.specs.declared.value.Number.{Number}
-use Rattle.fts_model.specs.Scans.{group_place, is_group_at, hits_counted}
-use Rattle.fts_model.proofs.AnswerLemmas.{count_number-raised, count_number-added, group_place-le, hits_counted-at}
+use Rattle.fts_model.specs.Internals.Scans.{group_place, is_group_at, hits_counted}
+use Rattle.fts_model.proofs.AnswersSteps.{count_number-raised, count_number-added, group_place-le, hits_counted-at}
 use Rattle.fts_model.proofs.scan.answers.count_number.Goals as goal
 
 pub overflow_add-index_mut : goal.overflow_add-index_mut

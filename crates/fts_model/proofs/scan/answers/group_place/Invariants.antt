@@ -1,5 +1,5 @@
 use Rattle.std.proofs.Common.{◌≡◌, ◌+◌, drop}
-use Rattle.fts_model.specs.Scans.{group_place}
+use Rattle.fts_model.specs.Internals.Scans.{group_place}
 use Rattle.fts_model.proofs.scan.answers.group_place.Given as goal
 
 abbrev pub invariant-loop-i : goal.invariant-loop-i

@@ -5,8 +5,8 @@ use Rattle.fts_model.specs.declared.value.Number.{Number}
 use Rattle.fts_model.specs.declared.operation.Stamped.{Stamped}
 use Rattle.fts_model.specs.Documents.{DocumentValue}
 use Rattle.fts_model.specs.Answers.{groups, count_number, number_in_field}
-use Rattle.fts_model.specs.Scans.{hits_counted}
-use Rattle.fts_model.proofs.AnswerLemmas.{groups-more, hits_counted-groups}
+use Rattle.fts_model.specs.Internals.Scans.{hits_counted}
+use Rattle.fts_model.proofs.AnswersSteps.{groups-more, hits_counted-groups}
 use Rattle.fts_model.proofs.scan.answers.groups.Goals as goal
 
 pub count_hit-requires : goal.count_hit-requires

@@ -4,7 +4,7 @@ use Rattle.fts_model.specs.declared.operation.Stamped.{Stamped}
 use Rattle.fts_model.specs.Documents.{DocumentValue}
 use Rattle.fts_model.specs.QueryValues.{query_value}
 use Rattle.fts_model.specs.Queries.{hits}
-use Rattle.fts_model.proofs.AnswerLemmas.{hits-more}
+use Rattle.fts_model.proofs.AnswersSteps.{hits-more}
 use Rattle.fts_model.proofs.scan.answers.hits.Goals as goal
 
 pub loop-document-preserved : goal.loop-document-preserved

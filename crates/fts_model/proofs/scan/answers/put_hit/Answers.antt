@@ -1,7 +1,7 @@
 use Rattle.std.proofs.Common.{◌≡◌, sym, ap, ◌∙◌, take, arith}
 use Rattle.std.specs.List.{insert}
-use Rattle.fts_model.specs.Scans.{hit_place}
-use Rattle.fts_model.proofs.AnswerLemmas.{put_hit-insert, hit_place-le}
+use Rattle.fts_model.specs.Internals.Scans.{hit_place}
+use Rattle.fts_model.proofs.AnswersSteps.{put_hit-insert, hit_place-le}
 use Rattle.fts_model.proofs.scan.answers.put_hit.Goals as goal
 
 pub insert-requires : goal.insert-requires

@@ -5,12 +5,12 @@ use Rattle.fts_model.specs.declared.answer.Hit.{Hit}
 use Rattle.fts_model.specs.declared.operation.Stamped.{Stamped}
 use Rattle.fts_model.specs.Documents.{DocumentValue}
 use Rattle.fts_model.specs.Answers.{top, put_hit, hit_in}
-use Rattle.fts_model.proofs.AnswerLemmas.{top-more}
+use Rattle.fts_model.proofs.AnswersSteps.{top-more}
 use Rattle.fts_model.proofs.scan.answers.top.Goals as goal
 
 pub loop-hit-preserved : goal.loop-hit-preserved
 loop-hit-preserved c =
-    let t = c.args.top in
+    let t = c.args.wanted in
     let hits = c.args.hits.now in
     let i = c.loop-hit.hit-index in
     let hit = c.hit-item.result in

@@ -3,4 +3,4 @@ use Rattle.fts_model.specs.Answers.{top}
 use Rattle.fts_model.proofs.scan.answers.top.Given as goal
 
 abbrev pub invariant-loop-hit : goal.invariant-loop-hit
-invariant-loop-hit l = l.list.items ≡ top l.top.k l.top.order l.top.by (take l.hit-index l.hits)
+invariant-loop-hit l = l.list.items ≡ top l.wanted.k l.wanted.order l.wanted.by (take l.hit-index l.hits)

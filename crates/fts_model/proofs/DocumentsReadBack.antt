@@ -18,10 +18,10 @@ use Rattle.fts_model.specs.declared.schema.Field.{Field}
 use Rattle.fts_model.specs.declared.value.Number.TheVariants as numbers
 use Rattle.fts_model.specs.declared.value.FieldValue.{FieldValue}
 use Rattle.fts_model.specs.declared.value.FieldValue.TheVariants as values
-use Rattle.fts_model.specs.Outcomes.{value_if_ok, error_if_err, first_of}
+use Rattle.fts_model.specs.Results.{value_if_ok, error_if_err, first_of}
 use Rattle.fts_model.specs.Schemas.{is_named, field_fault, first_fault}
 use Rattle.fts_model.specs.Documents.{DocumentValue, value_in, fault_in_field, member_fault, members_fault, value_at, document_of, data_of, with_value, with_values, json_of, is_value_of, CanHave, AreValuesOf, IsDocument}
-use Rattle.fts_model.proofs.Fields.{none_of_two, not_taken, both_false, or_false, none_of_more, others_before, no_field_fault, find_by_name}
+use Rattle.fts_model.proofs.DocumentsFields.{none_of_two, not_taken, both_false, or_false, none_of_more, others_before, no_field_fault, find_by_name}
 
 -- a value that a field can have is read from its JSON
 value_back : (kind : Kind) (v : FieldValue) → is_value_of kind v ≡ true → value_in kind (data_of v) ≡ Ok (Some v)
@@ -43,9 +43,11 @@ at_back : (field : Field) (value : Option FieldValue) → CanHave field.kind val
 at_back field None h = refl
 at_back field (Some v) h = ap (λ r. option_and_then (λ w. w) (value_if_ok r)) (value_back field.kind v h)
 
+-- names that are not equal byte by byte are two
 apart : (name other : List ℕ) → bytes_eq other name ≡ false → name ≡ other → ⊥
 apart name other h e = true≢false (sym ((bytes_eq-Decides other name).1 (sym e)) ∙ h)
 
+-- equal byte by byte is the same turned round
 turned : (name other : List ℕ) → bytes_eq name other ≡ false → bytes_eq other name ≡ false
 turned name other h = false_from_ne_true (bytes_eq other name) (λ e. apart other name h ((bytes_eq-Decides other name).0 e))
 
@@ -114,9 +116,11 @@ values_back ms before (field ∷ fields) (v ∷ vs) h only can =
     let rest = values_back (with_value ms field v) (before ++ field ∷ []) fields vs both.1 (one_more_name before ms field v only) can.1 in
     λ i. here i ∷ rest i
 
+-- the first of no fault and no fault is none
 neither : (x y : Option Refusal) → x ≡ None → y ≡ None → first_of x y ≡ None
 neither x y e f = ap (λ z. first_of z y) e ∙ f
 
+-- one without a fault is put among members without one, however its name stands to the first one's
 put_at : (fields : List Field) (o : Ordering) (name other : List ℕ) (d e : Data) (ms : Members) → slice_cmp nat_cmp name other ≡ o →
     member_fault fields name d ≡ None → member_fault fields other e ≡ None → members_fault fields ms ≡ None → members_fault fields (put name d ms) ≡ None →
     members_fault fields (match_ordering o (member name d (member other e ms)) (member other d ms) (member other e (put name d ms))) ≡ None
@@ -133,6 +137,7 @@ put_without_fault fields name d (member other e ms) one h =
     let both = none_of_two (member_fault fields other e) (members_fault fields ms) h in
     put_at fields (slice_cmp nat_cmp name other) name other d e ms refl one both.0 both.1 (put_without_fault fields name d ms one both.1)
 
+-- members without a fault have none with a field's value
 one_without_fault : (fields : List Field) (ms : Members) (field : Field) (value : Option FieldValue) →
     find (is_named field.name) fields ≡ Some field → CanHave field.kind value → members_fault fields ms ≡ None →
     members_fault fields (with_value ms field value) ≡ None

@@ -14,18 +14,16 @@ use Rattle.fts_model.specs.Documents.{DocumentValue}
 use Rattle.fts_model.specs.QueryValues.{QueryValue}
 use Rattle.fts_model.specs.Queries.{hits, matches}
 use Rattle.fts_model.specs.Answers.{number_cmp, number_in_field, count_number, groups, numbers_in, hit_in, hits_in, comes_before, put_hit, sorted_hits, top}
-use Rattle.fts_model.specs.Scans.{hits_counted, group_place, is_group_at, hit_place}
-use Rattle.fts_model.proofs.AliveLemmas.{filter-append}
+use Rattle.fts_model.specs.Internals.Scans.{hits_counted, group_place, is_group_at, hit_place}
+use Rattle.std.proofs.lemmas.List.Elements.{filter-append}
+use Rattle.std.proofs.lemmas.List.Sums.{fold-append}
 
+-- what a list with one more member is mapped to
 filter_map-more : {X Y : Type 0} (h : X → Option Y) (xs : List X) (x : X) → filter_map h (xs ++ x ∷ []) ≡ filter_map h xs ++ option_to_list (h x)
 filter_map-more h [] x = elim (h x) as (λ o. cons_option o [] ≡ option_to_list o) [ None ↦ refl | Some y ↦ refl ]
 filter_map-more h (y ∷ ys) x =
     elim (h y) as (λ o. cons_option o (filter_map h (ys ++ x ∷ [])) ≡ cons_option o (filter_map h ys) ++ option_to_list (h x))
     [ None ↦ filter_map-more h ys x | Some z ↦ ap (λ zs. z ∷ zs) (filter_map-more h ys x) ]
-
-fold-append : {Y Z : Type 0} (f : Z → Y → Z) (a : Z) (xs ys : List Y) → fold f a (xs ++ ys) ≡ fold f (fold f a xs) ys
-fold-append f a [] ys = refl
-fold-append f a (x ∷ xs) ys = fold-append f (f a x) xs ys
 
 -- the groups with one more hit
 pub groups-more : (field : ℕ) (hits : List (Stamped DocumentValue)) (hit : Stamped DocumentValue) →
@@ -41,18 +39,21 @@ put_hit-insert order (other ∷ others) hit =
     elim (comes_before order hit other) as (λ b. cond b (hit ∷ other ∷ others) (other ∷ put_hit order others hit) ≡ insert (other ∷ others) (cond b 0 (suc (hit_place order others hit))) hit)
     [ true ↦ refl | false ↦ ap (λ xs. other ∷ xs) (put_hit-insert order others hit) ]
 
+-- a hit's place is in the list or right behind it
 pub hit_place-le : (order : Order) (hits : List Hit) (hit : Hit) → hit_place order hits hit ≤ length hits
 hit_place-le order [] hit = omega arith
 hit_place-le order (other ∷ others) hit =
     elim (comes_before order hit other) as (λ b. cond b 0 (suc (hit_place order others hit)) ≤ suc (length others))
     [ true ↦ omega arith | false ↦ omega (arith, hit_place-le order others hit) ]
 
+-- a number's place is in the groups or right behind them
 pub group_place-le : (groups : List (Number × ℕ)) (n : Number) → group_place groups n ≤ length groups
 group_place-le [] n = omega arith
 group_place-le (group ∷ groups) n =
     elim (number_cmp n group.0) as (λ o. match_ordering o 0 0 (suc (group_place groups n)) ≤ suc (length groups))
     [ Less ↦ omega arith | Equal ↦ omega arith | Greater ↦ omega (arith, group_place-le groups n) ]
 
+-- one more is counted, however the number stands to the first group's
 counted_by : (o : Ordering) (group : Number × ℕ) (others : List (Number × ℕ)) (n : Number) →
     hits_counted (count_number others n) ≡ hits_counted others + 1 →
     hits_counted (match_ordering o ((n, 1) ∷ group ∷ others) ((group.0, group.1 + 1) ∷ others) (group ∷ count_number others n)) ≡ group.1 + hits_counted others + 1
@@ -60,14 +61,17 @@ counted_by Less group others n e = omega arith
 counted_by Equal group others n e = omega arith
 counted_by Greater group others n e = omega (arith, e)
 
+-- one more is counted
 hits_counted-one : (others : List (Number × ℕ)) (n : Number) → hits_counted (count_number others n) ≡ hits_counted others + 1
 hits_counted-one [] n = omega arith
 hits_counted-one (group ∷ others) n = counted_by (number_cmp n group.0) group others n (hits_counted-one others n)
 
+-- as many more are counted as there are numbers
 hits_counted-fold : (others : List (Number × ℕ)) (ns : List Number) → hits_counted (fold count_number others ns) ≡ hits_counted others + length ns
 hits_counted-fold others [] = omega arith
 hits_counted-fold others (n ∷ ns) = omega (arith, hits_counted-fold (count_number others n) ns, hits_counted-one others n)
 
+-- no more are kept than there are
 length-filter_map : {X Y : Type 0} (h : X → Option Y) (xs : List X) → length (filter_map h xs) ≤ length xs
 length-filter_map h [] = omega arith
 length-filter_map h (x ∷ xs) =
@@ -90,6 +94,7 @@ pub hits-more : (schema : List Field) (query : QueryValue) (documents : List (St
     hits schema query (documents ++ document ∷ []) ≡ hits schema query documents ++ hits schema query (document ∷ [])
 hits-more schema query documents document = filter-append (λ (d : Stamped DocumentValue). matches schema d.value query) documents (document ∷ [])
 
+-- the group of a number is raised, however the number stands to the first group's
 raised_at : (o : Ordering) (group : Number × ℕ) (groups : List (Number × ℕ)) (n : Number) → number_cmp n group.0 ≡ o →
     (is_group_at groups (group_place groups n) n ≡ true → (group_place groups n < length groups) × ((d : Number × ℕ) → d ≡ get_or groups (group_place groups n) d → set groups (group_place groups n) (d.0, d.1 + 1) ≡ count_number groups n)) →
     is_group_at (group ∷ groups) (match_ordering o 0 0 (suc (group_place groups n))) n ≡ true →
@@ -106,6 +111,7 @@ pub count_number-raised : (groups : List (Number × ℕ)) (n : Number) → is_gr
 count_number-raised [] n h = cc
 count_number-raised (group ∷ groups) n h = raised_at (number_cmp n group.0) group groups n refl (count_number-raised groups n) h
 
+-- a new group is put at its place, however its number stands to the first group's
 added_at : (o : Ordering) (group : Number × ℕ) (groups : List (Number × ℕ)) (n : Number) → number_cmp n group.0 ≡ o →
     (is_group_at groups (group_place groups n) n ≡ false → insert groups (group_place groups n) (n, 1) ≡ count_number groups n) →
     is_group_at (group ∷ groups) (match_ordering o 0 0 (suc (group_place groups n))) n ≡ false →
@@ -119,11 +125,13 @@ pub count_number-added : (groups : List (Number × ℕ)) (n : Number) → is_gro
 count_number-added [] n h = refl
 count_number-added (group ∷ groups) n h = added_at (number_cmp n group.0) group groups n refl (count_number-added groups n) h
 
+-- the first k are the first k of one more
 take-shorter : {X : Type 0} (k : ℕ) (xs : List X) → take k xs ≡ take k (take (suc k) xs)
 take-shorter zero xs = refl
 take-shorter (suc k) [] = refl
 take-shorter (suc k) (x ∷ xs) = ap (λ ys. x ∷ ys) (take-shorter k xs)
 
+-- the first k with one in front are those of it and the first k
 take-behind : {X : Type 0} (k : ℕ) (x : X) (xs : List X) → take k (x ∷ xs) ≡ take k (x ∷ take k xs)
 take-behind zero x xs = refl
 take-behind (suc k) x xs = ap (λ ys. x ∷ ys) (take-shorter k xs)

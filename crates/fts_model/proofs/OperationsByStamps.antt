@@ -10,8 +10,9 @@ use Rattle.fts_model.specs.declared.operation.Op.TheVariants.{Add, Delete, Delet
 use Rattle.fts_model.specs.declared.operation.Stamped.{Stamped}
 use Rattle.fts_model.specs.Documents.{DocumentValue}
 use Rattle.fts_model.specs.Operations.{strikes, is_struck, left_by, alive, StampsRise, strikes_later, survives, added_by, added}
-use Rattle.fts_model.proofs.ListLemmas.{pairs_behind, pairs_front, Contains-cases, Contains-first, Contains-behind, Contains-none, Contains-filter, Contains-from_filter}
+use Rattle.fts_model.proofs.Lists.{pairs_behind, pairs_front, Contains-cases, Contains-first, Contains-behind, Contains-none, Contains-filter, Contains-from_filter}
 
+-- two tests that agree on a list's members keep the same
 filter_agree_on : {X : Type 0} (p q : X → Bool) (xs : List X) → All (λ x. p x ≡ q x) xs → filter p xs ≡ filter q xs
 filter_agree_on p q [] h = refl
 filter_agree_on p q (x ∷ xs) h =
@@ -33,6 +34,7 @@ survives-earlier : (schema : List Field) (op : Stamped Op) (ops : List (Stamped 
     survives schema (op ∷ ops) d ≡ survives schema ops d
 survives-earlier schema op ops d e = ap (λ b. not ((b && strikes schema op.value d.value) || list_any (λ op. strikes_later schema op d) ops)) e
 
+-- what holds of the stamps of an operation and of documents holds with what it adds in front
 All-added_by : (P : ℕ → Type 0) (stamp : ℕ) (op : Op) (ds : List (Stamped DocumentValue)) → P stamp → All (λ d. P d.stamp) ds → All (λ d. P d.stamp) (added_by stamp op ++ ds)
 All-added_by P stamp (Add document) ds p ps = All-cons (λ d. P d.stamp) (record { stamp = stamp; value = document }) ds p ps
 All-added_by P stamp (Delete term) ds p ps = ps
@@ -44,10 +46,12 @@ All-added P [] ps = All-nil (λ d. P d.stamp)
 All-added P (op ∷ ops) ps =
     All-added_by P op.stamp op.value (added ops) (All-head (λ op. P op.stamp) op ops ps) (All-added P ops (All-tail (λ op. P op.stamp) op ops ps))
 
+-- a document is left unless it is struck
 left_or_not : (b : Bool) (d : Stamped DocumentValue) → cond b [] (d ∷ []) ≡ cond (not b) (d ∷ []) []
 left_or_not true d = refl
 left_or_not false d = refl
 
+-- what an operation leaves is what it adds and survives
 left_by-survives : (schema : List Field) (op : Stamped Op) (value : Op) (ops : List (Stamped Op)) → All (λ later. op.stamp < later.stamp) ops →
     left_by schema op.stamp value ops ≡ filter (survives schema (op ∷ ops)) (added_by op.stamp value)
 left_by-survives schema op (Add document) ops later =
@@ -75,6 +79,7 @@ alive-survives schema (op ∷ ops) rise =
 abbrev add_of : Stamped DocumentValue → Stamped Op
 add_of d = record { stamp = d.stamp; value = Add d.value }
 
+-- what is added is what an operation adds, by the first one's kind
 added_at : (stamp : ℕ) (value : Op) (ops : List (Stamped Op)) (d : Stamped DocumentValue) → (Contains (added ops) d → Contains ops (add_of d)) →
     Contains (added_by stamp value ++ added ops) d → Contains (record { stamp = stamp; value = value } ∷ ops) (add_of d)
 added_at stamp (Add document) ops d rest at =
@@ -86,6 +91,7 @@ added_at stamp (Add document) ops d rest at =
 added_at stamp (Delete term) ops d rest at = Contains-behind (record { stamp = stamp; value = Delete term }) ops (add_of d) (rest at)
 added_at stamp DeleteAll ops d rest at = Contains-behind (record { stamp = stamp; value = DeleteAll }) ops (add_of d) (rest at)
 
+-- what an operation adds is added, by the first one's kind
 add_at : (stamp : ℕ) (value : Op) (ops : List (Stamped Op)) (d : Stamped DocumentValue) → (Contains ops (add_of d) → Contains (added ops) d) →
     Contains (record { stamp = stamp; value = value } ∷ ops) (add_of d) → Contains (added_by stamp value ++ added ops) d
 add_at stamp (Add document) ops d rest at =
@@ -123,10 +129,12 @@ Contains-added (op ∷ ops) d =
 abbrev IsSpared : List Field → List (Stamped Op) → Stamped DocumentValue → Type 0
 IsSpared schema ops d = All (λ op. d.stamp < op.stamp → strikes schema op.value d.value ≡ false) ops
 
+-- where neither strikes, each doesn't
 struck_now : (b c : Bool) → (b || c) ≡ false → (b ≡ false) × (c ≡ false)
 struck_now true c h = cc
 struck_now false c h = (refl, h)
 
+-- where none strikes by the test, each of a later stamp doesn't
 none_strikes : (schema : List Field) (ops : List (Stamped Op)) (d : Stamped DocumentValue) → list_any (λ op. strikes_later schema op d) ops ≡ false → IsSpared schema ops d
 none_strikes schema [] d h = All-nil (λ op. d.stamp < op.stamp → strikes schema op.value d.value ≡ false)
 none_strikes schema (op ∷ ops) d h =
@@ -135,6 +143,7 @@ none_strikes schema (op ∷ ops) d h =
     (λ below. let e : nat_lt d.stamp op.stamp ≡ true = grind (arith, nat_tests) in ap (λ b. b && strikes schema op.value d.value) (sym e) ∙ both.0)
     (none_strikes schema ops d both.1)
 
+-- an operation that doesn't strike if it is later passes the test
 spared_now : (schema : List Field) (op : Stamped Op) (d : Stamped DocumentValue) → (d.stamp < op.stamp → strikes schema op.value d.value ≡ false) → strikes_later schema op d ≡ false
 spared_now schema op d h =
     ⊎_elim
@@ -142,12 +151,14 @@ spared_now schema op d h =
     (λ (not_later : nat_lt d.stamp op.stamp ≡ false). ap (λ b. b && strikes schema op.value d.value) not_later)
     (cases_Bool (nat_lt d.stamp op.stamp))
 
+-- where each of a later stamp doesn't strike, none does by the test
 all_spare : (schema : List Field) (ops : List (Stamped Op)) (d : Stamped DocumentValue) → IsSpared schema ops d → list_any (λ op. strikes_later schema op d) ops ≡ false
 all_spare schema [] d h = refl
 all_spare schema (op ∷ ops) d h =
     let P : Stamped Op → Type 0 = λ op. d.stamp < op.stamp → strikes schema op.value d.value ≡ false in
     ap (λ b. b || list_any (λ op. strikes_later schema op d) ops) (spared_now schema op d (All-head P op ops h)) ∙ all_spare schema ops d (All-tail P op ops h)
 
+-- what is not so isn't
 not_true : (b : Bool) → not b ≡ true → b ≡ false
 not_true true h = cc
 not_true false h = refl

@@ -16,6 +16,7 @@ use Rattle.fts_model.specs.Queries.{query_fits, all_fit, matches, all_match, any
 abbrev pub fits_in : List Field → Query → Bool
 fits_in schema q = query_fits schema (query_value q)
 
+-- a query of the code matches a document
 abbrev pub matches_in : List Field → DocumentValue → Query → Bool
 matches_in schema document q = matches schema document (query_value q)
 
@@ -26,24 +27,29 @@ value_at_bool : (must must_not should : _) →
 value_at_bool must must_not should =
     ap query_value (sym (rolls-Bool must must_not should)) ∙ fold-roll-Query QueryValue value_by_parts (Query-F.Bool must must_not should)
 
+-- all of some queries fit, by the list
 all_fit-list : (schema : List Field) (qs : List Query) → all_fit schema (query_list (map query_value qs)) ≡ list_all (fits_in schema) qs
 all_fit-list schema [] = refl
 all_fit-list schema (q ∷ qs) = ap (λ b. fits_in schema q && b) (all_fit-list schema qs)
 
+-- all of some queries match, by the list
 all_match-list : (schema : List Field) (document : DocumentValue) (qs : List Query) →
     all_match schema document (query_list (map query_value qs)) ≡ list_all (matches_in schema document) qs
 all_match-list schema document [] = refl
 all_match-list schema document (q ∷ qs) = ap (λ b. matches_in schema document q && b) (all_match-list schema document qs)
 
+-- one of some queries matches, by the list
 any_matches-list : (schema : List Field) (document : DocumentValue) (qs : List Query) →
     any_matches schema document (query_list (map query_value qs)) ≡ list_any (matches_in schema document) qs
 any_matches-list schema document [] = refl
 any_matches-list schema document (q ∷ qs) = ap (λ b. matches_in schema document q || b) (any_matches-list schema document qs)
 
+-- there are queries where the list has a member
 are_some-list : (qs : List Query) → are_some (query_list (map query_value qs)) ≡ is_nonempty qs
 are_some-list [] = refl
 are_some-list (q ∷ qs) = refl
 
+-- three tests that are each another are all so together
 all_three : {a b c d e f : Bool} → a ≡ d → b ≡ e → c ≡ f → (a && b && c) ≡ (d && e && f)
 all_three p q r = cc
 
@@ -54,16 +60,19 @@ query_fits_at_bool schema must must_not should =
     ap (query_fits schema) (value_at_bool must must_not should)
     ∙ all_three (all_fit-list schema must.items) (all_fit-list schema must_not.items) (all_fit-list schema should.items)
 
+-- where the first two are so, the third decides
 pub last_of_three : (a b c r : Bool) → a ≡ true → b ≡ true → r ≡ c → r ≡ (a && b && c)
 last_of_three true true c r p q e = e
 last_of_three true false c r p q e = cc
 last_of_three false b c r p q e = cc
 
+-- where the first two aren't both so, the three aren't
 pub first_two_false : (a b c r : Bool) → (a && b) ≡ false → r ≡ false → r ≡ (a && b && c)
 first_two_false true true c r p e = cc
 first_two_false true false c r p e = e
 first_two_false false b c r p e = e
 
+-- the tests of a Boolean query, each by its own
 all_of_parts : {a b c d e f g h : Bool} → a ≡ e → b ≡ f → c ≡ g → d ≡ h → (a && not b && (c || d)) ≡ (e && not f && (g || h))
 all_of_parts p q r s = cc
 
@@ -76,31 +85,37 @@ matches_at_bool schema document must must_not should =
     ∙ all_of_parts (all_match-list schema document must.items) (any_matches-list schema document must_not.items)
     (are_some-list must.items) (any_matches-list schema document should.items)
 
+-- not all musts match: the query doesn't
 pub not_all_must : (a b c d : Bool) → a ≡ false → (a && not b && (c || d)) ≡ false
 not_all_must true b c d h = cc
 not_all_must false b c d h = refl
 
+-- a must-not matches: the query doesn't
 pub one_must_not : (a b c d : Bool) → b ≡ true → (a && not b && (c || d)) ≡ false
 one_must_not true true c d h = refl
 one_must_not false true c d h = refl
 one_must_not a false c d h = cc
 
+-- all musts match, there is one, and no must-not does: the query matches
 pub musts_suffice : (a b c d : Bool) → a ≡ true → b ≡ false → c ≡ true → (a && not b && (c || d)) ≡ true
 musts_suffice true false true d p q r = refl
 musts_suffice true false false d p q r = cc
 musts_suffice true true c d p q r = cc
 musts_suffice false b c d p q r = cc
 
+-- all musts match, there is none, and no must-not does: the shoulds decide
 pub shoulds_decide : (a b c d : Bool) → a ≡ true → b ≡ false → c ≡ false → (a && not b && (c || d)) ≡ d
 shoulds_decide true false false d p q r = refl
 shoulds_decide true false true d p q r = cc
 shoulds_decide true true c d p q r = cc
 shoulds_decide false b c d p q r = cc
 
+-- a list of a length over 0 has a member
 pub is_nonempty-length : {X : Type 0} (xs : List X) → (length xs == 0) ≡ false → is_nonempty xs ≡ true
 is_nonempty-length [] h = cc
 is_nonempty-length (x ∷ xs) h = refl
 
+-- a list of length 0 has none
 pub is_nonempty-none : {X : Type 0} (xs : List X) → (length xs == 0) ≡ true → is_nonempty xs ≡ false
 is_nonempty-none [] h = refl
 is_nonempty-none (x ∷ xs) h = absurd (omega (arith, eqb-true (length (x ∷ xs)) 0 h))

@@ -4,8 +4,8 @@ use Rattle.fts_model.specs.declared.operation.Op.{Op}
 use Rattle.fts_model.specs.declared.operation.Stamped.{Stamped}
 use Rattle.fts_model.specs.Documents.{DocumentValue}
 use Rattle.fts_model.specs.Operations.{alive, strikes}
-use Rattle.fts_model.proofs.AliveLemmas.{alive-one}
-use Rattle.fts_model.proofs.scan.all_after.Goals as goal
+use Rattle.fts_model.proofs.OperationsAlive.{alive-one}
+use Rattle.fts_model.proofs.scan.alive.Goals as goal
 
 pub loop-op-preserved : goal.loop-op-preserved
 loop-op-preserved c =

@@ -1,9 +1,9 @@
 -- What is alive after operations that come in two parts.
-use Rattle.std.proofs.Common.{◌≡◌, ℕ, Bool, true, false, cond, ◌||◌, not, List, [], ◌∷◌, ◌++◌, filter, refl, sym, ap, ◌∙◌, append_assoc, arith, All, AllPairs}
+use Rattle.std.proofs.Common.{◌≡◌, ℕ, Bool, true, false, cond, ◌||◌, not, List, [], ◌∷◌, ◌++◌, filter, refl, sym, ap, ◌∙◌, append_assoc, All, AllPairs}
 use Rattle.std.specs.List.{list_any}
-use Rattle.std.proofs.lemmas.List.Elements.{All-cons, All-tail}
+use Rattle.std.proofs.lemmas.List.Elements.{All-nil, All-cons, All-head, All-tail, filter-append, filter_agree}
 use Rattle.std.proofs.lemmas.List.Kept.{AllPairs-cons}
-use Rattle.fts_model.proofs.ListLemmas.{pairs_behind, pairs_front, pairs_none}
+use Rattle.fts_model.proofs.Lists.{pairs_behind, pairs_front, pairs_none}
 use Rattle.fts_model.specs.declared.schema.Field.{Field}
 use Rattle.fts_model.specs.declared.operation.Op.{Op}
 use Rattle.fts_model.specs.declared.operation.Op.TheVariants.{Add, Delete, DeleteAll}
@@ -11,26 +11,23 @@ use Rattle.fts_model.specs.declared.operation.Stamped.{Stamped}
 use Rattle.fts_model.specs.Documents.{DocumentValue}
 use Rattle.fts_model.specs.Operations.{strikes, is_struck, left_by, alive, adds}
 
+-- one of two lists' members passes where one of the first's or of the second's does
 list_any-append : {X : Type 0} (p : X → Bool) (xs ys : List X) → list_any p (xs ++ ys) ≡ (list_any p xs || list_any p ys)
 list_any-append p [] ys = refl
 list_any-append p (x ∷ xs) ys = elim (p x) as (λ b. (b || list_any p (xs ++ ys)) ≡ ((b || list_any p xs) || list_any p ys)) [ true ↦ refl | false ↦ list_any-append p xs ys ]
-
-pub filter-append : {X : Type 0} (p : X → Bool) (xs ys : List X) → filter p (xs ++ ys) ≡ filter p xs ++ filter p ys
-filter-append p [] ys = refl
-filter-append p (x ∷ xs) ys =
-    elim (p x) as (λ b. cond b (x ∷ filter p (xs ++ ys)) (filter p (xs ++ ys)) ≡ cond b (x ∷ filter p xs) (filter p xs) ++ filter p ys)
-    [ true ↦ ap (λ zs. x ∷ zs) (filter-append p xs ys) | false ↦ filter-append p xs ys ]
 
 -- those of the documents that none of these operations strikes
 abbrev pub spared : List Field → List (Stamped Op) → List (Stamped DocumentValue) → List (Stamped DocumentValue)
 spared schema later documents = filter (λ d. not (is_struck schema later d.value)) documents
 
+-- a document that is left is filtered as one that was not struck
 one_spared : (a b : Bool) (d : Stamped DocumentValue) (keep : Stamped DocumentValue → Bool) → keep d ≡ not b →
     cond (a || b) [] (d ∷ []) ≡ filter keep (cond a [] (d ∷ []))
 one_spared true b d keep e = refl
 one_spared false true d keep e = ap (λ k. cond k (d ∷ []) []) (sym e)
 one_spared false false d keep e = ap (λ k. cond k (d ∷ []) []) (sym e)
 
+-- what an operation leaves before more operations: what these spare of what it left before
 left_by-append : (schema : List Field) (stamp : ℕ) (op : Op) (ops later : List (Stamped Op)) →
     left_by schema stamp op (ops ++ later) ≡ spared schema later (left_by schema stamp op ops)
 left_by-append schema stamp (Add document) ops later =
@@ -48,27 +45,25 @@ alive-append schema (op ∷ ops) later =
     ∙ sym (append_assoc (spared schema later (left_by schema op.stamp op.value ops)) (spared schema later (alive schema ops)) (alive schema later))
     ∙ ap (λ xs. xs ++ alive schema later) (sym (filter-append (λ d. not (is_struck schema later d.value)) (left_by schema op.stamp op.value ops) (alive schema ops)))
 
+-- adds strike nothing
 adds_spare : (schema : List Field) (documents : List (Stamped DocumentValue)) (document : DocumentValue) → is_struck schema (adds documents) document ≡ false
 adds_spare schema [] document = refl
 adds_spare schema (d ∷ ds) document = adds_spare schema ds document
 
+-- of adds each document is alive
 alive-adds : (schema : List Field) (documents : List (Stamped DocumentValue)) → alive schema (adds documents) ≡ documents
 alive-adds schema [] = refl
 alive-adds schema (d ∷ ds) =
     ap (λ b. cond b [] (d ∷ []) ++ alive schema (adds ds)) (adds_spare schema ds d.value) ∙ ap (λ xs. d ∷ xs) (alive-adds schema ds)
 
+-- what is alive stands for the operations before
 pub alive-history : (schema : List Field) (before later : List (Stamped Op)) → alive schema (before ++ later) ≡ alive schema (adds (alive schema before) ++ later)
 alive-history schema before later =
     alive-append schema before later
     ∙ ap (λ xs. spared schema later xs ++ alive schema later) (sym (alive-adds schema (alive schema before)))
     ∙ sym (alive-append schema (adds (alive schema before)) later)
 
-pub All-front : {X : Type 0} (P : X → Type 0) (x : X) (xs : List X) → All P (x ∷ xs) → P x
-All-front P x xs h = h 0 x (omega arith)
-
-pub All-none : {X : Type 0} (P : X → Type 0) → All P []
-All-none P k d lt = absurd (omega (arith, lt))
-
+-- what holds of a document and of others holds where it is kept, and where it isn't
 All-if_kept : (b : Bool) (P : Stamped DocumentValue → Type 0) (d : Stamped DocumentValue) (ds : List (Stamped DocumentValue)) →
     P d → All P ds → All P (cond b [] (d ∷ []) ++ ds)
 All-if_kept true P d ds p ps = ps
@@ -76,9 +71,9 @@ All-if_kept false P d ds p ps = All-cons P d ds p ps
 
 -- the stamps of what is alive are stamps of the operations
 All-alive : (P : ℕ → Type 0) (schema : List Field) (ops : List (Stamped Op)) → All (λ op. P op.stamp) ops → All (λ d. P d.stamp) (alive schema ops)
-All-alive P schema [] h = All-none (λ d. P d.stamp)
+All-alive P schema [] h = All-nil (λ d. P d.stamp)
 All-alive P schema (op ∷ ops) h =
-    let front : P op.stamp = All-front (λ op. P op.stamp) op ops h in
+    let front : P op.stamp = All-head (λ op. P op.stamp) op ops h in
     let behind = All-alive P schema ops (All-tail (λ op. P op.stamp) op ops h) in
     elim op.value as (λ value. All (λ (d : Stamped DocumentValue). P d.stamp) (left_by schema op.stamp value ops ++ alive schema ops)) [
       | Add document ↦ All-if_kept (is_struck schema ops document) (λ d. P d.stamp) (record { stamp = op.stamp; value = document }) (alive schema ops) front behind
@@ -86,6 +81,7 @@ All-alive P schema (op ∷ ops) h =
       | DeleteAll ↦ behind
     ]
 
+-- how the stamps of documents stand to each other, with one in front that is kept or not
 pairs_if_kept : (R : ℕ → ℕ → Type 0) (b : Bool) (d : Stamped DocumentValue) (ds : List (Stamped DocumentValue)) →
     All (λ e. R d.stamp e.stamp) ds → AllPairs (λ x y. R x.stamp y.stamp) ds → AllPairs (λ x y. R x.stamp y.stamp) (cond b [] (d ∷ []) ++ ds)
 pairs_if_kept R true d ds others pairs = pairs
@@ -103,18 +99,17 @@ alive-pairs R schema (op ∷ ops) h =
       | DeleteAll ↦ pairs
     ]
 
-filter-same : {X : Type 0} (p q : X → Bool) → ((x : X) → p x ≡ q x) → (xs : List X) → filter p xs ≡ filter q xs
-filter-same p q e [] = refl
-filter-same p q e (x ∷ xs) = ap (λ b. cond b (x ∷ filter p xs) (filter p xs)) (e x) ∙ ap (λ ys. cond (q x) (x ∷ ys) ys) (filter-same p q e xs)
-
+-- a test that all pass keeps all
 filter-whole : {X : Type 0} (xs : List X) → filter (λ x. true) xs ≡ xs
 filter-whole [] = refl
 filter-whole (x ∷ xs) = ap (λ ys. x ∷ ys) (filter-whole xs)
 
+-- a test that none passes keeps none
 filter-nothing : {X : Type 0} (xs : List X) → filter (λ x. false) xs ≡ []
 filter-nothing [] = refl
 filter-nothing (x ∷ xs) = filter-nothing xs
 
+-- a test beside nothing
 or_nothing : (b : Bool) → not (b || false) ≡ not b
 or_nothing true = refl
 or_nothing false = refl
@@ -125,15 +120,16 @@ pub alive-one : (schema : List Field) (ops : List (Stamped Op)) (op : Stamped Op
 alive-one schema ops op =
     alive-append schema ops (op ∷ [])
     ∙ ap (λ xs. xs ++ alive schema (op ∷ []))
-    (filter-same (λ (d : Stamped DocumentValue). not (is_struck schema (op ∷ []) d.value)) (λ d. not (strikes schema op.value d.value)) (λ d. or_nothing (strikes schema op.value d.value)) (alive schema ops))
+    (filter_agree (λ (d : Stamped DocumentValue). not (is_struck schema (op ∷ []) d.value)) (λ d. not (strikes schema op.value d.value)) (λ d. or_nothing (strikes schema op.value d.value)) (alive schema ops))
 
--- the same where it is an add, or deletes all
+-- what is alive after one more add
 pub alive-add : (schema : List Field) (op : Stamped Op) (document : DocumentValue) (documents : List (Stamped DocumentValue)) → op.value ≡ Add document →
     filter (λ (d : Stamped DocumentValue). not (strikes schema op.value d.value)) documents ++ alive schema (op ∷ []) ≡ documents ++ record { stamp = op.stamp; value = document } ∷ []
 alive-add schema op document documents e =
     ap (λ value. filter (λ (d : Stamped DocumentValue). not (strikes schema value d.value)) documents ++ (left_by schema op.stamp value [] ++ [])) e
     ∙ ap (λ xs. xs ++ record { stamp = op.stamp; value = document } ∷ []) (filter-whole documents)
 
+-- nothing is alive after a delete of all
 pub alive-delete_all : (schema : List Field) (op : Stamped Op) (documents : List (Stamped DocumentValue)) → op.value ≡ DeleteAll →
     filter (λ (d : Stamped DocumentValue). not (strikes schema op.value d.value)) documents ++ alive schema (op ∷ []) ≡ []
 alive-delete_all schema op documents e =

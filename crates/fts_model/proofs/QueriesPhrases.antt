@@ -13,6 +13,7 @@ use Rattle.fts_model.specs.Queries.{stands_with, leads, phrase_in, PhraseIn}
 some : {X : Type 0} (p : X → Bool) (xs : List X) → list_any p xs ≡ true → (x : X) × Contains xs x × (p x ≡ true)
 some p xs h = let a = Any-from_list_any p xs h in (a.1, (a.0, a.2, a.3), a.4)
 
+-- where a member passes, some member does
 found : {X : Type 0} (p : X → Bool) (xs : List X) (x : X) → Contains xs x → p x ≡ true → list_any p xs ≡ true
 found p xs x h e = list_any-from_Any p xs (h.0, x, h.1, h.2, e)
 
@@ -20,6 +21,7 @@ found p xs x h e = list_any-from_Any p xs (h.0, x, h.1, h.2, e)
 abbrev StandsAt : List (ℕ × List ℕ) → ℤ → ℕ × List ℕ → Type 0
 StandsAt ts shift m = (position : ℕ) × (pos position ≡ shift +ℤ pos m.0) × Contains ts (position, m.1)
 
+-- a member that stands with the first is a token at its offset from where the first is
 stands : (ts : List (ℕ × List ℕ)) (first token other : ℕ × List ℕ) → stands_with ts first token other ≡ true → StandsAt ts (pos token.0 -ℤ pos first.0) other
 stands ts first token other h =
     let at = some (λ t. (t.0 + first.0 == token.0 + other.0) && bytes_eq t.1 other.1) ts h in
@@ -28,6 +30,7 @@ stands ts first token other h =
     let P : ℕ × List ℕ → Type 0 = Contains ts in
     (at.0.0, omega (arith, ints, apart), subst P (ap (λ bs. (at.0.0, bs)) ((bytes_eq-Decides at.0.1 other.1).0 both.1)) at.1)
 
+-- so are all that stand with the first
 all_stand : (ts : List (ℕ × List ℕ)) (first token : ℕ × List ℕ) (others : List (ℕ × List ℕ)) → list_all (stands_with ts first token) others ≡ true →
     All (StandsAt ts (pos token.0 -ℤ pos first.0)) others
 all_stand ts first token [] h = All-nil (StandsAt ts (pos token.0 -ℤ pos first.0))
@@ -35,6 +38,7 @@ all_stand ts first token (other ∷ others) h =
     let both = and_parts (stands_with ts first token other) (list_all (stands_with ts first token) others) h in
     All-cons (StandsAt ts (pos token.0 -ℤ pos first.0)) other others (stands ts first token other both.0) (all_stand ts first token others both.1)
 
+-- a token at its offset from a whole number stands with the first, which is at its own
 stands_from : (ts : List (ℕ × List ℕ)) (first other : ℕ × List ℕ) (position : ℕ) (shift : ℤ) → pos position ≡ shift +ℤ pos first.0 →
     StandsAt ts shift other → stands_with ts first (position, first.1) other ≡ true
 stands_from ts first other position shift e at =
@@ -42,6 +46,7 @@ stands_from ts first other position shift e at =
     found (λ t. (t.0 + first.0 == position + other.0) && bytes_eq t.1 other.1) ts (at.0, other.1) at.2
     (and_from (at.0 + first.0 == position + other.0) (bytes_eq other.1 other.1) (eq-eqb (at.0 + first.0) (position + other.0) apart) ((bytes_eq-Decides other.1 other.1).1 refl))
 
+-- so do all such tokens
 all_from : (ts : List (ℕ × List ℕ)) (first : ℕ × List ℕ) (others : List (ℕ × List ℕ)) (position : ℕ) (shift : ℤ) → pos position ≡ shift +ℤ pos first.0 →
     All (StandsAt ts shift) others → list_all (stands_with ts first (position, first.1)) others ≡ true
 all_from ts first [] position shift e h = refl
@@ -50,6 +55,7 @@ all_from ts first (other ∷ others) position shift e h =
     (stands_from ts first other position shift e (All-head (StandsAt ts shift) other others h))
     (all_from ts first others position shift e (All-tail (StandsAt ts shift) other others h))
 
+-- a phrase that passes the test is in the relation
 relation : (text : List ℕ) (pattern : List (ℕ × List ℕ)) → phrase_in text pattern ≡ true → PhraseIn text pattern
 relation text [] h = (pos 0, All-nil (StandsAt (tokens text) (pos 0)))
 relation text (first ∷ others) h =
@@ -62,6 +68,7 @@ relation text (first ∷ others) h =
     let here : StandsAt ts shift first = (token.0, omega (arith, ints), subst P (ap (λ bs. (token.0, bs)) ((bytes_eq-Decides token.1 first.1).0 both.0)) at.1) in
     (shift, All-cons (StandsAt ts shift) first others here (all_stand ts first token others both.1))
 
+-- a phrase in the relation passes the test
 test : (text : List ℕ) (pattern : List (ℕ × List ℕ)) → PhraseIn text pattern → phrase_in text pattern ≡ true
 test text [] h = refl
 test text (first ∷ others) h =

@@ -13,21 +13,24 @@ use Rattle.fts_model.specs.declared.value.Number.{Number}
 use Rattle.fts_model.specs.declared.operation.Stamped.{Stamped}
 use Rattle.fts_model.specs.Documents.{DocumentValue}
 use Rattle.fts_model.specs.Answers.{number_cmp, number_in_field, numbers_in, count_number, groups, has_number, hits_with, IsGroups}
-use Rattle.fts_model.proofs.ListLemmas.{pairs_behind, pairs_front, pairs_none, Contains-cases, Contains-first, Contains-behind, Contains-none, one_order}
-use Rattle.fts_model.proofs.NumberLemmas.{number_total, number_same, number_above, number_below}
+use Rattle.fts_model.proofs.Lists.{pairs_behind, pairs_front, pairs_none, Contains-cases, Contains-first, Contains-behind, Contains-none, one_order}
+use Rattle.fts_model.proofs.AnswersNumbers.{number_total, number_same, number_above, number_below}
 
 -- how many hits the groups of a number have
 abbrev count_in : List (Number × ℕ) → Number → ℕ
 count_in [] n = 0
 count_in (group ∷ others) n = cond (is_eq (number_cmp n group.0)) group.1 0 + count_in others n
 
+-- the number of one group is below that of another
 abbrev Below : Number × ℕ → Number × ℕ → Type 0
 Below a b = number_cmp a.0 b.0 ≡ Less
 
+-- one more of a group's hits, where it is the group
 one_more : (b : Bool) (n : ℕ) → cond b (n + 1) 0 ≡ cond b n 0 + cond b 1 0
 one_more true n = refl
 one_more false n = refl
 
+-- one hit more is counted for its number alone, however that stands to the first group's
 counted_at : (o : Ordering) (group : Number × ℕ) (others : List (Number × ℕ)) (m n : Number) → number_cmp m group.0 ≡ o →
     count_in (count_number others m) n ≡ count_in others n + cond (is_eq (number_cmp n m)) 1 0 →
     count_in (match_ordering o ((m, 1) ∷ group ∷ others) ((group.0, group.1 + 1) ∷ others) (group ∷ count_number others m)) n
@@ -39,20 +42,24 @@ counted_at Equal group others m n e rest =
     omega (arith, same, more)
 counted_at Greater group others m n e rest = omega (arith, rest)
 
+-- one hit more is counted for its number alone
 count_in-one : (others : List (Number × ℕ)) (m n : Number) → count_in (count_number others m) n ≡ count_in others n + cond (is_eq (number_cmp n m)) 1 0
 count_in-one [] m n = omega arith
 count_in-one (group ∷ others) m n = counted_at (number_cmp m group.0) group others m n refl (count_in-one others m n)
 
+-- each number is counted as often as it comes
 count_in-fold : (others : List (Number × ℕ)) (ms : List Number) (n : Number) →
     count_in (fold count_number others ms) n ≡ count_in others n + count_by (λ m. is_eq (number_cmp n m)) ms
 count_in-fold others [] n = omega arith
 count_in-fold others (m ∷ ms) n =
     omega (arith, count_in-fold (count_number others m) ms n, count_in-one others m n, sum_by-cons (λ m. cond (is_eq (number_cmp n m)) 1 0) m ms)
 
+-- how many pass, with one in front that may not be there
 count_by-option : {X : Type 0} (p : X → Bool) (o : Option X) (xs : List X) → count_by p (cons_option o xs) ≡ cond (option_map_or p o false) 1 0 + count_by p xs
 count_by-option p None xs = omega arith
 count_by-option p (Some x) xs = sum_by-cons (λ x. cond (p x) 1 0) x xs
 
+-- the numbers that are this one are the hits that have it
 count_by-numbers_in : (field : ℕ) (n : Number) (hits : List (Stamped DocumentValue)) →
     count_by (λ m. is_eq (number_cmp n m)) (numbers_in field hits) ≡ hits_with field n hits
 count_by-numbers_in field n [] = refl
@@ -64,9 +71,11 @@ count_by-numbers_in field n (hit ∷ hits) =
       sum_by-cons (λ (h : Stamped DocumentValue). cond (has_number field n h.value) 1 0) hit hits,
     )
 
+-- a number's groups have as many hits as have it
 count_in-groups : (field : ℕ) (n : Number) (hits : List (Stamped DocumentValue)) → count_in (groups field hits) n ≡ hits_with field n hits
 count_in-groups field n hits = count_in-fold [] (numbers_in field hits) n ∙ omega (arith, count_by-numbers_in field n hits)
 
+-- what holds of the groups holds of them with one hit more, however its number stands to the first group's
 all_at : (P : Number × ℕ → Type 0) (o : Ordering) (group : Number × ℕ) (others : List (Number × ℕ)) (m : Number) → ((g : Number × ℕ) → P g → P (g.0, g.1 + 1)) →
     P (m, 1) → P group → All P others → All P (count_number others m) →
     All P (match_ordering o ((m, 1) ∷ group ∷ others) ((group.0, group.1 + 1) ∷ others) (group ∷ count_number others m))
@@ -74,6 +83,7 @@ all_at P Less group others m more p here behind rest = All-cons P (m, 1) (group 
 all_at P Equal group others m more p here behind rest = All-cons P (group.0, group.1 + 1) others (more group here) behind
 all_at P Greater group others m more p here behind rest = All-cons P group (count_number others m) here rest
 
+-- what holds of the groups holds of them with one hit more
 All-count_number : (P : Number × ℕ → Type 0) (others : List (Number × ℕ)) (m : Number) → ((g : Number × ℕ) → P g → P (g.0, g.1 + 1)) →
     P (m, 1) → All P others → All P (count_number others m)
 All-count_number P [] m more p ps = All-cons P (m, 1) [] p (All-nil P)
@@ -81,6 +91,7 @@ All-count_number P (group ∷ others) m more p ps =
     let behind = All-tail P group others ps in
     all_at P (number_cmp m group.0) group others m more p (All-head P group others ps) behind (All-count_number P others m more p behind)
 
+-- groups that rise do so with one hit more, however its number stands to the first group's
 rising_at : (o : Ordering) (group : Number × ℕ) (others : List (Number × ℕ)) (m : Number) → number_cmp m group.0 ≡ o →
     AllPairs Below (group ∷ others) → AllPairs Below (count_number others m) →
     AllPairs Below (match_ordering o ((m, 1) ∷ group ∷ others) ((group.0, group.1 + 1) ∷ others) (group ∷ count_number others m))
@@ -93,19 +104,23 @@ rising_at Greater group others m e rising rest =
     AllPairs-cons Below group (count_number others m)
     (All-count_number (Below group) others m (λ g p. p) (number_below m group.0 e) (pairs_front Below group others rising)) rest
 
+-- groups that rise do so with one hit more
 rising-count_number : (others : List (Number × ℕ)) (m : Number) → AllPairs Below others → AllPairs Below (count_number others m)
 rising-count_number [] m rising = AllPairs-cons Below (m, 1) [] (All-nil (Below (m, 1))) (pairs_none Below)
 rising-count_number (group ∷ others) m rising =
     rising_at (number_cmp m group.0) group others m refl rising (rising-count_number others m (pairs_behind Below group others rising))
 
+-- groups that rise do so with more hits
 rising-fold : (others : List (Number × ℕ)) (ms : List Number) → AllPairs Below others → AllPairs Below (fold count_number others ms)
 rising-fold others [] rising = rising
 rising-fold others (m ∷ ms) rising = rising-fold (count_number others m) ms (rising-count_number others m rising)
 
+-- no group is of no hits
 positive-fold : (others : List (Number × ℕ)) (ms : List Number) → All (λ g. 0 < g.1) others → All (λ g. 0 < g.1) (fold count_number others ms)
 positive-fold others [] ps = ps
 positive-fold others (m ∷ ms) ps = positive-fold (count_number others m) ms (All-count_number (λ g. 0 < g.1) others m (λ g p. omega arith) (omega arith) ps)
 
+-- a number below all groups has no hits in them
 count_in-none : (others : List (Number × ℕ)) (n : Number) → All (λ g. number_cmp n g.0 ≡ Less) others → count_in others n ≡ 0
 count_in-none [] n above = refl
 count_in-none (group ∷ others) n above =
@@ -113,6 +128,7 @@ count_in-none (group ∷ others) n above =
     let here = ap {B = ℕ} (λ o. cond (is_eq o) group.1 0) (All-head P group others above) in
     omega (arith, here, count_in-none others n (All-tail P group others above))
 
+-- the number of the first group has that group's hits
 count_in-here : (group : Number × ℕ) (others : List (Number × ℕ)) (n : Number) → n ≡ group.0 → AllPairs Below (group ∷ others) → count_in (group ∷ others) n ≡ group.1
 count_in-here group others n same rising =
     let equal : number_cmp n group.0 ≡ Equal = ap (λ x. number_cmp x group.0) same ∙ tied_itself number_total group.0 in
@@ -120,6 +136,7 @@ count_in-here group others n same rising =
     let none = ap (count_in others) same ∙ count_in-none others group.0 (pairs_front Below group others rising) in
     omega (arith, here, none)
 
+-- a group that stands there has all hits of its number
 count_in-at : (list : List (Number × ℕ)) (n : Number) (count : ℕ) → AllPairs Below list → Contains list (n, count) → count_in list n ≡ count
 count_in-at [] n count rising at = absurd (Contains-none (n, count) at)
 count_in-at (group ∷ others) n count rising at =
@@ -132,6 +149,7 @@ count_in-at (group ∷ others) n count rising at =
     omega (arith, here, count_in-at others n count (pairs_behind Below group others rising) later))
     (Contains-cases group others (n, count) at)
 
+-- a number with hits has a group, however it stands to the first group's
 there_at : (o : Ordering) (group : Number × ℕ) (others : List (Number × ℕ)) (n : Number) → number_cmp n group.0 ≡ o → AllPairs Below (group ∷ others) →
     (0 < count_in others n → Contains others (n, count_in others n)) → 0 < count_in (group ∷ others) n → Contains (group ∷ others) (n, count_in (group ∷ others) n)
 there_at Less group others n e rising rest some =
@@ -147,6 +165,7 @@ there_at Greater group others n e rising rest some =
     let P : ℕ → Type 0 = λ count. Contains (group ∷ others) (n, count) in
     subst P (sym same) (Contains-behind group others (n, count_in others n) (rest (omega (arith, same, some))))
 
+-- a number with hits has a group
 count_in-there : (list : List (Number × ℕ)) (n : Number) → AllPairs Below list → 0 < count_in list n → Contains list (n, count_in list n)
 count_in-there [] n rising some = absurd (omega (arith, some))
 count_in-there (group ∷ others) n rising some =
@@ -172,6 +191,7 @@ groups-IsGroups field hits =
       );
     }
 
+-- of two numbers only one is below the other
 Below-one_way : (a b : Number × ℕ) → Below a b → Below b a → ⊥
 Below-one_way a b h l = let contra : Less ≡ Greater = sym l ∙ number_above a.0 b.0 h in cc
 

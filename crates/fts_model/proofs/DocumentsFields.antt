@@ -10,14 +10,16 @@ use Rattle.serde_json.specs.Find.{get_member}
 use Rattle.fts_model.specs.declared.refusal.Refusal.{Refusal}
 use Rattle.fts_model.specs.declared.refusal.Refusal.TheVariants.{BadName, NameTwice, TooManyFields}
 use Rattle.fts_model.specs.declared.schema.Field.{Field}
-use Rattle.fts_model.specs.Outcomes.{first_of, error_if_err}
+use Rattle.fts_model.specs.Results.{first_of, error_if_err}
 use Rattle.fts_model.specs.Schemas.{is_name, is_named, field_fault, first_fault, schema_fault}
 use Rattle.fts_model.specs.Documents.{value_in, fault_in_field, member_fault, members_fault}
 
+-- where the first of two faults is none, neither is there
 pub none_of_two : (x y : Option Refusal) → first_of x y ≡ None → (x ≡ None) × (y ≡ None)
 none_of_two None y h = (refl, h)
 none_of_two (Some e) y h = cc
 
+-- a field without a fault passed the second test
 second_test : (a b : Bool) (r : Option Refusal) → cond (not a) (Some BadName) (cond b (Some NameTwice) r) ≡ None → b ≡ false
 second_test true true r h = cc
 second_test true false r h = refl
@@ -27,13 +29,16 @@ second_test false b r h = cc
 pub not_taken : (before : List Field) (field : Field) → field_fault before field ≡ None → list_any (is_named field.name) before ≡ false
 not_taken before field h = second_test (is_name field.name) (list_any (is_named field.name) before) _ h
 
+-- where neither of two is so, each isn't
 pub or_false : (a b : Bool) → (a || b) ≡ false → (a ≡ false) × (b ≡ false)
 or_false true b h = cc
 or_false false b h = (refl, h)
 
+-- where each of two isn't so, neither is
 pub both_false : (a b : Bool) → a ≡ false → b ≡ false → (a || b) ≡ false
 both_false a b h k = cc
 
+-- no member of a list with one more passes where none of the list does, and not the one
 pub none_of_more : (p : Field → Bool) (xs : List Field) (y : Field) → list_any p (xs ++ y ∷ []) ≡ false → (list_any p xs ≡ false) × (p y ≡ false)
 none_of_more p [] y h = (refl, (or_false (p y) false h).0)
 none_of_more p (x ∷ xs) y h =
@@ -51,6 +56,7 @@ others_before before (f ∷ fs) h zero field e =
 others_before before (f ∷ fs) h (suc k) field e =
     (none_of_more (is_named field.name) before f (others_before (before ++ f ∷ []) fs (none_of_two _ _ h).1 k field e)).0
 
+-- a field that has the name is found
 found_at : (b : Bool) (f : Field) (r : Option Field) (g : Field) → b ≡ true → f ≡ g → cond b (Some f) r ≡ Some g
 found_at true f r g h e = ap Some e
 found_at false f r g h e = cc
@@ -66,6 +72,7 @@ found_itself before (f ∷ fs) h (suc k) field e =
     let other = (none_of_more (is_named field.name) before f (others_before (before ++ f ∷ []) fs (none_of_two _ _ h).1 k field e)).1 in
     ap (λ b. cond b (Some f) (find (is_named field.name) fs)) other ∙ found_itself (before ++ f ∷ []) fs (none_of_two _ _ h).1 k field e
 
+-- a schema's fields are not too many
 no_fault_left : (b : Bool) (r : Option Refusal) → cond b (Some TooManyFields) r ≡ None → r ≡ None
 no_fault_left true r h = cc
 no_fault_left false r h = h
@@ -80,6 +87,7 @@ pub find_by_name : (fields : List Field) → schema_fault fields ≡ None →
     (k : ℕ) (field : Field) → slice_get fields k ≡ Some field → find (is_named field.name) fields ≡ Some field
 find_by_name fields h = found_itself [] fields (no_field_fault fields h)
 
+-- a member that is found has no fault, however its name stands to the first one's
 member_at : (fields : List Field) (name key : List ℕ) (value found : Data) (rest : Option Data) (o : Ordering) →
     slice_cmp nat_cmp name key ≡ o → match_ordering o rest (Some value) rest ≡ Some found →
     member_fault fields key value ≡ None → (rest ≡ Some found → member_fault fields name found ≡ None) →

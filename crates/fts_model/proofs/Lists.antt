@@ -9,6 +9,7 @@ pairs_behind R x xs h i j d lt within = h (suc i) (suc j) d (omega (arith, lt)) 
 pub pairs_front : {X : Type 0} (R : X → X → Type 0) (x : X) (xs : List X) → AllPairs R (x ∷ xs) → All (R x) xs
 pairs_front R x xs h k d within = h 0 (suc k) d (omega arith) (omega (arith, within))
 
+-- no list has no pairs
 pub pairs_none : {X : Type 0} (R : X → X → Type 0) → AllPairs R []
 pairs_none R i j d lt within = absurd (omega (arith, within))
 
@@ -17,15 +18,19 @@ pub Contains-cases : {X : Type 0} (y : X) (ys : List X) (z : X) → Contains (y 
 Contains-cases y ys z (zero, within, e) = inl e
 Contains-cases y ys z (suc k, within, e) = inr (k, omega (arith, within), e)
 
+-- the first member is one
 pub Contains-first : {X : Type 0} (y : X) (ys : List X) (z : X) → y ≡ z → Contains (y ∷ ys) z
 Contains-first y ys z e = (0, omega arith, e)
 
+-- a member behind the first is one
 pub Contains-behind : {X : Type 0} (y : X) (ys : List X) (z : X) → Contains ys z → Contains (y ∷ ys) z
 Contains-behind y ys z h = (suc h.0, omega (arith, h.1), h.2)
 
+-- an empty list has no member
 pub Contains-none : {X : Type 0} (z : X) → Contains [] z → ⊥
 Contains-none z h = omega (arith, h.1)
 
+-- two lists in one strict order with the same members begin with the same one
 first_is : {X : Type 0} (R : X → X → Type 0) → ((a b : X) → R a b → R b a → ⊥) → (x y : X) (xs ys : List X) → AllPairs R (x ∷ xs) → AllPairs R (y ∷ ys) →
     Contains (y ∷ ys) x → Contains (x ∷ xs) y → x ≡ y
 first_is R one_way x y xs ys p q h l =
@@ -37,6 +42,7 @@ first_is R one_way x y xs ys p q h l =
     (Contains-cases x xs y l))
     (Contains-cases y ys x h)
 
+-- the members behind the first of one list stand behind that of the other
 others_behind : {X : Type 0} (R : X → X → Type 0) → ((a b : X) → R a b → R b a → ⊥) → (x y : X) (xs ys : List X) → AllPairs R (x ∷ xs) → x ≡ y →
     ((z : X) → Contains (x ∷ xs) z → Contains (y ∷ ys) z) → (z : X) → Contains xs z → Contains ys z
 others_behind {X} R one_way x y xs ys p same h z at =
@@ -61,6 +67,7 @@ one_order R one_way (x ∷ xs) (y ∷ ys) p q h l =
     (others_behind R one_way x y xs ys p same h) (others_behind R one_way y x ys xs q (sym same) l) in
     ap (λ z. z ∷ xs) same ∙ ap (λ zs. y ∷ zs) rest
 
+-- what a filter keeps is a member that passes, whether the first passes or not
 kept_cases : {X : Type 0} (p : X → Bool) (x : X) (xs : List X) (b : Bool) (z : X) → p x ≡ b → (Contains (filter p xs) z → Contains xs z × (p z ≡ true)) →
     Contains (cond b (x ∷ filter p xs) (filter p xs)) z → Contains (x ∷ xs) z × (p z ≡ true)
 kept_cases p x xs true z e rest h =
@@ -74,6 +81,7 @@ pub Contains-from_filter : {X : Type 0} (p : X → Bool) (xs : List X) (z : X) �
 Contains-from_filter p [] z h = absurd (Contains-none z h)
 Contains-from_filter p (x ∷ xs) z h = kept_cases p x xs (p x) z refl (Contains-from_filter p xs z) h
 
+-- a filter keeps a member that passes, whether the first passes or not
 keeps : {X : Type 0} (p : X → Bool) (x : X) (xs : List X) (b : Bool) (z : X) → p x ≡ b → p z ≡ true → (x ≡ z) ⊎ Contains (filter p xs) z →
     Contains (cond b (x ∷ filter p xs) (filter p xs)) z
 keeps p x xs true z e passes h =
