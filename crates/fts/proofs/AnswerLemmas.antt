@@ -14,7 +14,7 @@ use Rattle.fts_model.specs.declared.value.FieldValue.TheVariants as values
 use Rattle.fts_model.specs.declared.answer.Hit.{Hit}
 use Rattle.fts_model.specs.Documents.{data_of, with_value, with_values}
 use Rattle.fts_model.specs.Answers.{AnswerValue}
-use Rattle.fts_model.proofs.Fields.{or_false}
+use Rattle.fts_model.proofs.DocumentsFields.{or_false}
 use Rattle.fts.specs.Replies.{groups_data, hits_data, list_member, answer_data}
 
 -- what values are, in front of others

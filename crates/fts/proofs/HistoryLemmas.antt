@@ -7,7 +7,7 @@ use Rattle.fts_model.specs.declared.operation.Op.{Op}
 use Rattle.fts_model.specs.declared.operation.Stamped.{Stamped}
 use Rattle.fts_model.specs.Documents.{DocumentValue}
 use Rattle.fts_model.specs.Operations.{alive, adds}
-use Rattle.fts_model.proofs.AliveLemmas.{alive-history}
+use Rattle.fts_model.proofs.OperationsAlive.{alive-history}
 use Rattle.fts.specs.Carriers.{Carrier}
 use Rattle.fts.specs.Indexes.{Index, indexes, stamp_after}
 use Rattle.fts.specs.Histories.{Accepted, Submitted, Committed, RolledBack, take_back, Kept, Operation, CommitPoint, kept, is_commit, up_to_commit, since_commit, stamped_from, History, and_then, histories}

@@ -13,7 +13,7 @@ use Rattle.fts_model.specs.declared.value.FieldValue.{FieldValue}
 use Rattle.fts_model.specs.Results.{result_and_then, result_map}
 use Rattle.fts_model.specs.Schemas.{field_named, holds_numbers}
 use Rattle.fts_model.specs.Documents.{is_of_kind}
-use Rattle.fts_model.specs.Operations.{kind_at, term_fits}
+use Rattle.fts_model.specs.Operations.{kind_at}
 use Rattle.fts_model.specs.Queries.{query_fits, all_fit, holds_phrases, is_range_of, is_bound_of}
 use Rattle.fts_query.specs.declared.error.QueryError.{QueryError}
 use Rattle.fts_query.specs.declared.error.QueryError.TheVariants.{BadNumber, UnknownField}
@@ -27,6 +27,7 @@ use Rattle.fts_model.specs.declared.value.Number.TheVariants as numbers
 use Rattle.fts_model.specs.declared.value.FieldValue.TheVariants as values
 use Rattle.fts_query.specs.Grammar
 
+-- two tests that hold
 both_true : {a b : Bool} → a ≡ true → b ≡ true → (a && b) ≡ true
 both_true p q = cc
 
@@ -43,28 +44,35 @@ slice_get-drop {X = X} xs ys i y e =
     ]
 
 module _ (schema : List Field) where
+  -- a query fits
   abbrev fits : QueryValue → Type 0
   fits q = query_fits schema q ≡ true
 
+  -- queries fit
   abbrev fit : List QueryValue → Type 0
   fit qs = all_fit schema (query_list qs) ≡ true
 
+  -- a query fits, if there is no error
   abbrev pub MeaningFits : Meaning → Type 0
   MeaningFits (Ok q) = fits q
   MeaningFits (Err e) = Unit {0}
 
+  -- clauses fit
   abbrev ClausesFit : List Clause → Type 0
   ClausesFit [] = Unit {0}
   ClausesFit (c ∷ cs) = MeaningFits c.1 × ClausesFit cs
 
+  -- factors fit
   abbrev FactorsFit : List Factor → Type 0
   FactorsFit [] = Unit {0}
   FactorsFit (f ∷ fs) = MeaningFits f.1 × FactorsFit fs
 
+  -- the factors of conjunctions fit
   abbrev DisjunctionFits : List (List Factor) → Type 0
   DisjunctionFits [] = Unit {0}
   DisjunctionFits (c ∷ cs) = FactorsFit c × DisjunctionFits cs
 
+  -- the factors of disjunctions fit
   abbrev ListFits : List (List (List Factor)) → Type 0
   ListFits [] = Unit {0}
   ListFits (c ∷ cs) = DisjunctionFits c × ListFits cs
@@ -74,6 +82,7 @@ module _ (schema : List Field) where
   MembersFit (Err e) = Unit {0}
   MembersFit (Ok qs) = fit (musts qs) × fit (must_nots qs) × fit (shoulds qs)
 
+  -- a member more
   cons_fits : (occur : Occur) (m : Meaning) (r : Result (List (Occur × QueryValue)) QueryError) → MeaningFits m → MembersFit r → MembersFit (result_and_then (λ q. result_map (λ qs. (occur, q) ∷ qs) r) m)
   cons_fits occur (Err e) r a b = tt
   cons_fits occur (Ok q) (Err e) a b = tt
@@ -81,37 +90,46 @@ module _ (schema : List Field) where
   cons_fits MustNot (Ok q) (Ok qs) a b = (b.0, both_true a b.1, b.2)
   cons_fits Should (Ok q) (Ok qs) a b = (b.0, b.1, both_true a b.2)
 
+  -- the members of clauses that fit
   members_fit : (cs : List Clause) → ClausesFit cs → MembersFit (members cs)
   members_fit [] h = (refl, refl, refl)
   members_fit (c ∷ cs) h = cons_fits c.0 c.1 (members cs) h.0 (members_fit cs h.1)
 
+  -- a node of members that fit
   boolean_fits : (ms ns ss : List QueryValue) → fit ms → fit ns → fit ss → MeaningFits (boolean_of ms ns ss)
   boolean_fits [] ns [] a b c = tt
   boolean_fits [] ns (q ∷ ss) a b c = both_true (both_true a b) c
   boolean_fits (q ∷ ms) ns ss a b c = both_true (both_true a b) c
 
+  -- a node of members, or their error
   joined_fits : (r : Result (List (Occur × QueryValue)) QueryError) → MembersFit r → MeaningFits (result_and_then (λ qs. boolean_of (musts qs) (must_nots qs) (shoulds qs)) r)
   joined_fits (Err e) h = tt
   joined_fits (Ok qs) h = boolean_fits (musts qs) (must_nots qs) (shoulds qs) h.0 h.1 h.2
 
+  -- a node of clauses that fit
   node_fits : (cs : List Clause) → ClausesFit cs → MeaningFits (node cs)
   unfolding node
   node_fits cs h = joined_fits (members cs) (members_fit cs h)
 
+  -- the clauses of a conjunction fit
   factor_clauses_fit : (fs : List Factor) → FactorsFit fs → ClausesFit (map (λ f. (occur_in_conjunction f.0, f.1)) fs)
   factor_clauses_fit [] h = tt
   factor_clauses_fit (f ∷ fs) h = (h.0, factor_clauses_fit fs h.1)
 
+  -- a conjunction fits
   conjunction_fits : (fs : List Factor) → FactorsFit fs → MeaningFits (conjunction fs)
   conjunction_fits fs h = node_fits _ (factor_clauses_fit fs h)
 
+  -- the clauses of a disjunction fit
   alternatives_fit : (cs : List (List Factor)) → DisjunctionFits cs → ClausesFit (map (λ fs. (Should, conjunction fs)) cs)
   alternatives_fit [] h = tt
   alternatives_fit (c ∷ cs) h = (conjunction_fits c h.0, alternatives_fit cs h.1)
 
+  -- a disjunction fits
   disjunction_fits : (cs : List (List Factor)) → DisjunctionFits cs → MeaningFits (disjunction cs)
   disjunction_fits cs h = node_fits _ (alternatives_fit cs h)
 
+  -- what a disjunction is to its list fits
   disjunction_clause_fits : (cs : List (List Factor)) → DisjunctionFits cs → MeaningFits (disjunction_clause cs).1
   unfolding disjunction_clause
   disjunction_clause_fits [] h = disjunction_fits [] h
@@ -120,10 +138,12 @@ module _ (schema : List Field) where
   disjunction_clause_fits ((f ∷ g ∷ fs) ∷ []) h = conjunction_fits (f ∷ g ∷ fs) h.0
   disjunction_clause_fits (c ∷ d ∷ cs) h = disjunction_fits (c ∷ d ∷ cs) h
 
+  -- the clauses of a list fit
   disjunction_clauses_fit : (cs : List (List (List Factor))) → ListFits cs → ClausesFit (map disjunction_clause cs)
   disjunction_clauses_fit [] h = tt
   disjunction_clauses_fit (c ∷ cs) h = (disjunction_clause_fits c h.0, disjunction_clauses_fit cs h.1)
 
+  -- a list fits
   list_meaning_fits : (cs : List (List (List Factor))) → ListFits cs → MeaningFits (list_meaning cs)
   unfolding list_meaning
   list_meaning_fits cs h = node_fits _ (disjunction_clauses_fit cs h)
@@ -133,20 +153,24 @@ module _ (schema : List Field) where
   ValueFits kind (Ok v) = is_of_kind kind v ≡ true
   ValueFits kind (Err e) = Unit {0}
 
+  -- a `u64` value fits
   unsigned_fits : (o : Option ℕ) → ValueFits kinds.U64 (option_map_or (λ n. Ok (values.Number n)) (option_map numbers.U64 o) (Err BadNumber))
   unsigned_fits None = tt
   unsigned_fits (Some n) = refl
 
+  -- a value fits a field of its kind
   field_fits : (field : ℕ) (kind : Kind) → kind_at schema field ≡ Some kind → (r : Result FieldValue QueryError) → ValueFits kind r → MeaningFits (result_map (with_value field) r)
   field_fits field kind e (Err f) h = tt
   field_fits field kind e (Ok v) h = ap (λ (o : Option Kind). option_map_or (λ k. is_of_kind k v) o false) e ∙ h
 
+  -- an `i64` value fits
   signed_fits : (b : Bool) (o p : Option ℕ) → ValueFits kinds.I64 (option_map_or (λ n. Ok (values.Number n)) (if b then option_map (λ n. numbers.I64 (neg_ℤ (pos n))) o else option_map (λ n. numbers.I64 (pos n)) p) (Err BadNumber))
   signed_fits true None p = tt
   signed_fits true (Some n) p = refl
   signed_fits false o None = tt
   signed_fits false o (Some n) = refl
 
+  -- a value of a number field fits
   value_fits : (kind : Kind) (text : List ℕ) → ValueFits kind (value_in kind text)
   value_fits kinds.Text text = tt
   value_fits kinds.Keyword text = tt
@@ -159,6 +183,7 @@ module _ (schema : List Field) where
   tokens_fit field (t ∷ []) e = ap (λ (o : Option Kind). option_map_or (λ k. is_of_kind k (values.Text t.1)) o false) e
   tokens_fit field (t ∷ u ∷ ts) e = both_true (ap (λ (o : Option Kind). option_map_or holds_phrases o false) e) refl
 
+  -- a literal fits a field
   literal_fits : (field : ℕ) (kind : Kind) (text : List ℕ) → kind_at schema field ≡ Some kind → MeaningFits (literal_in field kind text)
   literal_fits field kinds.Text text e = tokens_fit field (tokens text) e
   literal_fits field kinds.Keyword text e = ap (λ (o : Option Kind). option_map_or (λ k. is_of_kind k (values.Text text)) o false) e
@@ -177,10 +202,12 @@ module _ (schema : List Field) where
         | inr d ↦ rw d more
       ]
 
+  -- a node of default fields fits
   some_default_fits : (cs : List Clause) → ClausesFit cs → MeaningFits (some_default cs)
   some_default_fits [] h = tt
   some_default_fits (c ∷ cs) h = node_fits (c ∷ cs) h
 
+  -- a literal without a field fits
   anywhere_fits : (text : List ℕ) → MeaningFits (literal_anywhere schema text)
   unfolding literal_anywhere
   anywhere_fits text = some_default_fits (default_clauses 0 schema text) (defaults_fit 0 schema text refl)
@@ -190,22 +217,26 @@ module _ (schema : List Field) where
   BoundFits kind (Ok b) = is_bound_of kind b ≡ true
   BoundFits kind (Err e) = Unit {0}
 
+  -- a bound that is taken in fits
   included_fits : (kind : Kind) (r : Result FieldValue QueryError) → ValueFits kind r → BoundFits kind (result_map Included r)
   unfolding BoundFits
   included_fits kind (Ok v) h = h
   included_fits kind (Err e) h = tt
 
+  -- a bound that is left out fits
   excluded_fits : (kind : Kind) (r : Result FieldValue QueryError) → ValueFits kind r → BoundFits kind (result_map Excluded r)
   unfolding BoundFits
   excluded_fits kind (Ok v) h = h
   excluded_fits kind (Err e) h = tt
 
+  -- a bound fits
   bound_fits : (kind : Kind) (b : Bound (List ℕ)) → BoundFits kind (bound_in kind b)
   unfolding BoundFits
   bound_fits kind (Included text) = included_fits kind (value_in kind text) (value_fits kind text)
   bound_fits kind (Excluded text) = excluded_fits kind (value_in kind text) (value_fits kind text)
   bound_fits kind Unbounded = refl
 
+  -- two bounds fit
   bounds_fit : (field : ℕ) (kind : Kind) → kind_at schema field ≡ Some kind → holds_numbers kind ≡ true → (low high : Result (Bound FieldValue) QueryError) → BoundFits kind low → BoundFits kind high
       → MeaningFits (result_and_then (λ l. result_map (range field l) high) low)
   unfolding BoundFits
@@ -213,6 +244,7 @@ module _ (schema : List Field) where
   bounds_fit field kind e n (Ok l) (Err f) a b = tt
   bounds_fit field kind e n (Ok l) (Ok h) a b = ap (λ (o : Option Kind). option_map_or (is_range_of l h) o false) e ∙ both_true (both_true n a) b
 
+  -- what stands after a field fits it
   meaning_fits : (field : ℕ) (kind : Kind) (v : Value) → kind_at schema field ≡ Some kind → MeaningFits (meaning_in field kind v)
   meaning_fits field kind (literal text) e = literal_fits field kind text e
   meaning_fits field kind (between lower upper) e =
@@ -221,19 +253,23 @@ module _ (schema : List Field) where
         | inr n ↦ rw n tt
       ]
 
+  -- what stands after a number of a field fits
   at_fits : (v : Value) (field : ℕ) (o : Option Kind) → kind_at schema field ≡ o → MeaningFits (option_map_or (λ kind. meaning_in field kind v) o (Err UnknownField))
   at_fits v field None e = tt
   at_fits v field (Some kind) e = meaning_fits field kind v e
 
+  -- what stands after a name fits
   named_fits : (v : Value) (o : Option ℕ) → MeaningFits (option_map_or (meaning_at schema v) o (Err UnknownField))
   named_fits v None = tt
   named_fits v (Some field) = at_fits v field (kind_at schema field) refl
 
+  -- a field and what stands after it fit
   field_meaning_fits : (name : List ℕ) (v : Value) → MeaningFits (field_meaning schema name v)
   unfolding field_meaning
   field_meaning_fits name v = named_fits v (field_named name schema)
 
   mutual
+    -- a unit fits
     unit_fits : {s : List ℕ} {m : Meaning} → IsUnit schema s m → MeaningFits m
     unit_fits (Grammar.group v s w cs a l b) = list_meaning_fits cs (list_fits l)
     unit_fits Grammar.all = refl
@@ -241,20 +277,25 @@ module _ (schema : List Field) where
     unit_fits (Grammar.quoted text) = anywhere_fits _
     unit_fits (Grammar.field w s {v = v} b i) = field_meaning_fits _ v
 
+    -- a factor fits
     factor_fits : {s : List ℕ} {f : Factor} → IsFactor schema s f → MeaningFits f.1
     factor_fits (Grammar.factor v s a u) = unit_fits u
 
+    -- the factors of a conjunction fit
     factors_fit : {s : List ℕ} {fs : List Factor} → IsConjunction schema s fs → FactorsFit fs
     factors_fit (Grammar.one f) = (factor_fits f, tt)
     factors_fit (Grammar.both s w t f o c) = (factor_fits f, factors_fit c)
 
+    -- the factors of a disjunction fit
     conjunctions_fit : {s : List ℕ} {cs : List (List Factor)} → IsDisjunction schema s cs → DisjunctionFits cs
     conjunctions_fit (Grammar.conjunction c) = (factors_fit c, tt)
     conjunctions_fit (Grammar.either s w t c o l) = (factors_fit c, conjunctions_fit l)
 
+    -- the factors of a list fit
     list_fits : {s : List ℕ} {cs : List (List (List Factor))} → IsList schema s cs → ListFits cs
     list_fits (Grammar.single c) = (conjunctions_fit c, tt)
     list_fits (Grammar.several s w t c a l) = (conjunctions_fit c, list_fits l)
 
+  -- a query fits
   pub query_meaning_fits : {s : List ℕ} {m : Meaning} → IsQuery schema s m → MeaningFits m
   query_meaning_fits q = subst MeaningFits (sym q.means) (list_meaning_fits q.disjunctions (list_fits q.list))

@@ -26,6 +26,7 @@ distances from ts = map (λ t. (t.0 - from, t.1)) ts
 abbrev pub member : List ℕ → ℕ → Token → ℕ × List ℕ
 member text from place = ((token_at text place).0 - from, (token_at text place).1)
 
+-- the members of a pattern are its tokens with their distances
 map-member : (text : List ℕ) (from : ℕ) (ps : List Token) → map (member text from) ps ≡ distances from (map (token_at text) ps)
 map-member text from [] = refl
 map-member text from (p ∷ ps) = ap (λ (l : List (ℕ × List ℕ)). member text from p ∷ l) (map-member text from ps)
@@ -35,6 +36,7 @@ pub record Gathers (text : List ℕ) (from : ℕ) (done : List (ℕ × List ℕ)
   pub within : All (IsPlaceIn text) left
   pub members : done ++ map (member text from) left ≡ distances from (tokens text)
 
+-- no member is gathered at first
 pub Gathers-start : (text : List ℕ) (from : ℕ) (done : List (ℕ × List ℕ)) (left : List Token) → IsUtf8 text → done ≡ [] → left ≡ places text → Gathers text from done left
 Gathers-start text from done left u e start =
     let P : List Token → Type 0 = All (IsPlaceIn text) in
@@ -43,9 +45,11 @@ Gathers-start text from done left u e start =
       members = ap (λ (d : List (ℕ × List ℕ)). d ++ map (member text from) left) e ∙ ap (map (member text from)) start ∙ map-member text from (places text) ∙ ap (distances from) (tokens-places text u);
     }
 
+-- the next place is one of the text
 pub Gathers-place : (text : List ℕ) (from : ℕ) (done : List (ℕ × List ℕ)) (place : Token) (left rest : List Token) → left ≡ place ∷ rest → Gathers text from done left → IsPlaceIn text place
 Gathers-place text from done place left rest first g = (IsPlaceIn-first text place left rest first g.within).0
 
+-- a member more
 pub Gathers-next : (text : List ℕ) (from : ℕ) (done more : List (ℕ × List ℕ)) (place : Token) (left rest : List Token) → left ≡ place ∷ rest → more ≡ done ++ member text from place ∷ [] → Gathers text from done left → Gathers text from more rest
 Gathers-next text from done more place left rest first e g = record {
   within = (IsPlaceIn-first text place left rest first g.within).1;
@@ -53,6 +57,7 @@ Gathers-next text from done more place left rest first e g = record {
       ∙ ap (λ (l : List Token). done ++ map (member text from) l) (sym first) ∙ g.members;
 }
 
+-- all members are gathered
 pub Gathers-none : (text : List ℕ) (from : ℕ) (done : List (ℕ × List ℕ)) (left : List Token) → left ≡ [] → Gathers text from done left → done ≡ distances from (tokens text)
 Gathers-none text from done left none g = sym (append-nil done) ∙ ap (λ (l : List Token). done ++ map (member text from) l) (sym none) ∙ g.members
 
@@ -60,16 +65,20 @@ Gathers-none text from done left none g = sym (append-nil done) ∙ ap (λ (l : 
 pub position_fits : (text : List ℕ) (place : Token) (from : ℕ) → length text ≤ 4096 → IsPlaceIn text place → place.position - from < 2 ^ 32
 position_fits text place from short at = omega (arith, at.nonempty, at.within, at.numbered)
 
+-- the tokens of a text are at its places
 tokens_of : (text : List ℕ) (left : List Token) → IsUtf8 text → left ≡ places text → tokens text ≡ map (token_at text) left
 tokens_of text left u start = sym (tokens-places text u) ∙ ap (map (token_at text)) (sym start)
 
+-- a text without a token
 pub no_token : (field : ℕ) (text : List ℕ) (left : List Token) → IsUtf8 text → left ≡ places text → left ≡ [] → with_tokens field (tokens text) ≡ nothing
 no_token field text left u start none = ap (with_tokens field) (tokens_of text left u start ∙ ap (map (token_at text)) none)
 
+-- a text of one token
 pub one_token : (field : ℕ) (text : List ℕ) (left rest : List Token) (first : Token) → IsUtf8 text → left ≡ places text → left ≡ first ∷ rest → rest ≡ [] → with_tokens field (tokens text) ≡ with_value field (values.Text (token_at text first).1)
 one_token field text left rest first u start cons none =
     ap (with_tokens field) (tokens_of text left u start ∙ ap (map (token_at text)) (cons ∙ ap (λ (l : List Token). first ∷ l) none))
 
+-- a text of two tokens or more
 pub more_tokens : (field : ℕ) (text : List ℕ) (left rest others : List Token) (first second : Token) → IsUtf8 text → left ≡ places text → left ≡ first ∷ rest → rest ≡ second ∷ others → with_tokens field (tokens text) ≡ phrase field (distances first.position (tokens text))
 more_tokens field text left rest others first second u start cons more =
     let e : tokens text ≡ token_at text first ∷ token_at text second ∷ map (token_at text) others = tokens_of text left u start ∙ ap (map (token_at text)) (cons ∙ ap (λ (l : List Token). first ∷ l) more) in
@@ -85,6 +94,7 @@ first_place text left rest first u start cons =
 abbrev pub is_default : Field → Bool
 is_default f = f.default
 
+-- without a default field there are no clauses
 no_clauses : (i : ℕ) (fields : List Field) (text : List ℕ) → list_any is_default fields ≡ false → default_clauses i fields text ≡ []
 no_clauses i [] text e = refl
 no_clauses i (field ∷ fields) text e =
@@ -93,6 +103,7 @@ no_clauses i (field ∷ fields) text e =
       | inr d ↦ let h : list_any is_default fields ≡ false = rw d at e in rw d (no_clauses (i + 1) fields text h)
     ]
 
+-- with a default field there are clauses
 some_clauses : (i : ℕ) (fields : List Field) (text : List ℕ) → list_any is_default fields ≡ true → (c : Clause) × (cs : List Clause) × (default_clauses i fields text ≡ c ∷ cs)
 some_clauses i [] text e = absurd (let h = e in cc)
 some_clauses i (field ∷ fields) text e =
@@ -101,10 +112,12 @@ some_clauses i (field ∷ fields) text e =
       | inr d ↦ let h : list_any is_default fields ≡ true = rw d at e in rw d (some_clauses (i + 1) fields text h)
     ]
 
+-- a literal without a default field
 pub no_default : (fields : List Field) (text : List ℕ) → list_any is_default fields ≡ false → literal_anywhere fields text ≡ Err NoDefaultField
 unfolding literal_anywhere
 no_default fields text e = ap some_default (no_clauses 0 fields text e)
 
+-- a literal in the default fields
 pub defaults : (fields : List Field) (text : List ℕ) (i : ℕ) (g : Gathered) → list_any is_default fields ≡ true → length fields ≤ i
     → gather_all g (default_clauses i (drop i fields) text) ≡ gather_all nothing_gathered (default_clauses 0 fields text) → gathered_node g ≡ literal_anywhere fields text
 unfolding literal_anywhere
@@ -115,10 +128,12 @@ defaults fields text i g e l h =
     let whole : some_default (default_clauses 0 fields text) ≡ node (s.0 ∷ s.1) = ap some_default s.2 in
     ap gathered_node all ∙ gathered_node-all (default_clauses 0 fields text) ∙ ap node s.2 ∙ sym whole
 
+-- a number grows with its digits
 pub grows : (n : ℕ) (w : List ℕ) → n ≤ decimal_after n w
 grows n [] = omega arith
 grows n (c ∷ w) = omega (arith, grows (n * 10 + (c - 48)) w)
 
+-- a number at its limit or beyond is none
 pub too_large : (limit : ℕ) (w : List ℕ) → limit ≤ decimal w → number_below limit w ≡ None
 unfolding number_below
 too_large limit w h =
@@ -126,9 +141,11 @@ too_large limit w h =
     let e : (are_digits w && ltb (decimal w) limit) ≡ false = and_right _ _ k in
     rw e refl
 
+-- a number that overflows is none
 pub overflows : (n : ℕ) (w all : List ℕ) → decimal_after n w ≡ decimal all → 2 ^ 64 ≤ n → number_below (2 ^ 64) all ≡ None
 overflows n w all e h = too_large (2 ^ 64) all (omega (arith, grows n w))
 
+-- one digit or more
 are_digits-nonempty : (w : List ℕ) → (length w == 0) ≡ false → are_digits w ≡ list_all is_digit w
 are_digits-nonempty [] h = absurd (let k = h in cc)
 are_digits-nonempty (c ∷ w) h = refl
@@ -143,14 +160,16 @@ whole_is all [] n l e d k h =
     rw (b, a, t) refl
 whole_is all (c ∷ rest) n l e d k h = absurd (omega arith)
 
--- the same under a smaller limit
+-- a number below a smaller limit
 module _ (limit : ℕ) (text : List ℕ) (small : limit ≤ 2 ^ 64) where
+  -- a number that was found
   found : (n : ℕ) → number_below (2 ^ 64) text ≡ Some n → (are_digits text ≡ true) × (decimal text ≡ n)
   unfolding number_below
   found n e =
       let c = cond_some (are_digits text && ltb (decimal text) (2 ^ 64)) (decimal text) n e in
       ((and_parts (are_digits text) (ltb (decimal text) (2 ^ 64)) c.0).0, c.1)
 
+  -- a number that was found below a smaller limit
   pub smaller_found : (n : ℕ) → number_below (2 ^ 64) text ≡ Some n → n < limit → number_below limit text ≡ Some n
   unfolding number_below
   smaller_found n e l =
@@ -160,9 +179,11 @@ module _ (limit : ℕ) (text : List ℕ) (small : limit ≤ 2 ^ 64) where
       let t : ltb n limit ≡ true = lt-ltb _ _ l in
       rw (a, d, t) refl
 
+  -- a number that was found beyond a smaller limit
   pub smaller_beyond : (n : ℕ) → number_below (2 ^ 64) text ≡ Some n → limit ≤ n → number_below limit text ≡ None
   smaller_beyond n e l = too_large limit text (let f = found n e in omega arith)
 
+  -- no number is none below a smaller limit
   pub smaller_none : number_below (2 ^ 64) text ≡ None → number_below limit text ≡ None
   unfolding number_below
   smaller_none e =

@@ -1,7 +1,8 @@
 -- What stands at the front of a text: white space, words, quoted texts, units.
-use Rattle.std.proofs.Common.{◌≡◌, ℕ, Bool, true, false, not, ◌||◌, ◌⊎◌, cond, List, [], ◌∷◌, ◌++◌, codes, Option, Some, None, refl, sym, ap, ◌∙◌, arith, inl, inr, zero, suc, ◌+◌, ◌-◌, ◌*◌, ◌≤◌, length, take, drop, subst, length-append, append_assoc, Ok}
-use Rattle.std.specs.Prelude.{◌==◌}
-use Rattle.std.specs.List.{list_all}
+use Rattle.std.proofs.Common.{take-append-drop, ◌≡◌, ℕ, Bool, true, false, not, ◌||◌, ◌⊎◌, cond, List, [], ◌∷◌, ◌++◌, codes, Option, Some, None, refl, sym, ap, ◌∙◌, arith, inl, inr, zero, suc, ◌+◌, ◌-◌, ◌*◌, ◌≤◌, length, take, drop, subst, length-append, append_assoc, Ok}
+use Rattle.std.specs.Prelude.{◌==◌, take_while}
+use Rattle.std.specs.List.{list_all, prefix_len}
+use Rattle.std.proofs.lemmas.List.Sums.{take_while-cons}
 use Rattle.std.specs.Str.{encode_utf8_all, bytes_eq, chars, chars_after, continuation_len, lead_bits, IsUtf8, IsCharBoundary}
 use Rattle.std.proofs.lemmas.Bool.{and_parts, and_from, or_cases, cases_Bool, eqb-true, not-true, or_parts, ne_eqb}
 use Rattle.std.proofs.lemmas.Option.{same_Some}
@@ -10,7 +11,7 @@ use Rattle.std.proofs.lemmas.Str.{encodes_same, chars_past_char, encodes-append,
 use lib.Utf8.{encode}
 use Rattle.fts_model.specs.Schemas.{is_reserved}
 use Rattle.fts_query.specs.Grammar.{is_space, is_word_char, IsBlank, IsSpace, piece, quoted_text}
-use Rattle.fts_query.specs.Reading.{skip, run, past, word, begins_space, unquoted, char_onto, in_bytes, group_of, quoted_literal_of, bare_of, unit_by, unit_of}
+use Rattle.fts_query.specs.Reading.{word, begins_space, unquoted, char_onto, in_bytes, group_of, quoted_literal_of, bare_of, unit_by, unit_of, skip_while}
 use Rattle.std.specs.Char.{encode_utf8}
 use Rattle.std.proofs.lemmas.List.{take_at, drop_at}
 use Rattle.fts_model.specs.declared.schema.Field.{Field}
@@ -37,22 +38,27 @@ bytes_eq-encoded w name p =
       ]
     ]
 
+-- `AND` is its own spelling
 pub plain_and : IsPlain (codes "AND")
 unfolding encode
 plain_and = refl
 
+-- `OR` is its own spelling
 pub plain_or : IsPlain (codes "OR")
 unfolding encode
 plain_or = refl
 
+-- `NOT` is its own spelling
 pub plain_not : IsPlain (codes "NOT")
 unfolding encode
 plain_not = refl
 
+-- `TO` is its own spelling
 pub plain_to : IsPlain (codes "TO")
 unfolding encode
 plain_to = refl
 
+-- a word is reserved exactly where its bytes are
 pub is_reserved-encoded : (w : List ℕ) → is_reserved (encode_utf8_all w) ≡ is_reserved w
 is_reserved-encoded w =
     let a = bytes_eq-encoded w (codes "AND") plain_and in
@@ -61,8 +67,31 @@ is_reserved-encoded w =
     cc
 
 -- the word at the front is a name
-pub run_is : (s name : List ℕ) → IsPlain name → bytes_eq (word s) name ≡ true → run s ≡ name
-run_is s name p e = encodes_same (run s) name ((bytes_eq-Decides (word s) name).0 e ∙ sym p)
+pub word_is : (s name : List ℕ) → IsPlain name → bytes_eq (word s) name ≡ true → take_while is_word_char s ≡ name
+word_is s name p e = encodes_same (take_while is_word_char s) name ((bytes_eq-Decides (word s) name).0 e ∙ sym p)
+
+-- nothing is skipped at the end
+pub skip_while_end : (test : ℕ → Bool) (s : List ℕ) → s ≡ [] → skip_while test s ≡ []
+unfolding skip_while
+skip_while_end test s e = rw e refl
+
+-- a character that passes is skipped
+pub skip_while_more : (test : ℕ → Bool) (s t : List ℕ) (c : ℕ) → s ≡ c ∷ t → test c ≡ true → skip_while test s ≡ skip_while test t
+unfolding skip_while
+skip_while_more test s t c e h = let k : 1 + prefix_len test t ≡ suc (prefix_len test t) = omega arith in rw (e, h, k) refl
+
+-- a character that doesn't pass is left
+pub skip_while_stop : (test : ℕ → Bool) (s t : List ℕ) (c : ℕ) → s ≡ c ∷ t → test c ≡ false → skip_while test s ≡ s
+unfolding skip_while
+skip_while_stop test s t c e h = rw (e, h) refl
+
+-- a character that passes is taken
+pub take_while_more : (test : ℕ → Bool) (c : ℕ) (s : List ℕ) → test c ≡ true → take_while test (c ∷ s) ≡ c ∷ take_while test s
+take_while_more test c s h = take_while-cons test c s ∙ ap (λ (b : Bool). cond b (c ∷ take_while test s) []) h
+
+-- a character that doesn't pass isn't taken
+pub take_while_stop : (test : ℕ → Bool) (c : ℕ) (s : List ℕ) → test c ≡ false → take_while test (c ∷ s) ≡ []
+take_while_stop test c s h = take_while-cons test c s ∙ ap (λ (b : Bool). cond b (c ∷ take_while test s) []) h
 
 -- what may stand behind a word
 abbrev pub stops : List ℕ → Bool
@@ -74,6 +103,7 @@ abbrev pub opens : List ℕ → Bool
 opens [] = false
 opens (c ∷ s) = not (is_space c || c == 41)
 
+-- white space and `)` are no characters of a word
 pub no_word_char : (c : ℕ) → (is_space c || c == 41) ≡ true → is_word_char c ≡ false
 unfolding is_word_char
 no_word_char c h =
@@ -82,71 +112,80 @@ no_word_char c h =
       | inr e ↦ let k : c ≡ 41 = eqb-true c 41 e in rw k refl
     ]
 
-pub run_stops : (r : List ℕ) → stops r ≡ true → (run r ≡ []) × (past r ≡ r)
-unfolding run past
-run_stops [] h = (refl, refl)
-run_stops (c ∷ s) h =
+-- no word goes on where one may stop
+pub word_stops : (r : List ℕ) → stops r ≡ true → (take_while is_word_char r ≡ []) × (skip_while is_word_char r ≡ r)
+unfolding skip_while
+word_stops [] h = (refl, refl)
+word_stops (c ∷ s) h =
     let e : is_word_char c ≡ false = no_word_char c h in
-    (rw e refl, rw e refl)
+    (take_while_stop is_word_char c s e, skip_while_stop is_word_char (c ∷ s) s c refl e)
 
 -- no word goes on there
 abbrev pub WordEnds : List ℕ → Type 0
-WordEnds r = (run r ≡ []) × (past r ≡ r)
+WordEnds r = (take_while is_word_char r ≡ []) × (skip_while is_word_char r ≡ r)
 
-pub run_at : (w r : List ℕ) → list_all is_word_char w ≡ true → WordEnds r → (run (w ++ r) ≡ w) × (past (w ++ r) ≡ r)
-unfolding run past
-run_at [] r h e = e
-run_at (c ∷ w) r h e =
+-- a word is read up to where no word goes on
+pub word_at : (w r : List ℕ) → list_all is_word_char w ≡ true → WordEnds r → (take_while is_word_char (w ++ r) ≡ w) × (skip_while is_word_char (w ++ r) ≡ r)
+unfolding skip_while
+word_at [] r h e = e
+word_at (c ∷ w) r h e =
     let p = and_parts (is_word_char c) (list_all is_word_char w) h in
-    let q = run_at w r p.1 e in
+    let q = word_at w r p.1 e in
     let t : is_word_char c ≡ true = p.0 in
-    (rw t (ap (λ (x : List ℕ). c ∷ x) q.0), rw t q.1)
+    (take_while_more is_word_char c (w ++ r) t ∙ ap (λ (x : List ℕ). c ∷ x) q.0, skip_while_more is_word_char (c ∷ (w ++ r)) (w ++ r) c refl t ∙ q.1)
 
-pub run-append : (w r : List ℕ) → list_all is_word_char w ≡ true → stops r ≡ true → (run (w ++ r) ≡ w) × (past (w ++ r) ≡ r)
-run-append w r h e = run_at w r h (run_stops r e)
+-- a word is read up to where it may stop
+pub word-append : (w r : List ℕ) → list_all is_word_char w ≡ true → stops r ≡ true → (take_while is_word_char (w ++ r) ≡ w) × (skip_while is_word_char (w ++ r) ≡ r)
+word-append w r h e = word_at w r h (word_stops r e)
 
-pub run_parts : (s : List ℕ) → (s ≡ run s ++ past s) × (list_all is_word_char (run s) ≡ true)
-unfolding run past
-run_parts [] = (refl, refl)
-run_parts (c ∷ s) =
-    let q = run_parts s in
+-- what is taken passes
+taken : (s : List ℕ) → list_all is_word_char (take_while is_word_char s) ≡ true
+taken [] = refl
+taken (c ∷ s) =
     elim (cases_Bool (is_word_char c)) [
-      | inl e ↦ (rw e (ap (λ (x : List ℕ). c ∷ x) q.0), rw (e, e) q.1)
-      | inr e ↦ (rw e refl, rw e refl)
+      | inl e ↦ ap (list_all is_word_char) (take_while_more is_word_char c s e) ∙ and_from (is_word_char c) (list_all is_word_char (take_while is_word_char s)) e (taken s)
+      | inr e ↦ ap (list_all is_word_char) (take_while_stop is_word_char c s e)
     ]
 
-pub skip-append : (w t : List ℕ) → IsBlank w → skip (w ++ t) ≡ skip t
-unfolding skip
-skip-append [] t h = refl
-skip-append (c ∷ w) t h =
+-- a text is the word at its front and what follows that
+pub word_parts : (s : List ℕ) → (s ≡ take_while is_word_char s ++ skip_while is_word_char s) × (list_all is_word_char (take_while is_word_char s) ≡ true)
+unfolding skip_while
+word_parts s = (sym (take-append-drop (prefix_len is_word_char s) s), taken s)
+
+-- white space in front makes no difference to what is behind it
+pub skip_while-append : (w t : List ℕ) → IsBlank w → skip_while is_space (w ++ t) ≡ skip_while is_space t
+skip_while-append [] t h = refl
+skip_while-append (c ∷ w) t h =
     let p = and_parts (is_space c) (list_all is_space w) h in
-    let e : is_space c ≡ true = p.0 in
-    rw e (skip-append w t p.1)
+    skip_while_more is_space (c ∷ (w ++ t)) (w ++ t) c refl p.0 ∙ skip_while-append w t p.1
 
-pub skip_opens : (t : List ℕ) → opens t ≡ true → skip t ≡ t
-unfolding skip
-skip_opens [] h = refl
-skip_opens (c ∷ s) h =
-    let e : is_space c ≡ false = (or_parts (is_space c) (c == 41) (not-true _ h)).0 in
-    rw e refl
+-- nothing is skipped where something opens
+pub skip_while_opens : (t : List ℕ) → opens t ≡ true → skip_while is_space t ≡ t
+unfolding skip_while
+skip_while_opens [] h = refl
+skip_while_opens (c ∷ s) h =
+    skip_while_stop is_space (c ∷ s) s c refl (or_parts (is_space c) (c == 41) (not-true _ h)).0
 
-pub skip_parts : (s : List ℕ) → (w : List ℕ) × IsBlank w × (s ≡ w ++ skip s)
-unfolding skip
-skip_parts [] = ([], refl, refl)
-skip_parts (c ∷ s) =
-    let q = skip_parts s in
+-- a text is some white space and what follows it
+pub skip_while_parts : (s : List ℕ) → (w : List ℕ) × IsBlank w × (s ≡ w ++ skip_while is_space s)
+unfolding skip_while
+skip_while_parts [] = ([], refl, refl)
+skip_while_parts (c ∷ s) =
+    let q = skip_while_parts s in
     elim (cases_Bool (is_space c)) [
-      | inl e ↦ (c ∷ q.0, and_from (is_space c) (list_all is_space q.0) e q.1, rw e (ap (λ (x : List ℕ). c ∷ x) q.2))
-      | inr e ↦ ([], refl, rw e refl)
+      | inl e ↦ (c ∷ q.0, and_from (is_space c) (list_all is_space q.0) e q.1, ap (λ (x : List ℕ). c ∷ x) q.2 ∙ ap (λ (x : List ℕ). (c ∷ q.0) ++ x) (sym (skip_while_more is_space (c ∷ s) s c refl e)))
+      | inr e ↦ ([], refl, sym (skip_while_stop is_space (c ∷ s) s c refl e))
     ]
 
-pub space_parts : (s : List ℕ) → begins_space s ≡ true → (w : List ℕ) × IsSpace w × (s ≡ w ++ skip s)
-unfolding skip
+-- a text that begins with white space is some and what follows it
+pub space_parts : (s : List ℕ) → begins_space s ≡ true → (w : List ℕ) × IsSpace w × (s ≡ w ++ skip_while is_space s)
+unfolding skip_while
 space_parts [] h = absurd cc
 space_parts (c ∷ s) h =
-    let q = skip_parts s in
-    (c ∷ q.0, (omega arith, and_from (is_space c) (list_all is_space q.0) h q.1), rw h (ap (λ (x : List ℕ). c ∷ x) q.2))
+    let q = skip_while_parts s in
+    (c ∷ q.0, (omega arith, and_from (is_space c) (list_all is_space q.0) h q.1), ap (λ (x : List ℕ). c ∷ x) q.2 ∙ ap (λ (x : List ℕ). (c ∷ q.0) ++ x) (sym (skip_while_more is_space (c ∷ s) s c refl h)))
 
+-- a text with the `\` that was read before it
 abbrev spelled : Bool → List ℕ → List ℕ
 spelled true s = 92 ∷ s
 spelled false s = s
@@ -155,19 +194,23 @@ spelled false s = s
 pub piece_plain : (c : ℕ) → (c == 34) ≡ false → (c == 92) ≡ false → piece c ≡ c ∷ []
 piece_plain c h k = rw (h, k) refl
 
+-- a quote or a backslash is spelled with a backslash
 pub piece_escaped : (c : ℕ) → (c == 34 || c == 92) ≡ true → piece c ≡ 92 ∷ c ∷ []
 piece_escaped c h = rw h refl
 
+-- a choice that gave a value chose one of the two
 pub chosen : {A : Type 0} (b : Bool) (x y z : A) → cond b x y ≡ z → ((b ≡ true) × (x ≡ z)) ⊎ ((b ≡ false) × (y ≡ z))
 chosen true x y z e = inl (refl, e)
 chosen false x y z e = inr (refl, e)
 
+-- a character in front, and the text that was read
 char_onto_some : (c : ℕ) (o : Option (List ℕ × List ℕ)) (y : List ℕ × List ℕ) → char_onto c o ≡ Some y → (x : List ℕ × List ℕ) × (o ≡ Some x) × ((c ∷ x.0) ≡ y.0) × (x.1 ≡ y.1)
 char_onto_some c None y e = absurd cc
 char_onto_some c (Some x) y e =
     let h : ◌≡◌ {A = List ℕ × List ℕ} (c ∷ x.0, x.1) y = same_Some _ _ e in
     (x, refl, ap (λ (p : List ℕ × List ℕ). p.0) h, ap (λ (p : List ℕ × List ℕ). p.1) h)
 
+-- equal parts make the same text
 moved : (s a b : List ℕ) (y : List ℕ × List ℕ) → a ≡ y.0 → b ≡ y.1 → s ≡ quoted_text a ++ b → s ≡ quoted_text y.0 ++ y.1
 moved s a b y e f h = rw (e, f) at h
 
@@ -227,6 +270,7 @@ length-chars_after zero c (b ∷ bs) = let h = length-chars_after (continuation_
 length-chars_after (suc n) c [] = omega arith
 length-chars_after (suc n) c (b ∷ bs) = let h = length-chars_after n (c * 64 + (b - 128)) bs in omega arith
 
+-- a text has no more characters than bytes
 pub length-chars : (bs : List ℕ) → length (chars bs) ≤ length bs
 unfolding chars
 length-chars [] = omega arith
@@ -237,17 +281,18 @@ pub chars-cons : (text rest from to : List ℕ) (c : ℕ) → IsUtf8 text → fr
 chars-cons text rest from to c u e f h = chars_past_char text rest c u (sym e ∙ h ∙ ap (λ (x : List ℕ). encode_utf8 c ++ x) (sym f))
 
 -- a text is the word at its front and what follows that
-pub text_parts : (text rest : List ℕ) → IsUtf8 text → IsUtf8 rest → chars rest ≡ past (chars text) → text ≡ word (chars text) ++ rest
+pub text_parts : (text rest : List ℕ) → IsUtf8 text → IsUtf8 rest → chars rest ≡ skip_while is_word_char (chars text) → text ≡ word (chars text) ++ rest
 text_parts text rest u v e =
-    let p = (run_parts (chars text)).0 in
-    sym (encodes-chars text u) ∙ ap encode_utf8_all p ∙ encodes-append (run (chars text)) (past (chars text))
+    let p = (word_parts (chars text)).0 in
+    sym (encodes-chars text u) ∙ ap encode_utf8_all p ∙ encodes-append (take_while is_word_char (chars text)) (skip_while is_word_char (chars text))
     ∙ ap (λ (x : List ℕ). word (chars text) ++ x) (ap encode_utf8_all (sym e) ∙ encodes-chars rest v)
 
 -- it may be cut between them
 abbrev pub WordSplit : (text rest : List ℕ) → ℕ → Type 0
 WordSplit text rest n = IsCharBoundary text n × (take n text ≡ word (chars text)) × (drop n text ≡ rest)
 
-pub word_split : (text rest : List ℕ) → IsUtf8 text → IsUtf8 rest → chars rest ≡ past (chars text) → WordSplit text rest (length text - length rest)
+-- a text may be cut behind its word
+pub word_split : (text rest : List ℕ) → IsUtf8 text → IsUtf8 rest → chars rest ≡ skip_while is_word_char (chars text) → WordSplit text rest (length text - length rest)
 word_split text rest u v e =
     let p = text_parts text rest u v e in
     let w = word (chars text) in
@@ -262,44 +307,54 @@ abbrev pub with_front : List ℕ → Option (List ℕ × List ℕ) → Option (L
 with_front front None = None
 with_front front (Some x) = Some (front ++ x.0, x.1)
 
+-- a character more that was read
 pub front_more : (front : List ℕ) (c : ℕ) (o : Option (List ℕ × List ℕ)) → with_front front (in_bytes (char_onto c o)) ≡ with_front (front ++ encode_utf8 c) (in_bytes o)
 front_more front c None = refl
 front_more front c (Some x) = ap (λ (w : List ℕ). Some (w, x.1)) (sym (append_assoc front (encode_utf8 c) (encode_utf8_all x.0)))
 
+-- no unit is read at the end
 unit_at_end : (schema : List Field) (d : ℕ) → unit_of schema d [] ≡ None
 unfolding unit_of unit_by
 unit_at_end schema zero = refl
 unit_at_end schema (suc d) = refl
 
+-- a unit reads its inner units one nesting less deep
 unit_inner : (schema : List Field) (d : ℕ) (s : List ℕ) → (d ≡ 0 → ⊥) → unit_of schema d s ≡ unit_by schema (unit_of schema (d - 1)) s
 unfolding unit_of
 unit_inner schema zero s h = absurd (h refl)
 unit_inner schema (suc d) s h = let e : suc d - 1 ≡ d = omega arith in rw e refl
 
 module _ (schema : List Field) (d : ℕ) (s : List ℕ) where
+  -- no unit is read without a nesting left
   pub unit_none : d ≡ 0 → unit_of schema d s ≡ None
   unfolding unit_of
   unit_none e = rw e refl
 
+  -- no unit is read from nothing
   pub unit_empty : s ≡ [] → unit_of schema d s ≡ None
   unit_empty e = ap (unit_of schema d) e ∙ unit_at_end schema d
 
   module _ (c : ℕ) (r : List ℕ) (open_ : d ≡ 0 → ⊥) (cons : s ≡ c ∷ r) where
+    -- a unit goes by its first character
     unit_head : unit_of schema d s ≡ unit_by schema (unit_of schema (d - 1)) (c ∷ r)
     unit_head = unit_inner schema d s open_ ∙ ap (unit_by schema (unit_of schema (d - 1))) cons
 
+    -- a `(` begins a group
     pub unit_group : c ≡ 40 → unit_of schema d s ≡ group_of (unit_of schema (d - 1)) r
     unfolding unit_by
     unit_group e = unit_head ∙ rw e refl
 
+    -- a `*` is all
     pub unit_star : c ≡ 42 → unit_of schema d s ≡ Some (Ok every, r)
     unfolding unit_by
     unit_star e = unit_head ∙ rw e refl
 
+    -- a `"` begins a quoted text
     pub unit_quote : c ≡ 34 → unit_of schema d s ≡ quoted_literal_of schema r
     unfolding unit_by
     unit_quote e = unit_head ∙ rw e refl
 
+    -- any other character begins a bare word
     pub unit_bare : (c ≡ 40 → ⊥) → (c ≡ 42 → ⊥) → (c ≡ 34 → ⊥) → unit_of schema d s ≡ bare_of schema s
     unfolding unit_by
     unit_bare a b q =

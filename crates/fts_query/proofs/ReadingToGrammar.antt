@@ -1,6 +1,6 @@
 -- What is read from the front is in the grammar.
 use Rattle.std.proofs.Common.{◌≡◌, ℕ, zero, suc, ◌<◌, Bool, true, false, not, ◌&&◌, List, [], ◌∷◌, ◌++◌, length, codes, Option, Some, None, Ok, refl, sym, ap, subst, ◌∙◌, append_assoc, arith, inl, inr}
-use Rattle.std.specs.Prelude.{◌==◌, option_and_then}
+use Rattle.std.specs.Prelude.{◌==◌, option_and_then, take_while}
 use Rattle.std.proofs.lemmas.Bool.{and_parts, eqb-true}
 use Rattle.std.proofs.lemmas.List.{append-nil}
 use Rattle.std.proofs.lemmas.Option.{cond_some, same_Some}
@@ -13,9 +13,9 @@ use Rattle.fts_query.specs.declared.clauses.Modifier.{Modifier}
 use Rattle.fts_query.specs.declared.clauses.Modifier.TheVariants.{Plain, Plus, Minus}
 use Rattle.fts_model.specs.QueryValues.{every}
 use Rattle.fts_query.specs.Meanings.{Meaning, Factor, Value, literal, between, list_meaning, literal_anywhere, field_meaning}
-use Rattle.fts_query.specs.Grammar.{is_word_char, is_bare, IsBare, IsWord, IsBound, bound, IsValue, Opens, Closes, begins_equals, IsBlank, IsSpace, IsOperator, IsModifier, IsUnit, IsFactor, IsConjunction, IsDisjunction, IsList, IsQuery, quoted_text}
-use Rattle.fts_query.specs.Reading.{Parser, skip, run, past, word, begins_space, closes, space_at, operator_at, Read, onto, follow, seq_by, negation_of, modifier_of, factor_of, conjunction_of, disjunction_of, list_of, over, meaning_of, close, unquoted, in_bytes, quoted_of, word_of, bound_of, range_end, range_of, compared_of, above_of, below_of, quoted_value_of, plain_of, value_of, after_bare, begins_modifier, bare_of, quoted_literal_of, group_of, unit_by, unit_of, ended, query_of}
-use Rattle.fts_query.proofs.ReadingLemmas.{IsPlain, plain_and, plain_or, plain_not, plain_to, run_is, is_reserved-encoded, run_parts, skip_parts, space_parts, read_is_unquoted, chosen}
+use Rattle.fts_query.specs.Grammar.{is_space, is_word_char, is_bare, IsBare, IsWord, IsBound, bound, IsValue, Opens, Closes, begins_equals, IsBlank, IsSpace, IsOperator, IsModifier, IsUnit, IsFactor, IsConjunction, IsDisjunction, IsList, IsQuery, quoted_text}
+use Rattle.fts_query.specs.Reading.{Parser, word, begins_space, closes, space_at, operator_at, Read, onto, follow, seq_by, negation_of, modifier_of, factor_of, conjunction_of, disjunction_of, list_of, over, meaning_of, close, unquoted, in_bytes, quoted_of, word_of, bound_of, range_end, range_of, compared_of, above_of, below_of, quoted_value_of, plain_of, value_of, after_bare, begins_modifier, bare_of, quoted_literal_of, group_of, unit_by, unit_of, ended, query_of, skip_while}
+use Rattle.fts_query.proofs.ReadingLemmas.{take_while_more, IsPlain, plain_and, plain_or, plain_not, plain_to, word_is, is_reserved-encoded, word_parts, skip_while_parts, space_parts, read_is_unquoted, chosen}
 use Rattle.fts_query.specs.Grammar
 
 -- the front of a text is in the language P, for x
@@ -26,24 +26,26 @@ Front P s y = (x : List ℕ) × P x y.0 × (s ≡ x ++ y.1)
 abbrev pub FindsOnly : {A : Type 0} → (List ℕ → A → Type 0) → Parser A → Type 0
 FindsOnly {A} P p = (s : List ℕ) (y : A × List ℕ) → p s ≡ Some y → Front P s y
 
+-- white space that is read
 pub read_is_space : (s t : List ℕ) → space_at s ≡ Some t → (w : List ℕ) × IsSpace w × (s ≡ w ++ t)
 unfolding space_at
 read_is_space s t e =
-    let c = cond_some (begins_space s && not (closes (skip s))) (skip s) t e in
-    let b = and_parts (begins_space s) (not (closes (skip s))) c.0 in
+    let c = cond_some (begins_space s && not (closes (skip_while is_space s))) (skip_while is_space s) t e in
+    let b = and_parts (begins_space s) (not (closes (skip_while is_space s))) c.0 in
     let p = space_parts s b.0 in
     (p.0, p.1, p.2 ∙ ap (λ (x : List ℕ). p.0 ++ x) c.1)
 
+-- an operator that is read
 pub read_is_operator : (name : List ℕ) → IsPlain name → (s t : List ℕ) → operator_at name s ≡ Some t → (w : List ℕ) × IsOperator name w × (s ≡ w ++ t)
 unfolding operator_at
 read_is_operator name ascii s t e =
-    let c = cond_some (begins_space s && (bytes_eq (word (skip s)) name && begins_space (past (skip s)))) (skip (past (skip s))) t e in
-    let b = and_parts (begins_space s) (bytes_eq (word (skip s)) name && begins_space (past (skip s))) c.0 in
-    let d = and_parts (bytes_eq (word (skip s)) name) (begins_space (past (skip s))) b.1 in
+    let c = cond_some (begins_space s && (bytes_eq (word (skip_while is_space s)) name && begins_space (skip_while is_word_char (skip_while is_space s)))) (skip_while is_space (skip_while is_word_char (skip_while is_space s))) t e in
+    let b = and_parts (begins_space s) (bytes_eq (word (skip_while is_space s)) name && begins_space (skip_while is_word_char (skip_while is_space s))) c.0 in
+    let d = and_parts (bytes_eq (word (skip_while is_space s)) name) (begins_space (skip_while is_word_char (skip_while is_space s))) b.1 in
     let p = space_parts s b.0 in
-    let q = space_parts (past (skip s)) d.1 in
-    let is-name : run (skip s) ≡ name = run_is (skip s) name ascii d.0 in
-    let word : skip s ≡ name ++ past (skip s) = (run_parts (skip s)).0 ∙ ap (λ (x : List ℕ). x ++ past (skip s)) is-name in
+    let q = space_parts (skip_while is_word_char (skip_while is_space s)) d.1 in
+    let is-name : take_while is_word_char (skip_while is_space s) ≡ name = word_is (skip_while is_space s) name ascii d.0 in
+    let word : skip_while is_space s ≡ name ++ skip_while is_word_char (skip_while is_space s) = (word_parts (skip_while is_space s)).0 ∙ ap (λ (x : List ℕ). x ++ skip_while is_word_char (skip_while is_space s)) is-name in
     let whole : s ≡ p.0 ++ (name ++ (q.0 ++ t)) = p.2 ∙ ap (λ (x : List ℕ). p.0 ++ x) (word ∙ ap (λ (x : List ℕ). name ++ x) (q.2 ∙ ap (λ (x : List ℕ). q.0 ++ x) c.1)) in
     (p.0 ++ (name ++ q.0), (p.0, q.0, refl, p.1, q.1), whole ∙ simp append_assoc)
 
@@ -64,9 +66,11 @@ module _ {A : Type 0} (sep : List ℕ → Option (List ℕ)) (item : Parser A) (
     (read_is_item : FindsOnly Item item)
     (one : (s : List ℕ) (a : A) → Item s a → Seq s (a ∷ []))
     (more : (s w t : List ℕ) (a : A) (xs : List A) → Item s a → Sep w → Seq t xs → Seq (s ++ (w ++ t)) (a ∷ xs)) where
+  -- equal parts make the same front
   moved : (s : List ℕ) (xs : List A) (r : List ℕ) (y : List A × List ℕ) → xs ≡ y.0 → r ≡ y.1 → Front Seq s (xs, r) → Front Seq s y
   moved s xs r y e f h = let k : ◌≡◌ {A = List A × List ℕ} (xs, r) (y.0, y.1) = cc in subst (λ (p : List A × List ℕ). Front Seq s p) k h
 
+  -- an item and those that follow it, as they are read
   read_is_onto : (o : Option (List ℕ)) (s : List ℕ) (a : A) (rest : List ℕ) (next : Parser (List A)) (y : List A × List ℕ)
       → sep rest ≡ o → Front Item s (a, rest) → FindsOnly Seq next → onto a (follow o rest next) ≡ Some y → Front Seq s y
   read_is_onto None s a rest next y e f h g =
@@ -79,6 +83,7 @@ module _ {A : Type 0} (sep : List ℕ → Option (List ℕ)) (item : Parser A) (
       let parts : s ≡ (f.0 ++ (w.0 ++ i.0)) ++ q.0.1 = f.2 ∙ ap (λ (x : List ℕ). f.0 ++ x) (w.2 ∙ ap (λ (x : List ℕ). w.0 ++ x) i.2) ∙ simp append_assoc in
       moved s (a ∷ q.0.0) q.0.1 y q.2 q.3 (f.0 ++ (w.0 ++ i.0), more f.0 w.0 i.0 a q.0.0 f.1 w.1 i.1, parts)
 
+  -- a sequence that is read
   read_is_seq : (n : ℕ) → FindsOnly Seq (seq_by n sep item)
   unfolding seq_by
   read_is_seq zero s y e = absurd cc
@@ -89,15 +94,16 @@ module _ {A : Type 0} (sep : List ℕ → Option (List ℕ)) (item : Parser A) (
 -- a modifier at the front
 read_is_negation : (s t : List ℕ) (y : Modifier × List ℕ) → s ≡ codes "NOT" ++ t → negation_of t ≡ Some y → Front IsModifier s y
 read_is_negation s t y e h =
-    elim (chosen (begins_space t) (Some (Minus, skip t)) None (Some y) h) [
+    elim (chosen (begins_space t) (Some (Minus, skip_while is_space t)) None (Some y) h) [
       | inl p ↦
           let w = space_parts t p.0 in
-          let k : ◌≡◌ {A = Modifier × List ℕ} (Minus, skip t) y = same_Some _ _ p.1 in
-          let parts : s ≡ (codes "NOT" ++ w.0) ++ skip t = e ∙ ap (λ (x : List ℕ). codes "NOT" ++ x) w.2 in
+          let k : ◌≡◌ {A = Modifier × List ℕ} (Minus, skip_while is_space t) y = same_Some _ _ p.1 in
+          let parts : s ≡ (codes "NOT" ++ w.0) ++ skip_while is_space t = e ∙ ap (λ (x : List ℕ). codes "NOT" ++ x) w.2 in
           subst (λ (p : Modifier × List ℕ). Front IsModifier s p) k (codes "NOT" ++ w.0, Grammar.IsModifier.negated w.1, parts)
       | inr p ↦ absurd (let k = p.1 in cc)
     ]
 
+-- a modifier that is read
 read_is_modifier : FindsOnly IsModifier modifier_of
 unfolding modifier_of
 read_is_modifier [] y e = absurd cc
@@ -114,9 +120,9 @@ read_is_modifier (c ∷ s) y e =
             subst (λ (p : Modifier × List ℕ). Front IsModifier (c ∷ s) p) h (45 ∷ [], Grammar.IsModifier.prohibited, ap (λ (x : ℕ). x ∷ s) k)
         | inr m ↦ elim (chosen (bytes_eq (word (c ∷ s)) (codes "NOT")) _ _ _ m.1) [
           | inl p ↦
-              let is-not : run (c ∷ s) ≡ codes "NOT" = run_is (c ∷ s) (codes "NOT") plain_not p.0 in
-              let parts : c ∷ s ≡ codes "NOT" ++ past (c ∷ s) = (run_parts (c ∷ s)).0 ∙ ap (λ (x : List ℕ). x ++ past (c ∷ s)) is-not in
-              read_is_negation (c ∷ s) (past (c ∷ s)) y parts p.1
+              let is-not : take_while is_word_char (c ∷ s) ≡ codes "NOT" = word_is (c ∷ s) (codes "NOT") plain_not p.0 in
+              let parts : c ∷ s ≡ codes "NOT" ++ skip_while is_word_char (c ∷ s) = (word_parts (c ∷ s)).0 ∙ ap (λ (x : List ℕ). x ++ skip_while is_word_char (c ∷ s)) is-not in
+              read_is_negation (c ∷ s) (skip_while is_word_char (c ∷ s)) y parts p.1
           | inr p ↦
               let h : ◌≡◌ {A = Modifier × List ℕ} (Plain, c ∷ s) y = same_Some _ _ p.1 in
               subst (λ (p : Modifier × List ℕ). Front IsModifier (c ∷ s) p) h ([], Grammar.IsModifier.plain, refl)
@@ -137,18 +143,22 @@ module _ (schema : List Field) (unit : Parser Meaning) (read_is_unit : FindsOnly
       let parts : s ≡ (v.0 ++ f.0) ++ u.0.1 = v.2 ∙ ap (λ (x : List ℕ). v.0 ++ x) f.2 ∙ sym (append_assoc v.0 f.0 u.0.1) in
       subst (λ (p : Factor × List ℕ). Front (IsFactor schema) s p) h (v.0 ++ f.0, Grammar.factor v.0 f.0 v.1 f.1, parts)
 
+  -- a conjunction that is read
   read_is_conjunction : FindsOnly (IsConjunction schema) (conjunction_of unit)
   unfolding conjunction_of
   read_is_conjunction s = read_is_seq (operator_at (codes "AND")) (factor_of unit) (IsOperator (codes "AND")) (IsFactor schema) (IsConjunction schema) (read_is_operator (codes "AND") plain_and) read_is_factor (λ t a h. Grammar.one h) (λ t w u a xs h k l. Grammar.both t w u h k l) (suc (length s)) s
 
+  -- a disjunction that is read
   read_is_disjunction : FindsOnly (IsDisjunction schema) (disjunction_of unit)
   unfolding disjunction_of
   read_is_disjunction s = read_is_seq (operator_at (codes "OR")) (conjunction_of unit) (IsOperator (codes "OR")) (IsConjunction schema) (IsDisjunction schema) (read_is_operator (codes "OR") plain_or) read_is_conjunction (λ t a h. Grammar.conjunction h) (λ t w u a xs h k l. Grammar.either t w u h k l) (suc (length s)) s
 
+  -- a list that is read
   read_is_list : FindsOnly (IsList schema) (list_of unit)
   unfolding list_of
   read_is_list s = read_is_seq space_at (disjunction_of unit) IsSpace (IsDisjunction schema) (IsList schema) read_is_space read_is_disjunction (λ t a h. Grammar.single h) (λ t w u a xs h k l. Grammar.several t w u h k l) (suc (length s)) s
 
+-- a `)` that is read
 close_some : (m : Meaning) (s : List ℕ) (y : Meaning × List ℕ) → close m s ≡ Some y → (s ≡ 41 ∷ y.1) × (m ≡ y.0)
 close_some m [] y e = absurd cc
 close_some m (c ∷ s) y e =
@@ -156,6 +166,7 @@ close_some m (c ∷ s) y e =
     let k : c ≡ 41 = eqb-true c 41 b.0 in
     (rw k (ap (λ (p : Meaning × List ℕ). 41 ∷ p.1) b.1), ap (λ (p : Meaning × List ℕ). p.0) b.1)
 
+-- what was seen by a view was read
 pub over_some : {A B : Type 0} (h : A → B) (o : Option (A × List ℕ)) (y : B × List ℕ) → over h o ≡ Some y → (x : A × List ℕ) × (o ≡ Some x) × (h x.0 ≡ y.0) × (x.1 ≡ y.1)
 over_some h None y e = absurd cc
 over_some {B = B} h (Some x) y e =
@@ -166,6 +177,7 @@ over_some {B = B} h (Some x) y e =
 abbrev pub FrontMeaning : List Field → List ℕ → Meaning × List ℕ → Type 0
 FrontMeaning schema s y = (x : List ℕ) × (cs : List (List (List Factor))) × IsList schema x cs × (list_meaning cs ≡ y.0) × (s ≡ x ++ y.1)
 
+-- a list that is read, by its meaning
 read_is_meaning : (schema : List Field) (unit : Parser Meaning) → FindsOnly (IsUnit schema) unit → (s : List ℕ) (y : Meaning × List ℕ) → meaning_of unit s ≡ Some y → FrontMeaning schema s y
 unfolding meaning_of
 read_is_meaning schema unit u s y e =
@@ -177,16 +189,18 @@ read_is_meaning schema unit u s y e =
 WordFront : List ℕ → List ℕ × List ℕ → Type 0
 WordFront s y = (w : List ℕ) × IsWord w × (encode_utf8_all w ≡ y.0) × (s ≡ w ++ y.1)
 
+-- a word that is read
 read_is_word : (s : List ℕ) (y : List ℕ × List ℕ) → word_of s ≡ Some y → WordFront s y
-unfolding WordFront word_of run
+unfolding WordFront word_of
 read_is_word [] y e = absurd cc
 read_is_word (c ∷ s) y e =
-    let b = cond_some (is_word_char c) (word (c ∷ s), past (c ∷ s)) y e in
-    let p = run_parts (c ∷ s) in
+    let b = cond_some (is_word_char c) (word (c ∷ s), skip_while is_word_char (c ∷ s)) y e in
+    let p = word_parts (c ∷ s) in
     let k : is_word_char c ≡ true = b.0 in
-    let l : 0 < length (run (c ∷ s)) = rw k (omega arith) in
-    subst (λ (p : List ℕ × List ℕ). (w : List ℕ) × IsWord w × (encode_utf8_all w ≡ p.0) × ((c ∷ s) ≡ w ++ p.1)) b.1 (run (c ∷ s), (l, p.1), refl, p.0)
+    let l : 0 < length (take_while is_word_char (c ∷ s)) = rw (take_while_more is_word_char c s k) (omega arith) in
+    subst (λ (p : List ℕ × List ℕ). (w : List ℕ) × IsWord w × (encode_utf8_all w ≡ p.0) × ((c ∷ s) ≡ w ++ p.1)) b.1 (take_while is_word_char (c ∷ s), (l, p.1), refl, p.0)
 
+-- a bound that is read
 read_is_bound : FindsOnly IsBound bound_of
 unfolding bound_of WordFront
 read_is_bound [] y e = absurd cc
@@ -204,6 +218,7 @@ read_is_bound (c ∷ s) y e =
           subst (λ (p : Option (List ℕ) × List ℕ). Front IsBound (c ∷ s) p) h (w.0, is, w.3)
     ]
 
+-- the end of a range that is read
 read_is_range_end : (low : Bound (List ℕ)) (high : Option (List ℕ)) (s : List ℕ) (y : Value × List ℕ) → range_end low high s ≡ Some y → (e : ℕ) × (j : Bool) × Closes e j × (s ≡ e ∷ y.1) × (between low (bound j high) ≡ y.0)
 unfolding range_end
 read_is_range_end low high [] y e = absurd cc
@@ -222,25 +237,27 @@ read_is_range_end low high (c ∷ s) y e =
       ]
     ]
 
+-- a range that is read
 read_is_range : (b : ℕ) (i : Bool) → Opens b i → (s : List ℕ) (y : Value × List ℕ) → range_of i s ≡ Some y → Front IsValue (b ∷ s) y
 unfolding range_of
 read_is_range b i o s y e =
     let TO = codes "TO" in
-    let x = and_then_some (bound_of (skip s)) (λ x. option_and_then (λ (t : List ℕ). option_and_then (λ (y : Read (Option (List ℕ))). range_end (bound i x.0) y.0 (skip y.1)) (bound_of t)) (operator_at TO x.1)) y e in
-    let t = and_then_some (operator_at TO x.0.1) (λ t. option_and_then (λ (y : Read (Option (List ℕ))). range_end (bound i x.0.0) y.0 (skip y.1)) (bound_of t)) y x.2 in
-    let h = and_then_some (bound_of t.0) (λ y. range_end (bound i x.0.0) y.0 (skip y.1)) y t.2 in
-    let r = read_is_range_end (bound i x.0.0) h.0.0 (skip h.0.1) y h.2 in
-    let u = skip_parts s in
-    let low = read_is_bound (skip s) x.0 x.1 in
+    let x = and_then_some (bound_of (skip_while is_space s)) (λ x. option_and_then (λ (t : List ℕ). option_and_then (λ (y : Read (Option (List ℕ))). range_end (bound i x.0) y.0 (skip_while is_space y.1)) (bound_of t)) (operator_at TO x.1)) y e in
+    let t = and_then_some (operator_at TO x.0.1) (λ t. option_and_then (λ (y : Read (Option (List ℕ))). range_end (bound i x.0.0) y.0 (skip_while is_space y.1)) (bound_of t)) y x.2 in
+    let h = and_then_some (bound_of t.0) (λ y. range_end (bound i x.0.0) y.0 (skip_while is_space y.1)) y t.2 in
+    let r = read_is_range_end (bound i x.0.0) h.0.0 (skip_while is_space h.0.1) y h.2 in
+    let u = skip_while_parts s in
+    let low = read_is_bound (skip_while is_space s) x.0 x.1 in
     let w = read_is_operator TO plain_to x.0.1 t.0 t.1 in
     let high = read_is_bound t.0 h.0 h.1 in
-    let v = skip_parts h.0.1 in
+    let v = skip_while_parts h.0.1 in
     let text : List ℕ = b ∷ (u.0 ++ (low.0 ++ (w.0 ++ (high.0 ++ (v.0 ++ r.0 ∷ []))))) in
     let parts : b ∷ s ≡ text ++ y.1 =
     ap (λ (t : List ℕ). b ∷ t) (u.2 ∙ ap (λ (t : List ℕ). u.0 ++ t) (low.2 ∙ ap (λ (t : List ℕ). low.0 ++ t) (w.2 ∙ ap (λ (t : List ℕ). w.0 ++ t) (high.2 ∙ ap (λ (t : List ℕ). high.0 ++ t) (v.2 ∙ ap (λ (t : List ℕ). v.0 ++ t) r.3)))) ∙ simp append_assoc) in
     let is : IsValue text y.0 = subst (λ (z : Value). IsValue text z) r.4 (Grammar.IsValue.range u.0 low.0 w.0 high.0 v.0 o u.1 low.1 w.1 high.1 v.1 r.2) in
     (text, is, parts)
 
+-- a word whose first character is no `=` begins with none
 no_equals : (c : ℕ) (s w r : List ℕ) → (c == 61) ≡ false → 0 < length w → c ∷ s ≡ w ++ r → begins_equals w ≡ false
 no_equals c s [] r e l p = absurd (omega arith)
 no_equals c s (d ∷ w) r e l p = let k : c ≡ d = cc in subst (λ (x : ℕ). (x == 61) ≡ false) k e
@@ -250,6 +267,7 @@ pub data IsCompared : List ℕ → Bool × List ℕ → Type 0 where
   equal : {w : List ℕ} → IsWord w → IsCompared (61 ∷ w) (true, encode_utf8_all w)
   other : {w : List ℕ} → IsWord w → begins_equals w ≡ false → IsCompared w (false, encode_utf8_all w)
 
+-- the word of a comparison that is read
 read_is_compared : FindsOnly IsCompared compared_of
 unfolding compared_of WordFront
 read_is_compared [] y e = absurd cc
@@ -270,14 +288,17 @@ read_is_compared (c ∷ s) y e =
           subst (λ (p : (Bool × List ℕ) × List ℕ). Front IsCompared (c ∷ s) p) h (w.0, is, w.3)
     ]
 
+-- a comparison by `>`
 above_is : {w : List ℕ} {x : Bool × List ℕ} → IsCompared w x → IsValue (62 ∷ w) (between (bound x.0 (Some x.1)) Unbounded)
 above_is (IsCompared.equal h) = Grammar.IsValue.at_least h
 above_is (IsCompared.other h n) = Grammar.IsValue.greater h n
 
+-- a comparison by `<`
 below_is : {w : List ℕ} {x : Bool × List ℕ} → IsCompared w x → IsValue (60 ∷ w) (between Unbounded (bound x.0 (Some x.1)))
 below_is (IsCompared.equal h) = Grammar.IsValue.at_most h
 below_is (IsCompared.other h n) = Grammar.IsValue.less h n
 
+-- a quoted text that is read, in bytes
 read_is_in_bytes : (s : List ℕ) (o : Option (List ℕ × List ℕ)) (y : List ℕ × List ℕ) → unquoted false s ≡ o → in_bytes o ≡ Some y → (t : List ℕ) × (encode_utf8_all t ≡ y.0) × (s ≡ quoted_text t ++ y.1)
 read_is_in_bytes s None y h e = absurd cc
 read_is_in_bytes s (Some x) y h e =
@@ -285,10 +306,12 @@ read_is_in_bytes s (Some x) y h e =
     let t : s ≡ quoted_text x.0 ++ x.1 = read_is_unquoted false s x h in
     (x.0, ap (λ (p : List ℕ × List ℕ). p.0) k, t ∙ ap (λ (p : List ℕ × List ℕ). quoted_text x.0 ++ p.1) k)
 
+-- a quoted text that is read
 read_is_quoted : (s : List ℕ) (y : List ℕ × List ℕ) → quoted_of s ≡ Some y → (t : List ℕ) × (encode_utf8_all t ≡ y.0) × (s ≡ quoted_text t ++ y.1)
 unfolding quoted_of
 read_is_quoted s y e = read_is_in_bytes s (unquoted false s) y refl e
 
+-- what is read after a field and a colon
 read_is_value : FindsOnly IsValue value_of
 unfolding value_of quoted_value_of above_of below_of plain_of WordFront
 read_is_value [] y e = absurd cc
@@ -332,6 +355,7 @@ read_is_value (c ∷ s) y e =
     ]
 
 module _ (schema : List Field) where
+  -- what is read after a bare word
   read_is_after : (s t : List ℕ) (y : Meaning × List ℕ) (w : List ℕ) → IsBare w → s ≡ w ++ t → after_bare schema (encode_utf8_all w) t ≡ Some y → Front (IsUnit schema) s y
   unfolding after_bare
   read_is_after s [] y w b p e =
@@ -353,32 +377,34 @@ module _ (schema : List Field) where
       ]
 
   -- the word at the front is bare
-  run_is_bare : (c : ℕ) (s : List ℕ) → (is_word_char c && not (begins_modifier c) && not (is_reserved (word (c ∷ s)))) ≡ true → is_bare (run (c ∷ s)) ≡ true
-  unfolding is_bare run
-  run_is_bare c s h =
+  word_is_bare : (c : ℕ) (s : List ℕ) → (is_word_char c && not (begins_modifier c) && not (is_reserved (word (c ∷ s)))) ≡ true → is_bare (take_while is_word_char (c ∷ s)) ≡ true
+  unfolding is_bare
+  word_is_bare c s h =
       let p = and_parts (is_word_char c && not (begins_modifier c)) (not (is_reserved (word (c ∷ s)))) h in
       let q = and_parts (is_word_char c) (not (begins_modifier c)) p.0 in
       let a : is_word_char c ≡ true = q.0 in
-      let e : run (c ∷ s) ≡ c ∷ run s = rw a refl in
-      let r : not (is_reserved (run (c ∷ s))) ≡ true = ap not (sym (is_reserved-encoded (run (c ∷ s)))) ∙ p.1 in
-      let n : not (is_reserved (c ∷ run s)) ≡ true = subst (λ (x : List ℕ). not (is_reserved x) ≡ true) e r in
+      let e : take_while is_word_char (c ∷ s) ≡ c ∷ take_while is_word_char s = take_while_more is_word_char c s a in
+      let r : not (is_reserved (take_while is_word_char (c ∷ s))) ≡ true = ap not (sym (is_reserved-encoded (take_while is_word_char (c ∷ s)))) ∙ p.1 in
+      let n : not (is_reserved (c ∷ take_while is_word_char s)) ≡ true = subst (λ (x : List ℕ). not (is_reserved x) ≡ true) e r in
       let k : not (begins_modifier c) ≡ true = q.1 in
       subst (λ (x : List ℕ). is_bare x ≡ true) (sym e) (rw (k, n) refl)
 
+  -- a bare word that is read
   read_is_bare : FindsOnly (IsUnit schema) (bare_of schema)
   unfolding bare_of
   read_is_bare [] y e = absurd cc
   read_is_bare (c ∷ s) y e =
       elim (chosen (is_word_char c && not (begins_modifier c) && not (is_reserved (word (c ∷ s)))) _ _ _ e) [
-        | inl p ↦ read_is_after (c ∷ s) (past (c ∷ s)) y (run (c ∷ s)) ((run_parts (c ∷ s)).1, run_is_bare c s p.0) (run_parts (c ∷ s)).0 p.1
+        | inl p ↦ read_is_after (c ∷ s) (skip_while is_word_char (c ∷ s)) y (take_while is_word_char (c ∷ s)) ((word_parts (c ∷ s)).1, word_is_bare c s p.0) (word_parts (c ∷ s)).0 p.1
         | inr p ↦ absurd (let k = p.1 in cc)
       ]
 
-  read_is_group : (s : List ℕ) (x : Meaning × List ℕ) (y : Meaning × List ℕ) → FrontMeaning schema (skip s) x → close x.0 (skip x.1) ≡ Some y → Front (IsUnit schema) (40 ∷ s) y
+  -- a group that is read
+  read_is_group : (s : List ℕ) (x : Meaning × List ℕ) (y : Meaning × List ℕ) → FrontMeaning schema (skip_while is_space s) x → close x.0 (skip_while is_space x.1) ≡ Some y → Front (IsUnit schema) (40 ∷ s) y
   read_is_group s x y f e =
-      let k = close_some x.0 (skip x.1) y e in
-      let v = skip_parts s in
-      let w = skip_parts x.1 in
+      let k = close_some x.0 (skip_while is_space x.1) y e in
+      let v = skip_while_parts s in
+      let w = skip_while_parts x.1 in
       let parts : 40 ∷ s ≡ (40 ∷ (v.0 ++ (f.0 ++ (w.0 ++ 41 ∷ [])))) ++ y.1 =
       ap (λ (t : List ℕ). 40 ∷ t) (v.2 ∙ ap (λ (t : List ℕ). v.0 ++ t) (f.4 ∙ ap (λ (t : List ℕ). f.0 ++ t) (w.2 ∙ ap (λ (t : List ℕ). w.0 ++ t) k.0)) ∙ simp append_assoc) in
       let m : list_meaning f.1 ≡ y.0 = f.3 ∙ k.1 in
@@ -386,6 +412,7 @@ module _ (schema : List Field) where
       let h : IsUnit schema text y.0 = subst (λ (z : Meaning). IsUnit schema text z) m (Grammar.group v.0 f.0 w.0 f.1 v.1 f.2 w.1) in
       (text, h, parts)
 
+  -- a unit that is read
   pub read_is_unit : (d : ℕ) → FindsOnly (IsUnit schema) (unit_of schema d)
   unfolding unit_of unit_by quoted_literal_of group_of
   read_is_unit zero s y e = absurd cc
@@ -394,8 +421,8 @@ module _ (schema : List Field) where
       elim (chosen (c == 40) _ _ _ e) [
         | inl p ↦
             let k : c ≡ 40 = eqb-true c 40 p.0 in
-            let b = and_then_some (meaning_of (unit_of schema d) (skip s)) (λ x. close x.0 (skip x.1)) y p.1 in
-            rw k (read_is_group s b.0 y (read_is_meaning schema (unit_of schema d) (read_is_unit d) (skip s) b.0 b.1) b.2)
+            let b = and_then_some (meaning_of (unit_of schema d) (skip_while is_space s)) (λ x. close x.0 (skip_while is_space x.1)) y p.1 in
+            rw k (read_is_group s b.0 y (read_is_meaning schema (unit_of schema d) (read_is_unit d) (skip_while is_space s) b.0 b.1) b.2)
         | inr m ↦ elim (chosen (c == 42) _ _ _ m.1) [
           | inl p ↦
               let k : c ≡ 42 = eqb-true c 42 p.0 in
@@ -414,18 +441,20 @@ module _ (schema : List Field) where
         ]
       ]
 
+  -- a text that ends where it should
   ended_some : (n : Meaning) (s : List ℕ) (m : Meaning) → ended n s ≡ Some m → (s ≡ []) × (m ≡ n)
   ended_some n [] m e = (refl, sym (same_Some _ _ e))
   ended_some n (c ∷ s) m e = absurd cc
 
+  -- a query that is read
   pub read_is_query : (d : ℕ) (s : List ℕ) (m : Meaning) → query_of schema d s ≡ Some m → IsQuery schema s m
   unfolding query_of
   read_is_query d s m e =
-      let b = and_then_some (meaning_of (unit_of schema d) (skip s)) (λ x. ended x.0 (skip x.1)) m e in
-      let f = read_is_meaning schema (unit_of schema d) (read_is_unit d) (skip s) b.0 b.1 in
-      let k = ended_some b.0.0 (skip b.0.1) m b.2 in
-      let v = skip_parts s in
-      let w = skip_parts b.0.1 in
+      let b = and_then_some (meaning_of (unit_of schema d) (skip_while is_space s)) (λ x. ended x.0 (skip_while is_space x.1)) m e in
+      let f = read_is_meaning schema (unit_of schema d) (read_is_unit d) (skip_while is_space s) b.0 b.1 in
+      let k = ended_some b.0.0 (skip_while is_space b.0.1) m b.2 in
+      let v = skip_while_parts s in
+      let w = skip_while_parts b.0.1 in
       record {
         before = v.0;
         inner = f.0;

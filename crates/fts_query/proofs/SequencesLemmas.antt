@@ -1,5 +1,5 @@
 -- The levels of a list: what is read item by item is what the productions are read as.
-use Rattle.std.proofs.Common.{◌≡◌, ℕ, zero, suc, ◌<◌, ◌≤◌, List, [], ◌∷◌, ◌++◌, length, map, codes, Option, Some, None, refl, sym, ap, subst, ◌∙◌, arith, length-append}
+use Rattle.std.proofs.Common.{◌≡◌, ℕ, zero, suc, ◌<◌, ◌≤◌, List, [], ◌∷◌, ◌++◌, length, map, codes, Option, Some, None, refl, sym, ap, ◌∙◌, arith, length-append}
 use Rattle.std.specs.Prelude.{option_and_then}
 use Rattle.std.proofs.lemmas.Option.{same_Some}
 use Rattle.fts_model.specs.declared.schema.Field.{Field}
@@ -7,14 +7,13 @@ use Rattle.fts_query.specs.declared.clauses.Occur.TheVariants.{Should}
 use Rattle.fts_query.specs.declared.error.ParseError.{ParseError}
 use Rattle.fts_query.specs.declared.error.ParseError.TheVariants.{Memory, Syntax}
 use Rattle.fts_query.specs.declared.reader.Level.{Level}
-use Rattle.fts_query.specs.Grammar.{IsUnit}
 use Rattle.fts_query.specs.Meanings.{Meaning, Factor, Clause, occur_in_conjunction, node, conjunction, disjunction, disjunction_clause, list_meaning}
 use Rattle.fts_query.specs.Gathering.{Gathered, gather, gather_all, gathered_node}
 use Rattle.fts_query.specs.Sequences.{Part, lone, several, clause_of, node_of, joined, separator_of, sequence_by, factor_part, item_of, sequence_of, following, then_gathered}
-use Rattle.fts_query.specs.Reading.{Parser, Read, onto, follow, seq_by, over, operator_at, space_at, factor_of, conjunction_of, disjunction_of, list_of, meaning_of, unit_of}
+use Rattle.fts_query.specs.Reading.{Parser, Read, onto, follow, seq_by, over, factor_of, conjunction_of, disjunction_of, list_of, meaning_of, unit_of}
 use Rattle.fts_query.specs.Steps.{Misses}
 use Rattle.fts_query.proofs.GatheringLemmas.{nothing_gathered, gathered_node-all}
-use Rattle.fts_query.proofs.ReadingToGrammar.{FindsOnly, and_then_some, onto_some, over_some, read_is_factor, read_is_unit, read_is_space, read_is_operator}
+use Rattle.fts_query.proofs.ReadingToGrammar.{and_then_some, onto_some, over_some, read_is_factor, read_is_unit, read_is_space, read_is_operator}
 use Rattle.fts_query.proofs.ReadingLemmas.{plain_and, plain_or}
 use Rattle.fts_query.specs.declared.reader.Level.TheVariants as levels
 
@@ -51,6 +50,7 @@ seq_by-over {A} {B} sep item h seen e (suc n) s =
 abbrev conjunction_part : List Factor → Part
 conjunction_part fs = joined levels.Conjunction (map lone fs)
 
+-- a disjunction, as the level above sees it
 abbrev disjunction_part : List (List Factor) → Part
 disjunction_part cs = joined levels.Disjunction (map conjunction_part cs)
 
@@ -63,6 +63,7 @@ factor_clauses (f ∷ fs) = ap (λ (cs : List Clause). clause_of levels.Conjunct
 conjunction_node : (fs : List Factor) → node_of levels.Conjunction (map lone fs) ≡ conjunction fs
 conjunction_node fs = ap node (factor_clauses fs)
 
+-- the clause of a should
 should : Meaning → Clause
 should m = (Should, m)
 
@@ -130,6 +131,7 @@ module _ (unit : Parser Meaning) where
 abbrev IsShorter : {A : Type 0} → Parser A → Type 0
 IsShorter {A} p = (s : List ℕ) (y : A × List ℕ) → p s ≡ Some y → length y.1 ≤ length s
 
+-- a view leaves what was left
 over_shorter : {A B : Type 0} (h : A → B) (p : Parser A) → IsShorter p → IsShorter (λ s. over h (p s))
 over_shorter h p short s y e =
     let x = over_some h (p s) y e in
@@ -174,9 +176,11 @@ sequence_by_shorter level item short s y e =
     over_shorter (joined level) (seq_by (suc (length s)) (separator_of level) item) (seq_by_shorter level item short (suc (length s))) s y e
 
 module _ (schema : List Field) (depth : ℕ) where
+  -- the units of a nesting
   abbrev unit : Parser Meaning
   unit = unit_of schema depth
 
+  -- no more is left behind a factor
   factor_shorter : IsShorter (factor_part unit)
   factor_shorter = over_shorter lone (factor_of unit) (λ s y e. let f = read_is_factor schema unit (read_is_unit schema depth) s y e in omega (arith, ap length f.2, length-append f.0 y.1))
 
@@ -193,6 +197,7 @@ module _ (schema : List Field) (depth : ℕ) where
       pub enough : length rest ≤ most
       pub whole : then_gathered level g (following most level unit rest) ≡ total
 
+    -- a first item is gathered before the others
     onto_gathered : (g : Gathered) (x : Part) (o : Option (List Part × List ℕ)) → then_gathered level g (onto x o) ≡ then_gathered level (gather g (clause_of level x)) o
     onto_gathered g x None = refl
     onto_gathered g x (Some y) = refl
@@ -201,6 +206,7 @@ module _ (schema : List Field) (depth : ℕ) where
     abbrev pub total_of : ℕ → Part → List ℕ → Option (Gathered × List ℕ)
     total_of n first text = then_gathered level nothing_gathered (onto first (following n level unit text))
 
+    -- the first item
     pub Goes-start : (g : Gathered) (first : Part) (text : List ℕ) (n : ℕ) → g ≡ gather nothing_gathered (clause_of level first) → length text ≤ n → Goes g text (total_of n first text)
     Goes-start g first text n e l = record {
       most = n;
@@ -208,20 +214,25 @@ module _ (schema : List Field) (depth : ℕ) where
       whole = ap (λ (h : Gathered). then_gathered level h (following n level unit text)) e ∙ sym (onto_gathered nothing_gathered first (following n level unit text));
     }
 
+    -- what follows a separator
     following_next : (m : ℕ) (rest next : List ℕ) → Some next ≡ separator_of level rest → following m level unit rest ≡ seq_by m (separator_of level) (item_of level unit) next
     following_next m rest next e = ap (λ (o : Option (List ℕ)). follow o rest (λ t. seq_by m (separator_of level) (item_of level unit) t)) (sym e)
 
+    -- nothing follows where there is no separator
     following_last : (m : ℕ) (rest : List ℕ) → None ≡ separator_of level rest → following m level unit rest ≡ Some ([], rest)
     following_last m rest e = ap (λ (o : Option (List ℕ)). follow o rest (λ t. seq_by m (separator_of level) (item_of level unit) t)) (sym e)
 
+    -- a sequence from its first item on
     seq_by-item : (m : ℕ) (s left : List ℕ) (p : Part) → item_of level unit s ≡ Some (p, left) → seq_by (suc m) (separator_of level) (item_of level unit) s ≡ onto p (following m level unit left)
     unfolding seq_by
     seq_by-item m s left p e = ap (option_and_then (λ (x : Read Part). onto x.0 (follow (separator_of level x.1) x.1 (λ t. seq_by m (separator_of level) (item_of level unit) t)))) e
 
+    -- no sequence without a first item
     seq_by-none : (m : ℕ) (s : List ℕ) → item_of level unit s ≡ None → seq_by (suc m) (separator_of level) (item_of level unit) s ≡ None
     unfolding seq_by
     seq_by-none m s e = ap (option_and_then (λ (x : Read Part). onto x.0 (follow (separator_of level x.1) x.1 (λ t. seq_by m (separator_of level) (item_of level unit) t)))) e
 
+    -- another item, by how many may follow
     next_step : (m : ℕ) (g h : Gathered) (rest next left : List ℕ) (p : Part) (total : Option (Gathered × List ℕ)) → length rest ≤ m → then_gathered level g (following m level unit rest) ≡ total → Some next ≡ separator_of level rest → item_of level unit next ≡ Some (p, left) → h ≡ gather g (clause_of level p) → Goes h left total
     next_step zero g h rest next left p total l w e i k = absurd (let s = separator_shorter level rest next (sym e) in omega arith)
     next_step (suc m) g h rest next left p total l w e i k =
@@ -248,6 +259,7 @@ module _ (schema : List Field) (depth : ℕ) where
         let n : node_of level x.0 ≡ gathered_node g = sym (gathered_node-all (map (clause_of level) x.0)) ∙ ap (λ (p : Gathered × List ℕ). gathered_node p.0) k in
         ap (λ (m : Meaning). Some (m, x.1)) n ∙ ap (λ (p : Gathered × List ℕ). Some (gathered_node g, p.1)) k
 
+    -- nothing gathered is nothing read
     gathered_none : {C : Type 0} (view : List Part → C) (o : Option (List Part × List ℕ)) → then_gathered level nothing_gathered o ≡ None → over view o ≡ None
     gathered_none view None e = refl
     gathered_none view (Some x) e = absurd (let k = e in cc)
@@ -257,6 +269,7 @@ module _ (schema : List Field) (depth : ℕ) where
     Goes-last n first text rest g m e goes k =
         gathered_is (onto first (following n level unit text)) g rest (sym goes.whole ∙ ap (then_gathered level g) (following_last goes.most rest e)) ∙ ap (λ (x : Meaning). Some (x, rest)) (sym k)
 
+    -- an item that is not there, by how many may follow
     fail_step : (m : ℕ) (g : Gathered) (rest next : List ℕ) (total : Option (Gathered × List ℕ)) → length rest ≤ m → then_gathered level g (following m level unit rest) ≡ total → Some next ≡ separator_of level rest → item_of level unit next ≡ None → total ≡ None
     fail_step zero g rest next total l w e i = absurd (let s = separator_shorter level rest next (sym e) in omega arith)
     fail_step (suc m) g rest next total l w e i = sym w ∙ ap (then_gathered level g) (following_next (suc m) rest next e ∙ seq_by-none m next i)
@@ -289,6 +302,7 @@ module _ (schema : List Field) (depth : ℕ) where
         let k : b.0.0 ∷ q.0.0 ≡ [] = q.2 in
         cc
 
+    -- two items or more are joined to a node
     joined_several : (p : Part) (o : Option (List Part × List ℕ)) (next : List ℕ) (n : ℕ) (m : Meaning) (rest : List ℕ) → seq_by n (separator_of level) (item_of level unit) next ≡ o → over (node_of level) (onto p o) ≡ Some (m, rest) → over (joined level) (onto p o) ≡ Some (several m, rest)
     joined_several p None next n m rest e h = absurd (let k = h in cc)
     joined_several p (Some ([], t)) next n m rest e h = absurd (nonempty n next t e)
@@ -303,6 +317,7 @@ module _ (schema : List Field) (depth : ℕ) where
         let k : following (length s) level unit rest ≡ seq_by (length s) (separator_of level) (item_of level unit) next = following_next (length s) rest next f in
         ap (over (joined level)) (seq_by-item (length s) s rest p e) ∙ joined_several p (following (length s) level unit rest) next (length s) m left (sym k) h
 
+    -- nothing read shows nothing
     none_onto : {C D : Type 0} (view : List Part → C) (other : List Part → D) (o : Option (List Part × List ℕ)) → over view o ≡ None → over other o ≡ None
     none_onto view other None e = refl
     none_onto view other (Some x) e = absurd (let k = e in cc)

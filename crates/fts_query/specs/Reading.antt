@@ -1,7 +1,8 @@
 -- Reading from left to right: what stands at the front of a text, and what follows it.
 --
 -- The code finds exactly what is said here, and the proofs tie it to the grammar. No public contract of this crate names it.
-use Rattle.std.specs.Prelude.{ℕ, zero, suc, Bool, true, false, not, ◌&&◌, ◌||◌, ◌==◌, List, [], ◌∷◌, length, codes, Option, Some, None, option_and_then, Ok, if◌then◌else◌}
+use Rattle.std.specs.Prelude.{ℕ, zero, suc, Bool, true, false, not, ◌&&◌, ◌||◌, ◌==◌, List, [], ◌∷◌, length, drop, take_while, codes, Option, Some, None, option_and_then, Ok, if◌then◌else◌}
+use Rattle.std.specs.List.{prefix_len}
 use Rattle.std.specs.Str.{encode_utf8_all, bytes_eq}
 use Rattle.std.specs.declared.ops.Bound.TheVariants.{Unbounded}
 use Rattle.std.specs.declared.ops.Bound.{Bound}
@@ -9,6 +10,8 @@ use Rattle.fts_model.specs.declared.schema.Field.{Field}
 use Rattle.fts_model.specs.Schemas.{is_reserved}
 use Rattle.fts_query.specs.declared.clauses.Modifier.{Modifier}
 use Rattle.fts_query.specs.declared.clauses.Modifier.TheVariants.{Plain, Plus, Minus}
+use Rattle.fts_query.specs.declared.input.Class.{Class}
+use Rattle.fts_query.specs.declared.input.Class.TheVariants as classes
 use Rattle.fts_model.specs.QueryValues.{every}
 use Rattle.fts_query.specs.Characters.{quote, open_parenthesis, close_parenthesis, star, plus, minus, colon, less_than, equals, greater_than, open_bracket, backslash, close_bracket, open_brace, close_brace}
 use Rattle.fts_query.specs.Meanings.{Meaning, Factor, Value, literal, between, list_meaning, literal_anywhere, field_meaning}
@@ -21,23 +24,18 @@ Read A = A × List ℕ
 abbrev pub Parser : Type 0 → Type 0
 Parser A = List ℕ → Option (Read A)
 
--- the text without the white space at its front
-unfoldable pub skip : List ℕ → List ℕ
-skip [] = []
-skip (c ∷ s) = if is_space c then skip s else c ∷ s
+-- what follows the characters at the front that pass a test
+unfoldable pub skip_while : (ℕ → Bool) → List ℕ → List ℕ
+skip_while test s = drop (prefix_len test s) s
 
--- the word at the front, and what follows it
-unfoldable pub run : List ℕ → List ℕ
-run [] = []
-run (c ∷ s) = if is_word_char c then c ∷ run s else []
-
-unfoldable pub past : List ℕ → List ℕ
-past [] = []
-past (c ∷ s) = if is_word_char c then past s else c ∷ s
+-- whether a character is of a class
+abbrev pub is_of : Class → ℕ → Bool
+is_of classes.Space c = is_space c
+is_of classes.Word c = is_word_char c
 
 -- the bytes of the word at the front
 abbrev pub word : List ℕ → List ℕ
-word s = encode_utf8_all (run s)
+word s = encode_utf8_all (take_while is_word_char s)
 
 abbrev pub begins_space : List ℕ → Bool
 begins_space [] = false
@@ -49,10 +47,10 @@ closes (c ∷ s) = c == close_parenthesis
 
 -- what follows a separator
 unfoldable pub space_at : List ℕ → Option (List ℕ)
-space_at s = if begins_space s && not (closes (skip s)) then Some (skip s) else None
+space_at s = if begins_space s && not (closes (skip_while is_space s)) then Some (skip_while is_space s) else None
 
 unfoldable pub operator_at : List ℕ → List ℕ → Option (List ℕ)
-operator_at name s = if begins_space s && (bytes_eq (word (skip s)) name && begins_space (past (skip s))) then Some (skip (past (skip s))) else None
+operator_at name s = if begins_space s && (bytes_eq (word (skip_while is_space s)) name && begins_space (skip_while is_word_char (skip_while is_space s))) then Some (skip_while is_space (skip_while is_word_char (skip_while is_space s))) else None
 
 abbrev pub onto : {A : Type 0} → A → Option (List A × List ℕ) → Option (List A × List ℕ)
 onto x None = None
@@ -70,14 +68,14 @@ seq_by {A} (suc n) sep item s = option_and_then (λ (x : Read A). onto x.0 (foll
 
 -- `NOT` and white space, behind `NOT`
 abbrev pub negation_of : Parser Modifier
-negation_of t = if begins_space t then Some (Minus, skip t) else None
+negation_of t = if begins_space t then Some (Minus, skip_while is_space t) else None
 
 unfoldable pub modifier_of : Parser Modifier
 modifier_of [] = None
 modifier_of (c ∷ s) =
     if c == plus then Some (Plus, s)
     else (if c == minus then Some (Minus, s)
-    else (if bytes_eq (word (c ∷ s)) (codes "NOT") then negation_of (past (c ∷ s))
+    else (if bytes_eq (word (c ∷ s)) (codes "NOT") then negation_of (skip_while is_word_char (c ∷ s))
     else Some (Plain, c ∷ s)))
 
 -- a modifier, then a unit
@@ -109,7 +107,7 @@ close m (c ∷ s) = if c == close_parenthesis then Some (m, s) else None
 
 -- behind an opening parenthesis
 unfoldable pub group_of : Parser Meaning → Parser Meaning
-group_of unit s = option_and_then (λ (x : Read Meaning). close x.0 (skip x.1)) (meaning_of unit (skip s))
+group_of unit s = option_and_then (λ (x : Read Meaning). close x.0 (skip_while is_space x.1)) (meaning_of unit (skip_while is_space s))
 
 abbrev pub char_onto : ℕ → Option (List ℕ × List ℕ) → Option (List ℕ × List ℕ)
 char_onto c None = None
@@ -135,7 +133,7 @@ quoted_of s = in_bytes (unquoted false s)
 -- a word, which may not be empty
 unfoldable pub word_of : Parser (List ℕ)
 word_of [] = None
-word_of (c ∷ s) = if is_word_char c then Some (word (c ∷ s), past (c ∷ s)) else None
+word_of (c ∷ s) = if is_word_char c then Some (word (c ∷ s), skip_while is_word_char (c ∷ s)) else None
 
 unfoldable pub bound_of : Parser (Option (List ℕ))
 bound_of [] = None
@@ -151,10 +149,10 @@ range_end low high (c ∷ s) =
 unfoldable pub range_of : Bool → Parser Value
 range_of i s =
     option_and_then (λ (x : Read (Option (List ℕ))).
-      option_and_then (λ (t : List ℕ).
-        option_and_then (λ (y : Read (Option (List ℕ))). range_end (bound i x.0) y.0 (skip y.1)) (bound_of t))
-      (operator_at (codes "TO") x.1))
-    (bound_of (skip s))
+    option_and_then (λ (t : List ℕ).
+    option_and_then (λ (y : Read (Option (List ℕ))). range_end (bound i x.0) y.0 (skip_while is_space y.1)) (bound_of t))
+    (operator_at (codes "TO") x.1))
+    (bound_of (skip_while is_space s))
 
 -- behind a mark: the word behind it, and whether `=` stands between
 unfoldable pub compared_of : Parser (Bool × List ℕ)
@@ -200,7 +198,7 @@ begins_modifier c = c == plus || c == minus
 unfoldable pub bare_of : List Field → Parser Meaning
 bare_of schema [] = None
 bare_of schema (c ∷ s) =
-    if is_word_char c && not (begins_modifier c) && not (is_reserved (word (c ∷ s))) then after_bare schema (word (c ∷ s)) (past (c ∷ s)) else None
+    if is_word_char c && not (begins_modifier c) && not (is_reserved (word (c ∷ s))) then after_bare schema (word (c ∷ s)) (skip_while is_word_char (c ∷ s)) else None
 
 -- behind an opening quote
 unfoldable pub quoted_literal_of : List Field → Parser Meaning
@@ -226,4 +224,4 @@ ended m (c ∷ s) = None
 
 -- a whole text
 unfoldable pub query_of : List Field → ℕ → List ℕ → Option Meaning
-query_of schema d s = option_and_then (λ (x : Read Meaning). ended x.0 (skip x.1)) (meaning_of (unit_of schema d) (skip s))
+query_of schema d s = option_and_then (λ (x : Read Meaning). ended x.0 (skip_while is_space x.1)) (meaning_of (unit_of schema d) (skip_while is_space s))

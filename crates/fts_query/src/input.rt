@@ -4,7 +4,7 @@ ghost use Rattle.std.specs.Char.{encode_utf8};
 ghost use Rattle.std.specs.Str.{chars};
 ghost use Rattle.fts_model.specs.Schemas.{is_reserved};
 ghost use Rattle.fts_query.specs.Grammar.{is_space, is_special, is_word_char};
-ghost use Rattle.fts_query.specs.Reading.{skip, past, word, quoted_of};
+ghost use Rattle.fts_query.specs.Reading.{word, quoted_of, skip_while, is_of};
 ghost use Rattle.fts_query.specs.Steps.{Finds};
 
 use crate::error::ParseError;
@@ -54,31 +54,34 @@ pub(crate) fn split_first(text: &str) -> Option<(char, &str)>
     Some((first, rest.as_str()))
 }
 
-/// What follows the white space at the front.
-#[tactic(auto, unfolding(crate::specs::Reading::skip))]
-fn after_space(text: &str) -> &str
-    ensures chars { chars result.now ≡ skip (chars text.now) }
-    ensures short { length result.now ≤ length text.now }
-{
-    let mut rest = text;
-    while let Some((c, tail)) = split_first(rest) {
-        if !is_space(c) {
-            break;
-        }
-        rest = tail;
-    }
-    rest
+/// A class of characters.
+#[derive(Clone, Copy, Debug, PartialEq, Eq)]
+pub enum Class {
+    /// White space.
+    Space,
+    /// What a word may have.
+    Word,
 }
 
-/// What follows the word at the front.
-#[tactic(auto, unfolding(crate::specs::Reading::past))]
-fn after_word(text: &str) -> &str
-    ensures chars { chars result.now ≡ past (chars text.now) }
+/// Whether a character is of a class.
+fn is_of(class: Class, c: char) -> bool
+    ensures { result ≡ is_of class c }
+{
+    match class {
+        Class::Space => is_space(c),
+        Class::Word => is_word_char(c),
+    }
+}
+
+/// What follows the characters of a class at the front.
+#[tactic(auto, using(crate::proofs::ReadingLemmas::skip_while_end, crate::proofs::ReadingLemmas::skip_while_more, crate::proofs::ReadingLemmas::skip_while_stop))]
+fn skip_while(class: Class, text: &str) -> &str
+    ensures chars { chars result.now ≡ skip_while (is_of class) (chars text.now) }
     ensures short { length result.now ≤ length text.now }
 {
     let mut rest = text;
     while let Some((c, tail)) = split_first(rest) {
-        if !is_word_char(c) {
+        if !is_of(class, c) {
             break;
         }
         rest = tail;
@@ -89,11 +92,11 @@ fn after_word(text: &str) -> &str
 /// The word at the front, which may be empty, and what follows it.
 fn split_word(text: &str) -> (&str, &str)
     ensures word { result.0.now ≡ word (chars text.now) }
-    ensures rest { chars result.1.now ≡ past (chars text.now) }
+    ensures rest { chars result.1.now ≡ skip_while is_word_char (chars text.now) }
     ensures word_short { length result.0.now ≤ length text.now }
     ensures rest_short { length result.1.now ≤ length text.now }
 {
-    let rest = after_word(text);
+    let rest = skip_while(Class::Word, text);
     text.split_at(text.len() - rest.len())
 }
 
@@ -147,7 +150,8 @@ impl<'a> Model for Input<'a> {
 impl<'a> Input<'a> {
     ghost use Rattle.std.specs.Prelude.{◌≡◌, ◌≤◌, ◌∷◌, [], ℕ, List, length, option_map, MatchOption, IfOk, string_bytes};
     ghost use Rattle.std.specs.Str.{chars};
-    ghost use Rattle.fts_query.specs.Reading.{skip, past, word, quoted_of, begins_space, closes, space_at, operator_at};
+    ghost use Rattle.fts_query.specs.Grammar.{is_space, is_word_char};
+    ghost use Rattle.fts_query.specs.Reading.{word, quoted_of, begins_space, closes, space_at, operator_at, skip_while};
     ghost use Rattle.fts_query.specs.Steps.{Finds};
 
     /// All of a text.
@@ -188,10 +192,10 @@ impl<'a> Input<'a> {
 
     /// What follows the white space at the front.
     pub(crate) fn after_space(self) -> Input<'a>
-        ensures { result ≡ skip self.entry }
+        ensures { result ≡ skip_while is_space self.entry }
     {
         Input {
-            rest: after_space(self.rest),
+            rest: skip_while(Class::Space, self.rest),
         }
     }
 
@@ -199,7 +203,7 @@ impl<'a> Input<'a> {
     pub(crate) fn split_word(self) -> (&'a str, Input<'a>)
         ensures word { result.0.now ≡ word self.entry }
         ensures short { length result.0.now ≤ 4096 }
-        ensures rest { result.1 ≡ past self.entry }
+        ensures rest { result.1 ≡ skip_while is_word_char self.entry }
     {
         let (word, rest) = split_word(self.rest);
         (word, Input { rest })

@@ -9,11 +9,10 @@ ghost use Rattle.fts_query.specs.Grammar.{is_space, IsBlank};
 ghost use Rattle.fts_query.specs.Outcomes.{IsFit, Reads, byte_of};
 ghost use Rattle.fts_query.specs.Answers.{refusal_of, answer_fit, IsAnswer};
 
-use crate::error::QueryError;
+use crate::error::{ParseError, QueryError};
 use crate::input::{Input, LONGEST};
 use crate::nesting::is_too_deep;
 use crate::reader::query_at;
-use crate::error::ParseError;
 use fts_model::{Query, Refusal, Schema};
 use std::alloc::Global;
 

@@ -16,7 +16,7 @@ use crate::value::value_at;
 use fts_model::{Query, Schema};
 use std::alloc::{AllocError, Global};
 
-/// The levels of a list, each a sequence of items of the level above it.
+/// The levels of a list: each is a sequence of items of the one before it, the first of factors.
 #[derive(Clone, Copy, Debug, PartialEq, Eq)]
 pub enum Level {
     /// Factors with `AND` between them.
@@ -328,7 +328,11 @@ fn list_at<'a>(
 
 /// The meaning of a whole text.
 #[tactic(auto, unfolding(crate::specs::Reading::query_of))]
-pub(crate) fn query_at(alloc: Global, schema: &Schema, text: Input<'_>) -> Result<Meaning, ParseError>
+pub(crate) fn query_at(
+    alloc: Global,
+    schema: &Schema,
+    text: Input<'_>,
+) -> Result<Meaning, ParseError>
     ensures { Finds (λ m. result_map query_value m) result (query_of schema.now 4096 text.entry) }
 {
     let (meaning, rest) = list_at(alloc, schema, LONGEST, text.after_space())?;

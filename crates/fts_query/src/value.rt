@@ -5,8 +5,8 @@ ghost use Rattle.fts_query.specs.Values.{value_seen, bound_seen, IsShort};
 ghost use Rattle.fts_query.specs.Grammar.{bound};
 ghost use Rattle.fts_query.specs.Reading.{word_of, bound_of, range_end, range_of, compared_of, above_of, below_of, quoted_value_of, plain_of, value_of};
 
-use crate::input::{Input, is_word_char};
 use crate::error::ParseError;
+use crate::input::{Input, is_word_char};
 use std::alloc::Global;
 use std::ops::Bound;
 
@@ -176,7 +176,10 @@ fn plain_at<'a>(text: Input<'a>) -> Result<(Value<'a>, Input<'a>), ParseError>
 
 /// What stands after a field and a colon, and what follows it.
 #[tactic(auto, unfolding(crate::specs::Reading::value_of))]
-pub(crate) fn value_at<'a>(alloc: Global, text: Input<'a>) -> Result<(Value<'a>, Input<'a>), ParseError>
+pub(crate) fn value_at<'a>(
+    alloc: Global,
+    text: Input<'a>,
+) -> Result<(Value<'a>, Input<'a>), ParseError>
     ensures read { Finds (λ x. (value_seen x.0, x.1)) result (value_of text.entry) }
     ensures short { IfOk result (λ x. IsShort (value_seen x.0)) }
 {
