@@ -6,19 +6,51 @@ use std::sync::Wait;
 use std::test::Fail;
 use std::thread::Threads;
 
-/// What a script shows, and its lines, each with its reply.
-type Worked = (&'static str, &'static [(&'static str, &'static str)]);
+/// Runs a script whose last line lacks its LF, and compares its replies. No option occurs in them.
+fn shows(
+    rt: &(impl AllocGlobal + Abort + Threads + Wait),
+    says: &str,
+    lines: &[(&str, &str)],
+) -> Result<(), Fail> {
+    let mut script = String::new(rt.alloc());
+    let mut wanted = String::new(rt.alloc());
+    for (line, reply) in lines {
+        if !script.is_empty() {
+            script.push('\n')?;
+        }
+        script.push_str(line)?;
+        if !reply.is_empty() {
+            wanted.push_str(reply)?;
+            wanted.push('\n')?;
+        }
+    }
+    let other = Options {
+        workers: 3,
+        cut: Cut::Deal(2),
+        merge: Merge::Policy,
+    };
+    for options in [Options::default(), other] {
+        let bytes = script.as_str().as_bytes();
+        let (outcome, _, written) = run_over(rt, bytes, Vec::new(rt.alloc()), options);
+        assert_eq!(rt; outcome, Ok(()), "{says}");
+        assert_eq!(rt; written.as_slice(), wanted.as_str().as_bytes(), "{says}");
+    }
+    Ok(())
+}
 
-static WORKED: [Worked; 25] = [
-    (
+#[test]
+fn commits_and_deletes(rt: HostRuntime) -> Result<(), Fail> {
+    shows(
+        &rt,
         "A commit of nothing draws a stamp, and nothing is found.",
         &[
             (SCHEMA, r#"{"fields":4}"#),
             (r#"{"commit":true}"#, r#"{"commit":1}"#),
             (r#"{"search":{"query":"*"}}"#, r#"{"count":0}"#),
         ],
-    ),
-    (
+    )?;
+    shows(
+        &rt,
         "What waits for a commit isn't found.",
         &[
             (SCHEMA, r#"{"fields":4}"#),
@@ -27,8 +59,9 @@ static WORKED: [Worked; 25] = [
             (r#"{"commit":true}"#, r#"{"commit":2}"#),
             (r#"{"search":{"query":"*"}}"#, r#"{"count":1}"#),
         ],
-    ),
-    (
+    )?;
+    shows(
+        &rt,
         "Two equal documents are two documents.",
         &[
             (SCHEMA, r#"{"fields":4}"#),
@@ -37,8 +70,14 @@ static WORKED: [Worked; 25] = [
             (r#"{"commit":true}"#, r#"{"commit":3}"#),
             (r#"{"search":{"query":"x"}}"#, r#"{"count":2}"#),
         ],
-    ),
-    (
+    )?;
+    Ok(())
+}
+
+#[test]
+fn deletes_and_tokens(rt: HostRuntime) -> Result<(), Fail> {
+    shows(
+        &rt,
         "A delete strikes what was added before it, and nothing after it.",
         &[
             (SCHEMA, r#"{"fields":4}"#),
@@ -48,8 +87,9 @@ static WORKED: [Worked; 25] = [
             (r#"{"commit":true}"#, r#"{"commit":4}"#),
             (r#"{"search":{"query":"tag:x"}}"#, r#"{"count":1}"#),
         ],
-    ),
-    (
+    )?;
+    shows(
+        &rt,
         "A delete of what isn't there strikes nothing.",
         &[
             (SCHEMA, r#"{"fields":4}"#),
@@ -58,8 +98,9 @@ static WORKED: [Worked; 25] = [
             (r#"{"commit":true}"#, r#"{"commit":3}"#),
             (r#"{"search":{"query":"tag:x"}}"#, r#"{"count":1}"#),
         ],
-    ),
-    (
+    )?;
+    shows(
+        &rt,
         "A delete takes its token as it stands: it isn't folded, though the text was.",
         &[
             (SCHEMA, r#"{"fields":4}"#),
@@ -71,8 +112,14 @@ static WORKED: [Worked; 25] = [
             (r#"{"commit":true}"#, r#"{"commit":5}"#),
             (r#"{"search":{"query":"rust"}}"#, r#"{"count":0}"#),
         ],
-    ),
-    (
+    )?;
+    Ok(())
+}
+
+#[test]
+fn positions(rt: HostRuntime) -> Result<(), Fail> {
+    shows(
+        &rt,
         "A run of forty bytes is dropped and keeps its place, so that a phrase knows of the gap.",
         &[
             (SCHEMA, r#"{"fields":4}"#),
@@ -103,8 +150,9 @@ static WORKED: [Worked; 25] = [
                 r#"{"count":0}"#,
             ),
         ],
-    ),
-    (
+    )?;
+    shows(
+        &rt,
         "A phrase goes by positions, and a word of two runs is a phrase.",
         &[
             (SCHEMA, r#"{"fields":4}"#),
@@ -116,8 +164,14 @@ static WORKED: [Worked; 25] = [
             (r#"{"search":{"query":"\"b b\""}}"#, r#"{"count":0}"#),
             (r#"{"search":{"query":"foo-bar"}}"#, r#"{"count":1}"#),
         ],
-    ),
-    (
+    )?;
+    Ok(())
+}
+
+#[test]
+fn numbers(rt: HostRuntime) -> Result<(), Fail> {
+    shows(
+        &rt,
         "A bound in braces is left out, up to the greatest number.",
         &[
             (SCHEMA, r#"{"fields":4}"#),
@@ -142,8 +196,9 @@ static WORKED: [Worked; 25] = [
             ),
             (r#"{"search":{"query":"price:{0 TO *]"}}"#, r#"{"count":1}"#),
         ],
-    ),
-    (
+    )?;
+    shows(
+        &rt,
         "Groups and top lists go by number, negative ones first; a document without one is counted alone.",
         &[
             (SCHEMA, r#"{"fields":4}"#),
@@ -157,8 +212,14 @@ static WORKED: [Worked; 25] = [
                 r#"{"count":4,"groups":[[-9223372036854775808,1],[-1,1],[0,1]],"top":[{"doc":{"temp":-9223372036854775808},"stamp":1,"value":-9223372036854775808},{"doc":{"temp":-1},"stamp":2,"value":-1},{"doc":{"temp":0},"stamp":3,"value":0}]}"#,
             ),
         ],
-    ),
-    (
+    )?;
+    Ok(())
+}
+
+#[test]
+fn ties_and_must_nots(rt: HostRuntime) -> Result<(), Fail> {
+    shows(
+        &rt,
         "Equal values stand by stamp in both orders, and a merge changes nothing that is found.",
         &[
             (SCHEMA, r#"{"fields":4}"#),
@@ -177,8 +238,9 @@ static WORKED: [Worked; 25] = [
                 r#"{"count":4,"top":[{"doc":{"price":5},"stamp":1,"value":5},{"doc":{"price":5},"stamp":2,"value":5},{"doc":{"price":5},"stamp":3,"value":5}]}"#,
             ),
         ],
-    ),
-    (
+    )?;
+    shows(
+        &rt,
         "Must-nots take hits away, and are no query alone.",
         &[
             (SCHEMA, r#"{"fields":4}"#),
@@ -205,8 +267,14 @@ static WORKED: [Worked; 25] = [
                 r#"{"error":"AllNegative","line":11}"#,
             ),
         ],
-    ),
-    (
+    )?;
+    Ok(())
+}
+
+#[test]
+fn rollbacks_and_folding(rt: HostRuntime) -> Result<(), Fail> {
+    shows(
+        &rt,
         "A rollback takes back the operations since the last commit, and their stamps.",
         &[
             (SCHEMA, r#"{"fields":4}"#),
@@ -217,8 +285,9 @@ static WORKED: [Worked; 25] = [
             (r#"{"search":{"query":"*"}}"#, r#"{"count":1}"#),
             (r#"{"search":{"query":"tag:x"}}"#, r#"{"count":0}"#),
         ],
-    ),
-    (
+    )?;
+    shows(
+        &rt,
         "Simple folding takes every sigma to one.",
         &[
             (SCHEMA, r#"{"fields":4}"#),
@@ -226,8 +295,9 @@ static WORKED: [Worked; 25] = [
             (r#"{"commit":true}"#, r#"{"commit":2}"#),
             (r#"{"search":{"query":"σοφος"}}"#, r#"{"count":1}"#),
         ],
-    ),
-    (
+    )?;
+    shows(
+        &rt,
         "A keyword is found as a whole and isn't folded.",
         &[
             (SCHEMA, r#"{"fields":4}"#),
@@ -236,15 +306,22 @@ static WORKED: [Worked; 25] = [
             (r#"{"search":{"query":"Rust"}}"#, r#"{"count":1}"#),
             (r#"{"search":{"query":"rust"}}"#, r#"{"count":0}"#),
         ],
-    ),
-    (
+    )?;
+    shows(
+        &rt,
         "A line that the end of the input cuts adds nothing.",
         &[
             (SCHEMA, r#"{"fields":4}"#),
             (r#"{"add":{"title":"x""#, r#"{"error":"BadJson","line":2}"#),
         ],
-    ),
-    (
+    )?;
+    Ok(())
+}
+
+#[test]
+fn order_of_checks(rt: HostRuntime) -> Result<(), Fail> {
+    shows(
+        &rt,
         "A refused line leaves everything as it was, blank lines count, and each check has its place.",
         &[
             (r#"{"commit":true}"#, r#"{"error":"NoSchema","line":1}"#),
@@ -270,8 +347,14 @@ static WORKED: [Worked; 25] = [
                 r#"{"error":"BadLimit","line":10}"#,
             ),
         ],
-    ),
-    (
+    )?;
+    Ok(())
+}
+
+#[test]
+fn refused_queries(rt: HostRuntime) -> Result<(), Fail> {
+    shows(
+        &rt,
         "Each refusal of a query has its name.",
         &[
             (SCHEMA, r#"{"fields":4}"#),
@@ -311,8 +394,14 @@ static WORKED: [Worked; 25] = [
                 r#"{"error":"Syntax","line":12}"#,
             ),
         ],
-    ),
-    (
+    )?;
+    Ok(())
+}
+
+#[test]
+fn answers(rt: HostRuntime) -> Result<(), Fail> {
+    shows(
+        &rt,
         "Groups rise, and a falling top list begins with the greatest.",
         &[
             (SCHEMA, r#"{"fields":4}"#),
@@ -326,8 +415,9 @@ static WORKED: [Worked; 25] = [
                 r#"{"count":4,"groups":[[3,2],[7,1]],"top":[{"doc":{"price":7},"stamp":2,"value":7},{"doc":{"price":3},"stamp":1,"value":3}]}"#,
             ),
         ],
-    ),
-    (
+    )?;
+    shows(
+        &rt,
         "A delete of all strikes what came before it; a merge leaves what waits for a commit.",
         &[
             (SCHEMA, r#"{"fields":4}"#),
@@ -344,8 +434,9 @@ static WORKED: [Worked; 25] = [
             (r#"{"commit":true}"#, r#"{"commit":6}"#),
             (r#"{"search":{"query":"*"}}"#, r#"{"count":2}"#),
         ],
-    ),
-    (
+    )?;
+    shows(
+        &rt,
         "A document is printed with its fields in the order of their names, and null is no value.",
         &[
             (SCHEMA, r#"{"fields":4}"#),
@@ -359,8 +450,14 @@ static WORKED: [Worked; 25] = [
                 r#"{"count":1,"top":[{"doc":{"price":4,"temp":-4,"title":"Rust"},"stamp":1,"value":-4}]}"#,
             ),
         ],
-    ),
-    (
+    )?;
+    Ok(())
+}
+
+#[test]
+fn refused_deletes(rt: HostRuntime) -> Result<(), Fail> {
+    shows(
+        &rt,
         "A delete names one field that there is, with a value of its kind.",
         &[
             (SCHEMA, r#"{"fields":4}"#),
@@ -383,8 +480,14 @@ static WORKED: [Worked; 25] = [
             ),
             (r#"{"delete":{"price":4}}"#, r#"{"stamp":1}"#),
         ],
-    ),
-    (
+    )?;
+    Ok(())
+}
+
+#[test]
+fn forms(rt: HostRuntime) -> Result<(), Fail> {
+    shows(
+        &rt,
         "A command has the one member that it is named for, in its form.",
         &[
             (SCHEMA, r#"{"fields":4}"#),
@@ -424,8 +527,14 @@ static WORKED: [Worked; 25] = [
             ),
             (r#"{"add":7}"#, r#"{"error":"NotAnObject","line":15}"#),
         ],
-    ),
-    (
+    )?;
+    Ok(())
+}
+
+#[test]
+fn refused_searches(rt: HostRuntime) -> Result<(), Fail> {
+    shows(
+        &rt,
         "A search looks at its query first, then at its groups, then at the field of its top list, then at its limit.",
         &[
             (SCHEMA, r#"{"fields":4}"#),
@@ -454,8 +563,9 @@ static WORKED: [Worked; 25] = [
                 r#"{"count":0,"top":[]}"#,
             ),
         ],
-    ),
-    (
+    )?;
+    shows(
+        &rt,
         "A schema that is refused isn't taken.",
         &[
             (r#"{"schema":[]}"#, r#"{"error":"NoFields","line":1}"#),
@@ -476,54 +586,7 @@ static WORKED: [Worked; 25] = [
                 r#"{"error":"Syntax","line":5}"#,
             ),
         ],
-    ),
-];
-
-/// Runs a script, and compares its replies.
-fn shows(
-    rt: &(impl AllocGlobal + Abort + Threads + Wait),
-    says: &str,
-    lines: &[(&str, &str)],
-    options: Options,
-) -> Result<(), Fail> {
-    let mut script = String::new(rt.alloc());
-    let mut wanted = String::new(rt.alloc());
-    for (line, reply) in lines {
-        if !script.is_empty() {
-            script.push('\n')?;
-        }
-        script.push_str(line)?;
-        if !reply.is_empty() {
-            wanted.push_str(reply)?;
-            wanted.push('\n')?;
-        }
-    }
-    let script = script.as_str().as_bytes();
-    let (outcome, _, written) = run_over(rt, script, Vec::new(rt.alloc()), options);
-    assert_eq!(rt; outcome, Ok(()), "{says}");
-    assert_eq!(rt; written.as_slice(), wanted.as_str().as_bytes(), "{says}");
-    Ok(())
-}
-
-#[test]
-fn worked_scripts(rt: HostRuntime) -> Result<(), Fail> {
-    for (says, lines) in &WORKED {
-        shows(&rt, says, lines, Options::default())?;
-    }
-    Ok(())
-}
-
-/// No option occurs in what a script replies.
-#[test]
-fn worked_scripts_under_other_options(rt: HostRuntime) -> Result<(), Fail> {
-    let options = Options {
-        workers: 3,
-        cut: Cut::Deal(2),
-        merge: Merge::Policy,
-    };
-    for (says, lines) in &WORKED {
-        shows(&rt, says, lines, options)?;
-    }
+    )?;
     Ok(())
 }
 
