@@ -55,3 +55,8 @@ impl GhostBytes {
         GhostBytes {}
     }
 }
+
+// Neither owns anything that a thread could have.
+unsafe impl Send for GhostCount {}
+
+unsafe impl Send for GhostBytes {}

@@ -3,7 +3,7 @@ use Rattle.std.proofs.Common.{◌≡◌, ℕ, zero, suc, ◌+◌, ◌-◌, ◌*�
 use Rattle.std.proofs.lemmas.List.Sums.{sum_by-cons}
 use Rattle.std.specs.Int.{bit_at, w64}
 use Rattle.std.specs.Int.Count.{ones}
-use Rattle.std.proofs.lemmas.Nat.{pow_pos, mod_below, shr_split, div-add-mod', pow-add, one_shl, pow_below, ones_cat, ones-le, or_lt, and_le_l}
+use Rattle.std.proofs.lemmas.Nat.{pow_pos, mod_below, shr_split, div-add-mod', pow-add, one_shl, pow_below, ones_cat, ones-le, or_lt, and_le_l, mod_low, mod-pow-add, shr-shr, shl_whole, or_comm, or_shifted}
 use lib.Count.{ones_step}
 use Rattle.std.proofs.lemmas.Nat.Bits.{same_from_bits, bit_at_above, bit_at_cat_low, bit_at_ones, bit_at-zero, bit_at_set_same, bit_at_set_other, bit_at_clear_same, bit_at_clear_other, shr_and_one}
 use Rattle.std.proofs.lemmas.List.{get_or-map, ext_get_or, length-set, length-map, get_or-set_same, get_or-set_other, get_or-replicate, length-replicate, replicate_more, set_at, length_push, take_more, take-append-drop}
@@ -15,9 +15,13 @@ use Rattle.std.specs.Cmp.{booleans_Decides}
 use Rattle.std.specs.Cmp.Lexicographic.{pointwise}
 use Rattle.std.proofs.Math.Bool.{beq}
 use Rattle.fts_pack.specs.Digits.{joined, digits, word_count, words_of, numbers_in}
-use Rattle.fts_pack.specs.Bits.{IsBits, flags, marks}
-use Rattle.fts_pack.proofs.DigitsLemmas.{Below, Below-push, read_one, get_or-digits, length-digits, joined-below, joined-append, joined-digits, digits-joined}
-use Rattle.fts_pack.proofs.PackingLemmas.{Below-take, length-numbers_in}
+use Rattle.fts_pack.specs.Bits.{IsBits, flags, marks, number_of}
+use Rattle.fts_pack.proofs.DigitsLemmas.{Below, Below-push, read_one, get_or-digits, length-digits, joined-below, joined-append, joined-digits, digits-joined, joined-drop, joined-drop_split, joined-take}
+use Rattle.fts_pack.proofs.PackingLemmas.{Below-drop, Below-take, length-numbers_in}
+
+-- the greatest number of 64 bits
+abbrev pub all_ones : ℕ
+all_ones = 18446744073709551615
 
 -- bit i of the words, as a bit of one word
 pub bit_in_word : (words : List ℕ) (i : ℕ) → Below 64 words → bit_at (joined 64 words) i ≡ bit_at (get_or words (i / 64) 0) (i % 64)
@@ -99,7 +103,7 @@ flags-written len place bit words after inside w =
     ]))
 
 -- every bit of whole words is 1
-joined-replicate_ones : (count : ℕ) → joined 64 (replicate count 18446744073709551615) + 1 ≡ 2 ^ (count * 64)
+joined-replicate_ones : (count : ℕ) → joined 64 (replicate count all_ones) + 1 ≡ 2 ^ (count * 64)
 unfolding joined
 joined-replicate_ones zero = refl
 joined-replicate_ones (suc count) =
@@ -122,33 +126,33 @@ Below-replicate zero x small i = pow_pos 64
 Below-replicate (suc count) x small zero = small
 Below-replicate (suc count) x small (suc i) = Below-replicate count x small i
 
-pub AreFull-whole : (len : ℕ) → len % 64 ≡ 0 → AreFull len (replicate (word_count 64 len) 18446744073709551615)
+pub AreFull-whole : (len : ℕ) → len % 64 ≡ 0 → AreFull len (replicate (word_count 64 len) all_ones)
 unfolding word_count
 AreFull-whole len whole =
     let count : word_count 64 len * 64 ≡ len = omega (arith, whole) in
     record {
-      count = length-replicate (word_count 64 len) 18446744073709551615;
-      fits = Below-replicate (word_count 64 len) 18446744073709551615 (lit< tt);
+      count = length-replicate (word_count 64 len) all_ones;
+      fits = Below-replicate (word_count 64 len) all_ones (lit< tt);
       number = joined-replicate_ones (word_count 64 len) ∙ ap (λ b. 2 ^ b) count;
     }
 
-pub AreFull-rest : (len : ℕ) → 0 < len % 64 → AreFull len (set (replicate (word_count 64 len) 18446744073709551615) (len / 64) (1 * 2 ^ (len % 64) % 18446744073709551616 - 1))
+pub AreFull-rest : (len : ℕ) → 0 < len % 64 → AreFull len (set (replicate (word_count 64 len) all_ones) (len / 64) (1 * 2 ^ (len % 64) % 18446744073709551616 - 1))
 unfolding word_count joined
 AreFull-rest len some =
-    let whole = replicate (len / 64) 18446744073709551615 in
+    let whole = replicate (len / 64) all_ones in
     let last = 1 * 2 ^ (len % 64) % 18446744073709551616 - 1 in
     let last_is : last ≡ 2 ^ (len % 64) - 1 = ap (λ n. n - 1) (one_shl (len % 64) 64 (mod_below len 64 (omega arith))) in
     let count : word_count 64 len ≡ len / 64 + 1 = omega arith in
-    let words : replicate (word_count 64 len) 18446744073709551615 ≡ whole ++ 18446744073709551615 ∷ [] = ap (λ n. replicate n 18446744073709551615) count ∙ sym (replicate_more (len / 64) 18446744073709551615) in
-    let after : set (replicate (word_count 64 len) 18446744073709551615) (len / 64) last ≡ whole ++ last ∷ [] = ap (λ xs. set xs (len / 64) last) words ∙ set_at whole 18446744073709551615 [] last (len / 64) (length-replicate (len / 64) 18446744073709551615) in
+    let words : replicate (word_count 64 len) all_ones ≡ whole ++ all_ones ∷ [] = ap (λ n. replicate n all_ones) count ∙ sym (replicate_more (len / 64) all_ones) in
+    let after : set (replicate (word_count 64 len) all_ones) (len / 64) last ≡ whole ++ last ∷ [] = ap (λ xs. set xs (len / 64) last) words ∙ set_at whole all_ones [] last (len / 64) (length-replicate (len / 64) all_ones) in
     let pow : 2 ^ len ≡ 2 ^ (len % 64) * 2 ^ (len / 64 * 64) = ap (λ b. 2 ^ b) (omega arith) ∙ pow-add 2 (len % 64) (len / 64 * 64) in
-    let size : length whole ≡ len / 64 = length-replicate (len / 64) 18446744073709551615 in
+    let size : length whole ≡ len / 64 = length-replicate (len / 64) all_ones in
     let small : last < 2 ^ 64 = rw last_is (omega (arith, pow_below (len % 64) 64 (mod_below len 64 (omega arith)))) in
     let top : last + 1 ≡ 2 ^ (len % 64) = omega (arith, last_is, pow_pos (len % 64)) in
     let joined_is : joined 64 (whole ++ last ∷ []) ≡ (0 * 2 ^ 64 + last) * 2 ^ (len / 64 * 64) + joined 64 whole = joined-append 64 whole (last ∷ []) ∙ ap (λ k. (0 * 2 ^ 64 + last) * 2 ^ (k * 64) + joined 64 whole) size in
     record {
       count = rw after (length_push whole last ∙ omega (arith, size, count));
-      fits = rw after (Below-push 64 last whole (Below-replicate (len / 64) 18446744073709551615 (lit< tt)) small);
+      fits = rw after (Below-push 64 last whole (Below-replicate (len / 64) all_ones (lit< tt)) small);
       number = ap (λ xs. joined 64 xs + 1) after ∙ omega (arith, joined_is, joined-replicate_ones (len / 64), ap (λ n. n * 2 ^ (len / 64 * 64)) top, pow);
     }
 
@@ -234,23 +238,72 @@ words-from_flags len words h =
     let number : joined 1 (marks (flags (digits 1 len n))) ≡ n = ap (joined 1) (marks-flags len n) ∙ joined-digits 1 len n ∙ ap (λ p. n % p) bits ∙ mod-eq_of_lt h.unused in
     sym (ap₂ (λ b m. digits 64 (word_count 64 b) m) size number ∙ ap (λ c. digits 64 c n) (sym h.count) ∙ digits-joined 64 words h.fits)
 
+-- booleans as a number are their words as one
+pub number_of-flags : (len : ℕ) (words : List ℕ) → IsBits len words → number_of (flags (numbers_in 64 1 len words)) ≡ joined 64 words
+unfolding numbers_in
+number_of-flags len words h =
+    let n = joined 64 words in
+    ap (joined 1) (marks-flags len n) ∙ joined-digits 1 len n ∙ ap (λ b. n % 2 ^ b) (mul-one len) ∙ mod-eq_of_lt h.unused
+
+marks-take : (count : ℕ) (bits : List Bool) → marks (take count bits) ≡ take count (marks bits)
+marks-take zero bits = refl
+marks-take (suc count) [] = refl
+marks-take (suc count) (bit ∷ bits) = ap (λ xs. cond bit 1 0 ∷ xs) (marks-take count bits)
+
+marks-drop : (count : ℕ) (bits : List Bool) → marks (drop count bits) ≡ drop count (marks bits)
+marks-drop zero bits = refl
+marks-drop (suc count) [] = refl
+marks-drop (suc count) (bit ∷ bits) = marks-drop count bits
+
+-- a part of booleans is a part of their number
+pub number_of-part : (bits : List Bool) (start count : ℕ) → number_of (take count (drop start bits)) ≡ number_of bits / 2 ^ start % 2 ^ count
+number_of-part bits start count =
+    let all = marks bits in
+    ap (joined 1) (marks-take count (drop start bits) ∙ ap (take count) (marks-drop start bits))
+    ∙ joined-take 1 count (drop start all) (Below-drop 1 start all (Below-marks bits))
+    ∙ ap₂ (λ n b. n % 2 ^ b) (sym (joined-drop 1 start all (Below-marks bits)) ∙ ap (λ b. joined 1 all / 2 ^ b) (mul-one start)) (mul-one count)
+
+-- one of the words
+pub word_read : (len index : ℕ) (words : List ℕ) → IsBits len words → get_or words index 0 ≡ number_of (take 64 (drop (64 * index) (flags (numbers_in 64 1 len words))))
+word_read len index words h =
+    let rest = joined 64 (drop (suc index) words) in
+    let at : joined 64 words / 2 ^ (index * 64) ≡ rest * 2 ^ 64 + get_or words index 0 = joined-drop 64 index words h.fits ∙ joined-drop_split 64 index words in
+    let turned : 64 * index ≡ index * 64 = omega arith in
+    sym (number_of-part (flags (numbers_in 64 1 len words)) (64 * index) 64
+    ∙ ap₂ (λ n b. n / 2 ^ b % 2 ^ 64) (number_of-flags len words h) turned
+    ∙ ap (λ n. n % 2 ^ 64) at
+    ∙ mod_low rest 64 (get_or words index 0) (h.fits index))
+
+-- two words side by side
+pub words_side_by_side : (bits : List Bool) (start low high : ℕ) → low ≡ number_of (take 64 (drop start bits)) → high ≡ number_of (take 64 (drop (start + 64) bits)) → bit_or low (high * 2 ^ 64 % 2 ^ 128) ≡ number_of (take 128 (drop start bits))
+words_side_by_side bits start low high low_is high_is =
+    let n = number_of bits in
+    let low' : low ≡ n / 2 ^ start % 2 ^ 64 = low_is ∙ number_of-part bits start 64 in
+    let high' : high ≡ n / 2 ^ start / 2 ^ 64 % 2 ^ 64 = high_is ∙ number_of-part bits (start + 64) 64 ∙ ap (λ m. m % 2 ^ 64) (sym (shr-shr n start 64)) in
+    let small : low < 2 ^ 64 = rw low' (mod_below (n / 2 ^ start) (2 ^ 64) (pow_pos 64)) in
+    let fits : high < 2 ^ 64 = rw high' (mod_below (n / 2 ^ start / 2 ^ 64) (2 ^ 64) (pow_pos 64)) in
+    ap (bit_or low) (shl_whole high 64 64 128 fits (omega arith))
+    ∙ or_comm low (high * 2 ^ 64)
+    ∙ or_shifted high 64 low small
+    ∙ ap₂ (λ a b. a * 2 ^ 64 + b) high' low'
+    ∙ sym (mod-pow-add (n / 2 ^ start) 64 64)
+    ∙ sym (number_of-part bits start 128)
+
 -- booleans that are the same lie in the same words
 pub words-unique : (len : ℕ) (words others : List ℕ) → IsBits len words → IsBits len others → flags (numbers_in 64 1 len words) ≡ flags (numbers_in 64 1 len others) → words ≡ others
 words-unique len words others h g same =
     words-from_flags len words h ∙ ap (λ bits. words_of 64 1 (marks bits)) same ∙ sym (words-from_flags len others g)
 
--- a bit set, and a bit cleared
-pub bit_set : (words : List ℕ) (place n : ℕ) → Below 64 words → place / 64 < length words → n ≡ get_or words (place / 64) 0 → IsBitWritten words (set words (place / 64) (bit_or n (1 * 2 ^ (place % 64) % 2 ^ 64))) place 1
-bit_set words place n below inside n_is =
+-- a bit set, or cleared
+pub bit_put : (bit : Bool) (words : List ℕ) (place n : ℕ) → Below 64 words → place / 64 < length words → n ≡ get_or words (place / 64) 0 → IsBitWritten words (set words (place / 64) (cond bit (bit_or n (1 * 2 ^ (place % 64) % 2 ^ 64)) (bit_and n (all_ones - 1 * 2 ^ (place % 64) % 2 ^ 64)))) place (cond bit 1 0)
+bit_put true words place n below inside n_is =
     let start : place % 64 < 64 = mod_below place 64 (omega arith) in
     let small : n < 2 ^ 64 = rw n_is (below (place / 64)) in
     bit_written words place (bit_or n (1 * 2 ^ (place % 64) % 2 ^ 64)) 1 below inside (or_lt 64 n (1 * 2 ^ (place % 64) % 2 ^ 64) small (mod_below (1 * 2 ^ (place % 64)) (2 ^ 64) (pow_pos 64))) (bit_at_set_same w64 n (place % 64) start) (λ i lt ne. bit_at_set_other w64 n (place % 64) start i ne ∙ ap (λ m. bit_at m i) n_is)
-
-pub bit_cleared : (words : List ℕ) (place n : ℕ) → Below 64 words → place / 64 < length words → n ≡ get_or words (place / 64) 0 → IsBitWritten words (set words (place / 64) (bit_and n (18446744073709551615 - 1 * 2 ^ (place % 64) % 2 ^ 64))) place 0
-bit_cleared words place n below inside n_is =
+bit_put false words place n below inside n_is =
     let start : place % 64 < 64 = mod_below place 64 (omega arith) in
     let small : n < 2 ^ 64 = rw n_is (below (place / 64)) in
-    let mask = 18446744073709551615 - 1 * 2 ^ (place % 64) % 2 ^ 64 in
+    let mask = all_ones - 1 * 2 ^ (place % 64) % 2 ^ 64 in
     bit_written words place (bit_and n mask) 0 below inside (lt_of_le_of_lt (and_le_l n mask) small) (bit_at_clear_same w64 n (place % 64) start) (λ i lt ne. bit_at_clear_other w64 n (place % 64) start i lt ne ∙ ap (λ m. bit_at m i) n_is)
 
 pub ones-joined_nil : ones (joined 64 []) ≡ 0

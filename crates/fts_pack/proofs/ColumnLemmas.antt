@@ -1,15 +1,18 @@
 -- The range of a column, the offsets from its least value, and the values that they give back.
-use Rattle.std.proofs.Common.{◌≡◌, ℕ, zero, suc, ◌+◌, ◌-◌, ◌*◌, ◌/◌, ◌%◌, ◌^◌, ◌<◌, ◌≤◌, inl, inr, List, [], ◌∷◌, ◌++◌, Bool, true, false, Option, Some, None, slice_get, is_some, IfSome, All, Contains, map, replicate, length, get_or, take, set, min, max, cond, refl, sym, ap, ap₂, ◌∙◌, subst, arith, unwrap_or, lit<}
+use Rattle.std.proofs.Common.{◌≡◌, ℕ, zero, suc, ◌+◌, ◌-◌, ◌*◌, ◌/◌, ◌%◌, ◌^◌, ◌<◌, ◌≤◌, inl, inr, List, [], ◌∷◌, ◌++◌, Bool, true, false, Option, Some, None, slice_get, is_some, IfSome, All, Contains, map, replicate, length, get_or, take, drop, set, min, max, cond, refl, sym, ap, ap₂, ◌∙◌, subst, arith, unwrap_or, lit<, mod-eq_of_lt}
 use Rattle.std.specs.Option.{option_map_or}
-use Rattle.std.proofs.lemmas.List.{length-map, get_or-map, set_at, append_assoc, take_more, map_push, length-take-le, get_or_past}
+use Rattle.std.proofs.lemmas.List.{length-map, get_or-map, set_at, append_assoc, take_more, map_push, length-take-le, get_or_past, get_or_append_left, get_or-append_right, get_or-take, length-append}
 use Rattle.std.proofs.lemmas.List.Elements.{All-push, Contains-append_left, Contains-push}
 use Rattle.std.proofs.lemmas.Option.{get_or_from_slice_get}
 use Rattle.std.proofs.lemmas.Nat.{mul-le, pow_pos}
 use Rattle.std.proofs.lemmas.Bool.{cases_lt}
-use Rattle.fts_pack.specs.Digits.{IsWidthOf, joined, digits, numbers_in, words_of}
+use Rattle.std.proofs.Math.Nat.{mul-le-mul_right}
+use Rattle.fts_pack.specs.Digits.{IsWidthOf, joined, digits, numbers_in, word_count, words_of}
 use Rattle.fts_pack.specs.Column.{IsColumn, IsRangeOf, range_with, least_of, spread_of, offsets, values_at}
-use Rattle.fts_pack.proofs.DigitsLemmas.{length-digits, get_or-digits}
-use Rattle.fts_pack.proofs.PackingLemmas.{Below-from_all, numbers_in-words_of, length-numbers_in}
+use Rattle.fts_pack.proofs.DigitsLemmas.{Below, Below-words_of, length-digits, get_or-digits}
+use borrow.Rule.Slice.PartMut.{put_mid}
+use Rattle.fts_pack.proofs.FieldLemmas.{AreReadFrom}
+use Rattle.fts_pack.proofs.PackingLemmas.{Below-from_all, numbers_in-words_of, length-numbers_in, length-words_of, word_count-holds}
 
 pub IsRangeOf-missing : (values : List (Option ℕ)) (range : Option (ℕ × ℕ)) → IsRangeOf values range → IsRangeOf (values ++ None ∷ []) range
 IsRangeOf-missing values None h = All-push (λ v. v ≡ None) values None h refl
@@ -263,3 +266,62 @@ column_words values kept width words h range other is wide =
     let same = range_unique values kept range h.range_is is in
     let one = width_unique (spread_of range ∷ []) width other (column_width values kept width words h range is) wide in
     h.words_are ∙ ap₂ (λ w r. words_of 64 w (offsets (least_of r) values)) one same
+
+-- 64 documents of a column have their words
+pub words_inside : (values : List (Option ℕ)) (range : Option (ℕ × ℕ)) (width from : ℕ) (words : List ℕ) → IsColumn values range width words → from % 64 ≡ 0 → 64 ≤ length values - from → from / 64 * width + width ≤ length words
+words_inside values range width from words h aligned many =
+    let size : length words ≡ word_count 64 (length values * width) = ap length h.words_are ∙ length-words_of 64 width (offsets (least_of range) values) ∙ ap (λ n. word_count 64 (n * width)) (length-offsets (least_of range) values) in
+    let bits : (from / 64 + 1) * 64 * width ≤ length values * width = mul-le-mul_right width (omega arith) in
+    let enough = word_count-holds 64 (length values * width) (omega arith) in
+    let split : (from / 64 + 1) * 64 * width ≡ (from / 64 * width + width) * 64 = omega arith in
+    omega (arith, size, enough)
+
+-- what an option that is there holds
+cond_some : (b : Bool) (x y : ℕ) → cond b (Some y) None ≡ Some x → y ≡ x
+cond_some true x y e = cc
+cond_some false x y e = cc
+
+there_fits : (values : List (Option ℕ)) (range : Option (ℕ × ℕ)) (i x : ℕ) → IsRangeOf values range → IfSome range (λ r. r.1 < 2 ^ 64) → i < length values → get_or values i None ≡ Some x → x < 2 ^ 64
+there_fits values None i x h fits inside at = absurd (none_is_some (get_or values i None) x (h i None inside) at)
+there_fits values (Some range) i x h fits inside at =
+    omega (arith, within_range values range i x h inside at, fits)
+
+-- numbers that were read, each above the least, are the values that are there
+pub read_values : (values : List (Option ℕ)) (range : Option (ℕ × ℕ)) (present : List Bool) (width least from count : ℕ) (words out : List ℕ) → values_at (least_of range) present (numbers_in 64 width (length present) words) ≡ values → IsColumn values range width words → least ≡ least_of range → AreReadFrom words width least from count out → ((i : ℕ) → i < 64 → from + i < length values → i < count) → (i x : ℕ) → i < 64 → get_or values (from + i) None ≡ Some x → get_or out i 0 ≡ x
+read_values values range present width least from count words out view h least_is read enough i x small e =
+    elim (cases_lt (from + i) (length values)) [
+      | inl inside ↦ (
+          let number = joined 64 words / 2 ^ ((from + i) * width) % 2 ^ width in
+          let here : from + i < length present = omega (arith, column_length values (least_of range) present width words view) in
+          let at = column_at values (least_of range) present width (from + i) words view here in
+          let same : least_of range + number ≡ x = cond_some (get_or present (from + i) false) x (least_of range + number) (sym at ∙ e) in
+          read i (enough i small inside) ∙ ap (λ n. (n + number) % 2 ^ 64) least_is ∙ ap (λ n. n % 2 ^ 64) same ∙ mod-eq_of_lt (there_fits values range (from + i) x h.range_is h.range_fits inside e)
+          )
+      | inr past ↦ absurd (none_is_some (get_or values (from + i) None) x (get_or_past values (from + i) None past) e)
+    ]
+
+presence-take : (count : ℕ) (values : List (Option ℕ)) → map is_some (take count values) ≡ take count (map is_some values)
+presence-take zero values = refl
+presence-take (suc count) [] = refl
+presence-take (suc count) (v ∷ values) = ap (λ bits. is_some v ∷ bits) (presence-take count values)
+
+-- the presence of a part of a column
+pub presence-part : (start count : ℕ) (values : List (Option ℕ)) → map is_some (take count (drop start values)) ≡ take count (drop start (map is_some values))
+presence-part zero count values = presence-take count values
+presence-part (suc start) zero [] = refl
+presence-part (suc start) (suc count) [] = refl
+presence-part (suc start) count (v ∷ values) = presence-part start count values
+
+pub column_below : (values : List (Option ℕ)) (range : Option (ℕ × ℕ)) (width : ℕ) (words : List ℕ) → IsColumn values range width words → Below 64 words
+column_below values range width words h = subst (Below 64) (sym h.words_are) (Below-words_of 64 width (offsets (least_of range) values))
+
+-- two halves that were written, one after the other
+pub half_low : (a b out : List ℕ) (i : ℕ) → length a ≡ 64 → i < 64 → get_or (put_mid 64 64 (a ++ out) b) i 0 ≡ get_or a i 0
+half_low a b out i long small =
+    let size : length (take 64 (a ++ out)) ≡ 64 = length-take-le 64 (a ++ out) (omega (arith, length-append a out)) in
+    get_or_append_left (take 64 (a ++ out)) _ 0 i (omega arith) ∙ get_or-take 64 (a ++ out) i 0 small ∙ get_or_append_left a out 0 i (omega arith)
+
+pub half_high : (a b out : List ℕ) (i : ℕ) → length a ≡ 64 → length b ≡ 64 → 64 ≤ i → i < 128 → get_or (put_mid 64 64 (a ++ out) b) i 0 ≡ get_or b (i - 64) 0
+half_high a b out i long long' above small =
+    let size : length (take 64 (a ++ out)) ≡ 64 = length-take-le 64 (a ++ out) (omega (arith, length-append a out)) in
+    get_or-append_right (take 64 (a ++ out)) _ 64 i 0 size above ∙ get_or_append_left b _ 0 (i - 64) (omega arith)

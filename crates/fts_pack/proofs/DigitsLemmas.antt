@@ -1,5 +1,5 @@
 -- Laws of digits to a base that is a power of two.
-use Rattle.std.proofs.Common.{◌≡◌, ℕ, zero, suc, ◌+◌, ◌-◌, ◌*◌, ◌/◌, ◌%◌, ◌^◌, ◌<◌, ◌≤◌, List, [], ◌∷◌, ◌++◌, length, get_or, drop, refl, sym, ap, ◌∙◌, subst, arith, add-one, add_comm, mul_comm, zero-mul, suc-mul, div-one, lit<, lt_trans}
+use Rattle.std.proofs.Common.{◌≡◌, ℕ, zero, suc, ◌+◌, ◌-◌, ◌*◌, ◌/◌, ◌%◌, ◌^◌, ◌<◌, ◌≤◌, List, [], ◌∷◌, ◌++◌, length, get_or, take, drop, refl, sym, ap, ap₂, mod-eq_of_lt, ◌∙◌, subst, arith, add-one, add_comm, mul_comm, zero-mul, suc-mul, div-one, lit<, lt_trans}
 use Rattle.std.proofs.lemmas.Nat.{pow_pos, pow-add, shr-shr, shr_high, mod_low, mod_below, mod-pow-add, field_of, shr_split, shr_below, pow_below, div-mul-add, mul-add-lt}
 use Rattle.std.proofs.lemmas.List.{length_push}
 use Rattle.std.proofs.Math.Nat.{zero-div, mod-one, mul-add-mod_self_right}
@@ -188,3 +188,25 @@ IsWritten-last word width numbers words pending filled h some =
     let small : pending < 2 ^ word = lt_trans h.fits (pow_below filled word h.room) in
     let number : joined width numbers ≡ joined word all = h.number ∙ sym (joined-append word words (pending ∷ []) ∙ omega arith) in
     sym (ap (λ n. digits word n (joined width numbers)) count ∙ ap (digits word (length all)) number ∙ digits-joined word all (Below-push word pending words h.below small))
+
+-- the lowest digits of a joined number
+pub joined-take : (width count : ℕ) (xs : List ℕ) → Below width xs → joined width (take count xs) ≡ joined width xs % 2 ^ (count * width)
+unfolding joined
+joined-take width zero xs h = sym (ap (λ p. joined width xs % p) (pow_bits-zero width) ∙ mod-one (joined width xs))
+joined-take width (suc count) [] h = sym (mod-eq_of_lt (pow_pos (suc count * width)))
+joined-take width (suc count) (x ∷ xs) h =
+    let n = joined width xs * 2 ^ width + x in
+    let low : n % 2 ^ width ≡ x = mod_low (joined width xs) width x (h 0) in
+    let high : n / 2 ^ width ≡ joined width xs = shr_high (joined width xs) width x (h 0) in
+    let split : n % 2 ^ (suc count * width) ≡ (n / 2 ^ width % 2 ^ (count * width)) * 2 ^ width + n % 2 ^ width = ap (λ b. n % 2 ^ b) (bits-suc count width) ∙ mod-pow-add n (count * width) width in
+    ap (λ m. m * 2 ^ width + x) (joined-take width count xs (Below-tail width x xs h)) ∙ sym (split ∙ ap₂ (λ a b. (a % 2 ^ (count * width)) * 2 ^ width + b) high low)
+
+pub Below-digits : (width count n : ℕ) → Below width (digits width count n)
+unfolding digits
+Below-digits width zero n i = pow_pos width
+Below-digits width (suc count) n zero = mod_below n (2 ^ width) (pow_pos width)
+Below-digits width (suc count) n (suc i) = Below-digits width count (n / 2 ^ width) i
+
+pub Below-words_of : (word width : ℕ) (numbers : List ℕ) → Below word (words_of word width numbers)
+unfolding words_of
+Below-words_of word width numbers = Below-digits word (word_count word (length numbers * width)) (joined width numbers)

@@ -1,7 +1,7 @@
 -- Rising documents, their differences, and their blocks.
-use Rattle.std.proofs.Common.{◌≡◌, ℕ, zero, suc, ◌+◌, ◌-◌, ◌*◌, ◌^◌, ◌<◌, ◌≤◌, List, [], ◌∷◌, ◌++◌, All, length, get_or, take, drop, set, min, refl, sym, ap, ap₂, ◌∙◌, subst, arith, add-one, append_assoc}
+use Rattle.std.proofs.Common.{◌≡◌, ℕ, zero, suc, ◌+◌, ◌-◌, ◌*◌, ◌<◌, ◌≤◌, List, [], ◌∷◌, ◌++◌, length, get_or, take, drop, set, min, refl, sym, ap, ◌∙◌, subst, arith, add-one, append_assoc}
 use Rattle.std.specs.List.Sorted.{IsStrictlyIncreasing}
-use Rattle.std.proofs.lemmas.List.{length-take, length-drop, take-append-drop, drop_all, drop-drop, append-nil, drop_more, take_more_set, length-set, get_or-take, get_or-drop, get_or_at, length-take-le, drop-set-lt, take_min}
+use Rattle.std.proofs.lemmas.List.{length-drop, take-append-drop, drop_all, append-nil, drop_more, take_more_set, length-set, take_min}
 use Rattle.std.specs.Int.{div_ceil}
 use Rattle.std.proofs.Math.Seq.{take-add}
 use Rattle.fts_pack.specs.Documents.{gaps, documents_at, block_count, block_at, last_of, Rises, after}
@@ -86,46 +86,6 @@ GapsWritten-more first documents index next document gap out h inside room docum
 pub GapsWritten-end : (first : ℕ) (documents : List ℕ) (index next : ℕ) (out : List ℕ) → GapsWritten first documents index next out → length documents ≤ index → take index out ≡ gaps first documents
 GapsWritten-end first documents index next out h all =
     sym (append-nil (take index out)) ∙ ap (λ ds. take index out ++ gaps next ds) (sym (drop_all index documents all)) ∙ h.written
-
--- lists with one rest from a place on have one number there
-first_left : (index : ℕ) (xs ys : List ℕ) → drop index xs ≡ drop index ys → get_or xs index 0 ≡ get_or ys index 0
-first_left index xs ys e =
-    let at : (zs : List ℕ) → get_or (drop index zs) 0 0 ≡ get_or zs index 0 = λ zs. get_or-drop index zs 0 0 ∙ ap (λ i. get_or zs i 0) (omega arith) in
-    sym (at xs) ∙ ap (λ zs. get_or zs 0 0) e ∙ at ys
-
--- the first differences were turned into documents
-pub record IsSummed (first count : ℕ) (before : List ℕ) (index next : ℕ) (out : List ℕ) : Type 0 where
-  pub size : length out ≡ 128
-  pub written : take index out ++ documents_at next (drop index (take count before)) ≡ documents_at first (take count before)
-  pub rest : drop index out ≡ drop index before
-
-pub IsSummed-more : (first count : ℕ) (before : List ℕ) (index next gap document : ℕ) (out : List ℕ) → IsSummed first count before index next out → index < count → count ≤ 128 → gap ≡ get_or out index 0 → document ≡ next + gap → All (λ d. d < 2 ^ 32) (documents_at first (take count before)) → (document < 2 ^ 32) × IsSummed first count before (index + 1) (document + 1) (set out index document)
-IsSummed-more first count before index next gap document out h inside few gap_is document_is fits =
-    let there : index < length out = omega (arith, h.size) in
-    let same : length before ≡ 128 = omega (arith, h.size, ap length h.rest, length-drop index out, length-drop index before) in
-    let numbers = take count before in
-    let size : length numbers ≡ count = length-take-le count before (omega (arith, same)) in
-    let at : get_or numbers index 0 ≡ gap = get_or-take count before index 0 inside ∙ first_left index before out (sym h.rest) ∙ sym gap_is in
-    let split : drop index numbers ≡ gap ∷ drop (index + 1) numbers = drop_more numbers index 0 (omega (arith, size)) ∙ ap (λ g. g ∷ drop (index + 1) numbers) at in
-    let one : document + 1 ≡ suc (next + gap) = omega (arith, document_is) in
-    let left = documents_at (document + 1) (drop (index + 1) numbers) in
-    let whole : take index out ++ document ∷ left ≡ documents_at first numbers = ap₂ (λ d n. take index out ++ d ∷ documents_at n (drop (index + 1) numbers)) document_is one ∙ ap (λ gs. take index out ++ documents_at next gs) (sym split) ∙ h.written in
-    let front : length (take index out) ≡ index = length-take-le index out (omega arith) in
-    let total : length (documents_at first numbers) ≡ count = length-documents_at first numbers ∙ size in
-    let here : get_or (documents_at first numbers) index 0 ≡ document = ap (λ ds. get_or ds index 0) (sym whole) ∙ get_or_at (take index out) document left 0 index front in
-    let small : document < 2 ^ 32 = subst (λ d. d < 2 ^ 32) here (fits index 0 (omega (arith, total))) in (
-      small,
-      record {
-        size = length-set out index document ∙ h.size;
-        written = ap (λ xs. xs ++ left) (take_more_set out index document there) ∙ append_assoc (take index out) (document ∷ []) left ∙ whole;
-        rest = drop-set-lt (index + 1) out index document (omega arith) ∙ sym (drop-drop 1 index out) ∙ ap (drop 1) h.rest ∙ drop-drop 1 index before;
-      },
-    )
-
-pub IsSummed-end : (first count : ℕ) (before : List ℕ) (next : ℕ) (out : List ℕ) → IsSummed first count before count next out → take count out ≡ documents_at first (take count before)
-IsSummed-end first count before next out h =
-    let none : drop count (take count before) ≡ [] = drop_all count (take count before) (omega (arith, length-take count before)) in
-    sym (append-nil (take count out)) ∙ ap (λ gs. take count out ++ documents_at next gs) (sym none) ∙ h.written
 
 -- a slice from a block's start to its end is the block
 pub block_sliced : (documents : List ℕ) (block end : ℕ) → end ≡ min (length documents) (block * 128 + 128) → take (end - block * 128) (drop (block * 128) documents) ≡ block_at documents block

@@ -3,5 +3,9 @@ pub mod BlockLemmas
 pub mod ColumnLemmas
 pub mod DigitsLemmas
 pub mod DocumentsLemmas
+pub mod FieldLemmas
+pub mod LaneLemmas
 pub mod LongListLemmas
 pub mod PackingLemmas
+pub mod SumLemmas
+pub mod VectorLemmas

@@ -1,45 +1,31 @@
 -- The blocks of a list of documents, as they are written and as they are read.
-use Rattle.std.proofs.Common.{◌≡◌, ℕ, zero, suc, ◌+◌, ◌-◌, ◌*◌, ◌%◌, ◌^◌, ◌<◌, ◌≤◌, ◌≢◌, inl, inr, List, [], ◌∷◌, ◌++◌, All, length, get_or, take, drop, min, refl, sym, ap, ap₂, ◌∙◌, subst, arith, append_assoc}
+use Rattle.std.proofs.Common.{◌≡◌, ℕ, zero, suc, ◌+◌, ◌-◌, ◌*◌, ◌^◌, ◌<◌, ◌≤◌, ◌≢◌, inl, inr, List, [], ◌∷◌, ◌++◌, All, length, get_or, take, drop, min, refl, sym, ap, ap₂, ◌∙◌, subst, arith, append_assoc}
 use Rattle.std.specs.List.Sorted.{IsStrictlyIncreasing}
-use Rattle.std.proofs.lemmas.List.{length-append, length-drop, length_push, take_all, take_at, drop-drop, drop_at, drop-append-le, append-nil, get_or-take, get_or-drop}
-use Rattle.std.proofs.lemmas.Nat.{pow-add}
+use Rattle.std.proofs.lemmas.List.{length-append, length-drop, length_push, take_all, take_at, drop-drop, drop_at, drop-append-le, append-nil, get_or-take, get_or-drop, get_or_default, length-take-le}
 use Rattle.std.proofs.lemmas.Bool.{cases_lt}
 use Rattle.std.proofs.Math.Seq.{take-append-add}
-use Rattle.std.proofs.Math.Nat.{mul-add-mod_self_right}
 use Rattle.fts_pack.specs.declared.skip.Skip.{Skip}
-use Rattle.fts_pack.specs.Digits.{joined, digits, word_count, words_of, numbers_in}
 use Rattle.fts_pack.specs.Documents.{gaps, documents_at, block_count, block_at, last_of, Rises, after}
+use Rattle.fts_pack.specs.Lanes.{numbers_in_lanes, words_in_lanes}
 use Rattle.fts_pack.specs.LongList.{kept_block, kept_documents, IsAdded, IsKeptBlock, AreKept, IsLongList}
-use Rattle.fts_pack.proofs.DigitsLemmas.{joined-append, digits-mod}
-use Rattle.fts_pack.proofs.PackingLemmas.{Below-from_all, length-words_of, length-numbers_in, numbers_in-words_of, word_count-holds}
+use Rattle.fts_pack.proofs.LaneLemmas.{length-numbers_in_lanes, length-words_in_lanes, numbers_in_lanes-append, numbers_in_lanes-words}
 use Rattle.fts_pack.proofs.DocumentsLemmas.{Rises-block, take_block, documents_at-gaps, length-gaps, length-documents_at, after-append, after_last}
 use Rattle.fts_pack.specs.SourceLaws.{length-block_at, block_inside}
 
--- numbers that lie in the first words do not change with what follows
-numbers_in-append : (word width count : ℕ) (words more : List ℕ) → count * width ≤ length words * word → numbers_in word width count (words ++ more) ≡ numbers_in word width count words
-unfolding numbers_in
-numbers_in-append word width count words more enough =
-    let bits = length words * word in
-    let spare = bits - count * width in
-    let e : bits ≡ spare + count * width = omega arith in
-    let cut : joined word more * 2 ^ bits ≡ (joined word more * 2 ^ spare) * 2 ^ (count * width) = ap (λ b. joined word more * 2 ^ b) e ∙ (rw (pow-add 2 spare (count * width)) (omega arith)) in
-    let low : joined word (words ++ more) % 2 ^ (count * width) ≡ joined word words % 2 ^ (count * width) = ap (λ n. n % 2 ^ (count * width)) (joined-append word words more ∙ ap (λ n. n + joined word words) cut) ∙ mul-add-mod_self_right (joined word more * 2 ^ spare) (2 ^ (count * width)) (joined word words) in
-    sym (digits-mod width count (joined word (words ++ more))) ∙ ap (digits width count) low ∙ digits-mod width count (joined word words)
-
+-- what is kept of a block doesn't change with what is appended
 pub kept_block-append : (words more : List ℕ) (next count : ℕ) (skip : Skip) → IsKeptBlock words next count skip → kept_block (words ++ more) next count skip ≡ kept_block words next count skip
 kept_block-append words more next count skip h =
-    ap (λ ws. documents_at next (numbers_in 32 skip.width (min 128 count) ws)) (drop-append-le skip.start words more h.start_within) ∙ ap (documents_at next) (numbers_in-append 32 skip.width (min 128 count) (drop skip.start words) more (rw (length-drop skip.start words) h.bits_within))
+    let room : 4 * skip.width ≤ length (drop skip.start words) = omega (arith, length-drop skip.start words, h.words_within) in
+    ap (λ ws. documents_at next (take (min 128 count) (numbers_in_lanes skip.width ws))) (drop-append-le skip.start words more (omega (arith, h.words_within)))
+    ∙ ap (λ xs. documents_at next (take (min 128 count) xs)) (numbers_in_lanes-append skip.width (drop skip.start words) more room)
 
 IsKeptBlock-append : (words more : List ℕ) (next count : ℕ) (skip : Skip) → IsKeptBlock words next count skip → IsKeptBlock (words ++ more) next count skip
-IsKeptBlock-append words more next count skip h =
-    let size = length-append words more in
-    record {
-      some = h.some;
-      width_within = h.width_within;
-      start_within = omega (arith, size, h.start_within);
-      bits_within = omega (arith, size, h.bits_within, h.start_within);
-      last_is = ap (after next) (kept_block-append words more next count skip h) ∙ h.last_is;
-    }
+IsKeptBlock-append words more next count skip h = record {
+  some = h.some;
+  width_within = h.width_within;
+  words_within = omega (arith, length-append words more, h.words_within);
+  last_is = ap (after next) (kept_block-append words more next count skip h) ∙ h.last_is;
+}
 
 pub AreKept-append : (words more : List ℕ) (next count : ℕ) (skips : List Skip) → AreKept words next count skips → AreKept (words ++ more) next count skips
 AreKept-append words more next count [] h = h
@@ -61,9 +47,8 @@ kept_same : (words : List ℕ) (next a b : ℕ) (skip : Skip) → min 128 a ≡ 
 kept_same words next a b skip same some h = record {
   some = some;
   width_within = h.width_within;
-  start_within = h.start_within;
-  bits_within = subst (λ n. n * skip.width ≤ (length words - skip.start) * 32) same h.bits_within;
-  last_is = ap (λ n. after next (documents_at next (numbers_in 32 skip.width n (drop skip.start words)))) (sym same) ∙ h.last_is;
+  words_within = h.words_within;
+  last_is = ap (λ n. after next (documents_at next (take n (numbers_in_lanes skip.width (drop skip.start words))))) (sym same) ∙ h.last_is;
 }
 
 pub kept_documents-push : (words : List ℕ) (next more : ℕ) (skips : List Skip) (skip : Skip) → more ≤ 128 → kept_documents words next (length skips * 128 + more) (skips ++ skip ∷ []) ≡ kept_documents words next (length skips * 128) skips ++ kept_block words (next_after next skips) more skip
@@ -75,7 +60,7 @@ kept_documents-push words next more (s ∷ ss) skip few =
     let full : min 128 (suc (length ss) * 128 + more) ≡ min 128 (suc (length ss) * 128) = omega arith in
     let left : suc (length ss) * 128 + more - 128 ≡ length ss * 128 + more = omega arith in
     let left' : suc (length ss) * 128 - 128 ≡ length ss * 128 = omega arith in
-    ap₂ (λ n k. documents_at next (numbers_in 32 s.width n (drop s.start words)) ++ kept_documents words (suc s.last) k (ss ++ skip ∷ [])) full left ∙ ap (λ ds. kept_block words next (suc (length ss) * 128) s ++ ds) (kept_documents-push words (suc s.last) more ss skip few) ∙ sym (append_assoc (kept_block words next (suc (length ss) * 128) s) (kept_documents words (suc s.last) (length ss * 128) ss) (kept_block words (next_after (suc s.last) ss) more skip)) ∙ ap (λ k. (kept_block words next (suc (length ss) * 128) s ++ kept_documents words (suc s.last) k ss) ++ kept_block words (next_after (suc s.last) ss) more skip) (sym left')
+    ap₂ (λ n k. documents_at next (take n (numbers_in_lanes s.width (drop s.start words))) ++ kept_documents words (suc s.last) k (ss ++ skip ∷ [])) full left ∙ ap (λ ds. kept_block words next (suc (length ss) * 128) s ++ ds) (kept_documents-push words (suc s.last) more ss skip few) ∙ sym (append_assoc (kept_block words next (suc (length ss) * 128) s) (kept_documents words (suc s.last) (length ss * 128) ss) (kept_block words (next_after (suc s.last) ss) more skip)) ∙ ap (λ k. (kept_block words next (suc (length ss) * 128) s ++ kept_documents words (suc s.last) k ss) ++ kept_block words (next_after (suc s.last) ss) more skip) (sym left')
 
 pub AreKept-push : (words : List ℕ) (next more : ℕ) (skips : List Skip) (skip : Skip) → more ≤ 128 → AreKept words next (length skips * 128) skips → IsKeptBlock words (next_after next skips) more skip → AreKept words next (length skips * 128 + more) (skips ++ skip ∷ [])
 unfolding next_after
@@ -96,7 +81,8 @@ next_after-kept words next count (s ∷ ss) h =
 
 length-kept_block : (words : List ℕ) (next count : ℕ) (skip : Skip) → length (kept_block words next count skip) ≡ min 128 count
 length-kept_block words next count skip =
-    length-documents_at next (numbers_in 32 skip.width (min 128 count) (drop skip.start words)) ∙ length-numbers_in 32 skip.width (min 128 count) (drop skip.start words)
+    let numbers = numbers_in_lanes skip.width (drop skip.start words) in
+    length-documents_at next (take (min 128 count) numbers) ∙ length-take-le (min 128 count) numbers (omega (arith, length-numbers_in_lanes skip.width (drop skip.start words)))
 
 pub length-kept_documents : (words : List ℕ) (next count : ℕ) (skips : List Skip) → AreKept words next count skips → length (kept_documents words next count skips) ≡ count
 length-kept_documents words next count [] h = sym h
@@ -174,28 +160,26 @@ IsBuilt-start documents = record { count = refl; kept = omega arith; documents_a
 pub kept_block-added : (piece before words : List ℕ) (next : ℕ) (skip : Skip) → IsAdded piece next before words skip → Rises next piece → length piece ≤ 128 → kept_block words next (length piece) skip ≡ piece
 kept_block-added piece before words next skip h rises few =
     let numbers = gaps next piece in
-    let rest : drop skip.start words ≡ words_of 32 skip.width numbers = ap₂ drop h.start h.words_are ∙ drop_at before (words_of 32 skip.width numbers) (length before) refl in
-    let count : min 128 (length piece) ≡ length numbers = omega (arith, length-gaps next piece) in
-    ap₂ (λ n ws. documents_at next (numbers_in 32 skip.width n ws)) count rest ∙ ap (documents_at next) (numbers_in-words_of 32 skip.width numbers (omega arith) (Below-from_all skip.width numbers h.width_is.holds)) ∙ documents_at-gaps next piece rises
+    let size : length numbers ≡ length piece = length-gaps next piece in
+    let rest : drop skip.start words ≡ words_in_lanes skip.width numbers = ap₂ drop h.start h.words_are ∙ drop_at before (words_in_lanes skip.width numbers) (length before) refl in
+    let count : min 128 (length piece) ≡ length numbers = omega arith in
+    ap₂ (λ n ws. documents_at next (take n (numbers_in_lanes skip.width ws))) count rest ∙ ap (documents_at next) (numbers_in_lanes-words skip.width numbers (omega arith) h.width_is.holds) ∙ documents_at-gaps next piece rises
 
 pub IsKeptBlock-added : (piece before words : List ℕ) (next : ℕ) (skip : Skip) → IsAdded piece next before words skip → Rises next piece → 0 < length piece → length piece ≤ 128 → IsKeptBlock words next (length piece) skip
 IsKeptBlock-added piece before words next skip h rises some few =
     let numbers = gaps next piece in
-    let size : length words ≡ length before + word_count 32 (length numbers * skip.width) = ap length h.words_are ∙ length-append before (words_of 32 skip.width numbers) ∙ ap (λ n. length before + n) (length-words_of 32 skip.width numbers) in
-    let left : length words - skip.start ≡ word_count 32 (length numbers * skip.width) = omega (arith, size, h.start) in
-    let count : min 128 (length piece) ≡ length numbers = omega (arith, length-gaps next piece) in
+    let size : length words ≡ length before + 4 * skip.width = ap length h.words_are ∙ length-append before (words_in_lanes skip.width numbers) ∙ ap (λ n. length before + n) (length-words_in_lanes skip.width numbers) in
     record {
       some = some;
       width_within = h.width_within;
-      start_within = omega (arith, size, h.start);
-      bits_within = rw (left, count) (word_count-holds 32 (length numbers * skip.width) (omega arith));
+      words_within = omega (arith, h.start);
       last_is = ap (after next) (kept_block-added piece before words next skip h rises few) ∙ sym h.last_is;
     }
 
 pub IsBuilt-more : (documents : List ℕ) (block next : ℕ) (skips : List Skip) (before words : List ℕ) (skip : Skip) → IsBuilt documents block next skips before → Rises 0 documents → block < block_count (length documents) → IsAdded (block_at documents block) next before words skip → IsBuilt documents (block + 1) (suc skip.last) (skips ++ skip ∷ []) words
 IsBuilt-more documents block next skips before words skip h rises inside added =
     let piece = block_at documents block in
-    let new = words_of 32 skip.width (gaps next piece) in
+    let new = words_in_lanes skip.width (gaps next piece) in
     let start = block_inside (length documents) block inside in
     let size = length-block_at documents block in
     let now : min (block * 128) (length documents) ≡ length skips * 128 = omega (arith, h.count, start) in
@@ -245,10 +229,10 @@ long_blocks value count skips words view h =
 pub record Reads (value : List ℕ) (count : ℕ) (words : List ℕ) (block : ℕ) (skip : Skip) : Type 0 where
   pub start : block * 128 < count
   pub width_within : skip.width ≤ 32
-  pub start_within : skip.start ≤ length words
+  pub words_within : skip.start + 4 * skip.width ≤ length words
   pub last_is : skip.last ≡ last_of (block_at value block)
   pub size : min (count - block * 128) 128 ≡ length (block_at value block)
-  pub documents_are : documents_at (after 0 (take (block * 128) value)) (numbers_in 32 skip.width (min (count - block * 128) 128) (drop skip.start words)) ≡ block_at value block
+  pub documents_are : documents_at (after 0 (take (block * 128) value)) (take (min (count - block * 128) 128) (numbers_in_lanes skip.width (drop skip.start words))) ≡ block_at value block
   pub fits : All (λ document. document < 2 ^ 32) (block_at value block)
 
 pub block_read : (value : List ℕ) (count : ℕ) (skips : List Skip) (words : List ℕ) (block : ℕ) (skip : Skip) → kept_documents words 0 count skips ≡ value → IsLongList count skips words → block < block_count (length value) → skip ≡ get_or skips block skip → Reads value count words block skip
@@ -269,10 +253,10 @@ block_read value count skips words block skip view h inside skip_is =
     record {
       start = omega (arith, at.kept.some);
       width_within = at.kept.width_within;
-      start_within = at.kept.start_within;
+      words_within = at.kept.words_within;
       last_is = (let e : skip.last ≡ last_of here = omega (arith, last) in e) ∙ ap last_of (sym same);
       size = size;
-      documents_are = ap₂ (λ n k. documents_at n (numbers_in 32 skip.width k (drop skip.start words))) (sym next_is) turned ∙ sym same;
+      documents_are = ap₂ (λ n k. documents_at n (take k (numbers_in_lanes skip.width (drop skip.start words)))) (sym next_is) turned ∙ sym same;
       fits = λ k d lt. rw (get_or-take 128 (drop (block * 128) value) k d (omega (arith, size, lt)), get_or-drop (block * 128) value k d) (all (block * 128 + k) d (omega (arith, many, size, lt, at.kept.some)));
     }
 
@@ -283,3 +267,21 @@ first_of_block value count skips words block skip view h inside later skip_is =
     let at = kept_at words 0 count skips block skip h.kept (omega (arith, blocks, inside)) in
     let e : block ≡ suc (block - 1) = omega arith in
     ap (λ s. suc s.last) skip_is ∙ sym (next_at-suc 0 (block - 1) skips skip (omega (arith, blocks, inside))) ∙ ap (next_at 0 skips) (sym e) ∙ at.next_is ∙ ap (λ ds. after 0 (take (block * 128) ds)) view
+
+-- the first document is `next` or later
+head_at_least : (next : ℕ) (numbers : List ℕ) → 0 < length (documents_at next numbers) → next ≤ get_or (documents_at next numbers) 0 0
+head_at_least next [] some = absurd (omega arith)
+head_at_least next (number ∷ numbers) some = omega arith
+
+-- so the first document that a block may have fits
+pub first_fits : (value : List ℕ) (count : ℕ) (skips : List Skip) (words : List ℕ) (block : ℕ) (d : Skip) → kept_documents words 0 count skips ≡ value → IsLongList count skips words → block < block_count (length value) → after 0 (take (block * 128) value) < 2 ^ 32
+first_fits value count skips words block d view h inside =
+    let blocks = long_blocks value count skips words view h in
+    let skip = get_or skips block d in
+    let r = block_read value count skips words block skip view h inside (get_or_default skips block d skip (omega (arith, blocks, inside))) in
+    let first = after 0 (take (block * 128) value) in
+    let numbers = take (min (count - block * 128) 128) (numbers_in_lanes skip.width (drop skip.start words)) in
+    let here : documents_at first numbers ≡ block_at value block = r.documents_are in
+    let some : 0 < length (documents_at first numbers) = rw here (omega (arith, r.size, r.start)) in
+    let all : All (λ document. document < 2 ^ 32) (documents_at first numbers) = rw here r.fits in
+    omega (arith, head_at_least first numbers some, all 0 0 some)

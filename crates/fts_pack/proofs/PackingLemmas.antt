@@ -1,81 +1,41 @@
 -- Numbers appended to words, step by step, and read from them.
-use Rattle.std.proofs.Common.{◌≡◌, ℕ, zero, suc, ◌+◌, ◌-◌, ◌*◌, ◌/◌, ◌%◌, ◌^◌, ◌<◌, ◌≤◌, inl, inr, List, [], ◌∷◌, ◌++◌, All, length, get_or, take, drop, set, ◌≢◌, bit_and, bit_or, refl, sym, ap, ap₂, ◌∙◌, arith, Fits, w32, w64, lt_of_lt_of_le, append_assoc, mod-eq_of_lt, add-one, pow-suc, lt_of_le_of_lt}
+use Rattle.std.proofs.Common.{◌≡◌, ℕ, zero, suc, ◌+◌, ◌-◌, ◌*◌, ◌/◌, ◌%◌, ◌^◌, ◌<◌, ◌≤◌, inl, inr, List, [], ◌∷◌, ◌++◌, All, length, get_or, take, drop, bit_and, bit_or, refl, sym, ap, ap₂, ◌∙◌, arith, Fits, w64, lt_of_lt_of_le, mod-eq_of_lt, add-one, pow-suc, lt_of_le_of_lt}
 use Rattle.std.proofs.lemmas.Nat.{pow_pos, or_shifted, or_comm, and_mask, shl_whole, div-add-mod', mod_below, one_shl, leading_length, or_lt, le_or_l, le_or_r}
 use lib.Count.{count_leading_zeros}
-use Rattle.std.proofs.lemmas.List.{drop_all, drop-append-le, take_more, get_or_past, append-nil, length-append, length_push, get_or_push, get_or_append_left, length-set, get_or-set_other, get_or-set_same, drop-set-lt, ext_get_or, length-take, length-take-le, get_or-take}
-use borrow.Author.Count.{below_more}
+use Rattle.std.proofs.lemmas.List.{take_more, get_or_past, length_push, get_or_push, get_or_append_left}
 use Rattle.std.proofs.lemmas.List.Elements.{All-push}
 use Rattle.std.proofs.Math.Facts.{Fits-lt-pow}
 use Rattle.std.proofs.lemmas.Bool.{cases_lt}
 use Rattle.std.proofs.Math.Nat.{pow-le-pow_right}
 use Rattle.fts_pack.specs.Digits.{joined, digits, word_count, words_of, numbers_in}
-use Rattle.fts_pack.proofs.DigitsLemmas.{Below, IsWritten, IsWritten-start, IsWritten-short, IsWritten-full, IsWritten-end, IsWritten-last, digits-joined, joined-digits, joined-below, length-digits, get_or-digits, read_two}
+use Rattle.fts_pack.proofs.DigitsLemmas.{Below, IsWritten, IsWritten-short, IsWritten-full, digits-joined, joined-digits, joined-below, length-digits, read_two}
 
 pub Below-from_all : (width : ℕ) (xs : List ℕ) → All (λ x. x < 2 ^ width) xs → Below width xs
 Below-from_all width xs h i =
     elim (cases_lt i (length xs)) [ inl inside ↦ h i 0 inside | inr past ↦ (rw (get_or_past xs i 0 past) (pow_pos width)) ]
 
-pub Below-32 : (xs : List ℕ) → ((i : ℕ) → Fits w32 (get_or xs i 0)) → Below 32 xs
-Below-32 xs h = λ i. Fits-lt-pow (h i)
-
 pub Below-64 : (xs : List ℕ) → ((i : ℕ) → Fits w64 (get_or xs i 0)) → Below 64 xs
 Below-64 xs h = λ i. Fits-lt-pow (h i)
-
--- words were appended to those before, and so far they hold these numbers
-pub record IsAppended (word width : ℕ) (numbers before words : List ℕ) (pending filled : ℕ) : Type 0 where
-  pub kept : words ≡ before ++ drop (length before) words
-  pub written : IsWritten word width numbers (drop (length before) words) pending filled
-
-pub append_start : (word width : ℕ) (before : List ℕ) → 0 < word → IsAppended word width [] before before 0 0
-append_start word width before h =
-    let none : drop (length before) before ≡ [] = drop_all (length before) before (omega arith) in
-    record {
-      kept = sym (rw (none, append-nil before));
-      written = rw none (IsWritten-start word width h);
-    }
-
--- what was appended grows with the words
-drop_before-push : (before words new : List ℕ) → words ≡ before ++ drop (length before) words → drop (length before) (words ++ new) ≡ drop (length before) words ++ new
-drop_before-push before words new kept =
-    drop-append-le (length before) words new (omega (arith, ap length kept, length-append before (drop (length before) words)))
-
-kept-push : (before words new : List ℕ) → words ≡ before ++ drop (length before) words → words ++ new ≡ before ++ drop (length before) (words ++ new)
-kept-push before words new kept =
-    ap (λ xs. xs ++ new) kept ∙ append_assoc before (drop (length before) words) new ∙ ap (λ xs. before ++ xs) (sym (drop_before-push before words new kept))
 
 -- one number more in the bits that wait
 pending_with : (word width pending filled x : ℕ) → pending < 2 ^ filled → x < 2 ^ width → width + filled ≤ word + word → bit_or pending (x * 2 ^ filled % 2 ^ (word + word)) ≡ pending + x * 2 ^ filled
 pending_with word width pending filled x fits small room =
     rw (shl_whole x width filled (word + word) small room, or_comm pending (x * 2 ^ filled), or_shifted x filled pending fits) (omega arith)
 
-pub append_short : (word width : ℕ) (numbers before words : List ℕ) (index pending filled x p f : ℕ) → IsAppended word width (take index numbers) before words pending filled → index < length numbers → x ≡ get_or numbers index 0 → All (λ y. y < 2 ^ width) numbers → width ≤ word → p ≡ bit_or pending (x * 2 ^ filled % 2 ^ (word + word)) → f ≡ filled + width → filled + width < word → IsAppended word width (take (index + 1) numbers) before words p f
-append_short word width numbers before words index pending filled x p f h inside x_is fits narrow p_is f_is short =
-    let w = h.written in
+-- one number more, where the bits that wait fill no word
+pub written_short : (word width : ℕ) (numbers words : List ℕ) (index pending filled x p f : ℕ) → IsWritten word width (take index numbers) words pending filled → index < length numbers → x ≡ get_or numbers index 0 → All (λ y. y < 2 ^ width) numbers → width ≤ word → p ≡ bit_or pending (x * 2 ^ filled % 2 ^ (word + word)) → f ≡ filled + width → filled + width < word → IsWritten word width (take (index + 1) numbers) words p f
+written_short word width numbers words index pending filled x p f h inside x_is fits narrow p_is f_is short =
     let small : x < 2 ^ width = rw x_is (fits index 0 inside) in
-    record {
-      kept = h.kept;
-      written = rw (take_more numbers index 0 inside, ← x_is, f_is, p_is ∙ pending_with word width pending filled x w.fits small (omega (arith, w.room))) (IsWritten-short word width (take index numbers) (drop (length before) words) pending filled x w small short);
-    }
+    rw (take_more numbers index 0 inside, ← x_is, f_is, p_is ∙ pending_with word width pending filled x h.fits small (omega (arith, h.room))) (IsWritten-short word width (take index numbers) words pending filled x h small short)
 
-pub append_full : (word width : ℕ) (numbers before words words' : List ℕ) (index pending filled x p f whole low : ℕ) → IsAppended word width (take index numbers) before words pending filled → index < length numbers → x ≡ get_or numbers index 0 → All (λ y. y < 2 ^ width) numbers → width ≤ word → whole ≡ bit_or pending (x * 2 ^ filled % 2 ^ (word + word)) → low ≡ bit_and whole (2 ^ word - 1) → words' ≡ words ++ low ∷ [] → p ≡ whole / 2 ^ word → f ≡ filled + width - word → word ≤ filled + width → IsAppended word width (take (index + 1) numbers) before words' p f
-append_full word width numbers before words words' index pending filled x p f whole low h inside x_is fits narrow whole_is low_is words_are p_is f_is full =
-    let w = h.written in
+-- and where they fill one
+pub written_full : (word width : ℕ) (numbers words words' : List ℕ) (index pending filled x p f whole low : ℕ) → IsWritten word width (take index numbers) words pending filled → index < length numbers → x ≡ get_or numbers index 0 → All (λ y. y < 2 ^ width) numbers → width ≤ word → whole ≡ bit_or pending (x * 2 ^ filled % 2 ^ (word + word)) → low ≡ bit_and whole (2 ^ word - 1) → words' ≡ words ++ low ∷ [] → p ≡ whole / 2 ^ word → f ≡ filled + width - word → word ≤ filled + width → IsWritten word width (take (index + 1) numbers) words' p f
+written_full word width numbers words words' index pending filled x p f whole low h inside x_is fits narrow whole_is low_is words_are p_is f_is full =
     let small : x < 2 ^ width = rw x_is (fits index 0 inside) in
-    let sum : whole ≡ pending + x * 2 ^ filled = whole_is ∙ pending_with word width pending filled x w.fits small (omega (arith, w.room)) in
+    let sum : whole ≡ pending + x * 2 ^ filled = whole_is ∙ pending_with word width pending filled x h.fits small (omega (arith, h.room)) in
     let low' : low ≡ (pending + x * 2 ^ filled) % 2 ^ word = low_is ∙ and_mask whole word ∙ ap (λ n. n % 2 ^ word) sum in
     let p' : p ≡ (pending + x * 2 ^ filled) / 2 ^ word = p_is ∙ ap (λ n. n / 2 ^ word) sum in
-    record {
-      kept = rw words_are (kept-push before words (low ∷ []) h.kept);
-      written = rw (take_more numbers index 0 inside, ← x_is, f_is, words_are, drop_before-push before words (low ∷ []) h.kept, p', low') (IsWritten-full word width (take index numbers) (drop (length before) words) pending filled x w small full narrow);
-    }
-
-pub append_end : (word width : ℕ) (numbers before words : List ℕ) (pending filled : ℕ) → IsAppended word width numbers before words pending filled → filled ≡ 0 → words ≡ before ++ words_of word width numbers
-append_end word width numbers before words pending filled h none =
-    h.kept ∙ ap (λ xs. before ++ xs) (IsWritten-end word width numbers (drop (length before) words) pending filled h.written none)
-
-pub append_last : (word width : ℕ) (numbers before words words' : List ℕ) (pending filled last : ℕ) → IsAppended word width numbers before words pending filled → 0 < filled → last ≡ pending → words' ≡ words ++ last ∷ [] → words' ≡ before ++ words_of word width numbers
-append_last word width numbers before words words' pending filled last h some last_is words_are =
-    words_are ∙ kept-push before words (last ∷ []) h.kept ∙ ap (λ xs. before ++ xs) (drop_before-push before words (last ∷ []) h.kept ∙ ap (λ x. drop (length before) words ++ x ∷ []) last_is ∙ IsWritten-last word width numbers (drop (length before) words) pending filled h.written some)
+    rw (take_more numbers index 0 inside, ← x_is, f_is, words_are, p', low') (IsWritten-full word width (take index numbers) words pending filled x h small full narrow)
 
 pub length-words_of : (word width : ℕ) (numbers : List ℕ) → length (words_of word width numbers) ≡ word_count word (length numbers * width)
 unfolding words_of
@@ -143,26 +103,6 @@ HasBitsOf-push numbers bits x h = record {
   least = λ width each. or_lt width bits x (h.least width (λ k d inside. rw get_or_append_left at (each k d (omega (arith, length_push numbers x))))) (rw (get_or_push numbers x 0 (length numbers) refl) at (each (length numbers) 0 (omega (arith, length_push numbers x))));
 }
 
--- the first numbers of the words were read into a list, and its end is as it was
-pub record IsReadBelow (words : List ℕ) (width count index : ℕ) (before out : List ℕ) : Type 0 where
-  pub length_is : length out ≡ 128
-  pub read : (k : ℕ) → k < index → get_or out k 0 ≡ joined 32 words / 2 ^ (k * width) % 2 ^ width
-  pub rest : drop count out ≡ drop count before
-
-pub IsReadBelow-more : (words : List ℕ) (width count index number : ℕ) (before out : List ℕ) → IsReadBelow words width count index before out → index < count → count ≤ 128 → number ≡ joined 32 words / 2 ^ (index * width) % 2 ^ width → IsReadBelow words width count (index + 1) before (set out index number)
-IsReadBelow-more words width count index number before out h inside within number_is = record {
-  length_is = length-set out index number ∙ h.length_is;
-  read = below_more _ _ (λ k lt. let ne : k ≢ index = omega arith in rw get_or-set_other (h.read k lt)) (let lt : index < length out = omega (arith, h.length_is) in rw get_or-set_same number_is);
-  rest = drop-set-lt count out index number inside ∙ h.rest;
-}
-
-pub numbers_in-from_read : (words : List ℕ) (width count : ℕ) (before out : List ℕ) → IsReadBelow words width count count before out → count ≤ 128 → take count out ≡ numbers_in 32 width count words
-unfolding numbers_in
-numbers_in-from_read words width count before out h within =
-    ext_get_or 0 (take count out) (digits width count (joined 32 words))
-    (length-take-le count out (omega (arith, h.length_is)) ∙ sym (length-digits width count (joined 32 words)))
-    (λ k lt. let inside : k < count = omega (arith, length-take count out) in get_or-take count out k 0 inside ∙ h.read k inside ∙ sym (get_or-digits width count (joined 32 words) k 0 inside))
-
 pub length-numbers_in : (word width count : ℕ) (words : List ℕ) → length (numbers_in word width count words) ≡ count
 unfolding numbers_in
 length-numbers_in word width count words = length-digits width count (joined word words)
@@ -172,3 +112,8 @@ Below-take width zero xs h i = pow_pos width
 Below-take width (suc count) [] h i = pow_pos width
 Below-take width (suc count) (x ∷ xs) h zero = h 0
 Below-take width (suc count) (x ∷ xs) h (suc i) = Below-take width count xs (λ j. h (suc j)) i
+
+pub Below-drop : (width count : ℕ) (xs : List ℕ) → Below width xs → Below width (drop count xs)
+Below-drop width zero xs h i = h i
+Below-drop width (suc count) [] h i = h i
+Below-drop width (suc count) (x ∷ xs) h i = Below-drop width count xs (λ j. h (suc j)) i

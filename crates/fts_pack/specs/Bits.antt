@@ -10,6 +10,10 @@ flags digits = map (λ d. d == 1) digits
 abbrev pub marks : List Bool → List ℕ
 marks bits = map (λ bit. if bit then 1 else 0) bits
 
+-- booleans as a number, the first of them its lowest bit
+abbrev pub number_of : List Bool → ℕ
+number_of bits = joined 1 (marks bits)
+
 -- these words hold so many bits, and the bits past the last are 0
 pub record IsBits (len : ℕ) (words : List ℕ) : Type 0 where
   pub len_fits : len < 2 ^ 64

@@ -1,10 +1,15 @@
 -- What a block of packed numbers keeps.
-use Rattle.std.specs.Prelude.{◌≡◌, ℕ, ◌≤◌, List}
-use Rattle.fts_pack.specs.Digits.{IsWidthOf, numbers_in, words_of}
+use Rattle.std.specs.Prelude.{◌≡◌, ℕ, ◌≤◌, List, take}
+use Rattle.fts_pack.specs.Digits.{IsWidthOf}
+use Rattle.fts_pack.specs.Lanes.{numbers_in_lanes, words_in_lanes}
+
+-- the first of the 128 numbers that lie in the words
+abbrev pub block_numbers : ℕ → ℕ → List ℕ → List ℕ
+block_numbers count width words = take count (numbers_in_lanes width words)
 
 -- so many numbers lie in these words, at the least width that holds them
 pub record IsBlock (count width : ℕ) (words : List ℕ) : Type 0 where
   pub count_within : count ≤ 128
   pub width_within : width ≤ 32
-  pub width_is : IsWidthOf (numbers_in 32 width count words) width
-  pub words_are : words ≡ words_of 32 width (numbers_in 32 width count words)
+  pub width_is : IsWidthOf (block_numbers count width words) width
+  pub words_are : words ≡ words_in_lanes width (block_numbers count width words)

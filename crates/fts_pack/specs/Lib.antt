@@ -3,8 +3,10 @@ pub mod Block
 pub mod Column
 pub mod Digits
 pub mod Documents
-pub mod Kept
+pub mod Lanes
 pub mod ListSource
 pub mod LongList
+pub mod Repr
 pub mod Signed
 pub mod SourceLaws
+pub mod Unpacked

@@ -1,14 +1,15 @@
 -- What a list of documents in blocks keeps.
-use Rattle.std.specs.Prelude.{◌≡◌, ℕ, suc, ◌-◌, ◌*◌, ◌^◌, ◌<◌, ◌≤◌, List, [], ◌∷◌, ◌++◌, All, drop, length, min}
+use Rattle.std.specs.Prelude.{◌≡◌, ℕ, suc, ◌-◌, ◌+◌, ◌*◌, ◌^◌, ◌<◌, ◌≤◌, List, [], ◌∷◌, ◌++◌, All, drop, length, min, take}
 use Rattle.std.specs.List.Sorted.{IsStrictlyIncreasing}
-use Rattle.fts_pack.specs.Digits.{IsWidthOf, numbers_in, words_of}
+use Rattle.fts_pack.specs.Digits.{IsWidthOf}
 use Rattle.fts_pack.specs.Documents.{after, documents_at, gaps}
+use Rattle.fts_pack.specs.Lanes.{numbers_in_lanes, words_in_lanes}
 use Rattle.fts_pack.specs.declared.skip.Skip.{Skip}
 
 -- the documents of one block, the first of them `next` or later
 abbrev pub kept_block : List ℕ → ℕ → ℕ → Skip → List ℕ
 kept_block words next count skip =
-    documents_at next (numbers_in 32 skip.width (min 128 count) (drop skip.start words))
+    documents_at next (take (min 128 count) (numbers_in_lanes skip.width (drop skip.start words)))
 
 -- the documents of all blocks, so many in all
 abbrev pub kept_documents : List ℕ → ℕ → ℕ → List Skip → List ℕ
@@ -20,8 +21,7 @@ kept_documents words next count (skip ∷ skips) =
 pub record IsKeptBlock (words : List ℕ) (next count : ℕ) (skip : Skip) : Type 0 where
   pub some : 0 < count
   pub width_within : skip.width ≤ 32
-  pub start_within : skip.start ≤ length words
-  pub bits_within : min 128 count * skip.width ≤ (length words - skip.start) * 32
+  pub words_within : skip.start + 4 * skip.width ≤ length words
   pub last_is : after next (kept_block words next count skip) ≡ suc skip.last
 
 -- each block lies within the words, and its last document is told
@@ -42,5 +42,5 @@ pub record IsAdded (piece : List ℕ) (next : ℕ) (before words : List ℕ) (sk
   pub start : skip.start ≡ length before
   pub width_within : skip.width ≤ 32
   pub width_is : IsWidthOf (gaps next piece) skip.width
-  pub words_are : words ≡ before ++ words_of 32 skip.width (gaps next piece)
+  pub words_are : words ≡ before ++ words_in_lanes skip.width (gaps next piece)
   pub last_is : suc skip.last ≡ after next piece

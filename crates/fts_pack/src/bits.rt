@@ -1,11 +1,11 @@
 // One bit a document: bit `i % 64` of word `i / 64` is document `i`'s, and the bits past the last document are 0.
-ghost use Rattle.std.specs.Prelude.{◌≡◌, ℕ, ◌<◌, List, Bool, true, false, IfOk, IsOkUnless, count_by, ◌==◌, length, map, replicate, slice_get, slice_set};
+ghost use Rattle.std.specs.Prelude.{◌≡◌, ℕ, ◌<◌, ◌*◌, List, Bool, true, false, IfOk, IsOkUnless, count_by, ◌==◌, drop, length, map, replicate, slice_get, slice_set, take};
 ghost use Rattle.std.specs.Cmp.{bool_eq_equiv, partial_equiv_from_equiv};
 ghost use Rattle.std.specs.Cmp.Lexicographic.{pointwise, lists_per};
 ghost use Rattle.std.proofs.lemmas.Cmp.{lists_equiv};
 ghost use Rattle.std.proofs.Math.Bool.{beq};
 ghost use Rattle.fts_pack.specs.Digits.{numbers_in, words_of};
-ghost use Rattle.fts_pack.specs.Bits.{IsBits, flags, marks};
+ghost use Rattle.fts_pack.specs.Bits.{IsBits, flags, marks, number_of};
 
 use crate::packing;
 use fts_model::Refusal;
@@ -29,7 +29,7 @@ impl Model for Bits {
 
 impl Bits {
     /// Bits for so many documents, all set.
-    pub fn full(alloc: Global, len: usize) -> Result<Bits, Refusal>
+    pub fn all_set(alloc: Global, len: usize) -> Result<Bits, Refusal>
         ensures ok { IfOk result (λ bits. bits ≡ replicate len true) }
         ensures memory { IsOkUnless result Refusal.Memory }
     {
@@ -48,7 +48,7 @@ impl Bits {
     }
 
     /// Bits for so many documents, all clear.
-    pub fn empty(alloc: Global, len: usize) -> Result<Bits, Refusal>
+    pub fn all_clear(alloc: Global, len: usize) -> Result<Bits, Refusal>
         ensures ok { IfOk result (λ bits. bits ≡ replicate len false) }
         ensures memory { IsOkUnless result Refusal.Memory }
     {
@@ -114,6 +114,15 @@ impl Bits {
         self.words[doc / 64] &= !(1 << (doc % 64));
     }
 
+    /// The bits of documents `64 * index` to `64 * index + 63`, the first of them the lowest; behind the last document they
+    /// are 0.
+    #[inline]
+    pub fn word(&self, index: usize) -> u64
+        ensures { result ≡ number_of (take 64 (drop (64 * index) self.now)) }
+    {
+        self.words.get(index).copied().unwrap_or(0)
+    }
+
     /// How many bits are set.
     pub fn count_ones(&self) -> usize
         ensures { result ≡ count_by (λ bit. bit) self.now }
@@ -146,6 +155,3 @@ impl PartialEq for Bits {
 impl Eq for Bits {
     ghost laws = { lists_equiv bool_eq_equiv };
 }
-
-#[cfg(test)]
-mod tests;

@@ -1,9 +1,10 @@
 // Up to 128 numbers, packed at the width of the greatest.
-ghost use Rattle.std.specs.Prelude.{◌≡◌, ◌≤◌, IfOk, IsOkUnless, List, drop, length, take, ℕ};
-ghost use Rattle.fts_pack.specs.Digits.{IsWidthOf, numbers_in, words_of};
-ghost use Rattle.fts_pack.specs.Block.{IsBlock};
+ghost use Rattle.std.specs.Prelude.{◌≡◌, ◌≤◌, IfOk, IsOkUnless, List, length, take, ℕ};
+ghost use Rattle.fts_pack.specs.Block.{IsBlock, block_numbers};
+ghost use Rattle.fts_pack.specs.Digits.{IsWidthOf};
+ghost use Rattle.fts_pack.specs.Lanes.{words_in_lanes};
 
-use crate::packing;
+use crate::{lanes, packing};
 use fts_model::Refusal;
 use std::alloc::{AllocError, Global};
 use std::marker::Model;
@@ -11,7 +12,7 @@ use std::marker::Model;
 /// How many numbers a block holds at most.
 pub const BLOCK: usize = 128;
 
-/// Up to 128 numbers, each kept in as few bits as the greatest of them needs.
+/// Up to 128 numbers, each kept in as few bits as the greatest of them needs: `width` bits, in `4 * width` words.
 #[derive(Drop)]
 pub struct Block {
     count: usize,
@@ -22,7 +23,7 @@ pub struct Block {
 impl Model for Block {
     ghost Value = { List ℕ };
 
-    ghost view = { λ b. numbers_in 32 b.width b.count b.words.items };
+    ghost view = { λ b. block_numbers b.count b.width b.words.items };
 
     ghost invariant = { λ b. IsBlock b.count b.width b.words.items };
 }
@@ -42,8 +43,8 @@ impl Block {
         ensures { IfOk result (λ block. block ≡ numbers.now) }
     {
         let width = packing::width_of(numbers);
-        let mut words = Vec::with_capacity(alloc, packing::word_count_32(numbers.len(), width))?;
-        packing::append(&mut words, width, numbers)?;
+        let mut words = Vec::with_capacity(alloc, 4 * width as usize)?;
+        lanes::append(&mut words, width, numbers)?;
         Ok(Block {
             count: numbers.len(),
             width,
@@ -51,14 +52,13 @@ impl Block {
         })
     }
 
-    /// Writes the numbers to the front of `out`, whose rest stays as it was, and gives how many they are.
+    /// Writes the numbers to the front of `out`, and gives how many they are. What is behind them may be anything.
     pub fn unpack(&self, out: &mut [u32; 128]) -> usize
         ensures count { result ≡ length self.now }
         ensures at_most { result ≤ 128 }
         ensures numbers { take result out.new ≡ self.now }
-        ensures rest { drop result out.new ≡ drop result out.old }
     {
-        packing::unpack(&self.words, self.width, self.count, out);
+        lanes::unpack(&self.words, self.width, out);
         self.count
     }
 
@@ -71,11 +71,8 @@ impl Block {
 
     /// The words in which the numbers lie.
     pub(crate) fn words(&self) -> &[u32]
-        ensures { (width : ℕ) → IsWidthOf self.now width → result.now ≡ words_of 32 width self.now }
+        ensures { (width : ℕ) → IsWidthOf self.now width → result.now ≡ words_in_lanes width self.now }
     {
         &self.words
     }
 }
-
-#[cfg(test)]
-mod tests;

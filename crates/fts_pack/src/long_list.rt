@@ -1,12 +1,12 @@
 // A strictly rising list of documents in blocks of 128 differences, all in one buffer, and a skip entry a block.
-ghost use Rattle.std.specs.Prelude.{◌≡◌, suc, ℕ, ◌+◌, ◌-◌, ◌*◌, ◌^◌, ◌<◌, ◌≤◌, List, All, IfOk, drop, length, take};
+ghost use Rattle.std.specs.Prelude.{◌≡◌, ℕ, ◌*◌, ◌<◌, ◌≤◌, List, IfOk, length, take};
 ghost use Rattle.std.specs.List.Sorted.{IsStrictlyIncreasing};
-ghost use Rattle.fts_pack.specs.Documents.{after, block_at, block_count, documents_at, gaps, last_of, Rises};
+ghost use Rattle.fts_pack.specs.Documents.{after, block_at, block_count, gaps, last_of, Rises};
 ghost use Rattle.fts_pack.specs.LongList.{IsAdded, IsLongList, kept_documents};
 
 use crate::block::BLOCK;
-use crate::packing;
 use crate::skip::Skip;
+use crate::{lanes, packing, sums};
 use std::alloc::{AllocError, Global};
 use std::marker::Model;
 
@@ -73,30 +73,28 @@ impl LongList {
         self.skips[block].last
     }
 
-    /// Writes the documents of the block to the front of `out`, whose rest stays as it was, and gives how many they are.
+    /// Writes the documents of the block to the front of `out`, and gives how many they are.
     pub(crate) fn open(&self, block: usize, out: &mut [u32; 128]) -> usize
         requires { block < block_count (length self.now) }
         ensures count { result ≡ length (block_at self.now block) }
         ensures documents { take result out.new ≡ block_at self.now block }
-        ensures rest { drop result out.new ≡ drop result out.old }
     {
         let Skip { start, width, .. } = self.skips[block];
-        let count = (self.count - block * BLOCK).min(BLOCK);
         let (_, words) = self.words.split_at(start);
-        packing::unpack(words, width, count, out);
-        add_up(self.first(block), count, out);
-        count
+        lanes::unpack(words, width, out);
+        sums::add_up(self.first(block), out);
+        (self.count - block * BLOCK).min(BLOCK)
     }
 
     // The first document that the block may have.
-    fn first(&self, block: usize) -> u64
+    fn first(&self, block: usize) -> u32
         requires { block < block_count (length self.now) }
         ensures { result ≡ after 0 (take (block * 128) self.now) }
     {
         if block == 0 {
             0
         } else {
-            u64::from(self.skips[block - 1].last) + 1
+            self.skips[block - 1].last + 1
         }
     }
 }
@@ -113,8 +111,7 @@ fn add_block(words: &mut Vec<u32>, next: u64, documents: &[u32]) -> Result<Skip,
     let differences = &differences[..documents.len()];
     let width = packing::width_of(differences);
     let start = words.len();
-    words.reserve(packing::word_count_32(documents.len(), width))?;
-    packing::append(words, width, differences)?;
+    lanes::append(words, width, differences)?;
     Ok(Skip {
         start,
         last: documents[documents.len() - 1],
@@ -132,21 +129,6 @@ fn write_gaps(next: u64, documents: &[u32], out: &mut [u32; 128])
     for index in 0..documents.len() {
         let document = u64::from(documents[index]);
         out[index] = (document - next) as u32;
-        next = document + 1;
-    }
-}
-
-// Turns differences into documents, of which the first is `next` or later; the rest of `out` stays.
-fn add_up(next: u64, count: usize, out: &mut [u32; 128])
-    requires within { count ≤ 128 }
-    requires fits { All (λ document. document < 2 ^ 32) (documents_at next (take count out.old)) }
-    ensures documents { take count out.new ≡ documents_at next (take count out.old) }
-    ensures rest { drop count out.new ≡ drop count out.old }
-{
-    let mut next = next;
-    for index in 0..count {
-        let document = next + u64::from(out[index]);
-        out[index] = document as u32;
         next = document + 1;
     }
 }

@@ -17,6 +17,3 @@ pub fn u64_to_i64(value: u64) -> i64
 {
     value.wrapping_add(1 << 63).cast_signed()
 }
-
-#[cfg(test)]
-mod tests;

@@ -6,6 +6,8 @@ mod fixtures;
 #[cfg(test)]
 mod model;
 #[cfg(test)]
+mod pack;
+#[cfg(test)]
 mod query;
 #[cfg(test)]
 mod text;

@@ -1,8 +1,8 @@
-use Rattle.std.proofs.Common.{[], take}
+use Rattle.std.proofs.Common.{take}
 use Rattle.fts_pack.specs.Column.{offsets}
-use Rattle.fts_pack.proofs.PackingLemmas.{IsAppended}
+use Rattle.fts_pack.proofs.DigitsLemmas.{IsWritten}
 use Rattle.fts_pack.proofs.column.packed_offsets.Given as goal
 
 abbrev pub invariant-loop-value : goal.invariant-loop-value
 invariant-loop-value l =
-    IsAppended 64 l.width (take l.value-index (offsets l.least l.values)) [] l.words.items l.pending l.filled
+    IsWritten 64 l.width (take l.value-index (offsets l.least l.values)) l.words.items l.pending l.filled

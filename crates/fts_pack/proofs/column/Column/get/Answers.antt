@@ -7,15 +7,15 @@ use Rattle.fts_pack.proofs.ColumnLemmas.{column_length, bit_fits, value_there, v
 use Rattle.fts_pack.proofs.column.Column.get.Goals as goal
 use Rattle.fts_pack.proofs.column.Column.get.Goals.{else-doc-len-via-then-doc-len+else-get, else-doc-len-via-else-doc-len}
 
-pub read_64-requires-clause-near : goal.read_64-requires-clause-near
-read_64-requires-clause-near c =
+pub read-requires-clause-near : goal.read-requires-clause-near
+read-requires-clause-near c =
     let size = column_length _ _ _ _ _ c.self.view_is in
     bit_fits c.args.doc c.self.inside.width (length c.args.self.now) (omega (arith, size, c.len.ensures, c.if-doc-len.true)) (omega (arith, c.self.invariant.few, ap length c.self.view_is)) c.self.invariant.width_within
 
-there : (c : goal.After-read_64) → get_or c.args.self.now c.args.doc None ≡ Some (c.in_ok-least.least + c.read_64.result)
+there : (c : goal.After-read) → get_or c.args.self.now c.args.doc None ≡ Some (c.in_ok-least.least + c.read.result)
 there c =
     let column = c.self.inside in
-    value_there c.args.self.now column.range c.in_ok-least.least column.present column.width c.args.doc c.read_64.result column.words.items c.self.view_is (omega (arith, c.len.ensures, c.if-doc-len.true)) (c.get.ensures ∙ ap Some c.if-get.true) (ap least_of c.in_ok-least.was) (c.read_64.ensures ∙ ap (λ ws. joined 64 ws / 2 ^ (c.args.doc * column.width) % 2 ^ column.width) c.deref.ensures.value)
+    value_there c.args.self.now column.range c.in_ok-least.least column.present column.width c.args.doc c.read.result column.words.items c.self.view_is (omega (arith, c.len.ensures, c.if-doc-len.true)) (c.get.ensures ∙ ap Some c.if-get.true) (ap least_of c.in_ok-least.was) (c.read.ensures ∙ ap (λ ws. joined 64 ws / 2 ^ (c.args.doc * column.width) % 2 ^ column.width) c.deref.ensures.value)
 
 pub overflow_add-result : goal.overflow_add-result
 overflow_add-result c =

@@ -1,6 +1,6 @@
 use Rattle.std.proofs.Common.{◌≡◌, ◌<◌, ◌∷◌, [], ◌∙◌, length, ap, sym, subst}
 use Rattle.fts_pack.specs.Documents.{block_at, block_count}
-use Rattle.fts_pack.specs.Kept.{documents_of}
+use Rattle.fts_pack.specs.Repr.{documents_of}
 use Rattle.fts_pack.proofs.DocumentsLemmas.{only_block}
 use Rattle.fts_pack.proofs.list.List.open.Goals as goal
 

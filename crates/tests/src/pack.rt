@@ -1,0 +1,263 @@
+// fts_pack: what was packed is read, at every width and every number of numbers.
+ghost use Rattle.std.specs.Prelude.{◌≡◌, ◌+◌, ◌<◌, ◌≤◌, length};
+
+use fts_model::Refusal;
+use fts_pack::{BLOCK, Bits, Block, Blocks, Column, List, i64_to_u64, u64_to_i64};
+use std::test::Fail;
+
+// Numbers of at most so many bits, the greatest of them first.
+fn numbers_of(width: u32) -> [u32; 128] {
+    let greatest = u32::MAX
+        .checked_shr(32u32.saturating_sub(width))
+        .unwrap_or(0);
+    let mut numbers = [greatest; BLOCK];
+    for index in 1..BLOCK {
+        numbers[index] = (index as u32).wrapping_mul(2654435761) & greatest;
+    }
+    numbers
+}
+
+#[test]
+fn every_width_and_count_comes_back(rt: HostRuntime) -> Result<(), Fail> {
+    for width in 0..33u32 {
+        let numbers = numbers_of(width);
+        for count in 0..BLOCK + 1 {
+            let block = Block::pack(rt.alloc(), &numbers[..count])?;
+            let mut out = [7; BLOCK];
+            assert_eq!(rt; block.unpack(&mut out), count);
+            assert_eq!(rt; &out[..count], &numbers[..count]);
+        }
+    }
+    Ok(())
+}
+
+// `unpack` asks for no memory, so that it serves where no growth is granted.
+#[test]
+fn a_refused_block_can_be_packed_again(rt: HostRuntime) -> Result<(), Fail> {
+    let numbers = [3, 1, 2];
+    let block = match Block::pack(rt.alloc(), &numbers) {
+        Ok(block) => block,
+        Err(refusal) => {
+            assert_eq!(rt; refusal, Refusal::Memory);
+            Block::pack(rt.alloc(), &numbers)?
+        }
+    };
+    let mut out = [0; BLOCK];
+    assert_eq!(rt; block.unpack(&mut out), 3);
+    assert_eq!(rt; &out[..3], numbers.as_slice());
+    Ok(())
+}
+
+// Opens the first block of any blocks; exactly one opening is counted.
+fn open_first<B: Blocks>(source: &mut B, out: &mut [u32; 128]) -> usize
+    requires { 0 < length (B.contents source.old) }
+    ensures { B.openings source.new ≡ B.openings source.old + 1 }
+{
+    source.open(0, out)
+}
+
+// What may go to another thread.
+fn carried<T: Send>(value: T) -> T
+    ensures { result ≡ value }
+{
+    value
+}
+
+#[test]
+fn three_documents(rt: HostRuntime) -> Result<(), Fail> {
+    let list = List::build(rt.alloc(), &[5, 6, 133])?;
+    let mut out = [0; 128];
+    assert_eq!(rt; list.len(), 3);
+    let mut source = carried(list.source());
+    assert_eq!(rt; source.blocks(), 1);
+    assert_eq!(rt; source.last(0), 133);
+    assert_eq!(rt; open_first(&mut source, &mut out), 3);
+    assert_eq!(rt; &out[..3], [5, 6, 133].as_slice());
+    Ok(())
+}
+
+#[test]
+fn a_second_block_begins_above_the_first(rt: HostRuntime) -> Result<(), Fail> {
+    let mut documents = [0; 129];
+    for index in 0..129usize {
+        documents[index] = index as u32;
+    }
+    let list = List::build(rt.alloc(), &documents)?;
+    let mut source = list.source();
+    let mut out = [0; 128];
+    assert_eq!(rt; source.blocks(), 2);
+    assert_eq!(rt; source.last(0), 127);
+    assert_eq!(rt; source.last(1), 128);
+    assert_eq!(rt; source.open(0, &mut out), 128);
+    assert_eq!(rt; out.as_slice(), &documents[..128]);
+    assert_eq!(rt; source.open(1, &mut out), 1);
+    assert_eq!(rt; out[0], 128);
+    Ok(())
+}
+
+#[test]
+fn one_document_and_none(rt: HostRuntime) -> Result<(), Fail> {
+    let list = List::build(rt.alloc(), &[4294967295])?;
+    let mut source = list.source();
+    let mut out = [0; 128];
+    assert_eq!(rt; source.blocks(), 1);
+    assert_eq!(rt; source.last(0), 4294967295);
+    assert_eq!(rt; source.open(0, &mut out), 1);
+    assert_eq!(rt; out[0], 4294967295);
+    let empty = List::build(rt.alloc(), &[])?;
+    assert!(rt; empty.is_empty());
+    assert_eq!(rt; empty.source().blocks(), 0);
+    Ok(())
+}
+
+#[test]
+fn a_refused_list_can_be_built_again(rt: HostRuntime) -> Result<(), Fail> {
+    let documents = [2, 3, 70000, 4294967295];
+    let list = match List::build(rt.alloc(), &documents) {
+        Ok(list) => list,
+        Err(refusal) => {
+            assert_eq!(rt; refusal, Refusal::Memory);
+            List::build(rt.alloc(), &documents)?
+        }
+    };
+    let mut out = [0; 128];
+    assert_eq!(rt; list.source().open(0, &mut out), 4);
+    assert_eq!(rt; &out[..4], documents.as_slice());
+    Ok(())
+}
+
+#[test]
+fn present_and_missing_values(rt: HostRuntime) -> Result<(), Fail> {
+    let column = Column::build(rt.alloc(), &[Some(7), None, Some(9)])?;
+    assert_eq!(rt; column.range(), Some((7, 9)));
+    assert_eq!(rt; column.get(0), Some(7));
+    assert_eq!(rt; column.get(1), None);
+    assert_eq!(rt; column.get(2), Some(9));
+    assert_eq!(rt; column.get(3), None);
+    assert_eq!(rt; column.len(), 3);
+    let mut out = [0; 128];
+    let stretch = column.values(0, &mut out);
+    assert_eq!(rt; stretch.len, 3);
+    assert_eq!(rt; stretch.present, 5);
+    assert_eq!(rt; (out[0], out[2]), (7, 9));
+    let none = Column::build(rt.alloc(), &[None, None])?;
+    assert_eq!(rt; none.range(), None);
+    assert_eq!(rt; none.values(0, &mut out).present, 0);
+    assert!(rt; Column::build(rt.alloc(), &[])?.is_empty());
+    Ok(())
+}
+
+// 131 values of at most so many bits, of which each fifth is missing.
+fn values_of(width: u32) -> [Option<u64>; 131] {
+    let greatest = u64::MAX
+        .checked_shr(64u32.saturating_sub(width))
+        .unwrap_or(0);
+    let mut values = [Some(greatest); 131];
+    values[1] = Some(0);
+    for index in 2..131usize {
+        let mixed = (index as u64).wrapping_mul(11400714819323198485) & greatest;
+        values[index] = if index % 5 == 0 { None } else { Some(mixed) };
+    }
+    values
+}
+
+#[test]
+fn every_width_of_values_comes_back(rt: HostRuntime) -> Result<(), Fail> {
+    for width in 0..65u32 {
+        let values = values_of(width);
+        let column = Column::build(rt.alloc(), &values)?;
+        let mut out = [0; 128];
+        let first = column.values(0, &mut out);
+        assert_eq!(rt; first.len, 128);
+        for index in 0..128usize {
+            assert_eq!(rt; column.get(index), values[index]);
+            assert_eq!(rt; first.present >> index & 1 == 1, values[index].is_some());
+            assert_eq!(rt; values[index].unwrap_or(out[index]), out[index]);
+        }
+        let last = column.values(128, &mut out);
+        assert_eq!(rt; (last.len, last.present), (3, 3));
+        assert_eq!(rt; (Some(out[0]), Some(out[1])), (values[128], values[129]));
+    }
+    Ok(())
+}
+
+#[test]
+fn a_refused_column_can_be_built_again(rt: HostRuntime) -> Result<(), Fail> {
+    let values = [Some(5), None, Some(1)];
+    let column = match Column::build(rt.alloc(), &values) {
+        Ok(column) => column,
+        Err(refusal) => {
+            assert_eq!(rt; refusal, Refusal::Memory);
+            Column::build(rt.alloc(), &values)?
+        }
+    };
+    assert_eq!(rt; column.get(0), Some(5));
+    assert_eq!(rt; column.get(1), None);
+    assert_eq!(rt; column.get(2), Some(1));
+    Ok(())
+}
+
+#[test]
+fn one_bit_is_cleared_and_one_is_set(rt: HostRuntime) -> Result<(), Fail> {
+    let mut bits = Bits::all_clear(rt.alloc(), 130)?;
+    assert_eq!(rt; bits.count_ones(), 0);
+    bits.set(0);
+    bits.set(65);
+    bits.set(129);
+    bits.clear(0);
+    assert_eq!(rt;
+        (bits.word(0), bits.word(1), bits.word(2), bits.word(3)),
+        (0, 2, 2, 0)
+    );
+    assert!(rt; bits.get(65) && bits.get(129) && !bits.get(0) && !bits.get(64));
+    assert_eq!(rt; bits.count_ones(), 2);
+    Ok(())
+}
+
+#[test]
+fn a_copy_is_equal_and_apart(rt: HostRuntime) -> Result<(), Fail> {
+    let bits = Bits::all_set(rt.alloc(), 3)?;
+    let mut copy = bits.copied(rt.alloc())?;
+    assert!(rt; bits == copy);
+    copy.clear(1);
+    assert!(rt; bits != copy);
+    assert!(rt; bits.get(1));
+    assert!(rt; bits != Bits::all_set(rt.alloc(), 4)?);
+    assert!(rt; Bits::all_set(rt.alloc(), 0)?.is_empty());
+    Ok(())
+}
+
+#[test]
+fn refused_bits_can_be_made_again(rt: HostRuntime) -> Result<(), Fail> {
+    let bits = match Bits::all_set(rt.alloc(), 65) {
+        Ok(bits) => bits,
+        Err(_) => Bits::all_set(rt.alloc(), 65)?,
+    };
+    let copy = match bits.copied(rt.alloc()) {
+        Ok(copy) => copy,
+        Err(refusal) => {
+            assert_eq!(rt; refusal, Refusal::Memory);
+            bits.copied(rt.alloc())?
+        }
+    };
+    let clear = match Bits::all_clear(rt.alloc(), 65) {
+        Ok(clear) => clear,
+        Err(_) => Bits::all_clear(rt.alloc(), 65)?,
+    };
+    assert_eq!(rt; bits.len(), 65);
+    assert!(rt; bits == copy && bits != clear);
+    Ok(())
+}
+
+#[test]
+fn the_least_signed_number_is_zero(rt: HostRuntime) -> Result<(), Fail> {
+    assert_eq!(rt; i64_to_u64(i64::MIN), 0);
+    assert_eq!(rt; i64_to_u64(-1), 9223372036854775807);
+    assert_eq!(rt; i64_to_u64(0), 9223372036854775808);
+    assert_eq!(rt; i64_to_u64(i64::MAX), u64::MAX);
+    assert_eq!(rt; u64_to_i64(0), i64::MIN);
+    assert_eq!(rt; u64_to_i64(9223372036854775807), -1);
+    assert_eq!(rt; u64_to_i64(9223372036854775808), 0);
+    assert_eq!(rt; u64_to_i64(u64::MAX), i64::MAX);
+    Ok(())
+}
