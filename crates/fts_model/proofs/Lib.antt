@@ -13,3 +13,4 @@ pub mod PlacesSought
 pub mod QueriesBoolean
 pub mod QueriesPhrases
 pub mod ResultsRefused
+pub mod ShortLemmas

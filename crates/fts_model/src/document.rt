@@ -1,5 +1,5 @@
 // Documents: a value, or none, for each field of a schema.
-ghost use Rattle.std.specs.Prelude.{◌≡◌, ◌<◌, ◌≤◌, List, ℕ, Some, None, Ok, Err, IfOk, IfErr, IsErrOf, OnOk, map, length, slice_get, unwrap_or, option_map, option_copied};
+ghost use Rattle.std.specs.Prelude.{◌≡◌, ◌<◌, ◌≤◌, List, ℕ, Some, None, Ok, Err, IfSome, IfOk, IfErr, IsErrOf, OnOk, map, length, slice_get, unwrap_or, option_map, option_copied};
 ghost use Rattle.std.specs.Arc.{arc_value};
 ghost use Rattle.std.specs.List.{find};
 ghost use Rattle.serde_json.specs.View.{view, members_view};
@@ -7,6 +7,7 @@ ghost use Rattle.fts_model.specs.Results.{Gives, error_if_err};
 ghost use Rattle.serde_json.specs.Data.{object, no_members};
 ghost use Rattle.fts_model.specs.Schemas.{schema_fault, is_named};
 ghost use Rattle.fts_model.specs.Documents.{value_in, value_at, members_fault, member_fault, document_of, data_of, with_value, with_values, json_of, CanHave, AreValuesOf, IsDocument, may_stand, fits_fields, fits, value_in_field};
+ghost use Rattle.fts_model.specs.Shorts.{IsShort};
 ghost use Rattle.fts_model.specs.declared.refusal.Refusal.TheVariants.{Memory};
 
 use crate::refusal::Refusal;
@@ -224,7 +225,8 @@ impl Document {
 
     /// The value of the field of this number, if it has one.
     pub fn value(&self, field: usize) -> Option<&FieldValue>
-        ensures { option_copied result ≡ value_in_field self.now field }
+        ensures value { option_copied result ≡ value_in_field self.now field }
+        ensures short { IfSome result (λ v. IsShort v.now) }
     {
         self.stored.values.get(field)?.as_ref()
     }

@@ -10,4 +10,6 @@ mod pack;
 #[cfg(test)]
 mod query;
 #[cfg(test)]
+mod segment;
+#[cfg(test)]
 mod text;

@@ -327,8 +327,14 @@ fn limits(rt: HostRuntime) -> Result<(), Fail> {
         (format!(in alloc; "({deep})")?, "TooDeep"),
         // A `)` too many is no nesting, and doesn't make room for one.
         (format!(in alloc; "))({open}")?, "TooDeep"),
-        (format!(in alloc; "\"{}", repeated(alloc, "(", 33)?.as_str())?, "Syntax"),
-        (format!(in alloc; "\"{}", repeated(alloc, "(", 40)?.as_str())?, "Syntax"),
+        (
+            format!(in alloc; "\"{}", repeated(alloc, "(", 33)?.as_str())?,
+            "Syntax",
+        ),
+        (
+            format!(in alloc; "\"{}", repeated(alloc, "(", 40)?.as_str())?,
+            "Syntax",
+        ),
         (repeated(alloc, "-", 4096)?, "Syntax"),
     ] {
         is_refused(&rt, alloc, &schema, text.as_str(), wanted)?;

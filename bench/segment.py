@@ -1,0 +1,36 @@
+#!/usr/bin/env python3
+"""Times the building of a segment, and looking terms up in it.
+
+    bench/segment.py
+
+100,000 documents of 30 words, of a vocabulary of 50,000 in Zipf's distribution, with a keyword, a u64 and an i64. The
+program stands in bench/segment; this copies it to a crate of a scratch copy of the repository, builds it and runs it. It is
+no part of the tests: it needs the kit's rt, and its times are this machine's.
+"""
+import pathlib, random, shutil, subprocess, sys, tempfile
+
+root = pathlib.Path(__file__).resolve().parent.parent
+
+
+def lines(count=100_000, words=30, vocabulary=50_000):
+    chance = random.Random(7)
+    weights = [1 / (rank + 1) for rank in range(vocabulary)]
+    total, sums = 0, []
+    for weight in weights:
+        total += weight
+        sums.append(total)
+    for number in range(count):
+        text = " ".join(f"w{rank}" for rank in chance.choices(range(vocabulary), cum_weights=sums, k=words))
+        yield f'{{"title":"{text}","tag":"t{chance.randrange(1000)}","price":{chance.randrange(10**6)},"temp":{chance.randrange(-500, 500)}}}\n'
+
+
+with tempfile.TemporaryDirectory() as scratch:
+    copy = pathlib.Path(scratch) / "copy"
+    shutil.copytree(root, copy, ignore=shutil.ignore_patterns(".git"))
+    shutil.copytree(root / "bench/segment", copy / "crates/segment_bench")
+    with open(copy / "crates.txt", "a") as crates:
+        crates.write("segment_bench: fts_segment fts_model serde_json anyhow\n")
+    data = "".join(lines()).encode()
+    run = subprocess.run(["rt", "try", "segment_bench"], cwd=copy / "crates/segment_bench", input=data, capture_output=True)
+    sys.stdout.write(run.stdout.decode())
+    sys.exit(run.returncode)

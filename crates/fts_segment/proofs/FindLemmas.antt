@@ -1,0 +1,62 @@
+-- A search by halving.
+use Rattle.std.proofs.Common.{◌≡◌, ◌+◌, ◌<◌, ◌≤◌, ℕ, List, [], length, get_or, sym, ap, subst, ◌∙◌, inl, inr, arith, Ordering, Less, Equal, Greater}
+use Rattle.std.specs.Prelude.{slice_get, Some}
+use Rattle.std.specs.Ordering.{nat_cmp, is_eq, ordering_reverse}
+use Rattle.std.specs.Cmp.Lexicographic.{slice_cmp}
+use Rattle.std.proofs.lemmas.Bool.{cases_lt}
+use Rattle.std.proofs.lemmas.Cmp.{nat_list_cmp_total, tied_itself}
+use Rattle.std.specs.Cmp.Lexicographic.{texts_ties}
+use Rattle.std.proofs.lemmas.Slice.Eq.{bytes_eq-Decides}
+use Rattle.std.proofs.lemmas.Option.{slice_get_within, slice_get-get_or, get_or_from_slice_get}
+use Rattle.fts_segment.specs.Sorted.{Ascends}
+
+-- what is below `low` is before the term, and what is from `high` on behind it
+pub record Narrows (names : List (List ℕ)) (term : List ℕ) (low high : ℕ) : Type 0 where
+  pub ordered : low ≤ high
+  pub within : high ≤ length names
+  pub before : (i : ℕ) → i < low → slice_cmp nat_cmp (get_or names i []) term ≡ Less
+  pub behind : (i : ℕ) → high ≤ i → i < length names → slice_cmp nat_cmp (get_or names i []) term ≡ Greater
+
+pub same_from_equal : (xs ys : List ℕ) → slice_cmp nat_cmp xs ys ≡ Equal → xs ≡ ys
+same_from_equal xs ys h = (bytes_eq-Decides xs ys).0 (texts_ties xs ys ∙ ap is_eq h)
+
+pub turned : (xs ys : List ℕ) (o : Ordering) → slice_cmp nat_cmp xs ys ≡ o → slice_cmp nat_cmp ys xs ≡ ordering_reverse o
+turned xs ys o h = nat_list_cmp_total.antisymm ys xs ∙ ap ordering_reverse h
+
+pub Narrows-less : {names : List (List ℕ)} {term : List ℕ} {low high : ℕ} (middle : ℕ) → Ascends names → Narrows names term low high → low ≤ middle → middle < high →
+    slice_cmp nat_cmp (get_or names middle []) term ≡ Less → Narrows names term (middle + 1) high
+Narrows-less {names} {term} {low} {high} middle up n from below less = record {
+  ordered = omega arith;
+  within = n.within;
+  before = λ i h. elim (cases_lt i middle) [
+    | inl lower ↦ nat_list_cmp_total.trans (get_or names i []) (get_or names middle []) term (up i middle lower (omega (arith, n.within))) less
+    | inr higher ↦ let same : middle ≡ i = omega arith in let P : ℕ → Type 0 = λ k. slice_cmp nat_cmp (get_or names k []) term ≡ Less in subst P same less
+  ];
+  behind = n.behind;
+}
+
+pub Narrows-greater : {names : List (List ℕ)} {term : List ℕ} {low high : ℕ} (middle : ℕ) → Ascends names → Narrows names term low high → low ≤ middle → middle < high →
+    slice_cmp nat_cmp (get_or names middle []) term ≡ Greater → Narrows names term low middle
+Narrows-greater {names} {term} {low} {high} middle up n from below greater = record {
+  ordered = from;
+  within = omega (arith, n.within);
+  before = n.before;
+  behind = λ i h within. elim (cases_lt middle i) [
+    | inl higher ↦ turned term (get_or names i []) Less
+        (nat_list_cmp_total.trans term (get_or names middle []) (get_or names i []) (turned (get_or names middle []) term Greater greater) (up middle i higher within))
+    | inr lower ↦ let same : middle ≡ i = omega arith in let P : ℕ → Type 0 = λ k. slice_cmp nat_cmp (get_or names k []) term ≡ Greater in subst P same greater
+  ];
+}
+
+pub Narrows-none : {names : List (List ℕ)} {term : List ℕ} {low high : ℕ} → Narrows names term low high → high ≤ low → (i : ℕ) → slice_get names i ≡ Some term → ⊥
+Narrows-none {names} {term} {low} {high} n met i found =
+    let within : i < length names = slice_get_within names i term found in
+    let here : get_or names i [] ≡ term = get_or_from_slice_get names i term [] found in
+    let itself : slice_cmp nat_cmp (get_or names i []) term ≡ Equal = ap (λ t. slice_cmp nat_cmp t term) here ∙ tied_itself nat_list_cmp_total term in
+    elim (cases_lt i low) [
+      | inl lower ↦ let clash : Less ≡ Equal = sym (n.before i lower) ∙ itself in cc
+      | inr higher ↦ let clash : Greater ≡ Equal = sym (n.behind i (omega arith) within) ∙ itself in cc
+    ]
+
+pub Narrows-found : (names : List (List ℕ)) (term : List ℕ) (middle : ℕ) → middle < length names → slice_cmp nat_cmp (get_or names middle []) term ≡ Equal → slice_get names middle ≡ Some term
+Narrows-found names term middle within equal = slice_get-get_or names middle [] within ∙ ap Some (same_from_equal (get_or names middle []) term equal)

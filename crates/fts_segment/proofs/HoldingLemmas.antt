@@ -1,0 +1,165 @@
+-- The documents that hold a term.
+use Rattle.std.proofs.Common.{◌≡◌, ◌+◌, ◌<◌, ◌≤◌, ◌||◌, ℕ, suc, Bool, true, false, cond, List, [], ◌∷◌, ◌++◌, Option, map, filter, length, refl, sym, ap, subst, ◌∙◌, arith, All, nat_eq}
+use Rattle.std.specs.List.{list_any, dedup, dedup_from, AllPairs, enumerate_from}
+use Rattle.std.specs.List.Sorted.{IsStrictlyIncreasing}
+use Rattle.std.specs.Str.{bytes_eq}
+use Rattle.std.proofs.lemmas.Bool.Decides.{nat_tests}
+use Rattle.std.proofs.lemmas.List.{map-append}
+use Rattle.std.proofs.lemmas.List.Elements.{filter-append, All-append, All-cons, All-nil, All-map, All-filter, All-weaker, All-tail, All-head}
+use Rattle.std.proofs.lemmas.List.Kept.{AllPairs-cons}
+use Rattle.fts_model.specs.declared.schema.Kind.{Kind}
+use Rattle.fts_model.specs.declared.value.FieldValue.{FieldValue}
+use Rattle.fts_segment.specs.Occurrences.{Occurrence, occurrence_at, tokens_of, occurrences_at, occurrences, is_token, is_term, docs_of, docs_with}
+use Rattle.fts_segment.specs.Segments.{numbers_where}
+
+-- these are of one document
+abbrev AreOf : ℕ → List Occurrence → Type 0
+AreOf doc os = All (λ o. o.doc ≡ doc) os
+
+tokens_are_of : (doc : ℕ) (ts : List (ℕ × List ℕ)) → AreOf doc (map (occurrence_at doc) ts)
+tokens_are_of doc [] = All-nil (λ (o : Occurrence). o.doc ≡ doc)
+tokens_are_of doc (t ∷ ts) = All-cons (λ (o : Occurrence). o.doc ≡ doc) (occurrence_at doc t) (map (occurrence_at doc) ts) refl (tokens_are_of doc ts)
+
+-- an occurrence stands in a document from the first number on
+pub from_first : (kind : Kind) (doc : ℕ) (vs : List (Option FieldValue)) → All (λ o. doc ≤ o.doc) (occurrences kind doc vs)
+from_first kind doc [] = All-nil (λ (o : Occurrence). doc ≤ o.doc)
+from_first kind doc (v ∷ vs) =
+    All-append (λ (o : Occurrence). doc ≤ o.doc) (occurrences_at kind doc v) (occurrences kind (doc + 1) vs)
+    (All-weaker (λ (o : Occurrence). o.doc ≡ doc) (λ (o : Occurrence). doc ≤ o.doc) (λ o same. omega arith) _ (tokens_are_of doc (tokens_of kind v)))
+    (All-weaker (λ (o : Occurrence). doc + 1 ≤ o.doc) (λ (o : Occurrence). doc ≤ o.doc) (λ o above. omega arith) _ (from_first kind (doc + 1) vs))
+
+after_first : (q : List ℕ) (kind : Kind) (doc : ℕ) (vs : List (Option FieldValue)) → All (λ n. doc < n) (docs_of q (occurrences kind (doc + 1) vs))
+after_first q kind doc vs =
+    All-map (λ (n : ℕ). doc < n) (λ (o : Occurrence). o.doc) (filter (is_term q) (occurrences kind (doc + 1) vs))
+    (All-filter (is_term q) (λ (o : Occurrence). doc < o.doc) (occurrences kind (doc + 1) vs)
+    (All-weaker (λ (o : Occurrence). doc + 1 ≤ o.doc) (λ (o : Occurrence). doc < o.doc) (λ o above. omega arith) _ (from_first kind (doc + 1) vs)))
+
+docs_of-append : (q : List ℕ) (os ps : List Occurrence) → docs_of q (os ++ ps) ≡ docs_of q os ++ docs_of q ps
+docs_of-append q os ps = ap (map (λ (o : Occurrence). o.doc)) (filter-append (is_term q) os ps) ∙ map-append (λ (o : Occurrence). o.doc) (filter (is_term q) os) (filter (is_term q) ps)
+
+pub docs_of-cons : (q : List ℕ) (o : Occurrence) (os : List Occurrence) (b : Bool) → is_term q o ≡ b → docs_of q (o ∷ os) ≡ cond b (o.doc ∷ docs_of q os) (docs_of q os)
+docs_of-cons q o os true is = ap (λ b. map (λ (o : Occurrence). o.doc) (cond b (o ∷ filter (is_term q) os) (filter (is_term q) os))) is
+docs_of-cons q o os false is = ap (λ b. map (λ (o : Occurrence). o.doc) (cond b (o ∷ filter (is_term q) os) (filter (is_term q) os))) is
+
+run_of : (doc n : ℕ) (xs : List ℕ) → n ≡ doc → dedup_from nat_eq doc (n ∷ xs) ≡ dedup_from nat_eq doc xs
+run_of doc n xs same = ap (λ b. cond b (dedup_from nat_eq doc xs) (doc ∷ dedup_from nat_eq n xs)) (let is : nat_eq n doc ≡ true = grind (arith, nat_tests) in is)
+
+run_ends : (doc : ℕ) (xs : List ℕ) → All (λ n. doc < n) xs → dedup_from nat_eq doc xs ≡ doc ∷ dedup nat_eq xs
+run_ends doc [] above = refl
+run_ends doc (n ∷ xs) above =
+    let more : doc < n = above 0 n (omega arith) in
+    ap (λ b. cond b (dedup_from nat_eq doc xs) (doc ∷ dedup_from nat_eq n xs)) (let other : nat_eq n doc ≡ false = grind (arith, nat_tests) in other)
+
+one_run : (q : List ℕ) (doc : ℕ) (os : List Occurrence) (xs : List ℕ) → AreOf doc os → All (λ n. doc < n) xs → dedup_from nat_eq doc (docs_of q os ++ xs) ≡ doc ∷ dedup nat_eq xs
+one_run q doc [] xs of above = run_ends doc xs above
+one_run q doc (o ∷ os) xs of above =
+    let others = one_run q doc os xs (All-tail (λ (o : Occurrence). o.doc ≡ doc) o os of) above in
+    let here = All-head (λ (o : Occurrence). o.doc ≡ doc) o os of in
+    elim (is_term q o) as (λ b. is_term q o ≡ b → dedup_from nat_eq doc (docs_of q (o ∷ os) ++ xs) ≡ doc ∷ dedup nat_eq xs) [
+      | true ↦ λ is. ap (λ ns. dedup_from nat_eq doc (ns ++ xs)) (docs_of-cons q o os true is) ∙ run_of doc o.doc (docs_of q os ++ xs) here ∙ others
+      | false ↦ λ is. ap (λ ns. dedup_from nat_eq doc (ns ++ xs)) (docs_of-cons q o os false is) ∙ others
+    ] refl
+
+-- the occurrences of one document, behind which come others
+document_first : (q : List ℕ) (doc : ℕ) (os : List Occurrence) (xs : List ℕ) → AreOf doc os → All (λ n. doc < n) xs →
+    dedup nat_eq (docs_of q os ++ xs) ≡ cond (list_any (is_term q) os) (doc ∷ dedup nat_eq xs) (dedup nat_eq xs)
+document_first q doc [] xs of above = refl
+document_first q doc (o ∷ os) xs of above =
+    let rest = All-tail (λ (o : Occurrence). o.doc ≡ doc) o os of in
+    let here = All-head (λ (o : Occurrence). o.doc ≡ doc) o os of in
+    elim (is_term q o) as (λ b. is_term q o ≡ b → dedup nat_eq (docs_of q (o ∷ os) ++ xs) ≡ cond (b || list_any (is_term q) os) (doc ∷ dedup nat_eq xs) (dedup nat_eq xs)) [
+      | true ↦ λ is. ap (λ ns. dedup nat_eq (ns ++ xs)) (docs_of-cons q o os true is) ∙ ap (λ n. dedup_from nat_eq n (docs_of q os ++ xs)) here ∙ one_run q doc os xs rest above
+      | false ↦ λ is. ap (λ ns. dedup nat_eq (ns ++ xs)) (docs_of-cons q o os false is) ∙ document_first q doc os xs rest above
+    ] refl
+
+-- an occurrence of a term is a token that is the term
+any_token : (q : List ℕ) (doc : ℕ) (ts : List (ℕ × List ℕ)) → list_any (is_term q) (map (occurrence_at doc) ts) ≡ list_any (is_token q) ts
+any_token q doc [] = refl
+any_token q doc (t ∷ ts) = ap (λ b. bytes_eq t.1 q || b) (any_token q doc ts)
+
+pub numbers_where-cons : {X : Type 0} (p : X → Bool) (n : ℕ) (x : X) (xs : List X) → numbers_where p n (x ∷ xs) ≡ cond (p x) (n ∷ numbers_where p (n + 1) xs) (numbers_where p (n + 1) xs)
+numbers_where-cons {X} p n x xs = elim (p x) as (λ b. map (λ (y : ℕ × X). y.0) (cond b ((n, x) ∷ filter (λ y. p y.1) (enumerate_from (n + 1) xs)) (filter (λ y. p y.1) (enumerate_from (n + 1) xs)))
+    ≡ cond b (n ∷ numbers_where p (n + 1) xs) (numbers_where p (n + 1) xs)) [ true ↦ refl | false ↦ refl ]
+
+pub numbers_where-map : {X Y : Type 0} (p : X → Bool) (q : Y → Bool) (f : X → Y) → ((x : X) → p x ≡ q (f x)) → (n : ℕ) (xs : List X) → numbers_where p n xs ≡ numbers_where q n (map f xs)
+numbers_where-map p q f same n [] = refl
+numbers_where-map p q f same n (x ∷ xs) =
+    numbers_where-cons p n x xs ∙ ap (λ ns. cond (p x) (n ∷ ns) ns) (numbers_where-map p q f same (n + 1) xs)
+    ∙ ap (λ b. cond b (n ∷ numbers_where q (n + 1) (map f xs)) (numbers_where q (n + 1) (map f xs))) (same x) ∙ sym (numbers_where-cons q n (f x) (map f xs))
+
+pub numbers_where-push : {X : Type 0} (p : X → Bool) (n : ℕ) (xs : List X) (x : X) → numbers_where p n (xs ++ x ∷ []) ≡ numbers_where p n xs ++ cond (p x) ((n + length xs) ∷ []) []
+numbers_where-push p n [] x = numbers_where-cons p n x [] ∙ ap (λ k. cond (p x) (k ∷ []) []) (let at : n ≡ n + 0 = omega arith in at)
+numbers_where-push p n (y ∷ xs) x =
+    numbers_where-cons p n y (xs ++ x ∷ []) ∙ ap (λ ns. cond (p y) (n ∷ ns) ns) (numbers_where-push p (n + 1) xs x)
+    ∙ ap (λ k. cond (p y) (n ∷ (numbers_where p (n + 1) xs ++ cond (p x) (k ∷ []) [])) (numbers_where p (n + 1) xs ++ cond (p x) (k ∷ []) [])) (let at : n + 1 + length xs ≡ n + suc (length xs) = omega arith in at)
+    ∙ (elim (p y) as (λ b. cond b (n ∷ (numbers_where p (n + 1) xs ++ cond (p x) ((n + suc (length xs)) ∷ []) [])) (numbers_where p (n + 1) xs ++ cond (p x) ((n + suc (length xs)) ∷ []) [])
+    ≡ cond b (n ∷ numbers_where p (n + 1) xs) (numbers_where p (n + 1) xs) ++ cond (p x) ((n + suc (length xs)) ∷ []) []) [ true ↦ refl | false ↦ refl ])
+    ∙ ap (λ ns. ns ++ cond (p x) ((n + suc (length xs)) ∷ []) []) (sym (numbers_where-cons p n y xs))
+
+pub numbers_where-same : {X : Type 0} (p q : X → Bool) (n : ℕ) (xs : List X) → All (λ x. p x ≡ q x) xs → numbers_where p n xs ≡ numbers_where q n xs
+numbers_where-same p q n [] same = refl
+numbers_where-same {X} p q n (x ∷ xs) same =
+    numbers_where-cons p n x xs ∙ ap (λ ns. cond (p x) (n ∷ ns) ns) (numbers_where-same p q (n + 1) xs (All-tail (λ (x : X). p x ≡ q x) x xs same))
+    ∙ ap (λ b. cond b (n ∷ numbers_where q (n + 1) xs) (numbers_where q (n + 1) xs)) (All-head (λ (x : X). p x ≡ q x) x xs same) ∙ sym (numbers_where-cons q n x xs)
+
+pub numbers_where-none : {X : Type 0} (p : X → Bool) (n : ℕ) (xs : List X) → All (λ x. p x ≡ false) xs → numbers_where p n xs ≡ []
+numbers_where-none p n [] never = refl
+numbers_where-none {X} p n (x ∷ xs) never =
+    numbers_where-cons p n x xs ∙ ap (λ b. cond b (n ∷ numbers_where p (n + 1) xs) (numbers_where p (n + 1) xs)) (All-head (λ (x : X). p x ≡ false) x xs never)
+    ∙ numbers_where-none p (n + 1) xs (All-tail (λ (x : X). p x ≡ false) x xs never)
+
+-- the documents of a term's occurrences, each once, are those with a token that is the term
+pub docs_with-occurrences : (q : List ℕ) (kind : Kind) (doc : ℕ) (vs : List (Option FieldValue)) →
+    docs_with q (occurrences kind doc vs) ≡ numbers_where (λ v. list_any (is_token q) (tokens_of kind v)) doc vs
+docs_with-occurrences q kind doc [] = refl
+docs_with-occurrences q kind doc (v ∷ vs) =
+    let rest = docs_of q (occurrences kind (doc + 1) vs) in
+    let p : Option FieldValue → Bool = λ v. list_any (is_token q) (tokens_of kind v) in
+    ap (dedup nat_eq) (docs_of-append q (occurrences_at kind doc v) (occurrences kind (doc + 1) vs))
+    ∙ document_first q doc (occurrences_at kind doc v) rest (tokens_are_of doc (tokens_of kind v)) (after_first q kind doc vs)
+    ∙ ap (λ b. cond b (doc ∷ dedup nat_eq rest) (dedup nat_eq rest)) (any_token q doc (tokens_of kind v))
+    ∙ ap (λ ns. cond (p v) (doc ∷ ns) ns) (docs_with-occurrences q kind (doc + 1) vs)
+    ∙ sym (numbers_where-cons p doc v vs)
+
+numbers_from : {X : Type 0} (p : X → Bool) (n : ℕ) (xs : List X) → All (λ k. n ≤ k) (numbers_where p n xs)
+numbers_from p n [] = All-nil (λ (k : ℕ). n ≤ k)
+numbers_from p n (x ∷ xs) =
+    let P : List ℕ → Type 0 = All (λ k. n ≤ k) in
+    let rest : P (numbers_where p (n + 1) xs) = All-weaker (λ (k : ℕ). n + 1 ≤ k) (λ (k : ℕ). n ≤ k) (λ k above. omega arith) _ (numbers_from p (n + 1) xs) in
+    subst P (sym (numbers_where-cons p n x xs)) (elim (p x) as (λ b. P (cond b (n ∷ numbers_where p (n + 1) xs) (numbers_where p (n + 1) xs))) [
+      | true ↦ All-cons (λ (k : ℕ). n ≤ k) n (numbers_where p (n + 1) xs) (omega arith) rest
+      | false ↦ rest
+    ])
+
+numbers_apart : {X : Type 0} (p : X → Bool) (n : ℕ) (xs : List X) → AllPairs (λ a b. a < b) (numbers_where p n xs)
+numbers_apart p n [] = λ i j d lower within. absurd (omega arith)
+numbers_apart p n (x ∷ xs) =
+    let R : ℕ → ℕ → Type 0 = λ a b. a < b in
+    let P : List ℕ → Type 0 = AllPairs R in
+    let ns = numbers_where p (n + 1) xs in
+    let above : All (λ k. n < k) ns = All-weaker (λ (k : ℕ). n + 1 ≤ k) (λ (k : ℕ). n < k) (λ k h. omega arith) ns (numbers_from p (n + 1) xs) in
+    subst P (sym (numbers_where-cons p n x xs)) (elim (p x) as (λ b. P (cond b (n ∷ ns) ns)) [
+      | true ↦ AllPairs-cons R n ns above (numbers_apart p (n + 1) xs)
+      | false ↦ numbers_apart p (n + 1) xs
+    ])
+
+pub numbers_where-dedup : {X : Type 0} (p : X → Bool) (n : ℕ) (xs : List X) → dedup nat_eq (numbers_where p n xs) ≡ numbers_where p n xs
+numbers_where-dedup p n [] = refl
+numbers_where-dedup p n (x ∷ xs) =
+    let ns = numbers_where p (n + 1) xs in
+    let above : All (λ k. n < k) ns = All-weaker (λ (k : ℕ). n + 1 ≤ k) (λ (k : ℕ). n < k) (λ k h. omega arith) ns (numbers_from p (n + 1) xs) in
+    ap (dedup nat_eq) (numbers_where-cons p n x xs)
+    ∙ (elim (p x) as (λ b. dedup nat_eq (cond b (n ∷ ns) ns) ≡ cond b (n ∷ ns) ns) [
+      | true ↦ run_ends n ns above ∙ ap (λ ks. n ∷ ks) (numbers_where-dedup p (n + 1) xs)
+      | false ↦ numbers_where-dedup p (n + 1) xs
+    ])
+    ∙ sym (numbers_where-cons p n x xs)
+
+-- numbers of elements rise
+pub numbers_rise : {X : Type 0} (p : X → Bool) (n : ℕ) (xs : List X) → IsStrictlyIncreasing (numbers_where p n xs)
+numbers_rise p n xs k within = numbers_apart p n xs k (k + 1) 0 (omega arith) within
+
+pub docs_with-rise : (q : List ℕ) (kind : Kind) (doc : ℕ) (vs : List (Option FieldValue)) → IsStrictlyIncreasing (docs_with q (occurrences kind doc vs))
+docs_with-rise q kind doc vs =
+    let P : List ℕ → Type 0 = IsStrictlyIncreasing in
+    subst P (sym (docs_with-occurrences q kind doc vs)) (numbers_rise (λ v. list_any (is_token q) (tokens_of kind v)) doc vs)

@@ -1,0 +1,14 @@
+pub mod PiecesLemmas
+pub mod TermsLemmas
+pub mod EntriesLemmas
+pub mod OccurrencesLemmas
+pub mod FindLemmas
+pub mod SortingLemmas
+pub mod GroupsLemmas
+pub mod HoldingLemmas
+pub mod IndexLemmas
+pub mod SegmentLemmas
+pub mod FieldLemmas
+pub mod NumberLemmas
+pub mod RunsLemmas
+pub mod PositionsLemmas

@@ -1,0 +1,22 @@
+use Rattle.std.proofs.Common.{Some, ap, sym, ◌∙◌}
+use Rattle.fts_segment.proofs.FieldLemmas.{if_none, if_some, text_absent, text_found, text_without}
+use Rattle.fts_segment.proofs.PositionsLemmas.{runs_found}
+use Rattle.fts_segment.proofs.field_index.find_text.Goals as goal
+
+pub returns-in-Text-clause-none : goal.returns-in-Text-clause-none
+returns-in-Text-clause-none c vs a = rw c.in-Text.is (if_none _ c.find.result c.find.ensures (λ absent. text_absent c.in-Text.text a (λ i found. absent i (found ∙ ap Some (sym c.as_str.ensures)))))
+
+pub returns-in-Text-clause-some : goal.returns-in-Text-clause-some
+returns-in-Text-clause-some c = if_some _ _ _ c.find.result c.find.ensures (λ list found. λ none.
+    (text_found c.in-Text.text found.0 c.requires.1 (found.1 ∙ ap Some c.as_str.ensures)).1 (sym found.2 ∙ none))
+
+pub returns-in-Text-clause-documents : goal.returns-in-Text-clause-documents
+returns-in-Text-clause-documents c vs a = rw c.in-Text.is (if_some _ _ _ c.find.result c.find.ensures (λ list found.
+    found.2 ∙ (text_found c.in-Text.text found.0 a (found.1 ∙ ap Some c.as_str.ensures)).0))
+
+pub returns-in-Number-clause-none : goal.returns-in-Number-clause-none
+returns-in-Number-clause-none c vs a = rw c.in-Number.is (text_without c.in-Number.field-0 a)
+
+pub returns-in-Text-clause-positions : goal.returns-in-Text-clause-positions
+returns-in-Text-clause-positions c vs a = rw c.in-Text.is (if_some _ _ _ c.find.result c.find.ensures (λ list found.
+    found.3 ∙ runs_found c.in-Text.text found.0 a (found.1 ∙ ap Some c.as_str.ensures)))

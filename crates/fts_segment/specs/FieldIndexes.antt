@@ -1,0 +1,38 @@
+-- What the indexes of fields say of documents.
+use Rattle.std.specs.Prelude.{◌≡◌, ℕ, true, false, List, length, Option, Some, IfSome, All, slice_get}
+use Rattle.fts_model.specs.declared.schema.Kind.{Kind}
+use Rattle.fts_model.specs.declared.schema.Field.{Field}
+use Rattle.fts_model.specs.declared.value.FieldValue.{FieldValue}
+use Rattle.fts_model.specs.declared.operation.Stamped.{Stamped}
+use Rattle.fts_model.specs.Schemas.{holds_numbers}
+use Rattle.fts_model.specs.Documents.{DocumentValue}
+use Rattle.fts_segment.specs.declared.field_index.FieldIndex.{FieldIndex}
+use Rattle.fts_segment.specs.declared.field_index.FieldIndex.TheVariants.{Terms, Numbers}
+use Rattle.fts_segment.specs.declared.term_index.TermIndex.{TermIndex}
+use Rattle.fts_segment.specs.declared.number_index.NumberIndex.{NumberIndex}
+use Rattle.fts_segment.specs.Occurrences.{occurrences, values_in}
+use Rattle.fts_segment.specs.Indexes.{IsIndexOf}
+use Rattle.fts_segment.specs.TermRuns.{term_runs}
+use Rattle.fts_segment.specs.Numbers.{Fits64, numbers_of, IsNumberIndex}
+
+-- the terms of a text or keyword field
+pub record AreTerms (kind : Kind) (vs : List (Option FieldValue)) (index : TermIndex) : Type 0 where
+  pub kind_is : holds_numbers kind ≡ false
+  pub index_is : IsIndexOf (occurrences kind 0 vs) index.names index.lists.items (term_runs index.positions)
+
+-- the numbers of a number field
+pub record AreNumbers (kind : Kind) (vs : List (Option FieldValue)) (index : NumberIndex) : Type 0 where
+  pub kind_is : holds_numbers kind ≡ true
+  pub fit : All (λ v. IfSome v (Fits64 kind)) vs
+  pub column_is : index.column ≡ numbers_of kind vs
+  pub index_is : IsNumberIndex (numbers_of kind vs) index.numbers.items index.lists.items
+
+-- the index of a field of this kind in which the documents have these values
+abbrev pub IsFieldIndex : Kind → List (Option FieldValue) → FieldIndex → Type 0
+IsFieldIndex kind vs (Terms index) = AreTerms kind vs index
+IsFieldIndex kind vs (Numbers index) = AreNumbers kind vs index
+
+-- one index for each field
+pub record AreIndexes (schema : List Field) (documents : List (Stamped DocumentValue)) (indexes : List FieldIndex) : Type 0 where
+  pub count : length indexes ≡ length schema
+  pub each : (f : ℕ) (field : Field) (index : FieldIndex) → slice_get schema f ≡ Some field → slice_get indexes f ≡ Some index → IsFieldIndex field.kind (values_in f documents) index

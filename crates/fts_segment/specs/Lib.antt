@@ -1,0 +1,15 @@
+pub mod Occurrences
+pub mod Segments
+pub mod Pieces
+pub mod Numberings
+pub mod Entries
+pub mod Sorted
+pub mod Groups
+pub mod Positions
+pub mod Indexes
+pub mod Numbers
+pub mod NumberLogs
+pub mod FieldIndexes
+pub mod TermRuns
+pub mod ListIds
+pub mod PositionsLeft

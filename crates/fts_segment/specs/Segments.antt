@@ -1,0 +1,72 @@
+-- What a segment holds, and what it finds for a term.
+use Rattle.std.specs.Prelude.{ℕ, Bool, List, [], ◌∷◌, ◌++◌, Option, Some, None, map, filter, option_and_then}
+use Rattle.std.specs.List.{enumerate_from}
+use Rattle.std.specs.Option.{option_map_or}
+use Rattle.fts_model.specs.declared.schema.Field.{Field}
+use Rattle.fts_model.specs.declared.operation.Stamped.{Stamped}
+use Rattle.fts_model.specs.declared.operation.Term.{Term}
+use Rattle.fts_model.specs.declared.schema.Kind.{Kind}
+use Rattle.fts_model.specs.declared.schema.Kind.TheVariants as kinds
+use Rattle.fts_model.specs.declared.value.FieldValue.{FieldValue}
+use Rattle.fts_model.specs.declared.value.FieldValue.TheVariants as values
+use Rattle.fts_model.specs.declared.value.Number.TheVariants as numbers
+use Rattle.fts_model.specs.Documents.{DocumentValue, value_in_field}
+use Rattle.fts_model.specs.Operations.{has, kind_at}
+use Rattle.fts_pack.specs.Signed.{u64_of}
+use Rattle.fts_segment.specs.Occurrences.{tokens_of, is_token}
+
+-- a schema, and documents with their stamps
+pub record SegmentValue : Type 0 where
+  pub schema : List Field
+  pub documents : List (Stamped DocumentValue)
+
+-- the same with one document more
+abbrev pub with_document : SegmentValue → ℕ → DocumentValue → SegmentValue
+with_document segment stamp document = record { schema = segment.schema; documents = segment.documents ++ record { stamp = stamp; value = document } ∷ [] }
+
+-- the numbers of the elements that pass a test, where the first element has the number `first`
+abbrev pub numbers_where : {X : Type 0} → (X → Bool) → ℕ → List X → List ℕ
+numbers_where p first xs = map (λ x. x.0) (filter (λ x. p x.1) (enumerate_from first xs))
+
+-- the numbers of the documents that have a term
+abbrev pub postings : SegmentValue → Term → List ℕ
+postings segment term = numbers_where (λ d. has segment.schema d.value term) 0 segment.documents
+
+-- the positions at which a text stands among tokens
+abbrev pub positions_among : List ℕ → List (ℕ × List ℕ) → List ℕ
+positions_among text tokens = map (λ t. t.0) (filter (is_token text) tokens)
+
+-- the tokens of a document in a field
+abbrev pub document_tokens : List Field → ℕ → DocumentValue → List (ℕ × List ℕ)
+document_tokens schema field document = option_map_or (λ kind. tokens_of kind (value_in_field document field)) (kind_at schema field) []
+
+-- the positions of a term in each of the documents that have it, where its value is a text; a number has none
+abbrev pub positions_of : SegmentValue → Term → FieldValue → List (List ℕ)
+positions_of segment term (values.Text text) =
+    map (λ d. positions_among text (document_tokens segment.schema term.field d.value)) (filter (λ d. has segment.schema d.value term) segment.documents)
+positions_of segment term (values.Number n) = []
+
+abbrev pub positions : SegmentValue → Term → List (List ℕ)
+positions segment term = positions_of segment term term.value
+
+-- the number that a field of this kind has, if any, as a column keeps it: an i64 by the u64 in its place
+abbrev pub number_in : Kind → FieldValue → Option ℕ
+number_in kinds.U64 (values.Number (numbers.U64 n)) = Some n
+number_in kinds.I64 (values.Number (numbers.I64 z)) = Some (u64_of z)
+number_in kind value = None
+
+abbrev pub number_of : Kind → Option FieldValue → Option ℕ
+number_of kind value = option_and_then (number_in kind) value
+
+-- the numbers of the documents in a field
+abbrev pub column : SegmentValue → ℕ → List (Option ℕ)
+column segment field = map (λ d. option_and_then (λ kind. number_of kind (value_in_field d.value field)) (kind_at segment.schema field)) segment.documents
+
+-- no documents yet
+abbrev pub no_documents : List Field → SegmentValue
+no_documents schema = record { schema = schema; documents = [] }
+
+-- what a builder holds: the segment to be, and whether it serves a merge
+pub record BuilderValue : Type 0 where
+  pub segment : SegmentValue
+  pub merging : Bool

@@ -1,0 +1,128 @@
+// Takes documents one after the other, and makes a segment of them.
+ghost use Rattle.std.specs.Prelude.{◌≡◌, ◌↔◌, ◌≢◌, ◌<◌, ◌≤◌, true, false, Err, length, IfOk, IfErr, OnOk, OnErr, ◌^◌};
+ghost use Rattle.fts_segment.specs.FieldIndexes.{AreIndexes};
+ghost use Rattle.fts_model.specs.declared.refusal.Refusal.TheVariants.{Memory, SegmentFull};
+
+use crate::field_index::FieldIndex;
+use crate::segment::Segment;
+use fts_model::{Document, Refusal, Schema, Stamp, Stamped};
+use std::alloc::{AllocError, Global};
+use std::marker::Model;
+
+/// The most documents of a segment that is built of new ones.
+const MOST_DOCUMENTS: usize = 65_536;
+
+/// Takes the documents of a segment to be. Contracts see these with their schema, and whether it serves a merge.
+///
+/// Documents are kept as handles; their terms are gathered in `finish`.
+#[derive(Drop)]
+pub struct Builder {
+    schema: Schema,
+    documents: Vec<Stamped<Document>>,
+    merging: bool,
+}
+
+impl Model for Builder {
+    ghost use Rattle.std.specs.Prelude.{◌≤◌, length};
+    ghost use Rattle.fts_segment.specs.Segments.{BuilderValue};
+
+    ghost Value = { BuilderValue };
+
+    ghost view = { λ b. record { segment = record { schema = b.schema; documents = b.documents.items }; merging = b.merging } };
+
+    ghost invariant = { λ b. length b.documents.items ≤ 1048576 };
+}
+
+impl Builder {
+    ghost use Rattle.fts_segment.specs.Segments.{with_document, no_documents};
+
+    /// Without documents, of which it takes up to 65,536.
+    pub fn new(alloc: Global, schema: &Schema) -> Result<Builder, Refusal>
+        ensures ok { IfOk result (λ builder. builder ≡ record { segment = no_documents schema.now; merging = false }) }
+        ensures memory { IfErr result (λ e. e ≡ Memory) }
+    {
+        Self::with(alloc, schema, false)
+    }
+
+    /// The same for the documents of segments that are merged: it takes up to 1,048,576, in any order of stamps.
+    pub fn merging(alloc: Global, schema: &Schema) -> Result<Builder, Refusal>
+        ensures ok { IfOk result (λ builder. builder ≡ record { segment = no_documents schema.now; merging = true }) }
+        ensures memory { IfErr result (λ e. e ≡ Memory) }
+    {
+        Self::with(alloc, schema, true)
+    }
+
+    fn with(alloc: Global, schema: &Schema, merging: bool) -> Result<Builder, Refusal>
+        ensures ok { IfOk result (λ builder. builder ≡ record { segment = no_documents schema.now; merging = merging }) }
+        ensures memory { IfErr result (λ e. e ≡ Memory) }
+    {
+        match schema.clone() {
+            Err(AllocError) => Err(Refusal::Memory),
+            Ok(schema) => Ok(Builder {
+                schema,
+                documents: Vec::new(alloc),
+                merging,
+            }),
+        }
+    }
+
+    /// Takes a document with its stamp. `SegmentFull` where there are 65,536 already and it serves no merge.
+    pub fn add(&mut self, stamp: Stamp, document: &Document) -> Result<(), Refusal>
+        requires { self.old.merging ≡ true → length self.old.segment.documents < 1048576 }
+        ensures ok { OnOk result (self.new ≡ record self.old { segment = with_document self.old.segment stamp document.now }) }
+        ensures full { (result ≡ Err SegmentFull) ↔ (self.old.merging ≡ false) × (65536 ≤ length self.old.segment.documents) }
+        ensures other { IfErr result (λ e. e ≢ SegmentFull → e ≡ Memory) }
+        ensures err { OnErr result (self.new ≡ self.old) }
+    {
+        if !self.merging && self.documents.len() >= MOST_DOCUMENTS {
+            return Err(Refusal::SegmentFull);
+        }
+        match document.clone() {
+            Err(AllocError) => Err(Refusal::Memory),
+            Ok(value) => match self.documents.push(Stamped { stamp, value }) {
+                Err(_) => Err(Refusal::Memory),
+                Ok(()) => Ok(()),
+            },
+        }
+    }
+
+    /// The segment of the documents. Where a growth is refused, the builder comes back.
+    pub fn finish(self, alloc: Global) -> Result<Segment, (Builder, Refusal)>
+        ensures ok { IfOk result (λ segment. segment ≡ self.segment) }
+        ensures err { IfErr result (λ e. e.0 ≡ self) }
+        ensures memory { IfErr result (λ e. e.1 ≡ Memory) }
+    {
+        match indexed(alloc, &self.schema, &self.documents) {
+            Err(AllocError) => Err((self, Refusal::Memory)),
+            Ok(indexes) => {
+                let Builder {
+                    schema,
+                    documents,
+                    merging: _,
+                } = self;
+                Ok(Segment {
+                    schema,
+                    documents,
+                    indexes,
+                })
+            }
+        }
+    }
+}
+
+// The indexes of the fields, in order.
+fn indexed(
+    alloc: Global,
+    schema: &Schema,
+    documents: &[Stamped<Document>],
+) -> Result<Vec<FieldIndex>, AllocError>
+    requires { length documents.now ≤ 2 ^ 32 }
+    ensures { IfOk result (λ indexes. AreIndexes schema.now documents.now indexes.items) }
+{
+    let mut indexes = Vec::new(alloc);
+    for field in 0..schema.fields().len() {
+        let kind = schema.kind(field);
+        indexes.push(FieldIndex::new(alloc, documents, field, kind)?)?;
+    }
+    Ok(indexes)
+}

@@ -1,0 +1,85 @@
+// What is looked up in a field: the terms of its texts, or its numbers.
+ghost use Rattle.std.specs.Prelude.{◌≡◌, ◌≢◌, [], List, Option, ◌≤◌, ◌^◌, length, IfOk, IfNone, IfSome, true};
+ghost use Rattle.fts_model.specs.declared.value.FieldValue.{FieldValue};
+ghost use Rattle.fts_segment.specs.FieldIndexes.{IsFieldIndex, AreTerms};
+ghost use Rattle.fts_segment.specs.ListIds.{documents_in, positions_in};
+ghost use Rattle.fts_segment.specs.Occurrences.{holds, values_in};
+ghost use Rattle.fts_segment.specs.Segments.{numbers_where};
+ghost use Rattle.fts_segment.specs.Positions.{value_runs};
+ghost use Rattle.fts_segment.specs.Numbers.{numbers_of};
+ghost use Rattle.fts_model.specs.Schemas.{holds_numbers};
+
+use crate::number_index::{NumberIndex, number_in};
+use crate::occurrences::logged;
+use crate::segment::ListId;
+use crate::term_index::TermIndex;
+use fts_model::{Document, FieldValue, Kind, Stamped};
+use fts_pack::Column;
+use std::alloc::{AllocError, Global};
+
+/// What is looked up in a field.
+#[derive(Drop)]
+pub(crate) enum FieldIndex {
+    Terms(TermIndex),
+    Numbers(NumberIndex),
+}
+
+impl FieldIndex {
+    /// The index of a field of this kind.
+    pub(crate) fn new(
+        alloc: Global,
+        documents: &[Stamped<Document>],
+        field: usize,
+        kind: Kind,
+    ) -> Result<FieldIndex, AllocError>
+        requires { length documents.now ≤ 2 ^ 32 }
+        ensures { IfOk result (λ index. IsFieldIndex kind (values_in field documents.now) index) }
+    {
+        if kind.holds_numbers() {
+            let index = NumberIndex::new(alloc, documents, field, kind)?;
+            return Ok(FieldIndex::Numbers(index));
+        }
+        let log = logged(alloc, documents, field, kind)?;
+        Ok(FieldIndex::Terms(log.index(alloc)?))
+    }
+
+    /// The numbers of the documents in a number field.
+    pub(crate) fn column(&self, kind: Kind) -> &Column
+        requires numbers { holds_numbers kind ≡ true }
+        requires is { (vs : List (Option FieldValue)) × IsFieldIndex kind vs self.now }
+        ensures { (vs : List (Option FieldValue)) → IsFieldIndex kind vs self.now → result.now ≡ numbers_of kind vs }
+    {
+        match self {
+            FieldIndex::Numbers(index) => &index.column,
+            FieldIndex::Terms(_) => unreachable!(),
+        }
+    }
+
+    /// The list of a term, where a document has it.
+    pub(crate) fn find(&self, kind: Kind, term: &FieldValue) -> Option<ListId<'_>>
+        requires { (vs : List (Option FieldValue)) × IsFieldIndex kind vs self.now }
+        ensures none { (vs : List (Option FieldValue)) → IsFieldIndex kind vs self.now → IfNone result (numbers_where (holds kind term.now) 0 vs ≡ []) }
+        ensures some { IfSome result (λ list. documents_in list ≢ []) }
+        ensures documents { (vs : List (Option FieldValue)) → IsFieldIndex kind vs self.now → IfSome result (λ list. documents_in list ≡ numbers_where (holds kind term.now) 0 vs) }
+        ensures positions { (vs : List (Option FieldValue)) → IsFieldIndex kind vs self.now → IfSome result (λ list. positions_in list ≡ value_runs kind term.now vs) }
+    {
+        match self {
+            FieldIndex::Terms(index) => find_text(index, kind, term),
+            FieldIndex::Numbers(index) => index.find(number_in(kind, Some(term))?),
+        }
+    }
+}
+
+// The list of a term of a text or keyword field, where a document has it.
+fn find_text<'a>(index: &'a TermIndex, kind: Kind, term: &FieldValue) -> Option<ListId<'a>>
+    requires { (vs : List (Option FieldValue)) × AreTerms kind vs index.now }
+    ensures none { (vs : List (Option FieldValue)) → AreTerms kind vs index.entry.now → IfNone result (numbers_where (holds kind term.now) 0 vs ≡ []) }
+    ensures some { IfSome result (λ list. documents_in list ≢ []) }
+    ensures documents { (vs : List (Option FieldValue)) → AreTerms kind vs index.entry.now → IfSome result (λ list. documents_in list ≡ numbers_where (holds kind term.now) 0 vs) }
+    ensures positions { (vs : List (Option FieldValue)) → AreTerms kind vs index.entry.now → IfSome result (λ list. positions_in list ≡ value_runs kind term.now vs) }
+{
+    match term {
+        FieldValue::Text(text) => index.find(text.as_str()),
+        FieldValue::Number(_) => None,
+    }
+}

@@ -1,0 +1,36 @@
+//! A segment: stored documents with their stamps, and what is looked up in them. It never changes once made.
+//!
+//! A [`Builder`] takes documents one after the other and makes a [`Segment`] of them. The segment numbers its documents from
+//! 0, and finds the list of a term ([`Segment::find`]): the documents that have it ([`Segment::postings`]), and where it stands
+//! in each ([`Segment::positions`]). Of a number field it has a column ([`Segment::column`]).
+//!
+//! ```text
+//! let mut builder = Builder::new(alloc, &schema)?;
+//! builder.add(stamp, &document)?;
+//! let segment = builder.finish(alloc).map_err(|(_, refusal)| refusal)?;
+//! if let Some(list) = segment.find(&term) {
+//!     let mut source = segment.postings(list).source();
+//! }
+//! ```
+#![tactic(auto)]
+
+mod builder;
+mod field_index;
+mod find;
+mod grouping;
+pub mod laws;
+mod names;
+mod number_index;
+mod numbering;
+mod occurrences;
+mod positions;
+mod runs;
+mod segment;
+mod sorting;
+mod term_index;
+mod term_log;
+mod term_positions;
+
+pub use builder::Builder;
+pub use positions::Positions;
+pub use segment::{ListId, Segment};

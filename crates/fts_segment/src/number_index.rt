@@ -1,0 +1,185 @@
+// The numbers of a field: a column, and for each number the documents that have it.
+ghost use Rattle.std.specs.Prelude.{◌≡◌, ℕ, ◌<◌, ◌≤◌, ◌^◌, ◌++◌, ◌∷◌, [], Some, length, map, All, Contains, IfOk, IfSome, OnOk, option_copied, slice_get, slice_index, slice_index_or, MatchOption};
+ghost use Rattle.std.specs.List.Sorted.{IsStrictlyIncreasing};
+ghost use Rattle.fts_segment.specs.Groups.{places_of};
+ghost use Rattle.fts_segment.specs.Indexes.{docs_in};
+ghost use Rattle.fts_segment.specs.Occurrences.{values_in};
+ghost use Rattle.fts_segment.specs.Segments.{number_of, numbers_where};
+ghost use Rattle.fts_segment.specs.Numbers.{Fits64, numbers_of as numbers_of_values, present, is_number, IsNumberIndex};
+ghost use Rattle.fts_segment.specs.ListIds.{documents_in, positions_in};
+ghost use Rattle.fts_segment.specs.NumberLogs.{NumberLog};
+
+use crate::find::find_number;
+use crate::grouping::Groups;
+use crate::segment::ListId;
+use crate::term_index::set_docs;
+use crate::term_log::Entry;
+use fts_model::{Document, FieldValue, Kind, Number, Stamped};
+use fts_pack::{Column, List, i64_to_u64};
+use std::alloc::{AllocError, Global};
+
+/// The numbers of a field.
+#[derive(Drop)]
+pub(crate) struct NumberIndex {
+    pub(crate) column: Column,
+    /// The different numbers, rising.
+    pub(crate) numbers: Vec<u64>,
+    /// The documents of each.
+    pub(crate) lists: Vec<List>,
+}
+
+impl NumberIndex {
+    /// The index of a field of this kind.
+    pub(crate) fn new(
+        alloc: Global,
+        documents: &[Stamped<Document>],
+        field: usize,
+        kind: Kind,
+    ) -> Result<NumberIndex, AllocError>
+        requires { length documents.now ≤ 2 ^ 32 }
+        ensures fit { OnOk result (All (λ v. IfSome v (Fits64 kind)) (values_in field documents.now)) }
+        ensures column { IfOk result (λ index. index.column ≡ numbers_of_values kind (values_in field documents.now)) }
+        ensures index { IfOk result (λ index. IsNumberIndex (numbers_of_values kind (values_in field documents.now)) index.numbers.items index.lists.items) }
+    {
+        let values = numbers_of(alloc, documents, field, kind)?;
+        let numbers = different(alloc, &values)?;
+        let log = logged(alloc, &values, &numbers)?;
+        let groups = Groups::new(alloc, &log, numbers.len())?;
+        let lists = lists_of(alloc, &groups, numbers.len())?;
+        let Ok(column) = Column::build(alloc, &values) else {
+            return Err(AllocError);
+        };
+        Ok(NumberIndex {
+            column,
+            numbers,
+            lists,
+        })
+    }
+
+    /// The list of a number, where a document has it.
+    pub(crate) fn find(&self, number: u64) -> Option<ListId<'_>>
+        requires rises { IsStrictlyIncreasing self.now.numbers.items }
+        requires listed { length self.now.numbers.items ≡ length self.now.lists.items }
+        ensures { MatchOption result ((i : ℕ) → slice_get self.now.numbers.items i ≡ Some number → ⊥)
+            (λ list. (i : ℕ) × (slice_get self.now.numbers.items i ≡ Some number) × (documents_in list ≡ slice_index_or self.now.lists.items i [])
+            × (positions_in list ≡ [])) }
+    {
+        let place = find_number(&self.numbers, number)?;
+        Some(ListId {
+            list: &self.lists[place],
+            positions: None,
+        })
+    }
+}
+
+/// The number that a value is in a field of this kind, as a column keeps it.
+pub(crate) fn number_in(kind: Kind, value: Option<&FieldValue>) -> Option<u64>
+    ensures number { result ≡ number_of kind (option_copied value.entry) }
+    ensures fits { IfSome value.entry (λ v. Fits64 kind v.now) }
+{
+    match (kind, value?) {
+        (Kind::U64, FieldValue::Number(Number::U64(number))) => Some(*number),
+        (Kind::I64, FieldValue::Number(Number::I64(number))) => Some(i64_to_u64(*number)),
+        _ => None,
+    }
+}
+
+// The numbers of the documents in a field of this kind.
+fn numbers_of(
+    alloc: Global,
+    documents: &[Stamped<Document>],
+    field: usize,
+    kind: Kind,
+) -> Result<Vec<Option<u64>>, AllocError>
+    ensures numbers { IfOk result (λ v. v.items ≡ numbers_of_values kind (values_in field documents.now)) }
+    ensures fit { OnOk result (All (λ v. IfSome v (Fits64 kind)) (values_in field documents.now)) }
+{
+    let mut numbers = Vec::with_capacity(alloc, documents.len())?;
+    for document in documents {
+        numbers.push(number_in(kind, document.value.value(field)))?;
+    }
+    Ok(numbers)
+}
+
+// Puts a number, if there is one, behind the others.
+fn push_present(numbers: &mut Vec<u64>, value: Option<u64>) -> Result<(), AllocError>
+    ensures { OnOk result (numbers.new.items ≡ numbers.old.items ++ present (value ∷ [])) }
+{
+    if let Some(number) = value {
+        numbers.push(number)?;
+    }
+    Ok(())
+}
+
+// The different numbers, rising.
+fn different(alloc: Global, values: &[Option<u64>]) -> Result<Vec<u64>, AllocError>
+    ensures rises { IfOk result (λ v. IsStrictlyIncreasing v.items) }
+    ensures occur { IfOk result (λ v. All (λ x. Contains values.now (Some x)) v.items) }
+    ensures whole { IfOk result (λ v. (x : ℕ) → Contains values.now (Some x) → Contains v.items x) }
+{
+    let mut numbers = Vec::new(alloc);
+    for value in values {
+        push_present(&mut numbers, *value)?;
+    }
+    numbers.sort_unstable();
+    numbers.dedup();
+    Ok(numbers)
+}
+
+// Puts a document's number behind the others, by its place among the different ones.
+fn push_number(
+    log: &mut Vec<Entry>,
+    numbers: &[u64],
+    doc: u32,
+    value: Option<u64>,
+) -> Result<(), AllocError>
+    requires rises { IsStrictlyIncreasing numbers.now }
+    requires whole { IfSome value (λ x. Contains numbers.now x) }
+    ensures { OnOk result (NumberLog numbers.now doc value log.old.items log.new.items) }
+{
+    let Some(number) = value else {
+        return Ok(());
+    };
+    let Some(term) = find_number(numbers, number) else {
+        return Ok(());
+    };
+    log.push(Entry {
+        term,
+        doc,
+        position: 0,
+    })?;
+    Ok(())
+}
+
+// The numbers of documents, each by its place among the different ones.
+fn logged(alloc: Global, values: &[Option<u64>], numbers: &[u64]) -> Result<Vec<Entry>, AllocError>
+    requires few { length values.now ≤ 2 ^ 32 }
+    requires rises { IsStrictlyIncreasing numbers.now }
+    requires whole { (x : ℕ) → Contains values.now (Some x) → Contains numbers.now x }
+    ensures named { IfOk result (λ log. All (λ e. e.term < length numbers.now) log.items) }
+    ensures docs { IfOk result (λ log. (t : ℕ) → t < length numbers.now → map (λ p. p.doc) (places_of t log.items) ≡ numbers_where (is_number (slice_index numbers.now t)) 0 values.now) }
+{
+    let mut log = Vec::with_capacity(alloc, values.len())?;
+    for (doc, value) in values.iter().enumerate() {
+        push_number(&mut log, numbers, doc as u32, *value)?;
+    }
+    Ok(log)
+}
+
+// The documents of the groups, each once.
+fn lists_of(alloc: Global, groups: &Groups, count: usize) -> Result<Vec<List>, AllocError>
+    requires count { length groups.now ≡ count }
+    requires rise { All (λ places. IsStrictlyIncreasing (docs_in places)) groups.now }
+    ensures { IfOk result (λ lists. lists.items ≡ map docs_in groups.now) }
+{
+    let mut lists = Vec::with_capacity(alloc, count)?;
+    let mut docs = Vec::new(alloc);
+    for number in 0..count {
+        set_docs(&mut docs, groups.get(number))?;
+        let Ok(list) = List::build(alloc, &docs) else {
+            return Err(AllocError);
+        };
+        lists.push(list)?;
+    }
+    Ok(lists)
+}

@@ -1,0 +1,77 @@
+// Puts the tokens of a field into a log, document by document.
+ghost use Rattle.std.specs.Prelude.{◌≡◌, ◌<◌, ◌≤◌, ◌++◌, ◌∷◌, [], ◌^◌, length, OnOk, IfOk, map, IfSome, option_copied};
+ghost use Rattle.fts_text.specs.Places.{IsPlaceIn, token_at};
+ghost use Rattle.fts_model.specs.Shorts.{IsShort};
+ghost use Rattle.fts_model.specs.declared.schema.Kind.TheVariants.{Text};
+ghost use Rattle.fts_segment.specs.Occurrences.{occurrence_at, occurrences_at, occurrences, values_in};
+ghost use Rattle.fts_text.specs.Tokens.{tokens};
+
+use crate::term_log::TermLog;
+use fts_model::{Document, FieldValue, Kind, Stamped};
+use fts_text::{Token, Tokens, fold_into};
+use std::alloc::{AllocError, Global};
+
+// Puts a token of a document's text behind the occurrences so far. `term` is room for it.
+fn push_token(
+    log: &mut TermLog,
+    term: &mut String,
+    doc: u32,
+    text: &str,
+    token: Token,
+) -> Result<(), AllocError>
+    requires short { length text.now < 2 ^ 32 }
+    requires within { IsPlaceIn text.now token }
+    ensures { OnOk result (log.new ≡ log.old ++ occurrence_at doc (token_at text.now token) ∷ []) }
+{
+    term.clear();
+    fold_into(token.run(text), term)?;
+    log.push(term.as_str(), doc, token.position as u32)
+}
+
+// Puts the tokens of a document's text behind the occurrences so far.
+fn push_tokens(log: &mut TermLog, term: &mut String, doc: u32, text: &str) -> Result<(), AllocError>
+    requires { length text.now < 2 ^ 32 }
+    ensures { OnOk result (log.new ≡ log.old ++ map (occurrence_at doc) (tokens text.now)) }
+{
+    for token in Tokens::new(text) {
+        push_token(log, term, doc, text, token)?;
+    }
+    Ok(())
+}
+
+// Puts the tokens of a document's value behind the occurrences so far.
+fn push_value(
+    log: &mut TermLog,
+    term: &mut String,
+    doc: u32,
+    kind: Kind,
+    value: Option<&FieldValue>,
+) -> Result<(), AllocError>
+    requires { IfSome value (λ v. IsShort v.now) }
+    ensures { OnOk result (log.new ≡ log.old ++ occurrences_at kind doc (option_copied value.entry)) }
+{
+    match (kind, value) {
+        (Kind::Text, Some(FieldValue::Text(text))) => push_tokens(log, term, doc, text.as_str()),
+        (Kind::Keyword, Some(FieldValue::Text(text))) => log.push(text.as_str(), doc, 0),
+        _ => Ok(()),
+    }
+}
+
+/// The tokens of the documents in a field of this kind.
+pub(crate) fn logged(
+    alloc: Global,
+    documents: &[Stamped<Document>],
+    field: usize,
+    kind: Kind,
+) -> Result<TermLog, AllocError>
+    requires { length documents.now ≤ 2 ^ 32 }
+    ensures { IfOk result (λ log. log ≡ occurrences kind 0 (values_in field documents.now)) }
+{
+    let mut log = TermLog::new(alloc);
+    let mut term = String::new(alloc);
+    for (doc, document) in documents.iter().enumerate() {
+        let value = document.value.value(field);
+        push_value(&mut log, &mut term, doc as u32, kind, value)?;
+    }
+    Ok(log)
+}

@@ -1,0 +1,109 @@
+// Documents that never change, with the terms that they have.
+ghost use Rattle.std.specs.Prelude.{◌≡◌, ◌≢◌, ◌<◌, [], length, slice_get, option_map, Some, IfNone, IfSome, true, slice_index_or};
+ghost use Rattle.fts_model.specs.Queries.{is_number_field};
+ghost use Rattle.fts_segment.specs.Segments.{postings, positions as positions_of_term, column as column_of};
+ghost use Rattle.fts_segment.specs.ListIds.{documents_in, positions_in};
+ghost use Rattle.fts_segment.specs.PositionsLeft.{positions_left};
+
+use crate::field_index::FieldIndex;
+use crate::positions::Positions;
+use crate::term_positions::TermRuns;
+use fts_model::{Document, Schema, Stamp, Stamped, Term};
+use fts_pack::{Column, List};
+use std::marker::Model;
+
+/// The list of a term that a segment has.
+#[derive(Clone, Copy)]
+pub struct ListId<'a> {
+    pub(crate) list: &'a List,
+    pub(crate) positions: Option<TermRuns<'a>>,
+}
+
+/// Documents with their stamps, numbered from 0. Contracts see its schema and the documents.
+#[derive(Drop)]
+pub struct Segment {
+    pub(crate) schema: Schema,
+    pub(crate) documents: Vec<Stamped<Document>>,
+    pub(crate) indexes: Vec<FieldIndex>,
+}
+
+impl Model for Segment {
+    ghost use Rattle.fts_segment.specs.Segments.{SegmentValue};
+
+    ghost Value = { SegmentValue };
+
+    ghost use Rattle.fts_segment.specs.FieldIndexes.{AreIndexes};
+
+    ghost view = { λ s. record { schema = s.schema; documents = s.documents.items } };
+
+    ghost invariant = { λ s. AreIndexes s.schema s.documents.items s.indexes.items };
+}
+
+impl Segment {
+    /// The schema of its documents.
+    pub fn schema(&self) -> &Schema
+        ensures { result.now ≡ self.now.schema }
+    {
+        &self.schema
+    }
+
+    /// How many documents there are.
+    pub fn docs(&self) -> usize
+        ensures { result ≡ length self.now.documents }
+    {
+        self.documents.len()
+    }
+
+    /// The stamp of the document of this number.
+    pub fn stamp(&self, doc: usize) -> Stamp
+        requires { doc < length self.now.documents }
+        ensures { option_map (λ d. d.stamp) (slice_get self.now.documents doc) ≡ Some result }
+    {
+        self.documents[doc].stamp
+    }
+
+    /// The document of this number.
+    pub fn document(&self, doc: usize) -> &Document
+        requires { doc < length self.now.documents }
+        ensures { option_map (λ d. d.value) (slice_get self.now.documents doc) ≡ Some result.now }
+    {
+        &self.documents[doc].value
+    }
+
+    /// The list of a term, and none where no document has the term.
+    pub fn find(&self, term: &Term) -> Option<ListId<'_>>
+        ensures none { IfNone result (postings self.now term.now ≡ []) }
+        ensures some { IfSome result (λ list. documents_in list ≢ []) }
+        ensures documents { IfSome result (λ list. documents_in list ≡ postings self.now term.now) }
+        ensures positions { IfSome result (λ list. positions_in list ≡ positions_of_term self.now term.now) }
+    {
+        let index = self.indexes.get(term.field)?;
+        index.find(self.schema.kind(term.field), &term.value)
+    }
+
+    /// The numbers of the documents that have a term, rising.
+    pub fn postings<'a>(&self, list: ListId<'a>) -> &'a List
+        ensures { result.now ≡ documents_in list.entry }
+    {
+        list.list
+    }
+
+    /// The positions of a term in the document of a posting, counted from 0: those of its tokens in a text, and 0 of a
+    /// keyword. A number has none.
+    pub fn positions<'a>(&self, list: ListId<'a>, posting: usize) -> Positions<'a>
+        ensures { positions_left result ≡ slice_index_or (positions_in list.entry) posting [] }
+    {
+        match list.positions {
+            Some(term) => Positions::of(term.get(posting)),
+            None => Positions::of(&[]),
+        }
+    }
+
+    /// The numbers of the documents in a number field, where an `i64` is the `u64` in its place.
+    pub fn column(&self, field: usize) -> &Column
+        requires { is_number_field self.now.schema field ≡ true }
+        ensures { result.now ≡ column_of self.now field }
+    {
+        self.indexes[field].column(self.schema.kind(field))
+    }
+}

@@ -1,0 +1,222 @@
+// fts_segment: the documents `{"title":"a b a","price":4}`, `{"title":"b"}` and `{"tag":"a"}` at stamps 3, 5 and 9, under
+// the fields `title` (text), `tag` (keyword), `price` (`u64`) and `temp` (`i64`).
+use fts_model::{Document, Field, FieldValue, Kind, Number, Refusal, Schema, Term, Text};
+use fts_pack::Blocks;
+use fts_segment::{Builder, Segment};
+use serde_json::Value;
+use std::alloc::{AllocError, Global};
+use std::process::Abort;
+use std::test::Fail;
+
+fn field(alloc: Global, name: &str, kind: Kind, default: bool) -> Result<Field, AllocError> {
+    let name = Text::new(String::from_str(alloc, name)?);
+    Ok(Field {
+        name,
+        kind,
+        default,
+    })
+}
+
+fn schema(alloc: Global) -> Result<Schema, Fail> {
+    let mut fields = Vec::new(alloc);
+    fields.push(field(alloc, "title", Kind::Text, true)?)?;
+    fields.push(field(alloc, "tag", Kind::Keyword, true)?)?;
+    fields.push(field(alloc, "price", Kind::U64, false)?)?;
+    fields.push(field(alloc, "temp", Kind::I64, false)?)?;
+    Ok(Schema::new(alloc, fields).map_err(|e| e.1)?)
+}
+
+fn document(alloc: Global, schema: &Schema, json: &str) -> Result<Document, Fail> {
+    let json = Value::from_str(alloc, json)?;
+    Ok(Document::from_json(alloc, schema, &json)?)
+}
+
+fn text(alloc: Global, field: usize, text: &str) -> Result<Term, AllocError> {
+    let value = FieldValue::Text(Text::new(String::from_str(alloc, text)?));
+    Ok(Term { field, value })
+}
+
+fn number(field: usize, number: Number) -> Term {
+    let value = FieldValue::Number(number);
+    Term { field, value }
+}
+
+// Adds the document, again where a growth was refused.
+fn add(builder: &mut Builder, stamp: u64, document: &Document) -> Result<(), Fail> {
+    if builder.add(stamp, document).is_err() {
+        builder.add(stamp, document)?;
+    }
+    Ok(())
+}
+
+// The segment of the documents, on the second try where a growth was refused.
+fn finished(alloc: Global, builder: Builder) -> Result<Segment, Fail> {
+    match builder.finish(alloc) {
+        Ok(segment) => Ok(segment),
+        Err((builder, _)) => Ok(builder.finish(alloc).map_err(|e| e.1)?),
+    }
+}
+
+fn example(alloc: Global, merging: bool) -> Result<Segment, Fail> {
+    let schema = schema(alloc)?;
+    let mut builder = if merging {
+        Builder::merging(alloc, &schema)?
+    } else {
+        Builder::new(alloc, &schema)?
+    };
+    let first = document(alloc, &schema, r#"{"title":"a b a","price":4}"#)?;
+    add(&mut builder, 3, &first)?;
+    add(
+        &mut builder,
+        5,
+        &document(alloc, &schema, r#"{"title":"b"}"#)?,
+    )?;
+    add(
+        &mut builder,
+        9,
+        &document(alloc, &schema, r#"{"tag":"a"}"#)?,
+    )?;
+    finished(alloc, builder)
+}
+
+// Whether the term has these postings, and no list where there are none.
+fn has(rt: &impl Abort, segment: &Segment, term: &Term, wanted: &[u32]) -> Result<(), Fail> {
+    match segment.find(term) {
+        None => assert!(rt; wanted.is_empty()),
+        Some(list) => {
+            let mut source = segment.postings(list).source();
+            let mut out = [0; 128];
+            assert_eq!(rt; source.blocks(), 1);
+            let count = source.open(0, &mut out);
+            assert_eq!(rt; &out[..count], wanted);
+        }
+    }
+    Ok(())
+}
+
+// Whether the term stands at these positions in the document of the posting.
+fn stands(
+    rt: &impl Abort,
+    segment: &Segment,
+    term: &Term,
+    posting: usize,
+    wanted: &[u32],
+) -> Result<(), Fail> {
+    let list = segment.find(term).ok_or("no such term")?;
+    let mut found = 0;
+    for position in segment.positions(list, posting) {
+        assert_eq!(rt; wanted.get(found).copied(), Some(position));
+        found = wanted.len().min(found) + 1;
+    }
+    assert_eq!(rt; found, wanted.len());
+    Ok(())
+}
+
+#[test]
+fn positions(rt: HostRuntime) -> Result<(), Fail> {
+    let alloc = rt.alloc();
+    let segment = example(alloc, false)?;
+    let a = text(alloc, 0, "a")?;
+    stands(&rt, &segment, &a, 0, &[0, 2])?;
+    let b = text(alloc, 0, "b")?;
+    stands(&rt, &segment, &b, 0, &[1])?;
+    stands(&rt, &segment, &b, 1, &[0])?;
+    stands(&rt, &segment, &b, 2, &[])
+}
+
+#[test]
+fn positions_of_other_kinds(rt: HostRuntime) -> Result<(), Fail> {
+    let alloc = rt.alloc();
+    let segment = example(alloc, false)?;
+    let tag = text(alloc, 1, "a")?;
+    stands(&rt, &segment, &tag, 0, &[0])?;
+    stands(&rt, &segment, &number(2, Number::U64(4)), 0, &[])
+}
+
+#[test]
+fn texts(rt: HostRuntime) -> Result<(), Fail> {
+    let alloc = rt.alloc();
+    let segment = example(alloc, false)?;
+    for (word, wanted) in [("a", [0].as_slice()), ("b", &[0, 1]), ("c", &[]), ("", &[])] {
+        has(&rt, &segment, &text(alloc, 0, word)?, wanted)?;
+    }
+    has(&rt, &segment, &text(alloc, 1, "a")?, &[2])
+}
+
+#[test]
+fn numbers(rt: HostRuntime) -> Result<(), Fail> {
+    let segment = example(rt.alloc(), false)?;
+    has(&rt, &segment, &number(2, Number::U64(4)), &[0])?;
+    has(&rt, &segment, &number(2, Number::U64(5)), &[])
+}
+
+// Of no kind of the field, and of no field at all.
+#[test]
+fn terms_that_do_not_fit(rt: HostRuntime) -> Result<(), Fail> {
+    let alloc = rt.alloc();
+    let segment = example(alloc, false)?;
+    has(&rt, &segment, &number(2, Number::I64(4)), &[])?;
+    has(&rt, &segment, &number(0, Number::U64(4)), &[])?;
+    has(&rt, &segment, &text(alloc, 2, "4")?, &[])?;
+    has(&rt, &segment, &text(alloc, 4, "a")?, &[])
+}
+
+#[test]
+fn stamps_and_documents(rt: HostRuntime) -> Result<(), Fail> {
+    let alloc = rt.alloc();
+    let segment = example(alloc, true)?;
+    assert_eq!(rt; segment.docs(), 3);
+    if segment.docs() == 3 {
+        assert_eq!(rt; segment.stamp(2), 9);
+        let json = segment.document(1).to_json(alloc)?.to_string(alloc)?;
+        assert_eq!(rt; json.as_str(), r#"{"title":"b"}"#);
+    }
+    Ok(())
+}
+
+fn with_numbers(alloc: Global) -> Result<Segment, Fail> {
+    let schema = schema(alloc)?;
+    let mut builder = Builder::new(alloc, &schema)?;
+    let first = document(alloc, &schema, r#"{"price":4,"temp":-1}"#)?;
+    add(&mut builder, 1, &first)?;
+    add(&mut builder, 2, &document(alloc, &schema, "{}")?)?;
+    finished(alloc, builder)
+}
+
+// The numbers of the first two documents in a field.
+fn column(segment: &Segment, field: usize) -> Option<(Option<u64>, Option<u64>)> {
+    let fields = segment.schema().fields();
+    if field < fields.len() && segment.schema().kind(field).holds_numbers() {
+        let column = segment.column(field);
+        return Some((column.get(0), column.get(1)));
+    }
+    None
+}
+
+#[test]
+fn columns(rt: HostRuntime) -> Result<(), Fail> {
+    let segment = with_numbers(rt.alloc())?;
+    assert_eq!(rt; column(&segment, 0), None);
+    assert_eq!(rt; column(&segment, 2), Some((Some(4), None)));
+    // An i64 is kept as the u64 in its place.
+    assert_eq!(rt;
+        column(&segment, 3),
+        Some((Some(9223372036854775807), None))
+    );
+    has(&rt, &segment, &number(3, Number::I64(-1)), &[0])
+}
+
+#[test]
+fn full_builder(rt: HostRuntime) -> Result<(), Fail> {
+    let alloc = rt.alloc();
+    let schema = schema(alloc)?;
+    let empty = document(alloc, &schema, "{}")?;
+    let mut builder = Builder::new(alloc, &schema)?;
+    for stamp in 0..65_536 {
+        add(&mut builder, stamp, &empty)?;
+    }
+    assert_eq!(rt; builder.add(65_536, &empty), Err(Refusal::SegmentFull));
+    let segment = finished(alloc, builder)?;
+    assert_eq!(rt; segment.docs(), 65_536);
+    Ok(())
+}
