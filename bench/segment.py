@@ -4,10 +4,15 @@
     bench/segment.py
 
 100,000 documents of 30 words, of a vocabulary of 50,000 in Zipf's distribution, with a keyword, a u64 and an i64. The
-program stands in bench/segment; this copies it to a crate of a scratch copy of the repository, builds it and runs it. It is
+program stands in bench/segment; this copies it to a crate of a scratch copy of the repository, proves it and runs it. It is
 no part of the tests: it needs the kit's rt, and its times are this machine's.
 """
-import pathlib, random, shutil, subprocess, sys, tempfile
+import pathlib
+import random
+import shutil
+import subprocess
+import sys
+import tempfile
 
 root = pathlib.Path(__file__).resolve().parent.parent
 
@@ -34,5 +39,5 @@ with tempfile.TemporaryDirectory() as scratch:
         crates.write("segment_bench: fts_segment fts_model serde_json anyhow\n")
     data = "".join(lines()).encode()
     run = subprocess.run(["rt", "run"], cwd=copy / "crates/segment_bench", input=data, capture_output=True)
-    sys.stdout.write(run.stdout.decode())
+    sys.stdout.write("".join(line + "\n" for line in run.stdout.decode().splitlines() if " us" in line))
     sys.exit(run.returncode)

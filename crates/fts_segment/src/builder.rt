@@ -66,6 +66,13 @@ impl Builder {
         }
     }
 
+    /// How many documents it has taken.
+    pub fn docs(&self) -> usize
+        ensures { result ≡ length self.now.segment.documents }
+    {
+        self.documents.len()
+    }
+
     /// Takes a document with its stamp. `SegmentFull` where there are 65,536 already and it serves no merge.
     pub fn add(&mut self, stamp: Stamp, document: &Document) -> Result<(), Refusal>
         requires { self.old.merging ≡ true → length self.old.segment.documents < 1048576 }

@@ -43,7 +43,7 @@ fn number(field: usize, number: Number) -> Term {
 
 // Adds the document, again where a growth was refused.
 fn add(builder: &mut Builder, stamp: u64, document: &Document) -> Result<(), Fail> {
-    if builder.add(stamp, document).is_err() {
+    if builder.docs() < 1_048_576 && builder.add(stamp, document).is_err() {
         builder.add(stamp, document)?;
     }
     Ok(())
@@ -215,7 +215,9 @@ fn full_builder(rt: HostRuntime) -> Result<(), Fail> {
     for stamp in 0..65_536 {
         add(&mut builder, stamp, &empty)?;
     }
-    assert_eq!(rt; builder.add(65_536, &empty), Err(Refusal::SegmentFull));
+    assert_eq!(rt; builder.docs(), 65_536);
+    let refused = builder.add(65_536, &empty).err();
+    assert_eq!(rt; refused, Some(Refusal::SegmentFull));
     let segment = finished(alloc, builder)?;
     assert_eq!(rt; segment.docs(), 65_536);
     Ok(())
