@@ -84,13 +84,9 @@ impl Builder {
         if !self.merging && self.documents.len() >= MOST_DOCUMENTS {
             return Err(Refusal::SegmentFull);
         }
-        match document.clone() {
-            Err(AllocError) => Err(Refusal::Memory),
-            Ok(value) => match self.documents.push(Stamped { stamp, value }) {
-                Err(_) => Err(Refusal::Memory),
-                Ok(()) => Ok(()),
-            },
-        }
+        let value = document.clone()?;
+        self.documents.push(Stamped { stamp, value })?;
+        Ok(())
     }
 
     /// The segment of the documents. Where a growth is refused, the builder comes back.
