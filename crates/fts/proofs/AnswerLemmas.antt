@@ -1,5 +1,5 @@
 -- Answers as JSON.
-use Rattle.std.proofs.Common.{◌≡◌, ◌⊎◌, Bool, false, ◌||◌, List, [], ◌∷◌, ◌++◌, ℕ, ℤ, pos, negsuc, Option, Some, None, Ordering, Less, Equal, Greater, refl, sym, ap, ◌∙◌, option_map, nat_cmp}
+use Rattle.std.proofs.Common.{◌≡◌, Bool, false, ◌||◌, List, [], ◌∷◌, ◌++◌, ℕ, pos, negsuc, Option, Some, None, Ordering, Less, Equal, Greater, refl, ap, option_map, nat_cmp}
 use Rattle.std.specs.Cmp.Lexicographic.{slice_cmp}
 use Rattle.std.specs.Ordering.{match_ordering}
 use Rattle.serde_json.specs.Data.{Data, Items, no_items, item, Members, no_members, member, put}

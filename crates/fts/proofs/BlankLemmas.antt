@@ -8,12 +8,12 @@ use Rattle.std.proofs.lemmas.Bool.Decides.{nat_tests}
 use Rattle.std.proofs.lemmas.List.{length-append, length-drop, nil_from_length, take_all}
 use Rattle.std.proofs.lemmas.List.Folds.{list_all-append, length-prefix_len}
 use Rattle.json.specs.Lex.{lex}
-use Rattle.fts.specs.declared.lines.PartialLine.{PartialLine}
+use Rattle.fts.specs.declared.script.lines.PartialLine.{PartialLine}
 use Rattle.fts.specs.Text.{is_white, is_blank, lines_of, onto_first, HasNoEnd}
 use Rattle.fts.specs.Commands.{json_in, longest, command}
 use Rattle.fts.specs.Replies.{execute, execute_line, reply_on, carried_over}
 use Rattle.fts_model.specs.Results.{result_and_then}
-use Rattle.fts.specs.Outputs.{Script, after_line, reply_to}
+use Rattle.fts.specs.Outputs.{SessionValue, after_line, reply_to}
 use Rattle.fts.specs.Indexes.{Index, indexes}
 use Rattle.fts.specs.Runs.{Holds, Indented, IsWritten}
 use Rattle.fts.proofs.LineLemmas.{not_lf}
@@ -59,12 +59,12 @@ execute_line-blank : (index : Option Index) (white line : List ℕ) → is_blank
     execute_line indexes index (white ++ line) ≡ execute_line indexes index line
 execute_line-blank index white line h short = ap (result_and_then (execute indexes index)) (command-blank white line h short)
 
-reply_to-blank : (s : Script) (white line : List ℕ) → is_blank white ≡ true → length (white ++ line) ≤ longest →
+reply_to-blank : (s : SessionValue) (white line : List ℕ) → is_blank white ≡ true → length (white ++ line) ≤ longest →
     reply_to s (white ++ line) ≡ reply_to s line
 unfolding reply_on
 reply_to-blank s white line h short = rw (is_blank-blank white line h, execute_line-blank s.index white line h short) refl
 
-after_line-blank : (s : Script) (white line : List ℕ) → is_blank white ≡ true → length (white ++ line) ≤ longest →
+after_line-blank : (s : SessionValue) (white line : List ℕ) → is_blank white ≡ true → length (white ++ line) ≤ longest →
     after_line s (white ++ line) ≡ after_line s line
 unfolding carried_over
 after_line-blank s white line h short = rw (is_blank-blank white line h, execute_line-blank s.index white line h short) refl
@@ -78,13 +78,13 @@ Holds-length p line e held =
 pub Holds-kept : (p : PartialLine) (line : List ℕ) → p.too_long ≡ None → Indented p.white p.bytes.items line → Holds p line
 Holds-kept p line e r = record { kept = λ _. r; too_long = λ blank is. cc }
 
-pub Holds-reply : (s : Script) (p : PartialLine) (line : List ℕ) → p.too_long ≡ None → Holds p line → reply_to s p.bytes.items ≡ reply_to s line
+pub Holds-reply : (s : SessionValue) (p : PartialLine) (line : List ℕ) → p.too_long ≡ None → Holds p line → reply_to s p.bytes.items ≡ reply_to s line
 Holds-reply s p line e held =
     let r = held.kept e in
     let long : length (r.white ++ p.bytes.items) ≤ longest = omega (arith, p.short, r.counted, length-append r.white p.bytes.items) in
     sym (ap (reply_to s) r.split ∙ reply_to-blank s r.white p.bytes.items r.blank long)
 
-pub Holds-script : (s : Script) (p : PartialLine) (line : List ℕ) → p.too_long ≡ None → Holds p line → after_line s p.bytes.items ≡ after_line s line
+pub Holds-script : (s : SessionValue) (p : PartialLine) (line : List ℕ) → p.too_long ≡ None → Holds p line → after_line s p.bytes.items ≡ after_line s line
 Holds-script s p line e held =
     let r = held.kept e in
     let long : length (r.white ++ p.bytes.items) ≤ longest = omega (arith, p.short, r.counted, length-append r.white p.bytes.items) in

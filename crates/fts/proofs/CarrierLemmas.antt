@@ -14,7 +14,7 @@ use Rattle.fts_model.specs.Schemas.{schema_fault}
 use Rattle.fts_model.specs.Documents.{DocumentValue, document_of}
 use Rattle.fts_model.specs.Operations.{term_of}
 use Rattle.fts_model.specs.Queries.{request_of}
-use Rattle.fts_model.specs.Answers.{AnswerValue, answer}
+use Rattle.fts_model.specs.Answers.{answer}
 use Rattle.fts_query.specs.Answers.{answer as query_of}
 use Rattle.fts.specs.Text.{lines_of, is_blank}
 use Rattle.fts.specs.Commands.{Command, Schema, Add, Delete, DeleteAll, Commit, Rollback, Merge, Find, Search, command}
@@ -33,16 +33,16 @@ pub record Simulates {S T : Type 0} (from : Carrier S) (to : Carrier T) (f : S �
   pub commit_stamp : (s : S) → to.commit_stamp (f s) ≡ from.commit_stamp s
   pub waiting : (s : S) → to.waiting (f s) ≡ from.waiting s
 
--- a step's outcome, seen by a map
+-- a step's outcome, command_value by a map
 abbrev step_seen : {S T X : Type 0} → (S → T) → Result (S × X) Refusal → Result (T × X) Refusal
 step_seen f = result_map (λ done. (f done.0, done.1))
 
--- an outcome, seen by a map
+-- an outcome, command_value by a map
 abbrev outcome_seen : {S T : Type 0} → (S → T) → Outcome S → Outcome T
 outcome_seen f o = record { index = option_map f o.index; reply = o.reply }
 
-abbrev seen : {S T : Type 0} → (S → T) → Result (Outcome S) Refusal → Result (Outcome T) Refusal
-seen f = result_map (outcome_seen f)
+abbrev command_value : {S T : Type 0} → (S → T) → Result (Outcome S) Refusal → Result (Outcome T) Refusal
+command_value f = result_map (outcome_seen f)
 
 pair : {T : Type 0} (x y : T) (n m : ℕ) → x ≡ y → n ≡ m → let p : T × ℕ = (x, n) in let q : T × ℕ = (y, m) in p ≡ q
 pair x y n m e h = ap (λ z. (z, n)) e ∙ ap (λ k. (y, k)) h
@@ -82,25 +82,25 @@ search_same from to f sim query request s =
     ap (λ schema. Ok (f s, answer schema query request (to.documents (f s)))) (sim.schema s)
     ∙ ap (λ ds. Ok (f s, answer (from.schema s) query request ds)) (sim.documents s)
 
-replied_same : {S T X : Type 0} (f : S → T) (print : X → Data) (step : Result (S × X) Refusal) → replied print (step_seen f step) ≡ seen f (replied print step)
+replied_same : {S T X : Type 0} (f : S → T) (print : X → Data) (step : Result (S × X) Refusal) → replied print (step_seen f step) ≡ command_value f (replied print step)
 replied_same f print (Ok done) = refl
 replied_same f print (Err e) = refl
 
 then_same : {S T A : Type 0} (f : S → T) (r : Result A Refusal) (g : A → Result (Outcome T) Refusal) (h : A → Result (Outcome S) Refusal) →
-    ((a : A) → g a ≡ seen f (h a)) → result_and_then g r ≡ seen f (result_and_then h r)
+    ((a : A) → g a ≡ command_value f (h a)) → result_and_then g r ≡ command_value f (result_and_then h r)
 then_same f (Ok a) g h e = e a
 then_same f (Err x) g h e = refl
 
-unless_same : {S T : Type 0} (f : S → T) (o : Option Refusal) (x : Outcome S) → ok_unless o (outcome_seen f x) ≡ seen f (ok_unless o x)
+unless_same : {S T : Type 0} (f : S → T) (o : Option Refusal) (x : Outcome S) → ok_unless o (outcome_seen f x) ≡ command_value f (ok_unless o x)
 unless_same f None x = refl
 unless_same f (Some e) x = refl
 
 op_same : {S T : Type 0} (from : Carrier S) (to : Carrier T) (f : S → T) → Simulates from to f → (op : Op) (s : S) →
-    replied (number_reply (codes "stamp")) (submit to op (f s)) ≡ seen f (replied (number_reply (codes "stamp")) (submit from op s))
+    replied (number_reply (codes "stamp")) (submit to op (f s)) ≡ command_value f (replied (number_reply (codes "stamp")) (submit from op s))
 op_same from to f sim op s = ap (replied (number_reply (codes "stamp"))) (submit_same from to f sim op s) ∙ replied_same f (number_reply (codes "stamp")) (submit from op s)
 
 answer_same : {S T : Type 0} (from : Carrier S) (to : Carrier T) (f : S → T) → Simulates from to f → (asked : Search) (s : S) →
-    answer_search to asked (f s) ≡ seen f (answer_search from asked s)
+    answer_search to asked (f s) ≡ command_value f (answer_search from asked s)
 answer_same from to f sim asked s =
     ap (λ schema. result_and_then (λ query. result_and_then (λ request. replied answer_data (search_commit to query request (f s)))
     (request_of schema asked.groups asked.top)) (query_of schema asked.query)) (sim.schema s)
@@ -108,7 +108,7 @@ answer_same from to f sim asked s =
     ap (replied answer_data) (search_same from to f sim query request s) ∙ replied_same f answer_data (search_commit from query request s)))
 
 execute_same : {S T : Type 0} (from : Carrier S) (to : Carrier T) (f : S → T) → Simulates from to f → (index : Option S) (c : Command) →
-    execute to (option_map f index) c ≡ seen f (execute from index c)
+    execute to (option_map f index) c ≡ command_value f (execute from index c)
 execute_same {S} {T} from to f sim None (Schema fields) =
     ap (λ i. ok_unless (schema_fault fields) (let o : Outcome T = record { index = Some i; reply = number_reply (codes "fields") (length fields) } in o)) (sym (sim.opened fields))
     ∙ unless_same f (schema_fault fields) _
@@ -133,14 +133,14 @@ execute_same from to f sim (Some s) Merge = ap (replied (number_reply (codes "me
 execute_same from to f sim (Some s) (Find asked) = answer_same from to f sim asked s
 
 line_same : {S T : Type 0} (from : Carrier S) (to : Carrier T) (f : S → T) → Simulates from to f → (index : Option S) (line : List ℕ) →
-    execute_line to (option_map f index) line ≡ seen f (execute_line from index line)
+    execute_line to (option_map f index) line ≡ command_value f (execute_line from index line)
 line_same from to f sim index line = then_same f (command line) _ _ (execute_same from to f sim index)
 
-text_same : {S T : Type 0} (f : S → T) (n : ℕ) (r : Result (Outcome S) Refusal) → text_of n (seen f r) ≡ text_of n r
+text_same : {S T : Type 0} (f : S → T) (n : ℕ) (r : Result (Outcome S) Refusal) → text_of n (command_value f r) ≡ text_of n r
 text_same f n (Ok done) = refl
 text_same f n (Err e) = refl
 
-after_same : {S T : Type 0} (f : S → T) (index : Option S) (r : Result (Outcome S) Refusal) → index_after (option_map f index) (seen f r) ≡ option_map f (index_after index r)
+after_same : {S T : Type 0} (f : S → T) (index : Option S) (r : Result (Outcome S) Refusal) → index_after (option_map f index) (command_value f r) ≡ option_map f (index_after index r)
 after_same f index (Ok done) = refl
 after_same f index (Err e) = refl
 

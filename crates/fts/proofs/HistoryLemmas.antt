@@ -1,5 +1,5 @@
 -- An index stands for the commands that were accepted.
-use Rattle.std.proofs.Common.{◌≡◌, ℕ, ◌+◌, ◌||◌, Bool, true, false, not, cond, List, [], ◌∷◌, ◌++◌, length, nat_lt, refl, sym, ap, ◌∙◌, add-zero, arith, length-append}
+use Rattle.std.proofs.Common.{◌≡◌, ℕ, ◌+◌, ◌||◌, Bool, true, false, not, cond, List, [], ◌∷◌, ◌++◌, length, refl, sym, ap, ◌∙◌, add-zero, arith, length-append}
 use Rattle.std.proofs.lemmas.List.{append-nil}
 use Rattle.std.specs.List.{list_any}
 use Rattle.fts_model.specs.declared.schema.Field.{Field}
@@ -8,7 +8,6 @@ use Rattle.fts_model.specs.declared.operation.Stamped.{Stamped}
 use Rattle.fts_model.specs.Documents.{DocumentValue}
 use Rattle.fts_model.specs.Operations.{alive, adds}
 use Rattle.fts_model.proofs.OperationsAlive.{alive-history}
-use Rattle.fts.specs.Carriers.{Carrier}
 use Rattle.fts.specs.Indexes.{Index, indexes, stamp_after}
 use Rattle.fts.specs.Histories.{Accepted, Submitted, Committed, RolledBack, take_back, Kept, Operation, CommitPoint, kept, is_commit, up_to_commit, since_commit, stamped_from, History, and_then, histories}
 use Rattle.fts.proofs.CarrierLemmas.{Simulates}

@@ -1,23 +1,23 @@
 -- What a step of a run keeps.
-use Rattle.std.proofs.Common.{inl, ltb, lt-ltb, IfOk, Result, Ok, Err, OnErr, OnOk, ◌≡◌, ◌<◌, ◌≤◌, ◌-◌, Bool, true, false, cond, eqb, ◌&&◌, ℕ, ◌+◌, Option, Some, None, List, [], ◌∷◌, ◌++◌, length, take, drop, refl, ap, sym, ◌∙◌, append_assoc, append-nil, take-append-drop, subst, arith, rules, tests}
+use Rattle.std.proofs.Common.{inl, ltb, lt-ltb, IfOk, Result, Ok, Err, OnErr, OnOk, ◌≡◌, ◌<◌, ◌≤◌, ◌-◌, Bool, true, false, cond, eqb, ◌&&◌, ℕ, ◌+◌, List, [], ◌∷◌, ◌++◌, length, take, drop, refl, ap, sym, ◌∙◌, append_assoc, append-nil, take-append-drop, subst, arith, rules, tests}
 use Rattle.std.proofs.lemmas.List.{take_all, length-drop, length-append, length-take-le, nil_from_length}
 use Rattle.std.proofs.Math.Seq.{take-add}
-use Rattle.fts.specs.declared.lines.PartialLine.{PartialLine}
+use Rattle.fts.specs.declared.script.lines.PartialLine.{PartialLine}
 use Rattle.fts.specs.Streams.{Transferred, Wrote}
 use Rattle.fts.specs.Text.{is_blank, lines_of, IsWhole, HasNoEnd}
-use Rattle.fts.specs.Outputs.{Script, start, after_line, reply_to, replies, after_lines, output}
+use Rattle.fts.specs.Outputs.{SessionValue, start, after_line, reply_to, replies, after_lines, output}
 use Rattle.fts.specs.Runs.{Holds, Answered, AnswersFirst, AnswersEnded, BeginsOutput, BeginsOutputUnless, BeginsWith, Ends, IsWritten, Leads, LeadsFirst, LeadsToStop, Reached, StopsFirst}
 use Rattle.fts.proofs.BlankLemmas.{Holds-length, Holds-nothing-short, IsWritten-front}
 use Rattle.fts.proofs.StreamLemmas.{append_more}
 use Rattle.fts.proofs.LineLemmas.{lines_of-append, lines_of-ended, lines_of-unended, HasNoEnd-append, HasNoEnd-late, HasNoEnd-shorter, IsWhole-ended}
 
-replies-append : (s : Script) (xs ys : List (List ℕ)) → replies s (xs ++ ys) ≡ replies s xs ++ replies (after_lines s xs) ys
+replies-append : (s : SessionValue) (xs ys : List (List ℕ)) → replies s (xs ++ ys) ≡ replies s xs ++ replies (after_lines s xs) ys
 replies-append s [] ys = refl
 replies-append s (x ∷ xs) ys =
     ap (λ r. reply_to s x ++ r) (replies-append (after_line s x) xs ys)
     ∙ sym (append_assoc (reply_to s x) (replies (after_line s x) xs) (replies (after_lines (after_line s x) xs) ys))
 
-after_lines-append : (s : Script) (xs ys : List (List ℕ)) → after_lines s (xs ++ ys) ≡ after_lines (after_lines s xs) ys
+after_lines-append : (s : SessionValue) (xs ys : List (List ℕ)) → after_lines s (xs ++ ys) ≡ after_lines (after_lines s xs) ys
 after_lines-append s [] ys = refl
 after_lines-append s (x ∷ xs) ys = after_lines-append (after_line s x) xs ys
 
@@ -37,7 +37,7 @@ output-line done more line w is =
     ∙ ap (λ r. output done ++ r) (append-nil (reply_to s line))
 
 -- no line ends
-pub Leads-unended : (s : Script) (p q : PartialLine) (bytes a : List ℕ) → HasNoEnd bytes →
+pub Leads-unended : (s : SessionValue) (p q : PartialLine) (bytes a : List ℕ) → HasNoEnd bytes →
     ((line : List ℕ) → Holds p line → Holds q (line ++ bytes)) → Leads s s p q bytes a a
 Leads-unended s p q bytes a none grows = record {
   leads = λ input out r. record {
@@ -53,7 +53,7 @@ Leads-unended s p q bytes a none grows = record {
 }
 
 -- the line ends
-pub Leads-ended : (s t : Script) (p q : PartialLine) (piece a b : List ℕ) → HasNoEnd piece →
+pub Leads-ended : (s t : SessionValue) (p q : PartialLine) (piece a b : List ℕ) → HasNoEnd piece →
     ((line : List ℕ) → Holds p line → b ≡ a ++ reply_to s (line ++ piece)) →
     ((line : List ℕ) → Holds p line → t ≡ after_line s (line ++ piece)) →
     Holds q [] → Leads s t p q (piece ++ 10 ∷ []) a b
@@ -79,12 +79,12 @@ Leads-ended s t p q piece a b none replies_to goes_on next = record {
       };
 }
 
-pub Leads-none : (s : Script) (p : PartialLine) (a : List ℕ) → Leads s s p p [] a a
+pub Leads-none : (s : SessionValue) (p : PartialLine) (a : List ℕ) → Leads s s p p [] a a
 Leads-none s p a = record {
   leads = λ input out r. subst (λ v. Answered s p v (out ++ a)) (sym (append-nil input)) r;
 }
 
-pub Leads-then : (s t u : Script) (p q r : PartialLine) (xs ys a b c : List ℕ) →
+pub Leads-then : (s t u : SessionValue) (p q r : PartialLine) (xs ys a b c : List ℕ) →
     Leads s t p q xs a b → Leads t u q r ys b c → Leads s u p r (xs ++ ys) a c
 Leads-then s t u p q r xs ys a b c first second = record {
   leads = λ input out from.
@@ -92,7 +92,7 @@ Leads-then s t u p q r xs ys a b c first second = record {
 }
 
 -- whatever comes behind them
-abbrev answers_first : (t : Script) (q : PartialLine) (input xs more out : List ℕ) → Answered t q (input ++ xs) out → AnswersFirst (length (xs ++ more)) (input ++ (xs ++ more)) out
+abbrev answers_first : (t : SessionValue) (q : PartialLine) (input xs more out : List ℕ) → Answered t q (input ++ xs) out → AnswersFirst (length (xs ++ more)) (input ++ (xs ++ more)) out
 answers_first t q input xs more out r = record {
   done = r.done;
   rest = r.line ++ more;
@@ -102,14 +102,14 @@ answers_first t q input xs more out r = record {
   late = HasNoEnd-late r.line more (length (xs ++ more)) (omega (arith, length-append xs more)) r.unended;
 }
 
-pub LeadsFirst-leads : (s t : Script) (p q : PartialLine) (xs more a b : List ℕ) →
+pub LeadsFirst-leads : (s t : SessionValue) (p q : PartialLine) (xs more a b : List ℕ) →
     Leads s t p q xs a b → LeadsFirst s p (xs ++ more) a b
 LeadsFirst-leads s t p q xs more a b first = record {
   leads = λ input out from. answers_first t q input xs more (out ++ b) (first.leads input out from);
 }
 
 -- and memory runs out there
-pub LeadsToStop-leads : (s t : Script) (p q : PartialLine) (xs more a b : List ℕ) → Leads s t p q xs a b →
+pub LeadsToStop-leads : (s t : SessionValue) (p q : PartialLine) (xs more a b : List ℕ) → Leads s t p q xs a b →
     ((line : List ℕ) → Holds q line → HasNoEnd line → IsWritten (lines_of (line ++ more))) → LeadsToStop s p (xs ++ more) a b
 LeadsToStop-leads s t p q xs more a b first written = record {
   leads = λ input out from.
@@ -118,7 +118,7 @@ LeadsToStop-leads s t p q xs more a b first written = record {
 }
 
 -- the replies of some lines went out
-pub Reached-sent : (before now after : List ℕ) (s t : Script) (p q : PartialLine) (input bytes gathered : List ℕ) →
+pub Reached-sent : (before now after : List ℕ) (s t : SessionValue) (p q : PartialLine) (input bytes gathered : List ℕ) →
     Leads s t p q bytes [] gathered → after ≡ now ++ gathered →
     Reached before now s p input → Reached before after t q (input ++ bytes)
 Reached-sent before now after s t p q input bytes gathered step sent r = record {
@@ -128,7 +128,7 @@ Reached-sent before now after s t p q input bytes gathered step sent r = record 
 }
 
 -- memory ran out, and the replies of the lines before went out
-pub Wrote-first : (before now after : List ℕ) (s : Script) (p : PartialLine) (input bytes gathered : List ℕ) →
+pub Wrote-first : (before now after : List ℕ) (s : SessionValue) (p : PartialLine) (input bytes gathered : List ℕ) →
     LeadsToStop s p bytes [] gathered → after ≡ now ++ gathered →
     Reached before now s p input → Wrote before after (StopsFirst (length bytes) (input ++ bytes))
 Wrote-first before now after s p input bytes gathered step sent r = record {
@@ -153,7 +153,7 @@ BeginsWith-take xs out gathered n h = (
 )
 
 -- a write failed among the replies of some lines
-pub Wrote-cut : (before now after : List ℕ) (s : Script) (p : PartialLine) (input bytes gathered : List ℕ) (n : ℕ) →
+pub Wrote-cut : (before now after : List ℕ) (s : SessionValue) (p : PartialLine) (input bytes gathered : List ℕ) (n : ℕ) →
     LeadsFirst s p bytes [] gathered → after ≡ now ++ take n gathered →
     Reached before now s p input → Wrote before after (BeginsOutput (input ++ bytes))
 Wrote-cut before now after s p input bytes gathered n step sent r = record {
@@ -206,7 +206,7 @@ pub Wrote-stopped : (before now input : List ℕ) (n : ℕ) → Wrote before now
 Wrote-stopped before now input n w = record { bytes = w.bytes; taken = w.taken; so = w.so.0 }
 
 -- memory ran out at the end of the input
-pub Wrote-stop : (before now : List ℕ) (s : Script) (p : PartialLine) (input : List ℕ) → ((line : List ℕ) → Holds p line → is_blank line ≡ false) →
+pub Wrote-stop : (before now : List ℕ) (s : SessionValue) (p : PartialLine) (input : List ℕ) → ((line : List ℕ) → Holds p line → is_blank line ≡ false) →
     Reached before now s p input → Wrote before now (StopsFirst 0 input)
 Wrote-stop before now s p input written r =
     let a = r.answered in record {
@@ -246,7 +246,7 @@ Transferred-none given taken n = record {
 }
 
 -- the lines that ended were answered
-pub Wrote-reached : (before now : List ℕ) (s : Script) (p : PartialLine) (input : List ℕ) →
+pub Wrote-reached : (before now : List ℕ) (s : SessionValue) (p : PartialLine) (input : List ℕ) →
     Reached before now s p input → Wrote before now (AnswersEnded input)
 Wrote-reached before now s p input r = record {
   bytes = r.out;
@@ -262,7 +262,7 @@ Wrote-reached before now s p input r = record {
 }
 
 -- whatever comes behind the input
-pub Wrote-more : (before now : List ℕ) (s : Script) (p : PartialLine) (input more : List ℕ) →
+pub Wrote-more : (before now : List ℕ) (s : SessionValue) (p : PartialLine) (input more : List ℕ) →
     Reached before now s p input → Wrote before now (AnswersFirst (length more) (input ++ more))
 Wrote-more before now s p input more r = record {
   bytes = r.out;
@@ -277,7 +277,7 @@ Wrote-more before now s p input more r = record {
   };
 }
 
-pub Wrote-same : (before now : List ℕ) (s : Script) (p : PartialLine) (input : List ℕ) →
+pub Wrote-same : (before now : List ℕ) (s : SessionValue) (p : PartialLine) (input : List ℕ) →
     Reached before now s p input → Wrote before now (AnswersFirst 0 input)
 Wrote-same before now s p input r =
     subst (λ v. Wrote before now (AnswersFirst 0 v)) (append-nil input) (Wrote-more before now s p input [] r)
@@ -288,7 +288,7 @@ Holds-nothing p line none some =
     nil_from_length line (Holds-length p line short some ∙ sym (Holds-length p [] short none))
 
 -- the input ended behind an LF
-pub Ends-nothing : (s : Script) (p : PartialLine) → Holds p [] → Ends s p []
+pub Ends-nothing : (s : SessionValue) (p : PartialLine) → Holds p [] → Ends s p []
 Ends-nothing s p none = record {
   ends = λ input out r.
       append-nil out ∙ r.replied
@@ -296,7 +296,7 @@ Ends-nothing s p none = record {
 }
 
 -- the end of the input ended a line
-pub Ends-line : (s : Script) (p : PartialLine) (reply : List ℕ) → (Holds p [] → ⊥) →
+pub Ends-line : (s : SessionValue) (p : PartialLine) (reply : List ℕ) → (Holds p [] → ⊥) →
     ((line : List ℕ) → Holds p line → reply ≡ reply_to s line) → Ends s p reply
 Ends-line s p reply some replies_to = record {
   ends = λ input out r.
@@ -307,7 +307,7 @@ Ends-line s p reply some replies_to = record {
       ∙ ap output (sym r.split);
 }
 
-pub Wrote-output : (before now after : List ℕ) (s : Script) (p : PartialLine) (input gathered : List ℕ) →
+pub Wrote-output : (before now after : List ℕ) (s : SessionValue) (p : PartialLine) (input gathered : List ℕ) →
     Ends s p gathered → after ≡ now ++ gathered →
     Reached before now s p input → Wrote before after (λ out. out ≡ output input)
 Wrote-output before now after s p input gathered last sent r = record {
@@ -317,7 +317,7 @@ Wrote-output before now after s p input gathered last sent r = record {
 }
 
 -- a write failed in the last reply
-pub Wrote-part : (before now after : List ℕ) (s : Script) (p : PartialLine) (input gathered : List ℕ) (n : ℕ) →
+pub Wrote-part : (before now after : List ℕ) (s : SessionValue) (p : PartialLine) (input gathered : List ℕ) (n : ℕ) →
     Ends s p gathered → after ≡ now ++ take n gathered →
     Reached before now s p input → Wrote before after (BeginsWith (output input))
 Wrote-part before now after s p input gathered n last sent r = record {
@@ -333,7 +333,7 @@ Wrote-whole before now input w = record {
   so = ([], sym w.so ∙ sym (append-nil w.bytes));
 }
 
-pub Wrote-start : (before now : List ℕ) (s : Script) (p : PartialLine) (input : List ℕ) →
+pub Wrote-start : (before now : List ℕ) (s : SessionValue) (p : PartialLine) (input : List ℕ) →
     Reached before now s p input → Wrote before now (BeginsWith (output input))
 Wrote-start before now s p input r =
     let first = Wrote-same before now s p input r in
@@ -369,7 +369,7 @@ on_ok (Ok v) Q h = h
 on_ok (Err e) Q h = tt
 
 -- whether lines were taken or memory ran out
-pub LeadsFirst-either : {E : Type 0} (result : Result ℕ E) (s t : Script) (p q : PartialLine) (bytes a b : List ℕ) →
+pub LeadsFirst-either : {E : Type 0} (result : Result ℕ E) (s t : SessionValue) (p q : PartialLine) (bytes a b : List ℕ) →
     IfOk result (λ n. Leads s t p q (take n bytes) a b) → OnErr result (LeadsToStop s p bytes a b) → LeadsFirst s p bytes a b
 LeadsFirst-either (Ok n) s t p q bytes a b ok err =
     subst (λ v. LeadsFirst s p v a b) (take-append-drop n bytes) (LeadsFirst-leads s t p q (take n bytes) (drop n bytes) a b ok)
@@ -400,7 +400,7 @@ Wrote-block before now input bytes i w =
     (subst (λ v. Wrote before now (StopsFirst (length rest) v)) (whole_is input bytes i) w)
 
 -- before the first byte
-pub Reached-start : (a : List ℕ) (s : Script) (p : PartialLine) → s ≡ start → Holds p [] → Reached a a s p []
+pub Reached-start : (a : List ℕ) (s : SessionValue) (p : PartialLine) → s ≡ start → Holds p [] → Reached a a s p []
 Reached-start a s p e none = record {
   out = [];
   taken = sym (append-nil a);

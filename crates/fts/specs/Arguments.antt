@@ -5,13 +5,13 @@ use Rattle.clap.specs.Faults.{fault_of}
 use Rattle.clap.specs.Simple.{App, new_app, on_top, with_subcommand}
 use Rattle.clap.specs.declared.error.kind.ErrorKind.{ErrorKind}
 use Rattle.clap.specs.declared.error.kind.ErrorKind.TheVariants.{DisplayHelp, DisplayVersion}
-use Rattle.fts.specs.declared.fault.Fault.{Fault}
-use Rattle.fts.specs.declared.fault.Fault.TheVariants.{Memory, Read, Write, StampsUsedUp}
-use Rattle.fts.specs.declared.args.ArgFault.{ArgFault}
-use Rattle.fts.specs.declared.args.ArgFault.TheVariants as refused
-use Rattle.fts.specs.declared.args.Asked.{Asked}
-use Rattle.fts.specs.declared.args.Asked.TheVariants.{Run, Help}
-use Rattle.fts.specs.declared.options.TheConstants.Options.{DEFAULT}
+use Rattle.fts.specs.declared.script.fault.Fault.{Fault}
+use Rattle.fts.specs.declared.script.fault.Fault.TheVariants.{Memory, Read, Write, StampsUsedUp}
+use Rattle.fts.specs.declared.cli.args.ArgFault.{ArgFault}
+use Rattle.fts.specs.declared.cli.args.ArgFault.TheVariants as refused
+use Rattle.fts.specs.declared.cli.args.Asked.{Asked}
+use Rattle.fts.specs.declared.cli.args.Asked.TheVariants.{Run, Help}
+use Rattle.fts.specs.declared.engine.options.TheConstants.Options.{DEFAULT}
 
 -- `fts`, which requires a subcommand
 abbrev pub required : App → App

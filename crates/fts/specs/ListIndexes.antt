@@ -1,5 +1,5 @@
 -- A plain list of documents as an index.
-use Rattle.fts.specs.declared.list_engine.ListEngine.{ListEngine}
+use Rattle.fts.specs.declared.engine.list_engine.ListEngine.{ListEngine}
 use Rattle.fts.specs.Indexes.{Index}
 
 abbrev pub index_of : ListEngine → Index

@@ -5,27 +5,27 @@ use Rattle.fts.specs.Histories.{histories}
 use Rattle.fts.specs.Replies.{Carried, carried_over, reply_on, replies_on, output_on}
 
 -- a script as a run carries it: over an index
-abbrev pub Script : Type 0
-Script = Carried Index
+abbrev pub SessionValue : Type 0
+SessionValue = Carried Index
 
 -- the script before the first line
-abbrev pub start : Script
+abbrev pub start : SessionValue
 start = record { number = 0; index = None }
 
 -- the script behind a line
-abbrev pub after_line : Script → List ℕ → Script
+abbrev pub after_line : SessionValue → List ℕ → SessionValue
 after_line = carried_over indexes
 
 -- what it replies to a line
-abbrev pub reply_to : Script → List ℕ → List ℕ
+abbrev pub reply_to : SessionValue → List ℕ → List ℕ
 reply_to = reply_on indexes
 
 -- the replies to these lines, in order
-abbrev pub replies : Script → List (List ℕ) → List ℕ
+abbrev pub replies : SessionValue → List (List ℕ) → List ℕ
 replies = replies_on indexes
 
 -- the script behind these lines
-abbrev pub after_lines : Script → List (List ℕ) → Script
+abbrev pub after_lines : SessionValue → List (List ℕ) → SessionValue
 after_lines s [] = s
 after_lines s (line ∷ lines) = after_lines (after_line s line) lines
 

@@ -4,7 +4,6 @@ use Rattle.serde_json.specs.Data.{Data, number, unsigned, string, array, Items, 
 use Rattle.serde_json.specs.Written.{compact_text}
 use Rattle.fts_model.specs.declared.refusal.Refusal.{Refusal}
 use Rattle.fts_model.specs.declared.refusal.Refusal.TheVariants.{NoSchema, SchemaTwice}
-use Rattle.fts_model.specs.declared.schema.Field.{Field}
 use Rattle.fts_model.specs.declared.operation.Op.TheVariants as ops
 use Rattle.fts_model.specs.declared.value.Number.{Number}
 use Rattle.fts_model.specs.declared.value.FieldValue.TheVariants as values

@@ -2,8 +2,8 @@
 use Rattle.std.specs.Prelude.{ℕ, ◌≡◌, ◌≢◌, ◌<◌, ◌-◌, Bool, true, false, List, [], ◌∷◌, ◌++◌, length, take, None, Some}
 use Rattle.fts.specs.Text.{lines_of, is_blank, IsWhole, HasNoEnd}
 use Rattle.fts.specs.Commands.{longest}
-use Rattle.fts.specs.Outputs.{Script, start, after_lines, output}
-use Rattle.fts.specs.declared.lines.PartialLine.{PartialLine}
+use Rattle.fts.specs.Outputs.{SessionValue, start, after_lines, output}
+use Rattle.fts.specs.declared.script.lines.PartialLine.{PartialLine}
 
 -- xs begins with front
 abbrev pub BeginsWith : List ℕ → List ℕ → Type 0
@@ -58,7 +58,7 @@ pub record Holds (p : PartialLine) (line : List ℕ) : Type 0 where
   pub too_long : (blank : Bool) → p.too_long ≡ Some blank → (longest < length line) × (blank ≡ is_blank line)
 
 -- After this input the lines that have ended were answered by `out`, and the rest of it is the line in hand.
-pub record Answered (s : Script) (p : PartialLine) (input out : List ℕ) : Type 0 where
+pub record Answered (s : SessionValue) (p : PartialLine) (input out : List ℕ) : Type 0 where
   pub done : List ℕ
   pub line : List ℕ
   pub split : input ≡ done ++ line
@@ -69,23 +69,23 @@ pub record Answered (s : Script) (p : PartialLine) (input out : List ℕ) : Type
   pub replied : out ≡ output done
 
 -- These bytes lead from one state to another, while the replies that wait grow from `a` to `b`.
-pub record Leads (s t : Script) (p q : PartialLine) (bytes a b : List ℕ) : Type 0 where
+pub record Leads (s t : SessionValue) (p q : PartialLine) (bytes a b : List ℕ) : Type 0 where
   pub leads : (input out : List ℕ) → Answered s p input (out ++ a) → Answered t q (input ++ bytes) (out ++ b)
 
 -- The lines that had ended before these bytes are answered, and some first lines that end in them.
-pub record LeadsFirst (s : Script) (p : PartialLine) (bytes a b : List ℕ) : Type 0 where
+pub record LeadsFirst (s : SessionValue) (p : PartialLine) (bytes a b : List ℕ) : Type 0 where
   pub leads : (input out : List ℕ) → Answered s p input (out ++ a) → AnswersFirst (length bytes) (input ++ bytes) (out ++ b)
 
 -- The same, and memory ran out at a line that isn't blank.
-pub record LeadsToStop (s : Script) (p : PartialLine) (bytes a b : List ℕ) : Type 0 where
+pub record LeadsToStop (s : SessionValue) (p : PartialLine) (bytes a b : List ℕ) : Type 0 where
   pub leads : (input out : List ℕ) → Answered s p input (out ++ a) → StopsFirst (length bytes) (input ++ bytes) (out ++ b)
 
 -- With these replies all of the input is answered, if it ends here.
-pub record Ends (s : Script) (p : PartialLine) (replies : List ℕ) : Type 0 where
+pub record Ends (s : SessionValue) (p : PartialLine) (replies : List ℕ) : Type 0 where
   pub ends : (input out : List ℕ) → Answered s p input out → out ++ replies ≡ output input
 
 -- The same of what is written: no reply waits.
-pub record Reached (before now : List ℕ) (s : Script) (p : PartialLine) (input : List ℕ) : Type 0 where
+pub record Reached (before now : List ℕ) (s : SessionValue) (p : PartialLine) (input : List ℕ) : Type 0 where
   pub out : List ℕ
   pub taken : now ≡ before ++ out
   pub answered : Answered s p input out

@@ -3,8 +3,11 @@ ghost use Rattle.std.specs.Prelude.{◌≡◌, ◌+◌, ◌^◌, ◌≤◌, ℕ,
 ghost use Rattle.fts_model.specs.Results.{Gives};
 ghost use Rattle.fts_model.specs.QueryValues.{query_value};
 
-use crate::options::Options;
+pub mod list_engine;
+pub mod options;
+
 use fts_model::{Answer, Op, Query, Refusal, Request, Schema, Stamp};
+use options::Options;
 use std::sync::Wait;
 use std::thread::Threads;
 
@@ -13,7 +16,7 @@ use std::thread::Threads;
 /// An engine isn't dropped but closed, since it may have threads and readers to end.
 pub trait Engine {
     ghost use Rattle.fts.specs.Indexes.{Index, indexes};
-    ghost use Rattle.fts.specs.Steps.{next_stamp, submit as submit_step, commit as commit_step, rollback as rollback_step, merge as merge_step, search_commit, Steps};
+    ghost use Rattle.fts.specs.Steps.{next_stamp, submit, commit, rollback, merge, search_commit, Steps};
 
     /// What the index stands for.
     ghost index: { Self → Index };
@@ -45,26 +48,26 @@ pub trait Engine {
     /// Takes an operation, and answers its stamp. It is refused as `LaneFull` where 1,000,000 wait for a commit.
     fn submit(&mut self, op: Op) -> Result<Stamp, Refusal>
         requires { changes self.old ≤ 2 ^ 61 }
-        ensures step { Steps (submit_step indexes op (index self.old)) (index self.old) (index self.new) result }
+        ensures step { Steps (submit indexes op (index self.old)) (index self.old) (index self.new) result }
         ensures changes { changes self.new ≤ changes self.old + 1 };
 
     /// Commits the operations since the last commit, and answers the commit's stamp.
     fn commit(&mut self, rt: &(impl AllocGlobal + Threads + Wait)) -> Result<Stamp, Refusal>
         requires { changes self.old ≤ 2 ^ 61 }
-        ensures step { Steps (commit_step indexes (index self.old)) (index self.old) (index self.new) result }
+        ensures step { Steps (commit indexes (index self.old)) (index self.old) (index self.new) result }
         ensures changes { changes self.new ≤ changes self.old + 1 };
 
     /// Gives up the operations since the last commit, and answers that commit's stamp.
     fn rollback(&mut self, rt: &(impl AllocGlobal + Threads + Wait)) -> Result<Stamp, Refusal>
         requires { changes self.old ≤ 2 ^ 61 }
-        ensures step { Steps (rollback_step indexes (index self.old)) (index self.old) (index self.new) result }
+        ensures step { Steps (rollback indexes (index self.old)) (index self.old) (index self.new) result }
         ensures changes { changes self.new ≤ changes self.old + 1 };
 
     /// Merges what the last commit holds, and answers how many documents there are. It is refused as `TooLarge` where
     /// there are over 1,048,576. What waits for a commit goes on waiting.
     fn merge(&mut self, rt: &(impl AllocGlobal + Threads + Wait)) -> Result<u64, Refusal>
         requires { changes self.old ≤ 2 ^ 61 }
-        ensures step { Steps (merge_step indexes (index self.old)) (index self.old) (index self.new) result }
+        ensures step { Steps (merge indexes (index self.old)) (index self.old) (index self.new) result }
         ensures changes { changes self.new ≤ changes self.old + 1 };
 
     /// The answer over the documents of the last commit. The only refusal is `Memory`.

@@ -5,35 +5,24 @@ ghost use Rattle.std.specs.Prelude.{◌≡◌, ◌≢◌, ◌<◌};
 ghost use Rattle.fts.specs.Outputs.{output};
 ghost use Rattle.fts.specs.Runs.{BeginsOutputUnless};
 
-mod answer;
-mod args;
-mod command;
+mod cli;
 mod engine;
-mod fault;
 mod laws;
-mod lines;
-mod list_engine;
-mod options;
-mod run;
-mod run_std;
-mod session;
-mod status;
-mod std_streams;
-mod streams;
+mod script;
 
-use args::{ArgFault, Asked, args};
-use fault::Fault;
-use list_engine::ListEngine;
-use options::Options;
-use run_std::run_std;
-use status::{arg_status, run_status, status};
+use cli::args::{ArgFault, Asked, args};
+use cli::status::{arg_status, run_status, status};
+use engine::list_engine::ListEngine;
+use engine::options::Options;
+use script::fault::Fault;
+use script::run_std::run_std;
+use script::std_streams::Plain;
 use std::env::Env;
 use std::io::{Eprint, Stdin, Stdout};
 use std::process::ExitCode;
 use std::sync::Wait;
 use std::thread::Threads;
 use std::{env, io};
-use std_streams::Plain;
 
 /// What the process's own command line asks for.
 fn asked(rt: &(impl Env + AllocGlobal)) -> Result<Asked, ArgFault> {

@@ -1,0 +1,4 @@
+//! The command line: what its words ask for, and the status with which the program ends.
+
+pub mod args;
+pub mod status;
