@@ -9,7 +9,8 @@ use Rattle.std.proofs.lemmas.List.{length-append, length-drop, nil_from_length, 
 use Rattle.std.proofs.lemmas.List.Folds.{list_all-append, length-prefix_len}
 use Rattle.json.specs.Lex.{lex}
 use Rattle.fts.specs.declared.script.lines.PartialLine.{PartialLine}
-use Rattle.fts.specs.Text.{is_white, is_blank, lines_of, onto_first, HasNoEnd}
+use Rattle.std.specs.List.{onto_first}
+use Rattle.fts.specs.Text.{is_white, is_blank, lines_of, HasNoEnd}
 use Rattle.fts.specs.Commands.{json_in, longest, command}
 use Rattle.fts.specs.Replies.{execute, execute_line, reply_on, carried_over}
 use Rattle.fts_model.specs.Results.{result_and_then}

@@ -6,7 +6,7 @@ use Rattle.fts.specs.declared.script.lines.PartialLine.{PartialLine}
 use Rattle.fts.specs.Streams.{Transferred, Wrote}
 use Rattle.fts.specs.Text.{is_blank, lines_of, IsWhole, HasNoEnd}
 use Rattle.fts.specs.Outputs.{SessionValue, start, after_line, reply_to, replies, after_lines, output}
-use Rattle.fts.specs.Runs.{Holds, Answered, AnswersFirst, AnswersEnded, BeginsOutput, BeginsOutputUnless, BeginsWith, Ends, IsWritten, Leads, LeadsFirst, LeadsToStop, Reached, StopsFirst}
+use Rattle.fts.specs.Runs.{Holds, Answered, AnswersFirst, AnswersEnded, BeginsOutput, BeginsOutputUnless, BeginsWith, Finishes, IsWritten, Advances, AdvancesFirst, AdvancesToStop, RunState, StopsFirst}
 use Rattle.fts.proofs.BlankLemmas.{Holds-length, Holds-nothing-short, IsWritten-front}
 use Rattle.fts.proofs.StreamLemmas.{append_more}
 use Rattle.fts.proofs.LineLemmas.{lines_of-append, lines_of-ended, lines_of-unended, HasNoEnd-append, HasNoEnd-late, HasNoEnd-shorter, IsWhole-ended}
@@ -37,9 +37,9 @@ output-line done more line w is =
     ∙ ap (λ r. output done ++ r) (append-nil (reply_to s line))
 
 -- no line ends
-pub Leads-unended : (s : SessionValue) (p q : PartialLine) (bytes a : List ℕ) → HasNoEnd bytes →
-    ((line : List ℕ) → Holds p line → Holds q (line ++ bytes)) → Leads s s p q bytes a a
-Leads-unended s p q bytes a none grows = record {
+pub Advances-unended : (s : SessionValue) (p q : PartialLine) (bytes a : List ℕ) → HasNoEnd bytes →
+    ((line : List ℕ) → Holds p line → Holds q (line ++ bytes)) → Advances s s p q bytes a a
+Advances-unended s p q bytes a none grows = record {
   leads = λ input out r. record {
     done = r.done;
     line = r.line ++ bytes;
@@ -53,11 +53,11 @@ Leads-unended s p q bytes a none grows = record {
 }
 
 -- the line ends
-pub Leads-ended : (s t : SessionValue) (p q : PartialLine) (piece a b : List ℕ) → HasNoEnd piece →
+pub Advances-ended : (s t : SessionValue) (p q : PartialLine) (piece a b : List ℕ) → HasNoEnd piece →
     ((line : List ℕ) → Holds p line → b ≡ a ++ reply_to s (line ++ piece)) →
     ((line : List ℕ) → Holds p line → t ≡ after_line s (line ++ piece)) →
-    Holds q [] → Leads s t p q (piece ++ 10 ∷ []) a b
-Leads-ended s t p q piece a b none replies_to goes_on next = record {
+    Holds q [] → Advances s t p q (piece ++ 10 ∷ []) a b
+Advances-ended s t p q piece a b none replies_to goes_on next = record {
   leads = λ input out r.
       let line = r.line ++ piece in
       let is : lines_of (line ++ 10 ∷ []) ≡ line ∷ [] = lines_of-ended line (HasNoEnd-append r.line piece r.unended none) in
@@ -79,14 +79,14 @@ Leads-ended s t p q piece a b none replies_to goes_on next = record {
       };
 }
 
-pub Leads-none : (s : SessionValue) (p : PartialLine) (a : List ℕ) → Leads s s p p [] a a
-Leads-none s p a = record {
+pub Advances-none : (s : SessionValue) (p : PartialLine) (a : List ℕ) → Advances s s p p [] a a
+Advances-none s p a = record {
   leads = λ input out r. subst (λ v. Answered s p v (out ++ a)) (sym (append-nil input)) r;
 }
 
-pub Leads-then : (s t u : SessionValue) (p q r : PartialLine) (xs ys a b c : List ℕ) →
-    Leads s t p q xs a b → Leads t u q r ys b c → Leads s u p r (xs ++ ys) a c
-Leads-then s t u p q r xs ys a b c first second = record {
+pub Advances-then : (s t u : SessionValue) (p q r : PartialLine) (xs ys a b c : List ℕ) →
+    Advances s t p q xs a b → Advances t u q r ys b c → Advances s u p r (xs ++ ys) a c
+Advances-then s t u p q r xs ys a b c first second = record {
   leads = λ input out from.
       subst (λ v. Answered u r v (out ++ c)) (append_assoc input xs ys) (second.leads (input ++ xs) out (first.leads input out from));
 }
@@ -102,26 +102,26 @@ answers_first t q input xs more out r = record {
   late = HasNoEnd-late r.line more (length (xs ++ more)) (omega (arith, length-append xs more)) r.unended;
 }
 
-pub LeadsFirst-leads : (s t : SessionValue) (p q : PartialLine) (xs more a b : List ℕ) →
-    Leads s t p q xs a b → LeadsFirst s p (xs ++ more) a b
-LeadsFirst-leads s t p q xs more a b first = record {
+pub AdvancesFirst-leads : (s t : SessionValue) (p q : PartialLine) (xs more a b : List ℕ) →
+    Advances s t p q xs a b → AdvancesFirst s p (xs ++ more) a b
+AdvancesFirst-leads s t p q xs more a b first = record {
   leads = λ input out from. answers_first t q input xs more (out ++ b) (first.leads input out from);
 }
 
 -- and memory runs out there
-pub LeadsToStop-leads : (s t : SessionValue) (p q : PartialLine) (xs more a b : List ℕ) → Leads s t p q xs a b →
-    ((line : List ℕ) → Holds q line → HasNoEnd line → IsWritten (lines_of (line ++ more))) → LeadsToStop s p (xs ++ more) a b
-LeadsToStop-leads s t p q xs more a b first written = record {
+pub AdvancesToStop-leads : (s t : SessionValue) (p q : PartialLine) (xs more a b : List ℕ) → Advances s t p q xs a b →
+    ((line : List ℕ) → Holds q line → HasNoEnd line → IsWritten (lines_of (line ++ more))) → AdvancesToStop s p (xs ++ more) a b
+AdvancesToStop-leads s t p q xs more a b first written = record {
   leads = λ input out from.
       let r = first.leads input out from in
       (answers_first t q input xs more (out ++ b) r, λ some. written r.line r.holds r.unended);
 }
 
 -- the replies of some lines went out
-pub Reached-sent : (before now after : List ℕ) (s t : SessionValue) (p q : PartialLine) (input bytes gathered : List ℕ) →
-    Leads s t p q bytes [] gathered → after ≡ now ++ gathered →
-    Reached before now s p input → Reached before after t q (input ++ bytes)
-Reached-sent before now after s t p q input bytes gathered step sent r = record {
+pub RunState-sent : (before now after : List ℕ) (s t : SessionValue) (p q : PartialLine) (input bytes gathered : List ℕ) →
+    Advances s t p q bytes [] gathered → after ≡ now ++ gathered →
+    RunState before now s p input → RunState before after t q (input ++ bytes)
+RunState-sent before now after s t p q input bytes gathered step sent r = record {
   out = r.out ++ gathered;
   taken = append_more before now after r.out gathered r.taken sent;
   answered = step.leads input r.out (subst (λ v. Answered s p input v) (sym (append-nil r.out)) r.answered);
@@ -129,8 +129,8 @@ Reached-sent before now after s t p q input bytes gathered step sent r = record 
 
 -- memory ran out, and the replies of the lines before went out
 pub Wrote-first : (before now after : List ℕ) (s : SessionValue) (p : PartialLine) (input bytes gathered : List ℕ) →
-    LeadsToStop s p bytes [] gathered → after ≡ now ++ gathered →
-    Reached before now s p input → Wrote before after (StopsFirst (length bytes) (input ++ bytes))
+    AdvancesToStop s p bytes [] gathered → after ≡ now ++ gathered →
+    RunState before now s p input → Wrote before after (StopsFirst (length bytes) (input ++ bytes))
 Wrote-first before now after s p input bytes gathered step sent r = record {
   bytes = r.out ++ gathered;
   taken = append_more before now after r.out gathered r.taken sent;
@@ -154,8 +154,8 @@ BeginsWith-take xs out gathered n h = (
 
 -- a write failed among the replies of some lines
 pub Wrote-cut : (before now after : List ℕ) (s : SessionValue) (p : PartialLine) (input bytes gathered : List ℕ) (n : ℕ) →
-    LeadsFirst s p bytes [] gathered → after ≡ now ++ take n gathered →
-    Reached before now s p input → Wrote before after (BeginsOutput (input ++ bytes))
+    AdvancesFirst s p bytes [] gathered → after ≡ now ++ take n gathered →
+    RunState before now s p input → Wrote before after (BeginsOutput (input ++ bytes))
 Wrote-cut before now after s p input bytes gathered n step sent r = record {
   bytes = r.out ++ take n gathered;
   taken = append_more before now after r.out (take n gathered) r.taken sent;
@@ -207,7 +207,7 @@ Wrote-stopped before now input n w = record { bytes = w.bytes; taken = w.taken; 
 
 -- memory ran out at the end of the input
 pub Wrote-stop : (before now : List ℕ) (s : SessionValue) (p : PartialLine) (input : List ℕ) → ((line : List ℕ) → Holds p line → is_blank line ≡ false) →
-    Reached before now s p input → Wrote before now (StopsFirst 0 input)
+    RunState before now s p input → Wrote before now (StopsFirst 0 input)
 Wrote-stop before now s p input written r =
     let a = r.answered in record {
       bytes = r.out;
@@ -247,7 +247,7 @@ Transferred-none given taken n = record {
 
 -- the lines that ended were answered
 pub Wrote-reached : (before now : List ℕ) (s : SessionValue) (p : PartialLine) (input : List ℕ) →
-    Reached before now s p input → Wrote before now (AnswersEnded input)
+    RunState before now s p input → Wrote before now (AnswersEnded input)
 Wrote-reached before now s p input r = record {
   bytes = r.out;
   taken = r.taken;
@@ -263,7 +263,7 @@ Wrote-reached before now s p input r = record {
 
 -- whatever comes behind the input
 pub Wrote-more : (before now : List ℕ) (s : SessionValue) (p : PartialLine) (input more : List ℕ) →
-    Reached before now s p input → Wrote before now (AnswersFirst (length more) (input ++ more))
+    RunState before now s p input → Wrote before now (AnswersFirst (length more) (input ++ more))
 Wrote-more before now s p input more r = record {
   bytes = r.out;
   taken = r.taken;
@@ -278,7 +278,7 @@ Wrote-more before now s p input more r = record {
 }
 
 pub Wrote-same : (before now : List ℕ) (s : SessionValue) (p : PartialLine) (input : List ℕ) →
-    Reached before now s p input → Wrote before now (AnswersFirst 0 input)
+    RunState before now s p input → Wrote before now (AnswersFirst 0 input)
 Wrote-same before now s p input r =
     subst (λ v. Wrote before now (AnswersFirst 0 v)) (append-nil input) (Wrote-more before now s p input [] r)
 
@@ -288,17 +288,17 @@ Holds-nothing p line none some =
     nil_from_length line (Holds-length p line short some ∙ sym (Holds-length p [] short none))
 
 -- the input ended behind an LF
-pub Ends-nothing : (s : SessionValue) (p : PartialLine) → Holds p [] → Ends s p []
-Ends-nothing s p none = record {
+pub Finishes-nothing : (s : SessionValue) (p : PartialLine) → Holds p [] → Finishes s p []
+Finishes-nothing s p none = record {
   ends = λ input out r.
       append-nil out ∙ r.replied
       ∙ ap output (sym (r.split ∙ ap (λ v. r.done ++ v) (Holds-nothing p r.line none r.holds) ∙ append-nil r.done));
 }
 
 -- the end of the input ended a line
-pub Ends-line : (s : SessionValue) (p : PartialLine) (reply : List ℕ) → (Holds p [] → ⊥) →
-    ((line : List ℕ) → Holds p line → reply ≡ reply_to s line) → Ends s p reply
-Ends-line s p reply some replies_to = record {
+pub Finishes-line : (s : SessionValue) (p : PartialLine) (reply : List ℕ) → (Holds p [] → ⊥) →
+    ((line : List ℕ) → Holds p line → reply ≡ reply_to s line) → Finishes s p reply
+Finishes-line s p reply some replies_to = record {
   ends = λ input out r.
       ap (λ v. out ++ v) (replies_to r.line r.holds)
       ∙ ap (λ v. v ++ reply_to s r.line) r.replied
@@ -308,8 +308,8 @@ Ends-line s p reply some replies_to = record {
 }
 
 pub Wrote-output : (before now after : List ℕ) (s : SessionValue) (p : PartialLine) (input gathered : List ℕ) →
-    Ends s p gathered → after ≡ now ++ gathered →
-    Reached before now s p input → Wrote before after (λ out. out ≡ output input)
+    Finishes s p gathered → after ≡ now ++ gathered →
+    RunState before now s p input → Wrote before after (λ out. out ≡ output input)
 Wrote-output before now after s p input gathered last sent r = record {
   bytes = r.out ++ gathered;
   taken = append_more before now after r.out gathered r.taken sent;
@@ -318,8 +318,8 @@ Wrote-output before now after s p input gathered last sent r = record {
 
 -- a write failed in the last reply
 pub Wrote-part : (before now after : List ℕ) (s : SessionValue) (p : PartialLine) (input gathered : List ℕ) (n : ℕ) →
-    Ends s p gathered → after ≡ now ++ take n gathered →
-    Reached before now s p input → Wrote before after (BeginsWith (output input))
+    Finishes s p gathered → after ≡ now ++ take n gathered →
+    RunState before now s p input → Wrote before after (BeginsWith (output input))
 Wrote-part before now after s p input gathered n last sent r = record {
   bytes = r.out ++ take n gathered;
   taken = append_more before now after r.out (take n gathered) r.taken sent;
@@ -334,7 +334,7 @@ Wrote-whole before now input w = record {
 }
 
 pub Wrote-start : (before now : List ℕ) (s : SessionValue) (p : PartialLine) (input : List ℕ) →
-    Reached before now s p input → Wrote before now (BeginsWith (output input))
+    RunState before now s p input → Wrote before now (BeginsWith (output input))
 Wrote-start before now s p input r =
     let first = Wrote-same before now s p input r in
     let begins = AnswersFirst-begins 0 input first.bytes first.so [] in record {
@@ -369,11 +369,11 @@ on_ok (Ok v) Q h = h
 on_ok (Err e) Q h = tt
 
 -- whether lines were taken or memory ran out
-pub LeadsFirst-either : {E : Type 0} (result : Result ℕ E) (s t : SessionValue) (p q : PartialLine) (bytes a b : List ℕ) →
-    IfOk result (λ n. Leads s t p q (take n bytes) a b) → OnErr result (LeadsToStop s p bytes a b) → LeadsFirst s p bytes a b
-LeadsFirst-either (Ok n) s t p q bytes a b ok err =
-    subst (λ v. LeadsFirst s p v a b) (take-append-drop n bytes) (LeadsFirst-leads s t p q (take n bytes) (drop n bytes) a b ok)
-LeadsFirst-either (Err e) s t p q bytes a b ok err = record { leads = λ input out from. (err.leads input out from).0 }
+pub AdvancesFirst-either : {E : Type 0} (result : Result ℕ E) (s t : SessionValue) (p q : PartialLine) (bytes a b : List ℕ) →
+    IfOk result (λ n. Advances s t p q (take n bytes) a b) → OnErr result (AdvancesToStop s p bytes a b) → AdvancesFirst s p bytes a b
+AdvancesFirst-either (Ok n) s t p q bytes a b ok err =
+    subst (λ v. AdvancesFirst s p v a b) (take-append-drop n bytes) (AdvancesFirst-leads s t p q (take n bytes) (drop n bytes) a b ok)
+AdvancesFirst-either (Err e) s t p q bytes a b ok err = record { leads = λ input out from. (err.leads input out from).0 }
 
 -- the bytes up to a place, and those behind it
 pub whole_is : (input bytes : List ℕ) (i : ℕ) →
@@ -400,8 +400,8 @@ Wrote-block before now input bytes i w =
     (subst (λ v. Wrote before now (StopsFirst (length rest) v)) (whole_is input bytes i) w)
 
 -- before the first byte
-pub Reached-start : (a : List ℕ) (s : SessionValue) (p : PartialLine) → s ≡ start → Holds p [] → Reached a a s p []
-Reached-start a s p e none = record {
+pub RunState-start : (a : List ℕ) (s : SessionValue) (p : PartialLine) → s ≡ start → Holds p [] → RunState a a s p []
+RunState-start a s p e none = record {
   out = [];
   taken = sym (append-nil a);
   answered = record { done = []; line = []; split = refl; whole = inl refl; unended = tt; script = e; holds = none; replied = refl };

@@ -69,23 +69,23 @@ pub record Answered (s : SessionValue) (p : PartialLine) (input out : List ℕ) 
   pub replied : out ≡ output done
 
 -- These bytes lead from one state to another, while the replies that wait grow from `a` to `b`.
-pub record Leads (s t : SessionValue) (p q : PartialLine) (bytes a b : List ℕ) : Type 0 where
+pub record Advances (s t : SessionValue) (p q : PartialLine) (bytes a b : List ℕ) : Type 0 where
   pub leads : (input out : List ℕ) → Answered s p input (out ++ a) → Answered t q (input ++ bytes) (out ++ b)
 
 -- The lines that had ended before these bytes are answered, and some first lines that end in them.
-pub record LeadsFirst (s : SessionValue) (p : PartialLine) (bytes a b : List ℕ) : Type 0 where
+pub record AdvancesFirst (s : SessionValue) (p : PartialLine) (bytes a b : List ℕ) : Type 0 where
   pub leads : (input out : List ℕ) → Answered s p input (out ++ a) → AnswersFirst (length bytes) (input ++ bytes) (out ++ b)
 
 -- The same, and memory ran out at a line that isn't blank.
-pub record LeadsToStop (s : SessionValue) (p : PartialLine) (bytes a b : List ℕ) : Type 0 where
+pub record AdvancesToStop (s : SessionValue) (p : PartialLine) (bytes a b : List ℕ) : Type 0 where
   pub leads : (input out : List ℕ) → Answered s p input (out ++ a) → StopsFirst (length bytes) (input ++ bytes) (out ++ b)
 
 -- With these replies all of the input is answered, if it ends here.
-pub record Ends (s : SessionValue) (p : PartialLine) (replies : List ℕ) : Type 0 where
+pub record Finishes (s : SessionValue) (p : PartialLine) (replies : List ℕ) : Type 0 where
   pub ends : (input out : List ℕ) → Answered s p input out → out ++ replies ≡ output input
 
 -- The same of what is written: no reply waits.
-pub record Reached (before now : List ℕ) (s : SessionValue) (p : PartialLine) (input : List ℕ) : Type 0 where
+pub record RunState (before now : List ℕ) (s : SessionValue) (p : PartialLine) (input : List ℕ) : Type 0 where
   pub out : List ℕ
   pub taken : now ≡ before ++ out
   pub answered : Answered s p input out

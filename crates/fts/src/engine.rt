@@ -48,26 +48,30 @@ pub trait Engine {
     /// Takes an operation, and answers its stamp. It is refused as `LaneFull` where 1,000,000 wait for a commit.
     fn submit(&mut self, op: Op) -> Result<Stamp, Refusal>
         requires { changes self.old ≤ 2 ^ 61 }
-        ensures step { Steps (submit indexes op (index self.old)) (index self.old) (index self.new) result }
+        ensures step { Steps (submit indexes op (index self.old)) (index self.old)
+            (index self.new) result }
         ensures changes { changes self.new ≤ changes self.old + 1 };
 
     /// Commits the operations since the last commit, and answers the commit's stamp.
     fn commit(&mut self, rt: &(impl AllocGlobal + Threads + Wait)) -> Result<Stamp, Refusal>
         requires { changes self.old ≤ 2 ^ 61 }
-        ensures step { Steps (commit indexes (index self.old)) (index self.old) (index self.new) result }
+        ensures step { Steps (commit indexes (index self.old)) (index self.old)
+            (index self.new) result }
         ensures changes { changes self.new ≤ changes self.old + 1 };
 
     /// Gives up the operations since the last commit, and answers that commit's stamp.
     fn rollback(&mut self, rt: &(impl AllocGlobal + Threads + Wait)) -> Result<Stamp, Refusal>
         requires { changes self.old ≤ 2 ^ 61 }
-        ensures step { Steps (rollback indexes (index self.old)) (index self.old) (index self.new) result }
+        ensures step { Steps (rollback indexes (index self.old)) (index self.old)
+            (index self.new) result }
         ensures changes { changes self.new ≤ changes self.old + 1 };
 
     /// Merges what the last commit holds, and answers how many documents there are. It is refused as `TooLarge` where
     /// there are over 1,048,576. What waits for a commit goes on waiting.
     fn merge(&mut self, rt: &(impl AllocGlobal + Threads + Wait)) -> Result<u64, Refusal>
         requires { changes self.old ≤ 2 ^ 61 }
-        ensures step { Steps (merge indexes (index self.old)) (index self.old) (index self.new) result }
+        ensures step { Steps (merge indexes (index self.old)) (index self.old)
+            (index self.new) result }
         ensures changes { changes self.new ≤ changes self.old + 1 };
 
     /// The answer over the documents of the last commit. The only refusal is `Memory`.
@@ -77,7 +81,8 @@ pub trait Engine {
         query: &Query,
         request: &Request,
     ) -> Result<Answer, Refusal>
-        ensures step { Steps (search_commit indexes (query_value query.now) request.now (index self.old))
+        ensures step { Steps
+            (search_commit indexes (query_value query.now) request.now (index self.old))
             (index self.old) (index self.new) result }
         ensures changes { changes self.new ≤ changes self.old };
 

@@ -8,7 +8,8 @@ ghost use Rattle.fts.specs.Outputs.{output, output_by_commands};
 pub fn command_line()
     ensures run { (name : List ℕ) → faults_of (name ∷ codes "run" ∷ []) ≡ [] }
     ensures help { (name : List ℕ) → faults_of (name ∷ codes "--help" ∷ []) ≡ DisplayHelp ∷ [] }
-    ensures version { (name : List ℕ) → faults_of (name ∷ codes "--version" ∷ []) ≡ DisplayVersion ∷ [] }
+    ensures version { (name : List ℕ) → faults_of (name ∷ codes "--version" ∷ [])
+        ≡ DisplayVersion ∷ [] }
     ensures nothing { (name : List ℕ) → faults_of (name ∷ []) ≡ MissingSubcommand ∷ [] }
 {}
 

@@ -47,12 +47,12 @@ fn run_standard(
 ) -> (u8, Plain<Stdin>, Plain<Stdout>)
     // At status 0, what was written is the output of all that was read, and it was flushed.
     ensures ok { result.0 ≡ 0 → result.2.moved.bytes ≡ output result.1.moved.bytes }
-    ensures end { result.0 ≡ 0 → 0 < result.1.ends.count }
-    ensures flushed { result.0 ≡ 0 → 0 < result.2.flushes.count }
+    ensures end { result.0 ≡ 0 → 0 < result.1.ends }
+    ensures flushed { result.0 ≡ 0 → 0 < result.2.flushes }
 
     // At any other, it is a beginning of the output, however the input goes on, if it goes on.
     ensures stopped { result.0 ≢ 0 →
-        BeginsOutputUnless (0 < result.1.ends.count) result.1.moved.bytes result.2.moved.bytes }
+        BeginsOutputUnless (0 < result.1.ends) result.1.moved.bytes result.2.moved.bytes }
 {
     let (outcome, reader, writer) = run_std::<ListEngine, _, _>(rt, stdin, stdout, options);
     if let Err(fault) = &outcome {

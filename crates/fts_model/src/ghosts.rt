@@ -4,32 +4,6 @@ ghost use Rattle.std.specs.Borrow.{ftrue};
 
 use std::marker::Model;
 
-/// A whole number, as of calls. It takes no bytes.
-#[derive(Drop)]
-pub struct GhostCount {
-    pub ghost count: { ℕ },
-}
-
-impl Model for GhostCount {
-    ghost also_owns = { λ _. ftrue };
-}
-
-impl GhostCount {
-    /// None were counted yet.
-    pub fn zero() -> GhostCount
-        ensures { result.count ≡ 0 }
-    {
-        GhostCount {}
-    }
-
-    /// One more was counted.
-    pub fn and_one(&self) -> GhostCount
-        ensures { result.count ≡ self.now.count + 1 }
-    {
-        GhostCount {}
-    }
-}
-
 /// A list of bytes, as those that a stream gave. It takes no bytes itself.
 #[derive(Drop)]
 pub struct GhostBytes {
@@ -56,7 +30,40 @@ impl GhostBytes {
     }
 }
 
-// Neither owns anything that a thread could have.
-unsafe impl Send for GhostCount {}
-
+// It owns nothing that a thread could have.
 unsafe impl Send for GhostBytes {}
+
+/// A whole number, as of calls, for which contracts take it. It takes no bytes.
+#[derive(Drop)]
+pub struct GhostCount {
+    /// As many bytes as were counted.
+    units: GhostBytes,
+}
+
+impl Model for GhostCount {
+    ghost use Rattle.std.specs.Prelude.{ℕ, length};
+
+    ghost Value = { ℕ };
+
+    ghost view = { λ c. length c.units.bytes };
+}
+
+impl GhostCount {
+    /// None were counted yet.
+    pub fn zero() -> GhostCount
+        ensures { result ≡ 0 }
+    {
+        GhostCount {
+            units: GhostBytes::none(),
+        }
+    }
+
+    /// One more was counted.
+    pub fn and_one(&self) -> GhostCount
+        ensures { result ≡ self.now + 1 }
+    {
+        GhostCount {
+            units: self.units.and(&[0]),
+        }
+    }
+}

@@ -394,9 +394,8 @@ fn all_match(
     document: &Document,
     scratch: &mut String,
 ) -> Result<bool, AllocError>
-    ensures { IfOk result
-        (λ found. found
-        ≡ list_all (λ q. matches schema.now document.now (query_value q)) queries.now) }
+    ensures { IfOk result (λ found.
+        found ≡ list_all (λ q. matches schema.now document.now (query_value q)) queries.now) }
 {
     for query in queries {
         if !query_matches(schema, query, document, scratch)? {
@@ -414,9 +413,8 @@ fn any_matches(
     document: &Document,
     scratch: &mut String,
 ) -> Result<bool, AllocError>
-    ensures { IfOk result
-        (λ found. found
-        ≡ list_any (λ q. matches schema.now document.now (query_value q)) queries.now) }
+    ensures { IfOk result (λ found.
+        found ≡ list_any (λ q. matches schema.now document.now (query_value q)) queries.now) }
 {
     for query in queries {
         if query_matches(schema, query, document, scratch)? {

@@ -2,6 +2,10 @@
 use Rattle.std.specs.Prelude.{ℕ, suc, ◌+◌, ◌-◌, ◌*◌, ◌/◌, ◌≤◌, List, [], ◌∷◌, length, take, drop, map, slice_index}
 use Rattle.std.specs.List.{range_with_len}
 
+-- documents, by their numbers
+abbrev pub DocumentNumbers : Type 0
+DocumentNumbers = List ℕ
+
 -- how far each document is above the one before it, less 1; the first is above nothing, or `next - 1`
 abbrev pub gaps : ℕ → List ℕ → List ℕ
 gaps next [] = []

@@ -8,4 +8,4 @@ documents_in source = source.list.now
 
 -- how often it opened a block
 abbrev pub openings_of : ListSource → ℕ
-openings_of source = source.opened.count
+openings_of source = source.opened

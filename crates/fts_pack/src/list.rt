@@ -22,12 +22,11 @@ pub struct List {
 }
 
 impl Model for List {
-    ghost use Rattle.std.specs.Prelude.{ℕ};
-    ghost use Rattle.std.specs.Prelude.{List as Seq};
+    ghost use Rattle.fts_pack.specs.Documents.{DocumentNumbers};
     ghost use Rattle.std.specs.List.Sorted.{IsStrictlyIncreasing};
     ghost use Rattle.fts_pack.specs.Repr.{documents_of};
 
-    ghost Value = { Seq ℕ };
+    ghost Value = { DocumentNumbers };
 
     ghost view = { λ l. documents_of l.repr };
 

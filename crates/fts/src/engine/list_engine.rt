@@ -36,7 +36,8 @@ fn all_add(ops: &[Stamped<Op>]) -> bool
 
 /// Puts the document that an operation adds behind others.
 fn push_added(documents: &mut Vec<Stamped<Document>>, op: &Stamped<Op>) -> Result<(), AllocError>
-    ensures ok { OnOk result (documents.new.items ≡ documents.old.items ++ added_by op.now.stamp op.now.value) }
+    ensures ok { OnOk result
+        (documents.new.items ≡ documents.old.items ++ added_by op.now.stamp op.now.value) }
     ensures err { OnErr result (documents.new.items ≡ documents.old.items) }
 {
     if let Op::Add(document) = &op.value {
@@ -100,7 +101,8 @@ fn survivors(
     documents: &[Stamped<Document>],
     ops: &[Stamped<Op>],
 ) -> Result<Vec<Stamped<Document>>, Refusal>
-    ensures { Gives (λ left. left.items) result (Ok (alive schema.now (adds documents.now ++ ops.now))) }
+    ensures { Gives (λ left. left.items) result
+        (Ok (alive schema.now (adds documents.now ++ ops.now))) }
 {
     let all = history(alloc, documents, ops)?;
     scan::alive(alloc, schema, &all)
@@ -113,7 +115,8 @@ fn commit(
     documents: &mut Vec<Stamped<Document>>,
     ops: &[Stamped<Op>],
 ) -> Result<(), Refusal>
-    ensures ok { OnOk result (documents.new.items ≡ alive schema.now (adds documents.old.items ++ ops.now)) }
+    ensures ok { OnOk result
+        (documents.new.items ≡ alive schema.now (adds documents.old.items ++ ops.now)) }
     ensures err { OnErr result (documents.new.items ≡ documents.old.items) }
     ensures memory { IfErr result (λ refusal. refusal ≡ Refusal.Memory) }
 {

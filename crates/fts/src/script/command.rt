@@ -101,7 +101,8 @@ fn field_of(alloc: Global, json: &Value) -> Result<Option<Field>, AllocError>
 }
 
 fn fields_of(alloc: Global, json: &[Value]) -> Result<Option<Vec<Field>>, AllocError>
-    ensures { IfOk result (λ fields. option_map (λ v. v.items) fields ≡ fields_in (items_view json.now)) }
+    ensures { IfOk result
+        (λ fields. option_map (λ v. v.items) fields ≡ fields_in (items_view json.now)) }
 {
     let mut fields = Vec::with_capacity(alloc, json.len())?;
     for json in json {
@@ -154,7 +155,8 @@ fn top_of(json: &Value) -> Option<(&str, u64, Order)>
 
 /// The name of the field of the groups, if it is there and is one.
 fn groups_of(json: Option<&Value>) -> Option<Option<&str>>
-    ensures { option_map (λ groups. option_map (λ name. name.now) groups) result ≡ if_there as_str (option_map (λ v. view v.now) json.entry) }
+    ensures { option_map (λ groups. option_map (λ name. name.now) groups) result
+        ≡ if_there as_str (option_map (λ v. view v.now) json.entry) }
 {
     match json {
         None => Some(None),
@@ -164,7 +166,8 @@ fn groups_of(json: Option<&Value>) -> Option<Option<&str>>
 
 /// The top list, if it is there and is one.
 fn asked_top(json: Option<&Value>) -> Option<Option<(&str, u64, Order)>>
-    ensures { option_map (λ top. option_map (λ t. (t.0.now, t.1, t.2)) top) result ≡ if_there top_in (option_map (λ v. view v.now) json.entry) }
+    ensures { option_map (λ top. option_map (λ t. (t.0.now, t.1, t.2)) top) result
+        ≡ if_there top_in (option_map (λ v. view v.now) json.entry) }
 {
     match json {
         None => Some(None),
@@ -189,7 +192,8 @@ fn search_of(json: &Value) -> Option<Search<'_>>
 
 /// The schema that a list of fields is.
 fn schema_of(alloc: Global, json: &Value) -> Result<Option<Command<'_>>, AllocError>
-    ensures { IfOk result (λ command. option_map command_value command ≡ schema_in (view json.entry.now)) }
+    ensures { IfOk result
+        (λ command. option_map command_value command ≡ schema_in (view json.entry.now)) }
 {
     let Some(fields) = json.as_array() else {
         return Ok(None);
@@ -202,7 +206,8 @@ fn schema_of(alloc: Global, json: &Value) -> Result<Option<Command<'_>>, AllocEr
 
 /// A command that asks for `true`.
 fn command_if<'a>(command: Command<'a>, json: &Value) -> Option<Command<'a>>
-    ensures { option_map command_value result ≡ command_if (command_value command.entry) (as_bool (view json.now)) }
+    ensures { option_map command_value result ≡ command_if (command_value command.entry)
+        (as_bool (view json.now)) }
 {
     match json.as_bool() {
         Some(true) => Some(command),
@@ -216,7 +221,9 @@ fn command_named<'a>(
     name: &str,
     json: &'a Value,
 ) -> Result<Option<Command<'a>>, AllocError>
-    ensures { IfOk result (λ command. option_map command_value command ≡ command_named name.now (view json.entry.now)) }
+    ensures { IfOk result
+        (λ command. option_map command_value command
+        ≡ command_named name.now (view json.entry.now)) }
 {
     match name {
         "schema" => schema_of(alloc, json),
@@ -239,7 +246,8 @@ fn command_named<'a>(
 
 /// The command that a JSON value is.
 pub fn command_of(alloc: Global, json: &Value) -> Result<Option<Command<'_>>, AllocError>
-    ensures { IfOk result (λ command. option_map command_value command ≡ command_in (view json.entry.now)) }
+    ensures { IfOk result
+        (λ command. option_map command_value command ≡ command_in (view json.entry.now)) }
 {
     match only_member(json) {
         None => Ok(None),

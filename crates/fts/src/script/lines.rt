@@ -103,15 +103,16 @@ impl PartialLine {
         session: &mut Session<E>,
         replies: &mut String,
     ) -> Result<(), AllocError>
-        requires { session.old.number ≤ 2 ^ 61 }
+        requires line_number_fits { session.old.number ≤ 2 ^ 61 }
         ensures reply { OnOk result ((line : List ℕ) → Holds self.old line →
             string_bytes replies.new ≡ string_bytes replies.old ++ reply_to session.old line) }
         ensures script { OnOk result ((line : List ℕ) → Holds self.old line →
             session.new ≡ after_line session.old line) }
         ensures next { OnOk result (Holds self.new []) }
         ensures err { OnErr result (string_bytes replies.new ≡ string_bytes replies.old) }
-        ensures not_blank { OnErr result ((line : List ℕ) → Holds self.old line → is_blank line ≡ false) }
-        ensures counted { session.new.number ≤ session.old.number + 1 }
+        ensures not_blank { OnErr result ((line : List ℕ) → Holds self.old line →
+            is_blank line ≡ false) }
+        ensures lines_counted { session.new.number ≤ session.old.number + 1 }
     {
         match self.too_long {
             Some(blank) => session.answer_too_long(rt.alloc(), blank, replies)?,

@@ -4,7 +4,7 @@ ghost use Rattle.fts.specs.Streams.{GainsTaken, Wrote};
 ghost use Rattle.fts.specs.Text.{is_blank, lines_of, HasNoEnd};
 ghost use Rattle.fts.specs.Commands.{longest};
 ghost use Rattle.fts.specs.Outputs.{start, output, reply_to, after_line};
-ghost use Rattle.fts.specs.Runs.{BeginsOutput, BeginsWith, Ends, Holds, IsWritten, Leads, LeadsToStop, Reached, StopsFirst};
+ghost use Rattle.fts.specs.Runs.{BeginsOutput, BeginsWith, Finishes, Holds, IsWritten, Advances, AdvancesToStop, RunState, StopsFirst};
 
 use crate::engine::Engine;
 use crate::engine::options::Options;
@@ -27,7 +27,8 @@ fn send<W: ScriptOut>(writer: &mut W, replies: &mut String) -> Result<(), Fault>
     ensures none_wait { OnOk result (string_bytes replies.new ≡ []) }
     ensures err { OnErr result ((n : ℕ)
         × (W.taken writer.new ≡ W.taken writer.old ++ take n (string_bytes replies.old))) }
-    ensures held { GainsTaken (W.taken writer.old) (W.taken writer.new) (W.held writer.old) (W.held writer.new) }
+    ensures held { GainsTaken (W.taken writer.old) (W.taken writer.new) (W.held writer.old)
+        (W.held writer.new) }
     ensures write { OnErr result (result ≡ Err Fault.Write) }
     ensures fails { OnErr result (W.failed writer.old < W.failed writer.new) }
     ensures failed { W.failed writer.old ≤ W.failed writer.new }
@@ -107,7 +108,7 @@ impl<E: Engine> Responder<E> {
         ensures some { IfOk result (λ n. 0 < n) }
         ensures bound { IfOk result (λ n. n ≤ length bytes.now) }
         ensures ok { IfOk result (λ n.
-            Leads self.old.session self.new.session self.old.line self.new.line
+            Advances self.old.session self.new.session self.old.line self.new.line
             (take n bytes.now) (string_bytes self.old.replies) (string_bytes self.new.replies)) }
         ensures err { OnErr result (string_bytes self.new.replies ≡ string_bytes self.old.replies) }
         ensures not_blank { OnErr result ((start : List ℕ) → Holds self.old.line start →
@@ -139,11 +140,12 @@ impl<E: Engine> Responder<E> {
         ensures some { IfOk result (λ n. 0 < n) }
         ensures bound { IfOk result (λ n. n ≤ length bytes.now) }
         ensures ok { IfOk result (λ n.
-            Leads self.old.session self.new.session self.old.line self.new.line
+            Advances self.old.session self.new.session self.old.line self.new.line
             (take n bytes.now) [] (string_bytes self.new.replies)) }
-        ensures err { OnErr result (LeadsToStop self.old.session self.old.line
+        ensures err { OnErr result (AdvancesToStop self.old.session self.old.line
             bytes.now [] (string_bytes self.new.replies)) }
-        ensures lines_counted { IfOk result (λ n. self.new.session.number ≤ self.old.session.number + n) }
+        ensures lines_counted { IfOk result
+            (λ n. self.new.session.number ≤ self.old.session.number + n) }
     {
         let mut at = 0;
         while at < bytes.len() && self.replies.len() < MOST_WAITING {
@@ -163,16 +165,17 @@ impl<E: Engine> Responder<E> {
         requires fits_line { length piece.now ≤ longest }
         requires none_wait { string_bytes self.replies ≡ [] }
         ensures ok { IfOk result (λ fed. (before input : List ℕ) →
-            Reached before (W.taken writer.old) self.session self.line input →
-            Reached before (W.taken writer.new) fed.session fed.line (input ++ piece.now)) }
+            RunState before (W.taken writer.old) self.session self.line input →
+            RunState before (W.taken writer.new) fed.session fed.line (input ++ piece.now)) }
         ensures none_wait { IfOk result (λ fed. string_bytes fed.replies ≡ []) }
         ensures memory { IsErrOf result Fault.Memory → ((before input : List ℕ) →
-            Reached before (W.taken writer.old) self.session self.line input →
+            RunState before (W.taken writer.old) self.session self.line input →
             Wrote before (W.taken writer.new) (StopsFirst (length piece.now) (input ++ piece.now))) }
         ensures err { OnErr result ((before input : List ℕ) →
-            Reached before (W.taken writer.old) self.session self.line input →
+            RunState before (W.taken writer.old) self.session self.line input →
             Wrote before (W.taken writer.new) (BeginsOutput (input ++ piece.now))) }
-        ensures held { GainsTaken (W.taken writer.old) (W.taken writer.new) (W.held writer.old) (W.held writer.new) }
+        ensures held { GainsTaken (W.taken writer.old) (W.taken writer.new) (W.held writer.old)
+            (W.held writer.new) }
         ensures no_read { IsErrOf result Fault.Read → ⊥ }
         ensures not_used_up { IsErrOf result Fault.StampsUsedUp → ⊥ }
         ensures fails { IsErrOf result Fault.Write → W.failed writer.old < W.failed writer.new }
@@ -208,7 +211,7 @@ impl<E: Engine> Responder<E> {
         requires line_number_fits { self.old.session.number ≤ 2 ^ 61 }
         requires none_wait { string_bytes self.old.replies ≡ [] }
         ensures ok { OnOk result
-            (Ends self.old.session self.old.line (string_bytes self.new.replies)) }
+            (Finishes self.old.session self.old.line (string_bytes self.new.replies)) }
         ensures not_blank { OnErr result ((start : List ℕ) → Holds self.old.line start →
             is_blank start ≡ false) }
     {
@@ -227,15 +230,16 @@ impl<E: Engine> Responder<E> {
         requires line_number_fits { self.session.number ≤ 2 ^ 61 }
         requires none_wait { string_bytes self.replies ≡ [] }
         ensures ok { OnOk result ((before input : List ℕ) →
-            Reached before (W.taken writer.old) self.session self.line input →
+            RunState before (W.taken writer.old) self.session self.line input →
             Wrote before (W.taken writer.new) (λ out. out ≡ output input)) }
         ensures memory { IsErrOf result Fault.Memory → ((before input : List ℕ) →
-            Reached before (W.taken writer.old) self.session self.line input →
+            RunState before (W.taken writer.old) self.session self.line input →
             Wrote before (W.taken writer.new) (StopsFirst 0 input)) }
         ensures err { OnErr result ((before input : List ℕ) →
-            Reached before (W.taken writer.old) self.session self.line input →
+            RunState before (W.taken writer.old) self.session self.line input →
             Wrote before (W.taken writer.new) (BeginsWith (output input))) }
-        ensures held { GainsTaken (W.taken writer.old) (W.taken writer.new) (W.held writer.old) (W.held writer.new) }
+        ensures held { GainsTaken (W.taken writer.old) (W.taken writer.new) (W.held writer.old)
+            (W.held writer.new) }
         ensures no_read { IsErrOf result Fault.Read → ⊥ }
         ensures not_used_up { IsErrOf result Fault.StampsUsedUp → ⊥ }
         ensures fails { IsErrOf result Fault.Write → W.failed writer.old < W.failed writer.new }

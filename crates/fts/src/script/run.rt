@@ -41,9 +41,12 @@ pub fn run_script<E: Engine, R: ScriptIn, W: ScriptOut>(
     ensures flushed { OnOk result (W.flushes writer.old < W.flushes writer.new) }
 
     // The same bytes are lost by a reader that tells what it has left, and gained by a writer that tells what it holds.
-    ensures left { LosesGiven (R.given reader.old) (R.given reader.new) (R.remaining reader.old) (R.remaining reader.new) }
-    ensures held { GainsTaken (W.taken writer.old) (W.taken writer.new) (W.held writer.old) (W.held writer.new) }
-    ensures nothing_left { R.ends reader.old < R.ends reader.new → IsAtEnd (R.remaining reader.new) }
+    ensures left { LosesGiven (R.given reader.old) (R.given reader.new) (R.remaining reader.old)
+        (R.remaining reader.new) }
+    ensures held { GainsTaken (W.taken writer.old) (W.taken writer.new) (W.held writer.old)
+        (W.held writer.new) }
+    ensures nothing_left { R.ends reader.old < R.ends reader.new →
+        IsAtEnd (R.remaining reader.new) }
 
     // After any fault, what was written is a beginning of the output, however the input goes on, if it goes on.
     ensures err { OnErr result (Transferred (R.given reader.old) (R.given reader.new)
@@ -52,7 +55,8 @@ pub fn run_script<E: Engine, R: ScriptIn, W: ScriptOut>(
 
     // After want of memory, it is the replies to first lines, to all at least that ended before the last read, and
     // the next line isn't blank; after a failed read, to all lines that ended.
-    ensures memory { IsErrOf result Fault.Memory → Transferred (R.given reader.old) (R.given reader.new)
+    ensures memory { IsErrOf result Fault.Memory →
+        Transferred (R.given reader.old) (R.given reader.new)
         (W.taken writer.old) (W.taken writer.new) (StopsFirst (length (R.latest reader.new))) }
     ensures read { IsErrOf result Fault.Read → Transferred (R.given reader.old) (R.given reader.new)
         (W.taken writer.old) (W.taken writer.new) AnswersEnded }

@@ -24,25 +24,26 @@ pub fn run_std<E: Engine, R: Read, W: Write>(
 ) -> (Result<(), Fault>, Plain<R>, Plain<W>)
     // What was written is the output of what was read, the reader told its end, and the writer was flushed.
     ensures ok { OnOk result.0 (result.2.moved.bytes ≡ output result.1.moved.bytes) }
-    ensures end { OnOk result.0 (0 < result.1.ends.count) }
-    ensures flushed { OnOk result.0 (0 < result.2.flushes.count) }
+    ensures end { OnOk result.0 (0 < result.1.ends) }
+    ensures flushed { OnOk result.0 (0 < result.2.flushes) }
 
     // After any fault, what was written is a beginning of the output, however the input goes on, if it goes on.
     ensures err { OnErr result.0
-        (BeginsOutputUnless (0 < result.1.ends.count) result.1.moved.bytes result.2.moved.bytes) }
+        (BeginsOutputUnless (0 < result.1.ends) result.1.moved.bytes result.2.moved.bytes) }
 
     // After want of memory, it is the replies to first lines, to all at least that ended before the last read, and
     // the next line isn't blank; after a failed read, to all lines that ended.
     ensures memory { IsErrOf result.0 Fault.Memory →
         StopsFirst (length result.1.latest.bytes) result.1.moved.bytes result.2.moved.bytes }
-    ensures read { IsErrOf result.0 Fault.Read → AnswersEnded result.1.moved.bytes result.2.moved.bytes }
+    ensures read { IsErrOf result.0 Fault.Read → AnswersEnded result.1.moved.bytes
+        result.2.moved.bytes }
 
-    ensures read_failed { IsErrOf result.0 Fault.Read → 0 < result.1.failed.count }
-    ensures write_failed { IsErrOf result.0 Fault.Write → 0 < result.2.failed.count }
+    ensures read_failed { IsErrOf result.0 Fault.Read → 0 < result.1.failed }
+    ensures write_failed { IsErrOf result.0 Fault.Write → 0 < result.2.failed }
 
     // Where the reader tells what it has left, and the writer what it holds, it is these bytes.
     ensures left { Consumes (R.remaining reader) (R.remaining result.1.inner) result.1.moved.bytes }
-    ensures nothing_left { 0 < result.1.ends.count → IsAtEnd (R.remaining result.1.inner) }
+    ensures nothing_left { 0 < result.1.ends → IsAtEnd (R.remaining result.1.inner) }
     ensures held { Appends (W.contents writer) (W.contents result.2.inner) result.2.moved.bytes }
 {
     let mut reader = Plain::new(reader);

@@ -55,7 +55,8 @@ fn open<E: Engine>(
     fields: Vec<Field>,
 ) -> Result<Value, Refusal>
     requires { option_map E.index index.old ≡ None }
-    ensures executes { Executes (execute indexes None (command_value (Command.Schema fields))) None (option_map E.index index.new) result }
+    ensures executes { Executes (execute indexes None (command_value (Command.Schema fields))) None
+        (option_map E.index index.new) result }
     ensures changes { ChangesAtMost E.changes 0 index.new }
 {
     let reply = number_reply(rt.alloc(), "fields", fields.len() as u64)?;
@@ -73,7 +74,8 @@ fn open<E: Engine>(
 /// Takes an operation.
 fn submit<E: Engine>(alloc: Global, engine: &mut E, op: Op) -> Result<Value, Refusal>
     requires { E.changes engine.old ≤ 2 ^ 61 }
-    ensures executes { Executes (replied (number_reply (codes "stamp")) (submit indexes op (E.index engine.old)))
+    ensures executes { Executes
+        (replied (number_reply (codes "stamp")) (submit indexes op (E.index engine.old)))
         (Some (E.index engine.old)) (Some (E.index engine.new)) result }
     ensures changes { E.changes engine.new ≤ E.changes engine.old + 1 }
 {
@@ -95,7 +97,8 @@ fn add<E: Engine>(alloc: Global, engine: &mut E, json: &Value) -> Result<Value, 
 
 /// The term that a value is in the field of a name.
 fn term_in<E: Engine>(alloc: Global, engine: &E, name: &str, json: &Value) -> Result<Term, Refusal>
-    ensures { Gives (λ term. term) result (term_of (E.index engine.now).schema name.now (view json.now)) }
+    ensures { Gives (λ term. term) result
+        (term_of (E.index engine.now).schema name.now (view json.now)) }
 {
     Term::new(alloc, engine.schema(), name, json)
 }
@@ -108,7 +111,8 @@ fn delete<E: Engine>(
     json: &Value,
 ) -> Result<Value, Refusal>
     requires { E.changes engine.old ≤ 2 ^ 61 }
-    ensures executes { Executes (execute indexes (Some (E.index engine.old)) (Delete name.now (view json.now)))
+    ensures executes { Executes
+        (execute indexes (Some (E.index engine.old)) (Delete name.now (view json.now)))
         (Some (E.index engine.old)) (Some (E.index engine.new)) result }
     ensures changes { E.changes engine.new ≤ E.changes engine.old + 1 }
 {
@@ -142,7 +146,8 @@ fn search<E: Engine>(
     engine: &mut E,
     asked: Search<'_>,
 ) -> Result<Value, Refusal>
-    ensures executes { Executes (answer_search indexes (search_value asked.entry) (E.index engine.old))
+    ensures executes { Executes
+        (answer_search indexes (search_value asked.entry) (E.index engine.old))
         (Some (E.index engine.old)) (Some (E.index engine.new)) result }
     ensures changes { E.changes engine.new ≤ E.changes engine.old }
 {
@@ -159,7 +164,8 @@ fn execute_open<E: Engine>(
     command: Command<'_>,
 ) -> Result<Value, Refusal>
     requires { E.changes engine.old ≤ 2 ^ 61 }
-    ensures executes { Executes (execute indexes (Some (E.index engine.old)) (command_value command.entry))
+    ensures executes { Executes
+        (execute indexes (Some (E.index engine.old)) (command_value command.entry))
         (Some (E.index engine.old)) (Some (E.index engine.new)) result }
     ensures changes { E.changes engine.new ≤ E.changes engine.old + 1 }
 {
@@ -194,7 +200,8 @@ fn execute<E: Engine>(
     command: Command<'_>,
 ) -> Result<Value, Refusal>
     requires { ChangesAtMost E.changes (2 ^ 61) index.old }
-    ensures executes { Executes (execute indexes (option_map E.index index.old) (command_value command.entry))
+    ensures executes { Executes
+        (execute indexes (option_map E.index index.old) (command_value command.entry))
         (option_map E.index index.old) (option_map E.index index.new) result }
     ensures changes { ChangesOnce E.changes index.old index.new }
 {
@@ -246,7 +253,8 @@ fn execute_whole<E: Engine>(
 /// The reply to a line on a line of its own, behind the replies before it.
 fn push_reply(alloc: Global, reply: &Value, out: &mut String) -> Result<(), AllocError>
     requires { has_float (view reply.now) ≡ false }
-    ensures ok { OnOk result (string_bytes out.new ≡ string_bytes out.old ++ line_of (view reply.now)) }
+    ensures ok { OnOk result
+        (string_bytes out.new ≡ string_bytes out.old ++ line_of (view reply.now)) }
     ensures err { OnErr result (string_bytes out.new ≡ string_bytes out.old) }
 {
     let mut text = reply.to_string(alloc)?;
@@ -320,13 +328,14 @@ impl<E: Engine> Session<E> {
         line: &[u8],
         out: &mut String,
     ) -> Result<(), AllocError>
-        requires few { self.old.number ≤ 2 ^ 61 }
-        requires short { length line.now ≤ longest }
-        ensures reply { OnOk result (string_bytes out.new ≡ string_bytes out.old ++ reply_to self.old line.now) }
+        requires line_number_fits { self.old.number ≤ 2 ^ 61 }
+        requires fits_line { length line.now ≤ longest }
+        ensures reply { OnOk result
+            (string_bytes out.new ≡ string_bytes out.old ++ reply_to self.old line.now) }
         ensures script { OnOk result (self.new ≡ after_line self.old line.now) }
         ensures err { OnErr result (string_bytes out.new ≡ string_bytes out.old) }
         ensures not_blank { OnErr result (is_blank line.now ≡ false) }
-        ensures counted { self.new.number ≤ self.old.number + 1 }
+        ensures lines_counted { self.new.number ≤ self.old.number + 1 }
     {
         let number = self.number + 1;
         let answered = if is_blank(line) {
@@ -346,14 +355,16 @@ impl<E: Engine> Session<E> {
         blank: bool,
         out: &mut String,
     ) -> Result<(), AllocError>
-        requires few { self.old.number ≤ 2 ^ 61 }
-        ensures reply { OnOk result ((line : List ℕ) → longest < length line → is_blank line ≡ blank →
+        requires line_number_fits { self.old.number ≤ 2 ^ 61 }
+        ensures reply { OnOk result ((line : List ℕ) → longest < length line →
+            is_blank line ≡ blank →
             string_bytes out.new ≡ string_bytes out.old ++ reply_to self.old line) }
-        ensures script { OnOk result ((line : List ℕ) → longest < length line → is_blank line ≡ blank →
+        ensures script { OnOk result ((line : List ℕ) → longest < length line →
+            is_blank line ≡ blank →
             self.new ≡ after_line self.old line) }
         ensures err { OnErr result (string_bytes out.new ≡ string_bytes out.old) }
         ensures not_blank { OnErr result (blank ≡ false) }
-        ensures counted { self.new.number ≤ self.old.number + 1 }
+        ensures lines_counted { self.new.number ≤ self.old.number + 1 }
     {
         let number = self.number + 1;
         self.number = number;

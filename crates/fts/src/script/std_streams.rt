@@ -21,9 +21,9 @@ impl<T> Plain<T> {
     pub fn new(inner: T) -> Self
         ensures inner { result.inner ≡ inner }
         ensures moved { result.moved.bytes ≡ [] }
-        ensures ends { result.ends.count ≡ 0 }
-        ensures failed { result.failed.count ≡ 0 }
-        ensures flushes { result.flushes.count ≡ 0 }
+        ensures ends { result.ends ≡ 0 }
+        ensures failed { result.failed ≡ 0 }
+        ensures flushes { result.flushes ≡ 0 }
     {
         Plain {
             inner,
@@ -49,9 +49,9 @@ impl<T: Read> ScriptIn for Plain<T> {
 
     ghost remaining = { λ p. T.remaining p.inner };
 
-    ghost ends = { λ p. p.ends.count };
+    ghost ends = { λ p. p.ends };
 
-    ghost failed = { λ p. p.failed.count };
+    ghost failed = { λ p. p.failed };
 
     fn read(&mut self, buffer: &mut [u8]) -> Result<usize, StreamError> {
         self.latest = GhostBytes::none();
@@ -77,9 +77,9 @@ impl<T: Write> ScriptOut for Plain<T> {
 
     ghost held = { λ p. T.contents p.inner };
 
-    ghost failed = { λ p. p.failed.count };
+    ghost failed = { λ p. p.failed };
 
-    ghost flushes = { λ p. p.flushes.count };
+    ghost flushes = { λ p. p.flushes };
 
     fn write(&mut self, bytes: &[u8]) -> Result<usize, StreamError> {
         match self.inner.write(bytes) {

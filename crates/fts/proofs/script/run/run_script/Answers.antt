@@ -3,7 +3,7 @@ use Rattle.std.proofs.lemmas.Result.{on_ok_weaker, on_err_weaker, err_from_is_er
 use Rattle.std.proofs.lemmas.List.{length-take-le}
 use Rattle.fts.specs.Outputs.{SessionValue}
 use Rattle.fts.specs.Runs.{AnswersFirst, StopsFirst}
-use Rattle.fts.proofs.RunLemmas.{Reached-start, Wrote-ended, Wrote-begins, Wrote-late, Wrote-latest, Wrote-more, Wrote-reached, Wrote-same, Wrote-unless, counted_end, given_none, length_more, not_counted, on_err, on_ok}
+use Rattle.fts.proofs.RunLemmas.{RunState-start, Wrote-ended, Wrote-begins, Wrote-late, Wrote-latest, Wrote-more, Wrote-reached, Wrote-same, Wrote-unless, counted_end, given_none, length_more, not_counted, on_err, on_ok}
 use Rattle.fts.proofs.StreamLemmas.{append_more, GainsTaken-none, GainsTaken-trans, LosesGiven-none, LosesGiven-read}
 use Rattle.fts.proofs.script.run.run_script.Goals as goal
 
@@ -13,7 +13,7 @@ reads-init g c = record {
   given = sym (append-nil (g.R.ScriptIn.given c.args.reader.now));
   left = LosesGiven-none _ _;
   held = GainsTaken-none _ _;
-  reached = Reached-start (g.W.ScriptOut.taken c.args.writer.now) c.new-responder.result.session c.new-responder.result.line c.new-responder.ensures.session c.new-responder.ensures.line;
+  reached = RunState-start (g.W.ScriptOut.taken c.args.writer.now) c.new-responder.result.session c.new-responder.result.line c.new-responder.ensures.session c.new-responder.ensures.line;
   none_wait = c.new-responder.ensures.none_wait;
   ends = refl;
   failed = refl;

@@ -1,6 +1,6 @@
 use Rattle.std.proofs.Common.{◌≡◌, ◌≤◌, ◌^◌, ◌-◌, ◌++◌, length, List, ℕ, [], string_bytes}
 use Rattle.fts.specs.Streams.{GainsTaken, LosesGiven}
-use Rattle.fts.specs.Runs.{Reached}
+use Rattle.fts.specs.Runs.{RunState}
 use Rattle.fts.proofs.script.run.run_script.Given as goal
 
 abbrev pub invariant-reads : goal.invariant-reads
@@ -9,7 +9,7 @@ invariant-reads g l = record {
   given : g.R.ScriptIn.given l.reader ≡ g.R.ScriptIn.given l.fn.reader ++ input;
   left : LosesGiven (g.R.ScriptIn.given l.fn.reader) (g.R.ScriptIn.given l.reader) (g.R.ScriptIn.remaining l.fn.reader) (g.R.ScriptIn.remaining l.reader);
   held : GainsTaken (g.W.ScriptOut.taken l.fn.writer) (g.W.ScriptOut.taken l.writer) (g.W.ScriptOut.held l.fn.writer) (g.W.ScriptOut.held l.writer);
-  reached : Reached (g.W.ScriptOut.taken l.fn.writer) (g.W.ScriptOut.taken l.writer) l.responder.session l.responder.line input;
+  reached : RunState (g.W.ScriptOut.taken l.fn.writer) (g.W.ScriptOut.taken l.writer) l.responder.session l.responder.line input;
   none_wait : string_bytes l.responder.replies ≡ [];
   ends : g.R.ScriptIn.ends l.reader ≡ g.R.ScriptIn.ends l.fn.reader;
   failed : g.R.ScriptIn.failed l.reader ≡ g.R.ScriptIn.failed l.fn.reader;

@@ -1,7 +1,7 @@
 use Rattle.std.proofs.Common.{◌++◌, length, take, subst, arith, ◌∙◌, string_bytes}
 use Rattle.fts.specs.Streams.{Wrote}
-use Rattle.fts.specs.Runs.{BeginsOutput, Reached}
-use Rattle.fts.proofs.RunLemmas.{LeadsFirst-either, Reached-sent, Wrote-begins, Wrote-block, Wrote-cut, Wrote-first, Wrote-stopped, part_is, whole_is, within_more}
+use Rattle.fts.specs.Runs.{BeginsOutput, RunState}
+use Rattle.fts.proofs.RunLemmas.{AdvancesFirst-either, RunState-sent, Wrote-begins, Wrote-block, Wrote-cut, Wrote-first, Wrote-stopped, part_is, whole_is, within_more}
 use Rattle.fts.proofs.StreamLemmas.{GainsTaken-trans}
 use Rattle.fts.proofs.script.responder.Responder.feed.Goals as goal
 
@@ -11,7 +11,7 @@ returns-in-Err-clause-err g c = (λ before input r.
     (Wrote-cut before (g.W.ScriptOut.taken c.loop-at.writer) (g.W.ScriptOut.taken c.send.new.writer)
     c.loop-at.self.session c.loop-at.self.line (input ++ take c.loop-at.at c.args.piece.now) _
     (string_bytes c.take_lines-taken.new.self.replies) c.in-Err.ensures.err.0
-    (LeadsFirst-either c.take_lines-taken.result c.loop-at.self.session c.take_lines-taken.new.self.session c.loop-at.self.line c.take_lines-taken.new.self.line _ _ _
+    (AdvancesFirst-either c.take_lines-taken.result c.loop-at.self.session c.take_lines-taken.new.self.session c.loop-at.self.line c.take_lines-taken.new.self.line _ _ _
     c.take_lines-taken.ensures.ok c.take_lines-taken.ensures.err)
     c.in-Err.ensures.err.1
     (c.loop-at.invariant.reached before input r)))
@@ -42,9 +42,9 @@ loop-at-preserved g c =
       within = within_more block at n c.loop-at.invariant.within c.in-Ok-taken.ensures.bound;
       none_wait = c.in-Ok.ensures.none_wait;
       reached = λ before input r.
-          subst (λ v. Reached before (g.W.ScriptOut.taken c.send.new.writer) c.take_lines-taken.new.self.session c.take_lines-taken.new.self.line v)
+          subst (λ v. RunState before (g.W.ScriptOut.taken c.send.new.writer) c.take_lines-taken.new.self.session c.take_lines-taken.new.self.line v)
           (part_is input block at n)
-          (Reached-sent before (g.W.ScriptOut.taken c.loop-at.writer) (g.W.ScriptOut.taken c.send.new.writer)
+          (RunState-sent before (g.W.ScriptOut.taken c.loop-at.writer) (g.W.ScriptOut.taken c.send.new.writer)
           c.loop-at.self.session c.take_lines-taken.new.self.session c.loop-at.self.line c.take_lines-taken.new.self.line
           (input ++ take at block) _ _
           c.in-Ok-taken.ensures.ok c.in-Ok.ensures.ok

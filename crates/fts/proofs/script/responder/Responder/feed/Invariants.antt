@@ -1,6 +1,6 @@
 use Rattle.std.proofs.Common.{length, ◌-◌, ◌+◌, ◌≤◌, ◌≡◌, ◌++◌, take, [], List, ℕ, string_bytes}
 use Rattle.fts.specs.Streams.{GainsTaken}
-use Rattle.fts.specs.Runs.{Reached}
+use Rattle.fts.specs.Runs.{RunState}
 use Rattle.fts.proofs.script.responder.Responder.feed.Given as goal
 
 abbrev pub invariant-loop-at : goal.invariant-loop-at
@@ -8,8 +8,8 @@ invariant-loop-at g l = record {
   within : l.at ≤ length l.piece;
   none_wait : string_bytes l.self.replies ≡ [];
   reached : (before input : List ℕ) →
-      Reached before (g.W.ScriptOut.taken l.fn.writer) l.fn.self.session l.fn.self.line input →
-      Reached before (g.W.ScriptOut.taken l.writer) l.self.session l.self.line (input ++ take l.at l.piece);
+      RunState before (g.W.ScriptOut.taken l.fn.writer) l.fn.self.session l.fn.self.line input →
+      RunState before (g.W.ScriptOut.taken l.writer) l.self.session l.self.line (input ++ take l.at l.piece);
   counted : l.self.session.number ≤ l.fn.self.session.number + l.at;
   held : GainsTaken (g.W.ScriptOut.taken l.fn.writer) (g.W.ScriptOut.taken l.writer) (g.W.ScriptOut.held l.fn.writer) (g.W.ScriptOut.held l.writer);
   failed : g.W.ScriptOut.failed l.fn.writer ≤ g.W.ScriptOut.failed l.writer;

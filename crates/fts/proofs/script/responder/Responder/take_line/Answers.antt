@@ -1,10 +1,10 @@
 use Rattle.std.proofs.Common.{[], ◌++◌, ◌∙◌, ap, append_assoc, append-nil, drop, take, take-append-drop, length, subst, sym, arith, string_bytes}
 use Rattle.std.proofs.lemmas.List.{take_all}
 use Rattle.fts.specs.Text.{lines_of}
-use Rattle.fts.specs.Runs.{IsWritten, Leads}
+use Rattle.fts.specs.Runs.{IsWritten, Advances}
 use Rattle.fts.proofs.BlankLemmas.{IsWritten-front}
 use Rattle.fts.proofs.LineLemmas.{HasNoEnd-append, HasNoEnd-before, HasNoEnd-none, take-ended}
-use Rattle.fts.proofs.RunLemmas.{Leads-ended, Leads-unended, on_err}
+use Rattle.fts.proofs.RunLemmas.{Advances-ended, Advances-unended, on_err}
 use Rattle.fts.proofs.script.responder.Responder.take_line.Goals as goal
 
 pub returns-in_ok-end_line-in-Some-clause-ok : goal.returns-in_ok-end_line-in-Some-clause-ok
@@ -12,9 +12,9 @@ returns-in_ok-end_line-in-Some-clause-ok g c =
     let bytes = c.args.bytes.now in
     let waited = string_bytes c.args.self.now.replies in
     let waits = string_bytes c.end_line.new.self.replies in
-    subst (λ v. Leads c.args.self.now.session c.end_line.new.self.session c.args.self.now.line c.end_line.new.self.line v waited waits)
+    subst (λ v. Advances c.args.self.now.session c.end_line.new.self.session c.args.self.now.line c.end_line.new.self.line v waited waits)
     (sym (take-ended bytes c.in-Some.end c.in-Some.ensures))
-    (Leads-ended c.args.self.now.session c.end_line.new.self.session c.args.self.now.line c.end_line.new.self.line (take c.in-Some.end bytes) waited waits
+    (Advances-ended c.args.self.now.session c.end_line.new.self.session c.args.self.now.line c.end_line.new.self.line (take c.in-Some.end bytes) waited waits
     (HasNoEnd-before bytes c.in-Some.end c.in-Some.ensures)
     c.in_ok-end_line-in-Some.ensures.reply
     c.in_ok-end_line-in-Some.ensures.script
@@ -24,9 +24,9 @@ pub returns-in_ok-grow-in-None-clause-ok : goal.returns-in_ok-grow-in-None-claus
 returns-in_ok-grow-in-None-clause-ok g c =
     let bytes = c.args.bytes.now in
     let waits = string_bytes c.args.self.now.replies in
-    subst (λ v. Leads c.args.self.now.session c.args.self.now.session c.args.self.now.line c.grow.new.self v waits waits)
+    subst (λ v. Advances c.args.self.now.session c.args.self.now.session c.args.self.now.line c.grow.new.self v waits waits)
     (sym (take_all (length bytes) bytes (omega arith)))
-    (Leads-unended c.args.self.now.session c.args.self.now.line c.grow.new.self bytes waits
+    (Advances-unended c.args.self.now.session c.args.self.now.line c.grow.new.self bytes waits
     (HasNoEnd-none bytes c.in-None.ensures)
     c.in_ok-grow-in-None.ensures.ok)
 

@@ -1,12 +1,12 @@
 use Rattle.std.proofs.Common.{length, ◌-◌, ◌+◌, ◌≤◌, ◌≡◌, take, [], string_bytes}
-use Rattle.fts.specs.Runs.{Leads}
+use Rattle.fts.specs.Runs.{Advances}
 use Rattle.fts.proofs.script.responder.Responder.take_lines.Given as goal
 
 abbrev pub invariant-loop-at : goal.invariant-loop-at
 invariant-loop-at g l = record {
   within : l.at ≤ length l.bytes;
   started : l.at ≡ 0 → string_bytes l.self.replies ≡ [];
-  leads : Leads l.fn.self.session l.self.session l.fn.self.line l.self.line (take l.at l.bytes) [] (string_bytes l.self.replies);
+  leads : Advances l.fn.self.session l.self.session l.fn.self.line l.self.line (take l.at l.bytes) [] (string_bytes l.self.replies);
   counted : l.self.session.number ≤ l.fn.self.session.number + l.at;
 }
 
