@@ -6,6 +6,7 @@ pub mod DocumentsLemmas
 pub mod FieldLemmas
 pub mod LaneLemmas
 pub mod LongListLemmas
+pub mod NumbersLemmas
 pub mod PackingLemmas
 pub mod SumLemmas
 pub mod VectorLemmas

@@ -6,6 +6,7 @@ pub mod Documents
 pub mod Lanes
 pub mod ListSource
 pub mod LongList
+pub mod Numbers
 pub mod Repr
 pub mod Signed
 pub mod SourceLaws

@@ -115,6 +115,20 @@ fn at_place(words: &[u32], width: u32, place: usize) -> u32x4
     across(low, load(words, word + 1), shift, width)
 }
 
+/// The number at the index of the 128 numbers of `width` bits that lie in the words.
+#[inline]
+pub(crate) fn read(words: &[u32], width: u32, index: usize) -> u32
+    requires narrow { width ≤ 32 }
+    requires near { index < 128 }
+    requires room { 4 * width ≤ length words.now }
+    ensures { result ≡ slice_index (numbers_in_lanes width words.now) index }
+{
+    if width == 0 {
+        return 0;
+    }
+    at_place(words, width, index / 4)[index % 4]
+}
+
 #[inline(always)]
 fn step(words: &[u32], width: u32, place: usize, out: &mut [u32; 128])
     requires narrow { width ≤ 32 }

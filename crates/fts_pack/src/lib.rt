@@ -1,4 +1,4 @@
-// Numbers packed in words: blocks of up to 128 numbers, rising lists of documents, columns of values, one bit a document.
+// Numbers packed in words: blocks of up to 128 numbers and lists of such blocks, rising lists of documents, columns of values, one bit a document.
 #![tactic(auto)]
 
 mod bits;
@@ -11,6 +11,7 @@ pub mod laws;
 mod list;
 mod list_source;
 mod long_list;
+mod numbers;
 mod packing;
 mod signed;
 mod skip;
@@ -24,4 +25,5 @@ pub use blocks::Blocks;
 pub use column::{Column, Stretch};
 pub use list::List;
 pub use list_source::ListSource;
+pub use numbers::Numbers;
 pub use signed::{i64_to_u64, u64_to_i64};

@@ -21,6 +21,7 @@ use Rattle.fts_segment.specs.Entries.{occurrence_of, occurrences_of, AreNamed}
 use Rattle.fts_segment.specs.Groups.{is_of, place, places_of}
 use Rattle.fts_segment.specs.Occurrences.{is_term, docs_of, docs_with}
 use Rattle.fts_segment.specs.Positions.{place_of, places_with, runs_of, runs_with}
+use Rattle.fts_segment.specs.Runs.{IsRun}
 use Rattle.fts_segment.specs.Sorted.{Ascends}
 use Rattle.fts_segment.specs.Indexes.{occurs, docs_in, IsIndexOf, unless_none, names_listed, listed_by}
 use Rattle.fts_segment.proofs.TermsLemmas.{one_place}
@@ -209,15 +210,29 @@ IsIndexOf-listed names log groups order apart named moved up grouped =
           subst R (sym is) (contains_at (occurs os) (map name_of order) name.0 q name.1 name.2 occurring);
     }
 
+-- each group has the places of its name
+placed : (names : List (List ℕ)) (log : List Entry) (groups : List (List Place)) (order : List Numbered) → IsDistinct bytes_eq names → AreNamed names log →
+    IsPermutation (enumerate_from 0 names) (map shown order) → ((t : ℕ) → t < length names → get_or groups t [] ≡ places_of t log) →
+    (k : ℕ) (d : Numbered) → k < length order → get_or groups (get_or order k d).1 [] ≡ places_with (get_or order k d).0.now (occurrences_of names log)
+placed names log groups order apart named moved grouped k d within =
+    let Right : ℕ × List ℕ → Type 0 = λ e. get_or groups e.0 [] ≡ places_with e.1 (occurrences_of names log) in
+    subst Right (get_or-map shown order k d (shown d) within)
+    (grouped_right names log groups (map shown order) apart named (right_numbers names (map shown order) moved) grouped k (shown d) (rw (length-map order shown) within))
+
 -- the documents of each group rise
 pub lists_rise : (names : List (List ℕ)) (log : List Entry) (groups : List (List Place)) (order : List Numbered) → IsDistinct bytes_eq names → AreNamed names log →
     IsPermutation (enumerate_from 0 names) (map shown order) → ((t : ℕ) → t < length names → get_or groups t [] ≡ places_of t log) →
     ((q : List ℕ) → IsStrictlyIncreasing (docs_with q (occurrences_of names log))) → All (λ e. IsStrictlyIncreasing (docs_in (get_or groups e.1 []))) order
 lists_rise names log groups order apart named moved grouped up k d within =
-    let os = occurrences_of names log in
-    let all = docs_right os groups (map shown order) (grouped_right names log groups (map shown order) apart named (right_numbers names (map shown order) moved) grouped) in
     let e = get_or order k d in
-    let Right : ℕ × List ℕ → Type 0 = λ e. map (λ (p : Place). p.doc) (get_or groups e.0 []) ≡ docs_of e.1 os in
-    let same : Right (shown e) = subst Right (get_or-map shown order k d (shown d) within) (all k (shown d) (rw (length-map order shown) within)) in
     let P : List ℕ → Type 0 = λ ns. IsStrictlyIncreasing ns in
-    subst P (sym (ap (dedup nat_eq) same)) (up e.0.now)
+    let same = placed names log groups order apart named moved grouped k d within in
+    subst P (sym (ap (λ (ps : List Place). dedup nat_eq (map (λ (p : Place). p.doc) ps)) same ∙ ap (dedup nat_eq) (docs_with_places e.0.now (occurrences_of names log)))) (up e.0.now)
+
+-- and its positions are runs
+pub lists_run : (names : List (List ℕ)) (log : List Entry) (groups : List (List Place)) (order : List Numbered) → IsDistinct bytes_eq names → AreNamed names log →
+    IsPermutation (enumerate_from 0 names) (map shown order) → ((t : ℕ) → t < length names → get_or groups t [] ≡ places_of t log) →
+    ((q : List ℕ) → All IsRun (runs_with q (occurrences_of names log))) → All (λ e. All IsRun (runs_of (get_or groups e.1 []))) order
+lists_run names log groups order apart named moved grouped runs k d within =
+    let P : List Place → Type 0 = λ ps. All IsRun (runs_of ps) in
+    subst P (sym (placed names log groups order apart named moved grouped k d within)) (runs (get_or order k d).0.now)

@@ -8,7 +8,10 @@ pub mod GroupsLemmas
 pub mod HoldingLemmas
 pub mod IndexLemmas
 pub mod SegmentLemmas
+pub mod StoredLemmas
 pub mod FieldLemmas
 pub mod NumberLemmas
 pub mod RunsLemmas
+pub mod PackedLemmas
+pub mod TokenLemmas
 pub mod PositionsLemmas

@@ -16,14 +16,16 @@ use Rattle.fts_model.specs.Documents.{DocumentValue, value_in_field}
 use Rattle.fts_model.specs.Operations.{has, field_has}
 use Rattle.fts_segment.specs.declared.grouping.Place.{Place}
 use Rattle.fts_segment.specs.declared.term_index.TermIndex.{TermIndex}
-use Rattle.fts_segment.specs.Occurrences.{Occurrence, occurrence_at, occurrences_at, occurrences, is_token, is_term, tokens_of, holds, values_in}
+use Rattle.fts_segment.specs.Occurrences.{Occurrence, occurrence_at, occurrences_at, occurrences, is_token, is_term, tokens_of, holds, values_in, HasFewTokens}
 use Rattle.fts_segment.specs.Segments.{SegmentValue, numbers_where, positions_among, document_tokens, positions, positions_of}
 use Rattle.fts_segment.specs.Positions.{place_of, places_with, runs_of, runs_with, value_runs}
 use Rattle.fts_segment.specs.TermRuns.{term_runs}
+use Rattle.fts_segment.specs.Runs.{IsRun}
 use Rattle.fts_segment.specs.FieldIndexes.{AreTerms}
 use Rattle.fts_segment.proofs.HoldingLemmas.{from_first, numbers_where-cons}
 use Rattle.fts_segment.proofs.RunsLemmas.{place_at, run_first}
 use Rattle.fts_segment.proofs.SegmentLemmas.{found_runs}
+use Rattle.fts_segment.proofs.TokenLemmas.{IsRun-tokens}
 use Rattle.fts_segment.proofs.FieldLemmas.{holds-tokens, field_at, field_holds}
 
 -- the places of a term in a document are the positions of its tokens
@@ -66,6 +68,15 @@ runs_with-occurrences q kind doc (v ∷ vs) =
     ∙ ap (λ b. cond b (ns ∷ runs_of rest) (runs_of rest)) (some_token q (tokens_of kind v) ∙ holds-tokens kind q v)
     ∙ ap (λ rs. cond (holds kind (values.Text q) v) (ns ∷ rs) rs) (runs_with-occurrences q kind (doc + 1) vs)
     ∙ sym (map_filter-cons f (holds kind (values.Text q)) v vs)
+
+-- so they are runs
+pub AreRuns-occurrences : (q : List ℕ) (kind : Kind) (vs : List (Option FieldValue)) → All (HasFewTokens kind) vs → All IsRun (runs_with q (occurrences kind 0 vs))
+AreRuns-occurrences q kind vs few =
+    let P : List (List ℕ) → Type 0 = All IsRun in
+    let p : Option FieldValue → Bool = holds kind (values.Text q) in
+    let f : Option FieldValue → List ℕ = λ v. positions_among q (tokens_of kind v) in
+    subst P (sym (runs_with-occurrences q kind 0 vs))
+    (All-map IsRun f (filter p vs) (All-filter p (λ v. IsRun (f v)) vs (All-weaker (HasFewTokens kind) (λ v. IsRun (f v)) (λ v few. IsRun-tokens q kind v few) vs few)))
 
 -- a term has the positions that its documents have
 pub runs_found : {kind : Kind} {vs : List (Option FieldValue)} {index : TermIndex} (text : List ℕ) (i : ℕ) → AreTerms kind vs index → slice_get index.names i ≡ Some text →

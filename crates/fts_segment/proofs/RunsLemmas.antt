@@ -1,11 +1,12 @@
 -- The positions of places, a run for each document.
-use Rattle.std.proofs.Common.{◌≡◌, ◌+◌, ◌<◌, ◌==◌, ℕ, suc, Bool, true, false, cond, List, [], ◌∷◌, ◌++◌, map, length, get_or, drop, refl, sym, ap, subst, ◌∙◌, inl, inr, arith, All, append_assoc, append-nil, nat_lt}
+use Rattle.std.proofs.Common.{◌≡◌, ◌+◌, ◌<◌, ◌≤◌, ◌==◌, ℕ, suc, Bool, true, false, cond, List, [], ◌∷◌, ◌++◌, map, length, get_or, drop, refl, sym, ap, subst, ◌∙◌, inl, inr, arith, All, append_assoc, append-nil, nat_lt}
 use Rattle.std.proofs.lemmas.Bool.{cases_Bool, eqb-true}
 use Rattle.std.proofs.lemmas.Bool.Decides.{nat_tests}
-use Rattle.std.proofs.lemmas.List.{drop_more}
-use Rattle.std.proofs.lemmas.List.Elements.{All-head}
+use Rattle.std.proofs.lemmas.List.{drop_more, drop_all}
+use Rattle.std.proofs.lemmas.List.Elements.{All-head, All-tail}
 use Rattle.fts_segment.specs.declared.grouping.Place.{Place}
 use Rattle.fts_segment.specs.Positions.{runs_from, runs_of}
+use Rattle.fts_segment.specs.Runs.{IsRun}
 
 -- the next place
 pub runs-step : (whole runs after : List (List ℕ)) (doc : ℕ) (run next : List ℕ) (places : List Place) (i : ℕ) (d p : Place) → i < length places → p ≡ get_or places i d →
@@ -21,6 +22,33 @@ runs-step whole runs after doc run next places i d p within here put grown so_fa
     ] in
     ap (λ rs. rs ++ runs_from p.doc next ps) put ∙ ap (λ r. (runs ++ cond (p.doc == doc) [] (run ∷ [])) ++ runs_from p.doc r ps) grown
     ∙ step ∙ ap (λ xs. runs ++ runs_from doc run xs) (sym first) ∙ so_far
+
+-- the runs that are still to come are runs
+pub AreRuns-step : (doc : ℕ) (run next : List ℕ) (places : List Place) (i : ℕ) (d p : Place) → i < length places → p ≡ get_or places i d → next ≡ cond (p.doc == doc) run [] ++ p.position ∷ [] →
+    All IsRun (runs_from doc run (drop i places)) → ((p.doc ≡ doc → ⊥) → IsRun run) × All IsRun (runs_from p.doc next (drop (i + 1) places))
+AreRuns-step doc run next places i d p within here grown all =
+    let ps = drop (i + 1) places in
+    let first : drop i places ≡ p ∷ ps = drop_more places i d within ∙ ap (λ x. x ∷ ps) (sym here) in
+    let P : List (List ℕ) → Type 0 = All IsRun in
+    let Q : List ℕ → Type 0 = λ r. All IsRun (runs_from p.doc r ps) in
+    let Both : Bool → Type 0 = λ b. P (cond b (runs_from doc (run ++ p.position ∷ []) ps) (run ∷ runs_from p.doc (p.position ∷ []) ps)) →
+    ((p.doc ≡ doc → ⊥) → IsRun run) × Q (cond b run [] ++ p.position ∷ []) in
+    let both : Both (p.doc == doc) = elim (cases_Bool (p.doc == doc)) [
+      | inl same ↦ subst Both (sym same) (λ h. (
+        λ other. absurd (other (eqb-true p.doc doc same)),
+        (let R : ℕ → Type 0 = λ n. All IsRun (runs_from n (run ++ p.position ∷ []) ps) in subst R (sym (eqb-true p.doc doc same)) h),
+      ))
+      | inr other ↦ subst Both (sym other) (λ h. (
+        λ apart. All-head IsRun run (runs_from p.doc (p.position ∷ []) ps) h,
+        All-tail IsRun run (runs_from p.doc (p.position ∷ []) ps) h,
+      ))
+    ] in
+    let known = both (subst (λ (xs : List Place). All IsRun (runs_from doc run xs)) first all) in
+    (known.0, subst Q (sym grown) known.1)
+
+pub AreRuns-end : (doc : ℕ) (run : List ℕ) (places : List Place) (i : ℕ) → length places ≤ i → All IsRun (runs_from doc run (drop i places)) → IsRun run
+AreRuns-end doc run places i past all =
+    All-head IsRun run [] (subst (λ (xs : List Place). All IsRun (runs_from doc run xs)) (drop_all i places past) all)
 
 -- a place of a document
 abbrev pub place_at : ℕ → ℕ → Place

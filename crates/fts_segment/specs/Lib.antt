@@ -10,6 +10,10 @@ pub mod Indexes
 pub mod Numbers
 pub mod NumberLogs
 pub mod FieldIndexes
+pub mod Stored
+pub mod Runs
+pub mod RunLogs
+pub mod PositionLogs
 pub mod TermRuns
 pub mod ListIds
 pub mod PositionsLeft

@@ -1,5 +1,5 @@
 -- The tokens of the values of a field, one document after the other.
-use Rattle.std.specs.Prelude.{ℕ, ◌+◌, Bool, false, List, [], ◌∷◌, ◌++◌, map, filter, nat_eq, Option, Some, None}
+use Rattle.std.specs.Prelude.{ℕ, ◌+◌, ◌^◌, ◌<◌, length, Bool, false, List, [], ◌∷◌, ◌++◌, map, filter, nat_eq, Option, Some, None}
 use Rattle.std.specs.List.{dedup}
 use Rattle.std.specs.Str.{bytes_eq}
 use Rattle.fts_text.specs.Tokens.{tokens}
@@ -31,6 +31,10 @@ value_tokens kind value = []
 abbrev pub tokens_of : Kind → Option FieldValue → List (ℕ × List ℕ)
 tokens_of kind None = []
 tokens_of kind (Some value) = value_tokens kind value
+
+-- 32 bits count the tokens
+abbrev pub HasFewTokens : Kind → Option FieldValue → Type 0
+HasFewTokens kind value = length (tokens_of kind value) < 2 ^ 32
 
 -- the occurrences of a document's value
 abbrev pub occurrences_at : Kind → ℕ → Option FieldValue → List Occurrence

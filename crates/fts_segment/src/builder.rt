@@ -4,10 +4,11 @@ ghost use Rattle.fts_segment.specs.FieldIndexes.{AreIndexes};
 ghost use Rattle.fts_model.specs.declared.refusal.Refusal.TheVariants.{Memory, SegmentFull};
 
 use crate::field_index::FieldIndex;
-use crate::segment::Segment;
+use crate::segment::{Segment, Stored};
 use fts_model::{Document, Refusal, Schema, Stamp, Stamped};
 use std::alloc::{AllocError, Global};
 use std::marker::Model;
+use std::sync::Arc;
 
 /// The most documents of a segment that is built of new ones.
 const MOST_DOCUMENTS: usize = 65_536;
@@ -101,13 +102,33 @@ impl Builder {
                 let Builder {
                     schema,
                     documents,
-                    merging: _,
+                    merging,
                 } = self;
-                Ok(Segment {
-                    schema,
-                    documents,
-                    indexes,
-                })
+                match Arc::new(
+                    alloc,
+                    Stored {
+                        schema,
+                        documents,
+                        indexes,
+                    },
+                ) {
+                    Ok(stored) => Ok(Segment { stored }),
+                    Err(refused) => {
+                        let Stored {
+                            schema,
+                            documents,
+                            indexes: _,
+                        } = refused.value;
+                        Err((
+                            Builder {
+                                schema,
+                                documents,
+                                merging,
+                            },
+                            Refusal::Memory,
+                        ))
+                    }
+                }
             }
         }
     }

@@ -2,7 +2,8 @@
 //!
 //! A [`Builder`] takes documents one after the other and makes a [`Segment`] of them. The segment numbers its documents from
 //! 0, and finds the list of a term ([`Segment::find`]): the documents that have it ([`Segment::postings`]), and where it stands
-//! in each ([`Segment::positions`]). Of a number field it has a column ([`Segment::column`]).
+//! in each ([`Segment::positions`]). Of a number field it has a column ([`Segment::column`]). A copy of a segment shares it,
+//! so that commits, merges and searches hand segments on at the cost of one count.
 //!
 //! ```text
 //! let mut builder = Builder::new(alloc, &schema)?;
@@ -19,6 +20,7 @@ mod field_index;
 mod find;
 mod grouping;
 pub mod laws;
+mod listing;
 mod names;
 mod number_index;
 mod numbering;

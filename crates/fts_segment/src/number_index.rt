@@ -11,8 +11,8 @@ ghost use Rattle.fts_segment.specs.NumberLogs.{NumberLog};
 
 use crate::find::find_number;
 use crate::grouping::Groups;
+use crate::listing::set_docs;
 use crate::segment::ListId;
-use crate::term_index::set_docs;
 use crate::term_log::Entry;
 use fts_model::{Document, FieldValue, Kind, Number, Stamped};
 use fts_pack::{Column, List, i64_to_u64};

@@ -1,9 +1,9 @@
 // Puts the tokens of a field into a log, document by document.
-ghost use Rattle.std.specs.Prelude.{◌≡◌, ◌<◌, ◌≤◌, ◌++◌, ◌∷◌, [], ◌^◌, length, OnOk, IfOk, map, IfSome, option_copied};
+ghost use Rattle.std.specs.Prelude.{◌≡◌, ◌<◌, ◌≤◌, ◌++◌, ◌∷◌, [], ◌^◌, length, OnOk, IfOk, All, map, IfSome, option_copied};
 ghost use Rattle.fts_text.specs.Places.{IsPlaceIn, token_at};
 ghost use Rattle.fts_model.specs.Shorts.{IsShort};
 ghost use Rattle.fts_model.specs.declared.schema.Kind.TheVariants.{Text};
-ghost use Rattle.fts_segment.specs.Occurrences.{occurrence_at, occurrences_at, occurrences, values_in};
+ghost use Rattle.fts_segment.specs.Occurrences.{occurrence_at, occurrences_at, occurrences, values_in, HasFewTokens};
 ghost use Rattle.fts_text.specs.Tokens.{tokens};
 
 use crate::term_log::TermLog;
@@ -31,7 +31,8 @@ fn push_token(
 // Puts the tokens of a document's text behind the occurrences so far.
 fn push_tokens(log: &mut TermLog, term: &mut String, doc: u32, text: &str) -> Result<(), AllocError>
     requires { length text.now < 2 ^ 32 }
-    ensures { OnOk result (log.new ≡ log.old ++ map (occurrence_at doc) (tokens text.now)) }
+    ensures logged { OnOk result (log.new ≡ log.old ++ map (occurrence_at doc) (tokens text.now)) }
+    ensures few { length (tokens text.now) < 2 ^ 32 }
 {
     for token in Tokens::new(text) {
         push_token(log, term, doc, text, token)?;
@@ -48,7 +49,8 @@ fn push_value(
     value: Option<&FieldValue>,
 ) -> Result<(), AllocError>
     requires { IfSome value (λ v. IsShort v.now) }
-    ensures { OnOk result (log.new ≡ log.old ++ occurrences_at kind doc (option_copied value.entry)) }
+    ensures logged { OnOk result (log.new ≡ log.old ++ occurrences_at kind doc (option_copied value.entry)) }
+    ensures few { HasFewTokens kind (option_copied value.entry) }
 {
     match (kind, value) {
         (Kind::Text, Some(FieldValue::Text(text))) => push_tokens(log, term, doc, text.as_str()),
@@ -65,7 +67,8 @@ pub(crate) fn logged(
     kind: Kind,
 ) -> Result<TermLog, AllocError>
     requires { length documents.now ≤ 2 ^ 32 }
-    ensures { IfOk result (λ log. log ≡ occurrences kind 0 (values_in field documents.now)) }
+    ensures logged { IfOk result (λ log. log ≡ occurrences kind 0 (values_in field documents.now)) }
+    ensures few { OnOk result (All (HasFewTokens kind) (values_in field documents.now)) }
 {
     let mut log = TermLog::new(alloc);
     let mut term = String::new(alloc);

@@ -1,20 +1,53 @@
-// The positions of a term in a document, one after the other.
+// The positions of a term in a document, read from their differences one after the other.
+ghost use Rattle.std.specs.Prelude.{◌≤◌, ◌<◌, ◌^◌, All, length, slice_range};
+ghost use Rattle.fts_pack.specs.Documents.{documents_at};
+ghost use Rattle.fts_segment.specs.Runs.{numbers_behind};
+
+use fts_pack::Numbers;
 
 /// The positions of a term in a document, rising.
 #[derive(Drop)]
 pub struct Positions<'a> {
-    rest: &'a [u32],
+    /// Where the differences lie, if there are any.
+    gaps: Option<&'a Numbers>,
+    at: usize,
+    end: usize,
+    /// The least that the next position may be.
+    next: u64,
+    ghost few: { end < 2 ^ 64 },
+    ghost within: { end ≤ length (numbers_behind gaps) },
+    ghost fit: { All (λ p. p < 2 ^ 32) (documents_at next (slice_range (numbers_behind gaps) at end)) },
 }
 
 impl<'a> Positions<'a> {
-    ghost use Rattle.std.specs.Prelude.{◌≡◌};
+    ghost use Rattle.std.specs.Prelude.{◌≡◌, ◌<◌, ◌≤◌, ◌^◌, [], All, length, slice_range};
+    ghost use Rattle.fts_pack.specs.Documents.{documents_at};
     ghost use Rattle.fts_segment.specs.PositionsLeft.{positions_left};
 
-    /// These positions.
-    pub(crate) fn of(positions: &'a [u32]) -> Positions<'a>
-        ensures { positions_left result ≡ positions.now }
+    /// None.
+    pub(crate) fn none() -> Positions<'a>
+        ensures { positions_left result ≡ [] }
     {
-        Positions { rest: positions }
+        Positions {
+            gaps: None,
+            at: 0,
+            end: 0,
+            next: 0,
+        }
+    }
+
+    /// Those whose differences these numbers are.
+    pub(crate) fn between(gaps: &'a Numbers, start: usize, end: usize) -> Positions<'a>
+        requires within { end ≤ length gaps.now }
+        requires fit { All (λ p. p < 2 ^ 32) (documents_at 0 (slice_range gaps.now start end)) }
+        ensures { positions_left result ≡ documents_at 0 (slice_range gaps.now start end) }
+    {
+        Positions {
+            gaps: Some(gaps),
+            at: start,
+            end,
+            next: 0,
+        }
     }
 }
 
@@ -29,12 +62,13 @@ impl Iterator for Positions<'_> {
     ghost remaining = { item_count positions_left };
 
     fn next(&mut self) -> Option<u32> {
-        match self.rest {
-            [] => None,
-            [first, rest @ ..] => {
-                self.rest = rest;
-                Some(*first)
-            }
+        let gaps = self.gaps?;
+        if self.at >= self.end {
+            return None;
         }
+        let position = self.next + u64::from(gaps.get(self.at));
+        self.at += 1;
+        self.next = position + 1;
+        Some(position as u32)
     }
 }

@@ -1,78 +1,158 @@
-// Runs of positions, one behind the other in one buffer.
-ghost use Rattle.std.specs.Prelude.{◌≡◌, ◌<◌, ◌++◌, ◌∷◌, [], length, OnOk, OnErr, slice_index_or};
+// Runs of positions, packed: how many each has, and of each the first position and then differences less 1.
+ghost use Rattle.std.specs.Prelude.{◌≡◌, ◌<◌, ◌++◌, ◌∷◌, ◌^◌, ◌%◌, ◌==◌, [], IfOk, OnOk, cond, length, slice_index_or, sum};
+ghost use Rattle.fts_pack.specs.Documents.{gaps};
+ghost use Rattle.fts_segment.specs.Runs.{IsRun};
+ghost use Rattle.fts_segment.specs.RunLogs.{IsRunLog, logged_runs};
+ghost use Rattle.fts_segment.specs.PositionsLeft.{positions_left};
 
-use crate::names::start_of;
+use crate::positions::Positions;
+use fts_pack::{BLOCK, Numbers};
 use std::alloc::{AllocError, Global};
 use std::marker::Model;
 
 /// The positions of postings, a run for each. Contracts see the list of the runs.
+///
+/// A run is found by adding the counts of at most 127 others, and no position of another is unpacked.
 #[derive(Drop)]
 pub(crate) struct Runs {
-    positions: Vec<u32>,
-    /// Where each run ends.
-    ends: Vec<usize>,
+    /// How many positions each run has.
+    counts: Numbers,
+    /// Where the positions of the first of each 128 runs begin.
+    starts: Vec<usize>,
+    /// Of each run its first position, and then how far each one is above the one before, less 1.
+    gaps: Numbers,
 }
 
 impl Model for Runs {
-    ghost use Rattle.std.specs.Prelude.{List, ℕ, length};
-    ghost use Rattle.fts_segment.specs.Pieces.{pieces, AreEnds};
+    ghost use Rattle.std.specs.Prelude.{List, ℕ};
+    ghost use Rattle.fts_segment.specs.Runs.{runs_at, ArePacked};
 
     ghost Value = { List (List ℕ) };
 
-    ghost view = { λ n. pieces 0 n.positions.items n.ends.items };
+    ghost view = { λ r. runs_at r.counts r.gaps };
 
-    ghost invariant = { λ n. AreEnds 0 n.ends.items (length n.positions.items) };
+    ghost invariant = { λ r. ArePacked r.counts r.starts.items r.gaps };
 }
 
 impl Runs {
-    /// No runs.
-    pub(crate) fn new(alloc: Global) -> Runs
-        ensures { result ≡ [] }
+    /// Packs the runs of a log.
+    pub(crate) fn build(alloc: Global, log: RunLog) -> Result<Runs, AllocError>
+        requires { IsRunLog log }
+        ensures { IfOk result (λ runs. runs ≡ logged_runs log) }
     {
-        Runs {
-            positions: Vec::new(alloc),
-            ends: Vec::new(alloc),
+        let Ok(counts) = Numbers::build(alloc, &log.counts) else {
+            return Err(AllocError);
+        };
+        let Ok(gaps) = Numbers::build(alloc, &log.gaps) else {
+            return Err(AllocError);
+        };
+        Ok(Runs {
+            counts,
+            starts: log.starts,
+            gaps,
+        })
+    }
+
+    /// The run of this number, and no positions where there is none.
+    pub(crate) fn get(&self, number: usize) -> Positions<'_>
+        ensures { positions_left result ≡ slice_index_or self.now number [] }
+    {
+        if number >= self.counts.len() {
+            return Positions::none();
+        }
+        self.run(number)
+    }
+
+    fn run(&self, number: usize) -> Positions<'_>
+        requires { number < length self.now }
+        ensures { positions_left result ≡ slice_index_or self.now number [] }
+    {
+        let (block, place) = (number / BLOCK, number % BLOCK);
+        let mut counts = [0; BLOCK];
+        self.counts.open(block, &mut counts);
+        let start = self.starts[block] + total(&counts[..place]);
+        let end = start + counts[place] as usize;
+        Positions::between(&self.gaps, start, end)
+    }
+}
+
+// The sum of the numbers.
+fn total(numbers: &[u32]) -> usize
+    requires { sum numbers.now < 2 ^ 64 }
+    ensures { result ≡ sum numbers.now }
+{
+    let mut total = 0;
+    for number in numbers {
+        total += *number as usize;
+    }
+    total
+}
+
+/// Runs as they come, as they are to be packed.
+#[derive(Drop)]
+pub(crate) struct RunLog {
+    pub(crate) counts: Vec<u32>,
+    pub(crate) starts: Vec<usize>,
+    pub(crate) gaps: Vec<u32>,
+}
+
+impl RunLog {
+    ghost use Rattle.std.specs.Prelude.{◌≡◌, ◌++◌, ◌∷◌, [], OnOk, length};
+    ghost use Rattle.fts_segment.specs.Runs.{IsRun};
+    ghost use Rattle.fts_segment.specs.RunLogs.{IsRunLog, logged_runs};
+
+    /// No runs.
+    pub(crate) fn new(alloc: Global) -> RunLog
+        ensures is { IsRunLog result }
+        ensures none { logged_runs result ≡ [] }
+    {
+        RunLog {
+            counts: Vec::new(alloc),
+            starts: Vec::new(alloc),
+            gaps: Vec::new(alloc),
         }
     }
 
     /// How many runs there are.
     pub(crate) fn len(&self) -> usize
-        ensures { result ≡ length self.now }
+        ensures { result ≡ length (logged_runs self.now) }
     {
-        self.ends.len()
-    }
-
-    /// The run of this number, and no positions where there is none.
-    pub(crate) fn get(&self, number: usize) -> &[u32]
-        ensures { result.now ≡ slice_index_or self.now number [] }
-    {
-        if number < self.ends.len() {
-            self.piece(number)
-        } else {
-            &[]
-        }
-    }
-
-    fn piece(&self, number: usize) -> &[u32]
-        requires { number < length self.now }
-        ensures { result.now ≡ slice_index_or self.now number [] }
-    {
-        let start = start_of(&self.ends, number);
-        let end = self.ends[number];
-        &self.positions[start..end]
+        self.counts.len()
     }
 
     /// Puts a run behind the others.
     pub(crate) fn push(&mut self, run: &[u32]) -> Result<(), AllocError>
-        ensures ok { OnOk result (self.new ≡ self.old ++ run.now ∷ []) }
-        ensures err { OnErr result (self.new ≡ self.old) }
+        requires is { IsRunLog self.old }
+        requires run { IsRun run.now }
+        ensures is { OnOk result (IsRunLog self.new) }
+        ensures pushed { OnOk result (logged_runs self.new ≡ logged_runs self.old ++ run.now ∷ []) }
     {
-        let len = self.positions.len();
-        self.positions.extend_from_slice(run)?;
-        if self.ends.push(self.positions.len()).is_err() {
-            self.positions.truncate(len);
-            return Err(AllocError);
-        }
+        push_start(&mut self.starts, self.counts.len(), self.gaps.len())?;
+        push_gaps(&mut self.gaps, run)?;
+        self.counts.push(run.len() as u32)?;
         Ok(())
     }
+}
+
+// Keeps where the positions of the next run begin, if it is the first of 128.
+fn push_start(starts: &mut Vec<usize>, runs: usize, start: usize) -> Result<(), AllocError>
+    ensures { OnOk result (starts.new.items ≡ starts.old.items ++ cond (runs % 128 == 0) (start ∷ []) []) }
+{
+    if runs % BLOCK == 0 {
+        starts.push(start)?;
+    }
+    Ok(())
+}
+
+// Puts a run's first position behind the numbers, and then how far each one is above the one before, less 1.
+fn push_gaps(numbers: &mut Vec<u32>, run: &[u32]) -> Result<(), AllocError>
+    requires { IsRun run.now }
+    ensures { OnOk result (numbers.new.items ≡ numbers.old.items ++ gaps 0 run.now) }
+{
+    let mut next = 0u64;
+    for position in run {
+        numbers.push((u64::from(*position) - next) as u32)?;
+        next = u64::from(*position) + 1;
+    }
+    Ok(())
 }

@@ -10,7 +10,9 @@ use crate::positions::Positions;
 use crate::term_positions::TermRuns;
 use fts_model::{Document, Schema, Stamp, Stamped, Term};
 use fts_pack::{Column, List};
+use std::alloc::AllocError;
 use std::marker::Model;
+use std::sync::Arc;
 
 /// The list of a term that a segment has.
 #[derive(Clone, Copy)]
@@ -19,12 +21,18 @@ pub struct ListId<'a> {
     pub(crate) positions: Option<TermRuns<'a>>,
 }
 
-/// Documents with their stamps, numbered from 0. Contracts see its schema and the documents.
+/// What a segment shares with its copies.
 #[derive(Drop)]
-pub struct Segment {
+pub(crate) struct Stored {
     pub(crate) schema: Schema,
     pub(crate) documents: Vec<Stamped<Document>>,
     pub(crate) indexes: Vec<FieldIndex>,
+}
+
+/// Documents with their stamps, numbered from 0. Contracts see its schema and the documents. A copy shares them.
+#[derive(Drop)]
+pub struct Segment {
+    pub(crate) stored: Arc<Stored>,
 }
 
 impl Model for Segment {
@@ -32,11 +40,11 @@ impl Model for Segment {
 
     ghost Value = { SegmentValue };
 
-    ghost use Rattle.fts_segment.specs.FieldIndexes.{AreIndexes};
+    ghost use Rattle.fts_segment.specs.Stored.{stored_value, IsStored};
 
-    ghost view = { λ s. record { schema = s.schema; documents = s.documents.items } };
+    ghost view = { stored_value };
 
-    ghost invariant = { λ s. AreIndexes s.schema s.documents.items s.indexes.items };
+    ghost invariant = { IsStored };
 }
 
 impl Segment {
@@ -44,14 +52,14 @@ impl Segment {
     pub fn schema(&self) -> &Schema
         ensures { result.now ≡ self.now.schema }
     {
-        &self.schema
+        &self.stored.schema
     }
 
     /// How many documents there are.
     pub fn docs(&self) -> usize
         ensures { result ≡ length self.now.documents }
     {
-        self.documents.len()
+        self.stored.documents.len()
     }
 
     /// The stamp of the document of this number.
@@ -59,7 +67,7 @@ impl Segment {
         requires { doc < length self.now.documents }
         ensures { option_map (λ d. d.stamp) (slice_get self.now.documents doc) ≡ Some result }
     {
-        self.documents[doc].stamp
+        self.stored.documents[doc].stamp
     }
 
     /// The document of this number.
@@ -67,7 +75,7 @@ impl Segment {
         requires { doc < length self.now.documents }
         ensures { option_map (λ d. d.value) (slice_get self.now.documents doc) ≡ Some result.now }
     {
-        &self.documents[doc].value
+        &self.stored.documents[doc].value
     }
 
     /// The list of a term, and none where no document has the term.
@@ -77,8 +85,9 @@ impl Segment {
         ensures documents { IfSome result (λ list. documents_in list ≡ postings self.now term.now) }
         ensures positions { IfSome result (λ list. positions_in list ≡ positions_of_term self.now term.now) }
     {
-        let index = self.indexes.get(term.field)?;
-        index.find(self.schema.kind(term.field), &term.value)
+        let stored: &Stored = &self.stored;
+        let index = stored.indexes.get(term.field)?;
+        index.find(stored.schema.kind(term.field), &term.value)
     }
 
     /// The numbers of the documents that have a term, rising.
@@ -94,8 +103,8 @@ impl Segment {
         ensures { positions_left result ≡ slice_index_or (positions_in list.entry) posting [] }
     {
         match list.positions {
-            Some(term) => Positions::of(term.get(posting)),
-            None => Positions::of(&[]),
+            Some(term) => term.get(posting),
+            None => Positions::none(),
         }
     }
 
@@ -104,6 +113,17 @@ impl Segment {
         requires { is_number_field self.now.schema field ≡ true }
         ensures { result.now ≡ column_of self.now field }
     {
-        self.indexes[field].column(self.schema.kind(field))
+        let stored: &Stored = &self.stored;
+        stored.indexes[field].column(stored.schema.kind(field))
+    }
+}
+
+impl Clone for Segment {
+    ghost is_clone = { λ segment copy. copy ≡ segment };
+
+    fn clone(&self) -> Result<Self, AllocError> {
+        Ok(Segment {
+            stored: Arc::try_clone(&self.stored)?,
+        })
     }
 }

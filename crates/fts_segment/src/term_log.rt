@@ -1,8 +1,9 @@
 // The occurrences of terms in documents, in the order in which they come.
 use crate::grouping::Groups;
+use crate::listing::listed;
 use crate::numbering::Numbering;
 use crate::sorting::sorted;
-use crate::term_index::{TermIndex, listed};
+use crate::term_index::TermIndex;
 use std::alloc::{AllocError, Global};
 use std::marker::Model;
 
@@ -35,10 +36,12 @@ impl Model for TermLog {
 }
 
 impl TermLog {
-    ghost use Rattle.std.specs.Prelude.{◌≡◌, ◌++◌, ◌∷◌, [], ℕ, List, OnOk, IfOk};
+    ghost use Rattle.std.specs.Prelude.{◌≡◌, ◌++◌, ◌∷◌, [], ℕ, List, All, OnOk, IfOk};
     ghost use Rattle.std.specs.List.Sorted.{IsStrictlyIncreasing};
     ghost use Rattle.fts_segment.specs.Occurrences.{docs_with};
     ghost use Rattle.fts_segment.specs.Indexes.{IsIndexOf};
+    ghost use Rattle.fts_segment.specs.Positions.{runs_with};
+    ghost use Rattle.fts_segment.specs.Runs.{IsRun};
     ghost use Rattle.fts_segment.specs.TermRuns.{term_runs};
 
     /// No occurrence.
@@ -66,7 +69,8 @@ impl TermLog {
 
     /// The terms that occur, in order, each with the list of its documents.
     pub(crate) fn index(&self, alloc: Global) -> Result<TermIndex, AllocError>
-        requires { (q : List ℕ) → IsStrictlyIncreasing (docs_with q self.now) }
+        requires rise { (q : List ℕ) → IsStrictlyIncreasing (docs_with q self.now) }
+        requires runs { (q : List ℕ) → All IsRun (runs_with q self.now) }
         ensures { IfOk result (λ index. IsIndexOf self.now index.names index.lists.items (term_runs index.positions)) }
     {
         let names = self.terms.names();

@@ -1,10 +1,13 @@
 // The positions of terms: for each a run of positions for each of its postings.
-ghost use Rattle.std.specs.Prelude.{◌≡◌, ◌<◌, ◌==◌, ◌++◌, ◌∷◌, [], cond, length, OnOk, slice_index_or};
+ghost use Rattle.std.specs.Prelude.{◌≡◌, ◌≢◌, ◌<◌, ◌==◌, ◌++◌, ◌∷◌, [], All, cond, length, IfOk, OnOk, slice_index_or};
 ghost use Rattle.fts_segment.specs.Positions.{runs_of};
+ghost use Rattle.fts_segment.specs.Runs.{IsRun};
+ghost use Rattle.fts_segment.specs.RunLogs.{IsRunLog, logged_runs};
 
 use crate::grouping::Place;
 use crate::names::start_of;
-use crate::runs::Runs;
+use crate::positions::Positions;
+use crate::runs::{RunLog, Runs};
 use std::alloc::{AllocError, Global};
 
 /// The positions of terms.
@@ -24,30 +27,20 @@ pub(crate) struct TermRuns<'a> {
 }
 
 impl TermPositions {
-    ghost use Rattle.std.specs.Prelude.{◌≡◌, ◌<◌, ◌++◌, ◌∷◌, [], length, OnOk, slice_index_or};
-    ghost use Rattle.fts_segment.specs.Positions.{runs_of};
-    ghost use Rattle.fts_segment.specs.TermRuns.{HasEnds, term_runs, runs_in};
+    ghost use Rattle.std.specs.Prelude.{◌≡◌, ◌<◌, [], IfOk, length, slice_index_or};
+    ghost use Rattle.fts_segment.specs.TermRuns.{term_runs, runs_in};
+    ghost use Rattle.fts_segment.specs.PositionLogs.{IsPositionLog, logged_term_runs};
 
-    /// Of no term.
-    pub(crate) fn new(alloc: Global) -> TermPositions
-        ensures ends { HasEnds result }
-        ensures none { term_runs result ≡ [] }
+    /// Packs the positions of a log.
+    pub(crate) fn build(alloc: Global, log: PositionLog) -> Result<TermPositions, AllocError>
+        requires { IsPositionLog log }
+        ensures { IfOk result (λ positions. term_runs positions ≡ logged_term_runs log) }
     {
-        TermPositions {
-            runs: Runs::new(alloc),
-            ends: Vec::new(alloc),
-        }
-    }
-
-    /// Puts the positions of a term behind those of the others. `run` is room for those of a posting.
-    pub(crate) fn push(&mut self, run: &mut Vec<u32>, places: &[Place]) -> Result<(), AllocError>
-        requires { HasEnds self.old }
-        ensures is { OnOk result (HasEnds self.new) }
-        ensures pushed { OnOk result (term_runs self.new ≡ term_runs self.old ++ runs_of places.now ∷ []) }
-    {
-        push_runs(&mut self.runs, run, places)?;
-        self.ends.push(self.runs.len())?;
-        Ok(())
+        let runs = Runs::build(alloc, log.runs)?;
+        Ok(TermPositions {
+            runs,
+            ends: log.ends,
+        })
     }
 
     /// The positions of the term of this number.
@@ -66,22 +59,62 @@ impl TermPositions {
 impl<'a> TermRuns<'a> {
     ghost use Rattle.std.specs.Prelude.{◌≡◌, [], slice_index_or};
     ghost use Rattle.fts_segment.specs.TermRuns.{runs_in};
+    ghost use Rattle.fts_segment.specs.PositionsLeft.{positions_left};
 
     /// The positions in the document of a posting, and none where there is no such posting.
-    pub(crate) fn get(self, posting: usize) -> &'a [u32]
-        ensures { result.now ≡ slice_index_or (runs_in self.entry) posting [] }
+    pub(crate) fn get(self, posting: usize) -> Positions<'a>
+        ensures { positions_left result ≡ slice_index_or (runs_in self.entry) posting [] }
     {
-        if posting < self.end.saturating_sub(self.start) {
-            self.runs.get(self.start + posting)
-        } else {
-            &[]
+        if posting >= self.end.saturating_sub(self.start) {
+            return Positions::none();
         }
+        self.runs.get(self.start + posting)
+    }
+}
+
+/// The positions of terms as they come, as they are to be packed.
+#[derive(Drop)]
+pub(crate) struct PositionLog {
+    pub(crate) runs: RunLog,
+    pub(crate) ends: Vec<usize>,
+}
+
+impl PositionLog {
+    ghost use Rattle.std.specs.Prelude.{◌≡◌, ◌++◌, ◌∷◌, [], All, OnOk};
+    ghost use Rattle.fts_segment.specs.Positions.{runs_of};
+    ghost use Rattle.fts_segment.specs.Runs.{IsRun};
+    ghost use Rattle.fts_segment.specs.PositionLogs.{IsPositionLog, logged_term_runs};
+
+    /// Of no term.
+    pub(crate) fn new(alloc: Global) -> PositionLog
+        ensures is { IsPositionLog result }
+        ensures none { logged_term_runs result ≡ [] }
+    {
+        PositionLog {
+            runs: RunLog::new(alloc),
+            ends: Vec::new(alloc),
+        }
+    }
+
+    /// Puts the positions of a term behind those of the others. `run` is room for those of a posting.
+    pub(crate) fn push(&mut self, run: &mut Vec<u32>, places: &[Place]) -> Result<(), AllocError>
+        requires is { IsPositionLog self.old }
+        requires runs { All IsRun (runs_of places.now) }
+        ensures is { OnOk result (IsPositionLog self.new) }
+        ensures pushed { OnOk result (logged_term_runs self.new ≡ logged_term_runs self.old ++ runs_of places.now ∷ []) }
+    {
+        push_runs(&mut self.runs, run, places)?;
+        self.ends.push(self.runs.len())?;
+        Ok(())
     }
 }
 
 // Puts a place behind those of a run of the document `doc`. Where it is of another, the run is put behind the others.
-fn next_run(runs: &mut Runs, run: &mut Vec<u32>, doc: u32, place: Place) -> Result<(), AllocError>
-    ensures runs { OnOk result (runs.new ≡ runs.old ++ cond (place.doc == doc) [] (run.old.items ∷ [])) }
+fn next_run(runs: &mut RunLog, run: &mut Vec<u32>, doc: u32, place: Place) -> Result<(), AllocError>
+    requires is { IsRunLog runs.old }
+    requires run { place.doc ≢ doc → IsRun run.old.items }
+    ensures is { OnOk result (IsRunLog runs.new) }
+    ensures runs { OnOk result (logged_runs runs.new ≡ logged_runs runs.old ++ cond (place.doc == doc) [] (run.old.items ∷ [])) }
     ensures run { OnOk result (run.new.items ≡ cond (place.doc == doc) run.old.items [] ++ place.position ∷ []) }
 {
     if place.doc != doc {
@@ -93,8 +126,11 @@ fn next_run(runs: &mut Runs, run: &mut Vec<u32>, doc: u32, place: Place) -> Resu
 }
 
 // Puts the positions of places behind the runs so far, a run for each document.
-fn push_runs(runs: &mut Runs, run: &mut Vec<u32>, places: &[Place]) -> Result<(), AllocError>
-    ensures { OnOk result (runs.new ≡ runs.old ++ runs_of places.now) }
+fn push_runs(runs: &mut RunLog, run: &mut Vec<u32>, places: &[Place]) -> Result<(), AllocError>
+    requires is { IsRunLog runs.old }
+    requires runs { All IsRun (runs_of places.now) }
+    ensures is { OnOk result (IsRunLog runs.new) }
+    ensures runs { OnOk result (logged_runs runs.new ≡ logged_runs runs.old ++ runs_of places.now) }
 {
     let [first, rest @ ..] = places else {
         return Ok(());

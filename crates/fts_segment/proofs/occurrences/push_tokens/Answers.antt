@@ -1,6 +1,7 @@
 use Rattle.std.proofs.Common.{◌≡◌}
 use Rattle.fts_text.specs.Places.{places, places_left}
 use Rattle.fts_segment.proofs.OccurrencesLemmas.{Logs-start, Logs-place, Logs-next}
+use Rattle.fts_segment.proofs.TokenLemmas.{few_tokens}
 use Rattle.fts_segment.proofs.occurrences.push_tokens.Goals as goal
 
 pub loop-token-init : goal.loop-token-init
@@ -17,3 +18,9 @@ loop-token-preserved c = (
   tt,
   Logs-next c.in-Some.token _ (places_left c.next.new.self) _ c.in-Some.ensures.steps c.in_ok-push_token.ensures c.loop-token.invariant.2,
 )
+
+pub returns-in_err-push_token-clause-few : goal.returns-in_err-push_token-clause-few
+returns-in_err-push_token-clause-few c = few_tokens c.args.text.now c.utf8.text c.requires
+
+pub returns-clause-few : goal.returns-clause-few
+returns-clause-few c = few_tokens c.args.text.now c.utf8.text c.requires

@@ -1,12 +1,11 @@
-use Rattle.std.proofs.Common.{length, ap, sym, arith}
+use Rattle.std.proofs.Common.{◌∙◌, length, ap, sym, arith}
 use Rattle.std.proofs.lemmas.List.{get_or_past}
-use Rattle.fts_segment.proofs.PiecesLemmas.{length-pieces}
+use Rattle.fts_segment.proofs.PackedLemmas.{length-runs_at}
 use Rattle.fts_segment.proofs.runs.Runs.get.Goals as goal
 
-pub piece-requires : goal.piece-requires
-piece-requires c = let n = c.self.inside in
-    omega (arith, length-pieces 0 n.positions.items n.ends.items, ap length c.self.view_is, n.ends.ok.0)
+pub run-requires : goal.run-requires
+run-requires c = let s = c.self.inside in omega (arith, length-runs_at s.counts s.gaps, ap length c.self.view_is)
 
-pub returns-else-number-len : goal.returns-else-number-len
-returns-else-number-len c = let n = c.self.inside in
-    sym (get_or_past c.args.self.now c.args.number _ (omega (arith, length-pieces 0 n.positions.items n.ends.items, ap length c.self.view_is, n.ends.ok.0)))
+pub returns-then-number-len : goal.returns-then-number-len
+returns-then-number-len c = let s = c.self.inside in
+    c.none.ensures ∙ sym (get_or_past c.args.self.now c.args.number _ (omega (arith, length-runs_at s.counts s.gaps, ap length c.self.view_is)))

@@ -6,43 +6,50 @@ use Rattle.fts_segment.specs.Segments.{SegmentValue, postings, positions}
 use Rattle.fts_segment.specs.Occurrences.{values_in}
 use Rattle.fts_segment.proofs.FieldLemmas.{no_field, index_at, postings-kind}
 use Rattle.fts_segment.proofs.PositionsLemmas.{positions-kind}
+use Rattle.fts_segment.proofs.StoredLemmas.{keeps}
 use Rattle.fts_segment.proofs.segment.Segment.find.Goals as goal
 
 pub returns-in_err-index-clause-none : goal.returns-in_err-index-clause-none
 returns-in_err-index-clause-none c =
-    let s = c.self.inside in
+    let s = c.deref-stored.result.now in
+    let k = keeps c.self.inside c.args.self.now s c.self.view_is c.self.invariant c.deref-stored.ensures in
     let f = c.args.term.now.field in
-    let past : length s.schema ≤ f = omega (arith, ltb-false f (length c.deref.result.now) (sym c.in_err-index.ensures.lookup.0), c.self.invariant.count, ap length c.deref.ensures.value) in
+    let past : length s.schema ≤ f = omega (arith, ltb-false f (length c.deref.result.now) (sym c.in_err-index.ensures.lookup.0), k.indexes_are.count, ap length c.deref.ensures.value) in
     let v : SegmentValue = record { schema = s.schema; documents = s.documents.items } in
-    rw c.from_residual.ensures (ap (λ v. postings v c.args.term.now) (sym c.self.view_is) ∙ no_field v c.args.term.now (slice_get_past s.schema f past))
+    rw c.from_residual.ensures (ap (λ v. postings v c.args.term.now) (sym k.value_is) ∙ no_field v c.args.term.now (slice_get_past s.schema f past))
 
 pub find-requires : goal.find-requires
-find-requires c = (
-  values_in c.args.term.now.field c.self.inside.documents.items,
-  index_at c.args.term.now.field c.kind.result c.in_ok-index.index.now c.deref.result.now c.self.invariant c.kind.ensures c.deref.ensures.value c.in_ok-index.ensures.lookup.0 c.in_ok-index.ensures.lookup.1,
-)
+find-requires c =
+    let s = c.deref-stored.result.now in
+    let k = keeps c.self.inside c.args.self.now s c.self.view_is c.self.invariant c.deref-stored.ensures in (
+      values_in c.args.term.now.field s.documents.items,
+      index_at c.args.term.now.field c.kind.result c.in_ok-index.index.now c.deref.result.now k.indexes_are c.kind.ensures c.deref.ensures.value c.in_ok-index.ensures.lookup.0 c.in_ok-index.ensures.lookup.1,
+    )
 
 pub returns-clause-none : goal.returns-clause-none
 returns-clause-none c =
-    let s = c.self.inside in
+    let s = c.deref-stored.result.now in
+    let k = keeps c.self.inside c.args.self.now s c.self.view_is c.self.invariant c.deref-stored.ensures in
     let v : SegmentValue = record { schema = s.schema; documents = s.documents.items } in
-    rw (← c.self.view_is, ← postings-kind v c.args.term.now c.kind.result c.kind.ensures)
+    rw (← k.value_is, ← postings-kind v c.args.term.now c.kind.result c.kind.ensures)
     (c.find.ensures.none (values_in c.args.term.now.field s.documents.items)
-    (index_at c.args.term.now.field c.kind.result c.in_ok-index.index.now c.deref.result.now c.self.invariant c.kind.ensures c.deref.ensures.value c.in_ok-index.ensures.lookup.0 c.in_ok-index.ensures.lookup.1))
+    (index_at c.args.term.now.field c.kind.result c.in_ok-index.index.now c.deref.result.now k.indexes_are c.kind.ensures c.deref.ensures.value c.in_ok-index.ensures.lookup.0 c.in_ok-index.ensures.lookup.1))
 
 pub returns-clause-documents : goal.returns-clause-documents
 returns-clause-documents c =
-    let s = c.self.inside in
+    let s = c.deref-stored.result.now in
+    let k = keeps c.self.inside c.args.self.now s c.self.view_is c.self.invariant c.deref-stored.ensures in
     let v : SegmentValue = record { schema = s.schema; documents = s.documents.items } in
-    rw (← c.self.view_is, ← postings-kind v c.args.term.now c.kind.result c.kind.ensures)
+    rw (← k.value_is, ← postings-kind v c.args.term.now c.kind.result c.kind.ensures)
     (c.find.ensures.documents (values_in c.args.term.now.field s.documents.items)
-    (index_at c.args.term.now.field c.kind.result c.in_ok-index.index.now c.deref.result.now c.self.invariant c.kind.ensures c.deref.ensures.value c.in_ok-index.ensures.lookup.0 c.in_ok-index.ensures.lookup.1))
+    (index_at c.args.term.now.field c.kind.result c.in_ok-index.index.now c.deref.result.now k.indexes_are c.kind.ensures c.deref.ensures.value c.in_ok-index.ensures.lookup.0 c.in_ok-index.ensures.lookup.1))
 
 pub returns-clause-positions : goal.returns-clause-positions
 returns-clause-positions c =
-    let s = c.self.inside in
+    let s = c.deref-stored.result.now in
+    let k = keeps c.self.inside c.args.self.now s c.self.view_is c.self.invariant c.deref-stored.ensures in
     let v : SegmentValue = record { schema = s.schema; documents = s.documents.items } in
     let P : List (List ℕ) → Type 0 = λ ps. IfSome c.find.result (λ list. positions_in list ≡ ps) in
-    subst P (positions-kind v c.args.term.now c.kind.result c.kind.ensures ∙ ap (λ v. positions v c.args.term.now) c.self.view_is)
+    subst P (positions-kind v c.args.term.now c.kind.result c.kind.ensures ∙ ap (λ v. positions v c.args.term.now) k.value_is)
     (c.find.ensures.positions (values_in c.args.term.now.field s.documents.items)
-    (index_at c.args.term.now.field c.kind.result c.in_ok-index.index.now c.deref.result.now c.self.invariant c.kind.ensures c.deref.ensures.value c.in_ok-index.ensures.lookup.0 c.in_ok-index.ensures.lookup.1))
+    (index_at c.args.term.now.field c.kind.result c.in_ok-index.index.now c.deref.result.now k.indexes_are c.kind.ensures c.deref.ensures.value c.in_ok-index.ensures.lookup.0 c.in_ok-index.ensures.lookup.1))

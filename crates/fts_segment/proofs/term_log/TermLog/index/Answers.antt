@@ -1,12 +1,14 @@
-use Rattle.std.proofs.Common.{◌≡◌, ◌∙◌, ◌<◌, ℕ, List, [], map, length, get_or, ap, sym, subst, arith, bytes_eq}
+use Rattle.std.proofs.Common.{◌≡◌, ◌∙◌, ◌<◌, ℕ, List, [], map, length, get_or, All, ap, sym, subst, arith, bytes_eq}
 use Rattle.std.specs.List.{IsDistinct, enumerate_from}
 use Rattle.std.specs.List.Sorted.{IsPermutation, IsStrictlyIncreasing}
 use Rattle.fts_segment.specs.Occurrences.{Occurrence}
 use Rattle.fts_segment.specs.Groups.{places_of}
 use Rattle.fts_segment.specs.Occurrences.{docs_with}
+use Rattle.fts_segment.specs.Positions.{runs_with}
+use Rattle.fts_segment.specs.Runs.{IsRun}
 use Rattle.fts_segment.specs.Sorted.{Ascends}
 use Rattle.fts_segment.proofs.SortingLemmas.{Numbered, shown, name_of}
-use Rattle.fts_segment.proofs.IndexLemmas.{lists_rise, IsIndexOf-listed}
+use Rattle.fts_segment.proofs.IndexLemmas.{lists_rise, lists_run, IsIndexOf-listed}
 use Rattle.fts_segment.proofs.term_log.TermLog.index.Goals as goal
 
 distinct_of : (c : goal.After-groups-2-1) → IsDistinct bytes_eq c.self.inside.terms
@@ -21,10 +23,15 @@ moved_of c =
     let Q : List Numbered → Type 0 = λ es. IsPermutation (enumerate_from 0 c.names-names.result.now) (map shown es) in
     subst P c.names-names.ensures.names (subst Q (sym c.deref-2.ensures.value) c.in_ok-order.ensures.all)
 
-pub listed-requires : goal.listed-requires
-listed-requires c = let t = c.self.inside in
+pub listed-requires-clause-rise : goal.listed-requires-clause-rise
+listed-requires-clause-rise c = let t = c.self.inside in
     lists_rise t.terms t.log.items c.in_ok-groups.groups c.deref-2.result.now (distinct_of c) c.self.invariant (moved_of c) (grouped_of c)
-    (λ q. let P : List Occurrence → Type 0 = λ os. IsStrictlyIncreasing (docs_with q os) in subst P (sym c.self.view_is) (c.requires q))
+    (λ q. let P : List Occurrence → Type 0 = λ os. IsStrictlyIncreasing (docs_with q os) in subst P (sym c.self.view_is) (c.requires.rise q))
+
+pub listed-requires-clause-runs : goal.listed-requires-clause-runs
+listed-requires-clause-runs c = let t = c.self.inside in
+    lists_run t.terms t.log.items c.in_ok-groups.groups c.deref-2.result.now (distinct_of c) c.self.invariant (moved_of c) (grouped_of c)
+    (λ q. let P : List Occurrence → Type 0 = λ os. All IsRun (runs_with q os) in subst P (sym c.self.view_is) (c.requires.runs q))
 
 pub returns : goal.returns
 returns c = let t = c.self.inside in

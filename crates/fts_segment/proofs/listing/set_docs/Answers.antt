@@ -3,7 +3,7 @@ use Rattle.std.specs.List.{dedup}
 use Rattle.std.proofs.lemmas.List.{take_all}
 use Rattle.std.proofs.lemmas.List.Filters.{dedup_is}
 use Rattle.fts_segment.specs.declared.grouping.Place.{Place}
-use Rattle.fts_segment.proofs.term_index.set_docs.Goals as goal
+use Rattle.fts_segment.proofs.listing.set_docs.Goals as goal
 
 pub returns : goal.returns
 returns c = dedup_is nat_eq c.loop-place.docs.items c.dedup.new.self.items c.dedup.ensures.filtered

@@ -1,8 +1,0 @@
-use Rattle.std.proofs.Common.{length, ap, arith}
-use Rattle.fts_segment.proofs.PiecesLemmas.{length-pieces}
-use Rattle.fts_segment.proofs.runs.Runs.len.Goals as goal
-
-pub returns : goal.returns
-returns c = let n = c.self.inside in
-    let same = ap length c.self.view_is in
-    let long = length-pieces 0 n.positions.items n.ends.items in grind (arith, same, long, c.len.ensures)
