@@ -1,0 +1,5 @@
+pub mod Contents
+pub mod Strikes
+pub mod Levels
+pub mod Merges
+pub mod Internals

@@ -1,0 +1,67 @@
+-- What a merge of segments gives: a segment of their live documents, and where each of these comes from.
+use Rattle.std.specs.Prelude.{◌≡◌, ◌≢◌, ◌<◌, ℕ, ◌+◌, Bool, List, [], ◌∷◌, ◌++◌, All, AllPairs, length, map, sum_by, count_by, flat_map}
+use Rattle.fts_model.specs.declared.schema.Field.{Field}
+use Rattle.fts_model.specs.declared.operation.Stamped.{Stamped}
+use Rattle.fts_model.specs.Documents.{DocumentValue}
+use Rattle.fts_segment.specs.Segments.{SegmentValue, numbers_where}
+use Rattle.fts_merge.specs.declared.origin.Origin.{Origin}
+use Rattle.fts_merge.specs.Contents.{content_of}
+
+-- a segment, and a bit for each of its documents: it is set where the document is live
+pub record SourceValue : Type 0 where
+  pub segment : SegmentValue
+  pub live : List Bool
+
+-- there is one bit a document
+abbrev pub HasBits : SourceValue → Type 0
+HasBits source = length source.live ≡ length source.segment.documents
+
+-- how many live documents sources have together
+abbrev pub live_count : List SourceValue → ℕ
+live_count sources = sum_by (λ source. count_by (λ bit. bit) source.live) sources
+
+-- the live documents of sources, one source behind the other
+abbrev pub contents : List SourceValue → List (Stamped DocumentValue)
+contents sources = flat_map (λ source. content_of source.segment source.live) sources
+
+-- the numbers of the bits that are set, rising
+abbrev pub numbers_set : List Bool → List ℕ
+numbers_set live = numbers_where (λ bit. bit) 0 live
+
+-- where the live documents of the source of this number come from
+abbrev pub origins_in : ℕ → List Bool → List Origin
+origins_in source live = map (λ document. record { source = source; document = document }) (numbers_set live)
+
+-- where the live documents of sources come from, of which the first has the number `first`
+abbrev pub origins_from : ℕ → List SourceValue → List Origin
+origins_from first [] = []
+origins_from first (source ∷ sources) = origins_in first source.live ++ origins_from (first + 1) sources
+
+-- a segment that was merged, where each of its documents comes from, and the number of its sources
+pub record MergedValue : Type 0 where
+  pub segment : SegmentValue
+  pub origins : List Origin
+  pub sources : ℕ
+
+-- the schema of sources, which is that of the first
+abbrev pub schema_of : List SourceValue → List Field
+schema_of [] = []
+schema_of (source ∷ sources) = source.segment.schema
+
+-- all sources have one schema
+abbrev pub AreOfOneSchema : List SourceValue → Type 0
+AreOfOneSchema sources = All (λ source. source.segment.schema ≡ schema_of sources) sources
+
+-- what a merge of sources gives
+abbrev pub merge_of : List SourceValue → MergedValue
+merge_of sources = record {
+  segment = record { schema = schema_of sources; documents = contents sources };
+  origins = origins_from 0 sources;
+  sources = length sources;
+}
+
+-- what holds of every merged segment: each document has one origin, no two have the same, and each is of a source
+pub record IsMerged (merged : MergedValue) : Type 0 where
+  pub paired : length merged.origins ≡ length merged.segment.documents
+  pub once : AllPairs (λ a b. a ≢ b) merged.origins
+  pub named : All (λ origin. origin.source < merged.sources) merged.origins

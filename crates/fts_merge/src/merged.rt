@@ -1,0 +1,71 @@
+// A segment that was merged of others, with where its documents come from.
+ghost use Rattle.std.specs.Prelude.{◌≡◌, ◌≢◌, ◌<◌, All, AllPairs, length};
+ghost use Rattle.fts_merge.specs.Merges.{IsMerged};
+
+use crate::origin::Origin;
+use fts_segment::Segment;
+use std::marker::Model;
+
+/// A segment of the live documents of others, its sources. For each of its documents it tells the source and the number there;
+/// no two documents have one origin.
+#[derive(Drop)]
+pub struct Merged {
+    segment: Segment,
+    origins: Vec<Origin>,
+    sources: usize,
+}
+
+impl Model for Merged {
+    ghost use Rattle.fts_merge.specs.Merges.{MergedValue, IsMerged};
+
+    ghost Value = { MergedValue };
+
+    ghost view = { λ m. record { segment = m.segment; origins = m.origins.items; sources = m.sources } };
+
+    ghost invariant = { λ m. IsMerged (record { segment = m.segment; origins = m.origins.items; sources = m.sources }) };
+}
+
+impl Merged {
+    /// This segment with these origins.
+    pub(crate) fn new(segment: Segment, origins: Vec<Origin>, sources: usize) -> Merged
+        requires { IsMerged (record { segment = segment; origins = origins.items; sources = sources }) }
+        ensures { result ≡ record { segment = segment; origins = origins.items; sources = sources } }
+    {
+        Merged {
+            segment,
+            origins,
+            sources,
+        }
+    }
+
+    /// The segment of the documents that were live.
+    pub fn segment(&self) -> &Segment
+        ensures { result.now ≡ self.now.segment }
+    {
+        &self.segment
+    }
+
+    /// Where each document of the segment comes from, in their order.
+    pub fn origins(&self) -> &[Origin]
+        ensures origins { result.now ≡ self.now.origins }
+        ensures paired { length result.now ≡ length self.now.segment.documents }
+        ensures once { AllPairs (λ a b. a ≢ b) result.now }
+        ensures named { All (λ origin. origin.source < self.now.sources) result.now }
+    {
+        &self.origins
+    }
+
+    /// How many segments were merged.
+    pub fn sources(&self) -> usize
+        ensures { result ≡ self.now.sources }
+    {
+        self.sources
+    }
+
+    /// The segment alone.
+    pub fn into_segment(self) -> Segment
+        ensures { result ≡ self.segment }
+    {
+        self.segment
+    }
+}

@@ -1,0 +1,51 @@
+// A segment with its live bits, as a merge takes it.
+ghost use Rattle.std.specs.Prelude.{◌≡◌, length};
+ghost use Rattle.fts_merge.specs.Merges.{HasBits};
+
+use fts_pack::Bits;
+use fts_segment::Segment;
+use std::marker::Model;
+
+/// A segment with a bit for each of its documents, which is set where the document is live.
+#[derive(Drop)]
+pub struct Source<'a> {
+    segment: &'a Segment,
+    live: &'a Bits,
+}
+
+impl<'a> Model for Source<'a> {
+    ghost use Rattle.std.specs.Prelude.{◌≡◌, length};
+    ghost use Rattle.fts_merge.specs.Merges.{SourceValue};
+
+    ghost Value = { SourceValue };
+
+    ghost view = { λ s. record { segment = s.segment.now; live = s.live.now } };
+
+    ghost invariant = { λ s. length s.live.now ≡ length s.segment.now.documents };
+}
+
+impl<'a> Source<'a> {
+    /// The segment with these bits, of which there is one a document.
+    pub fn new(segment: &'a Segment, live: &'a Bits) -> Source<'a>
+        requires { length live.now ≡ length segment.now.documents }
+        ensures { result ≡ record { segment = segment.now; live = live.now } }
+    {
+        Source { segment, live }
+    }
+
+    /// The segment.
+    pub fn segment(&self) -> &'a Segment
+        ensures segment { result.now ≡ self.now.segment }
+        ensures bits { HasBits self.now }
+    {
+        self.segment
+    }
+
+    /// The bits of its documents.
+    pub fn live(&self) -> &'a Bits
+        ensures live { result.now ≡ self.now.live }
+        ensures bits { HasBits self.now }
+    {
+        self.live
+    }
+}
