@@ -8,6 +8,8 @@ mod model;
 #[cfg(test)]
 mod pack;
 #[cfg(test)]
+mod pool;
+#[cfg(test)]
 mod query;
 #[cfg(test)]
 mod segment;

@@ -1,0 +1,3 @@
+pub mod ViewsLemmas
+pub mod StepsLemmas
+pub mod SlotsLemmas

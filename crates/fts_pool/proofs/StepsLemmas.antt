@@ -1,0 +1,125 @@
+-- Each step on the deque keeps its rule.
+use Rattle.std.proofs.Common.{◌≡◌, ℕ, zero, suc, ◌+◌, ◌<◌, [], ◌∷◌, ◌++◌, set, sym, refl, ap, subst, ◌∙◌, ⊎_elim, arith}
+use Rattle.std.proofs.lemmas.List.Elements.{All-nil, All-cons}
+use mathlib.Core.Option.{some, some-injective, some-ne-none}
+use lib.ListN.{get_elem?}
+use Rattle.crossbeam_deque.specs.Tasks.{Pushes, Takes, Finds, Forks, Merges}
+use Rattle.crossbeam_deque.proofs.Lists.{at_set}
+use Rattle.fts_pool.specs.declared.sharing.Known.{Known}
+use Rattle.fts_pool.specs.Internals.Sharing.{known, one_less, one_share, joined, spent, times, once_below, Fits, Holds, Pushed, Took, TookAll}
+use Rattle.fts_pool.proofs.ViewsLemmas.{times-append, times_here, once_none, once_more, below_once, total-set, total-push, no_share, each_set, each_push, with_share, with_none, total-alone}
+
+-- at the start nothing is pushed
+pub begins : Holds [] (known 64 0 [] ∷ [])
+begins = (0, record { shares = refl; each_once = (λ x. sym (once_none x)); fit = alone })
+  where
+    alone : (port : ℕ) (v : Known) → get_elem? (known 64 0 [] ∷ []) port ≡ some v → Fits 0 v
+    alone zero v at = subst (Fits 0) (some-injective (known 64 0 []) v at) (with_share 0 (known 64 0 []) (omega arith) refl)
+    alone (suc port) v at = absurd (some-ne-none v (sym at))
+
+-- who has all shares pushes the next job
+pub pushes : (port : ℕ) (v : Known) (x : ℕ) → v.shares ≡ 64 → x ≡ v.pushed → Pushes Holds port v (x ∷ []) (Pushed v (x ∷ []))
+pushes port v x all is items views h at =
+    let n : ℕ = h.0 in
+    let k = h.1 in
+    let w : Known = known v.shares (v.pushed + 1) v.taken in
+    let told : v.pushed ≡ n = (k.fit port v at).told (omega arith) in
+    let whole = k.shares in (
+      w,
+      (
+        n + 1,
+        record {
+          shares = (let s = total-set (λ u. u.shares) views port v w at in omega arith);
+          each_once = (λ y.
+              let s = total-set (λ u. times y u.taken) views port v w at in
+              let before = k.each_once y in
+              let joins = times-append y items (x ∷ []) in
+              let more = once_more y n in
+              let same : times y (x ∷ []) ≡ times y (n ∷ []) = ap (λ (z : ℕ). times y (z ∷ [])) (is ∙ told) in
+              omega arith);
+          fit = (λ j u here. ⊎_elim
+              (λ e. subst (Fits (n + 1)) e.1 (with_share (n + 1) w (omega arith) (ap (λ (z : ℕ). z + 1) told)))
+              (λ e.
+              let none : u.shares ≡ 0 = no_share views port v at (whole ∙ sym all) j u e.0 e.1 in
+              with_none (n + 1) u none ((k.fit j u e.1).idle none))
+              (at_set views port j w u here));
+        },
+      ),
+      refl,
+    )
+
+-- who has a share takes the first job
+pub takes : (port : ℕ) (v : Known) → 0 < v.shares → Takes Holds port v 1 (Took v)
+takes port v share [] items views some_job _ h at = absurd (omega arith)
+takes port v share (x ∷ y ∷ ys) items views _ one h at = absurd (omega arith)
+takes port v share (x ∷ []) items views _ _ h at =
+    let n : ℕ = h.0 in
+    let k = h.1 in
+    let w : Known = known v.shares v.pushed (v.taken ++ x ∷ []) in
+    let told : v.pushed ≡ n = (k.fit port v at).told share in
+    let low : x < n = below_once x n (let before = k.each_once x in let here = times_here x items in omega arith) in (
+      w,
+      (
+        n,
+        record {
+          shares = (let s = total-set (λ u. u.shares) views port v w at in let whole = k.shares in omega arith);
+          each_once = (λ y.
+              let s = total-set (λ u. times y u.taken) views port v w at in
+              let before = k.each_once y in
+              let joins = times-append y v.taken (x ∷ []) in
+              omega arith);
+          fit = each_set (Fits n) views port w k.fit (with_share n w share told);
+        },
+      ),
+      (refl, All-cons (λ (z : ℕ). z < v.pushed) x [] (omega arith) (All-nil (λ (z : ℕ). z < v.pushed))),
+    )
+
+-- who has all shares and finds nothing took each job once
+pub finds : (port : ℕ) (v : Known) → Finds Holds port v (TookAll v)
+finds port v views h at all x =
+    let k = h.1 in
+    let told : v.pushed ≡ h.0 = (k.fit port v at).told (omega arith) in
+    let before = k.each_once x in
+    let mine = total-alone h.0 x views port v k.fit at (k.shares ∙ sym all) in
+    let same : once_below x v.pushed ≡ once_below x h.0 = ap (once_below x) told in
+    omega arith
+
+-- the calling thread lends a share
+pub forks : (port : ℕ) (v : Known) → 1 < v.shares → Forks Holds port v (one_less v) (one_share v)
+forks port v share items views h at =
+    let n : ℕ = h.0 in
+    let k = h.1 in
+    let l : Known = one_less v in
+    let r : Known = one_share v in
+    let told : v.pushed ≡ n = (k.fit port v at).told (omega arith) in (
+      n,
+      record {
+        shares = (let s = total-set (λ u. u.shares) views port v l at in let p = total-push (λ u. u.shares) (set views port l) r in let whole = k.shares in omega arith);
+        each_once = (λ y.
+            let s = total-set (λ u. times y u.taken) views port v l at in
+            let p = total-push (λ u. times y u.taken) (set views port l) r in
+            let before = k.each_once y in
+            omega arith);
+        fit = each_push (Fits n) (set views port l) r (each_set (Fits n) views port l k.fit (with_share n l (omega arith) told)) (with_share n r (omega arith) told);
+      },
+    )
+
+-- and takes it back, with what was taken for it
+pub merges : (port : ℕ) (v : Known) (other : ℕ) (w : Known) → 0 < v.shares → Merges Holds port v other w (joined v w) spent
+merges port v other w share items views h at apart at' =
+    let n : ℕ = h.0 in
+    let k = h.1 in
+    let both : Known = joined v w in
+    let told : v.pushed ≡ n = (k.fit port v at).told share in (
+      n,
+      record {
+        shares = (let a = total-set (λ u. u.shares) views port v both at in let b = total-set (λ u. u.shares) (set views port both) other w spent at' in let whole = k.shares in omega arith);
+        each_once = (λ y.
+            let a = total-set (λ u. times y u.taken) views port v both at in
+            let b = total-set (λ u. times y u.taken) (set views port both) other w spent at' in
+            let joins = times-append y v.taken w.taken in
+            let before = k.each_once y in
+            omega arith);
+        fit = each_set (Fits n) (set views port both) other spent (each_set (Fits n) views port both k.fit (with_share n both (omega arith) told)) (with_none n spent refl refl);
+      },
+    )

@@ -1,0 +1,13 @@
+-- What was stolen so far was run.
+use Rattle.std.proofs.Common.{◌≡◌}
+use Rattle.crossbeam_deque.specs.Handles.{view, IsPassOf, stealer_deque}
+use Rattle.fts_pool.specs.Internals.Sharing.{known}
+use Rattle.fts_pool.specs.Internals.Slots.{AreOf, numbers_of}
+use Rattle.fts_pool.proofs.workers.steal_all.Given as goal
+
+abbrev pub invariant-loop : goal.invariant-loop
+invariant-loop g l = record {
+  pass : IsPassOf (stealer_deque l.stealer) l.pass;
+  taken : view l.pass ≡ known 1 (view l.fn.pass).pushed (numbers_of l.done.items);
+  done : AreOf g.J.Job.gives l.jobs l.done.items;
+}

@@ -1,0 +1,2 @@
+-- The modules that clauses cite.
+pub mod Internals

@@ -1,0 +1,149 @@
+// fts_pool: each job is run once, between the gate's two calls, and its result stands in its place, whatever the workers do.
+use fts_pool::{Gate, Job, Open, run_all};
+use std::sync::atomic::{AtomicU64, Ordering};
+use std::test::Fail;
+use std::thread::yield_now;
+
+/// A number to be squared, and how often that was done.
+#[derive(Drop)]
+struct Square {
+    side: u32,
+    runs: AtomicU64,
+}
+
+fn square_of(side: u32) -> Square {
+    Square {
+        side,
+        runs: AtomicU64::new(0),
+    }
+}
+
+impl Job for Square {
+    ghost use Rattle.std.specs.Prelude.{◌≡◌, ◌*◌};
+
+    type Out = u64;
+
+    ghost gives = { λ job out. out ≡ job.side * job.side };
+
+    fn run(&self) -> u64 {
+        self.runs.fetch_add(1, Ordering::SeqCst);
+        u64::from(self.side) * u64::from(self.side)
+    }
+}
+
+/// Holds one of two jobs back until the other one has passed, and counts its calls.
+#[derive(Drop)]
+struct Holding {
+    held: usize,
+    before: [AtomicU64; 2],
+    after: [AtomicU64; 2],
+    released: AtomicU64,
+}
+
+fn holding_back(held: usize) -> Holding {
+    Holding {
+        held,
+        before: [AtomicU64::new(0), AtomicU64::new(0)],
+        after: [AtomicU64::new(0), AtomicU64::new(0)],
+        released: AtomicU64::new(0),
+    }
+}
+
+fn has_passed(gate: &Holding, job: usize) -> bool {
+    match gate.after.get(job) {
+        Some(count) => count.load(Ordering::SeqCst) > 0,
+        None => false,
+    }
+}
+
+fn count(counts: &[AtomicU64; 2], job: usize) {
+    if let Some(count) = counts.get(job) {
+        count.fetch_add(1, Ordering::SeqCst);
+    }
+}
+
+impl Gate for Holding {
+    fn before(&self, job: usize) {
+        count(&self.before, job);
+        if job != self.held {
+            return;
+        }
+        for _ in 0..1_000_000_000u64 {
+            if has_passed(self, 1usize.saturating_sub(job)) {
+                self.released.fetch_add(1, Ordering::SeqCst);
+                return;
+            }
+            yield_now();
+        }
+    }
+
+    fn after(&self, job: usize) {
+        count(&self.after, job);
+    }
+}
+
+#[test]
+fn a_held_job_waits_while_another_worker_runs_the_other(rt: HostRuntime) -> Result<(), Fail> {
+    for held in 0..2usize {
+        let jobs = [square_of(3), square_of(4)];
+        let gate = holding_back(held);
+        let squares = run_all(&rt, rt.alloc(), &jobs, 2, &gate)?;
+        assert_eq!(rt; squares.as_slice(), [9, 16].as_slice());
+        assert_eq!(rt; gate.released.load(Ordering::SeqCst), 1);
+        for job in 0..2usize {
+            assert_eq!(rt; gate.before[job].load(Ordering::SeqCst), 1);
+            assert_eq!(rt; gate.after[job].load(Ordering::SeqCst), 1);
+            assert_eq!(rt; jobs[job].runs.load(Ordering::SeqCst), 1);
+        }
+    }
+    Ok(())
+}
+
+#[test]
+fn a_thousand_jobs(rt: HostRuntime) -> Result<(), Fail> {
+    for workers in [1, 2, 5, 64usize] {
+        let mut jobs = Vec::new(rt.alloc());
+        for side in 0..1000u32 {
+            jobs.push(square_of(side))?;
+        }
+        let squares = run_all(&rt, rt.alloc(), &jobs, workers, &Open)?;
+        assert_eq!(rt; squares.len(), 1000);
+        let mut side = 0u64;
+        for square in squares {
+            assert_eq!(rt; square, side.wrapping_mul(side));
+            side = side.wrapping_add(1);
+        }
+        for job in jobs {
+            assert_eq!(rt; job.runs.load(Ordering::SeqCst), 1);
+        }
+    }
+    Ok(())
+}
+
+#[test]
+fn no_job(rt: HostRuntime) -> Result<(), Fail> {
+    let none: [Square; 0] = [];
+    let nothing = run_all(&rt, rt.alloc(), &none, 3, &Open)?;
+    assert_eq!(rt; nothing.len(), 0);
+    Ok(())
+}
+
+// Whichever growth is refused: all results, or a refusal before a job ran, after which a second try has all results.
+#[test]
+fn a_refusal_comes_before_the_first_job(rt: HostRuntime) -> Result<(), Fail> {
+    let jobs = [square_of(1), square_of(2), square_of(3), square_of(4), square_of(5)];
+    let squares = match run_all(&rt, rt.alloc(), &jobs, 3, &Open) {
+        Ok(squares) => squares,
+        Err(_) => {
+            for job in &jobs {
+                assert_eq!(rt; job.runs.load(Ordering::SeqCst), 0);
+            }
+            run_all(&rt, rt.alloc(), &jobs, 3, &Open)?
+        }
+    };
+    assert_eq!(rt; squares.as_slice(), [1, 4, 9, 16, 25].as_slice());
+    for job in &jobs {
+        assert_eq!(rt; job.runs.load(Ordering::SeqCst), 1);
+    }
+    Ok(())
+}
