@@ -39,9 +39,9 @@ fn groups_value(alloc: Global, groups: &[(Number, u64)]) -> Result<Value, AllocE
 fn hit_value(alloc: Global, hit: &Hit) -> Result<Value, AllocError>
     ensures { IfOk result (λ value. view value ≡ hit_data hit.now) }
 {
-    let doc = match hit.document.to_json(alloc) {
-        Ok(doc) => doc,
-        Err(_) => return Err(AllocError),
+    // The one refusal of `to_json` is want of memory.
+    let Ok(doc) = hit.document.to_json(alloc) else {
+        return Err(AllocError);
     };
     let value = number_value(hit.value);
     json!(in alloc; {"doc": doc, "stamp": hit.stamp, "value": value})
