@@ -13,7 +13,7 @@ use Rattle.fts_merge.proofs.MergingLemmas.{dropped}
 abbrev pub considered_from : ℕ → List ℕ → List Counted
 considered_from n sizes = map as_counted (filter (λ s. nat_le s.1 1000000) (enumerate_from n sizes))
 
-considered-cons : (n size : ℕ) (sizes : List ℕ) → considered_from n (size ∷ sizes) ≡ cond (nat_le size 1000000) (as_counted (n, size) ∷ considered_from (n + 1) sizes) (considered_from (n + 1) sizes)
+pub considered-cons : (n size : ℕ) (sizes : List ℕ) → considered_from n (size ∷ sizes) ≡ cond (nat_le size 1000000) (as_counted (n, size) ∷ considered_from (n + 1) sizes) (considered_from (n + 1) sizes)
 considered-cons n size sizes =
     let rest = filter (λ (s : ℕ × ℕ). nat_le s.1 1000000) (enumerate_from (n + 1) sizes) in
     elim (nat_le size 1000000) as (λ b. map as_counted (cond b ((n, size) ∷ rest) rest) ≡ cond b (as_counted (n, size) ∷ considered_from (n + 1) sizes) (considered_from (n + 1) sizes)) [ true ↦ refl | false ↦ refl ]
@@ -52,7 +52,7 @@ pub fourth_power-bound : (size : ℕ) → size ≤ 1000000 → size ^ 4 ≤ 1000
 fourth_power-bound size h = pow-le-pow_left h 4
 
 -- levels that are large enough, the first apart
-large_enough-cons : (level : List Counted) (more : List (List Counted)) → large_enough (level ∷ more) ≡ large_enough (level ∷ []) ++ large_enough more
+pub large_enough-cons : (level : List Counted) (more : List (List Counted)) → large_enough (level ∷ more) ≡ large_enough (level ∷ []) ++ large_enough more
 large_enough-cons level more =
     let is_large : List Counted → Bool = λ level. nat_le 8 (length level) in
     let told : List (List Counted) → List (List ℕ) = map (λ level. map (λ c. c.index) level) in

@@ -5,3 +5,4 @@ pub mod OriginsLemmas
 pub mod PlacesLemmas
 pub mod LevelsLemmas
 pub mod OrderLemmas
+pub mod CandidatesLemmas

@@ -4,6 +4,8 @@
 #[cfg(test)]
 mod fixtures;
 #[cfg(test)]
+mod merge;
+#[cfg(test)]
 mod model;
 #[cfg(test)]
 mod pack;
