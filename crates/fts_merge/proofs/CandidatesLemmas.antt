@@ -1,16 +1,16 @@
 -- Each size stands in one level.
-use Rattle.std.proofs.Common.{◌≡◌, ◌≢◌, ◌+◌, ◌<◌, ◌≤◌, ◌==◌, ℕ, zero, suc, Bool, true, false, cond, nat_le, List, [], ◌∷◌, ◌++◌, map, filter, length, refl, sym, ap, ◌∙◌, subst, arith, All, AllPairs}
+use Rattle.std.proofs.Common.{◌≡◌, ◌≢◌, ◌+◌, ◌<◌, ◌≤◌, ◌==◌, ℕ, Bool, true, false, cond, nat_le, List, [], ◌∷◌, ◌++◌, map, filter, length, refl, sym, ap, ◌∙◌, subst, arith, All, AllPairs}
 use Rattle.std.specs.List.{flat_map, sum_by}
 use Rattle.std.proofs.lemmas.Bool.{leb-true}
 use Rattle.std.proofs.lemmas.Bool.Decides.{nat_tests}
-use Rattle.std.proofs.lemmas.List.{append_assoc, append-nil, length-map}
+use Rattle.std.proofs.lemmas.List.{append_assoc, length-map}
 use Rattle.std.proofs.lemmas.List.Sums.{sum_by-cons, sum_by-append}
 use Rattle.std.proofs.lemmas.List.Elements.{All-nil, All-cons, All-append, All-head, All-tail, All-weaker, All-map, filter_passes}
 use Rattle.std.proofs.lemmas.List.Kept.{AllPairs-cons}
 use Rattle.std.proofs.lemmas.List.Sorted.{All-permutation, sum_by-IsPermutation}
 use Rattle.fts_merge.specs.declared.levels.Counted.{Counted}
 use Rattle.fts_merge.specs.Levels.{as_counted, considered, greatest_first, joins, levels_behind, levels_of, levels, large_enough, candidates}
-use Rattle.fts_merge.proofs.LevelsLemmas.{considered_from, considered-cons, large_enough-cons}
+use Rattle.fts_merge.proofs.LevelsLemmas.{considered_from, considered-cons}
 use Rattle.fts_merge.proofs.OrderLemmas.{IsPermutation-greatest_first}
 
 -- the members of all levels, one level behind the other
@@ -69,12 +69,12 @@ considered_once i n (size ∷ sizes) =
     (elim (nat_le size 1000000) as (λ b. sum_by (once_of i) (cond b (as_counted (n, size) ∷ others) others) ≤ 1) [
       | true ↦ elim (n == i) as (λ b. (n == i) ≡ b → sum_by (once_of i) (as_counted (n, size) ∷ others) ≤ 1) [
         | true ↦ λ is.
-          let same : n ≡ i = grind (arith, nat_tests) in
-          let one : once_of i (as_counted (n, size)) ≡ 1 = ap (λ b. cond b 1 0) is in
-          let none = absent i others (All-weaker (λ (c : Counted). n + 1 ≤ c.index) (λ (c : Counted). i < c.index) (λ c h. omega (arith, h, same)) others (from_first (n + 1) sizes)) in
-          omega (arith, one, none, sum_by-cons (once_of i) (as_counted (n, size)) others)
+            let same : n ≡ i = grind (arith, nat_tests) in
+            let one : once_of i (as_counted (n, size)) ≡ 1 = ap (λ b. cond b 1 0) is in
+            let none = absent i others (All-weaker (λ (c : Counted). n + 1 ≤ c.index) (λ (c : Counted). i < c.index) (λ c h. omega (arith, h, same)) others (from_first (n + 1) sizes)) in
+            omega (arith, one, none, sum_by-cons (once_of i) (as_counted (n, size)) others)
         | false ↦ λ is.
-          let no : once_of i (as_counted (n, size)) ≡ 0 = ap (λ b. cond b 1 0) is in omega (arith, no, rest, sum_by-cons (once_of i) (as_counted (n, size)) others)
+            let no : once_of i (as_counted (n, size)) ≡ 0 = ap (λ b. cond b 1 0) is in omega (arith, no, rest, sum_by-cons (once_of i) (as_counted (n, size)) others)
       ] refl
       | false ↦ rest
     ])

@@ -1,12 +1,12 @@
 -- Sizes as they count, and their levels.
-use Rattle.std.proofs.Common.{◌≡◌, ◌+◌, ◌-◌, ◌*◌, ◌^◌, ◌<◌, ◌≤◌, ℕ, max, Bool, true, false, cond, nat_le, List, [], ◌∷◌, ◌++◌, map, filter, length, drop, take, get_or, slice_range, refl, sym, ap, ap₂, ◌∙◌, subst, arith, All}
+use Rattle.std.proofs.Common.{◌≡◌, ◌+◌, ◌-◌, ◌^◌, ◌<◌, ◌≤◌, ℕ, Bool, true, false, cond, nat_le, List, [], ◌∷◌, ◌++◌, map, filter, length, drop, take, get_or, slice_range, refl, sym, ap, ap₂, ◌∙◌, subst, arith, All}
 use Rattle.std.specs.List.{enumerate_from}
 use Rattle.std.proofs.Math.Nat.{pow-le-pow_left}
 use Rattle.std.proofs.lemmas.Bool.Decides.{nat_tests}
 use Rattle.std.proofs.lemmas.List.{append_assoc, get_or-drop, length-drop, take_more}
 use Rattle.std.proofs.lemmas.List.Elements.{All-nil, All-cons}
 use Rattle.fts_merge.specs.declared.levels.Counted.{Counted}
-use Rattle.fts_merge.specs.Levels.{as_counted, considered, joins, levels_behind, levels_of, large_enough}
+use Rattle.fts_merge.specs.Levels.{as_counted, joins, levels_behind, large_enough}
 use Rattle.fts_merge.proofs.MergingLemmas.{dropped}
 
 -- sizes as they count, of which the first has the index n

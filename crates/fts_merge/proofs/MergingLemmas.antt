@@ -1,8 +1,8 @@
 -- What is taken of the sources of a merge, and what is left.
-use Rattle.std.proofs.Common.{◌≡◌, ◌≢◌, ◌+◌, ◌<◌, ◌≤◌, ℕ, zero, suc, Bool, true, false, cond, List, [], ◌∷◌, ◌++◌, Option, Some, None, map, filter, length, count_by, drop, take, get_or, refl, sym, ap, ap₂, ◌∙◌, arith, All, AllPairs}
+use Rattle.std.proofs.Common.{◌≡◌, ◌+◌, ◌<◌, ◌≤◌, ℕ, zero, suc, Bool, true, false, cond, List, [], ◌∷◌, ◌++◌, Some, map, filter, length, count_by, drop, get_or, refl, sym, ap, ap₂, ◌∙◌, arith}
 use Rattle.std.specs.Prelude.{slice_get}
-use Rattle.std.specs.List.{sum_by, flat_map, enumerate_from}
-use Rattle.std.proofs.lemmas.List.{append_assoc, append-nil, drop_more, drop_all, length-append, length-map}
+use Rattle.std.specs.List.{enumerate_from}
+use Rattle.std.proofs.lemmas.List.{append_assoc, append-nil, drop_more, drop_all, length-append}
 use Rattle.std.proofs.lemmas.List.Sums.{sum_by-cons}
 use Rattle.std.proofs.lemmas.Option.{slice_get_within, get_or_from_slice_get}
 use Rattle.fts_model.specs.declared.operation.Stamped.{Stamped}
@@ -11,7 +11,7 @@ use Rattle.fts_model.specs.declared.schema.Field.{Field}
 use Rattle.fts_segment.specs.Segments.{SegmentValue, numbers_where}
 use Rattle.fts_merge.specs.declared.origin.Origin.{Origin}
 use Rattle.fts_merge.specs.Contents.{where_set, content_of}
-use Rattle.fts_merge.specs.Merges.{SourceValue, HasBits, live_count, contents, numbers_set, origins_in, origins_from, MergedValue, schema_of, merge_of}
+use Rattle.fts_merge.specs.Merges.{SourceValue, HasBits, live_count, contents, origins_in, origins_from, MergedValue, schema_of, merge_of}
 
 -- what is left of a list, the first apart
 pub dropped : {X : Type 0} (xs : List X) (i : ℕ) (x : X) → i < length xs → x ≡ get_or xs i x → drop i xs ≡ x ∷ drop (i + 1) xs

@@ -1,17 +1,11 @@
 -- Where the documents of a merged segment come from.
-use Rattle.std.proofs.Common.{◌≡◌, ◌≢◌, ◌+◌, ◌-◌, ◌<◌, ◌≤◌, ℕ, zero, suc, Bool, true, false, cond, List, [], ◌∷◌, ◌++◌, Option, Some, None, map, length, count_by, refl, sym, ap, ap₂, subst, ◌∙◌, arith, inl, inr, All, AllPairs}
-use Rattle.std.specs.Prelude.{slice_get}
-use Rattle.std.specs.List.{sum_by}
-use Rattle.std.proofs.lemmas.Bool.{cases_lt}
+use Rattle.std.proofs.Common.{◌≡◌, ◌≢◌, ◌+◌, ◌<◌, ◌≤◌, ℕ, suc, Bool, true, false, cond, List, [], ◌∷◌, ◌++◌, length, count_by, refl, sym, ap, subst, ◌∙◌, arith, All, AllPairs}
 use Rattle.std.proofs.lemmas.List.{length-append}
 use Rattle.std.proofs.lemmas.List.Elements.{All-nil, All-cons, All-append, All-weaker, All-head, All-tail}
 use Rattle.std.proofs.lemmas.List.Kept.{AllPairs-cons}
 use Rattle.std.proofs.lemmas.List.Sums.{sum_by-cons}
-use Rattle.std.proofs.lemmas.Option.{slice_get_within}
-use Rattle.fts_model.specs.declared.operation.Stamped.{Stamped}
-use Rattle.fts_model.specs.Documents.{DocumentValue}
 use Rattle.fts_merge.specs.declared.origin.Origin.{Origin}
-use Rattle.fts_merge.specs.Contents.{where_set, content_of}
+use Rattle.fts_merge.specs.Contents.{content_of}
 use Rattle.fts_merge.specs.Merges.{SourceValue, HasBits, IsMerged, live_count, contents, origins_in, origins_from, merge_of}
 use Rattle.fts_merge.proofs.BitsLemmas.{length-where_set}
 use Rattle.fts_merge.proofs.MergingLemmas.{count_of, origins_behind, origins-cons}

@@ -1,5 +1,5 @@
 -- The steps of a strike, together.
-use Rattle.std.proofs.Common.{◌≡◌, ◌+◌, ◌<◌, ◌≤◌, ℕ, zero, suc, max, Bool, true, false, cond, not, ◌&&◌, ◌||◌, nat_lt, List, [], ◌∷◌, ◌++◌, Option, Some, None, map, filter, length, refl, sym, ap, ap₂, ◌∙◌, arith, All, subst, get_or, take, ◌*◌, add-one}
+use Rattle.std.proofs.Common.{◌≡◌, ◌+◌, ◌<◌, ◌≤◌, ℕ, zero, suc, max, Bool, true, false, cond, not, ◌&&◌, ◌||◌, nat_lt, List, [], ◌∷◌, ◌++◌, Some, map, filter, length, refl, sym, ap, ap₂, ◌∙◌, arith, All, subst, get_or, take, ◌*◌, add-one}
 use Rattle.std.specs.Prelude.{slice_get, slice_set, fold}
 use Rattle.std.specs.List.{list_any, enumerate_from, range_with_len}
 use Rattle.std.specs.Option.{option_map_or}

@@ -1,5 +1,5 @@
 -- The steps of a strike.
-use Rattle.std.specs.Prelude.{ℕ, ◌&&◌, not, nat_lt, max, Bool, true, false, List, [], ◌∷◌, slice_get, slice_set, if◌then◌else◌}
+use Rattle.std.specs.Prelude.{ℕ, ◌&&◌, not, nat_lt, max, Bool, false, List, [], ◌∷◌, slice_get, slice_set, if◌then◌else◌}
 use Rattle.std.specs.List.{list_any}
 use Rattle.std.specs.Option.{option_map_or}
 use Rattle.fts_model.specs.declared.schema.Field.{Field}

@@ -1,4 +1,4 @@
-use Rattle.std.proofs.Common.{◌≡◌, ◌+◌, ℕ, Some, ap, ◌∙◌, arith}
+use Rattle.std.proofs.Common.{ℕ, Some, ap, ◌∙◌, arith}
 use Rattle.fts_merge.proofs.PlacesLemmas.{placed_from}
 use Rattle.fts_merge.proofs.laws.each_live_document_is_merged.Goals as goal
 

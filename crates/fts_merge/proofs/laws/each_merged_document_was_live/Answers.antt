@@ -1,4 +1,4 @@
-use Rattle.std.proofs.Common.{◌≡◌, ◌+◌, Some, ap, ◌∙◌, arith}
+use Rattle.std.proofs.Common.{◌≡◌, ap, ◌∙◌, arith}
 use Rattle.std.specs.Prelude.{slice_get}
 use Rattle.fts_merge.proofs.PlacesLemmas.{told_from}
 use Rattle.fts_merge.proofs.laws.each_merged_document_was_live.Goals as goal

@@ -1,4 +1,4 @@
-use Rattle.std.proofs.Common.{◌≡◌, ◌≤◌, ◌^◌, ap, subst, arith, lt_of_le_of_lt, lit<}
+use Rattle.std.proofs.Common.{arith, lt_of_le_of_lt, lit<}
 use Rattle.fts_merge.proofs.LevelsLemmas.{fourth_power-bound}
 use Rattle.fts_merge.proofs.levels.fourth_power.Goals as goal
 

@@ -1,4 +1,4 @@
-use Rattle.std.proofs.Common.{◌≡◌, ◌++◌, Bool, true, false, List, ℕ, map, get_or, ap, sym, ◌∙◌, arith}
+use Rattle.std.proofs.Common.{◌≡◌, true, false, List, ℕ, map, get_or, sym, ◌∙◌, arith}
 use Rattle.std.proofs.lemmas.List.{get_or_default}
 use Rattle.fts_merge.specs.declared.levels.Counted.{Counted}
 use Rattle.fts_merge.specs.Levels.{joins as joins_level, levels_of, large_enough}
@@ -18,17 +18,17 @@ loop-place-preserved c =
     let all = large_enough (levels_of cs) in
     elim c.if-not-joins.branch [
       | then-not-joins+in_ok-push_level w ↦
-        let apart : joins_level first next.size ≡ false = sym c.joins.ensures ∙ w.if-not-joins.true in
-        rw (w.levels-is, w.start-is, w.first-is) (record {
-          begun = omega arith;
-          first = c.requires place _ c.loop-place-test.true;
-          found = level_opened found (map (λ v. v.items) w.push_level.new.levels.items) all cs start place first next c.loop-place-test.true is apart w.in_ok-push_level.ensures c.loop-place.invariant.found;
-        })
+          let apart : joins_level first next.size ≡ false = sym c.joins.ensures ∙ w.if-not-joins.true in
+          rw (w.levels-is, w.start-is, w.first-is) (record {
+            begun = omega arith;
+            first = c.requires place _ c.loop-place-test.true;
+            found = level_opened found (map (λ v. v.items) w.push_level.new.levels.items) all cs start place first next c.loop-place-test.true is apart w.in_ok-push_level.ensures c.loop-place.invariant.found;
+          })
       | else-not-joins w ↦
-        let joined : joins_level first next.size ≡ true = sym c.joins.ensures ∙ w.if-not-joins.false in
-        rw (w.levels-is, w.start-is, w.first-is) (record {
-          begun = omega arith;
-          first = c.loop-place.invariant.first;
-          found = level_joined found all cs start place first next c.loop-place.invariant.begun c.loop-place-test.true is joined c.loop-place.invariant.found;
-        })
+          let joined : joins_level first next.size ≡ true = sym c.joins.ensures ∙ w.if-not-joins.false in
+          rw (w.levels-is, w.start-is, w.first-is) (record {
+            begun = omega arith;
+            first = c.loop-place.invariant.first;
+            found = level_joined found all cs start place first next c.loop-place.invariant.begun c.loop-place-test.true is joined c.loop-place.invariant.found;
+          })
     ]

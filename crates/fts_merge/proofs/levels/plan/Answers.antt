@@ -1,4 +1,4 @@
-use Rattle.std.proofs.Common.{◌≡◌, ◌≤◌, ◌∙◌, sym, ap, subst, All, rules}
+use Rattle.std.proofs.Common.{◌≡◌, ◌≤◌, rules}
 use Rattle.std.proofs.lemmas.List.Elements.{All-same}
 use Rattle.std.proofs.lemmas.List.Sorted.{All-permutation}
 use Rattle.fts_merge.specs.declared.levels.Counted.{Counted}

@@ -1,4 +1,4 @@
-use Rattle.std.proofs.Common.{◌≡◌, ◌∙◌, ◌+◌, ℕ, sym, get_or, arith, rules}
+use Rattle.std.proofs.Common.{◌∙◌, ◌+◌, ℕ, sym, get_or, arith, rules}
 use Rattle.std.specs.declared.cmp.Reverse.{Reverse}
 use Rattle.std.proofs.lemmas.List.Sorted.{answers_always}
 use Rattle.fts_merge.specs.declared.levels.Counted.{Counted}

@@ -1,8 +1,8 @@
-use Rattle.std.proofs.Common.{◌≡◌, ◌++◌, ◌∷◌, [], ap, sym, ◌∙◌, arith, length, subst, rules, get_or}
+use Rattle.std.proofs.Common.{◌≡◌, sym, ◌∙◌, subst, rules}
 use Rattle.std.proofs.lemmas.List.{take_all}
 use Rattle.std.proofs.lemmas.List.Elements.{All-more, All-same}
 use Rattle.std.proofs.lemmas.Bool.{ltb-false}
-use Rattle.fts_merge.specs.Merges.{HasBits, IsMerged, SourceValue, live_count, contents, origins_from}
+use Rattle.fts_merge.specs.Merges.{HasBits, IsMerged, live_count, contents, origins_from}
 use Rattle.fts_merge.proofs.MergingLemmas.{room_for, contents-taken, origins-taken, merged_is}
 use Rattle.fts_merge.proofs.OriginsLemmas.{IsMerged-merge_of}
 use Rattle.fts_merge.proofs.merging.merge.Goals as goal

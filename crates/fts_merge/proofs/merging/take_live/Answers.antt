@@ -1,7 +1,7 @@
-use Rattle.std.proofs.Common.{◌≡◌, ◌++◌, ◌∷◌, [], Some, true, false, ap, sym, ◌∙◌, arith, length}
+use Rattle.std.proofs.Common.{◌≡◌, Some, true, ap, sym, ◌∙◌, arith, length}
 use Rattle.fts_segment.specs.Segments.{SegmentValue, BuilderValue}
 use Rattle.std.specs.Prelude.{slice_get}
-use Rattle.fts_merge.proofs.MergingLemmas.{IsTaken, IsTaken-live, IsTaken-dead, IsTaken-room, IsTaken-all, member_at}
+use Rattle.fts_merge.proofs.MergingLemmas.{IsTaken-live, IsTaken-dead, IsTaken-room, member_at}
 use Rattle.fts_merge.proofs.merging.take_live.Goals as goal
 use Rattle.fts_merge.proofs.merging.take_live.Goals.{then-get+in_ok-take_document, else-get}
 
@@ -23,16 +23,16 @@ loop-document-preserved c =
     let told = c.args.origins.now.items in
     elim c.if-get.branch [
       | then-get+in_ok-take_document w ↦
-        let stored : slice_get c.segment-segment.result.now.documents n ≡ Some at.0 = ap (λ (t : SegmentValue). slice_get t.documents n) c.segment-segment.ensures.segment ∙ at.1 in
-        let taken = IsTaken-live c.loop-document.builder.segment.documents c.loop-document.origins.items s c.args.number n before told at.0 at.1 (bit ∙ ap Some w.if-get.true) c.loop-document.invariant.taken in
-        let documents = ap (λ (b : BuilderValue). b.segment.documents) w.builder-is ∙ w.in_ok-take_document.ensures.document at.0 stored in
-        let origins = ap (λ o. o.items) w.origins-is ∙ w.in_ok-take_document.ensures.origin in
-        record {
-          merging = ap (λ (b : BuilderValue). b.merging) w.builder-is ∙ w.in_ok-take_document.ensures.merging;
-          schema = ap (λ (b : BuilderValue). b.segment.schema) w.builder-is ∙ w.in_ok-take_document.ensures.schema ∙ c.loop-document.invariant.schema;
-          taken = rw (documents, origins) taken;
-        }
+          let stored : slice_get c.segment-segment.result.now.documents n ≡ Some at.0 = ap (λ (t : SegmentValue). slice_get t.documents n) c.segment-segment.ensures.segment ∙ at.1 in
+          let taken = IsTaken-live c.loop-document.builder.segment.documents c.loop-document.origins.items s c.args.number n before told at.0 at.1 (bit ∙ ap Some w.if-get.true) c.loop-document.invariant.taken in
+          let documents = ap (λ (b : BuilderValue). b.segment.documents) w.builder-is ∙ w.in_ok-take_document.ensures.document at.0 stored in
+          let origins = ap (λ o. o.items) w.origins-is ∙ w.in_ok-take_document.ensures.origin in
+          record {
+            merging = ap (λ (b : BuilderValue). b.merging) w.builder-is ∙ w.in_ok-take_document.ensures.merging;
+            schema = ap (λ (b : BuilderValue). b.segment.schema) w.builder-is ∙ w.in_ok-take_document.ensures.schema ∙ c.loop-document.invariant.schema;
+            taken = rw (documents, origins) taken;
+          }
       | else-get w ↦
-        let taken = IsTaken-dead c.loop-document.builder.segment.documents c.loop-document.origins.items s c.args.number n before told at.0 at.1 (bit ∙ ap Some w.if-get.false) c.loop-document.invariant.taken in
-        rw (w.builder-is, w.origins-is) (record { merging = c.loop-document.invariant.merging; schema = c.loop-document.invariant.schema; taken = taken })
+          let taken = IsTaken-dead c.loop-document.builder.segment.documents c.loop-document.origins.items s c.args.number n before told at.0 at.1 (bit ∙ ap Some w.if-get.false) c.loop-document.invariant.taken in
+          rw (w.builder-is, w.origins-is) (record { merging = c.loop-document.invariant.merging; schema = c.loop-document.invariant.schema; taken = taken })
     ]

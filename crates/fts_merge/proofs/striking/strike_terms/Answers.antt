@@ -1,8 +1,8 @@
-use Rattle.std.proofs.Common.{◌≡◌, ap, sym, ◌∙◌, arith, take, length, not, Bool}
+use Rattle.std.proofs.Common.{ap, sym, ◌∙◌, length, not, Bool}
 use Rattle.fts_model.specs.declared.operation.Stamped.{Stamped}
 use Rattle.fts_model.specs.Documents.{DocumentValue}
 use Rattle.fts_merge.specs.Strikes.{bits_where}
-use Rattle.fts_merge.specs.Internals.Striking.{strikes_by_term, survives_terms}
+use Rattle.fts_merge.specs.Internals.Striking.{strikes_by_term}
 use Rattle.fts_merge.proofs.BitsLemmas.{length-bits_where}
 use Rattle.fts_merge.proofs.StrikingLemmas.{survives_terms-none, bits_where-more}
 use Rattle.fts_merge.proofs.striking.strike_terms.Goals as goal
