@@ -13,5 +13,6 @@ pub mod FieldLemmas
 pub mod NumberLemmas
 pub mod RunsLemmas
 pub mod PackedLemmas
+mod RunVectors
 pub mod TokenLemmas
 pub mod PositionsLemmas

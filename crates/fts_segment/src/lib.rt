@@ -25,6 +25,7 @@ mod names;
 mod number_index;
 mod numbering;
 mod occurrences;
+mod pieces;
 mod positions;
 mod runs;
 mod segment;

@@ -4,7 +4,6 @@ ghost use Rattle.std.specs.List.Sorted.{IsStrictlyIncreasing};
 ghost use Rattle.fts_segment.specs.Indexes.{docs_in, unless_none, names_listed, listed_by};
 ghost use Rattle.fts_segment.specs.Positions.{runs_of};
 ghost use Rattle.fts_segment.specs.Runs.{IsRun};
-ghost use Rattle.fts_segment.specs.TermRuns.{term_runs};
 ghost use Rattle.fts_segment.specs.PositionLogs.{IsPositionLog, logged_term_runs};
 
 use crate::grouping::{Groups, Place};
@@ -14,12 +13,12 @@ use crate::term_positions::{PositionLog, TermPositions};
 use fts_pack::List;
 use std::alloc::{AllocError, Global};
 
-/// The terms so far.
+/// Terms with their lists, and their positions as they are to be packed.
 #[derive(Drop)]
-struct Listing {
-    names: Names,
-    lists: Vec<List>,
-    positions: PositionLog,
+pub(crate) struct Listing {
+    pub(crate) names: Names,
+    pub(crate) lists: Vec<List>,
+    pub(crate) positions: PositionLog,
 }
 
 // Makes `docs` the documents of places, each once.
@@ -35,12 +34,13 @@ pub(crate) fn set_docs(docs: &mut Vec<u32>, places: &[Place]) -> Result<(), Allo
 }
 
 impl Listing {
-    ghost use Rattle.std.specs.Prelude.{◌≡◌, ◌++◌, ◌∷◌, [], All, OnOk};
+    ghost use Rattle.std.specs.Prelude.{◌≡◌, ◌++◌, ◌∷◌, [], All, IfOk, OnOk};
     ghost use Rattle.std.specs.List.Sorted.{IsStrictlyIncreasing};
     ghost use Rattle.fts_segment.specs.Indexes.{docs_in};
     ghost use Rattle.fts_segment.specs.Positions.{runs_of};
     ghost use Rattle.fts_segment.specs.Runs.{IsRun};
     ghost use Rattle.fts_segment.specs.PositionLogs.{IsPositionLog, logged_term_runs};
+    ghost use Rattle.fts_segment.specs.TermRuns.{term_runs};
 
     /// Puts a term behind the others, with the documents of its places. `room` is for the numbers of one of them.
     fn push(
@@ -66,6 +66,26 @@ impl Listing {
         self.lists.push(list)?;
         self.positions.push(room, places)
     }
+
+    /// The index of the terms, with their positions packed.
+    pub(crate) fn index(self, alloc: Global) -> Result<TermIndex, AllocError>
+        requires { IsPositionLog self.positions }
+        ensures names { IfOk result (λ index. index.names ≡ self.names) }
+        ensures lists { IfOk result (λ index. index.lists.items ≡ self.lists.items) }
+        ensures positions { IfOk result (λ index. term_runs index.positions ≡ logged_term_runs self.positions) }
+    {
+        let Listing {
+            names,
+            lists,
+            positions,
+        } = self;
+        let positions = TermPositions::build(alloc, positions)?;
+        Ok(TermIndex {
+            names,
+            lists,
+            positions,
+        })
+    }
 }
 
 // Puts a term behind the others, if it has a place.
@@ -90,8 +110,8 @@ fn put(
     }
 }
 
-// Sorted names and the places of each by its number, under the names.
-fn list_terms(
+/// Lists sorted names, each with the places of its number, and leaves out those without a place.
+pub(crate) fn list_terms(
     alloc: Global,
     order: &[(&[u8], usize)],
     groups: &Groups,
@@ -114,29 +134,4 @@ fn list_terms(
         put(&mut listing, alloc, &mut room, name, groups.get(number))?;
     }
     Ok(listing)
-}
-
-/// The index of sorted names and the places of each by its number, under the names.
-pub(crate) fn listed(
-    alloc: Global,
-    order: &[(&[u8], usize)],
-    groups: &Groups,
-) -> Result<TermIndex, AllocError>
-    requires rise { All (λ e. IsStrictlyIncreasing (docs_in (slice_index_or groups.now e.1 []))) order.now }
-    requires runs { All (λ e. All IsRun (runs_of (slice_index_or groups.now e.1 []))) order.now }
-    ensures names { IfOk result (λ index. index.names ≡ names_listed groups.now (map (λ e. (e.1, e.0.now)) order.now)) }
-    ensures lists { IfOk result (λ index. index.lists.items ≡ listed_by docs_in groups.now (map (λ e. (e.1, e.0.now)) order.now)) }
-    ensures positions { IfOk result (λ index. term_runs index.positions ≡ listed_by runs_of groups.now (map (λ e. (e.1, e.0.now)) order.now)) }
-{
-    let Listing {
-        names,
-        lists,
-        positions,
-    } = list_terms(alloc, order, groups)?;
-    let positions = TermPositions::build(alloc, positions)?;
-    Ok(TermIndex {
-        names,
-        lists,
-        positions,
-    })
 }

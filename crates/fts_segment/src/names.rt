@@ -1,6 +1,7 @@
 // Names, one behind the other in one buffer of bytes.
 ghost use Rattle.std.specs.Prelude.{◌≡◌, ◌<◌, ◌++◌, ◌∷◌, [], length, OnOk, OnErr, slice_index_or};
 
+use crate::pieces::piece;
 use std::alloc::{AllocError, Global};
 use std::marker::Model;
 
@@ -45,20 +46,7 @@ impl Names {
     pub(crate) fn get(&self, number: usize) -> &[u8]
         ensures { result.now ≡ slice_index_or self.now number [] }
     {
-        if number < self.ends.len() {
-            self.piece(number)
-        } else {
-            b""
-        }
-    }
-
-    fn piece(&self, number: usize) -> &[u8]
-        requires { number < length self.now }
-        ensures { result.now ≡ slice_index_or self.now number [] }
-    {
-        let start = start_of(&self.ends, number);
-        let end = self.ends[number];
-        &self.bytes[start..end]
+        piece(&self.bytes, &self.ends, number)
     }
 
     /// Puts a name behind the others.
@@ -74,12 +62,4 @@ impl Names {
         }
         Ok(())
     }
-}
-
-// Where the piece of this number begins.
-pub(crate) fn start_of(ends: &[usize], number: usize) -> usize
-    requires { number < length ends.now }
-    ensures { result ≡ slice_index_or (0 ∷ ends.now) number 0 }
-{
-    if number == 0 { 0 } else { ends[number - 1] }
 }

@@ -1,6 +1,6 @@
 // The occurrences of terms in documents, in the order in which they come.
 use crate::grouping::Groups;
-use crate::listing::listed;
+use crate::listing::list_terms;
 use crate::numbering::Numbering;
 use crate::sorting::sorted;
 use crate::term_index::TermIndex;
@@ -76,7 +76,8 @@ impl TermLog {
         let names = self.terms.names();
         let order = sorted(alloc, names)?;
         let groups = Groups::new(alloc, &self.log, names.len())?;
-        let index = listed(alloc, &order, &groups)?;
+        let listing = list_terms(alloc, &order, &groups)?;
+        let index = listing.index(alloc)?;
         Ok(index)
     }
 }

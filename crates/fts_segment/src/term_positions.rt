@@ -5,7 +5,7 @@ ghost use Rattle.fts_segment.specs.Runs.{IsRun};
 ghost use Rattle.fts_segment.specs.RunLogs.{IsRunLog, logged_runs};
 
 use crate::grouping::Place;
-use crate::names::start_of;
+use crate::pieces::start_of;
 use crate::positions::Positions;
 use crate::runs::{RunLog, Runs};
 use std::alloc::{AllocError, Global};

@@ -23,13 +23,13 @@ moved_of c =
     let Q : List Numbered → Type 0 = λ es. IsPermutation (enumerate_from 0 c.names-names.result.now) (map shown es) in
     subst P c.names-names.ensures.names (subst Q (sym c.deref-2.ensures.value) c.in_ok-order.ensures.all)
 
-pub listed-requires-clause-rise : goal.listed-requires-clause-rise
-listed-requires-clause-rise c = let t = c.self.inside in
+pub list_terms-requires-clause-rise : goal.list_terms-requires-clause-rise
+list_terms-requires-clause-rise c = let t = c.self.inside in
     lists_rise t.terms t.log.items c.in_ok-groups.groups c.deref-2.result.now (distinct_of c) c.self.invariant (moved_of c) (grouped_of c)
     (λ q. let P : List Occurrence → Type 0 = λ os. IsStrictlyIncreasing (docs_with q os) in subst P (sym c.self.view_is) (c.requires.rise q))
 
-pub listed-requires-clause-runs : goal.listed-requires-clause-runs
-listed-requires-clause-runs c = let t = c.self.inside in
+pub list_terms-requires-clause-runs : goal.list_terms-requires-clause-runs
+list_terms-requires-clause-runs c = let t = c.self.inside in
     lists_run t.terms t.log.items c.in_ok-groups.groups c.deref-2.result.now (distinct_of c) c.self.invariant (moved_of c) (grouped_of c)
     (λ q. let P : List Occurrence → Type 0 = λ os. All IsRun (runs_with q os) in subst P (sym c.self.view_is) (c.requires.runs q))
 
@@ -42,4 +42,4 @@ returns c = let t = c.self.inside in
     let up = subst R (sym c.deref-2.ensures.value) c.in_ok-order.ensures.ascends in
     let index = IsIndexOf-listed t.terms t.log.items c.in_ok-groups.groups c.deref-2.result.now c.names-names.ensures.distinct c.self.invariant moved up
     (λ k below. c.in_ok-groups.ensures.groups k (omega (arith, c.len.ensures, ap length c.names-names.ensures.names)) ∙ ap (places_of k) c.deref.ensures.value) in
-    rw (c.in_ok-index.ensures.names, c.in_ok-index.ensures.lists, c.in_ok-index.ensures.positions, ← c.self.view_is) index
+    rw (c.in_ok-index.ensures.names, c.in_ok-index.ensures.lists, c.in_ok-index.ensures.positions, c.in_ok-listing.ensures.names, c.in_ok-listing.ensures.lists, c.in_ok-listing.ensures.positions, ← c.self.view_is) index
