@@ -14,6 +14,8 @@ mod pool;
 #[cfg(test)]
 mod query;
 #[cfg(test)]
+mod rounds;
+#[cfg(test)]
 mod segment;
 #[cfg(test)]
 mod text;

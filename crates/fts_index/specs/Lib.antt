@@ -1,0 +1,4 @@
+-- The modules that clauses cite.
+pub mod Rounds
+pub mod RoundsDrawn
+pub mod Shuffles
