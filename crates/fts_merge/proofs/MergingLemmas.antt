@@ -128,13 +128,15 @@ room_for before ss i s most h e old room =
 abbrev pub made_of : SegmentValue → List Origin → ℕ → MergedValue
 made_of segment origins sources = record { segment = segment; origins = origins; sources = sources }
 
--- at the end the segment and the origins are those of the merge
-pub merged_is : (segment builder : SegmentValue) (origins : List Origin) (ss : List SourceValue) (i : ℕ) → length ss ≤ i → segment ≡ builder → builder.schema ≡ schema_of ss →
-    builder.documents ++ contents (drop i ss) ≡ contents ss → origins ++ origins_from i (drop i ss) ≡ origins_from 0 ss → made_of segment origins (length ss) ≡ merge_of ss
-merged_is segment builder origins ss i end same schema contained told =
-    let nothing = drop_all i ss end in
-    let documents : builder.documents ≡ contents ss = sym (append-nil builder.documents) ∙ ap (λ xs. builder.documents ++ contents xs) (sym nothing) ∙ contained in
-    let os : origins ≡ origins_from 0 ss = sym (append-nil origins) ∙ ap (λ xs. origins ++ origins_from i xs) (sym nothing) ∙ told in
+-- a segment and origins are those of the merge where their parts are
+pub merged_is : (segment builder : SegmentValue) (origins : List Origin) (ss : List SourceValue) → segment ≡ builder → builder.schema ≡ schema_of ss → builder.documents ≡ contents ss → origins ≡ origins_from 0 ss →
+    made_of segment origins (length ss) ≡ merge_of ss
+merged_is segment builder origins ss same schema documents told =
     let made : List Field → List (Stamped DocumentValue) → List Origin → MergedValue = λ fields ds os. record { segment = record { schema = fields; documents = ds }; origins = os; sources = length ss } in
     ap (λ (s : SegmentValue). made s.schema s.documents origins) same ∙ ap (λ fields. made fields builder.documents origins) schema
-    ∙ ap₂ (λ ds os. made (schema_of ss) ds os) documents os
+    ∙ ap₂ (λ ds os. made (schema_of ss) ds os) documents told
+
+-- the schema of sources is that of the first
+pub schema_of-first : (ss : List SourceValue) (s : SourceValue) → 0 < length ss → s ≡ get_or ss 0 s → s.segment.schema ≡ schema_of ss
+schema_of-first [] s some is = absurd (omega (arith, some))
+schema_of-first (t ∷ ss) s some is = ap (λ (u : SourceValue). u.segment.schema) is

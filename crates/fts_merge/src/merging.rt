@@ -1,10 +1,10 @@
 // Makes one segment of the live documents of several.
-ghost use Rattle.std.specs.Prelude.{◌≡◌, ◌≢◌, ◌↔◌, ◌<◌, ◌≤◌, ◌+◌, ◌∷◌, ◌++◌, true, [], Some, Err, IfOk, IfErr, OnOk, length, slice_get, nat_lt};
+ghost use Rattle.std.specs.Prelude.{◌≡◌, ◌≢◌, ◌↔◌, ◌<◌, ◌≤◌, ◌+◌, ◌∷◌, ◌++◌, true, [], Some, Err, All, IfOk, IfErr, OnOk, length, slice_get, nat_lt};
 ghost use Rattle.fts_model.specs.declared.refusal.Refusal.TheVariants.{Memory, TooLarge};
 ghost use Rattle.fts_model.specs.declared.operation.Stamped.{Stamped};
 ghost use Rattle.fts_model.specs.Documents.{DocumentValue};
 ghost use Rattle.fts_merge.specs.Contents.{content_of};
-ghost use Rattle.fts_merge.specs.Merges.{HasBits, live_count, origins_in, AreOfOneSchema, merge_of};
+ghost use Rattle.fts_merge.specs.Merges.{HasBits, live_count, contents, origins_in, origins_from, AreOfOneSchema, merge_of};
 
 use crate::merged::Merged;
 use crate::origin::Origin;
@@ -84,6 +84,28 @@ fn take_live(
     Ok(())
 }
 
+/// Takes the live documents of all sources.
+fn take_all(
+    builder: &mut Builder,
+    origins: &mut Vec<Origin>,
+    sources: &[Source<'_>],
+) -> Result<(), Refusal>
+    requires merging { builder.old.merging ≡ true }
+    requires empty { builder.old.segment.documents ≡ [] }
+    requires untold { origins.old.items ≡ [] }
+    requires room { live_count sources.now ≤ 1048576 }
+    ensures schema { builder.new.segment.schema ≡ builder.old.segment.schema }
+    ensures documents { OnOk result (builder.new.segment.documents ≡ contents sources.now) }
+    ensures origins { OnOk result (origins.new.items ≡ origins_from 0 sources.now) }
+    ensures bits { OnOk result (All HasBits sources.now) }
+    ensures memory { IfErr result (λ e. e ≡ Memory) }
+{
+    for (number, source) in sources.iter().enumerate() {
+        take_live(builder, origins, number, source)?;
+    }
+    Ok(())
+}
+
 /// One segment of the live documents of sources, of which there is at least one and all have one schema. The documents stand
 /// in the order of the sources, and those of a source in the order of their numbers. They are handles: no text is copied.
 ///
@@ -100,9 +122,7 @@ pub fn merge(alloc: Global, sources: &[Source<'_>]) -> Result<Merged, Refusal>
     }
     let mut builder = Builder::merging(alloc, sources[0].segment().schema())?;
     let mut origins = Vec::new(alloc);
-    for (number, source) in sources.iter().enumerate() {
-        take_live(&mut builder, &mut origins, number, source)?;
-    }
+    take_all(&mut builder, &mut origins, sources)?;
     let segment = builder.finish(alloc).map_err(|(_, refusal)| refusal)?;
     Ok(Merged::new(segment, origins, sources.len()))
 }
