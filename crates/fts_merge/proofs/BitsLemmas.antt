@@ -1,17 +1,18 @@
 -- Bits of members that pass tests, and the members whose bit is set.
-use Rattle.std.proofs.Common.{◌≡◌, Bool, true, false, cond, not, ◌&&◌, ◌||◌, List, [], ◌∷◌, ◌++◌, filter, length, count_by, refl, sym, ap, ap₂, ◌∙◌, arith}
-use Rattle.std.specs.List.{list_any}
+use Rattle.std.proofs.Common.{◌≡◌, ◌+◌, ℕ, Bool, true, false, cond, not, ◌&&◌, ◌||◌, List, [], ◌∷◌, ◌++◌, map, filter, length, count_by, refl, sym, ap, ap₂, ◌∙◌, arith}
+use Rattle.std.specs.List.{list_any, enumerate_from}
 use Rattle.std.proofs.lemmas.List.Sums.{sum_by-cons}
 use Rattle.fts_model.specs.declared.schema.Field.{Field}
 use Rattle.fts_model.specs.declared.operation.Op.{Op}
 use Rattle.fts_model.specs.declared.operation.Stamped.{Stamped}
 use Rattle.fts_model.specs.Documents.{DocumentValue}
 use Rattle.fts_model.specs.Operations.{strikes_later, survives}
+use Rattle.fts_segment.specs.Segments.{numbers_where}
 use Rattle.fts_merge.specs.Contents.{where_set}
 use Rattle.fts_merge.specs.Strikes.{bits_where, bits_after}
 
 -- two tests in a row are one
-and_moved : (a b c : Bool) → ((a && b) && c) ≡ (a && (b && c))
+pub and_moved : (a b c : Bool) → ((a && b) && c) ≡ (a && (b && c))
 and_moved true b c = refl
 and_moved false b c = refl
 
@@ -26,7 +27,7 @@ bits_where-same p q same [] bits = refl
 bits_where-same p q same (x ∷ xs) [] = refl
 bits_where-same p q same (x ∷ xs) (bit ∷ bits) = ap₂ (λ b bs. (bit && b) ∷ bs) (same x) (bits_where-same p q same xs bits)
 
-and_true : (b : Bool) → (b && true) ≡ b
+pub and_true : (b : Bool) → (b && true) ≡ b
 and_true true = refl
 and_true false = refl
 
@@ -51,7 +52,7 @@ list_any-append : {X : Type 0} (p : X → Bool) (xs ys : List X) → list_any p 
 list_any-append p [] ys = refl
 list_any-append p (x ∷ xs) ys = ap (λ b. p x || b) (list_any-append p xs ys) ∙ or_moved (p x) (list_any p xs) (list_any p ys)
 
-not_or : (a b : Bool) → not (a || b) ≡ (not a && not b)
+pub not_or : (a b : Bool) → not (a || b) ≡ (not a && not b)
 not_or true b = refl
 not_or false b = refl
 
@@ -89,3 +90,7 @@ length-where_set [] (b ∷ bits) e = absurd (omega (arith, e))
 length-where_set (x ∷ xs) [] e = absurd (omega (arith, e))
 length-where_set (x ∷ xs) (true ∷ bits) e = omega (arith, length-where_set xs bits (omega (arith, e)), sum_by-cons (λ (bit : Bool). cond bit 1 0) true bits)
 length-where_set (x ∷ xs) (false ∷ bits) e = omega (arith, length-where_set xs bits (omega (arith, e)), sum_by-cons (λ (bit : Bool). cond bit 1 0) false bits)
+
+-- the numbers of the members that pass, the first apart
+pub numbers_where-cons : {X : Type 0} (p : X → Bool) (n : ℕ) (x : X) (xs : List X) → numbers_where p n (x ∷ xs) ≡ cond (p x) (n ∷ numbers_where p (n + 1) xs) (numbers_where p (n + 1) xs)
+numbers_where-cons p n x xs = elim (p x) as (λ b. map (λ y. y.0) (cond b ((n, x) ∷ filter (λ y. p y.1) (enumerate_from (n + 1) xs)) (filter (λ y. p y.1) (enumerate_from (n + 1) xs))) ≡ cond b (n ∷ numbers_where p (n + 1) xs) (numbers_where p (n + 1) xs)) [ true ↦ refl | false ↦ refl ]

@@ -12,6 +12,7 @@ use Rattle.fts_segment.specs.Segments.{SegmentValue, numbers_where}
 use Rattle.fts_merge.specs.declared.origin.Origin.{Origin}
 use Rattle.fts_merge.specs.Contents.{where_set, content_of}
 use Rattle.fts_merge.specs.Merges.{SourceValue, HasBits, live_count, contents, origins_in, origins_from, MergedValue, schema_of, merge_of}
+use Rattle.fts_merge.proofs.BitsLemmas.{numbers_where-cons}
 
 -- what is left of a list, the first apart
 pub dropped : {X : Type 0} (xs : List X) (i : ℕ) (x : X) → i < length xs → x ≡ get_or xs i x → drop i xs ≡ x ∷ drop (i + 1) xs
@@ -41,10 +42,6 @@ pub length-contents : (ss : List SourceValue) → length (contents ss) ≤ live_
 length-contents [] = omega arith
 length-contents (s ∷ ss) =
     omega (arith, length-contents ss, length-content s.segment.documents s.live, length-append (content_of s.segment s.live) (contents ss), sum_by-cons count_of s ss)
-
--- the numbers of the members that pass, the first apart
-pub numbers_where-cons : {X : Type 0} (p : X → Bool) (n : ℕ) (x : X) (xs : List X) → numbers_where p n (x ∷ xs) ≡ cond (p x) (n ∷ numbers_where p (n + 1) xs) (numbers_where p (n + 1) xs)
-numbers_where-cons p n x xs = elim (p x) as (λ b. map (λ y. y.0) (cond b ((n, x) ∷ filter (λ y. p y.1) (enumerate_from (n + 1) xs)) (filter (λ y. p y.1) (enumerate_from (n + 1) xs))) ≡ cond b (n ∷ numbers_where p (n + 1) xs) (numbers_where p (n + 1) xs)) [ true ↦ refl | false ↦ refl ]
 
 -- the origins of the documents from a number on
 abbrev pub origins_behind : ℕ → ℕ → List Bool → List Origin

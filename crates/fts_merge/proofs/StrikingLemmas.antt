@@ -18,7 +18,7 @@ use Rattle.fts_pack.specs.Documents.{block_at}
 use Rattle.fts_segment.specs.Segments.{SegmentValue, numbers_where, postings}
 use Rattle.fts_merge.specs.Strikes.{bits_where, bits_after}
 use Rattle.fts_merge.specs.Internals.Striking.{bound_by, bound_of, strikes_by_term, survives_terms, is_before, cleared}
-use Rattle.fts_merge.proofs.BitsLemmas.{bits_where-again, bits_where-same, bits_where-all}
+use Rattle.fts_merge.proofs.BitsLemmas.{and_moved, and_true, not_or, bits_where-again, bits_where-same, bits_where-all, numbers_where-cons}
 
 below_none : (n : ℕ) → nat_lt n 0 ≡ false
 below_none n = grind (arith, nat_tests)
@@ -30,10 +30,6 @@ and_false : (b : Bool) → (b && false) ≡ false
 and_false true = refl
 and_false false = refl
 
-and_true : (b : Bool) → (b && true) ≡ b
-and_true true = refl
-and_true false = refl
-
 or_false : (b : Bool) → (b || false) ≡ b
 or_false true = refl
 or_false false = refl
@@ -44,10 +40,6 @@ strikes-cases : (schema : List Field) (stamp : ℕ) (op : Op) (d : Stamped Docum
 strikes-cases schema stamp (Add document) d = and_false (nat_lt d.stamp stamp) ∙ sym (ap (λ b. b || false) (below_none d.stamp))
 strikes-cases schema stamp (Delete term) d = sym (ap (λ b. b || (nat_lt d.stamp stamp && has schema d.value term)) (below_none d.stamp))
 strikes-cases schema stamp DeleteAll d = and_true (nat_lt d.stamp stamp) ∙ sym (or_false (nat_lt d.stamp stamp))
-
-and_moved : (a b c : Bool) → ((a && b) && c) ≡ (a && (b && c))
-and_moved true b c = refl
-and_moved false b c = refl
 
 or_swapped : (a b c d : Bool) → ((a || b) || (c || d)) ≡ ((a || c) || (b || d))
 or_swapped true b c d = refl
@@ -63,10 +55,6 @@ struck-cases schema (op ∷ ops) d =
     ap₂ (λ a b. a || b) (strikes-cases schema op.stamp op.value d) (struck-cases schema ops d)
     ∙ or_swapped (nat_lt d.stamp (bound_by op.stamp op.value)) (strikes_by_term schema op.stamp op.value d) (nat_lt d.stamp (bound_of ops)) others
     ∙ sym (ap (λ b. b || (strikes_by_term schema op.stamp op.value d || others)) (below_max d.stamp (bound_by op.stamp op.value) (bound_of ops)))
-
-not_or : (a b : Bool) → not (a || b) ≡ (not a && not b)
-not_or true b = refl
-not_or false b = refl
 
 survives-cases : (schema : List Field) (ops : List (Stamped Op)) (d : Stamped DocumentValue) →
     survives schema ops d ≡ (not (nat_lt d.stamp (bound_of ops)) && survives_terms schema ops d)
@@ -103,10 +91,6 @@ survives_terms-push schema (o ∷ ops) op d =
     ∙ ap (λ b. not (strikes_by_term schema o.stamp o.value d) && b) (survives_terms-push schema ops op d)
     ∙ sym (and_moved (not (strikes_by_term schema o.stamp o.value d)) (survives_terms schema ops d) (not (strikes_by_term schema op.stamp op.value d)))
     ∙ ap (λ b. b && not (strikes_by_term schema op.stamp op.value d)) (sym (not_or (strikes_by_term schema o.stamp o.value d) (list_any (λ (o : Stamped Op). strikes_by_term schema o.stamp o.value d) ops)))
-
--- the numbers of the members that pass, the first apart
-numbers_where-cons : {X : Type 0} (p : X → Bool) (n : ℕ) (x : X) (xs : List X) → numbers_where p n (x ∷ xs) ≡ cond (p x) (n ∷ numbers_where p (n + 1) xs) (numbers_where p (n + 1) xs)
-numbers_where-cons p n x xs = elim (p x) as (λ b. map (λ y. y.0) (cond b ((n, x) ∷ filter (λ y. p y.1) (enumerate_from (n + 1) xs)) (filter (λ y. p y.1) (enumerate_from (n + 1) xs))) ≡ cond b (n ∷ numbers_where p (n + 1) xs) (numbers_where p (n + 1) xs)) [ true ↦ refl | false ↦ refl ]
 
 get_behind : {X : Type 0} (xs : List X) (y : X) (ys : List X) → slice_get (xs ++ y ∷ ys) (length xs) ≡ Some y
 get_behind [] y ys = refl

@@ -1,3 +1,4 @@
 pub mod ViewsLemmas
 pub mod StepsLemmas
 pub mod SlotsLemmas
+pub mod ResultsLemmas

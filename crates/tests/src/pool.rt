@@ -131,7 +131,13 @@ fn no_job(rt: HostRuntime) -> Result<(), Fail> {
 // Whichever growth is refused: all results, or a refusal before a job ran, after which a second try has all results.
 #[test]
 fn a_refusal_comes_before_the_first_job(rt: HostRuntime) -> Result<(), Fail> {
-    let jobs = [square_of(1), square_of(2), square_of(3), square_of(4), square_of(5)];
+    let jobs = [
+        square_of(1),
+        square_of(2),
+        square_of(3),
+        square_of(4),
+        square_of(5),
+    ];
     let squares = match run_all(&rt, rt.alloc(), &jobs, 3, &Open) {
         Ok(squares) => squares,
         Err(_) => {

@@ -101,6 +101,7 @@ fn two_threads_draw_each_stamp_once(rt: HostRuntime) -> Result<(), Fail> {
     assert_eq!(rt; batch.round(), 7);
     assert_eq!(rt; batch.first(), 1);
     assert_eq!(rt; batch.ops().len(), 2000);
+    assert_eq!(rt; batch.end(), 2001);
     let mut next = 1;
     let mut begun = 0u64;
     for op in batch.ops() {

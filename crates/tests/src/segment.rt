@@ -1,30 +1,15 @@
 // fts_segment: the documents `{"title":"a b a","price":4}`, `{"title":"b"}` and `{"tag":"a"}` at stamps 3, 5 and 9, under
 // the fields `title` (text), `tag` (keyword), `price` (`u64`) and `temp` (`i64`).
-use fts_model::{Document, Field, FieldValue, Kind, Number, Refusal, Schema, Term, Text};
-use fts_pack::Blocks;
+use crate::fixtures::schema;
+use fts_model::{Document, FieldValue, Number, Refusal, Schema, Term, Text};
+use fts_pack::{Blocks, Column};
 use fts_segment::{Builder, Segment};
 use serde_json::Value;
 use std::alloc::{AllocError, Global};
 use std::process::Abort;
 use std::test::Fail;
 
-fn field(alloc: Global, name: &str, kind: Kind, default: bool) -> Result<Field, AllocError> {
-    let name = Text::new(String::from_str(alloc, name)?);
-    Ok(Field {
-        name,
-        kind,
-        default,
-    })
-}
-
-fn schema(alloc: Global) -> Result<Schema, Fail> {
-    let mut fields = Vec::new(alloc);
-    fields.push(field(alloc, "title", Kind::Text, true)?)?;
-    fields.push(field(alloc, "tag", Kind::Keyword, true)?)?;
-    fields.push(field(alloc, "price", Kind::U64, false)?)?;
-    fields.push(field(alloc, "temp", Kind::I64, false)?)?;
-    Ok(Schema::new(alloc, fields).map_err(|e| e.1)?)
-}
+mod generated;
 
 fn document(alloc: Global, schema: &Schema, json: &str) -> Result<Document, Fail> {
     let json = Value::from_str(alloc, json)?;
@@ -41,19 +26,29 @@ fn number(field: usize, number: Number) -> Term {
     Term { field, value }
 }
 
-// Adds the document, again where a growth was refused.
+// Adds the document. Where a growth was refused, the builder is as before, and the second try succeeds.
 fn add(builder: &mut Builder, stamp: u64, document: &Document) -> Result<(), Fail> {
-    if builder.docs() < 1_048_576 && builder.add(stamp, document).is_err() {
+    let docs = builder.docs();
+    if docs < 1_048_576 && builder.add(stamp, document).is_err() {
+        if builder.docs() != docs {
+            return Err(Fail::from("a refused add left a document"));
+        }
         builder.add(stamp, document)?;
     }
     Ok(())
 }
 
-// The segment of the documents, on the second try where a growth was refused.
+// The segment of the documents. Where a growth was refused, the builder comes back, and the second try succeeds.
 fn finished(alloc: Global, builder: Builder) -> Result<Segment, Fail> {
+    let docs = builder.docs();
     match builder.finish(alloc) {
         Ok(segment) => Ok(segment),
-        Err((builder, _)) => Ok(builder.finish(alloc).map_err(|e| e.1)?),
+        Err((builder, refusal)) => {
+            if builder.docs() != docs || refusal != Refusal::Memory {
+                return Err(Fail::from("a refused finish changed the builder"));
+            }
+            Ok(builder.finish(alloc).map_err(|e| e.1)?)
+        }
     }
 }
 
@@ -183,12 +178,11 @@ fn with_numbers(alloc: Global) -> Result<Segment, Fail> {
     finished(alloc, builder)
 }
 
-// The numbers of the first two documents in a field.
-fn column(segment: &Segment, field: usize) -> Option<(Option<u64>, Option<u64>)> {
+// The numbers of the documents in a number field.
+fn column(segment: &Segment, field: usize) -> Option<&Column> {
     let fields = segment.schema().fields();
     if field < fields.len() && segment.schema().kind(field).holds_numbers() {
-        let column = segment.column(field);
-        return Some((column.get(0), column.get(1)));
+        return Some(segment.column(field));
     }
     None
 }
@@ -196,14 +190,28 @@ fn column(segment: &Segment, field: usize) -> Option<(Option<u64>, Option<u64>)>
 #[test]
 fn columns(rt: HostRuntime) -> Result<(), Fail> {
     let segment = with_numbers(rt.alloc())?;
-    assert_eq!(rt; column(&segment, 0), None);
-    assert_eq!(rt; column(&segment, 2), Some((Some(4), None)));
+    assert!(rt; column(&segment, 0).is_none());
+    let prices = column(&segment, 2).ok_or("no column")?;
+    assert_eq!(rt; (prices.get(0), prices.get(1)), (Some(4), None));
     // An i64 is kept as the u64 in its place.
+    let temps = column(&segment, 3).ok_or("no column")?;
     assert_eq!(rt;
-        column(&segment, 3),
-        Some((Some(9223372036854775807), None))
+        (temps.get(0), temps.get(1)),
+        (Some(9223372036854775807), None)
     );
     has(&rt, &segment, &number(3, Number::I64(-1)), &[0])
+}
+
+// A copy has what the segment has, also when the segment is gone.
+#[test]
+fn copies(rt: HostRuntime) -> Result<(), Fail> {
+    let alloc = rt.alloc();
+    let segment = example(alloc, false)?;
+    let copy = segment.clone()?;
+    drop(segment);
+    assert_eq!(rt; copy.docs(), 3);
+    has(&rt, &copy, &text(alloc, 0, "b")?, &[0, 1])?;
+    stands(&rt, &copy, &text(alloc, 0, "a")?, 0, &[0, 2])
 }
 
 #[test]
