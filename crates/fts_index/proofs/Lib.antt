@@ -1,3 +1,4 @@
+-- The lemmas.
 pub mod RoundsNumbersLemmas
 pub mod RoundsOrderLemmas
 pub mod RoundsTotalsLemmas
@@ -5,3 +6,16 @@ pub mod RoundsStepsLemmas
 pub mod RoundsDealtLemmas
 pub mod RoundsMergingLemmas
 pub mod ShufflesLemmas
+pub mod OrderLemmas
+pub mod EntryLemmas
+pub mod CutLemmas
+pub mod JobLemmas
+pub mod CommitLemmas
+pub mod MergeLemmas
+pub mod SnapshotLemmas
+pub mod SourceLemmas
+pub mod PlanLemmas
+pub mod PublicationsLists
+pub mod PublicationsAppending
+pub mod PublicationsNaming
+pub mod WriterLemmas

@@ -1,11 +1,10 @@
 -- The ends of the lanes that a round was opened with are this round's, each once.
-use Rattle.std.proofs.Common.{◌≡◌, ℕ, zero, suc, ◌+◌, ◌<◌, ◌≤◌, List, [], ◌∷◌, ◌++◌, map, length, get_or, All, sym, refl, ap, ◌∙◌, subst, arith, length-append}
-use Rattle.std.proofs.lemmas.List.{length-map, map-append}
+use Rattle.std.proofs.Common.{◌≡◌, ℕ, zero, suc, ◌+◌, ◌<◌, ◌≤◌, List, [], ◌∷◌, map, length, get_or, All, sym, refl, ap, ◌∙◌, subst, arith}
+use Rattle.std.proofs.lemmas.List.FromFn.{get_or-map-range_with_len, length-map-range_with_len}
 use native.Mathlib.Decide.{ℕ_discrete}
 use mathlib.Core.Logic.{dite}
 use Rattle.std.specs.List.{range_with_len}
 use Rattle.fts_index.specs.Rounds.{Held, IsLaneOf, Opened, SameLane, fresh, lanes_of, times}
-use Rattle.fts_index.proofs.RoundsNumbersLemmas.{range_with_len-snoc}
 use Rattle.fts_index.proofs.RoundsOrderLemmas.{times_here, times_else, times_low}
 
 run_once : (k a n : ℕ) → times k (range_with_len a n) ≤ 1
@@ -23,22 +22,13 @@ numbers_is (x ∷ xs) a (suc n) e f =
     let rest = numbers_is xs (a + 1) n (omega arith) (λ i d lt. f (suc i) d (omega arith) ∙ (let z : a + suc i ≡ (a + 1) + i = omega arith in z)) in
     λ i. head i ∷ rest i
 
-fresh_at : (r : Opened) (a n i : ℕ) (d : Held) → i < n → get_or (map (fresh r) (range_with_len a n)) i d ≡ fresh r (a + i)
-fresh_at r a zero i d lt = absurd (omega arith)
-fresh_at r a (suc n) zero d lt = ap (fresh r) (let z : a ≡ a + 0 = omega arith in z)
-fresh_at r a (suc n) (suc i) d lt = fresh_at r (a + 1) n i d (omega arith) ∙ ap (fresh r) (let z : (a + 1) + i ≡ a + suc i = omega arith in z)
-
-length_run : (a n : ℕ) → length (range_with_len a n) ≡ n
-length_run a zero = refl
-length_run a (suc n) = let r = length_run (a + 1) n in omega arith
-
 module _ (r : Opened) (lanes ends : List Held) (n : ℕ) (dealt : lanes ≡ map (fresh r) (range_with_len 0 n)) (whole : n ≡ r.terms.lanes) (len : length ends ≡ length lanes)
     (same : (i : ℕ) (d : Held) → i < length lanes → SameLane (get_or lanes i d) (get_or ends i d)) where
   count : length lanes ≡ n
-  count = ap length dealt ∙ (length-map (range_with_len 0 n) (fresh r) ∙ length_run 0 n)
+  count = ap length dealt ∙ length-map-range_with_len (fresh r) 0 n
 
   was : (i : ℕ) (d : Held) → i < n → get_or lanes i d ≡ fresh r i
-  was i d lt = ap (λ (l : List Held). get_or l i d) dealt ∙ (fresh_at r 0 n i d lt ∙ ap (fresh r) (let z : 0 + i ≡ i = omega arith in z))
+  was i d lt = ap (λ (l : List Held). get_or l i d) dealt ∙ get_or-map-range_with_len (fresh r) 0 n i i d lt (omega arith)
 
   is : (i : ℕ) (d : Held) → i < n → SameLane (fresh r i) (get_or ends i d)
   is i d lt = let c = count in subst (λ (h : Held). SameLane h (get_or ends i d)) (was i d lt) (same i d (omega arith))
@@ -55,27 +45,3 @@ module _ (r : Opened) (lanes ends : List Held) (n : ℕ) (dealt : lanes ≡ map 
   pub all_once : (k : ℕ) → times k (lanes_of ends) ≤ 1
   all_once k = let c = count in
       subst (λ (l : List ℕ). times k l ≤ 1) (sym (numbers_is ends 0 n (len ∙ c) (λ i d lt. (is i d lt).2 ∙ (let z : i ≡ 0 + i = omega arith in z)))) (run_once k 0 n)
-
-snoc_same : (xs ys : List Held) (a b : Held) → xs ++ a ∷ [] ≡ ys ++ b ∷ [] → (xs ≡ ys) × (a ≡ b)
-snoc_same [] [] a b e = (refl, cc)
-snoc_same [] (y ∷ ys) a b e = absurd (let l = ap length e in let m = length-append ys (b ∷ []) in omega arith)
-snoc_same (x ∷ xs) [] a b e = absurd (let l = ap length e in let m = length-append xs (a ∷ []) in omega arith)
-snoc_same (x ∷ xs) (y ∷ ys) a b e =
-    let head : x ≡ y = cc in
-    let tail : xs ++ a ∷ [] ≡ ys ++ b ∷ [] = cc in
-    let r = snoc_same xs ys a b tail in
-    ((λ i. head i ∷ r.0 i), r.1)
-
--- the last of the lanes that a round was opened with
-pub popped : (r : Opened) (n : ℕ) (lanes left : List Held) (x : Held) → lanes ≡ map (fresh r) (range_with_len 0 (suc n)) → lanes ≡ left ++ x ∷ [] → (left ≡ map (fresh r) (range_with_len 0 n)) × (x ≡ fresh r n)
-popped r n lanes left x dealt is = snoc_same left (map (fresh r) (range_with_len 0 n)) x (fresh r n)
-    (sym is
-    ∙ (dealt
-    ∙ (ap (map (fresh r)) (range_with_len-snoc 0 n ∙ ap (λ (k : ℕ). range_with_len 0 n ++ k ∷ []) (let z : 0 + n ≡ n = omega arith in z))
-    ∙ map-append (fresh r) (range_with_len 0 n) (n ∷ []))))
-
-pub lane_of : (r : Opened) (i : ℕ) (x e : Held) → x ≡ fresh r i → SameLane x e → i < r.terms.lanes → IsLaneOf r e × (e.lane ≡ i)
-lane_of r i x e is same lt =
-    let s = subst (λ (h : Held). SameLane h e) is same in
-    let number : e.lane ≡ i = s.2 in
-    ((s.0, s.1, omega arith), number)

@@ -1,5 +1,7 @@
 // What a round gathered.
-ghost use Rattle.std.specs.Prelude.{◌≡◌};
+ghost use Rattle.std.specs.Prelude.{◌≡◌, ◌+◌, ◌^◌, ◌<◌, length};
+ghost use Rattle.std.specs.List.{range_with_len};
+ghost use Rattle.fts_index.specs.Rounds.{stamps_of};
 
 use fts_model::{Op, Stamp, Stamped};
 use std::marker::Model;
@@ -43,8 +45,17 @@ impl Batch {
 
     /// The operations with their stamps, which are the first one, the next, and so on.
     pub fn ops(&self) -> &[Stamped<Op>]
-        ensures { result.now ≡ self.now.ops }
+        ensures ops { result.now ≡ self.now.ops }
+        ensures numbered { stamps_of result.now ≡ range_with_len self.now.first (length result.now) }
     {
         &self.ops
+    }
+
+    /// The stamp that comes after those of the operations.
+    pub fn end(&self) -> Stamp
+        ensures end { result ≡ self.now.first + length self.now.ops }
+        ensures small { result < 2 ^ 62 }
+    {
+        self.first + self.ops.len() as u64
     }
 }

@@ -1,27 +1,56 @@
-//! The index: rounds of operations, whose lanes draw stamps without a lock.
+//! The index: written by one writer in as many lanes as there are threads, and searched from any thread.
 //!
-//! A round takes operations from several threads at once. [`open_round`] gives it a lane for each
-//! thread. A [`Lane`] draws the next stamp of the round by one atomic step and keeps its operations
-//! to itself, so lanes never wait for each other. Ended lanes are gathered by their [`Round`] into
-//! one [`Batch`], in the order of the stamps: that order is the one in which the operations count,
-//! whatever the threads did.
+//! - A [`Writer`] opens *rounds*. A round takes operations from several threads at once: each has a [`Lane`], which draws the
+//!   next stamp by one atomic step and keeps its operations to itself, so lanes never wait for each other. Ended lanes are
+//!   gathered by their [`Round`] into one [`Batch`], in the order of the stamps: that is the order in which the operations
+//!   count, whatever the threads did.
+//! - A batch is committed. What is found at one time is a [`Snapshot`]: segments, each with its number and its live bits. It
+//!   never changes: a commit or a merge makes another one, which shares all that stays, so a refusal leaves everything as it
+//!   was, and who holds a snapshot keeps it. What a commit does to each segment is a job of its own ([`CommitJob`]), which
+//!   any thread may run.
+//! - Commits are *published* ([`publications`]). A [`Reader`] in any thread takes the newest one by one look, without a lock,
+//!   and never goes back; a [`Searcher`] keeps the one that it was made of.
 //!
 //! ```text
-//! let (round, mut lanes) = open_round(alloc, 0, 1, 2, 1000)?;
+//! let mut writer = Writer::new(rt, alloc, &schema)?;
+//! let (round, mut lanes) = writer.open_round(alloc, 2, 1000)?;
 //! // each lane in a thread of its own:
 //! let stamp = lane.submit(Op::Add(document))?;
 //! let end = lane.end();
 //! // back in one thread:
 //! let batch = round.gather(alloc, ends)?;
+//! let committed = writer.commit(rt, alloc, &batch, Cut::Runs(65_536), 4, &Open)?;
+//! // in a reader's thread:
+//! reader.told(&committed.seen)?;
+//! let searcher = reader.searcher()?;
+//! // searcher.commit_stamp() is committed.stamp, or more
+//! writer.close(rt);
 //! ```
 #![tactic(auto)]
 
 mod batch;
+mod committing;
+mod cut;
+mod entry;
+mod group;
+mod jobs;
 mod lane;
+mod merging;
+mod numbers;
+mod planning;
+pub mod publications;
 mod round;
+mod snapshot;
 mod stamps;
+mod writer;
 
 pub use batch::Batch;
+pub use cut::Cut;
+pub use entry::{Entry, SegmentInfo};
+pub use jobs::CommitJob;
 pub use lane::{Lane, LaneEnd};
+pub use publications::{CommitSeen, Publisher, Reader, Searcher};
 pub use round::{Round, open_round};
+pub use snapshot::Snapshot;
 pub use stamps::Terms;
+pub use writer::{Committed, Writer};

@@ -19,3 +19,5 @@ mod rounds;
 mod segment;
 #[cfg(test)]
 mod text;
+#[cfg(test)]
+mod writer;

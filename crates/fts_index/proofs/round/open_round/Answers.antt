@@ -1,6 +1,6 @@
 -- Each lane that is dealt keeps the rule, and is the next fresh one.
-use Rattle.std.proofs.Common.{rules, ◌≡◌, ℕ, suc, ◌+◌, ◌-◌, List, [], ◌∷◌, ◌++◌, map, ap, sym, ◌∙◌, arith}
-use Rattle.std.proofs.lemmas.List.{map-append}
+use Rattle.std.proofs.Common.{rules, ◌≡◌, ℕ, ◌+◌, ◌-◌, List, [], ◌∷◌, ◌++◌, map, ap, sym, ◌∙◌, arith}
+use Rattle.std.proofs.lemmas.List.FromFn.{map-range_with_len_more}
 use Rattle.fts_index.specs.RoundsDrawn.{drawn}
 use Rattle.atomic_table.specs.Seated.{TableId}
 use Rattle.fts_model.specs.declared.operation.Op.{Op}
@@ -8,7 +8,6 @@ use Rattle.fts_model.specs.declared.operation.Stamped.{Stamped}
 use Rattle.fts_index.specs.declared.stamps.Terms.{Terms}
 use Rattle.std.specs.List.{range_with_len}
 use Rattle.fts_index.specs.Rounds.{Held, fresh}
-use Rattle.fts_index.proofs.RoundsNumbersLemmas.{range_with_len-snoc}
 use Rattle.fts_index.proofs.RoundsStepsLemmas.{deals}
 use Rattle.fts_index.proofs.round.open_round.Goals as goal
 
@@ -20,12 +19,9 @@ made_more table table' mine terms lane ops made is e e' none =
     let F : TableId → List Held = λ r. map (fresh record { table = r; terms = terms }) (range_with_len 0 (lane + 1)) in
     let last : Held = fresh record { table = table; terms = terms } lane in
     let one : record { table = mine; terms = terms; lane = lane; ops = ops } ≡ last = (λ i. record { table = e' i; terms = terms; lane = lane; ops = none i }) in
-    let grows : range_with_len 0 (lane + 1) ≡ range_with_len 0 lane ++ lane ∷ []
-    = ap (range_with_len 0) (let k : lane + 1 ≡ suc lane = omega arith in k) ∙ (range_with_len-snoc 0 lane ∙ ap (λ (k : ℕ). range_with_len 0 lane ++ k ∷ []) (let k : 0 + lane ≡ lane = omega arith in k)) in
     ap (λ (l : List Held). l ++ record { table = mine; terms = terms; lane = lane; ops = ops } ∷ []) is
     ∙ (ap (λ (h : Held). map (fresh record { table = table; terms = terms }) (range_with_len 0 lane) ++ h ∷ []) one
-    ∙ (sym (map-append (fresh record { table = table; terms = terms }) (range_with_len 0 lane) (lane ∷ []))
-    ∙ (sym (ap (map (fresh record { table = table; terms = terms })) grows) ∙ ap F (sym e))))
+    ∙ (sym (map-range_with_len_more (fresh record { table = table; terms = terms }) 0 lane lane (omega arith)) ∙ ap F (sym e)))
 
 pub split_seat-lane_seat-requires : goal.split_seat-lane_seat-requires
 split_seat-lane_seat-requires c =

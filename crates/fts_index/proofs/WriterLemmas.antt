@@ -1,0 +1,115 @@
+-- The stamps of a batch and of what its commit leaves.
+use Rattle.std.proofs.Common.{◌≡◌, ◌<◌, ◌≤◌, ◌+◌, ◌^◌, ◌==◌, Option, Some, None, ℕ, zero, suc, Bool, true, false, cond, List, [], ◌∷◌, ◌++◌, length, subst, sym, ap, ◌∙◌, arith, All}
+use Rattle.std.specs.List.{AllByRecursion, range_with_len}
+use Rattle.std.proofs.lemmas.Bool.{and_parts, eqb-true}
+use Rattle.std.proofs.lemmas.List.Elements.{All-from_recursion, recursion_from_All}
+use Rattle.fts_model.specs.declared.schema.Field.{Field}
+use Rattle.fts_model.specs.declared.operation.Op.{Op}
+use Rattle.fts_model.specs.declared.operation.Op.TheVariants.{Add, Delete, DeleteAll}
+use Rattle.fts_model.specs.declared.operation.Stamped.{Stamped}
+use Rattle.fts_model.specs.Documents.{DocumentValue}
+use Rattle.fts_model.specs.Operations.{alive, adds, is_struck, left_by, StampsRise}
+use Rattle.fts_index.specs.Rounds.{Gathered, stamps_of}
+use Rattle.fts_index.specs.declared.stamps.Terms.{Terms}
+use Rattle.fts_index.specs.Snapshots.{IsBehind, content_of}
+use Rattle.fts_index.specs.Publications.{FrontValue}
+use Rattle.fts_index.specs.Writers.{IsOpen, IsWriter, is_of}
+use Rattle.fts_index.proofs.OrderLemmas.{Rises, All-weaker_by, All-joined, rises_joined}
+use Rattle.fts_index.proofs.CommitLemmas.{by_stamp, stamps_rise}
+
+-- the stamps of the operations that add documents
+all_adds : (P : ℕ → Type 0) (ds : List (Stamped DocumentValue)) → AllByRecursion (λ d. P d.stamp) ds → AllByRecursion (λ o. P o.stamp) (adds ds)
+all_adds P [] h = tt
+all_adds P (d ∷ ds) h = (h.0, all_adds P ds h.1)
+
+adds_rise : (ds : List (Stamped DocumentValue)) → Rises (λ d. d.stamp) ds → Rises (λ o. o.stamp) (adds ds)
+adds_rise [] h = tt
+adds_rise (d ∷ ds) h = (all_adds (λ s. d.stamp < s) ds h.0, adds_rise ds h.1)
+
+-- operations behind documents, after those that add these
+pub rise_behind : (ds : List (Stamped DocumentValue)) (ops : List (Stamped Op)) → StampsRise ds → IsBehind ds ops → StampsRise (adds ds ++ ops)
+rise_behind ds ops rise behind =
+    stamps_rise (adds ds ++ ops)
+    (rises_joined (λ (o : Stamped Op). o.stamp) behind.first (adds ds) ops (adds_rise ds (by_stamp ds rise))
+    (all_adds (λ s. s < behind.first) ds (recursion_from_All (λ (d : Stamped DocumentValue). d.stamp < behind.first) ds behind.before))
+    (by_stamp ops behind.rising)
+    (recursion_from_All (λ (o : Stamped Op). behind.first ≤ o.stamp) ops behind.behind))
+
+-- numbers one after the other
+run_from : (k a n : ℕ) → k ≤ a → AllByRecursion (λ x. k ≤ x) (range_with_len a n)
+run_from k a zero h = tt
+run_from k a (suc n) h = (h, run_from k (a + 1) n (omega (arith, h)))
+
+run_to : (k a n : ℕ) → a + n ≤ k → AllByRecursion (λ x. x < k) (range_with_len a n)
+run_to k a zero h = tt
+run_to k a (suc n) h = (omega (arith, h), run_to k (a + 1) n (omega (arith, h)))
+
+run_rises : (a n : ℕ) → Rises (λ x. x) (range_with_len a n)
+run_rises a zero = tt
+run_rises a (suc n) = (All-weaker_by (λ x. a + 1 ≤ x) (λ x. a < x) (λ x h. omega (arith, h)) (range_with_len (a + 1) n) (run_from (a + 1) (a + 1) n (omega arith)), run_rises (a + 1) n)
+
+-- what holds of the stamps holds of the operations
+all_stamped : (P : ℕ → Type 0) (ops : List (Stamped Op)) → AllByRecursion P (stamps_of ops) → AllByRecursion (λ o. P o.stamp) ops
+all_stamped P [] h = tt
+all_stamped P (op ∷ ops) h = (h.0, all_stamped P ops h.1)
+
+stamped_rise : (ops : List (Stamped Op)) → Rises (λ x. x) (stamps_of ops) → Rises (λ o. o.stamp) ops
+stamped_rise [] h = tt
+stamped_rise (op ∷ ops) h = (all_stamped (λ s. op.stamp < s) ops h.0, stamped_rise ops h.1)
+
+-- a batch whose first stamp is above those of documents
+pub batch_behind : (ds : List (Stamped DocumentValue)) (ops : List (Stamped Op)) (stamp first : ℕ) → All (λ d. d.stamp < stamp) ds → stamp < first →
+    stamps_of ops ≡ range_with_len first (length ops) → IsBehind ds ops
+batch_behind ds ops stamp first below above run = record {
+  first = first;
+  rising = stamps_rise ops (stamped_rise ops (subst (Rises (λ x. x)) (sym run) (run_rises first (length ops))));
+  before = λ k d within. omega (arith, below k d within, above);
+  behind = All-from_recursion (λ (o : Stamped Op). first ≤ o.stamp) ops
+      (all_stamped (λ s. first ≤ s) ops (subst (AllByRecursion (λ x. first ≤ x)) (sym run) (run_from first first (length ops) (omega arith))));
+}
+
+left_all : (P : ℕ → Type 0) (schema : List Field) (stamp : ℕ) (op : Op) (later : List (Stamped Op)) → P stamp → AllByRecursion (λ d. P d.stamp) (left_by schema stamp op later)
+left_all P schema stamp (Add document) later h =
+    elim (is_struck schema later document) as (λ b. AllByRecursion (λ (d : Stamped DocumentValue). P d.stamp) (cond b [] (record { stamp = stamp; value = document } ∷ [])))
+    [ true ↦ tt | false ↦ (h, tt) ]
+left_all P schema stamp (Delete term) later h = tt
+left_all P schema stamp DeleteAll later h = tt
+
+-- what holds of the stamps of operations holds of what they leave
+alive_all : (P : ℕ → Type 0) (schema : List Field) (ops : List (Stamped Op)) → AllByRecursion (λ o. P o.stamp) ops → AllByRecursion (λ d. P d.stamp) (alive schema ops)
+alive_all P schema [] h = tt
+alive_all P schema (op ∷ ops) h =
+    All-joined (λ (d : Stamped DocumentValue). P d.stamp) (left_by schema op.stamp op.value ops) (alive schema ops)
+    (left_all P schema op.stamp op.value ops h.0) (alive_all P schema ops h.1)
+
+-- what a commit leaves lies below its stamp
+pub left_below : (schema : List Field) (ds : List (Stamped DocumentValue)) (ops : List (Stamped Op)) (stamp first : ℕ) → All (λ d. d.stamp < stamp) ds → stamp < first →
+    stamps_of ops ≡ range_with_len first (length ops) → All (λ d. d.stamp < first + length ops) (alive schema (adds ds ++ ops))
+left_below schema ds ops stamp first below above run =
+    let end = first + length ops in
+    All-from_recursion (λ (d : Stamped DocumentValue). d.stamp < end) (alive schema (adds ds ++ ops))
+    (alive_all (λ s. s < end) schema (adds ds ++ ops)
+    (All-joined (λ (o : Stamped Op). o.stamp < end) (adds ds) ops
+    (all_adds (λ s. s < end) ds
+    (All-weaker_by (λ (d : Stamped DocumentValue). d.stamp < stamp) (λ d. d.stamp < end) (λ d h. omega (arith, h, above)) ds
+    (recursion_from_All (λ (d : Stamped DocumentValue). d.stamp < stamp) ds below)))
+    (all_stamped (λ s. s < end) ops (subst (AllByRecursion (λ x. x < end)) (sym run) (run_to end first (length ops) (omega arith))))))
+
+-- the first stamp of a batch of the open round
+pub first_behind : (stamp rounds : ℕ) (round : Option Terms) (batch : Gathered) → IsOpen stamp rounds round → is_of round batch ≡ true → batch.first ≡ stamp + 1
+first_behind stamp rounds None batch h e = cc e
+first_behind stamp rounds (Some terms) batch h e =
+    sym (eqb-true terms.first batch.first (and_parts (terms.round == batch.round) (terms.first == batch.first) e).1) ∙ h.0
+
+-- the writer when a commit was published
+pub writer_behind : (front : FrontValue) (rounds : ℕ) (schema : List Field) (ds : List (Stamped DocumentValue)) (ops : List (Stamped Op)) (stamp first : ℕ) →
+    front.stamp ≡ first + length ops → content_of front.snapshot ≡ alive schema (adds ds ++ ops) → All (λ d. d.stamp < stamp) ds → stamp < first →
+    stamps_of ops ≡ range_with_len first (length ops) → first + length ops < 2 ^ 62 → rounds ≤ 2 ^ 62 →
+    IsWriter (record { front = front; rounds = rounds; round = None })
+writer_behind front rounds schema ds ops stamp first at holds below above run room few = record {
+  below = subst (λ n. All (λ (d : Stamped DocumentValue). d.stamp < n) (content_of front.snapshot)) (sym at)
+      (subst (All (λ (d : Stamped DocumentValue). d.stamp < first + length ops)) (sym holds) (left_below schema ds ops stamp first below above run));
+  stamp = omega (arith, at, room);
+  rounds = few;
+  round = tt;
+}

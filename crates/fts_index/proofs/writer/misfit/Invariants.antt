@@ -1,0 +1,7 @@
+use Rattle.std.proofs.Common.{◌≡◌, drop}
+use Rattle.fts_index.specs.Writers.{misfit}
+use Rattle.fts_index.proofs.writer.misfit.Given as goal
+
+-- what is wrong lies behind
+abbrev pub invariant-loop-op : goal.invariant-loop-op
+invariant-loop-op l = misfit l.schema (drop l.op-index l.ops) ≡ misfit l.schema l.ops

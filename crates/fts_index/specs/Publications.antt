@@ -1,0 +1,47 @@
+-- What a writer publishes: which lists of publications there are, and what is known of one.
+use Rattle.std.specs.Prelude.{◌≡◌, ℕ, ◌≤◌, List, [], ◌∷◌, ◌++◌, Some, AllPairs, fold, slice_get}
+use Rattle.logbook.specs.Pages.{Book}
+use Rattle.fts_index.specs.Entries.{content}
+use Rattle.fts_index.specs.Snapshots.{SnapshotValue}
+use Rattle.fts_index.specs.declared.publications.publication.Publication.{Publication}
+
+-- the publication that each writer begins with: stamp 0, and no document
+abbrev pub opening : Publication
+opening = record { stamp = 0; content = [] }
+
+-- the publication of a snapshot at a commit stamp
+abbrev pub publication : ℕ → SnapshotValue → Publication
+publication stamp snapshot = record { stamp = stamp; content = content snapshot.entries }
+
+-- q may be published after p: stamps never fall, and equal stamps have equal contents
+abbrev pub Follows : Publication → Publication → Type 0
+Follows p q = (p.stamp ≤ q.stamp) × (p.stamp ≡ q.stamp → p.content ≡ q.content)
+
+-- what one writer may have published: the opening, and then what follows all before
+pub record ArePublications (list : List Publication) : Type 0 where
+  pub opens : slice_get list 0 ≡ Some opening
+  pub follow : AllPairs Follows list
+
+-- the last publication
+abbrev pub newest : List Publication → Publication
+newest list = fold (λ before p. p) opening list
+
+-- what is known of what a writer published: which writer, and a beginning of its one list of publications
+pub record Known : Type 0 where
+  pub of : Book
+  pub list : List Publication
+
+-- the same, with one publication more
+abbrev pub with_publication : Known → Publication → Known
+with_publication known p = record { of = known.of; list = known.list ++ p ∷ [] }
+
+-- a snapshot at its commit stamp, with what was seen of the writer's publications when it was taken
+pub record FrontValue : Type 0 where
+  pub stamp : ℕ
+  pub snapshot : SnapshotValue
+  pub seen : Known
+
+-- what was seen are publications, of which the last has this stamp and this content
+pub record IsFront (f : FrontValue) : Type 0 where
+  pub legal : ArePublications f.seen.list
+  pub last : newest f.seen.list ≡ publication f.stamp f.snapshot

@@ -1,0 +1,28 @@
+-- The rule over what readers are shown: the front that is shown is of the writer that each seat knows.
+use Rattle.std.specs.Prelude.{◌≡◌, ℕ, List, Option, Some, None, Result, IfOk, IfSome}
+use Rattle.std.specs.declared.alloc.AllocError.{AllocError}
+use mathlib.Core.Option.{some}
+use lib.ListN.{get_elem?}
+use Rattle.logbook.specs.Pages.{Book}
+use Rattle.fts_index.specs.Publications.{FrontValue}
+use Rattle.fts_index.specs.declared.publications.name.Name.{Name}
+
+abbrev pub name_of : Book → Name
+name_of b = record { number = b.number; log_name = b.log_name; cells_name = b.cells_name }
+
+-- a seat that was told no name knows nothing
+abbrev pub KnowsName : Option Name → Book → Type 0
+KnowsName None b = Unit {0}
+KnowsName (Some n) b = n ≡ name_of b
+
+abbrev pub IsOfOne : FrontValue → List (Option Name) → Type 0
+IsOfOne shown views = (seat : ℕ) (v : Option Name) → get_elem? views seat ≡ some v → KnowsName v shown.seen.of
+
+-- a step: the seat knew nothing or this name, and knows it now
+abbrev pub Looks : Option Name → FrontValue → FrontValue → Option Name → Type 0
+Looks v x y w = KnowsName v y.seen.of × (w ≡ Some (name_of y.seen.of))
+
+-- what a look leaves: a seat that knew the writer knows it still, and the front that it found is of that writer
+pub record Finds (before after : Option Name) (found : Result (Option FrontValue) AllocError) : Type 0 where
+  pub keeps : (b : Book) → before ≡ Some (name_of b) → after ≡ Some (name_of b)
+  pub of_one : (b : Book) → before ≡ Some (name_of b) → IfOk found (λ o. IfSome o (λ f. f.seen.of ≡ b))

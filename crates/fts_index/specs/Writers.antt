@@ -1,0 +1,104 @@
+-- What contracts see of a writer, and what its calls make of it.
+use Rattle.std.specs.Prelude.{◌≡◌, ℕ, ◌+◌, ◌*◌, ◌^◌, ◌<◌, ◌≤◌, ◌==◌, ◌&&◌, ◌||◌, nat_le, not, Bool, true, false, Option, Some, None, List, [], ◌∷◌, length, All, MatchOption, ◌⊎◌, Result, Ok, Err, if◌then◌else◌}
+use Rattle.fts_model.specs.declared.schema.Field.{Field}
+use Rattle.fts_model.specs.declared.operation.Op.{Op}
+use Rattle.fts_model.specs.declared.operation.Stamped.{Stamped}
+use Rattle.fts_model.specs.declared.refusal.Refusal.{Refusal}
+use Rattle.fts_model.specs.declared.refusal.Refusal.TheVariants.{Memory, RoundOpen, StampsUsedUp, StaleBatch, OtherSchema}
+use Rattle.fts_model.specs.Operations.{op_fits}
+use Rattle.fts_model.specs.Results.{first_of}
+use Rattle.fts_index.specs.declared.cut.Cut.{Cut}
+use Rattle.fts_index.specs.declared.stamps.Terms.{Terms}
+use Rattle.fts_index.specs.Rounds.{Gathered}
+use Rattle.fts_index.specs.Snapshots.{SnapshotValue, content_of, after_commit, commit_fault, after_merge}
+use Rattle.fts_index.specs.Publications.{FrontValue, publication, newest, with_publication}
+
+-- a call succeeded where nothing was wrong; else it was refused for that, or for memory
+abbrev pub IsRefusedFor : {X : Type 0} → Option Refusal → Result X Refusal → Type 0
+IsRefusedFor fault (Ok x) = fault ≡ None
+IsRefusedFor fault (Err refusal) = (refusal ≡ Memory) ⊎ (fault ≡ Some refusal)
+
+-- a writer: what it published last, how many rounds it has opened, and the round that is open, if one is
+pub record WriterValue : Type 0 where
+  pub front : FrontValue
+  pub rounds : ℕ
+  pub round : Option Terms
+
+-- the open round begins behind the last commit, and has a number that was given
+abbrev pub IsOpen : ℕ → ℕ → Option Terms → Type 0
+IsOpen stamp rounds round = MatchOption round (Unit {0}) (λ terms. (terms.first ≡ stamp + 1) × (terms.round < rounds))
+
+-- what holds of every writer
+pub record IsWriter (w : WriterValue) : Type 0 where
+  pub below : All (λ document. document.stamp < w.front.stamp) (content_of w.front.snapshot)
+  pub stamp : w.front.stamp < 2 ^ 62
+  pub rounds : w.rounds ≤ 2 ^ 62
+  pub round : IsOpen w.front.stamp w.rounds w.round
+
+-- a round of this writer, if it is opened next
+abbrev pub next_round : ℕ → ℕ → WriterValue → Terms
+next_round lanes cap w = record { round = w.rounds; first = w.front.stamp + 1; lanes = lanes; cap = cap }
+
+-- the writer when that round was opened
+abbrev pub with_round : ℕ → ℕ → WriterValue → WriterValue
+with_round lanes cap w = record { front = w.front; rounds = w.rounds + 1; round = Some (next_round lanes cap w) }
+
+-- the writer without an open round
+abbrev pub without_round : WriterValue → WriterValue
+without_round w = record { front = w.front; rounds = w.rounds; round = None }
+
+-- why no round can be opened, where `used_up` tells that its stamps or its number can't be given
+abbrev pub fault_beside : Option Terms → Bool → Option Refusal
+fault_beside (Some terms) used_up = Some RoundOpen
+fault_beside None used_up = if used_up then Some StampsUsedUp else None
+
+abbrev pub round_fault : ℕ → ℕ → WriterValue → Option Refusal
+round_fault lanes cap w = fault_beside w.round (nat_le (2 ^ 62) (w.front.stamp + 1 + lanes * cap) || nat_le (2 ^ 62) w.rounds)
+
+-- a batch is of the round
+abbrev pub is_of : Option Terms → Gathered → Bool
+is_of None batch = false
+is_of (Some terms) batch = terms.round == batch.round && terms.first == batch.first
+
+-- the first operation that doesn't fit the schema, if there is one
+abbrev pub misfit : List Field → List (Stamped Op) → Option Refusal
+misfit schema [] = None
+misfit schema (op ∷ ops) = if op_fits schema op.value then misfit schema ops else Some (OtherSchema op.stamp)
+
+-- why a batch can't be committed
+abbrev pub batch_fault : Cut → Gathered → WriterValue → Option Refusal
+batch_fault cut batch w =
+    first_of (if is_of w.round batch then None else Some StaleBatch)
+    (first_of (misfit w.front.snapshot.schema batch.ops) (commit_fault cut batch.ops w.front.snapshot))
+
+-- the stamp of the commit of a batch
+abbrev pub stamp_behind : Gathered → ℕ
+stamp_behind batch = batch.first + length batch.ops
+
+-- a front, and a snapshot published at a stamp behind it
+abbrev pub front_after : FrontValue → ℕ → SnapshotValue → FrontValue
+front_after front stamp snapshot = record {
+  stamp = stamp;
+  snapshot = snapshot;
+  seen = with_publication front.seen (publication stamp snapshot);
+}
+
+-- the writer after the commit of a batch
+abbrev pub with_commit : Cut → Gathered → WriterValue → WriterValue
+with_commit cut batch w = record {
+  front = front_after w.front (stamp_behind batch) (after_commit cut batch.ops w.front.snapshot);
+  rounds = w.rounds;
+  round = None;
+}
+
+-- the writer after a merge: the publication before is published again, with the merged snapshot
+abbrev pub with_merge : List ℕ → WriterValue → WriterValue
+with_merge ids w = record {
+  front = record {
+    stamp = w.front.stamp;
+    snapshot = after_merge ids w.front.snapshot;
+    seen = with_publication w.front.seen (newest w.front.seen.list);
+  };
+  rounds = w.rounds;
+  round = w.round;
+}

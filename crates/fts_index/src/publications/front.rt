@@ -1,0 +1,167 @@
+// A snapshot at its commit stamp, with the publications that were seen when it was taken: what publishers, readers and
+// searchers each hold.
+ghost use Rattle.std.specs.Prelude.{◌≡◌, ◌<◌, ◌≤◌, ◌⊎◌, [], ◌∷◌, IfOk, IfSome, MatchOption, length};
+ghost use Rattle.std.specs.Arc.{arc_value};
+ghost use mathlib.Core.List.{IsPrefix};
+ghost use Rattle.fts_index.specs.Entries.{content};
+ghost use Rattle.fts_index.specs.Publications.{opening, publication, with_publication, Follows, IsFront};
+ghost use Rattle.fts_index.specs.PublicationsHistory.{head_of};
+
+use crate::publications::commit::Commit;
+use crate::publications::history::{Append, Head, History, Nothing, SeenList};
+use crate::publications::publication::Publication;
+use crate::snapshot::Snapshot;
+use fts_model::Stamp;
+use logbook::{Offer, Seen, Start, Word};
+use std::alloc::{AllocError, Global};
+use std::marker::Model;
+use std::sync::Arc;
+
+/// The list has no bytes, but for the number of its publications.
+#[derive(Drop)]
+pub struct Front {
+    commit: Arc<Commit>,
+    count: u64,
+    seen: SeenList,
+}
+
+impl Model for Front {
+    ghost use Rattle.std.specs.Prelude.{◌≡◌, length};
+    ghost use Rattle.std.specs.Arc.{arc_value};
+    ghost use Rattle.fts_index.specs.Publications.{FrontValue, IsFront, ArePublications, newest, publication};
+
+    ghost Value = { FrontValue };
+
+    ghost view = { λ f. record {
+      stamp = (arc_value f.commit).stamp;
+      snapshot = (arc_value f.commit).snapshot;
+      seen = record { of = f.seen.book; list = f.seen.log };
+    } };
+
+    ghost invariant = { λ f. (f.count ≡ length f.seen.log)
+        × (newest f.seen.log ≡ publication (arc_value f.commit).stamp (arc_value f.commit).snapshot)
+        × ArePublications f.seen.log };
+}
+
+impl Front {
+    /// The front of a new writer, and the word that it alone changes.
+    pub fn open(alloc: Global, snapshot: Snapshot) -> Result<(Front, Head), AllocError>
+        requires { content snapshot.entries ≡ [] }
+        ensures front { IfOk result (λ r. (r.0.stamp ≡ 0) × (r.0.snapshot ≡ snapshot)) }
+        ensures list { IfOk result (λ r. r.0.seen.list ≡ opening ∷ []) }
+        ensures head { IfOk result (λ r. r.1 ≡ head_of r.0.seen.of) }
+    {
+        let commit = Arc::new(alloc, Commit { stamp: 0, snapshot })?;
+        let (seen, mut first, _second) = Seen::open(Start::alone(), 1, 0);
+        let head = Word::tracked(1, &mut first);
+        let front = Front {
+            commit,
+            count: 1,
+            seen,
+        };
+        Ok((front, head))
+    }
+
+    /// A copy, by one counted growth.
+    pub fn again(&self) -> Result<Front, AllocError>
+        ensures { IfOk result (λ f. f ≡ self.now) }
+    {
+        let commit = Arc::try_clone(&self.commit)?;
+        Ok(self.over(commit))
+    }
+
+    /// A copy, where this front has seen more than the other one.
+    pub fn if_newer(&self, other: &Front) -> Result<Option<Front>, AllocError>
+        ensures newer { IfOk result (λ found. MatchOption found
+            (length self.now.seen.list ≤ length other.now.seen.list)
+            (λ f. (f ≡ self.now) × (length other.now.seen.list < length self.now.seen.list))) }
+    {
+        if self.count <= other.count {
+            return Ok(None);
+        }
+        Ok(Some(self.again()?))
+    }
+
+    /// A copy, over a handle to the same commit.
+    pub fn over(&self, commit: Arc<Commit>) -> Front
+        requires stamp { (arc_value commit).stamp ≡ self.now.stamp }
+        requires snapshot { (arc_value commit).snapshot ≡ self.now.snapshot }
+        ensures { result ≡ self.now }
+    {
+        Front {
+            commit,
+            count: self.count,
+            seen: self.seen.again(),
+        }
+    }
+
+    /// The front with one publication more, by the one step on the word. It takes no memory. `None` where more was published
+    /// than this front has seen, or 2^64 - 1 times, neither of which a publisher meets.
+    pub fn with(&self, head: &Head, commit: Arc<Commit>) -> Option<Front>
+        requires head { head.now ≡ head_of self.now.seen.of }
+        requires follows { Follows (publication self.now.stamp self.now.snapshot)
+            (publication (arc_value commit).stamp (arc_value commit).snapshot) }
+        ensures { IfSome result (λ f. f ≡ record {
+          stamp = (arc_value commit).stamp;
+          snapshot = (arc_value commit).snapshot;
+          seen = with_publication self.now.seen
+              (publication (arc_value commit).stamp (arc_value commit).snapshot);
+        }) }
+    {
+        let expected = self.count;
+        if expected == u64::MAX {
+            return None;
+        }
+        let longer = expected + 1;
+        let mut seen = self.seen.again();
+        let about: &Commit = &commit;
+        let mut offer: Offer<Publication, u64, History, Nothing> = seen.plain::<
+            Nothing,
+            Commit,
+            Append,
+        >(about);
+        let mut pen = seen.no_pen();
+        let found = head.compare_exchange::<Append, Nothing>(
+            expected, longer, &mut seen, &mut offer, &mut pen,
+        );
+        if found != expected {
+            return None;
+        }
+        Some(Front {
+            commit,
+            count: longer,
+            seen,
+        })
+    }
+
+    /// Keeps the one that has seen more.
+    pub fn keep_newer(&mut self, other: Front)
+        requires { other.seen.of ≡ self.old.seen.of }
+        ensures of { self.new.seen.of ≡ self.old.seen.of }
+        ensures mine { IsPrefix self.old.seen.list self.new.seen.list }
+        ensures other { IsPrefix other.seen.list self.new.seen.list }
+        ensures one { (self.new ≡ self.old) ⊎ (self.new ≡ other) }
+    {
+        let mut both = self.seen.again();
+        both.learn(&other.seen);
+        if self.count < other.count {
+            *self = other;
+        }
+    }
+
+    /// The stamp of the commit.
+    pub fn stamp(&self) -> Stamp
+        ensures stamp { result ≡ self.now.stamp }
+        ensures front { IsFront self.now }
+    {
+        self.commit.stamp
+    }
+
+    /// What the commit left.
+    pub fn snapshot(&self) -> &Snapshot
+        ensures snapshot { result.now ≡ self.now.snapshot }
+        ensures front { IsFront self.now }
+    {
+        &self.commit.snapshot
+    }
+}

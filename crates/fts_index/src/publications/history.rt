@@ -1,0 +1,62 @@
+// The book that holds the list of publications. It exists in proofs alone but for one word, the length of the list, which
+// only the publisher has.
+ghost use Rattle.std.specs.Prelude.{◌≡◌};
+
+use crate::publications::commit::Commit;
+use crate::publications::publication::Publication;
+use logbook::{Gain, Plain, Play, Rule, Seen, Word};
+
+/// The rule of the book.
+pub struct History;
+
+impl Rule<Publication, u64> for History {
+    ghost use Rattle.std.specs.Prelude.{[], ◌∷◌};
+    ghost use base.Fml.{ftrue};
+    ghost use Rattle.fts_index.specs.Publications.{opening};
+    ghost use Rattle.fts_index.specs.PublicationsHistory.{IsKept};
+
+    ghost holds = { λ cells list. IsKept cells list };
+
+    ghost first = { opening ∷ [] };
+
+    ghost hinted = { λ n list. Unit {0} };
+
+    ghost shows = { λ list. [] };
+
+    ghost keeps = { λ names list. ftrue };
+
+    ghost moves = { λ ask before after answer. Unit {0} };
+}
+
+/// The publisher trades nothing.
+pub struct Nothing;
+
+impl Gain<Publication, u64> for Nothing {
+    ghost use base.Fml.{ftrue};
+
+    ghost after = { λ names about answer. ftrue };
+}
+
+/// The step that adds a publication.
+pub struct Append;
+
+impl Play<Publication, u64> for Append {
+    ghost use Rattle.fts_index.specs.PublicationsHistory.{Appends};
+
+    ghost then = { Appends };
+}
+
+impl Plain<Commit, Publication, u64> for Append {
+    ghost use Rattle.std.specs.Prelude.{None};
+    ghost use Rattle.fts_index.specs.Publications.{publication};
+
+    ghost ask = { λ commit. publication commit.stamp commit.snapshot };
+
+    ghost state = { λ commit. None };
+}
+
+/// The word, which is the length of the list.
+pub type Head = Word<Publication, u64, History>;
+
+/// A beginning of the list that was seen. It has no bytes.
+pub type SeenList = Seen<Publication, u64, History>;

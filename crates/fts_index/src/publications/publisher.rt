@@ -1,0 +1,226 @@
+// The part of a writer that publishes. It alone changes the list of publications.
+ghost use Rattle.std.specs.Prelude.{◌≡◌, ◌<◌, ◌⊎◌, [], ◌∷◌, Some, IfOk, IfErr, OnOk, OnErr, IsOkUnless, MatchResult};
+ghost use Rattle.std.specs.Arc.{arc_value};
+ghost use Rattle.left_right.specs.Sides.{view as seat_view};
+ghost use Rattle.fts_index.specs.Entries.{content};
+ghost use Rattle.fts_index.specs.Publications.{opening, newest, publication, with_publication, Follows, IsFront};
+ghost use Rattle.fts_index.specs.PublicationsShown.{name_of};
+
+use crate::publications::commit::Commit;
+use crate::publications::front::Front;
+use crate::publications::history::Head;
+use crate::publications::reader::Reader;
+use crate::publications::searcher::{CommitSeen, Searcher};
+use crate::publications::shown::{Copies, Desk, Names};
+use crate::snapshot::Snapshot;
+use core::mem::replace_with;
+use fts_model::{Refusal, Stamp};
+use std::alloc::{AllocError, Global};
+use std::marker::Model;
+use std::sync::{Arc, Wait};
+
+/// How many readers there may be at once.
+const PLACES: usize = 64;
+
+/// Publishes snapshots to readers. It isn't dropped but closed. Contracts see it as its newest snapshot at its commit stamp,
+/// with the whole list of its publications.
+pub struct Publisher {
+    desk: Desk,
+    head: Head,
+    front: Front,
+}
+
+impl Model for Publisher {
+    ghost use Rattle.std.specs.Prelude.{◌≡◌, Some};
+    ghost use Rattle.left_right.specs.Sides.{view as seat_view};
+    ghost use Rattle.fts_index.specs.Publications.{FrontValue};
+    ghost use Rattle.fts_index.specs.PublicationsHistory.{head_of};
+    ghost use Rattle.fts_index.specs.PublicationsShown.{name_of};
+
+    ghost Value = { FrontValue };
+
+    ghost view = { λ p. p.front };
+
+    ghost invariant = { λ p. (p.head ≡ head_of p.front.seen.of)
+        × (seat_view p.desk.desk.place ≡ Some (name_of p.front.seen.of))
+        × (p.desk.desk.shown.value.seen.of ≡ p.front.seen.of) };
+}
+
+impl Publisher {
+    /// A publisher that has published the opening: stamp 0, and a snapshot without a document.
+    pub fn new<R: Wait>(rt: &R, alloc: Global, snapshot: Snapshot) -> Result<Publisher, Refusal>
+        requires { content snapshot.entries ≡ [] }
+        ensures snapshot { IfOk result (λ p. p.snapshot ≡ snapshot) }
+        ensures stamp { IfOk result (λ p. p.stamp ≡ 0) }
+        ensures list { IfOk result (λ p. p.seen.list ≡ opening ∷ []) }
+        ensures memory { IsOkUnless result Refusal.Memory }
+    {
+        let (front, head) = Front::open(alloc, snapshot)?;
+        let first = front.again()?;
+        let second = front.again()?;
+        let again = front.again()?;
+        let twice = front.again()?;
+        let mut desk = Desk::new(alloc, first, second, PLACES)?;
+        // The first time tells the seat which writer it is of, the second makes the room that each commit needs.
+        let named = show(rt, &mut desk, again);
+        let roomy = show(rt, &mut desk, twice);
+        if named.is_err() || roomy.is_err() {
+            drop(desk.take(rt));
+            return Err(Refusal::Memory);
+        }
+        Ok(Publisher { desk, head, front })
+    }
+
+    /// Publishes what a commit left, at a stamp above all before. A refusal publishes nothing.
+    pub fn publish<R: Wait>(
+        &mut self,
+        rt: &R,
+        alloc: Global,
+        snapshot: Snapshot,
+        stamp: Stamp,
+    ) -> Result<CommitSeen, Refusal>
+        requires { self.old.stamp < stamp }
+        ensures new { OnOk result (self.new ≡ record {
+          stamp = stamp;
+          snapshot = snapshot;
+          seen = with_publication self.old.seen (publication stamp snapshot);
+        }) }
+        ensures seen { IfOk result (λ seen. seen ≡ self.new.seen) }
+        ensures same { OnErr result (self.new ≡ self.old) }
+        ensures memory { IsOkUnless result Refusal.Memory }
+    {
+        self.add(rt, alloc, snapshot, stamp)
+    }
+
+    /// Publishes what a merge left: another snapshot with the content of the one before, at the same stamp. A refusal
+    /// publishes nothing.
+    pub fn publish_again<R: Wait>(
+        &mut self,
+        rt: &R,
+        alloc: Global,
+        snapshot: Snapshot,
+    ) -> Result<CommitSeen, Refusal>
+        requires { content snapshot.entries ≡ content self.old.snapshot.entries }
+        ensures new { OnOk result (self.new ≡ record {
+          stamp = self.old.stamp;
+          snapshot = snapshot;
+          seen = with_publication self.old.seen (newest self.old.seen.list);
+        }) }
+        ensures seen { IfOk result (λ seen. seen ≡ self.new.seen) }
+        ensures same { OnErr result (self.new ≡ self.old) }
+        ensures memory { IsOkUnless result Refusal.Memory }
+    {
+        let stamp = self.commit_stamp();
+        self.add(rt, alloc, snapshot, stamp)
+    }
+
+    /// The stamp of the newest commit.
+    pub fn commit_stamp(&self) -> Stamp
+        ensures stamp { result ≡ self.now.stamp }
+        ensures front { IsFront self.now }
+    {
+        self.front.stamp()
+    }
+
+    /// What was published last.
+    pub fn snapshot(&self) -> &Snapshot
+        ensures snapshot { result.now ≡ self.now.snapshot }
+        ensures front { IsFront self.now }
+    {
+        self.front.snapshot()
+    }
+
+    /// The newest snapshot, to search.
+    pub fn searcher(&self) -> Result<Searcher, Refusal>
+        ensures searcher { IfOk result (λ s. s ≡ self.now) }
+        ensures memory { IsOkUnless result Refusal.Memory }
+    {
+        let front = self.front.again()?;
+        Ok(Searcher { front })
+    }
+
+    /// A reader that knows all publications so far. `NoReader` where there are 64 already; one that is dropped makes room for
+    /// another.
+    pub fn reader(&mut self) -> Result<Reader, Refusal>
+        ensures same { self.new ≡ self.old }
+        ensures reader { IfOk result (λ r. r ≡ self.old.seen) }
+        ensures refused { IfErr result (λ e. (e ≡ Refusal.Memory) ⊎ (e ≡ Refusal.NoReader)) }
+    {
+        let front = self.front.again()?;
+        let Ok(mut place) = self.desk.factory().reader() else {
+            return Err(Refusal::NoReader);
+        };
+        place.learn::<Copies>(self.desk.tell::<Copies>());
+        Ok(Reader::at(place, front))
+    }
+
+    /// Ends the publisher. Searchers keep their snapshots, and readers go on with the newest that they know.
+    pub fn close<R: Wait>(self, rt: &R) {
+        let Publisher {
+            desk,
+            head: _,
+            front: _,
+        } = self;
+        drop(desk.take(rt));
+    }
+
+    /// Adds a commit to the list, and shows it. Each growth that could be refused comes before the step that adds it.
+    fn add<R: Wait>(
+        &mut self,
+        rt: &R,
+        alloc: Global,
+        snapshot: Snapshot,
+        stamp: Stamp,
+    ) -> Result<CommitSeen, Refusal>
+        requires { Follows (publication self.old.stamp self.old.snapshot)
+            (publication stamp snapshot) }
+        ensures new { OnOk result (self.new ≡ record {
+          stamp = stamp;
+          snapshot = snapshot;
+          seen = with_publication self.old.seen (publication stamp snapshot);
+        }) }
+        ensures seen { IfOk result (λ seen. seen ≡ self.new.seen) }
+        ensures same { OnErr result (self.new ≡ self.old) }
+        ensures memory { IsOkUnless result Refusal.Memory }
+    {
+        let commit = Arc::new(alloc, Commit { stamp, snapshot })?;
+        let for_seen = Arc::try_clone(&commit)?;
+        let for_readers = Arc::try_clone(&commit)?;
+        let Some(front) = self.front.with(&self.head, commit) else {
+            return Err(Refusal::Memory);
+        };
+        let seen = CommitSeen {
+            front: front.over(for_seen),
+        };
+        let next = front.over(for_readers);
+        self.front = front;
+        // Were there no room to show it, readers that are told of this commit would know it all the same.
+        let _ = show(rt, &mut self.desk, next);
+        Ok(seen)
+    }
+}
+
+/// Shows readers this front in place of the one before.
+fn show<R: Wait>(rt: &R, desk: &mut Desk, front: Front) -> Result<(), AllocError>
+    requires { desk.old.desk.shown.value.seen.of ≡ front.seen.of }
+    ensures shown { desk.new.desk.shown.value.seen.of ≡ front.seen.of }
+    ensures seat { MatchResult result
+        (λ _. seat_view desk.new.desk.place ≡ Some (name_of front.seen.of))
+        (λ _. seat_view desk.new.desk.place ≡ seat_view desk.old.desk.place) }
+{
+    replace_with(desk, (rt, front), |desk, (rt, front)| put(rt, desk, front))
+}
+
+fn put<R: Wait>(rt: &R, desk: Desk, front: Front) -> (Desk, Result<(), AllocError>)
+    requires { desk.desk.shown.value.seen.of ≡ front.seen.of }
+    ensures shown { result.0.desk.shown.value.seen.of ≡ front.seen.of }
+    ensures seat { MatchResult result.1
+        (λ _. seat_view result.0.desk.place ≡ Some (name_of front.seen.of))
+        (λ _. seat_view result.0.desk.place ≡ seat_view desk.desk.place) }
+{
+    let mut desk = desk;
+    match desk.append(front) {
+        Ok(()) => desk.publish_as::<Names, R>(rt),
+        Err(_) => (desk, Err(AllocError)),
+    }
+}

@@ -1,0 +1,108 @@
+// A reader of publications, which waits for nobody.
+ghost use Rattle.std.specs.Prelude.{◌≡◌, ◌⊎◌, Some, IfOk, OnOk, OnErr, IsOkUnless};
+ghost use mathlib.Core.List.{IsPrefix};
+ghost use Rattle.left_right.specs.Sides.{view as seat_view};
+ghost use Rattle.fts_index.specs.Publications.{IsFront};
+ghost use Rattle.fts_index.specs.PublicationsShown.{name_of, Finds};
+
+use crate::publications::front::Front;
+use crate::publications::searcher::{CommitSeen, Searcher};
+use crate::publications::shown::{Names, Place};
+use core::mem::replace_with;
+use fts_model::Refusal;
+use std::alloc::AllocError;
+use std::marker::Model;
+
+/// Takes the newest snapshots of one writer, in a thread of its own. Contracts see it as the writer and what it knows of the
+/// writer's publications.
+#[derive(Drop)]
+pub struct Reader {
+    place: Place,
+    front: Front,
+}
+
+impl Model for Reader {
+    ghost use Rattle.std.specs.Prelude.{◌≡◌, Some};
+    ghost use Rattle.left_right.specs.Sides.{view as seat_view};
+    ghost use Rattle.fts_index.specs.Publications.{Known};
+    ghost use Rattle.fts_index.specs.PublicationsShown.{name_of};
+
+    ghost Value = { Known };
+
+    ghost view = { λ r. r.front.seen };
+
+    ghost invariant = { λ r. seat_view r.place.place ≡ Some (name_of r.front.seen.of) };
+}
+
+impl Reader {
+    /// A reader that knows what the front has seen.
+    pub(crate) fn at(place: Place, front: Front) -> Reader
+        requires { seat_view place.place ≡ Some (name_of front.seen.of) }
+        ensures { result ≡ front.seen }
+    {
+        Reader { place, front }
+    }
+
+    /// The newest snapshot that is shown, or the newest that this reader knows where that is newer or none is shown any more:
+    /// no searcher is older than the one before it, or than a commit that the reader was told of. `Memory` is the one
+    /// refusal, and what the reader has found by then it still knows.
+    pub fn searcher(&mut self) -> Result<Searcher, Refusal>
+        ensures of { self.new.of ≡ self.old.of }
+        ensures grows { IsPrefix self.old.list self.new.list }
+        ensures seen { IfOk result (λ s. s.seen ≡ self.new) }
+        ensures newest { IfOk result IsFront }
+        ensures memory { IsOkUnless result Refusal.Memory }
+    {
+        refresh(&mut self.place, &mut self.front)?;
+        let front = self.front.again()?;
+        Ok(Searcher { front })
+    }
+
+    /// From now on this reader knows all that was seen there. Both are of one writer.
+    pub fn told(&mut self, seen: &CommitSeen) -> Result<(), Refusal>
+        requires { seen.now.of ≡ self.old.of }
+        ensures of { self.new.of ≡ self.old.of }
+        ensures kept { OnOk result (IsPrefix self.old.list self.new.list) }
+        ensures told { OnOk result (IsPrefix seen.now.list self.new.list) }
+        ensures longer { OnOk result ((self.new ≡ self.old) ⊎ (self.new ≡ seen.now)) }
+        ensures same { OnErr result (self.new ≡ self.old) }
+        ensures memory { IsOkUnless result Refusal.Memory }
+    {
+        let front = seen.front.again()?;
+        self.front.keep_newer(front);
+        Ok(())
+    }
+}
+
+/// Takes the front that is shown, if one is and it is newer.
+fn refresh(place: &mut Place, front: &mut Front) -> Result<(), AllocError>
+    requires { seat_view place.old.place ≡ Some (name_of front.old.seen.of) }
+    ensures seat { seat_view place.new.place ≡ Some (name_of front.new.seen.of) }
+    ensures of { front.new.seen.of ≡ front.old.seen.of }
+    ensures grows { IsPrefix front.old.seen.list front.new.seen.list }
+{
+    if let Some(found) = look(place, front)? {
+        front.keep_newer(found);
+    }
+    Ok(())
+}
+
+/// The front that is shown, if one is and it is newer than what is known.
+fn look(place: &mut Place, known: &Front) -> Result<Option<Front>, AllocError>
+    ensures { Finds (seat_view place.old.place) (seat_view place.new.place) result }
+{
+    replace_with(place, known, |place, known| enter(place, known))
+}
+
+/// The one step of a reader. No front is shown once the writer was closed.
+fn enter(place: Place, known: &Front) -> (Place, Result<Option<Front>, AllocError>)
+    ensures { Finds (seat_view place.place) (seat_view result.0.place) result.1 }
+{
+    match place.enter_as::<Names>() {
+        Ok(reading) => {
+            let found = reading.get().if_newer(known);
+            (reading.leave(), found)
+        }
+        Err(place) => (place, Ok(None)),
+    }
+}

@@ -1,0 +1,264 @@
+// The writer of an index: it opens rounds, commits their batches, merges segments, and publishes what these leave.
+ghost use Rattle.std.specs.Prelude.{◌≡◌, ◌+◌, ◌*◌, ◌^◌, ◌<◌, ◌≤◌, ◌⊎◌, ◌++◌, [], ◌∷◌, List, Some, None, Ok, IfOk, IfErr, OnOk, OnErr, IsOkUnless, map, length, option_map};
+ghost use Rattle.std.specs.List.{range_with_len};
+
+ghost use Rattle.fts_model.specs.Operations.{alive, adds};
+ghost use Rattle.fts_index.specs.Rounds.{fresh};
+ghost use Rattle.fts_index.specs.Cuts.{IsCut};
+ghost use Rattle.fts_index.specs.Infos.{info_of, candidate_ids};
+ghost use Rattle.fts_index.specs.Snapshots.{content_of, merge_fault};
+ghost use Rattle.fts_index.specs.Publications.{opening};
+ghost use Rattle.fts_index.specs.Writers.{IsRefusedFor, next_round, with_round, without_round, round_fault, is_of, misfit, batch_fault, stamp_behind, with_commit, with_merge};
+
+use crate::batch::Batch;
+use crate::cut::Cut;
+use crate::entry::SegmentInfo;
+use crate::lane::Lane;
+use crate::publications::{CommitSeen, Publisher, Reader, Searcher};
+use crate::round::{Round, open_round};
+use crate::snapshot::Snapshot;
+use crate::stamps::Terms;
+use fts_model::{Op, Refusal, Schema, Stamp, Stamped};
+use fts_pool::Gate;
+use std::alloc::Global;
+use std::marker::Model;
+use std::sync::Wait;
+use std::thread::Threads;
+
+/// Stamps, rounds and segments have numbers below this one.
+const NUMBERS: u64 = 1 << 62;
+
+/// Writes an index. There is no round or one open round, from `open_round` until `commit` succeeds or `abandon`.
+///
+/// A writer isn't dropped but closed.
+pub struct Writer {
+    publisher: Publisher,
+    rounds: u64,
+    round: Option<Terms>,
+}
+
+/// A commit that was made.
+#[derive(Drop)]
+pub struct Committed {
+    /// Its stamp, above those of its operations.
+    pub stamp: Stamp,
+    /// What the writer has published by it: a reader that is told of it finds this commit, or a later one.
+    pub seen: CommitSeen,
+}
+
+impl Model for Writer {
+    ghost use Rattle.fts_index.specs.Writers.{WriterValue, IsWriter};
+
+    ghost Value = { WriterValue };
+
+    ghost view = { λ w. record { front = w.publisher; rounds = w.rounds; round = w.round } };
+
+    ghost invariant = { λ w. IsWriter (record { front = w.publisher; rounds = w.rounds; round = w.round }) };
+}
+
+/// Whether a batch is of the open round.
+fn is_of(round: Option<Terms>, batch: &Batch) -> bool
+    ensures { result ≡ is_of round batch.now }
+{
+    match round {
+        None => false,
+        Some(terms) => terms.round == batch.round() && terms.first == batch.first(),
+    }
+}
+
+/// Why operations can't be committed under a schema: the first one that doesn't fit it.
+fn misfit(schema: &Schema, ops: &[Stamped<Op>]) -> Option<Refusal>
+    ensures { result ≡ misfit schema.now ops.now }
+{
+    for op in ops {
+        if !op.value.fits(schema) {
+            return Some(Refusal::OtherSchema(op.stamp));
+        }
+    }
+    None
+}
+
+impl Writer {
+    /// A writer of an index without documents, whose commit stamp is 0.
+    pub fn new<R: Wait>(rt: &R, alloc: Global, schema: &Schema) -> Result<Writer, Refusal>
+        ensures stamp { IfOk result (λ w. w.front.stamp ≡ 0) }
+        ensures schema { IfOk result (λ w. w.front.snapshot.schema ≡ schema.now) }
+        ensures segments { IfOk result (λ w. w.front.snapshot.entries ≡ []) }
+        ensures publications { IfOk result (λ w. w.front.seen.list ≡ opening ∷ []) }
+        ensures rounds { IfOk result (λ w. (w.rounds ≡ 0) × (w.round ≡ None)) }
+        ensures memory { IsOkUnless result Refusal.Memory }
+    {
+        let snapshot = Snapshot::new(alloc, schema.clone()?);
+        let publisher = Publisher::new(rt, alloc, snapshot)?;
+        Ok(Writer {
+            publisher,
+            rounds: 0,
+            round: None,
+        })
+    }
+
+    /// The stamp of the last commit, and 0 before the first.
+    pub fn commit_stamp(&self) -> Stamp
+        ensures { result ≡ self.now.front.stamp }
+    {
+        self.publisher.commit_stamp()
+    }
+
+    /// The schema of all documents.
+    pub fn schema(&self) -> &Schema
+        ensures { result.now ≡ self.now.front.snapshot.schema }
+    {
+        self.publisher.snapshot().schema()
+    }
+
+    /// The last commit, to search.
+    pub fn searcher(&self) -> Result<Searcher, Refusal>
+        ensures searcher { IfOk result (λ s. s ≡ self.now.front) }
+        ensures memory { IsOkUnless result Refusal.Memory }
+    {
+        self.publisher.searcher()
+    }
+
+    /// Opens a round of so many lanes, 1 to 64, each of which takes up to `cap` operations, 1 to 1,000,000. Its first stamp is the
+    /// commit stamp plus 1.
+    ///
+    /// `RoundOpen` where one is open; `StampsUsedUp` where a stamp of the round, or its number, could be 2^62 or more.
+    pub fn open_round(
+        &mut self,
+        alloc: Global,
+        lanes: usize,
+        cap: usize,
+    ) -> Result<(Round, Vec<Lane>), Refusal>
+        requires lanes { (1 ≤ lanes) × (lanes ≤ 64) }
+        requires cap { (1 ≤ cap) × (cap ≤ 1000000) }
+        ensures writer { OnOk result (self.new ≡ with_round lanes cap self.old) }
+        ensures refused { IsRefusedFor (round_fault lanes cap self.old) result }
+        ensures round { IfOk result (λ r. r.0.terms ≡ next_round lanes cap self.old) }
+        ensures lanes { IfOk result (λ r. r.1.items ≡ map (fresh r.0) (range_with_len 0 lanes)) }
+        ensures same { OnErr result (self.new ≡ self.old) }
+    {
+        if self.round.is_some() {
+            return Err(Refusal::RoundOpen);
+        }
+        let first = self.publisher.commit_stamp() + 1;
+        let stamps = lanes as u64 * cap as u64;
+        if self.rounds >= NUMBERS || first + stamps >= NUMBERS {
+            return Err(Refusal::StampsUsedUp);
+        }
+        let round = open_round(alloc, self.rounds, first, lanes, cap)?;
+        self.round = Some(Terms {
+            round: self.rounds,
+            first,
+            lanes,
+            cap,
+        });
+        self.rounds += 1;
+        Ok(round)
+    }
+
+    /// Commits a batch: its adds are cut into new segments, and the documents that it strikes are struck. The work is done by up
+    /// to so many threads, 1 to 64, the calling one among them: one job for each segment that was there, in their order, and then
+    /// one for each new segment, in the order of their first adds. The gate is called around each.
+    ///
+    /// `StaleBatch` where no round is open, or the batch isn't of the open one; then `OtherSchema` with the stamp of the first
+    /// operation that doesn't fit the schema; then `StampsUsedUp` where a segment's number would reach 2^62. A refusal leaves
+    /// everything as it was, and the batch can be tried again.
+    pub fn commit<R: Threads + Wait + Sync, G: Gate>(
+        &mut self,
+        rt: &R,
+        alloc: Global,
+        batch: &Batch,
+        cut: Cut,
+        workers: usize,
+        gate: &G,
+    ) -> Result<Committed, Refusal>
+        requires cut { IsCut cut }
+        requires workers { (1 ≤ workers) × (workers ≤ 64) }
+        ensures writer { OnOk result (self.new ≡ with_commit cut batch.now self.old) }
+        ensures refused { IsRefusedFor (batch_fault cut batch.now self.old) result }
+        ensures stamp { IfOk result (λ c. c.stamp ≡ stamp_behind batch.now) }
+        ensures content { OnOk result (content_of self.new.front.snapshot
+            ≡ alive self.old.front.snapshot.schema
+            (adds (content_of self.old.front.snapshot) ++ batch.now.ops)) }
+        ensures seen { IfOk result (λ c. c.seen ≡ self.new.front.seen) }
+        ensures same { OnErr result (self.new ≡ self.old) }
+    {
+        if !is_of(self.round, batch) {
+            return Err(Refusal::StaleBatch);
+        }
+        let snapshot = self.publisher.snapshot();
+        if let Some(refusal) = misfit(snapshot.schema(), batch.ops()) {
+            return Err(refusal);
+        }
+        let next = snapshot.commit(rt, alloc, batch.ops(), cut, workers, gate)?;
+        let stamp = batch.end();
+        let seen = self.publisher.publish(rt, alloc, next, stamp)?;
+        self.round = None;
+        Ok(Committed { stamp, seen })
+    }
+
+    /// Gives up the open round, if there is one, and answers the stamp of the last commit.
+    pub fn abandon(&mut self) -> Stamp
+        ensures writer { self.new ≡ without_round self.old }
+        ensures stamp { result ≡ self.old.front.stamp }
+    {
+        self.round = None;
+        self.publisher.commit_stamp()
+    }
+
+    /// How large the segments of the last commit are, by rising numbers.
+    pub fn segments(&self, alloc: Global) -> Result<Vec<SegmentInfo>, Refusal>
+        ensures segments { IfOk result (λ infos.
+            infos.items ≡ map info_of self.now.front.snapshot.entries) }
+        ensures memory { IsOkUnless result Refusal.Memory }
+    {
+        self.publisher.snapshot().segments(alloc)
+    }
+
+    /// The segments that are worth merging, by their numbers: each list is one merge, those of greater segments first. A segment is
+    /// as large as it has live documents.
+    pub fn plan(&self, alloc: Global) -> Result<Vec<Vec<u64>>, Refusal>
+        ensures candidates { IfOk result (λ found.
+            map (λ c. c.items) found.items ≡ candidate_ids self.now.front.snapshot.entries) }
+        ensures memory { IsOkUnless result Refusal.Memory }
+    {
+        self.publisher.snapshot().plan(alloc)
+    }
+
+    /// Makes one segment of the live documents of the segments of these numbers, in their order. What is found stays as it was.
+    ///
+    /// `NoSegments` for an empty list; then at the first bad place `UnknownSegment`, or `SegmentTwice` where the number stands
+    /// before; then `TooLarge` for over 1,048,576 live documents, and `StampsUsedUp` where the new segment's number would reach
+    /// 2^62. A refusal leaves everything as it was.
+    pub fn merge<R: Wait>(&mut self, rt: &R, alloc: Global, ids: &[u64]) -> Result<(), Refusal>
+        ensures writer { OnOk result (self.new ≡ with_merge ids.now self.old) }
+        ensures refused { IsRefusedFor (merge_fault ids.now self.old.front.snapshot) result }
+        ensures content { OnOk result
+            (content_of self.new.front.snapshot ≡ content_of self.old.front.snapshot) }
+        ensures same { OnErr result (self.new ≡ self.old) }
+    {
+        let merged = self.publisher.snapshot().merge(alloc, ids)?;
+        self.publisher.publish_again(rt, alloc, merged)?;
+        Ok(())
+    }
+
+    /// A reader for another thread, which knows all that was published so far. `NoReader` where there are 64.
+    pub fn reader(&mut self) -> Result<Reader, Refusal>
+        ensures same { self.new ≡ self.old }
+        ensures reader { IfOk result (λ r. r ≡ self.old.front.seen) }
+        ensures refused { IfErr result (λ e. (e ≡ Refusal.Memory) ⊎ (e ≡ Refusal.NoReader)) }
+    {
+        self.publisher.reader()
+    }
+
+    /// Ends the writer, and gives up an open round. Searchers keep their snapshots, and readers go on with the newest that they
+    /// know.
+    pub fn close<R: Wait>(self, rt: &R) {
+        let Writer {
+            publisher,
+            rounds: _,
+            round: _,
+        } = self;
+        publisher.close(rt);
+    }
+}
