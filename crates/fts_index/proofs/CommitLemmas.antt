@@ -103,9 +103,11 @@ same_after schema ops batch same es id groups = ap (λ fs. fs ++ fresh_from sche
   same_struck (e ∷ es) =
       ap (λ bits. entry_with e.id e.segment bits ∷ map (struck ops) es) (bits_where-agree (survives e.segment.schema ops) (survives e.segment.schema batch) (same e.segment.schema) e.segment.documents e.live)
       ∙ ap (λ fs. struck batch e ∷ fs) (same_struck es)
+
   same_bits : (ds : List (Stamped DocumentValue)) → map (survives schema ops) ds ≡ map (survives schema batch) ds
   same_bits [] = refl
   same_bits (d ∷ ds) = ap (λ b. b ∷ map (survives schema ops) ds) (same schema d) ∙ ap (λ bs. survives schema batch d ∷ bs) (same_bits ds)
+
   same_fresh : (id : ℕ) (groups : List (List (Stamped DocumentValue))) → fresh_from schema ops id groups ≡ fresh_from schema batch id groups
   same_fresh id [] = refl
   same_fresh id (ds ∷ groups) =

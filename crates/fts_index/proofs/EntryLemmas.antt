@@ -145,8 +145,8 @@ fresh_more schema ops id i gs g l e =
     ap (λ n. fresh_from schema ops id (take i gs) ++ fresh schema ops (id + n) g ∷ []) (sym (length-take-le' i gs l))
     ∙ sym (fresh_from-push schema ops id (take i gs) g)
     ∙ ap (fresh_from schema ops id) (sym (taken gs i g l e)) where
-  length-take-le' : {X : Type 0} (i : ℕ) (xs : List X) → i < length xs → length (take i xs) ≡ i
-  length-take-le' i xs l = omega (arith, length-take-le i xs)
+      length-take-le' : {X : Type 0} (i : ℕ) (xs : List X) → i < length xs → length (take i xs) ≡ i
+      length-take-le' i xs l = omega (arith, length-take-le i xs)
 
 added-push : (ops : List (Stamped Op)) (op : Stamped Op) → added (ops ++ op ∷ []) ≡ added ops ++ added_by op.stamp op.value
 added-push [] op = append-nil (added_by op.stamp op.value)

@@ -58,7 +58,7 @@ one_out : (id : ℕ) (es : List EntryValue) → ById es → IsPermutation (flat_
 one_out id [] r = IsPermutation-refl []
 one_out id (e ∷ es) r =
     elim (e.id == id) as (λ b. (e.id == id) ≡ b →
-      IsPermutation (live_in e ++ flat_map live_in es) (flat_map live_in (cond b (e ∷ []) (entry_at es id)) ++ flat_map live_in (cond (not b) (e ∷ but id es) (but id es)))) [
+    IsPermutation (live_in e ++ flat_map live_in es) (flat_map live_in (cond b (e ∷ []) (entry_at es id)) ++ flat_map live_in (cond (not b) (e ∷ but id es) (but id es)))) [
       | true ↦ λ h.
           let same : e.id ≡ id = grind (arith, nat_tests) in
           let stay = above_stay id es (subst (λ n. AllByRecursion (λ (f : EntryValue). n < f.id) es) same r.0) in

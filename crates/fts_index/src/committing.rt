@@ -42,10 +42,7 @@ fn push_live(entries: &mut Vec<Entry>, entry: Entry) -> Result<(), AllocError>
 }
 
 /// The segments that jobs left, without those that have no live document; or the first refusal.
-fn assemble(
-    alloc: Global,
-    answers: Vec<Result<Entry, Refusal>>,
-) -> Result<Vec<Entry>, Refusal>
+fn assemble(alloc: Global, answers: Vec<Result<Entry, Refusal>>) -> Result<Vec<Entry>, Refusal>
     ensures ok { IfOk result (λ entries. (jobs : List CommitJob) → AreAnswers jobs answers.items → entries.items ≡ filter has_live (map entry_of jobs)) }
     ensures memory { IfErr result (λ e. (jobs : List CommitJob) → AreAnswers jobs answers.items → e ≡ Refusal.Memory) }
 {

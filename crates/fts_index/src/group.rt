@@ -94,11 +94,7 @@ fn put_added(
 }
 
 /// The documents that operations add, in groups.
-pub(crate) fn groups(
-    alloc: Global,
-    cut: Cut,
-    ops: &[Stamped<Op>],
-) -> Result<Vec<Group>, AllocError>
+pub(crate) fn groups(alloc: Global, cut: Cut, ops: &[Stamped<Op>]) -> Result<Vec<Group>, AllocError>
     requires { IsCut cut }
     ensures { IfOk result (λ groups. groups.items ≡ groups_of cut (added ops.now)) }
 {

@@ -93,7 +93,14 @@ impl Snapshot {
             return Err(Refusal::StampsUsedUp);
         }
         let next_id = self.next_id + groups.len() as u64;
-        let jobs = jobs_of_batch(alloc, &self.schema, &self.entries, self.next_id, batch, &groups)?;
+        let jobs = jobs_of_batch(
+            alloc,
+            &self.schema,
+            &self.entries,
+            self.next_id,
+            batch,
+            &groups,
+        )?;
         let entries = entries_of_jobs(rt, alloc, &jobs, workers, gate)?;
         let schema = self.schema.clone()?;
         Ok(Snapshot {

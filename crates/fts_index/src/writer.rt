@@ -1,7 +1,6 @@
 // The writer of an index: it opens rounds, commits their batches, merges segments, and publishes what these leave.
 ghost use Rattle.std.specs.Prelude.{◌≡◌, ◌+◌, ◌*◌, ◌^◌, ◌<◌, ◌≤◌, ◌⊎◌, ◌++◌, [], ◌∷◌, List, Some, None, Ok, IfOk, IfErr, OnOk, OnErr, IsOkUnless, map, length, option_map};
 ghost use Rattle.std.specs.List.{range_with_len};
-
 ghost use Rattle.fts_model.specs.Operations.{alive, adds};
 ghost use Rattle.fts_index.specs.Rounds.{fresh};
 ghost use Rattle.fts_index.specs.Cuts.{IsCut};

@@ -119,15 +119,15 @@ block_read value count blocks words number block view h inside block_is =
       room = w.room;
       size = size;
       numbers_are = same_number_lists (take some (numbers_at words block)) piece (taken ∙ size) (λ k below.
-        let small : k < some = omega (arith, taken) in
-        let place : (number * 128 + k) / 128 ≡ number = omega arith in
-        let at : (number * 128 + k) % 128 ≡ k = omega arith in
-        get_or-take some (numbers_at words block) k 0 small
-        ∙ ap (λ b. get_or (numbers_at words b) k 0) (sym here ∙ ap (λ n. get_or blocks n no_block) (sym place))
-        ∙ ap (λ n. get_or (numbers_at words (get_or blocks ((number * 128 + k) / 128) no_block)) n 0) (sym at)
-        ∙ sym (get_or-numbers_kept count blocks words (number * 128 + k) (omega arith))
-        ∙ ap (λ ns. get_or ns (number * 128 + k) 0) view
-        ∙ sym (get_or-take 128 (drop (number * 128) value) k 0 (omega arith) ∙ get_or-drop (number * 128) value k 0));
+          let small : k < some = omega (arith, taken) in
+          let place : (number * 128 + k) / 128 ≡ number = omega arith in
+          let at : (number * 128 + k) % 128 ≡ k = omega arith in
+          get_or-take some (numbers_at words block) k 0 small
+          ∙ ap (λ b. get_or (numbers_at words b) k 0) (sym here ∙ ap (λ n. get_or blocks n no_block) (sym place))
+          ∙ ap (λ n. get_or (numbers_at words (get_or blocks ((number * 128 + k) / 128) no_block)) n 0) (sym at)
+          ∙ sym (get_or-numbers_kept count blocks words (number * 128 + k) (omega arith))
+          ∙ ap (λ ns. get_or ns (number * 128 + k) 0) view
+          ∙ sym (get_or-take 128 (drop (number * 128) value) k 0 (omega arith) ∙ get_or-drop (number * 128) value k 0));
     }
 
 -- there is a block for each 128 numbers

@@ -1,8 +1,9 @@
 // fts_index: what commits and merges leave of segments, each refusal in its order, and readers that are told and not told.
 ghost use Rattle.std.specs.Prelude.{◌≡◌, IfOk};
+ghost use Rattle.fts_index.specs.Rounds.{SameLane};
 
 use crate::fixtures::schema;
-use fts_index::{Batch, CommitSeen, Cut, Writer};
+use fts_index::{Batch, CommitSeen, Cut, Lane, LaneEnd, Writer};
 use fts_model::{Document, FieldValue, Op, Refusal, Schema, Stamp, Term, Text};
 use fts_pool::Open;
 use serde_json::Value;
@@ -26,24 +27,33 @@ fn delete(alloc: Global, tag: &str) -> Result<Op, Refusal> {
     Ok(Op::Delete(Term { field: 1, value }))
 }
 
-/// A round of one lane with these operations: a tag behind `+` is added, one behind `-` is deleted.
-fn batch(alloc: Global, writer: &mut Writer, tags: &[&str]) -> Result<Batch, Refusal>
-    ensures { writer.new.front ≡ writer.old.front }
+/// Submits these operations: a tag behind `+` is added, one behind `-` is deleted.
+fn filled(alloc: Global, schema: &Schema, lane: Lane, tags: &[&str]) -> Result<LaneEnd, Refusal>
+    ensures { IfOk result (λ end. SameLane lane end) }
 {
-    let schema = writer.schema().clone()?;
-    let (round, mut lanes) = writer.open_round(alloc, 1, 100)?;
-    let Some(mut lane) = lanes.pop() else {
-        return Err(Refusal::RoundOpen);
-    };
+    let mut lane = lane;
     for tag in tags {
         let op = match tag.split_at_checked(1) {
-            Some(("+", tag)) => add(alloc, &schema, tag)?,
+            Some(("+", tag)) => add(alloc, schema, tag)?,
             Some((_, tag)) => delete(alloc, tag)?,
             None => Op::DeleteAll,
         };
         lane.submit(op).map_err(|e| e.1)?;
     }
-    let ends = vec![in alloc; lane.end()]?;
+    Ok(lane.end())
+}
+
+/// A round of one lane with these operations.
+fn batch(alloc: Global, writer: &mut Writer, tags: &[&str]) -> Result<Batch, Refusal>
+    ensures { writer.new.front ≡ writer.old.front }
+{
+    let schema = writer.schema().clone()?;
+    let (round, mut lanes) = writer.open_round(alloc, 1, 100)?;
+    let Some(lane) = lanes.pop() else {
+        return Err(Refusal::RoundOpen);
+    };
+    let end = filled(alloc, &schema, lane, tags)?;
+    let ends = vec![in alloc; end]?;
     round.gather(alloc, ends).map_err(|e| e.2)
 }
 
@@ -121,7 +131,13 @@ fn segments_of_commits_and_merges(rt: HostRuntime) -> Result<(), Fail> {
     let refused = [
         is_refused(&rt, alloc, &mut writer, &[], Refusal::NoSegments),
         is_refused(&rt, alloc, &mut writer, &[1, 9], Refusal::UnknownSegment(9)),
-        is_refused(&rt, alloc, &mut writer, &[1, 1, 9], Refusal::SegmentTwice(1)),
+        is_refused(
+            &rt,
+            alloc,
+            &mut writer,
+            &[1, 1, 9],
+            Refusal::SegmentTwice(1),
+        ),
     ];
     let merged = merges(&rt, alloc, &mut writer);
     let stamp = writer.commit_stamp();
