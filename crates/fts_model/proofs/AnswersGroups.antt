@@ -17,12 +17,12 @@ use Rattle.fts_model.proofs.Lists.{pairs_behind, pairs_front, pairs_none, Contai
 use Rattle.fts_model.proofs.AnswersNumbers.{number_total, number_same, number_above, number_below}
 
 -- how many hits the groups of a number have
-abbrev count_in : List (Number × ℕ) → Number → ℕ
+abbrev pub count_in : List (Number × ℕ) → Number → ℕ
 count_in [] n = 0
 count_in (group ∷ others) n = cond (is_eq (number_cmp n group.0)) group.1 0 + count_in others n
 
 -- the number of one group is below that of another
-abbrev Below : Number × ℕ → Number × ℕ → Type 0
+abbrev pub Below : Number × ℕ → Number × ℕ → Type 0
 Below a b = number_cmp a.0 b.0 ≡ Less
 
 -- one more of a group's hits, where it is the group
@@ -48,7 +48,7 @@ count_in-one [] m n = omega arith
 count_in-one (group ∷ others) m n = counted_at (number_cmp m group.0) group others m n refl (count_in-one others m n)
 
 -- each number is counted as often as it comes
-count_in-fold : (others : List (Number × ℕ)) (ms : List Number) (n : Number) →
+pub count_in-fold : (others : List (Number × ℕ)) (ms : List Number) (n : Number) →
     count_in (fold count_number others ms) n ≡ count_in others n + count_by (λ m. is_eq (number_cmp n m)) ms
 count_in-fold others [] n = omega arith
 count_in-fold others (m ∷ ms) n =
@@ -60,7 +60,7 @@ count_by-option p None xs = omega arith
 count_by-option p (Some x) xs = sum_by-cons (λ x. cond (p x) 1 0) x xs
 
 -- the numbers that are this one are the hits that have it
-count_by-numbers_in : (field : ℕ) (n : Number) (hits : List (Stamped DocumentValue)) →
+pub count_by-numbers_in : (field : ℕ) (n : Number) (hits : List (Stamped DocumentValue)) →
     count_by (λ m. is_eq (number_cmp n m)) (numbers_in field hits) ≡ hits_with field n hits
 count_by-numbers_in field n [] = refl
 count_by-numbers_in field n (hit ∷ hits) =
@@ -72,7 +72,7 @@ count_by-numbers_in field n (hit ∷ hits) =
     )
 
 -- a number's groups have as many hits as have it
-count_in-groups : (field : ℕ) (n : Number) (hits : List (Stamped DocumentValue)) → count_in (groups field hits) n ≡ hits_with field n hits
+pub count_in-groups : (field : ℕ) (n : Number) (hits : List (Stamped DocumentValue)) → count_in (groups field hits) n ≡ hits_with field n hits
 count_in-groups field n hits = count_in-fold [] (numbers_in field hits) n ∙ omega (arith, count_by-numbers_in field n hits)
 
 -- what holds of the groups holds of them with one hit more, however its number stands to the first group's
@@ -111,17 +111,17 @@ rising-count_number (group ∷ others) m rising =
     rising_at (number_cmp m group.0) group others m refl rising (rising-count_number others m (pairs_behind Below group others rising))
 
 -- groups that rise do so with more hits
-rising-fold : (others : List (Number × ℕ)) (ms : List Number) → AllPairs Below others → AllPairs Below (fold count_number others ms)
+pub rising-fold : (others : List (Number × ℕ)) (ms : List Number) → AllPairs Below others → AllPairs Below (fold count_number others ms)
 rising-fold others [] rising = rising
 rising-fold others (m ∷ ms) rising = rising-fold (count_number others m) ms (rising-count_number others m rising)
 
 -- no group is of no hits
-positive-fold : (others : List (Number × ℕ)) (ms : List Number) → All (λ g. 0 < g.1) others → All (λ g. 0 < g.1) (fold count_number others ms)
+pub positive-fold : (others : List (Number × ℕ)) (ms : List Number) → All (λ g. 0 < g.1) others → All (λ g. 0 < g.1) (fold count_number others ms)
 positive-fold others [] ps = ps
 positive-fold others (m ∷ ms) ps = positive-fold (count_number others m) ms (All-count_number (λ g. 0 < g.1) others m (λ g p. omega arith) (omega arith) ps)
 
 -- a number below all groups has no hits in them
-count_in-none : (others : List (Number × ℕ)) (n : Number) → All (λ g. number_cmp n g.0 ≡ Less) others → count_in others n ≡ 0
+pub count_in-none : (others : List (Number × ℕ)) (n : Number) → All (λ g. number_cmp n g.0 ≡ Less) others → count_in others n ≡ 0
 count_in-none [] n above = refl
 count_in-none (group ∷ others) n above =
     let P : Number × ℕ → Type 0 = λ g. number_cmp n g.0 ≡ Less in
@@ -137,7 +137,7 @@ count_in-here group others n same rising =
     omega (arith, here, none)
 
 -- a group that stands there has all hits of its number
-count_in-at : (list : List (Number × ℕ)) (n : Number) (count : ℕ) → AllPairs Below list → Contains list (n, count) → count_in list n ≡ count
+pub count_in-at : (list : List (Number × ℕ)) (n : Number) (count : ℕ) → AllPairs Below list → Contains list (n, count) → count_in list n ≡ count
 count_in-at [] n count rising at = absurd (Contains-none (n, count) at)
 count_in-at (group ∷ others) n count rising at =
     ⊎_elim
@@ -166,7 +166,7 @@ there_at Greater group others n e rising rest some =
     subst P (sym same) (Contains-behind group others (n, count_in others n) (rest (omega (arith, same, some))))
 
 -- a number with hits has a group
-count_in-there : (list : List (Number × ℕ)) (n : Number) → AllPairs Below list → 0 < count_in list n → Contains list (n, count_in list n)
+pub count_in-there : (list : List (Number × ℕ)) (n : Number) → AllPairs Below list → 0 < count_in list n → Contains list (n, count_in list n)
 count_in-there [] n rising some = absurd (omega (arith, some))
 count_in-there (group ∷ others) n rising some =
     there_at (number_cmp n group.0) group others n refl rising (count_in-there others n (pairs_behind Below group others rising)) some
@@ -192,7 +192,7 @@ groups-IsGroups field hits =
     }
 
 -- of two numbers only one is below the other
-Below-one_way : (a b : Number × ℕ) → Below a b → Below b a → ⊥
+pub Below-one_way : (a b : Number × ℕ) → Below a b → Below b a → ⊥
 Below-one_way a b h l = let contra : Less ≡ Greater = sym l ∙ number_above a.0 b.0 h in cc
 
 -- there is one list of groups

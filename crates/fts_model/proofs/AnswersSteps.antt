@@ -67,12 +67,12 @@ hits_counted-one [] n = omega arith
 hits_counted-one (group ∷ others) n = counted_by (number_cmp n group.0) group others n (hits_counted-one others n)
 
 -- as many more are counted as there are numbers
-hits_counted-fold : (others : List (Number × ℕ)) (ns : List Number) → hits_counted (fold count_number others ns) ≡ hits_counted others + length ns
+pub hits_counted-fold : (others : List (Number × ℕ)) (ns : List Number) → hits_counted (fold count_number others ns) ≡ hits_counted others + length ns
 hits_counted-fold others [] = omega arith
 hits_counted-fold others (n ∷ ns) = omega (arith, hits_counted-fold (count_number others n) ns, hits_counted-one others n)
 
 -- no more are kept than there are
-length-filter_map : {X Y : Type 0} (h : X → Option Y) (xs : List X) → length (filter_map h xs) ≤ length xs
+pub length-filter_map : {X Y : Type 0} (h : X → Option Y) (xs : List X) → length (filter_map h xs) ≤ length xs
 length-filter_map h [] = omega arith
 length-filter_map h (x ∷ xs) =
     elim (h x) as (λ o. length (cons_option o (filter_map h xs)) ≤ suc (length xs))
@@ -137,7 +137,7 @@ take-behind zero x xs = refl
 take-behind (suc k) x xs = ap (λ ys. x ∷ ys) (take-shorter k xs)
 
 -- what is beyond the first hits has no part in what they are with one more
-take-put_hit : (k : ℕ) (order : Order) (hits : List Hit) (hit : Hit) → take k (put_hit order hits hit) ≡ take k (put_hit order (take k hits) hit)
+pub take-put_hit : (k : ℕ) (order : Order) (hits : List Hit) (hit : Hit) → take k (put_hit order hits hit) ≡ take k (put_hit order (take k hits) hit)
 take-put_hit zero order hits hit = refl
 take-put_hit (suc k) order [] hit = refl
 take-put_hit (suc k) order (other ∷ others) hit =

@@ -33,11 +33,11 @@ order_total Rising = number_total
 order_total Falling = back_total number_total
 
 -- how two hits stand in a top list
-abbrev rank : Order → Hit → Hit → Ordering
+abbrev pub rank : Order → Hit → Hit → Ordering
 rank order a b = ordering_then (cmp_by order a.value b.value) (nat_cmp a.stamp b.stamp)
 
 -- hits stand in one order
-rank_total : (order : Order) → IsTotalOrder (rank order)
+pub rank_total : (order : Order) → IsTotalOrder (rank order)
 rank_total order = then_total (on_total (λ (h : Hit). h.value) (order_total order)) (on_total (λ (h : Hit). h.stamp) nat_cmp_total)
 
 -- a hit that comes before another ranks below it
@@ -69,27 +69,27 @@ of_equal Equal s t h = nat_cmp-IsAntisymmetric s t h
 of_equal Greater s t h = cc
 
 -- one hit comes before another
-abbrev Before : Order → Hit → Hit → Type 0
+abbrev pub Before : Order → Hit → Hit → Type 0
 Before order a b = comes_before order a b ≡ true
 
 -- two hits have two stamps
-abbrev Apart : Hit → Hit → Type 0
+abbrev pub Apart : Hit → Hit → Type 0
 Apart a b = a.stamp ≢ b.stamp
 
 -- what comes before ranks below
-ranked : (order : Order) (a b : Hit) → Before order a b → rank order a b ≡ Less
+pub ranked : (order : Order) (a b : Hit) → Before order a b → rank order a b ≡ Less
 ranked order a b h = lt_of (cmp_by order a.value b.value) a.stamp b.stamp h
 
 -- what ranks below comes before
-from_rank : (order : Order) (a b : Hit) → rank order a b ≡ Less → Before order a b
+pub from_rank : (order : Order) (a b : Hit) → rank order a b ≡ Less → Before order a b
 from_rank order a b h = of_lt (cmp_by order a.value b.value) a.stamp b.stamp h
 
 -- what comes before one before another comes before that
-Before-trans : (order : Order) (a b c : Hit) → Before order a b → Before order b c → Before order a c
+pub Before-trans : (order : Order) (a b c : Hit) → Before order a b → Before order b c → Before order a c
 Before-trans order a b c h l = from_rank order a c ((rank_total order).trans a b c (ranked order a b h) (ranked order b c l))
 
 -- of two hits only one comes before the other
-Before-one_way : (order : Order) (a b : Hit) → Before order a b → Before order b a → ⊥
+pub Before-one_way : (order : Order) (a b : Hit) → Before order a b → Before order b a → ⊥
 Before-one_way order a b h l =
     let here = ranked order a b h in
     let back = (rank_total order).antisymm a b ∙ ap ordering_reverse (ranked order b a l) in
@@ -102,11 +102,11 @@ by_rank order a b Equal e apart h = absurd (apart (of_equal (cmp_by order a.valu
 by_rank order a b Greater e apart h = from_rank order b a ((rank_total order).antisymm b a ∙ ap ordering_reverse e)
 
 -- of two stamps' hits one comes before the other
-Before-else : (order : Order) (a b : Hit) → Apart a b → comes_before order a b ≡ false → Before order b a
+pub Before-else : (order : Order) (a b : Hit) → Apart a b → comes_before order a b ≡ false → Before order b a
 Before-else order a b apart h = by_rank order a b (rank order a b) refl apart h
 
 -- what holds of hits and of one more holds with it put among them
-All-put_hit : (P : Hit → Type 0) (order : Order) (hits : List Hit) (hit : Hit) → P hit → All P hits → All P (put_hit order hits hit)
+pub All-put_hit : (P : Hit → Type 0) (order : Order) (hits : List Hit) (hit : Hit) → P hit → All P hits → All P (put_hit order hits hit)
 All-put_hit P order [] hit p ps = All-cons P hit [] p (All-nil P)
 All-put_hit P order (other ∷ others) hit p ps =
     let behind = All-put_hit P order others hit p (All-tail P other others ps) in
@@ -135,7 +135,7 @@ sorted-put_hit order (other ∷ others) hit sorted apart =
     (sorted-put_hit order others hit (pairs_behind (Before order) other others sorted) (All-tail (λ g. Apart g hit) other others apart))
 
 -- hits in order stay so with more
-sorted-fold : (order : Order) (done rest : List Hit) → AllPairs (Before order) done → All (λ g. All (Apart g) rest) done → AllPairs Apart rest →
+pub sorted-fold : (order : Order) (done rest : List Hit) → AllPairs (Before order) done → All (λ g. All (Apart g) rest) done → AllPairs Apart rest →
     AllPairs (Before order) (fold (put_hit order) done rest)
 sorted-fold order done [] sorted apart once = sorted
 sorted-fold order done (hit ∷ rest) sorted apart once =
@@ -163,7 +163,7 @@ once-with None d rest apart once = once
 once-with (Some n) d rest apart once = AllPairs-cons Apart (record { stamp = d.stamp; value = n; document = d.value }) rest apart once
 
 -- no stamp stands twice among the hits with a number
-once-hits_in : (field : ℕ) (hits : List (Stamped DocumentValue)) → HasEachStampOnce hits → AllPairs Apart (hits_in field hits)
+pub once-hits_in : (field : ℕ) (hits : List (Stamped DocumentValue)) → HasEachStampOnce hits → AllPairs Apart (hits_in field hits)
 once-hits_in field [] h = pairs_none Apart
 once-hits_in field (d ∷ ds) h =
     once-with (number_in_field d.value field) d (hits_in field ds)
@@ -177,7 +177,7 @@ moved-put_hit order hits hit =
     subst P (sym (put_hit-insert order hits hit)) (IsPermutation-insert hits (hit_place order hits hit) hit)
 
 -- hits put among others are so many more
-moved-fold : (order : Order) (before done rest : List Hit) → IsPermutation before done → IsPermutation (before ++ rest) (fold (put_hit order) done rest)
+pub moved-fold : (order : Order) (before done rest : List Hit) → IsPermutation before done → IsPermutation (before ++ rest) (fold (put_hit order) done rest)
 moved-fold order before done [] p =
     let P : List Hit → Type 0 = λ hs. IsPermutation hs done in subst P (sym (append-nil before)) p
 moved-fold order before done (hit ∷ rest) p =

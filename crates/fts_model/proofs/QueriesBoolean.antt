@@ -85,6 +85,11 @@ matches_at_bool schema document must must_not should =
     ∙ all_of_parts (all_match-list schema document must.items) (any_matches-list schema document must_not.items)
     (are_some-list must.items) (any_matches-list schema document should.items)
 
+-- of two bits that differ each is the other's contrary
+pub flipped : (a b : Bool) → b ≡ not a → a ≡ not b
+flipped true b h = sym (ap not h)
+flipped false b h = sym (ap not h)
+
 -- not all musts match: the query doesn't
 pub not_all_must : (a b c d : Bool) → a ≡ false → (a && not b && (c || d)) ≡ false
 not_all_must true b c d h = cc

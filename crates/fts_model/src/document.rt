@@ -223,6 +223,15 @@ impl Document {
         )
     }
 
+    /// The schema that it was made under. The document has a value or none for each of its fields, and
+    /// each value is one that its field can have.
+    pub fn schema(&self) -> &Schema
+        ensures schema { result.now ≡ self.now.schema }
+        ensures values { IsDocument self.now }
+    {
+        &self.stored.schema
+    }
+
     /// The value of the field of this number, if it has one.
     pub fn value(&self, field: usize) -> Option<&FieldValue>
         ensures value { option_copied result ≡ value_in_field self.now field }

@@ -4,7 +4,8 @@
 //! It is what every faster way is compared with. A text is gone over once for each term or member
 //! of a phrase; its tokens are folded, one at a time, into one buffer.
 ghost use Rattle.std.specs.Prelude.{◌≡◌, ◌≤◌, ◌+◌, ◌==◌, ◌&&◌, ◌++◌, ◌∷◌, [], IfOk, IfErr, Ok, not, filter, length, option_copied, if◌then◌else◌};
-ghost use Rattle.std.specs.List.{list_any, list_all};
+ghost use Rattle.std.specs.List.{list_any};
+ghost use Rattle.fts_model.specs.Internals.Scans.{one_is};
 ghost use Rattle.std.specs.Str.{bytes_eq};
 ghost use Rattle.fts_text.specs.Tokens.{tokens};
 ghost use Rattle.fts_text.specs.Places.{IsPlaceIn, token_at};
@@ -372,52 +373,34 @@ fn query_matches(
             must_not,
             should,
         } => {
-            if !all_match(schema, must, document, scratch)? {
+            if one_is(schema, must, document, false, scratch)? {
                 return Ok(false);
             }
-            if any_matches(schema, must_not, document, scratch)? {
+            if one_is(schema, must_not, document, true, scratch)? {
                 return Ok(false);
             }
             if !must.is_empty() {
                 return Ok(true);
             }
-            any_matches(schema, should, document, scratch)
+            one_is(schema, should, document, true, scratch)
         }
     }
 }
 
-/// Whether each of these matches a document.
+/// Whether one of these queries is found to be `wanted` of a document: that it matches, or that it doesn't.
 #[cycle(matches)]
-fn all_match(
+fn one_is(
     schema: &Schema,
     queries: &[Query],
     document: &Document,
+    wanted: bool,
     scratch: &mut String,
 ) -> Result<bool, AllocError>
-    ensures { IfOk result (λ found.
-        found ≡ list_all (λ q. matches schema.now document.now (query_value q)) queries.now) }
+    ensures { IfOk result (λ found. found
+        ≡ one_is wanted (λ q. matches schema.now document.now (query_value q)) queries.now) }
 {
     for query in queries {
-        if !query_matches(schema, query, document, scratch)? {
-            return Ok(false);
-        }
-    }
-    Ok(true)
-}
-
-/// Whether one of these matches a document.
-#[cycle(matches)]
-fn any_matches(
-    schema: &Schema,
-    queries: &[Query],
-    document: &Document,
-    scratch: &mut String,
-) -> Result<bool, AllocError>
-    ensures { IfOk result (λ found.
-        found ≡ list_any (λ q. matches schema.now document.now (query_value q)) queries.now) }
-{
-    for query in queries {
-        if query_matches(schema, query, document, scratch)? {
+        if query_matches(schema, query, document, scratch)? == wanted {
             return Ok(true);
         }
     }

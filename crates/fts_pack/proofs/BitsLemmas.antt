@@ -320,6 +320,14 @@ doc_inside len doc words value view h inside =
     let within : doc < len = omega (arith, ap length view, length-flags len words) in
     (within, rw h.count (word_inside len doc within))
 
+-- bits with one of them put: the words are those of bits, and tell the others as before
+pub bits-put : (bit : Bool) (len doc n : ℕ) (words : List ℕ) (value : List Bool) → flags (numbers_in 64 1 len words) ≡ value → IsBits len words → doc < length value → n ≡ get_or words (doc / 64) 0 → let after = set words (doc / 64) (cond bit (bit_or n (1 * 2 ^ (doc % 64) % 2 ^ 64)) (bit_and n (all_ones - 1 * 2 ^ (doc % 64) % 2 ^ 64))) in IsBits len after × (flags (numbers_in 64 1 len after) ≡ set value doc bit)
+bits-put bit len doc n words value view h inside n_is =
+    let place = doc_inside len doc words value view h inside in
+    let written = bit_put bit words doc n h.fits place.1 n_is in
+    let same : (b : Bool) → (cond b 1 0 == 1) ≡ b = elim [ true ↦ refl | false ↦ refl ] in
+    (IsBits-written len doc (cond bit 1 0) words _ h place.0 written, flags-written len doc (cond bit 1 0) words _ place.0 written ∙ ap (set (flags (numbers_in 64 1 len words)) doc) (same bit) ∙ ap (λ v. set v doc bit) view)
+
 -- a count of ones, one word on
 pub ones-counted : (len index count : ℕ) (words read : List ℕ) → read ≡ words → IsBits len words → index < length read → count ≡ ones (joined 64 (take index read)) → count + ones (get_or read index 0) ≡ ones (joined 64 (take (index + 1) words))
 ones-counted len index count words read same h inside counted =

@@ -103,7 +103,7 @@ impl Bits {
         requires { doc < length self.old }
         ensures { self.new ≡ slice_set self.old doc true }
     {
-        self.words[doc / 64] |= 1 << (doc % 64);
+        self.put(doc, true);
     }
 
     /// Clears the document's bit.
@@ -111,7 +111,19 @@ impl Bits {
         requires { doc < length self.old }
         ensures { self.new ≡ slice_set self.old doc false }
     {
-        self.words[doc / 64] &= !(1 << (doc % 64));
+        self.put(doc, false);
+    }
+
+    #[inline]
+    fn put(&mut self, doc: usize, bit: bool)
+        requires { doc < length self.old }
+        ensures { self.new ≡ slice_set self.old doc bit }
+    {
+        if bit {
+            self.words[doc / 64] |= 1 << (doc % 64);
+        } else {
+            self.words[doc / 64] &= !(1 << (doc % 64));
+        }
     }
 
     /// The bits of documents `64 * index` to `64 * index + 63`, the first of them the lowest; behind the last document they

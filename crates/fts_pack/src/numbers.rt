@@ -22,7 +22,7 @@ pub(crate) struct Packed {
 #[derive(Drop)]
 pub struct Numbers {
     count: usize,
-    blocks: Vec<Packed>,
+    places: Vec<Packed>,
     words: Vec<u32>,
 }
 
@@ -33,9 +33,9 @@ impl Model for Numbers {
 
     ghost use Rattle.fts_pack.specs.Numbers.{numbers_kept, AreKept};
 
-    ghost view = { λ n. numbers_kept n.count n.blocks.items n.words.items };
+    ghost view = { λ n. numbers_kept n.count n.places.items n.words.items };
 
-    ghost invariant = { λ n. AreKept n.count n.blocks.items n.words.items };
+    ghost invariant = { λ n. AreKept n.count n.places.items n.words.items };
 }
 
 impl Numbers {
@@ -51,18 +51,18 @@ impl Numbers {
         ensures { IfOk result (λ packed. packed ≡ numbers.now) }
     {
         let count = numbers.len().div_ceil(BLOCK);
-        let mut blocks = Vec::with_capacity(alloc, count)?;
+        let mut places = Vec::with_capacity(alloc, count)?;
         let mut words = Vec::new(alloc);
         for block in 0..count {
             let start = block * BLOCK;
             let end = numbers.len().min(start + BLOCK);
             let packed = add_block(&mut words, &numbers[start..end])?;
-            blocks.push(packed)?;
+            places.push(packed)?;
         }
         words.shrink_to_fit();
         Ok(Numbers {
             count: numbers.len(),
-            blocks,
+            places,
             words,
         })
     }
@@ -80,7 +80,7 @@ impl Numbers {
         requires { index < length self.now }
         ensures { result ≡ slice_index self.now index }
     {
-        let Packed { start, width } = self.blocks[index / BLOCK];
+        let Packed { start, width } = self.places[index / BLOCK];
         let (_, words) = self.words.split_at(start);
         lanes::read(words, width, index % BLOCK)
     }
@@ -92,7 +92,7 @@ impl Numbers {
         ensures count { result ≡ length (block_at self.now block) }
         ensures numbers { take result out.new ≡ block_at self.now block }
     {
-        let Packed { start, width } = self.blocks[block];
+        let Packed { start, width } = self.places[block];
         let (_, words) = self.words.split_at(start);
         lanes::unpack(words, width, out);
         (self.count - block * BLOCK).min(BLOCK)
@@ -108,3 +108,6 @@ fn add_block(words: &mut Vec<u32>, numbers: &[u32]) -> Result<Packed, AllocError
     lanes::append(words, width, numbers)?;
     Ok(Packed { start, width })
 }
+
+#[cfg(test)]
+mod tests;

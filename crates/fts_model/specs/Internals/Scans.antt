@@ -1,5 +1,6 @@
 -- What the steps of the plain search are.
-use Rattle.std.specs.Prelude.{ℕ, suc, ◌+◌, Bool, false, List, [], ◌∷◌, if◌then◌else◌, slice_get}
+use Rattle.std.specs.Prelude.{ℕ, suc, ◌+◌, Bool, false, not, List, [], ◌∷◌, if◌then◌else◌, slice_get}
+use Rattle.std.specs.List.{list_all, list_any}
 use Rattle.std.specs.Ordering.{match_ordering, is_eq}
 use Rattle.std.specs.Option.{option_map_or}
 use Rattle.fts_model.specs.declared.value.Number.{Number}
@@ -25,3 +26,7 @@ is_group_at groups place n = option_map_or (λ group. is_eq (number_cmp n group.
 abbrev pub hit_place : Order → List Hit → Hit → ℕ
 hit_place order [] hit = 0
 hit_place order (other ∷ others) hit = if comes_before order hit other then 0 else suc (hit_place order others hit)
+
+-- whether a test finds one of these to be `wanted`
+abbrev pub one_is : {X : Type 0} → Bool → (X → Bool) → List X → Bool
+one_is wanted test xs = if wanted then list_any test xs else not (list_all test xs)

@@ -1,4 +1,4 @@
-use Rattle.std.proofs.Common.{◌≡◌, replicate, get_or, sym, ap, ◌∙◌, arith}
+use Rattle.std.proofs.Common.{◌≡◌, replicate, get_or, sym, ap, ◌∙◌}
 use Rattle.std.proofs.lemmas.List.{get_or-replicate}
 use Rattle.fts_pack.specs.Lanes.{numbers_in_lanes}
 use Rattle.fts_pack.proofs.LaneLemmas.{no_width}

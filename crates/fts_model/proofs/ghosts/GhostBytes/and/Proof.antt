@@ -1,5 +1,5 @@
 -- `and` makes the empty struct, with the bytes before and those of the slice.
-use Rattle.std.proofs.Common.{◌++◌, ◌<◌, ◌^◌, length, List}
+use Rattle.std.proofs.Common.{◌++◌, ◌<◌, ◌^◌, length}
 use mathlib.Core.Path.{refl}
 use mathlib.Core.List.{[], ◌∷◌}
 use seplogic.Ra.Ura.{Ura}
