@@ -1,11 +1,12 @@
 """Refuses each growth of memory in turn while `fts run` reads a script, or in each test of a crate.
 
     python3 bench/growths.py examples/catalogue.jsonl
-    python3 bench/growths.py crates/fts_model/out/fts_model_tests [WORD]
+    python3 bench/growths.py crates/tests/out/tests_tests merge::plans
 
 Build the program first (README.md), or the tests with `rt test` in their crate; this takes gcc too. A run of the program
 has to end with status 3 and the replies to some first lines of the script, or with status 0 and all replies. A test whose
-name has WORD has to pass, or to end for want of memory and by no failed assertion.
+name has the word has to pass, or to end for want of memory and by no failed assertion. Tests of thousands of documents take
+too long for it.
 """
 import os
 import pathlib

@@ -61,9 +61,11 @@ def tell_bytes(name, documents):
 with tempfile.TemporaryDirectory() as scratch:
     copy = pathlib.Path(scratch) / "copy"
     shutil.copytree(root, copy, ignore=shutil.ignore_patterns(".git"))
-    # The gate takes no source outside of the crates, so it ends in .txt there.
-    (copy / "crates/segment_bench/src").mkdir(parents=True)
-    shutil.copy(root / "bench/segment/src/main.rt.txt", copy / "crates/segment_bench/src/main.rt")
+    # The gate takes no source outside of the crates, so they end in .txt there.
+    for source in (root / "bench/segment").rglob("*.txt"):
+        place = copy / "crates/segment_bench" / source.relative_to(root / "bench/segment").with_suffix("")
+        place.parent.mkdir(parents=True, exist_ok=True)
+        shutil.copy(source, place)
     with open(copy / "crates.txt", "a") as crates:
         crates.write("segment_bench: fts_segment fts_model serde_json anyhow\n")
     data = "".join(lines()).encode()
@@ -72,4 +74,9 @@ with tempfile.TemporaryDirectory() as scratch:
     tell_bytes("tag", [[document["tag"]] for document in documents])
     run = subprocess.run(["rt", "run"], cwd=copy / "crates/segment_bench", input=data, capture_output=True)
     sys.stdout.write("".join(line + "\n" for line in run.stdout.decode().splitlines() if " us" in line))
+    # The comparison: a plain inverted index in C++ of the same documents, not packed.
+    plain = pathlib.Path(scratch) / "plain"
+    subprocess.run(["g++", "-O2", "-std=c++17", "-o", plain, root / "bench/segment.cpp"], check=True)
+    sys.stdout.flush()
+    subprocess.run([plain], input=data, check=True)
     sys.exit(run.returncode)

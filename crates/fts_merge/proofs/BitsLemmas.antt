@@ -8,7 +8,7 @@ use Rattle.fts_model.specs.declared.operation.Stamped.{Stamped}
 use Rattle.fts_model.specs.Documents.{DocumentValue}
 use Rattle.fts_model.specs.Operations.{strikes_later, survives}
 use Rattle.fts_segment.specs.Segments.{numbers_where}
-use Rattle.fts_merge.specs.Contents.{where_set}
+use Rattle.fts_segment.specs.Contents.{where_set}
 use Rattle.fts_merge.specs.Strikes.{bits_where, bits_after}
 
 -- two tests in a row are one

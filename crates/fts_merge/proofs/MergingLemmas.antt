@@ -1,7 +1,6 @@
 -- What is taken of the sources of a merge, and what is left.
-use Rattle.std.proofs.Common.{◌≡◌, ◌+◌, ◌<◌, ◌≤◌, ℕ, zero, suc, Bool, true, false, cond, List, [], ◌∷◌, ◌++◌, Some, map, filter, length, count_by, drop, get_or, refl, sym, ap, ap₂, ◌∙◌, arith}
+use Rattle.std.proofs.Common.{◌≡◌, ◌+◌, ◌<◌, ◌≤◌, ℕ, zero, suc, Bool, true, false, cond, List, [], ◌∷◌, ◌++◌, Some, map, length, count_by, drop, get_or, refl, sym, ap, ap₂, ◌∙◌, arith}
 use Rattle.std.specs.Prelude.{slice_get}
-use Rattle.std.specs.List.{enumerate_from}
 use Rattle.std.proofs.lemmas.List.{append_assoc, append-nil, drop_more, drop_all, length-append}
 use Rattle.std.proofs.lemmas.List.Sums.{sum_by-cons}
 use Rattle.std.proofs.lemmas.Option.{slice_get_within, get_or_from_slice_get}
@@ -10,8 +9,8 @@ use Rattle.fts_model.specs.Documents.{DocumentValue}
 use Rattle.fts_model.specs.declared.schema.Field.{Field}
 use Rattle.fts_segment.specs.Segments.{SegmentValue, numbers_where}
 use Rattle.fts_merge.specs.declared.origin.Origin.{Origin}
-use Rattle.fts_merge.specs.Contents.{where_set, content_of}
-use Rattle.fts_merge.specs.Merges.{SourceValue, HasBits, live_count, contents, origins_in, origins_from, MergedValue, schema_of, merge_of}
+use Rattle.fts_segment.specs.Contents.{where_set, content_of}
+use Rattle.fts_merge.specs.Merges.{SourceValue, HasBits, live_count, contents, origins_in, origins_from, MergedValue, made_of, schema_of, merge_of}
 use Rattle.fts_merge.proofs.BitsLemmas.{numbers_where-cons}
 
 -- what is left of a list, the first apart
@@ -120,10 +119,6 @@ pub room_for : (before : List (Stamped DocumentValue)) (ss : List SourceValue) (
 room_for before ss i s most h e old room =
     let split : before ++ (content_of s.segment s.live ++ contents (drop (i + 1) ss)) ≡ contents ss = ap (λ xs. before ++ contents xs) (sym (dropped ss i s h e)) ∙ old in
     omega (arith, ap length split, length-append before (content_of s.segment s.live ++ contents (drop (i + 1) ss)), length-append (content_of s.segment s.live) (contents (drop (i + 1) ss)), length-contents ss, room)
-
--- what a merge makes of these
-abbrev pub made_of : SegmentValue → List Origin → ℕ → MergedValue
-made_of segment origins sources = record { segment = segment; origins = origins; sources = sources }
 
 -- a segment and origins are those of the merge where their parts are
 pub merged_is : (segment builder : SegmentValue) (origins : List Origin) (ss : List SourceValue) → segment ≡ builder → builder.schema ≡ schema_of ss → builder.documents ≡ contents ss → origins ≡ origins_from 0 ss →

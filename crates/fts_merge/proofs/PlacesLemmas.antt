@@ -7,7 +7,7 @@ use Rattle.std.proofs.lemmas.Option.{slice_get_within}
 use Rattle.fts_model.specs.declared.operation.Stamped.{Stamped}
 use Rattle.fts_model.specs.Documents.{DocumentValue}
 use Rattle.fts_merge.specs.declared.origin.Origin.{Origin}
-use Rattle.fts_merge.specs.Contents.{where_set, content_of}
+use Rattle.fts_segment.specs.Contents.{where_set, content_of}
 use Rattle.fts_merge.specs.Merges.{SourceValue, HasBits, contents, origins_in, origins_from}
 use Rattle.fts_merge.proofs.BitsLemmas.{length-where_set}
 use Rattle.fts_merge.proofs.MergingLemmas.{origins_behind, origins-cons}

@@ -1,7 +1,7 @@
 -- The steps of a strike, together.
-use Rattle.std.proofs.Common.{◌≡◌, ◌+◌, ◌<◌, ◌≤◌, ℕ, zero, suc, max, Bool, true, false, cond, not, ◌&&◌, ◌||◌, nat_lt, List, [], ◌∷◌, ◌++◌, Some, map, filter, length, refl, sym, ap, ap₂, ◌∙◌, arith, All, subst, get_or, take, ◌*◌, add-one}
+use Rattle.std.proofs.Common.{◌≡◌, ◌+◌, ◌<◌, ◌≤◌, ℕ, zero, suc, max, Bool, true, false, cond, not, ◌&&◌, ◌||◌, nat_lt, List, [], ◌∷◌, ◌++◌, Some, length, refl, sym, ap, ap₂, ◌∙◌, arith, All, subst, get_or, take, ◌*◌, add-one}
 use Rattle.std.specs.Prelude.{slice_get, slice_set, fold}
-use Rattle.std.specs.List.{list_any, enumerate_from, range_with_len}
+use Rattle.std.specs.List.{list_any, range_with_len}
 use Rattle.std.specs.Option.{option_map_or}
 use Rattle.std.proofs.lemmas.Bool.Decides.{nat_tests}
 use Rattle.std.proofs.lemmas.List.{append_assoc, set_at, length_push, length-set, nil_from_length, take_more}

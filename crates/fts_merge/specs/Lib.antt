@@ -1,4 +1,3 @@
-pub mod Contents
 pub mod Strikes
 pub mod Levels
 pub mod Merges

@@ -5,7 +5,7 @@ use Rattle.fts_model.specs.declared.operation.Stamped.{Stamped}
 use Rattle.fts_model.specs.Documents.{DocumentValue}
 use Rattle.fts_segment.specs.Segments.{SegmentValue, numbers_where}
 use Rattle.fts_merge.specs.declared.origin.Origin.{Origin}
-use Rattle.fts_merge.specs.Contents.{content_of}
+use Rattle.fts_segment.specs.Contents.{content_of}
 
 -- a segment, and a bit for each of its documents: it is set where the document is live
 pub record SourceValue : Type 0 where
@@ -43,6 +43,10 @@ pub record MergedValue : Type 0 where
   pub origins : List Origin
   pub sources : ℕ
 
+-- this segment with these origins, of so many sources
+abbrev pub made_of : SegmentValue → List Origin → ℕ → MergedValue
+made_of segment origins sources = record { segment = segment; origins = origins; sources = sources }
+
 -- the schema of sources, which is that of the first
 abbrev pub schema_of : List SourceValue → List Field
 schema_of [] = []
@@ -54,11 +58,8 @@ AreOfOneSchema sources = All (λ source. source.segment.schema ≡ schema_of sou
 
 -- what a merge of sources gives
 abbrev pub merge_of : List SourceValue → MergedValue
-merge_of sources = record {
-  segment = record { schema = schema_of sources; documents = contents sources };
-  origins = origins_from 0 sources;
-  sources = length sources;
-}
+merge_of sources =
+    made_of (record { schema = schema_of sources; documents = contents sources }) (origins_from 0 sources) (length sources)
 
 -- what holds of every merged segment: each document has one origin, no two have the same, and each is of a source
 pub record IsMerged (merged : MergedValue) : Type 0 where

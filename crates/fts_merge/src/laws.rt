@@ -5,7 +5,7 @@ ghost use Rattle.fts_model.specs.declared.operation.Op.{Op};
 ghost use Rattle.fts_model.specs.declared.operation.Stamped.{Stamped};
 ghost use Rattle.fts_model.specs.Documents.{DocumentValue};
 ghost use Rattle.fts_model.specs.Operations.{survives};
-ghost use Rattle.fts_merge.specs.Contents.{content};
+ghost use Rattle.fts_segment.specs.Contents.{content};
 ghost use Rattle.fts_merge.specs.Strikes.{bits_after};
 ghost use Rattle.fts_merge.specs.Levels.{candidates};
 ghost use Rattle.fts_merge.specs.Merges.{SourceValue, HasBits, IsMerged, contents, live_count, merge_of, origins_from};
@@ -13,31 +13,39 @@ ghost use Rattle.fts_merge.specs.declared.origin.Origin.{Origin};
 
 /// To strike by operations and then by more is to strike by all of them.
 pub fn strikes_go_on()
-    ensures { (schema : List Field) (ops more : List (Stamped Op)) (documents : List (Stamped DocumentValue)) (live : List Bool) →
-        bits_after schema more documents (bits_after schema ops documents live) ≡ bits_after schema (ops ++ more) documents live }
+    ensures { (schema : List Field) (ops more : List (Stamped Op))
+        (documents : List (Stamped DocumentValue)) (live : List Bool) →
+        bits_after schema more documents (bits_after schema ops documents live)
+        ≡ bits_after schema (ops ++ more) documents live }
 {}
 
 /// A strike leaves the bits of the same documents, and sets none.
 pub fn strikes_keep_the_documents()
-    ensures { (schema : List Field) (ops : List (Stamped Op)) (documents : List (Stamped DocumentValue)) (live : List Bool) →
-        length live ≡ length documents → length (bits_after schema ops documents live) ≡ length documents }
+    ensures { (schema : List Field) (ops : List (Stamped Op))
+        (documents : List (Stamped DocumentValue)) (live : List Bool) →
+        length live ≡ length documents →
+        length (bits_after schema ops documents live) ≡ length documents }
 {}
 
 /// What a segment contains after a strike is what it contained and survives.
 pub fn content_after_a_strike()
-    ensures { (schema : List Field) (ops : List (Stamped Op)) (documents : List (Stamped DocumentValue)) (live : List Bool) →
-        content documents (bits_after schema ops documents live) ≡ filter (survives schema ops) (content documents live) }
+    ensures { (schema : List Field) (ops : List (Stamped Op))
+        (documents : List (Stamped DocumentValue)) (live : List Bool) →
+        content documents (bits_after schema ops documents live)
+        ≡ filter (survives schema ops) (content documents live) }
 {}
 
 /// A segment contains as many documents as bits are set.
 pub fn live_bits_count_the_content()
-    ensures { (documents : List (Stamped DocumentValue)) (live : List Bool) → length live ≡ length documents →
+    ensures { (documents : List (Stamped DocumentValue)) (live : List Bool) →
+        length live ≡ length documents →
         length (content documents live) ≡ count_by (λ bit. bit) live }
 {}
 
 /// A merged segment has as many documents as its sources have live ones together.
 pub fn a_merge_counts_live_documents()
-    ensures { (sources : List SourceValue) → All HasBits sources → length (contents sources) ≡ live_count sources }
+    ensures { (sources : List SourceValue) → All HasBits sources →
+        length (contents sources) ≡ live_count sources }
 {}
 
 /// The documents of a merged segment have each one origin, no two the same.
@@ -47,9 +55,11 @@ pub fn a_merge_tells_each_origin_once()
 
 /// Each live document of a source stands in the merged segment, and its origin at the same place.
 pub fn each_live_document_is_merged()
-    ensures { (sources : List SourceValue) (number : ℕ) (source : SourceValue) (document : ℕ) → All HasBits sources →
-        slice_get sources number ≡ Some source → slice_get source.live document ≡ Some true →
-        (place : ℕ) × (slice_get (origins_from 0 sources) place ≡ Some (record { source = number; document = document }))
+    ensures { (sources : List SourceValue) (number : ℕ) (source : SourceValue) (document : ℕ) →
+        All HasBits sources → slice_get sources number ≡ Some source →
+        slice_get source.live document ≡ Some true →
+        (place : ℕ) × (slice_get (origins_from 0 sources) place
+        ≡ Some (record { source = number; document = document }))
         × (slice_get (contents sources) place ≡ slice_get source.segment.documents document) }
 {}
 
@@ -57,13 +67,17 @@ pub fn each_live_document_is_merged()
 pub fn each_merged_document_was_live()
     ensures { (sources : List SourceValue) (place : ℕ) (origin : Origin) → All HasBits sources →
         slice_get (origins_from 0 sources) place ≡ Some origin →
-        (source : SourceValue) × (slice_get sources origin.source ≡ Some source) × (slice_get source.live origin.document ≡ Some true)
-        × (slice_get source.segment.documents origin.document ≡ slice_get (contents sources) place) }
+        (source : SourceValue) × (slice_get sources origin.source ≡ Some source)
+        × (slice_get source.live origin.document ≡ Some true)
+        × (slice_get source.segment.documents origin.document
+        ≡ slice_get (contents sources) place) }
 {}
 
 /// The candidates of sizes name at least eight sizes each, all of them among those given, and none twice.
 pub fn candidates_name_each_size_once()
     ensures many { (sizes : List ℕ) → All (λ candidate. 8 ≤ length candidate) (candidates sizes) }
-    ensures within { (sizes : List ℕ) → All (λ index. index < length sizes) (flat_map (λ candidate. candidate) (candidates sizes)) }
-    ensures once { (sizes : List ℕ) → AllPairs (λ i j. i ≢ j) (flat_map (λ candidate. candidate) (candidates sizes)) }
+    ensures within { (sizes : List ℕ) →
+        All (λ index. index < length sizes) (flat_map (λ candidate. candidate) (candidates sizes)) }
+    ensures once { (sizes : List ℕ) →
+        AllPairs (λ i j. i ≢ j) (flat_map (λ candidate. candidate) (candidates sizes)) }
 {}

@@ -1,6 +1,6 @@
 // Tells from the sizes of segments which of them are worth merging: a size is a number of live documents.
 ghost use Rattle.std.specs.Prelude.{◌≡◌, ◌≤◌, ◌^◌, [], ◌∷◌, ◌++◌, All, IfOk, IsOk, IsOkUnless, OnOk, map};
-ghost use Rattle.fts_merge.specs.Levels.{considered, greatest_first, joins as joins_level, levels_of, large_enough, candidates as candidates_of};
+ghost use Rattle.fts_merge.specs.Levels.{considered, greatest_first, joins, levels_of, large_enough, candidates};
 
 use fts_model::Refusal;
 use std::alloc::{AllocError, Global};
@@ -56,7 +56,7 @@ fn fourth_power(size: u32) -> u128
 fn joins(first: u32, size: u32) -> bool
     requires first { first ≤ 1000000 }
     requires size { size ≤ 1000000 }
-    ensures { result ≡ joins_level first size }
+    ensures { result ≡ joins first size }
 {
     fourth_power(first) <= 8 * fourth_power(size)
 }
@@ -74,11 +74,12 @@ fn indexes(alloc: Global, level: &[Counted]) -> Result<Vec<usize>, AllocError>
 
 /// Puts the indexes of a level's sizes behind others, if the level is large enough.
 fn push_level(
-    levels: &mut Vec<Vec<usize>>,
     alloc: Global,
+    levels: &mut Vec<Vec<usize>>,
     level: &[Counted],
 ) -> Result<(), AllocError>
-    ensures { OnOk result (map (λ c. c.items) levels.new.items ≡ map (λ c. c.items) levels.old.items ++ large_enough (level.now ∷ [])) }
+    ensures { OnOk result (map (λ c. c.items) levels.new.items
+        ≡ map (λ c. c.items) levels.old.items ++ large_enough (level.now ∷ [])) }
 {
     if level.len() >= FEWEST {
         levels.push(indexes(alloc, level)?)?;
@@ -89,7 +90,8 @@ fn push_level(
 /// The levels of sizes in order that are large enough.
 fn large_levels(alloc: Global, counted: &[Counted]) -> Result<Vec<Vec<usize>>, AllocError>
     requires { All (λ c. c.size ≤ 1000000) counted.now }
-    ensures { IfOk result (λ levels. map (λ c. c.items) levels.items ≡ large_enough (levels_of counted.now)) }
+    ensures { IfOk result (λ levels.
+        map (λ c. c.items) levels.items ≡ large_enough (levels_of counted.now)) }
 {
     let mut levels = Vec::new(alloc);
     if counted.is_empty() {
@@ -100,12 +102,12 @@ fn large_levels(alloc: Global, counted: &[Counted]) -> Result<Vec<Vec<usize>>, A
     for place in 1..counted.len() {
         let next = counted[place];
         if !joins(first, next.size) {
-            push_level(&mut levels, alloc, &counted[start..place])?;
+            push_level(alloc, &mut levels, &counted[start..place])?;
             start = place;
             first = next.size;
         }
     }
-    push_level(&mut levels, alloc, &counted[start..])?;
+    push_level(alloc, &mut levels, &counted[start..])?;
     Ok(levels)
 }
 
@@ -117,7 +119,8 @@ fn large_levels(alloc: Global, counted: &[Counted]) -> Result<Vec<Vec<usize>>, A
 ///
 /// No sizes take no memory.
 pub fn plan(alloc: Global, sizes: &[u32]) -> Result<Vec<Vec<usize>>, Refusal>
-    ensures candidates { IfOk result (λ found. map (λ c. c.items) found.items ≡ candidates_of sizes.now) }
+    ensures candidates { IfOk result (λ found.
+        map (λ c. c.items) found.items ≡ candidates sizes.now) }
     ensures memory { IsOkUnless result Refusal.Memory }
     ensures none { sizes.now ≡ [] → IsOk result }
 {

@@ -1,6 +1,6 @@
 // A segment that was merged of others, with where its documents come from.
 ghost use Rattle.std.specs.Prelude.{◌≡◌, ◌≢◌, ◌<◌, All, AllPairs, length};
-ghost use Rattle.fts_merge.specs.Merges.{IsMerged};
+ghost use Rattle.fts_merge.specs.Merges.{IsMerged, made_of};
 
 use crate::origin::Origin;
 use fts_segment::Segment;
@@ -16,20 +16,20 @@ pub struct Merged {
 }
 
 impl Model for Merged {
-    ghost use Rattle.fts_merge.specs.Merges.{MergedValue, IsMerged};
+    ghost use Rattle.fts_merge.specs.Merges.{MergedValue, IsMerged, made_of};
 
     ghost Value = { MergedValue };
 
-    ghost view = { λ m. record { segment = m.segment; origins = m.origins.items; sources = m.sources } };
+    ghost view = { λ m. made_of m.segment m.origins.items m.sources };
 
-    ghost invariant = { λ m. IsMerged (record { segment = m.segment; origins = m.origins.items; sources = m.sources }) };
+    ghost invariant = { λ m. IsMerged (made_of m.segment m.origins.items m.sources) };
 }
 
 impl Merged {
     /// This segment with these origins.
     pub(crate) fn new(segment: Segment, origins: Vec<Origin>, sources: usize) -> Merged
-        requires { IsMerged (record { segment = segment; origins = origins.items; sources = sources }) }
-        ensures { result ≡ record { segment = segment; origins = origins.items; sources = sources } }
+        requires { IsMerged (made_of segment origins.items sources) }
+        ensures { result ≡ made_of segment origins.items sources }
     {
         Merged {
             segment,

@@ -3,7 +3,8 @@ ghost use Rattle.std.specs.Prelude.{◌≡◌, ◌≢◌, ◌↔◌, ◌<◌, �
 ghost use Rattle.fts_model.specs.declared.refusal.Refusal.TheVariants.{Memory, TooLarge};
 ghost use Rattle.fts_model.specs.declared.operation.Stamped.{Stamped};
 ghost use Rattle.fts_model.specs.Documents.{DocumentValue};
-ghost use Rattle.fts_merge.specs.Contents.{content_of};
+ghost use Rattle.fts_segment.specs.Segments.{AllFit};
+ghost use Rattle.fts_segment.specs.Contents.{content_of};
 ghost use Rattle.fts_merge.specs.Merges.{HasBits, live_count, contents, origins_in, origins_from, AreOfOneSchema, merge_of};
 
 use crate::merged::Merged;
@@ -41,9 +42,11 @@ fn take_document(
     requires merging { builder.old.merging ≡ true }
     requires room { length builder.old.segment.documents < 1048576 }
     requires within { origin.document < length segment.now.documents }
+    requires fit { AllFit builder.old.segment.schema segment.now.documents }
     ensures merging { builder.new.merging ≡ true }
     ensures schema { builder.new.segment.schema ≡ builder.old.segment.schema }
-    ensures document { (d : Stamped DocumentValue) → slice_get segment.now.documents origin.document ≡ Some d →
+    ensures document { (d : Stamped DocumentValue) →
+        slice_get segment.now.documents origin.document ≡ Some d →
         OnOk result (builder.new.segment.documents ≡ builder.old.segment.documents ++ d ∷ []) }
     ensures origin { OnOk result (origins.new.items ≡ origins.old.items ++ origin ∷ []) }
     ensures memory { IfErr result (λ e. e ≡ Memory) }
@@ -62,11 +65,15 @@ fn take_live(
     source: &Source<'_>,
 ) -> Result<(), Refusal>
     requires merging { builder.old.merging ≡ true }
-    requires room { length builder.old.segment.documents + length (content_of source.now.segment source.now.live) ≤ 1048576 }
+    requires schema { source.now.segment.schema ≡ builder.old.segment.schema }
+    requires room { length builder.old.segment.documents
+        + length (content_of source.now.segment source.now.live) ≤ 1048576 }
     ensures merging { builder.new.merging ≡ true }
     ensures schema { builder.new.segment.schema ≡ builder.old.segment.schema }
-    ensures documents { OnOk result (builder.new.segment.documents ≡ builder.old.segment.documents ++ content_of source.now.segment source.now.live) }
-    ensures origins { OnOk result (origins.new.items ≡ origins.old.items ++ origins_in number source.now.live) }
+    ensures documents { OnOk result (builder.new.segment.documents
+        ≡ builder.old.segment.documents ++ content_of source.now.segment source.now.live) }
+    ensures origins { OnOk result
+        (origins.new.items ≡ origins.old.items ++ origins_in number source.now.live) }
     ensures bits { HasBits source.now }
     ensures memory { IfErr result (λ e. e ≡ Memory) }
 {
@@ -91,6 +98,7 @@ fn take_all(
     sources: &[Source<'_>],
 ) -> Result<(), Refusal>
     requires merging { builder.old.merging ≡ true }
+    requires schemas { All (λ source. source.segment.schema ≡ builder.old.segment.schema) sources.now }
     requires empty { builder.old.segment.documents ≡ [] }
     requires untold { origins.old.items ≡ [] }
     requires room { live_count sources.now ≤ 1048576 }

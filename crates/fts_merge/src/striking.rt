@@ -33,7 +33,8 @@ fn bound(ops: &[Stamped<Op>]) -> Stamp
 /// Clears the bits of the documents of smaller stamp.
 fn strike_all(live: &mut Bits, segment: &Segment, stamp: Stamp)
     requires { length live.old ≡ length segment.now.documents }
-    ensures { live.new ≡ bits_where (λ d. not (nat_lt d.stamp stamp)) segment.now.documents live.old }
+    ensures { live.new
+        ≡ bits_where (λ d. not (nat_lt d.stamp stamp)) segment.now.documents live.old }
 {
     if stamp > 0 {
         for document in 0..segment.docs() {
@@ -81,7 +82,9 @@ fn strike_list(live: &mut Bits, segment: &Segment, list: &List, stamp: Stamp)
 /// Clears the bits of the documents of smaller stamp that have the term.
 fn strike_term(live: &mut Bits, segment: &Segment, term: &Term, stamp: Stamp)
     requires { length live.old ≡ length segment.now.documents }
-    ensures { live.new ≡ bits_where (λ d. not (nat_lt d.stamp stamp && has segment.now.schema d.value term.now)) segment.now.documents live.old }
+    ensures { live.new
+        ≡ bits_where (λ d. not (nat_lt d.stamp stamp && has segment.now.schema d.value term.now))
+        segment.now.documents live.old }
 {
     if let Some(list) = segment.find(term) {
         strike_list(live, segment, segment.postings(list), stamp);
@@ -91,7 +94,9 @@ fn strike_term(live: &mut Bits, segment: &Segment, term: &Term, stamp: Stamp)
 /// Clears the bits that an operation clears by its term, if it has one.
 fn strike_by(live: &mut Bits, segment: &Segment, op: &Stamped<Op>)
     requires { length live.old ≡ length segment.now.documents }
-    ensures { live.new ≡ bits_where (λ d. not (strikes_by_term segment.now.schema op.now.stamp op.now.value d)) segment.now.documents live.old }
+    ensures { live.new
+        ≡ bits_where (λ d. not (strikes_by_term segment.now.schema op.now.stamp op.now.value d))
+        segment.now.documents live.old }
 {
     match &op.value {
         Op::Delete(term) => strike_term(live, segment, term, op.stamp),
@@ -103,7 +108,8 @@ fn strike_by(live: &mut Bits, segment: &Segment, op: &Stamped<Op>)
 /// Clears the bits that operations clear by their terms.
 fn strike_terms(live: &mut Bits, segment: &Segment, ops: &[Stamped<Op>])
     requires { length live.old ≡ length segment.now.documents }
-    ensures { live.new ≡ bits_where (survives_terms segment.now.schema ops.now) segment.now.documents live.old }
+    ensures { live.new
+        ≡ bits_where (survives_terms segment.now.schema ops.now) segment.now.documents live.old }
 {
     for op in ops {
         strike_by(live, segment, op);
@@ -121,7 +127,8 @@ pub fn strike(
     ops: &[Stamped<Op>],
 ) -> Result<Bits, Refusal>
     requires { length live.now ≡ length segment.now.documents }
-    ensures ok { IfOk result (λ left. left ≡ bits_after segment.now.schema ops.now segment.now.documents live.now) }
+    ensures ok { IfOk result (λ left.
+        left ≡ bits_after segment.now.schema ops.now segment.now.documents live.now) }
     ensures memory { IsOkUnless result Refusal.Memory }
 {
     let mut left = live.copied(alloc)?;

@@ -5,7 +5,7 @@ use Rattle.std.specs.Ordering.{int_eq}
 use Rattle.std.specs.Cmp.{signed_Decides}
 use Rattle.std.specs.List.{list_any}
 use Rattle.std.specs.Str.{bytes_eq}
-use Rattle.std.proofs.lemmas.Bool.{cases_Bool, eqb-true, ltb-true}
+use Rattle.std.proofs.lemmas.Bool.{cases_Bool, eqb-true, false≢true, ltb-true}
 use Rattle.std.proofs.lemmas.Bool.Decides.{nat_tests}
 use Rattle.std.proofs.lemmas.Option.{slice_get_within, slice_get-get_or, get_or_from_slice_get}
 use Rattle.std.proofs.lemmas.List.{get_or-map, get_or_default, length-map, length-take-le, take_more, map_push}
@@ -23,6 +23,7 @@ use Rattle.fts_model.specs.Documents.{DocumentValue, value_in_field, fits_i64}
 use Rattle.fts_model.specs.Operations.{has, field_has}
 use Rattle.fts_pack.specs.Signed.{u64_of}
 use Rattle.fts_segment.specs.declared.field_index.FieldIndex.{FieldIndex}
+use Rattle.fts_segment.specs.declared.field_index.FieldIndex.TheVariants.{Numbers, Terms}
 use Rattle.fts_segment.specs.declared.term_index.TermIndex.{TermIndex}
 use Rattle.fts_segment.specs.declared.number_index.NumberIndex.{NumberIndex}
 use Rattle.fts_segment.specs.Segments.{SegmentValue, postings, column, numbers_where, number_of}
@@ -283,3 +284,8 @@ pub numbers_of-values : (segment : SegmentValue) (f : ℕ) (kind : Kind) → opt
 numbers_of-values segment f kind here =
     sym (map-map (number_of kind) (λ (d : Stamped DocumentValue). value_in_field d.value f) segment.documents)
     ∙ ap (λ k. map (λ (d : Stamped DocumentValue). option_and_then (λ kind. number_of kind (value_in_field d.value f)) k) segment.documents) (sym here)
+
+-- the numbers of a number field fit
+pub numbers_fit : (kind : Kind) (vs : List (Option FieldValue)) (index : FieldIndex) → IsFieldIndex kind vs index → holds_numbers kind ≡ true → All (λ v. IfSome v (Fits64 kind)) vs
+numbers_fit kind vs (Terms index) h numbers = absurd (false≢true (sym h.kind_is ∙ numbers))
+numbers_fit kind vs (Numbers index) h numbers = h.fit

@@ -3,7 +3,7 @@ use Rattle.std.proofs.Common.{◌≡◌, sym, ap, subst, ◌∙◌}
 use Rattle.std.specs.Arc.{arc_value}
 use Rattle.fts_segment.specs.declared.segment.Segment.TheInside.{Inside}
 use Rattle.fts_segment.specs.declared.segment.Stored.{Stored}
-use Rattle.fts_segment.specs.Segments.{SegmentValue}
+use Rattle.fts_segment.specs.Segments.{SegmentValue, AllFit, AreDocuments}
 use Rattle.fts_segment.specs.FieldIndexes.{AreIndexes}
 use Rattle.fts_segment.specs.Stored.{stored_value, IsStored}
 
@@ -11,9 +11,13 @@ use Rattle.fts_segment.specs.Stored.{stored_value, IsStored}
 pub record Keeps (value : SegmentValue) (stored : Stored) : Type 0 where
   pub value_is : record { schema = stored.schema; documents = stored.documents.items } ≡ value
   pub indexes_are : AreIndexes stored.schema stored.documents.items stored.indexes.items
+  pub fit : AllFit value.schema value.documents
+  pub documents_are : AreDocuments value.documents
 
 pub keeps : (segment : Inside) (value : SegmentValue) (stored : Stored) → stored_value segment ≡ value → IsStored segment → stored ≡ arc_value segment.stored → Keeps value stored
 keeps segment value stored view is same = record {
   value_is = ap (λ (s : Stored). record { schema = s.schema; documents = s.documents.items }) same ∙ view;
-  indexes_are = (let P : Stored → Type 0 = λ s. AreIndexes s.schema s.documents.items s.indexes.items in subst P (sym same) is);
+  indexes_are = (let P : Stored → Type 0 = λ s. AreIndexes s.schema s.documents.items s.indexes.items in subst P (sym same) is.indexes_are);
+  fit = subst (λ (v : SegmentValue). AllFit v.schema v.documents) view is.fit;
+  documents_are = subst (λ (v : SegmentValue). AreDocuments v.documents) view is.documents_are;
 }

@@ -1,5 +1,5 @@
 -- What the indexes of fields say of documents.
-use Rattle.std.specs.Prelude.{◌≡◌, ℕ, true, false, List, length, Option, Some, IfSome, All, slice_get}
+use Rattle.std.specs.Prelude.{◌≡◌, ℕ, ◌^◌, ◌≤◌, true, false, List, length, Option, Some, IfSome, All, slice_get}
 use Rattle.fts_model.specs.declared.schema.Kind.{Kind}
 use Rattle.fts_model.specs.declared.schema.Field.{Field}
 use Rattle.fts_model.specs.declared.value.FieldValue.{FieldValue}
@@ -32,7 +32,12 @@ abbrev pub IsFieldIndex : Kind → List (Option FieldValue) → FieldIndex → T
 IsFieldIndex kind vs (Terms index) = AreTerms kind vs index
 IsFieldIndex kind vs (Numbers index) = AreNumbers kind vs index
 
+-- the numbers that documents have in a field of this kind fit 64 bits
+abbrev pub NumbersFit : Kind → ℕ → List (Stamped DocumentValue) → Type 0
+NumbersFit kind field documents = All (λ v. IfSome v (Fits64 kind)) (values_in field documents)
+
 -- one index for each field
 pub record AreIndexes (schema : List Field) (documents : List (Stamped DocumentValue)) (indexes : List FieldIndex) : Type 0 where
+  pub few : length documents ≤ 2 ^ 32
   pub count : length indexes ≡ length schema
   pub each : (f : ℕ) (field : Field) (index : FieldIndex) → slice_get schema f ≡ Some field → slice_get indexes f ≡ Some index → IsFieldIndex field.kind (values_in f documents) index

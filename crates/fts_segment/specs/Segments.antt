@@ -1,5 +1,5 @@
 -- What a segment holds, and what it finds for a term.
-use Rattle.std.specs.Prelude.{ℕ, Bool, List, [], ◌∷◌, ◌++◌, Option, Some, None, map, filter, option_and_then}
+use Rattle.std.specs.Prelude.{◌≡◌, ℕ, Bool, true, List, [], ◌∷◌, ◌++◌, All, Option, Some, None, map, filter, option_and_then}
 use Rattle.std.specs.List.{enumerate_from}
 use Rattle.std.specs.Option.{option_map_or}
 use Rattle.fts_model.specs.declared.schema.Field.{Field}
@@ -10,7 +10,7 @@ use Rattle.fts_model.specs.declared.schema.Kind.TheVariants as kinds
 use Rattle.fts_model.specs.declared.value.FieldValue.{FieldValue}
 use Rattle.fts_model.specs.declared.value.FieldValue.TheVariants as values
 use Rattle.fts_model.specs.declared.value.Number.TheVariants as numbers
-use Rattle.fts_model.specs.Documents.{DocumentValue, value_in_field}
+use Rattle.fts_model.specs.Documents.{DocumentValue, IsDocument, fits, value_in_field}
 use Rattle.fts_model.specs.Operations.{has, kind_at}
 use Rattle.fts_pack.specs.Signed.{u64_of}
 use Rattle.fts_segment.specs.Occurrences.{tokens_of, is_token}
@@ -19,6 +19,14 @@ use Rattle.fts_segment.specs.Occurrences.{tokens_of, is_token}
 pub record SegmentValue : Type 0 where
   pub schema : List Field
   pub documents : List (Stamped DocumentValue)
+
+-- all documents fit a schema
+abbrev pub AllFit : List Field → List (Stamped DocumentValue) → Type 0
+AllFit schema documents = All (λ d. fits schema d.value ≡ true) documents
+
+-- each of these is a document
+abbrev pub AreDocuments : List (Stamped DocumentValue) → Type 0
+AreDocuments documents = All (λ d. IsDocument d.value) documents
 
 -- the same with one document more
 abbrev pub with_document : SegmentValue → ℕ → DocumentValue → SegmentValue

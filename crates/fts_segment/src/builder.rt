@@ -1,5 +1,6 @@
 // Takes documents one after the other, and makes a segment of them.
 ghost use Rattle.std.specs.Prelude.{◌≡◌, ◌↔◌, ◌≢◌, ◌<◌, ◌≤◌, true, false, Err, length, IfOk, IfErr, OnOk, OnErr, ◌^◌};
+ghost use Rattle.fts_model.specs.Documents.{fits};
 ghost use Rattle.fts_segment.specs.FieldIndexes.{AreIndexes};
 ghost use Rattle.fts_model.specs.declared.refusal.Refusal.TheVariants.{Memory, SegmentFull};
 
@@ -25,13 +26,14 @@ pub struct Builder {
 
 impl Model for Builder {
     ghost use Rattle.std.specs.Prelude.{◌≤◌, length};
-    ghost use Rattle.fts_segment.specs.Segments.{BuilderValue};
+    ghost use Rattle.fts_segment.specs.Segments.{BuilderValue, AllFit, AreDocuments};
 
     ghost Value = { BuilderValue };
 
     ghost view = { λ b. record { segment = record { schema = b.schema; documents = b.documents.items }; merging = b.merging } };
 
-    ghost invariant = { λ b. length b.documents.items ≤ 1048576 };
+    ghost invariant = { λ b. (length b.documents.items ≤ 1048576) × AllFit b.schema b.documents.items
+        × AreDocuments b.documents.items };
 }
 
 impl Builder {
@@ -39,7 +41,8 @@ impl Builder {
 
     /// Without documents, of which it takes up to 65,536.
     pub fn new(alloc: Global, schema: &Schema) -> Result<Builder, Refusal>
-        ensures ok { IfOk result (λ builder. builder ≡ record { segment = no_documents schema.now; merging = false }) }
+        ensures ok { IfOk result
+            (λ builder. builder ≡ record { segment = no_documents schema.now; merging = false }) }
         ensures memory { IfErr result (λ e. e ≡ Memory) }
     {
         Self::with(alloc, schema, false)
@@ -47,14 +50,16 @@ impl Builder {
 
     /// The same for the documents of segments that are merged: it takes up to 1,048,576, in any order of stamps.
     pub fn merging(alloc: Global, schema: &Schema) -> Result<Builder, Refusal>
-        ensures ok { IfOk result (λ builder. builder ≡ record { segment = no_documents schema.now; merging = true }) }
+        ensures ok { IfOk result
+            (λ builder. builder ≡ record { segment = no_documents schema.now; merging = true }) }
         ensures memory { IfErr result (λ e. e ≡ Memory) }
     {
         Self::with(alloc, schema, true)
     }
 
     fn with(alloc: Global, schema: &Schema, merging: bool) -> Result<Builder, Refusal>
-        ensures ok { IfOk result (λ builder. builder ≡ record { segment = no_documents schema.now; merging = merging }) }
+        ensures ok { IfOk result
+            (λ builder. builder ≡ record { segment = no_documents schema.now; merging = merging }) }
         ensures memory { IfErr result (λ e. e ≡ Memory) }
     {
         match schema.clone() {
@@ -74,17 +79,23 @@ impl Builder {
         self.documents.len()
     }
 
-    /// Takes a document with its stamp. `SegmentFull` where there are 65,536 already and it serves no merge.
+    /// Takes a document that fits the schema (`Document::fits`), with its stamp. `SegmentFull` where there are 65,536 already and it
+    /// serves no merge.
     pub fn add(&mut self, stamp: Stamp, document: &Document) -> Result<(), Refusal>
-        requires { self.old.merging ≡ true → length self.old.segment.documents < 1048576 }
-        ensures ok { OnOk result (self.new ≡ record self.old { segment = with_document self.old.segment stamp document.now }) }
-        ensures full { (result ≡ Err SegmentFull) ↔ (self.old.merging ≡ false) × (65536 ≤ length self.old.segment.documents) }
+        requires room { self.old.merging ≡ true → length self.old.segment.documents < 1048576 }
+        requires fits { fits self.old.segment.schema document.now ≡ true }
+        ensures ok { OnOk result (self.new
+            ≡ record self.old { segment = with_document self.old.segment stamp document.now }) }
+        ensures full { (result ≡ Err SegmentFull) ↔ (self.old.merging ≡ false)
+            × (65536 ≤ length self.old.segment.documents) }
         ensures other { IfErr result (λ e. e ≢ SegmentFull → e ≡ Memory) }
         ensures err { OnErr result (self.new ≡ self.old) }
     {
         if !self.merging && self.documents.len() >= MOST_DOCUMENTS {
             return Err(Refusal::SegmentFull);
         }
+        // Shows the proof that its values are such as its fields can have.
+        let _ = document.schema();
         let value = document.clone()?;
         self.documents.push(Stamped { stamp, value })?;
         Ok(())

@@ -47,7 +47,8 @@ impl FieldIndex {
     pub(crate) fn column(&self, kind: Kind) -> &Column
         requires numbers { holds_numbers kind ≡ true }
         requires is { (vs : List (Option FieldValue)) × IsFieldIndex kind vs self.now }
-        ensures { (vs : List (Option FieldValue)) → IsFieldIndex kind vs self.now → result.now ≡ numbers_of kind vs }
+        ensures { (vs : List (Option FieldValue)) → IsFieldIndex kind vs self.now
+            → result.now ≡ numbers_of kind vs }
     {
         match self {
             FieldIndex::Numbers(index) => &index.column,
@@ -58,10 +59,13 @@ impl FieldIndex {
     /// The list of a term, where a document has it.
     pub(crate) fn find(&self, kind: Kind, term: &FieldValue) -> Option<ListId<'_>>
         requires { (vs : List (Option FieldValue)) × IsFieldIndex kind vs self.now }
-        ensures none { (vs : List (Option FieldValue)) → IsFieldIndex kind vs self.now → IfNone result (numbers_where (holds kind term.now) 0 vs ≡ []) }
+        ensures none { (vs : List (Option FieldValue)) → IsFieldIndex kind vs self.now
+            → IfNone result (numbers_where (holds kind term.now) 0 vs ≡ []) }
         ensures some { IfSome result (λ list. documents_in list ≢ []) }
-        ensures documents { (vs : List (Option FieldValue)) → IsFieldIndex kind vs self.now → IfSome result (λ list. documents_in list ≡ numbers_where (holds kind term.now) 0 vs) }
-        ensures positions { (vs : List (Option FieldValue)) → IsFieldIndex kind vs self.now → IfSome result (λ list. positions_in list ≡ value_runs kind term.now vs) }
+        ensures documents { (vs : List (Option FieldValue)) → IsFieldIndex kind vs self.now
+            → IfSome result (λ list. documents_in list ≡ numbers_where (holds kind term.now) 0 vs) }
+        ensures positions { (vs : List (Option FieldValue)) → IsFieldIndex kind vs self.now
+            → IfSome result (λ list. positions_in list ≡ value_runs kind term.now vs) }
     {
         match self {
             FieldIndex::Terms(index) => find_text(index, kind, term),
@@ -73,10 +77,13 @@ impl FieldIndex {
 // The list of a term of a text or keyword field, where a document has it.
 fn find_text<'a>(index: &'a TermIndex, kind: Kind, term: &FieldValue) -> Option<ListId<'a>>
     requires { (vs : List (Option FieldValue)) × AreTerms kind vs index.now }
-    ensures none { (vs : List (Option FieldValue)) → AreTerms kind vs index.entry.now → IfNone result (numbers_where (holds kind term.now) 0 vs ≡ []) }
+    ensures none { (vs : List (Option FieldValue)) → AreTerms kind vs index.entry.now
+        → IfNone result (numbers_where (holds kind term.now) 0 vs ≡ []) }
     ensures some { IfSome result (λ list. documents_in list ≢ []) }
-    ensures documents { (vs : List (Option FieldValue)) → AreTerms kind vs index.entry.now → IfSome result (λ list. documents_in list ≡ numbers_where (holds kind term.now) 0 vs) }
-    ensures positions { (vs : List (Option FieldValue)) → AreTerms kind vs index.entry.now → IfSome result (λ list. positions_in list ≡ value_runs kind term.now vs) }
+    ensures documents { (vs : List (Option FieldValue)) → AreTerms kind vs index.entry.now
+        → IfSome result (λ list. documents_in list ≡ numbers_where (holds kind term.now) 0 vs) }
+    ensures positions { (vs : List (Option FieldValue)) → AreTerms kind vs index.entry.now
+        → IfSome result (λ list. positions_in list ≡ value_runs kind term.now vs) }
 {
     match term {
         FieldValue::Text(text) => index.find(text.as_str()),

@@ -9,7 +9,8 @@ use std::cmp::Ordering;
 /// The number of a name.
 pub(crate) fn find_name(names: &Names, name: &[u8]) -> Option<usize>
     requires { Ascends names.now }
-    ensures { MatchOption result ((i : ℕ) → slice_get names.now i ≡ Some name.now → ⊥) (λ i. slice_get names.now i ≡ Some name.now) }
+    ensures { MatchOption result ((i : ℕ) → slice_get names.now i ≡ Some name.now → ⊥)
+        (λ i. slice_get names.now i ≡ Some name.now) }
 {
     let mut low = 0;
     let mut high = names.len();
@@ -27,7 +28,8 @@ pub(crate) fn find_name(names: &Names, name: &[u8]) -> Option<usize>
 /// The place of a number.
 pub(crate) fn find_number(numbers: &[u64], number: u64) -> Option<usize>
     requires { IsStrictlyIncreasing numbers.now }
-    ensures { MatchOption result ((i : ℕ) → slice_get numbers.now i ≡ Some number → ⊥) (λ i. slice_get numbers.now i ≡ Some number) }
+    ensures { MatchOption result ((i : ℕ) → slice_get numbers.now i ≡ Some number → ⊥)
+        (λ i. slice_get numbers.now i ≡ Some number) }
 {
     match numbers.binary_search(&number) {
         Ok(place) => Some(place),

@@ -54,8 +54,10 @@ impl Listing {
         requires runs { All IsRun (runs_of places.now) }
         requires is { IsPositionLog self.old.positions }
         ensures names { OnOk result (self.new.names ≡ self.old.names ++ name.now ∷ []) }
-        ensures lists { OnOk result (self.new.lists.items ≡ self.old.lists.items ++ docs_in places.now ∷ []) }
-        ensures positions { OnOk result (logged_term_runs self.new.positions ≡ logged_term_runs self.old.positions ++ runs_of places.now ∷ []) }
+        ensures lists { OnOk result (self.new.lists.items
+            ≡ self.old.lists.items ++ docs_in places.now ∷ []) }
+        ensures positions { OnOk result (logged_term_runs self.new.positions
+            ≡ logged_term_runs self.old.positions ++ runs_of places.now ∷ []) }
         ensures is { OnOk result (IsPositionLog self.new.positions) }
     {
         set_docs(room, places)?;
@@ -72,7 +74,8 @@ impl Listing {
         requires { IsPositionLog self.positions }
         ensures names { IfOk result (λ index. index.names ≡ self.names) }
         ensures lists { IfOk result (λ index. index.lists.items ≡ self.lists.items) }
-        ensures positions { IfOk result (λ index. term_runs index.positions ≡ logged_term_runs self.positions) }
+        ensures positions { IfOk result
+            (λ index. term_runs index.positions ≡ logged_term_runs self.positions) }
     {
         let Listing {
             names,
@@ -99,9 +102,12 @@ fn put(
     requires rise { IsStrictlyIncreasing (docs_in places.now) }
     requires runs { All IsRun (runs_of places.now) }
     requires is { IsPositionLog listing.old.positions }
-    ensures names { OnOk result (listing.new.names ≡ listing.old.names ++ unless_none places.now name.now) }
-    ensures lists { OnOk result (listing.new.lists.items ≡ listing.old.lists.items ++ unless_none places.now (docs_in places.now)) }
-    ensures positions { OnOk result (logged_term_runs listing.new.positions ≡ logged_term_runs listing.old.positions ++ unless_none places.now (runs_of places.now)) }
+    ensures names { OnOk result (listing.new.names
+        ≡ listing.old.names ++ unless_none places.now name.now) }
+    ensures lists { OnOk result (listing.new.lists.items
+        ≡ listing.old.lists.items ++ unless_none places.now (docs_in places.now)) }
+    ensures positions { OnOk result (logged_term_runs listing.new.positions
+        ≡ logged_term_runs listing.old.positions ++ unless_none places.now (runs_of places.now)) }
     ensures is { OnOk result (IsPositionLog listing.new.positions) }
 {
     match places {
@@ -118,9 +124,14 @@ pub(crate) fn list_terms(
 ) -> Result<Listing, AllocError>
     requires rise { All (λ e. IsStrictlyIncreasing (docs_in (slice_index_or groups.now e.1 []))) order.now }
     requires runs { All (λ e. All IsRun (runs_of (slice_index_or groups.now e.1 []))) order.now }
-    ensures names { IfOk result (λ all. all.names ≡ names_listed groups.now (map (λ e. (e.1, e.0.now)) order.now)) }
-    ensures lists { IfOk result (λ all. all.lists.items ≡ listed_by docs_in groups.now (map (λ e. (e.1, e.0.now)) order.now)) }
-    ensures positions { IfOk result (λ all. logged_term_runs all.positions ≡ listed_by runs_of groups.now (map (λ e. (e.1, e.0.now)) order.now)) }
+    ensures names { IfOk result
+        (λ all. all.names ≡ names_listed groups.now (map (λ e. (e.1, e.0.now)) order.now)) }
+    ensures lists { IfOk result
+        (λ all. all.lists.items
+        ≡ listed_by docs_in groups.now (map (λ e. (e.1, e.0.now)) order.now)) }
+    ensures positions { IfOk result
+        (λ all. logged_term_runs all.positions
+        ≡ listed_by runs_of groups.now (map (λ e. (e.1, e.0.now)) order.now)) }
     ensures is { IfOk result (λ all. IsPositionLog all.positions) }
 {
     let mut listing = Listing {

@@ -5,7 +5,7 @@ ghost use Rattle.fts_segment.specs.Groups.{places_of};
 ghost use Rattle.fts_segment.specs.Indexes.{docs_in};
 ghost use Rattle.fts_segment.specs.Occurrences.{values_in};
 ghost use Rattle.fts_segment.specs.Segments.{number_of, numbers_where};
-ghost use Rattle.fts_segment.specs.Numbers.{Fits64, numbers_of as numbers_of_values, present, is_number, IsNumberIndex};
+ghost use Rattle.fts_segment.specs.Numbers.{Fits64, numbers_of, present, is_number, IsNumberIndex};
 ghost use Rattle.fts_segment.specs.ListIds.{documents_in, positions_in};
 ghost use Rattle.fts_segment.specs.NumberLogs.{NumberLog};
 
@@ -37,9 +37,13 @@ impl NumberIndex {
         kind: Kind,
     ) -> Result<NumberIndex, AllocError>
         requires { length documents.now ≤ 2 ^ 32 }
-        ensures fit { OnOk result (All (λ v. IfSome v (Fits64 kind)) (values_in field documents.now)) }
-        ensures column { IfOk result (λ index. index.column ≡ numbers_of_values kind (values_in field documents.now)) }
-        ensures index { IfOk result (λ index. IsNumberIndex (numbers_of_values kind (values_in field documents.now)) index.numbers.items index.lists.items) }
+        ensures fit { OnOk result
+            (All (λ v. IfSome v (Fits64 kind)) (values_in field documents.now)) }
+        ensures column { IfOk result
+            (λ index. index.column ≡ numbers_of kind (values_in field documents.now)) }
+        ensures index { IfOk result
+            (λ index. IsNumberIndex (numbers_of kind (values_in field documents.now))
+            index.numbers.items index.lists.items) }
     {
         let values = numbers_of(alloc, documents, field, kind)?;
         let numbers = different(alloc, &values)?;
@@ -60,8 +64,10 @@ impl NumberIndex {
     pub(crate) fn find(&self, number: u64) -> Option<ListId<'_>>
         requires rises { IsStrictlyIncreasing self.now.numbers.items }
         requires listed { length self.now.numbers.items ≡ length self.now.lists.items }
-        ensures { MatchOption result ((i : ℕ) → slice_get self.now.numbers.items i ≡ Some number → ⊥)
-            (λ list. (i : ℕ) × (slice_get self.now.numbers.items i ≡ Some number) × (documents_in list ≡ slice_index_or self.now.lists.items i [])
+        ensures { MatchOption result
+            ((i : ℕ) → slice_get self.now.numbers.items i ≡ Some number → ⊥)
+            (λ list. (i : ℕ) × (slice_get self.now.numbers.items i ≡ Some number)
+            × (documents_in list ≡ slice_index_or self.now.lists.items i [])
             × (positions_in list ≡ [])) }
     {
         let place = find_number(&self.numbers, number)?;
@@ -91,7 +97,8 @@ fn numbers_of(
     field: usize,
     kind: Kind,
 ) -> Result<Vec<Option<u64>>, AllocError>
-    ensures numbers { IfOk result (λ v. v.items ≡ numbers_of_values kind (values_in field documents.now)) }
+    ensures numbers { IfOk result
+        (λ v. v.items ≡ numbers_of kind (values_in field documents.now)) }
     ensures fit { OnOk result (All (λ v. IfSome v (Fits64 kind)) (values_in field documents.now)) }
 {
     let mut numbers = Vec::with_capacity(alloc, documents.len())?;
@@ -157,7 +164,10 @@ fn logged(alloc: Global, values: &[Option<u64>], numbers: &[u64]) -> Result<Vec<
     requires rises { IsStrictlyIncreasing numbers.now }
     requires whole { (x : ℕ) → Contains values.now (Some x) → Contains numbers.now x }
     ensures named { IfOk result (λ log. All (λ e. e.term < length numbers.now) log.items) }
-    ensures docs { IfOk result (λ log. (t : ℕ) → t < length numbers.now → map (λ p. p.doc) (places_of t log.items) ≡ numbers_where (is_number (slice_index numbers.now t)) 0 values.now) }
+    ensures docs { IfOk result
+        (λ log. (t : ℕ) → t < length numbers.now
+        → map (λ p. p.doc) (places_of t log.items)
+        ≡ numbers_where (is_number (slice_index numbers.now t)) 0 values.now) }
 {
     let mut log = Vec::with_capacity(alloc, values.len())?;
     for (doc, value) in values.iter().enumerate() {

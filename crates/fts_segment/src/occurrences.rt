@@ -49,7 +49,8 @@ fn push_value(
     value: Option<&FieldValue>,
 ) -> Result<(), AllocError>
     requires { IfSome value (λ v. IsShort v.now) }
-    ensures logged { OnOk result (log.new ≡ log.old ++ occurrences_at kind doc (option_copied value.entry)) }
+    ensures logged { OnOk result (log.new
+        ≡ log.old ++ occurrences_at kind doc (option_copied value.entry)) }
     ensures few { HasFewTokens kind (option_copied value.entry) }
 {
     match (kind, value) {

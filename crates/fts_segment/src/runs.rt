@@ -136,7 +136,8 @@ impl RunLog {
 
 // Keeps where the positions of the next run begin, if it is the first of 128.
 fn push_start(starts: &mut Vec<usize>, runs: usize, start: usize) -> Result<(), AllocError>
-    ensures { OnOk result (starts.new.items ≡ starts.old.items ++ cond (runs % 128 == 0) (start ∷ []) []) }
+    ensures { OnOk result (starts.new.items
+        ≡ starts.old.items ++ cond (runs % 128 == 0) (start ∷ []) []) }
 {
     if runs % BLOCK == 0 {
         starts.push(start)?;

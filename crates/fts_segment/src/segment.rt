@@ -1,7 +1,11 @@
 // Documents that never change, with the terms that they have.
-ghost use Rattle.std.specs.Prelude.{◌≡◌, ◌≢◌, ◌<◌, [], length, slice_get, option_map, Some, IfNone, IfSome, true, slice_index_or};
+ghost use Rattle.std.specs.Prelude.{◌≡◌, ◌≢◌, ◌^◌, ◌<◌, ◌≤◌, [], length, slice_get, option_map, Some, IfNone, IfSome, All, true, slice_index_or};
+ghost use Rattle.fts_model.specs.Documents.{IsDocument, fits};
 ghost use Rattle.fts_model.specs.Queries.{is_number_field};
-ghost use Rattle.fts_segment.specs.Segments.{postings, positions as positions_of_term, column as column_of};
+ghost use Rattle.fts_model.specs.Operations.{kind_at};
+ghost use Rattle.fts_model.specs.declared.schema.Kind.{Kind};
+ghost use Rattle.fts_segment.specs.FieldIndexes.{NumbersFit};
+ghost use Rattle.fts_segment.specs.Segments.{postings, positions, column};
 ghost use Rattle.fts_segment.specs.ListIds.{documents_in, positions_in};
 ghost use Rattle.fts_segment.specs.PositionsLeft.{positions_left};
 
@@ -55,9 +59,12 @@ impl Segment {
         &self.stored.schema
     }
 
-    /// How many documents there are.
+    /// How many documents there are. Each fits the schema, and each of its values is one that its own field can have.
     pub fn docs(&self) -> usize
-        ensures { result ≡ length self.now.documents }
+        ensures len { result ≡ length self.now.documents }
+        ensures few { result ≤ 2 ^ 32 }
+        ensures fit { All (λ d. fits self.now.schema d.value ≡ true) self.now.documents }
+        ensures documents { All (λ d. IsDocument d.value) self.now.documents }
     {
         self.stored.documents.len()
     }
@@ -83,7 +90,8 @@ impl Segment {
         ensures none { IfNone result (postings self.now term.now ≡ []) }
         ensures some { IfSome result (λ list. documents_in list ≢ []) }
         ensures documents { IfSome result (λ list. documents_in list ≡ postings self.now term.now) }
-        ensures positions { IfSome result (λ list. positions_in list ≡ positions_of_term self.now term.now) }
+        ensures positions { IfSome result
+            (λ list. positions_in list ≡ positions self.now term.now) }
     {
         let stored: &Stored = &self.stored;
         let index = stored.indexes.get(term.field)?;
@@ -111,7 +119,8 @@ impl Segment {
     /// The numbers of the documents in a number field, where an `i64` is the `u64` in its place.
     pub fn column(&self, field: usize) -> &Column
         requires { is_number_field self.now.schema field ≡ true }
-        ensures { result.now ≡ column_of self.now field }
+        ensures values { result.now ≡ column self.now field }
+        ensures fit { (kind : Kind) → kind_at self.now.schema field ≡ Some kind → NumbersFit kind field self.now.documents }
     {
         let stored: &Stored = &self.stored;
         stored.indexes[field].column(stored.schema.kind(field))

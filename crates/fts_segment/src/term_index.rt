@@ -25,7 +25,8 @@ impl TermIndex {
         requires listed { length self.now.names ≡ length self.now.lists.items }
         requires positioned { length self.now.names ≡ length (term_runs self.now.positions) }
         ensures { MatchOption result ((i : ℕ) → slice_get self.now.names i ≡ Some term.now → ⊥)
-            (λ list. (i : ℕ) × (slice_get self.now.names i ≡ Some term.now) × (documents_in list ≡ slice_index_or self.now.lists.items i [])
+            (λ list. (i : ℕ) × (slice_get self.now.names i ≡ Some term.now)
+            × (documents_in list ≡ slice_index_or self.now.lists.items i [])
             × (positions_in list ≡ slice_index_or (term_runs self.now.positions) i [])) }
     {
         let number = find_name(&self.names, term.as_bytes())?;

@@ -56,7 +56,8 @@ impl TermLog {
 
     /// Puts an occurrence behind the others.
     pub(crate) fn push(&mut self, term: &str, doc: u32, position: u32) -> Result<(), AllocError>
-        ensures { OnOk result (self.new ≡ self.old ++ record { term = term.now; doc = doc; position = position } ∷ []) }
+        ensures { OnOk result (self.new
+            ≡ self.old ++ record { term = term.now; doc = doc; position = position } ∷ []) }
     {
         let term = self.terms.number(term)?;
         self.log.push(Entry {
@@ -71,7 +72,8 @@ impl TermLog {
     pub(crate) fn index(&self, alloc: Global) -> Result<TermIndex, AllocError>
         requires rise { (q : List ℕ) → IsStrictlyIncreasing (docs_with q self.now) }
         requires runs { (q : List ℕ) → All IsRun (runs_with q self.now) }
-        ensures { IfOk result (λ index. IsIndexOf self.now index.names index.lists.items (term_runs index.positions)) }
+        ensures { IfOk result
+            (λ index. IsIndexOf self.now index.names index.lists.items (term_runs index.positions)) }
     {
         let names = self.terms.names();
         let order = sorted(alloc, names)?;

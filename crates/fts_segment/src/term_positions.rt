@@ -101,7 +101,8 @@ impl PositionLog {
         requires is { IsPositionLog self.old }
         requires runs { All IsRun (runs_of places.now) }
         ensures is { OnOk result (IsPositionLog self.new) }
-        ensures pushed { OnOk result (logged_term_runs self.new ≡ logged_term_runs self.old ++ runs_of places.now ∷ []) }
+        ensures pushed { OnOk result (logged_term_runs self.new
+            ≡ logged_term_runs self.old ++ runs_of places.now ∷ []) }
     {
         push_runs(&mut self.runs, run, places)?;
         self.ends.push(self.runs.len())?;
@@ -114,8 +115,10 @@ fn next_run(runs: &mut RunLog, run: &mut Vec<u32>, doc: u32, place: Place) -> Re
     requires is { IsRunLog runs.old }
     requires run { place.doc ≢ doc → IsRun run.old.items }
     ensures is { OnOk result (IsRunLog runs.new) }
-    ensures runs { OnOk result (logged_runs runs.new ≡ logged_runs runs.old ++ cond (place.doc == doc) [] (run.old.items ∷ [])) }
-    ensures run { OnOk result (run.new.items ≡ cond (place.doc == doc) run.old.items [] ++ place.position ∷ []) }
+    ensures runs { OnOk result (logged_runs runs.new
+        ≡ logged_runs runs.old ++ cond (place.doc == doc) [] (run.old.items ∷ [])) }
+    ensures run { OnOk result (run.new.items
+        ≡ cond (place.doc == doc) run.old.items [] ++ place.position ∷ []) }
 {
     if place.doc != doc {
         runs.push(run)?;

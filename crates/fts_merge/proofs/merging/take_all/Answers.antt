@@ -1,6 +1,5 @@
-use Rattle.std.proofs.Common.{◌≡◌, ◌++◌, [], ap, sym, ◌∙◌, subst}
-use Rattle.std.proofs.lemmas.List.{take_all as all_taken, drop_all, append-nil}
-use Rattle.std.proofs.lemmas.List.Elements.{All-more, All-same}
+use Rattle.std.proofs.Common.{◌∙◌, subst}
+use Rattle.std.proofs.lemmas.List.Elements.{All-more}
 use Rattle.fts_merge.specs.Merges.{HasBits, contents, origins_from}
 use Rattle.fts_merge.proofs.MergingLemmas.{room_for, contents-taken, origins-taken}
 use Rattle.fts_merge.proofs.merging.take_all.Goals as goal
