@@ -1,0 +1,232 @@
+-- What the cursor of a query opens, by the queries in it.
+use Rattle.std.proofs.Common.{◌≡◌, ◌≢◌, ℕ, ◌+◌, ◌-◌, ◌*◌, ◌<◌, ◌≤◌, min, Bool, true, false, ◌&&◌, List, [], ◌∷◌, ◌++◌, length, map, take, get_or, refl, sym, ap, ap₂, subst, ◌∙◌, inl, inr, arith}
+use Rattle.std.specs.List.{AllZip, filter, fold, list_all}
+use Rattle.std.proofs.lemmas.Bool.{and_parts, false≢true}
+use Rattle.std.proofs.lemmas.List.{length-map, map-append, take_more}
+use Rattle.fts_model.specs.declared.operation.Term.{Term}
+use Rattle.fts_model.specs.declared.query.Query.{Query}
+use Rattle.fts_model.specs.declared.query.Query.TheOpen.{Query-F}
+use Rattle.fts_model.specs.declared.query.Query.TheViews as views
+use Rattle.fts_model.specs.declared.query.Query.TheVariants as variants
+use Rattle.fts_model.specs.declared.query.Query.TheVariants.{rolls-Bool}
+use Rattle.fts_model.specs.declared.query.Query.TheFolds.{fold-roll-Query}
+use Rattle.fts_model.specs.QueryValues.{QueryValue, QueryValues, nothing, term, boolean, no_queries, query_list, query_value, value_by_parts}
+use Rattle.fts_model.specs.declared.schema.Field.{Field}
+use Rattle.fts_model.specs.Queries.{matches}
+use Rattle.fts_model.proofs.QueriesBoolean.{fits_in, query_fits_at_bool}
+use Rattle.fts_pack.specs.Documents.{block_count}
+use Rattle.fts_segment.proofs.HoldingLemmas.{numbers_where-none}
+use Rattle.fts_segment.specs.Segments.{SegmentValue, numbers_where, postings}
+use Rattle.fts_cursor.specs.Builds.{Opens, is_term}
+use Rattle.fts_cursor.specs.Hits.{segment_hits}
+use Rattle.fts_cursor.specs.Leading.{fewest}
+use Rattle.fts_cursor.specs.Openings.{blocks_with, documents_with, least_documents}
+use Rattle.fts_cursor.specs.Standing.{Standing, Walked, remains}
+use Rattle.fts_cursor.specs.Meeting.{common, union}
+use Rattle.fts_cursor.proofs.BoolHits.{all_kept, kept_by, must_hits, should_hits}
+use Rattle.fts_cursor.proofs.HitsLemmas.{hits_of}
+use Rattle.fts_cursor.proofs.LeadingLemmas.{all_hits}
+
+-- what a Boolean query of the code is
+pub value_of_bool : (must must_not should : _) →
+    query_value (views.Bool must must_not should)
+    ≡ boolean (query_list (map query_value must.items)) (query_list (map query_value must_not.items)) (query_list (map query_value should.items))
+value_of_bool must must_not should =
+    ap query_value (sym (rolls-Bool must must_not should)) ∙ fold-roll-Query QueryValue value_by_parts (Query-F.Bool must must_not should)
+
+-- whether nothing is said of the openings of a query
+pub is_plain : QueryValue → Bool
+is_plain (term t) = false
+is_plain (boolean must must_not should) = false
+is_plain query = true
+
+pub opens_plain : (segment : SegmentValue) (query : QueryValue) (s : Standing) → is_plain query ≡ true → Opens segment query s
+unfolding is_plain
+opens_plain segment query s plain = record {
+  one_term = λ t h. elim h [ inl e ↦ absurd (false≢true (ap is_plain (sym e) ∙ plain)) | inr e ↦ absurd (false≢true (ap is_plain (sym e) ∙ plain)) ];
+  musts = λ terms e. absurd (false≢true (ap is_plain (sym e) ∙ plain));
+  opened = λ terms e some. absurd (false≢true (ap is_plain (sym e) ∙ plain));
+}
+
+pub opens_term : (segment : SegmentValue) (query : QueryValue) (t : Term) (s : Standing) → query ≡ term t → s.whole ≡ true → s.most ≡ block_count (length (postings segment t)) → Opens segment query s
+opens_term segment query t s is whole most = record {
+  one_term = λ u h. elim h [
+    | inl e ↦ let same : t ≡ u = cc in (whole, most ∙ ap (blocks_with segment) same)
+    | inr e ↦ absurd (cc)
+  ];
+  musts = λ terms e. absurd (cc);
+  opened = λ terms e some. absurd (cc);
+}
+
+-- one with must-nots
+pub opens_without : (segment : SegmentValue) (query : QueryValue) (must should : QueryValues) (dropped : List Query) (s : Standing) → query ≡ boolean must (query_list (map query_value dropped)) should → 0 < length dropped → Opens segment query s
+opens_without segment query must should [] s is some = absurd (omega (arith, some))
+opens_without segment query must should (q ∷ qs) s is some = record {
+  one_term = λ u h. elim h [ inl e ↦ absurd (cc) | inr e ↦ absurd (cc) ];
+  musts = λ terms e. absurd (cc);
+  opened = λ terms e more. absurd (cc);
+}
+
+-- terms as queries of the code
+terms_are : (qs : List Query) (terms : List Term) → query_list (map query_value qs) ≡ query_list (map term terms) → map query_value qs ≡ map term terms
+terms_are [] [] e = refl
+terms_are [] (t ∷ ts) e = absurd (cc)
+terms_are (q ∷ qs) [] e = absurd (cc)
+terms_are (q ∷ qs) (t ∷ ts) e =
+    let first : query_value q ≡ term t = cc in
+    let rest : query_list (map query_value qs) ≡ query_list (map term ts) = cc in
+    ap₂ (λ x xs. x ∷ xs) first (terms_are qs ts rest)
+
+are_all : (qs : List Query) (terms : List Term) → map query_value qs ≡ map term terms → list_all (λ q. is_term (query_value q)) qs ≡ true
+are_all [] ts e = refl
+are_all (q ∷ qs) [] e = absurd (cc)
+are_all (q ∷ qs) (t ∷ ts) e =
+    let first : query_value q ≡ term t = cc in
+    let rest : map query_value qs ≡ map term ts = cc in
+    ap₂ (λ a b. a && b) (ap is_term first) (are_all qs ts rest)
+
+as_many : (qs : List Query) (terms : List Term) → map query_value qs ≡ map term terms → length qs ≡ length terms
+as_many qs terms e = omega (arith, ap length e, length-map qs query_value, length-map terms term)
+
+least_from : (segment : SegmentValue) (least : ℕ) (qs : List Query) (terms : List Term) → map query_value qs ≡ map term terms →
+    fold (λ (n : ℕ) (zs : List ℕ). min n (length zs)) least (map (hits_of segment) qs) ≡ fold (λ (n : ℕ) (t : Term). min n (documents_with segment t)) least terms
+least_from segment least [] [] e = refl
+least_from segment least [] (t ∷ ts) e = absurd (cc)
+least_from segment least (q ∷ qs) [] e = absurd (cc)
+least_from segment least (q ∷ qs) (t ∷ ts) e =
+    let first : query_value q ≡ term t = cc in
+    let rest : map query_value qs ≡ map term ts = cc in
+    ap (λ v. fold (λ (n : ℕ) (zs : List ℕ). min n (length zs)) (min least (length (segment_hits segment v))) (map (hits_of segment) qs)) first
+    ∙ least_from segment (min least (documents_with segment t)) qs ts rest
+
+least_of : (segment : SegmentValue) (qs : List Query) (terms : List Term) → map query_value qs ≡ map term terms → fewest (map (hits_of segment) qs) ≡ least_documents segment terms
+least_of segment [] [] e = refl
+least_of segment [] (t ∷ ts) e = absurd (cc)
+least_of segment (q ∷ qs) [] e = absurd (cc)
+least_of segment (q ∷ qs) (t ∷ ts) e =
+    let first : query_value q ≡ term t = cc in
+    let rest : map query_value qs ≡ map term ts = cc in
+    ap (λ v. fold (λ (n : ℕ) (zs : List ℕ). min n (length zs)) (length (segment_hits segment v)) (map (hits_of segment) qs)) first
+    ∙ least_from segment (documents_with segment t) qs ts rest
+
+-- a Boolean query without must-nots
+abbrev pub kept_value : List Query → List Query → QueryValue
+kept_value must should = boolean (query_list (map query_value must)) no_queries (query_list (map query_value should))
+
+-- one of shoulds alone
+pub opens_shoulds : (segment : SegmentValue) (must should : List Query) (trees : List Standing) (s : Standing) → must ≡ [] → AllZip (λ t q. Opens segment (query_value q) t) trees should →
+    ((part : Standing) → trees ≡ part ∷ [] → s ≡ part) → (trees ≡ [] → s.most ≡ 0) → Opens segment (kept_value must should) s
+opens_shoulds segment (m ∷ ms) should trees s empty zip alone none = absurd (cc)
+opens_shoulds segment [] [] [] s empty zip alone none = record {
+  one_term = λ u h. elim h [ inl e ↦ absurd (cc) | inr e ↦ absurd (cc) ];
+  musts = λ terms e. omega (arith, none refl);
+  opened = λ terms e some. omega (arith, as_many [] terms (terms_are [] terms (cc)));
+}
+opens_shoulds segment [] [] (p ∷ ps) s empty zip alone none = absurd zip
+opens_shoulds segment [] (q ∷ qs) [] s empty zip alone none = absurd zip
+opens_shoulds segment [] (q ∷ []) (p ∷ []) s empty zip alone none = record {
+  one_term = λ u h. elim h [
+    | inl e ↦ absurd (cc)
+    | inr e ↦
+        let first : query_value q ≡ term u = cc in
+        subst (λ (x : Standing). (x.whole ≡ true) × (x.most ≡ blocks_with segment u)) (sym (alone p refl)) (zip.0.one_term u (inl first))
+  ];
+  musts = λ terms e. absurd (cc);
+  opened = λ terms e some. absurd (cc);
+}
+opens_shoulds segment [] (q ∷ []) (p ∷ (r ∷ ps)) s empty zip alone none = absurd zip.1
+opens_shoulds segment [] (q ∷ (w ∷ qs)) (p ∷ ps) s empty zip alone none = record {
+  one_term = λ u h. elim h [ inl e ↦ absurd (cc) | inr e ↦ absurd (cc) ];
+  musts = λ terms e. absurd (cc);
+  opened = λ terms e some. absurd (cc);
+}
+
+-- one with musts, of which some are no terms
+pub opens_mixed : (segment : SegmentValue) (must should : List Query) (s : Standing) → list_all (λ q. is_term (query_value q)) must ≡ false → Opens segment (kept_value must should) s
+opens_mixed segment [] should s mixed = absurd (false≢true (sym mixed))
+opens_mixed segment (q ∷ qs) should s mixed = record {
+  one_term = λ u h. elim h [ inl e ↦ absurd (cc) | inr e ↦ absurd (cc) ];
+  musts = λ terms e. absurd (false≢true (sym mixed ∙ are_all (q ∷ qs) terms (terms_are (q ∷ qs) terms (cc))));
+  opened = λ terms e some. absurd (false≢true (sym mixed ∙ are_all (q ∷ qs) terms (terms_are (q ∷ qs) terms (cc))));
+}
+
+-- one whose musts are terms
+pub opens_terms : (segment : SegmentValue) (must should : List Query) (s : Standing) → 0 < length must →
+    s.most ≤ block_count (fewest (map (hits_of segment) must)) + (length must - 1) * (fewest (map (hits_of segment) must) + 1) → (s.remaining ≢ [] → length must ≤ s.openings) → Opens segment (kept_value must should) s
+opens_terms segment [] should s some most opened = absurd (omega (arith, some))
+opens_terms segment (q ∷ qs) should s some most opened = record {
+  one_term = λ u h. elim h [ inl e ↦ absurd (cc) | inr e ↦ absurd (cc) ];
+  musts = λ terms e.
+      let same = terms_are (q ∷ qs) terms (cc) in
+      subst (λ (n : ℕ). s.most ≤ block_count n + (length terms - 1) * (n + 1)) (least_of segment (q ∷ qs) terms same)
+      (subst (λ (m : ℕ). s.most ≤ block_count (fewest (map (hits_of segment) (q ∷ qs))) + (m - 1) * (fewest (map (hits_of segment) (q ∷ qs)) + 1)) (as_many (q ∷ qs) terms same) most);
+  opened = λ terms e more. omega (arith, as_many (q ∷ qs) terms (terms_are (q ∷ qs) terms (cc)), opened more);
+}
+
+-- a cursor that walked on
+pub opens_walked : (segment : SegmentValue) (query : QueryValue) (p : ℕ → Bool) (s t : Standing) → Opens segment query s → Walked s t → t.remaining ≡ filter p s.remaining → Opens segment query t
+opens_walked segment query p s t h walked is = record {
+  one_term = λ u e. let o = h.one_term u e in (walked.whole o.0, walked.continues.most ∙ o.1);
+  musts = λ terms e. omega (arith, h.musts terms e, walked.continues.most);
+  opened = λ terms e some. omega (arith, h.opened terms e (λ none. some (is ∙ ap (filter p) none)), walked.continues.more);
+}
+
+-- what a Boolean query keeps before its must-nots are asked for, and what its cursor opens
+pub record Keeps (segment : SegmentValue) (must should : List Query) (s : Standing) : Type 0 where
+  pub hits : s.remaining ≡ numbers_where (kept_by segment.schema must should) 0 segment.documents
+  pub opens : Opens segment (kept_value must should) s
+
+pub keeps_shoulds : (segment : SegmentValue) (must should : List Query) (trees : List Standing) (s : Standing) → must ≡ [] → remains trees ≡ map (hits_of segment) should → AllZip (λ t q. Opens segment (query_value q) t) trees should →
+    s.remaining ≡ union (remains trees) → ((part : Standing) → trees ≡ part ∷ [] → s ≡ part) → (trees ≡ [] → s.most ≡ 0) → Keeps segment must should s
+keeps_shoulds segment must should trees s empty are zip is alone none = record {
+  hits = is ∙ ap union are ∙ should_hits segment must should empty;
+  opens = opens_shoulds segment must should trees s empty zip alone none;
+}
+
+pub keeps_terms : (segment : SegmentValue) (must should : List Query) (s : Standing) → 0 < length must → s.remaining ≡ all_hits segment must →
+    s.most ≤ block_count (fewest (map (hits_of segment) must)) + (length must - 1) * (fewest (map (hits_of segment) must) + 1) → (s.remaining ≢ [] → length must ≤ s.openings) → Keeps segment must should s
+keeps_terms segment must should s some is most opened = record {
+  hits = is ∙ all_kept segment must should some;
+  opens = opens_terms segment must should s some most opened;
+}
+
+pub keeps_mixed : (segment : SegmentValue) (must should : List Query) (trees : List Standing) (s : Standing) → 0 < length must → list_all (λ q. is_term (query_value q)) must ≡ false → remains trees ≡ map (hits_of segment) must →
+    ((first : Standing) (rest : List Standing) → trees ≡ first ∷ rest → s.remaining ≡ common first.remaining (remains rest)) → Keeps segment must should s
+keeps_mixed segment must should trees s some mixed are is = record {
+  hits = must_hits segment trees must should s.remaining are some is;
+  opens = opens_mixed segment must should s mixed;
+}
+
+-- a Boolean query of the code, with its must-nots or without
+module _ (segment : SegmentValue) (query : Query) (must must_not should : List Query) (s : Standing) (value : query_value query ≡ boolean (query_list (map query_value must)) (query_list (map query_value must_not)) (query_list (map query_value should))) where
+  pub opens_kept : must_not ≡ [] → Keeps segment must should s → Opens segment (query_value query) s
+  opens_kept none h =
+      subst (λ v. Opens segment v s) (sym (value ∙ ap (λ qs. boolean (query_list (map query_value must)) (query_list (map query_value qs)) (query_list (map query_value should))) none)) h.opens
+
+  pub opens_apart : 0 < length must_not → Opens segment (query_value query) s
+  opens_apart some = opens_without segment (query_value query) (query_list (map query_value must)) (query_list (map query_value should)) must_not s value some
+
+-- the queries in a Boolean query fit where it does
+pub parts_fit : (schema : List Field) (query : Query) (must must_not should : _) → query ≡ views.Bool must must_not should → fits_in schema query ≡ true →
+    (list_all (fits_in schema) must.items ≡ true) × (list_all (fits_in schema) must_not.items ≡ true) × (list_all (fits_in schema) should.items ≡ true)
+parts_fit schema query must must_not should is fits =
+    let all = list_all (fits_in schema) in
+    let whole : (all must.items && all must_not.items && all should.items) ≡ true = sym (ap (fits_in schema) is ∙ query_fits_at_bool schema must must_not should) ∙ fits in
+    let parts = and_parts (all must.items && all must_not.items) (all should.items) whole in
+    let first = and_parts (all must.items) (all must_not.items) parts.0 in
+    (first.0, first.1, parts.1)
+
+-- nothing is found for no query
+value_of_none : query_value variants.None ≡ nothing
+value_of_none = ap query_value (sym variants.rolls-None) ∙ fold-roll-Query QueryValue value_by_parts Query-F.None
+
+pub nothing_found : (segment : SegmentValue) (query : Query) → query ≡ variants.None → [] ≡ hits_of segment query
+nothing_found segment query is =
+    sym (numbers_where-none (λ e. matches segment.schema e.value nothing) 0 segment.documents (λ k d inside. refl)) ∙ ap (segment_hits segment) (sym (ap query_value is ∙ value_of_none))
+
+-- one cursor more
+pub remains_more : (segment : SegmentValue) (trees : List Standing) (qs : List Query) (k : ℕ) (s : Standing) (q : Query) → remains trees ≡ map (hits_of segment) (take k qs) → k < length qs → q ≡ get_or qs k q → s.remaining ≡ hits_of segment q →
+    remains (trees ++ s ∷ []) ≡ map (hits_of segment) (take (k + 1) qs)
+remains_more segment trees qs k s q are inside is hits =
+    map-append (λ (p : Standing). p.remaining) trees (s ∷ []) ∙ ap₂ (λ xs x. xs ++ x ∷ []) are hits ∙ sym (map-append (hits_of segment) (take k qs) (q ∷ []))
+    ∙ ap (map (hits_of segment)) (ap (λ z. take k qs ++ z ∷ []) is ∙ sym (take_more qs k q inside))

@@ -1,0 +1,226 @@
+-- The documents of a range that pass a test, stretch by stretch.
+use Rattle.std.proofs.Common.{◌≡◌, ℕ, zero, suc, ◌+◌, ◌-◌, ◌<◌, ◌≤◌, Bool, true, false, cond, ◌&&◌, nat_le, Option, Some, None, is_some, option_map, Bor, List, [], ◌∷◌, ◌++◌, length, get_or, set, take, drop, map, min, refl, sym, ap, ap₂, subst, ◌∙◌, inl, inr, arith}
+use Rattle.std.specs.List.{filter, range_with_len, slice_get}
+use Rattle.std.specs.List.Sorted.{IsStrictlyIncreasing}
+use Rattle.std.specs.Option.{option_copied, option_map_or}
+use Rattle.std.proofs.lemmas.Option.{slice_get-get_or, slice_get-map}
+use Rattle.std.proofs.lemmas.Bool.{cases_lt, lt-leb}
+use Rattle.std.proofs.lemmas.List.{append-nil, take_more_set, length-append, length-drop, get_or-drop, get_or-take, get_or_append_left, drop-append-le, drop-drop, drop_all}
+use Rattle.std.proofs.lemmas.List.Elements.{filter-append}
+use Rattle.fts_pack.specs.Documents.{Rises}
+use Rattle.fts_cursor.specs.Remaining.{at_least, IsPlaceOf}
+use Rattle.fts_model.specs.declared.operation.Stamped.{Stamped}
+use Rattle.fts_model.specs.declared.value.FieldValue.{FieldValue}
+use Rattle.fts_model.specs.Documents.{DocumentValue, value_in_field}
+use Rattle.fts_cursor.specs.Scans.{has_value, has_within, keeps, kept_from, kept_in, passing, within}
+use Rattle.fts_cursor.specs.declared.kept.Kept.{Kept}
+use Rattle.fts_cursor.proofs.RemainingLemmas.{Rises-front, at_least-append, at_least_all, at_least_place, increasing-from_Rises}
+use Rattle.fts_cursor.proofs.MeetingLemmas.{Rises-filter, filter-at_least}
+use Rattle.fts_cursor.proofs.PostingLemmas.{all_below}
+
+range-append : (a m n : ℕ) → range_with_len a (m + n) ≡ range_with_len a m ++ range_with_len (a + m) n
+range-append a zero n =
+    let e : 0 + n ≡ n = omega arith in
+    let f : a ≡ a + 0 = omega arith in
+    ap (range_with_len a) e ∙ ap (λ b. range_with_len b n) f
+range-append a (suc m) n =
+    let e : suc m + n ≡ suc (m + n) = omega arith in
+    let f : a + 1 + m ≡ a + suc m = omega arith in
+    ap (range_with_len a) e ∙ ap (λ xs. a ∷ xs) (range-append (a + 1) m n ∙ ap (λ b. range_with_len (a + 1) m ++ range_with_len b n) f)
+
+passing-append : (p : ℕ → Bool) (a m n : ℕ) → passing p a (m + n) ≡ passing p a m ++ passing p (a + m) n
+passing-append p a m n = ap (filter p) (range-append a m n) ∙ filter-append p (range_with_len a m) (range_with_len (a + m) n)
+
+-- what passes so far lies at the front
+pub record KeptUpTo (p : ℕ → Bool) (from : ℕ) (out : List ℕ) (place count : ℕ) : Type 0 where
+  pub front : take count out ≡ passing p from place
+  pub size : count ≡ length (passing p from place)
+  pub behind : count ≤ place
+
+pub KeptUpTo-none : (p : ℕ → Bool) (from : ℕ) (out : List ℕ) → KeptUpTo p from out 0 0
+KeptUpTo-none p from out = record { front = refl; size = refl; behind = omega arith }
+
+one : (p : ℕ → Bool) (from place : ℕ) (b : Bool) → p (from + place) ≡ b → passing p from (place + 1) ≡ passing p from place ++ cond b ((from + place) ∷ []) []
+one p from place b is = passing-append p from place 1 ∙ ap (λ b. passing p from place ++ cond b ((from + place) ∷ []) []) is
+
+pub KeptUpTo-kept : (p : ℕ → Bool) (from : ℕ) (out : List ℕ) (place count : ℕ) → KeptUpTo p from out place count → p (from + place) ≡ true → count < length out →
+    KeptUpTo p from (set out count (from + place)) (place + 1) (count + 1)
+KeptUpTo-kept p from out place count h passes room =
+    let more = one p from place true passes in
+    record {
+      front = take_more_set out count (from + place) room ∙ ap (λ xs. xs ++ (from + place) ∷ []) h.front ∙ sym more;
+      size = omega (arith, h.size, ap length more, length-append (passing p from place) ((from + place) ∷ []));
+      behind = omega (arith, h.behind);
+    }
+
+pub KeptUpTo-passed : (p : ℕ → Bool) (from : ℕ) (out : List ℕ) (place count : ℕ) → KeptUpTo p from out place count → p (from + place) ≡ false →
+    KeptUpTo p from out (place + 1) count
+KeptUpTo-passed p from out place count h fails =
+    let more = one p from place false fails ∙ append-nil (passing p from place) in
+    record { front = h.front ∙ sym more; size = h.size ∙ ap length (sym more); behind = omega (arith, h.behind) }
+
+-- the first stretch, and the others
+pub passing-stretch : (p : ℕ → Bool) (from docs : ℕ) → passing p from (docs - from) ≡ passing p from (min 128 (docs - from)) ++ passing p (from + 128) (docs - (from + 128))
+passing-stretch p from docs = elim (cases_lt (docs - from) 128) [
+  | inl short ↦
+      let none : docs - (from + 128) ≡ 0 = omega (arith, short) in
+      let all : min 128 (docs - from) ≡ docs - from = omega (arith, short) in
+      sym (append-nil (passing p from (docs - from))) ∙ ap₂ (λ m n. passing p from m ++ passing p (from + 128) n) (sym all) (sym none)
+  | inr long ↦
+      let e : docs - from ≡ 128 + (docs - (from + 128)) = omega (arith, long) in
+      let all : 128 ≡ min 128 (docs - from) = omega (arith, long) in
+      ap (passing p from) e ∙ passing-append p from 128 (docs - (from + 128)) ∙ ap (λ m. passing p from m ++ passing p (from + 128) (docs - (from + 128))) all
+]
+
+Rises-range : (a n : ℕ) → Rises a (range_with_len a n)
+Rises-range a zero = tt
+Rises-range a (suc n) = (omega arith, subst (λ b. Rises b (range_with_len (a + 1) n)) (let e : a + 1 ≡ suc a = omega arith in e) (Rises-range (a + 1) n))
+
+pub Rises-passing : (p : ℕ → Bool) (a n : ℕ) → Rises a (passing p a n)
+Rises-passing p a n = Rises-filter a p (range_with_len a n) (Rises-range a n)
+
+Rises-drop : (k from : ℕ) (xs : List ℕ) → Rises from xs → (next : ℕ) × Rises next (drop k xs)
+Rises-drop zero from xs h = (from, h)
+Rises-drop (suc k) from [] h = (from, tt)
+Rises-drop (suc k) from (x ∷ xs) h = Rises-drop k (suc x) xs h.1
+
+pub increasing-passing : (p : ℕ → Bool) (a n k : ℕ) → IsStrictlyIncreasing (drop k (passing p a n))
+increasing-passing p a n k = let r = Rises-drop k a (passing p a n) (Rises-passing p a n) in increasing-from_Rises r.0 (drop k (passing p a n)) r.1
+
+low_range : (target a n : ℕ) → a + n ≤ target → at_least target (range_with_len a n) ≡ []
+low_range target a zero low = refl
+low_range target a (suc n) low =
+    ap (λ b. cond b (a ∷ at_least target (range_with_len (a + 1) n)) (at_least target (range_with_len (a + 1) n))) (lt-leb target a (omega (arith, low)))
+    ∙ low_range target (a + 1) n (omega (arith, low))
+
+-- what lies before `to` is below the target
+pub passing-skipped : (p : ℕ → Bool) (from to docs target : ℕ) → from ≤ to → to ≤ target → at_least target (passing p from (docs - from)) ≡ at_least target (passing p to (docs - to))
+passing-skipped p from to docs target up low =
+    let n = docs - from - (docs - to) in
+    let e : docs - from ≡ n + (docs - to) = omega (arith, up) in
+    let there : range_with_len (from + n) (docs - to) ≡ range_with_len to (docs - to) = elim (cases_lt to docs) [
+      | inl inside ↦ ap (λ a. range_with_len a (docs - to)) (let f : from + n ≡ to = omega (arith, up, inside) in f)
+      | inr past ↦ let none : docs - to ≡ 0 = omega (arith, past) in ap (range_with_len (from + n)) none ∙ sym (ap (range_with_len to) none)
+    ] in
+    sym (filter-at_least target p (range_with_len from (docs - from)))
+    ∙ ap (filter p) (ap (λ m. at_least target (range_with_len from m)) e ∙ ap (at_least target) (range-append from n (docs - to)) ∙ at_least-append target (range_with_len from n) (range_with_len (from + n) (docs - to)) ∙ ap₂ (λ xs ys. xs ++ at_least target ys) (low_range target from n (omega (arith, up, low))) there)
+    ∙ filter-at_least target p (range_with_len to (docs - to))
+
+-- a number is there, within bounds
+pub within-is : (low high number : ℕ) (v : Option ℕ) (present : Bool) → present ≡ is_some v → ((x : ℕ) → v ≡ Some x → number ≡ x) → within low high v ≡ (present && (nat_le low number && nat_le number high))
+within-is low high number None present is same = ap (λ b. b && (nat_le low number && nat_le number high)) (sym is)
+within-is low high number (Some x) present is same =
+    ap (λ y. nat_le low y && nat_le y high) (sym (same x refl)) ∙ ap (λ b. b && (nat_le low number && nat_le number high)) (sym is)
+
+pub has_within-is : (low high number doc : ℕ) (column : List (Option ℕ)) (present : Bool) → doc < length column → slice_get (map is_some column) doc ≡ Some present → ((x : ℕ) → get_or column doc None ≡ Some x → number ≡ x) →
+    has_within low high column doc ≡ (present && (nat_le low number && nat_le number high))
+has_within-is low high number doc column present inside is same =
+    let there : Some present ≡ Some (is_some (get_or column doc None)) = sym is ∙ slice_get-map is_some column doc ∙ ap (option_map is_some) (slice_get-get_or column doc None inside) in
+    let known : present ≡ is_some (get_or column doc None) = cc in
+    within-is low high number (get_or column doc None) present known same
+
+-- a document has a value of a field
+valued_at : (s : Option (Stamped DocumentValue)) (d : DocumentValue) (field : ℕ) → option_map (λ e. e.value) s ≡ Some d → option_map_or (λ e. is_some (value_in_field e.value field)) s false ≡ is_some (value_in_field d field)
+valued_at None d field is = absurd (let e : None ≡ Some d = is in cc)
+valued_at (Some s) d field is = let same : s.value ≡ d = cc in ap (λ e. is_some (value_in_field e field)) same
+
+copied_some : {X : Type 0} (o : Option (Bor X)) (v : Option X) → option_copied o ≡ v → is_some v ≡ is_some o
+copied_some None v is = ap is_some (sym is)
+copied_some (Some x) v is = ap is_some (sym is)
+
+pub has_value-is : (documents : List (Stamped DocumentValue)) (field doc : ℕ) (d : DocumentValue) (o : Option (Bor FieldValue)) → option_map (λ e. e.value) (slice_get documents doc) ≡ Some d → option_copied o ≡ value_in_field d field →
+    has_value documents field doc ≡ is_some o
+has_value-is documents field doc d o is value = valued_at (slice_get documents doc) d field is ∙ copied_some o (value_in_field d field) value
+
+-- a stretch of which the last is below the target is passed over
+pub stretch_below : (p : ℕ → Bool) (from docs target len : ℕ) (numbers : List ℕ) → len ≡ length (passing p from (min 128 (docs - from))) → take len numbers ≡ passing p from (min 128 (docs - from)) → (0 < len → get_or numbers (len - 1) 0 < target) →
+    at_least target (passing p (from + 128) (docs - (from + 128))) ≡ at_least target (passing p from (docs - from))
+stretch_below p from docs target len numbers size is low =
+    let here = passing p from (min 128 (docs - from)) in
+    let rest = passing p (from + 128) (docs - (from + 128)) in
+    let last : 0 < length here → get_or here (length here - 1) 0 < target = λ some.
+    let inside : len - 1 < len = omega (arith, size, some) in
+    let e : get_or here (length here - 1) 0 ≡ get_or numbers (len - 1) 0 = ap₂ (λ (n : ℕ) (xs : List ℕ). get_or xs (n - 1) 0) (sym size) (sym is) ∙ get_or-take len numbers (len - 1) 0 inside in
+    subst (λ x. x < target) (sym e) (low (omega (arith, size, some))) in
+    sym (ap (at_least target) (passing-stretch p from docs) ∙ at_least-append target here rest ∙ ap (λ xs. xs ++ at_least target rest) (all_below target from here (Rises-passing p from (min 128 (docs - from))) last))
+
+-- with no target nothing is passed over
+pub same_all : (p : ℕ → Bool) (a m b n : ℕ) → at_least 0 (passing p a m) ≡ at_least 0 (passing p b n) → passing p a m ≡ passing p b n
+same_all p a m b n is = sym (at_least_all 0 a (passing p a m) (Rises-passing p a m) (omega arith)) ∙ is ∙ at_least_all 0 b (passing p b n) (Rises-passing p b n) (omega arith)
+
+-- where the documents of the stretch lie at the front of an array
+module _ (p : ℕ → Bool) (from docs at len : ℕ) (numbers here rest : List ℕ) (all : passing p from (docs - from) ≡ here ++ rest) (size : len ≡ length here) (is : take len numbers ≡ here) where
+  read : (i : ℕ) → at + i < len → get_or (drop at (passing p from (docs - from))) i 0 ≡ get_or numbers (at + i) 0
+  read i inside =
+      get_or-drop at (passing p from (docs - from)) i 0 ∙ ap (λ xs. get_or xs (at + i) 0) all
+      ∙ get_or_append_left here rest 0 (at + i) (omega (arith, size, inside)) ∙ ap (λ xs. get_or xs (at + i) 0) (sym is) ∙ get_or-take len numbers (at + i) 0 inside
+
+  long : length (passing p from (docs - from)) ≡ len + length rest
+  long = ap length all ∙ length-append here rest ∙ ap (λ n. n + length rest) (sym size)
+
+  pub scan_first : at < len → Some (get_or numbers at 0) ≡ slice_get (drop at (passing p from (docs - from))) 0
+  scan_first inside =
+      let e : at + 0 ≡ at = omega arith in
+      let some : 0 < length (drop at (passing p from (docs - from))) = omega (arith, long, inside, length-drop at (passing p from (docs - from))) in
+      sym (slice_get-get_or (drop at (passing p from (docs - from))) 0 0 some ∙ ap (λ x. Some x) (read 0 (omega (arith, inside)) ∙ ap (λ k. get_or numbers k 0) e))
+
+  pub scan_over : at + 1 ≡ len → rest ≡ drop 1 (drop at (passing p from (docs - from)))
+  scan_over end =
+      sym (drop-drop 1 at (passing p from (docs - from)) ∙ ap₂ (λ (n : ℕ) (xs : List ℕ). drop n xs) end all ∙ drop-append-le len here rest (omega (arith, size)) ∙ ap (λ xs. xs ++ rest) (drop_all len here (omega (arith, size))))
+
+  -- what is left of the stretch is below the target
+  pub scan_below : (target : ℕ) → at < len → get_or numbers (len - 1) 0 < target → at_least target (drop at (passing p from (docs - from))) ≡ at_least target rest
+  scan_below target inside low =
+      let left = drop at here in
+      let size_left = length-drop at here in
+      let up = Rises-drop at from here (Rises-front from here rest (subst (Rises from) all (Rises-passing p from (docs - from)))) in
+      let last : get_or left (length left - 1) 0 ≡ get_or numbers (len - 1) 0 =
+      let e : at + (length left - 1) ≡ len - 1 = omega (arith, size_left, size, inside) in
+      get_or-drop at here (length left - 1) 0 ∙ ap (λ k. get_or here k 0) e ∙ ap (λ xs. get_or xs (len - 1) 0) (sym is) ∙ get_or-take len numbers (len - 1) 0 (omega (arith, inside)) in
+      ap (λ xs. at_least target (drop at xs)) all ∙ ap (at_least target) (drop-append-le at here rest (omega (arith, size, inside)))
+      ∙ at_least-append target left rest ∙ ap (λ xs. xs ++ at_least target rest) (all_below target up.0 left up.1 (λ some. subst (λ x. x < target) (sym last) low))
+
+  pub scan_place : (target place : ℕ) → (from < docs → at < len) → (from < docs → target ≤ get_or numbers (len - 1) 0) → IsPlaceOf (λ k. get_or numbers k 0) at len target place →
+      drop place (passing p from (docs - from)) ≡ at_least target (drop at (passing p from (docs - from)))
+  scan_place target place stands reaches h =
+      let whole = passing p from (docs - from) in
+      let k = place - at in
+      let e : at + k ≡ place = omega (arith, h.low_within) in
+      let size_left = length-drop at whole in
+      let up = Rises-drop at from whole (Rises-passing p from (docs - from)) in
+      let before : 0 < k → get_or (drop at whole) (k - 1) 0 < target = λ some.
+      let f : at + (k - 1) ≡ place - 1 = omega (arith, some, h.low_within) in
+      subst (λ x. x < target) (sym (read (k - 1) (omega (arith, some, h.high_within)) ∙ ap (λ i. get_or numbers i 0) f)) (h.before (omega (arith, some))) in
+      let there : k < length (drop at whole) → target ≤ get_or (drop at whole) k 0 = λ some. elim (cases_lt place len) [
+        | inl inside ↦ subst (λ x. target ≤ x) (sym (read k (omega (arith, e, inside)) ∙ ap (λ i. get_or numbers i 0) e)) (h.here inside)
+        | inr past ↦ elim (cases_lt from docs) [
+          | inl stood ↦
+              let at_end : place ≡ len = omega (arith, past, h.high_within) in
+              let last : get_or numbers (place - 1) 0 ≡ get_or numbers (len - 1) 0 = ap (λ n. get_or numbers (n - 1) 0) at_end in
+              absurd (omega (arith, reaches stood, last, h.before (omega (arith, at_end, stands stood))))
+          | inr over ↦
+              let none : docs - from ≡ 0 = omega (arith, over) in
+              absurd (omega (arith, some, size_left, ap (λ n. length (passing p from n)) none))
+        ]
+      ] in
+      sym (at_least_place target up.0 (drop at whole) k up.1 (omega (arith, size_left, long, h.high_within)) before there ∙ drop-drop k at whole ∙ ap (λ n. drop n whole) e)
+
+-- the stretch of the target, or the next, has what is left
+pub scan_jump : (p : ℕ → Bool) (from next docs target : ℕ) → from ≤ next → (from < next → next ≤ target) → at_least target (passing p from (docs - from)) ≡ at_least target (passing p next (docs - next))
+scan_jump p from next docs target up low = elim (cases_lt from next) [
+  | inl far ↦ passing-skipped p from next docs target up (low far)
+  | inr near ↦ ap (λ n. at_least target (passing p n (docs - n))) (let e : from ≡ next = omega (arith, up, near) in e)
+]
+
+-- a stretch that was reached, with what is left from the target on
+pub record Reached (kept : Kept) (docs target : ℕ) (left : List ℕ) (from at len : ℕ) (numbers : List ℕ) : Type 0 where
+  pub same : at_least target (drop at (kept_from kept from docs)) ≡ at_least target left
+  pub size : len ≡ length (kept_in kept from docs)
+  pub numbers_are : take len numbers ≡ kept_in kept from docs
+  pub stands : from < docs → at < len
+  pub reaches : from < docs → target ≤ get_or numbers (len - 1) 0
+
+pub Reached-place : (kept : Kept) (docs target : ℕ) (left : List ℕ) (from at len : ℕ) (numbers : List ℕ) (place : ℕ) → Reached kept docs target left from at len numbers → IsPlaceOf (λ k. get_or numbers k 0) at len target place →
+    drop place (kept_from kept from docs) ≡ at_least target left
+Reached-place kept docs target left from at len numbers place h is =
+    scan_place (keeps kept) from docs at len numbers _ _ (passing-stretch (keeps kept) from docs) h.size h.numbers_are target place h.stands h.reaches is ∙ h.same

@@ -1,0 +1,10 @@
+-- The documents so far lie at the front.
+use Rattle.fts_cursor.specs.Standing.{Walked}
+use Rattle.fts_cursor.proofs.FillLemmas.{Taken}
+use Rattle.fts_cursor.proofs.cursor.CursorDocSet.fill.Given as goal
+
+abbrev pub invariant-loop-filled : goal.invariant-loop-filled
+invariant-loop-filled l = record {
+  taken : Taken l.initial.self.remaining l.self.remaining l.out l.filled;
+  walked : Walked l.initial.self l.self;
+}

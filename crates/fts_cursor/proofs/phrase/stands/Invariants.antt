@@ -1,0 +1,16 @@
+-- The positions of the first term that are left decide.
+use Rattle.std.proofs.Common.{◌≡◌, ℕ, Some, length}
+use Rattle.std.specs.List.{list_all, list_any, slice_get}
+use Rattle.fts_segment.specs.PositionsLeft.{positions_left}
+use Rattle.fts_cursor.specs.Conjoined.{common_of}
+use Rattle.fts_cursor.specs.Phrases.{is_behind}
+use Rattle.fts_cursor.proofs.phrase.stands.Given as goal
+
+abbrev pub invariant-loop-position : goal.invariant-loop-position
+invariant-loop-position l =
+    (doc : ℕ) → slice_get (common_of l.terms) 0 ≡ Some doc →
+    list_any (λ p. list_all (is_behind l.first.offset p doc) l.others) (positions_left l.positions)
+    ≡ list_any (λ p. list_all (is_behind l.first.offset p doc) l.others) (positions_left l.initial.positions)
+
+abbrev pub decreases-loop-position : goal.decreases-loop-position
+decreases-loop-position l = length (positions_left l.positions)

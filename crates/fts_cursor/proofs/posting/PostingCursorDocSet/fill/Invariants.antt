@@ -1,0 +1,10 @@
+-- The documents so far lie at the front, and each block that was reached was opened.
+use Rattle.fts_cursor.specs.Posting.{Walks, remaining_of}
+use Rattle.fts_cursor.proofs.FillLemmas.{Taken}
+use Rattle.fts_cursor.proofs.posting.PostingCursorDocSet.fill.Given as goal
+
+abbrev pub invariant-loop-filled : goal.invariant-loop-filled
+invariant-loop-filled g l = record {
+  taken : Taken (remaining_of l.initial.self) (remaining_of l.self) l.out l.filled;
+  walks : Walks l.initial.self l.self;
+}

@@ -1,0 +1,22 @@
+-- The first that is left lies at its place in the array.
+use Rattle.std.proofs.Common.{◌-◌, ap, subst, ◌∙◌}
+use Rattle.std.specs.List.{slice_get}
+use Rattle.std.specs.List.Sorted.{IsStrictlyIncreasing}
+use Rattle.fts_cursor.specs.Scans.{keeps}
+use Rattle.fts_cursor.proofs.ScanLemmas.{increasing-passing, passing-stretch, scan_first}
+use Rattle.fts_cursor.proofs.scan.ScanCursorDocSet.doc.Goals as goal
+
+pub returns-then-self-clause-first : goal.returns-then-self-clause-first
+returns-then-self-clause-first c =
+    let s = c.self.inside in
+    scan_first (keeps s.kept) s.from s.docs s.at s.len s.numbers _ _ (passing-stretch (keeps s.kept) s.from s.docs) c.self.invariant.size c.self.invariant.numbers_are c.if-self.true ∙ ap (λ xs. slice_get xs 0) c.self.view_is
+
+pub returns-then-self-clause-rises : goal.returns-then-self-clause-rises
+returns-then-self-clause-rises c =
+    let s = c.self.inside in
+    subst IsStrictlyIncreasing c.self.view_is (increasing-passing (keeps s.kept) s.from (s.docs - s.from) s.at)
+
+pub returns-else-self-clause-rises : goal.returns-else-self-clause-rises
+returns-else-self-clause-rises c =
+    let s = c.self.inside in
+    subst IsStrictlyIncreasing c.self.view_is (increasing-passing (keeps s.kept) s.from (s.docs - s.from) s.at)

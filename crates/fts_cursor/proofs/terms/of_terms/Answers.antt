@@ -1,0 +1,40 @@
+-- A conjunction over lists of which the shortest leads.
+use Rattle.std.proofs.Common.{map, ◌∙◌, arith}
+use Rattle.fts_cursor.proofs.HitsLemmas.{hits_of}
+use Rattle.fts_cursor.proofs.LeadingLemmas.{Conjoins, conjoins, is_fresh, no_hits}
+use Rattle.fts_cursor.proofs.terms.of_terms.Goals as goal
+
+pub returns-in_default-clause-remaining : goal.returns-in_default-clause-remaining
+returns-in_default-clause-remaining c = c.nothing.ensures.remaining ∙ no_hits c.args.segment.now c.args.queries.now c.requires.some (rw c.in_default.is at c.in_ok-lists.ensures)
+
+pub new-requires : goal.new-requires
+new-requires c =
+    record {
+      fresh = (is_fresh (map (hits_of c.args.segment.now) c.args.queries.now) c.in-Some.lists.shortest.now c.in-Some.lists.others.items c.cursor_over-lead.result c.in_ok-others.others.items
+          (rw c.in-Some.is at c.in_ok-lists.ensures) c.cursor_over-lead.ensures (rw c.deref.ensures.value at c.in_ok-others.ensures)).fresh;
+    }
+
+tied : (c : goal.After-new) → Conjoins c.args.segment.now c.args.queries.now c.new.result
+tied c =
+    conjoins c.args.segment.now c.args.queries.now c.in-Some.lists.shortest.now c.in-Some.lists.others.items c.cursor_over-lead.result c.in_ok-others.others.items c.new.result
+    (rw c.in-Some.is at c.in_ok-lists.ensures) c.cursor_over-lead.ensures (rw c.deref.ensures.value at c.in_ok-others.ensures) c.new.ensures.follows c.new.ensures.remaining
+
+pub terms-requires-clause-lead : goal.terms-requires-clause-lead
+terms-requires-clause-lead c = (tied c).tied.0
+
+pub terms-requires-clause-others : goal.terms-requires-clause-others
+terms-requires-clause-others c = (tied c).tied.1
+
+made : (c : goal.After-drop-lists-2) → Conjoins c.args.segment.now c.args.queries.now c.new.result
+made c =
+    conjoins c.args.segment.now c.args.queries.now c.in-Some.lists.shortest.now c.in-Some.lists.others.items c.cursor_over-lead.result c.in_ok-others.others.items c.new.result
+    (rw c.in-Some.is at c.in_ok-lists.ensures) c.cursor_over-lead.ensures (rw c.deref.ensures.value at c.in_ok-others.ensures) c.new.ensures.follows c.new.ensures.remaining
+
+pub returns-clause-remaining : goal.returns-clause-remaining
+returns-clause-remaining c = c.terms.ensures.remaining ∙ (made c).hits
+
+pub returns-clause-most : goal.returns-clause-most
+returns-clause-most c = omega (arith, c.terms.ensures.most, (made c).most)
+
+pub returns-clause-opened : goal.returns-clause-opened
+returns-clause-opened c = λ some. omega (arith, c.terms.ensures.openings, (made c).opened (λ none. some (c.terms.ensures.remaining ∙ none)))

@@ -1,0 +1,43 @@
+-- A sum goes on by one part, and a part isn't as deep as all.
+use Rattle.std.proofs.Common.{◌≡◌, ◌-◌, ◌*◌, ◌^◌, ◌<◌, ap, sym, ◌∙◌, min, arith}
+use Rattle.fts_cursor.specs.Terms.{AreTied, IsTied}
+use Rattle.fts_cursor.specs.Trees.{standing}
+use Rattle.fts_cursor.specs.declared.tree.Node.TheVariants.{Postings, Terms}
+use Rattle.std.proofs.lemmas.Bool.{eqb-true}
+use Rattle.fts_cursor.specs.Posting.{blocks_reached}
+use Rattle.fts_cursor.proofs.PartsLemmas.{height_within}
+use Rattle.fts_cursor.proofs.TreeLemmas.{all_most-more, all_openings-more}
+use Rattle.fts_cursor.proofs.TermsLemmas.{terms-tied}
+use Rattle.fts_cursor.proofs.tree.+openings.Goals as goal
+
+pub openings_in-openings-requires : goal.openings_in-openings-requires
+openings_in-openings-requires t c =
+    let less : 2 * c.part-item.result.height < t = omega (arith, height_within c.args.parts.now c.loop-part.part-index c.part-item.result c.loop-part-test.true, ap (λ s. s.height) c.part-item.is, c.decreases) in
+    (less, tt)
+
+pub openings_in-loop-part-preserved : goal.openings_in-loop-part-preserved
+openings_in-loop-part-preserved t c =
+    let openings = all_openings-more c.args.parts.now c.loop-part.part-index c.part-item.result c.loop-part-test.true in
+    let most = all_most-more c.args.parts.now c.loop-part.part-index c.part-item.result c.loop-part-test.true in
+    record {
+      sum = omega (arith, openings, ap (λ s. s.openings) c.part-item.is);
+      bound = omega (arith, openings, most, ap (λ s. s.openings) c.part-item.is, ap (λ s. s.most) c.part-item.is, c.openings.ensures.bound, c.loop-part.invariant.bound);
+    }
+
+pub Tree::openings-returns-in-Postings-clause-end : goal.Tree::openings-returns-in-Postings-clause-end
+Tree::openings-returns-in-Postings-clause-end t c =
+    let p = c.in-Postings.postings in
+    let is : standing (Postings p) ≡ c.args.self.now = ap standing (sym c.in-Postings.is) ∙ c.self.view_is in
+    let tied : IsTied p = rw c.in-Postings.is at c.self.invariant.tied in
+    rw (← is) (λ whole none. tied ∙ eqb-true p.opened (blocks_reached p) whole ∙ c.openings.ensures.end none)
+
+pub Tree::openings-returns-in-Terms-clause-sum : goal.Tree::openings-returns-in-Terms-clause-sum
+Tree::openings-returns-in-Terms-clause-sum t c =
+    let tied : AreTied c.in-Terms.terms = rw c.in-Terms.is at c.self.invariant.tied in
+    c.openings-in-Terms.ensures.sum ∙ ap (min (2 ^ 64 - 1)) (sym (terms-tied c.in-Terms.terms tied) ∙ ap (λ s. s.openings) (ap standing (sym c.in-Terms.is) ∙ c.self.view_is))
+
+pub Tree::openings-returns-in-Terms-clause-bound : goal.Tree::openings-returns-in-Terms-clause-bound
+Tree::openings-returns-in-Terms-clause-bound t c =
+    let tied : AreTied c.in-Terms.terms = rw c.in-Terms.is at c.self.invariant.tied in
+    let is : standing (Terms c.in-Terms.terms) ≡ c.args.self.now = ap standing (sym c.in-Terms.is) ∙ c.self.view_is in
+    rw (← is) (omega (arith, terms-tied c.in-Terms.terms tied, c.openings-in-Terms.ensures.most))

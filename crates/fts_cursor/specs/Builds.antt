@@ -1,0 +1,41 @@
+-- What a cursor is made of.
+use Rattle.std.specs.Prelude.{◌≡◌, ◌≢◌, ℕ, ◌≤◌, Bool, true, false, List, [], length, slice_get, Some}
+use Rattle.fts_model.specs.declared.operation.Term.{Term}
+use Rattle.fts_model.specs.declared.value.FieldValue.TheVariants as values
+use Rattle.fts_model.specs.QueryValues.{QueryValue, term}
+use Rattle.fts_segment.specs.ListIds.{documents_in, positions_in}
+use Rattle.fts_segment.specs.Segments.{SegmentValue, positions, postings}
+use Rattle.fts_cursor.specs.declared.phrase.Member.{Member}
+use Rattle.fts_cursor.specs.Leading.{IsOver}
+use Rattle.fts_cursor.specs.Openings.{HasMusts, IsOfOneTerm, blocks_with, most_for_musts}
+use Rattle.fts_cursor.specs.Posting.{Posting}
+use Rattle.fts_cursor.specs.Standing.{Standing}
+
+-- a text as a term
+abbrev pub text_term : ℕ → List ℕ → Term
+text_term field text = record { field = field; value = values.Text text }
+
+-- a member of a pattern has no documents
+abbrev pub LacksTerm : SegmentValue → ℕ → List (ℕ × List ℕ) → Type 0
+LacksTerm segment field pattern = (k : ℕ) × (m : ℕ × List ℕ) × (slice_get pattern k ≡ Some m) × (postings segment (text_term field m.1) ≡ [])
+
+-- the list of a member of a pattern, and its offset
+pub record IsMemberFor (segment : SegmentValue) (field : ℕ) (wanted : ℕ × List ℕ) (member : Member) : Type 0 where
+  pub offset : member.offset ≡ wanted.0
+  pub documents : documents_in member.list ≡ postings segment (text_term field wanted.1)
+  pub positions_are : positions_in member.list ≡ positions segment (text_term field wanted.1)
+
+-- a cursor over the list of a member, as it was made
+abbrev pub IsCursorOf : Posting → Member → Type 0
+IsCursorOf cursor member = IsOver cursor (documents_in member.list)
+
+-- whether a query is a term
+abbrev pub is_term : QueryValue → Bool
+is_term (term t) = true
+is_term query = false
+
+-- what the cursor of a query opens, where it is of one term, or all musts are terms and nothing else is asked
+pub record Opens (segment : SegmentValue) (query : QueryValue) (cursor : Standing) : Type 0 where
+  pub one_term : (t : Term) → IsOfOneTerm query t → (cursor.whole ≡ true) × (cursor.most ≡ blocks_with segment t)
+  pub musts : (terms : List Term) → HasMusts query terms → cursor.most ≤ most_for_musts segment terms
+  pub opened : (terms : List Term) → HasMusts query terms → cursor.remaining ≢ [] → length terms ≤ cursor.openings

@@ -1,0 +1,16 @@
+pub mod Remaining
+pub mod Posting
+pub mod Meeting
+pub mod Conjoined
+pub mod Standing
+pub mod Terms
+pub mod Phrases
+pub mod Leading
+pub mod Builds
+pub mod Scans
+pub mod Trees
+pub mod Falls
+pub mod Ranges
+pub mod Hits
+pub mod Openings
+pub mod Live

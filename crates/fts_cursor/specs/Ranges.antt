@@ -1,0 +1,49 @@
+-- Bounds on numbers, by the places of these in a column.
+use Rattle.std.specs.Prelude.{◌≡◌, ℕ, ◌^◌, ◌<◌, Bool, true, false, nat_le, nat_lt, Option}
+use Rattle.std.specs.Option.{option_map_or}
+use Rattle.std.specs.declared.ops.Bound.{Bound}
+use Rattle.std.specs.declared.ops.Bound.TheVariants.{Included, Excluded, Unbounded}
+use Rattle.fts_model.specs.declared.value.FieldValue.{FieldValue}
+use Rattle.fts_model.specs.declared.value.FieldValue.TheVariants as values
+use Rattle.fts_model.specs.declared.value.Number.TheVariants as numbers
+use Rattle.fts_model.specs.Documents.{fits_i64}
+use Rattle.fts_pack.specs.Signed.{u64_of}
+
+-- a number as a column keeps it; a text is 0
+abbrev pub key_of : FieldValue → ℕ
+key_of (values.Number (numbers.U64 n)) = n
+key_of (values.Number (numbers.I64 z)) = u64_of z
+key_of (values.Text text) = 0
+
+-- a number with a sign has 64 bits
+abbrev pub IsWhole : FieldValue → Type 0
+IsWhole (values.Number (numbers.I64 z)) = fits_i64 z ≡ true
+IsWhole value = Unit {0}
+
+abbrev pub IsWholeBound : Bound FieldValue → Type 0
+IsWholeBound (Included value) = IsWhole value
+IsWholeBound (Excluded value) = IsWhole value
+IsWholeBound Unbounded = Unit {0}
+
+-- a lower and an upper bound admit a number that a column keeps
+abbrev pub key_from : Bound FieldValue → ℕ → Bool
+key_from (Included bound) x = nat_le (key_of bound) x
+key_from (Excluded bound) x = nat_lt (key_of bound) x
+key_from Unbounded x = true
+
+abbrev pub key_to : Bound FieldValue → ℕ → Bool
+key_to (Included bound) x = nat_le x (key_of bound)
+key_to (Excluded bound) x = nat_lt x (key_of bound)
+key_to Unbounded x = true
+
+-- the least and the greatest number of 64 bits that a bound admits, if it admits one
+abbrev pub IsLeastOf : Bound FieldValue → Option ℕ → Type 0
+IsLeastOf bound least = (x : ℕ) → x < 2 ^ 64 → option_map_or (λ low. nat_le low x) least false ≡ key_from bound x
+
+abbrev pub IsGreatestOf : Bound FieldValue → Option ℕ → Type 0
+IsGreatestOf bound greatest = (x : ℕ) → x < 2 ^ 64 → option_map_or (λ high. nat_le x high) greatest false ≡ key_to bound x
+
+-- a bound is one
+abbrev pub is_bounded : Bound FieldValue → Bool
+is_bounded Unbounded = false
+is_bounded bound = true

@@ -1,0 +1,55 @@
+-- The documents that are kept by their numbers alone, a stretch at a time.
+use Rattle.std.specs.Prelude.{◌≡◌, ℕ, ◌-◌, ◌%◌, ◌^◌, ◌<◌, ◌≤◌, Bool, true, false, ◌&&◌, nat_le, List, Option, Some, None, filter, length, min, take, is_some, slice_get, slice_index_or}
+use Rattle.std.specs.List.{range_with_len}
+use Rattle.std.specs.Option.{option_map_or}
+use Rattle.fts_model.specs.Documents.{DocumentValue, value_in_field}
+use Rattle.fts_model.specs.declared.operation.Stamped.{Stamped}
+use Rattle.fts_cursor.specs.declared.kept.Kept.{Kept}
+use Rattle.fts_cursor.specs.declared.kept.Kept.TheVariants.{Every, Within, Valued}
+
+-- whether there is a number, within these
+abbrev pub within : ℕ → ℕ → Option ℕ → Bool
+within low high None = false
+within low high (Some x) = nat_le low x && nat_le x high
+
+-- whether a document's number in a column is within these
+abbrev pub has_within : ℕ → ℕ → List (Option ℕ) → ℕ → Bool
+has_within low high column doc = within low high (slice_index_or column doc None)
+
+-- whether a document has a value of a field
+abbrev pub has_value : List (Stamped DocumentValue) → ℕ → ℕ → Bool
+has_value documents field doc = option_map_or (λ d. is_some (value_in_field d.value field)) (slice_get documents doc) false
+
+-- whether a document is kept
+abbrev pub keeps : Kept → ℕ → Bool
+keeps Every doc = true
+keeps (Within column low high) doc = has_within low high column.now doc
+keeps (Valued segment field) doc = has_value segment.now.documents field doc
+
+-- there is a number, or a document, for each of so many
+abbrev pub AreFor : Kept → ℕ → Type 0
+AreFor Every docs = Unit {0}
+AreFor (Within column low high) docs = length column.now ≡ docs
+AreFor (Valued segment field) docs = length segment.now.documents ≡ docs
+
+-- those of so many documents from one on that pass
+abbrev pub passing : (ℕ → Bool) → ℕ → ℕ → List ℕ
+passing test from count = filter test (range_with_len from count)
+
+-- those kept of so many documents, from one on
+abbrev pub kept_from : Kept → ℕ → ℕ → List ℕ
+kept_from kept from docs = passing (keeps kept) from (docs - from)
+
+-- those of them in the stretch of 128 that begins there
+abbrev pub kept_in : Kept → ℕ → ℕ → List ℕ
+kept_in kept from docs = passing (keeps kept) from (min 128 (docs - from))
+
+-- how the fields stand to one another: those kept in the stretch lie at the front of the array
+pub record IsScan (kept : Kept) (docs from at len : ℕ) (numbers : List ℕ) : Type 0 where
+  pub few : docs ≤ 2 ^ 32
+  pub are_for : AreFor kept docs
+  pub aligned : from % 64 ≡ 0
+  pub near : from ≤ 2 ^ 33
+  pub size : len ≡ length (kept_in kept from docs)
+  pub numbers_are : take len numbers ≡ kept_in kept from docs
+  pub stands : from < docs → at < len

@@ -1,0 +1,66 @@
+-- What a tree of cursors stands for.
+use Rattle.std.specs.Prelude.{◌≡◌, ℕ, ◌==◌, Bool, true, false, List, [], Option, Some, None, length, slice_get}
+use Rattle.std.specs.List.{filter}
+use Rattle.std.specs.List.Sorted.{IsStrictlyIncreasing}
+use Rattle.fts_cursor.specs.Posting.{blocks_reached, remaining_of}
+use Rattle.fts_cursor.specs.Conjoined.{common_of}
+use Rattle.fts_cursor.specs.Meeting.{FirstPasses, common, in_all, lacks, union, without}
+use Rattle.fts_cursor.specs.Standing.{Standing, beside, remains, together}
+use Rattle.fts_cursor.specs.Terms.{AreTied, IsTied, of_terms}
+use Rattle.fts_cursor.specs.declared.tree.Difference.{Difference}
+use Rattle.fts_cursor.specs.declared.tree.Meeting.{Meeting}
+use Rattle.fts_cursor.specs.declared.tree.Node.{Node}
+use Rattle.fts_cursor.specs.declared.tree.Node.TheVariants.{Nothing, Scan, Postings, Terms, Phrase, And, Or, Without}
+
+-- what parts have in common, and what one has and the other doesn't
+abbrev pub meet : Meeting → List ℕ
+meet parts = common parts.lead.value.remaining (remains parts.others.items)
+
+abbrev pub differ : Difference → List ℕ
+differ parts = without parts.kept.value.remaining parts.dropped.value.remaining
+
+abbrev pub standing : Node → Standing
+standing Nothing = record { remaining = []; openings = 0; most = 0; whole = true; height = 0 }
+standing (Scan documents) = record { remaining = documents; openings = 0; most = 0; whole = false; height = 0 }
+standing (Postings p) = record { remaining = remaining_of p; openings = p.count; most = length p.blocks; whole = p.opened == blocks_reached p; height = 0 }
+standing (Terms c) = of_terms c (common_of c)
+standing (Phrase s) = record s { whole = false }
+standing (And parts) = beside parts.lead.value (together parts.others.items) (meet parts)
+standing (Or parts) = beside (together parts.items) (together []) (union (remains parts.items))
+standing (Without parts) = beside parts.kept.value parts.dropped.value (differ parts)
+
+-- the first that passes, if there is one, is the first of what leads
+abbrev pub PassesAt : Option ℕ → (ℕ → Bool) → List ℕ → Type 0
+PassesAt None test lead = Unit {0}
+PassesAt (Some doc) test lead = FirstPasses test lead
+
+-- the parts stand at the node's first document, if there is one
+abbrev pub PartsStand : Option ℕ → Node → Type 0
+PartsStand doc (And parts) = PassesAt doc (in_all (remains parts.others.items)) parts.lead.value.remaining
+PartsStand doc (Without parts) = PassesAt doc (lacks parts.dropped.value.remaining) parts.kept.value.remaining
+PartsStand doc node = Unit {0}
+
+-- each opening of a source was counted by its cursor
+abbrev pub IsTiedNode : Node → Type 0
+IsTiedNode (Postings p) = IsTied p
+IsTiedNode (Terms c) = AreTied c
+IsTiedNode node = Unit {0}
+
+-- the document is the first that remains, and the parts stand there
+pub record StandsAt (doc : Option ℕ) (node : Node) : Type 0 where
+  pub first : doc ≡ slice_get (standing node).remaining 0
+  pub rises : IsStrictlyIncreasing (standing node).remaining
+  pub parts : PartsStand doc node
+  pub tied : IsTiedNode node
+
+-- the node now stands at the document, and this remains
+pub record IsNow (doc : Option ℕ) (node : Node) (remaining : List ℕ) : Type 0 where
+  pub is : (standing node).remaining ≡ remaining
+  pub stands : StandsAt doc node
+
+-- what remained is what passes of the one that leads, and rises
+pub record Met (doc : Option ℕ) (before : List ℕ) (test : ℕ → Bool) (lead : List ℕ) : Type 0 where
+  pub is : filter test lead ≡ before
+  pub first : doc ≡ slice_get before 0
+  pub passes : PassesAt doc test lead
+  pub rises : IsStrictlyIncreasing before

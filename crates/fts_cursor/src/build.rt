@@ -1,0 +1,233 @@
+// The cursor of a query: a tree of cursors, one for each query within it.
+ghost use Rattle.std.specs.Prelude.{◌≡◌, ◌≢◌, ◌≤◌, ◌<◌, ◌∷◌, [], true, List, IfOk, IsOkUnless, MatchOption, length, map};
+ghost use Rattle.std.specs.List.{AllZip, list_all};
+ghost use Rattle.fts_model.specs.declared.operation.Term.{Term};
+ghost use Rattle.fts_model.specs.Queries.{query_fits};
+ghost use Rattle.fts_model.specs.QueryValues.{every, phrase, query_value};
+ghost use Rattle.fts_pack.specs.Documents.{block_count};
+ghost use Rattle.fts_segment.specs.Segments.{positions, postings};
+ghost use Rattle.fts_cursor.specs.Hits.{live_hits, segment_hits};
+ghost use Rattle.fts_cursor.specs.Meeting.{common};
+ghost use Rattle.fts_cursor.specs.Builds.{IsCursorOf, IsMemberFor, LacksTerm, Opens, text_term};
+ghost use Rattle.fts_segment.specs.ListIds.{documents_in, positions_in};
+ghost use Rattle.fts_cursor.specs.Openings.{HasMusts, IsOfOneTerm, blocks_with, most_for_musts};
+ghost use Rattle.fts_cursor.specs.Standing.{Standing, remains};
+
+use crate::conjunction::Conjunction;
+use crate::cursor::Cursor;
+use crate::kept::Kept;
+use crate::phrase::{Member, PhraseCursor};
+use crate::posting::PostingCursor;
+use crate::range::of_range;
+use crate::scan::ScanCursor;
+use crate::terms::{are_terms, cursor_over, of_terms};
+use crate::tree::Tree;
+use fts_model::{FieldValue, Query, Refusal, Term, Text};
+use fts_pack::{Bits, ListSource};
+use fts_segment::{ListId, Segment};
+use std::alloc::{AllocError, Global};
+
+/// The cursor of a query over the documents of a segment whose bits are set.
+///
+/// The only refusal is `Memory`. What the cursor needs later is made here: its steps take no memory.
+pub fn cursor_of<'a>(
+    alloc: Global,
+    segment: &'a Segment,
+    live: &'a Bits,
+    query: &Query,
+) -> Result<Cursor<'a>, Refusal>
+    requires bits { length live.now ≡ length segment.now.documents }
+    requires fits { query_fits segment.now.schema (query_value query.now) ≡ true }
+    ensures hits { IfOk result
+        (λ c. c.remaining ≡ live_hits segment.now live.now (query_value query.now)) }
+    ensures one_term { IfOk result (λ c. (t : Term) → IsOfOneTerm (query_value query.now) t →
+        (c.whole ≡ true) × (c.most ≡ blocks_with segment.now t)) }
+    ensures musts { IfOk result (λ c. (terms : List Term) → HasMusts (query_value query.now) terms →
+        c.most ≤ most_for_musts segment.now terms) }
+    ensures opened { IfOk result (λ c. (terms : List Term) →
+        HasMusts (query_value query.now) terms → c.remaining ≢ [] → length terms ≤ c.openings) }
+    ensures memory { IsOkUnless result Refusal.Memory }
+{
+    match tree_of(alloc, segment, query) {
+        Err(AllocError) => Err(Refusal::Memory),
+        Ok(tree) => {
+            if live.count_ones() == live.len() {
+                Ok(Cursor::all(tree))
+            } else {
+                Ok(Cursor::live(tree, live))
+            }
+        }
+    }
+}
+
+// The documents that match a query.
+#[cycle(build)]
+fn tree_of<'a>(alloc: Global, segment: &'a Segment, query: &Query) -> Result<Tree<'a>, AllocError>
+    requires fits { query_fits segment.now.schema (query_value query.now) ≡ true }
+    ensures hits { IfOk result (λ t. t.remaining
+        ≡ segment_hits segment.now (query_value query.now)) }
+    ensures opens { IfOk result (λ t. Opens segment.now (query_value query.now) t) }
+{
+    match query {
+        Query::All => Ok(of_all(segment)),
+        Query::None => Ok(Tree::nothing()),
+        Query::Term(term) => Ok(of_term(segment, term)),
+        Query::Phrase { field, pattern } => of_phrase(alloc, segment, *field, pattern),
+        Query::Range {
+            field,
+            lower,
+            upper,
+        } => Ok(of_range(segment, *field, lower, upper)),
+        Query::Bool {
+            must,
+            must_not,
+            should,
+        } => {
+            let kept = if must.is_empty() {
+                Tree::any(trees_of(alloc, segment, should)?)
+            } else if are_terms(must) {
+                of_terms(alloc, segment, must)?
+            } else {
+                all(alloc, trees_of(alloc, segment, must)?)?
+            };
+            if must_not.is_empty() {
+                return Ok(kept);
+            }
+            let dropped = Tree::any(trees_of(alloc, segment, must_not)?);
+            let kept = Box::new(alloc, kept)?;
+            let dropped = Box::new(alloc, dropped)?;
+            Ok(Tree::without(kept, dropped))
+        }
+    }
+}
+
+// The documents that match each of these.
+#[cycle(build)]
+fn trees_of<'a>(
+    alloc: Global,
+    segment: &'a Segment,
+    queries: &[Query],
+) -> Result<Vec<Tree<'a>>, AllocError>
+    requires fits { list_all (λ q. query_fits segment.now.schema (query_value q)) queries.now
+        ≡ true }
+    ensures hits { IfOk result
+        (λ trees. remains trees.items
+        ≡ map (λ q. segment_hits segment.now (query_value q)) queries.now) }
+    ensures opens { IfOk result
+        (λ trees. AllZip (λ t q. Opens segment.now (query_value q) t) trees.items queries.now) }
+{
+    let mut trees = Vec::with_capacity(alloc, queries.len())?;
+    for query in queries {
+        trees.push(tree_of(alloc, segment, query)?)?;
+    }
+    Ok(trees)
+}
+
+// What all have in common.
+fn all<'a>(alloc: Global, parts: Vec<Tree<'a>>) -> Result<Tree<'a>, AllocError>
+    requires { 0 < length parts.items }
+    ensures { IfOk result (λ t. (first : Standing) (rest : List Standing) →
+        parts.entry.items ≡ first ∷ rest
+        → t.remaining ≡ common first.remaining (remains rest)) }
+{
+    let mut parts = parts;
+    let lead = parts.remove(0);
+    let lead = Box::new(alloc, lead)?;
+    Ok(Tree::and(lead, parts))
+}
+
+// Every document.
+fn of_all(segment: &Segment) -> Tree<'_>
+    ensures { result.remaining ≡ segment_hits segment.now every }
+{
+    Tree::scan(ScanCursor::new(Kept::Every, segment.docs()))
+}
+
+// The documents that have a term.
+fn of_term<'a>(segment: &'a Segment, term: &Term) -> Tree<'a>
+    ensures remaining { result.remaining ≡ postings segment.now term.now }
+    ensures most { result.most ≡ block_count (length (postings segment.now term.now)) }
+    ensures whole { result.whole ≡ true }
+{
+    match segment.find(term) {
+        None => Tree::nothing(),
+        Some(list) => Tree::postings(PostingCursor::new(segment.postings(list).source())),
+    }
+}
+
+// The documents with a phrase.
+fn of_phrase<'a>(
+    alloc: Global,
+    segment: &'a Segment,
+    field: usize,
+    pattern: &[(u32, Text)],
+) -> Result<Tree<'a>, AllocError>
+    requires { query_fits segment.now.schema (phrase field pattern.now) ≡ true }
+    ensures { IfOk result (λ t. t.remaining ≡ segment_hits segment.now (phrase field pattern.now)) }
+{
+    let Some(members) = members_of(alloc, segment, field, pattern)? else {
+        return Ok(Tree::nothing());
+    };
+    // Shows the proof that the numbers of documents are few.
+    let _ = segment.docs();
+    let mut cursors = cursors_of(alloc, segment, &members)?;
+    let lead = cursors.remove(0);
+    let terms = Conjunction::new(lead, cursors);
+    let mut others = members;
+    let first = others.remove(0);
+    Ok(Tree::phrase(PhraseCursor::new(segment, terms, first, others)))
+}
+
+// The lists of a phrase's terms, and none where one of them has no documents.
+fn members_of<'a>(
+    alloc: Global,
+    segment: &'a Segment,
+    field: usize,
+    pattern: &[(u32, Text)],
+) -> Result<Option<Vec<Member<'a>>>, AllocError>
+    ensures { IfOk result (λ found. MatchOption found
+        (LacksTerm segment.now field pattern.now)
+        (λ members. AllZip (IsMemberFor segment.now field) pattern.now members.items)) }
+{
+    let mut members = Vec::with_capacity(alloc, pattern.len())?;
+    for (offset, text) in pattern {
+        match find_text(segment, field, text)? {
+            None => return Ok(None),
+            Some(list) => members.push(Member {
+                list,
+                offset: *offset,
+            })?,
+        }
+    }
+    Ok(Some(members))
+}
+
+// The list of a text as a term.
+fn find_text<'a>(
+    segment: &'a Segment,
+    field: usize,
+    text: &Text,
+) -> Result<Option<ListId<'a>>, AllocError>
+    ensures { IfOk result (λ found. MatchOption found
+        (postings segment.now (text_term field text.now) ≡ [])
+        (λ list. (documents_in list ≡ postings segment.now (text_term field text.now))
+        × (positions_in list ≡ positions segment.now (text_term field text.now)))) }
+{
+    let value = FieldValue::Text(text.clone()?);
+    Ok(segment.find(&Term { field, value }))
+}
+
+// A cursor for each list.
+fn cursors_of<'a>(
+    alloc: Global,
+    segment: &'a Segment,
+    members: &[Member<'a>],
+) -> Result<Vec<PostingCursor<ListSource<'a>>>, AllocError>
+    ensures { IfOk result (λ cursors. AllZip IsCursorOf cursors.items members.now) }
+{
+    let mut cursors = Vec::with_capacity(alloc, members.len())?;
+    for member in members {
+        cursors.push(cursor_over(segment.postings(member.list)))?;
+    }
+    Ok(cursors)
+}

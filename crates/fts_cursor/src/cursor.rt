@@ -1,0 +1,133 @@
+// The cursor of a query: of the documents that match, those that are live remain.
+ghost use Rattle.std.specs.Prelude.{◌≡◌, ◌-◌, ◌^◌, ◌≤◌, true, [], drop, filter, length, min, take};
+ghost use Rattle.fts_cursor.specs.Hits.{is_live};
+ghost use Rattle.fts_cursor.specs.Meeting.{FirstPasses};
+ghost use Rattle.fts_cursor.specs.Remaining.{at_least};
+ghost use Rattle.fts_cursor.specs.Standing.{Continues, Walked};
+
+use crate::doc_set::DocSet;
+use crate::tree::Tree;
+use fts_pack::Bits;
+use std::marker::Model;
+
+/// The live documents of a segment that match a query, from the first on. It borrows the segment and its bits.
+///
+/// Contracts see what remains, how often its sources opened a block, how many blocks it opens at most whatever is sought,
+/// and whether it goes over one list of which it has opened each block up to where it stands.
+#[derive(Drop)]
+pub struct Cursor<'a> {
+    tree: Tree<'a>,
+    live: Option<&'a Bits>,
+}
+
+impl<'a> Model for Cursor<'a> {
+    ghost use Rattle.fts_cursor.specs.Standing.{Standing};
+    ghost use Rattle.fts_cursor.specs.Live.{IsSettled, of_live};
+
+    ghost Value = { Standing };
+
+    ghost view = { λ c. of_live c.live c.tree };
+
+    ghost invariant = { λ c. IsSettled c.live c.tree };
+}
+
+impl<'a> Cursor<'a> {
+    /// Of all documents of the tree.
+    pub(crate) fn all(tree: Tree<'a>) -> Cursor<'a>
+        ensures { result ≡ tree.entry }
+    {
+        Cursor { tree, live: None }
+    }
+
+    /// Of those whose bit is set.
+    pub(crate) fn live(tree: Tree<'a>, live: &'a Bits) -> Cursor<'a>
+        ensures remaining { result.remaining ≡ filter (is_live live.now) tree.entry.remaining }
+        ensures walked { Walked tree.entry result }
+    {
+        let mut tree = tree;
+        settle(&mut tree, live);
+        Cursor {
+            tree,
+            live: Some(live),
+        }
+    }
+
+    /// How many blocks were opened since the cursor was made, the making included, or the greatest `u64`.
+    pub fn openings(&self) -> u64
+        ensures sum { result ≡ min (2 ^ 64 - 1) self.now.openings }
+        ensures bound { self.now.openings ≤ self.now.most }
+        ensures end { self.now.whole ≡ true → self.now.remaining ≡ []
+            → self.now.openings ≡ self.now.most }
+    {
+        self.tree.openings()
+    }
+}
+
+impl<'a> DocSet for Cursor<'a> {
+    ghost remaining = { λ c. c.remaining };
+
+    #[inline]
+    fn doc(&self) -> Option<u32> {
+        self.tree.doc()
+    }
+
+    fn advance(&mut self)
+        ensures remaining { self.new.remaining ≡ drop 1 self.old.remaining }
+        ensures walked { Walked self.old self.new }
+    {
+        self.tree.advance();
+        if let Some(live) = self.live {
+            settle(&mut self.tree, live);
+        }
+    }
+
+    fn seek(&mut self, target: u32)
+        ensures remaining { self.new.remaining ≡ at_least target self.old.remaining }
+        ensures continues { Continues self.old self.new }
+    {
+        self.tree.seek(target);
+        if let Some(live) = self.live {
+            settle(&mut self.tree, live);
+        }
+    }
+
+    fn fill(&mut self, out: &mut [u32; 128]) -> usize
+        ensures count { result ≡ min 128 (length self.old.remaining) }
+        ensures taken { take result out.new ≡ take 128 self.old.remaining }
+        ensures remaining { self.new.remaining ≡ drop 128 self.old.remaining }
+        ensures walked { Walked self.old self.new }
+    {
+        for filled in 0..128 {
+            match self.doc() {
+                Some(doc) => out[filled] = doc,
+                None => return filled,
+            }
+            self.advance();
+        }
+        128
+    }
+}
+
+// Whether the document's bit is set. What has no bit isn't live.
+#[inline]
+fn is_live(live: &Bits, doc: u32) -> bool
+    ensures { result ≡ is_live live.now doc }
+{
+    let doc = doc as usize;
+    doc < live.len() && live.get(doc)
+}
+
+// Passes over documents whose bit isn't set.
+fn settle(tree: &mut Tree, live: &Bits)
+    ensures remaining { filter (is_live live.now) tree.new.remaining
+        ≡ filter (is_live live.now) tree.old.remaining }
+    ensures settled { FirstPasses (is_live live.now) tree.new.remaining }
+    ensures walked { Walked tree.old tree.new }
+{
+    while let Some(doc) = tree.doc() {
+        if is_live(live, doc) {
+            return;
+        }
+        tree.advance();
+    }
+}

@@ -1,0 +1,102 @@
+// Which documents are kept by their number alone: they are looked at in stretches of 128.
+ghost use Rattle.std.specs.Prelude.{◌≡◌, ◌%◌, ◌-◌, ◌^◌, ◌<◌, ◌≤◌, ◌&&◌, nat_le, length, min, take};
+ghost use Rattle.fts_cursor.specs.Scans.{AreFor, has_value, has_within, kept_in, passing};
+
+use fts_pack::Column;
+use fts_segment::Segment;
+
+/// Which documents are kept.
+#[derive(Clone, Copy)]
+pub(crate) enum Kept<'a> {
+    /// Every document.
+    Every,
+    /// Those whose number in the column is `low` or more and `high` or less.
+    Within {
+        column: &'a Column,
+        low: u64,
+        high: u64,
+    },
+    /// Those that have a value of the field.
+    Valued {
+        segment: &'a Segment,
+        field: usize,
+    },
+}
+
+/// Writes those kept of the 128 documents from `from` on to the front of `out`, and gives how many they are.
+pub(crate) fn write(kept: Kept, docs: usize, from: usize, out: &mut [u32; 128]) -> usize
+    requires few { docs ≤ 2 ^ 32 }
+    requires are_for { AreFor kept docs }
+    requires inside { from < docs }
+    requires aligned { from % 64 ≡ 0 }
+    ensures count { result ≡ length (kept_in kept.entry from docs) }
+    ensures written { take result out.new ≡ kept_in kept.entry from docs }
+{
+    match kept {
+        Kept::Every => write_every(docs, from, out),
+        Kept::Within { column, low, high } => write_within(column, low, high, from, out),
+        Kept::Valued { segment, field } => write_valued(segment, field, from, out),
+    }
+}
+
+fn write_every(docs: usize, from: usize, out: &mut [u32; 128]) -> usize
+    requires few { docs ≤ 2 ^ 32 }
+    requires inside { from < docs }
+    ensures count { result ≡ length (kept_in Kept.Every from docs) }
+    ensures written { take result out.new ≡ kept_in Kept.Every from docs }
+{
+    let count = (docs - from).min(128);
+    for place in 0..count {
+        out[place] = (from + place) as u32;
+    }
+    count
+}
+
+fn write_within(column: &Column, low: u64, high: u64, from: usize, out: &mut [u32; 128]) -> usize
+    requires few { length column.now ≤ 2 ^ 32 }
+    requires inside { from < length column.now }
+    requires aligned { from % 64 ≡ 0 }
+    ensures count { result ≡ length (passing (has_within low high column.now) from
+        (min 128 (length column.now - from))) }
+    ensures written { take result out.new
+        ≡ passing (has_within low high column.now) from (min 128 (length column.now - from)) }
+{
+    let mut values = [0; 128];
+    let stretch = column.values(from, &mut values);
+    let present = column.present();
+    let mut count = 0;
+    for place in 0..stretch.len {
+        if is_within(present.get(from + place), values[place], low, high) {
+            out[count] = (from + place) as u32;
+            count += 1;
+        }
+    }
+    count
+}
+
+// Whether there is the number, from `low` to `high`.
+#[inline]
+fn is_within(present: bool, number: u64, low: u64, high: u64) -> bool
+    ensures { result ≡ (present && (nat_le low number && nat_le number high)) }
+{
+    present && low <= number && number <= high
+}
+
+fn write_valued(segment: &Segment, field: usize, from: usize, out: &mut [u32; 128]) -> usize
+    requires few { length segment.now.documents ≤ 2 ^ 32 }
+    requires inside { from < length segment.now.documents }
+    ensures count { result ≡ length (passing (has_value segment.now.documents field) from
+        (min 128 (length segment.now.documents - from))) }
+    ensures written { take result out.new
+        ≡ passing (has_value segment.now.documents field) from
+        (min 128 (length segment.now.documents - from)) }
+{
+    let mut count = 0;
+    for place in 0..(segment.docs() - from).min(128) {
+        if segment.document(from + place).value(field).is_some() {
+            out[count] = (from + place) as u32;
+            count += 1;
+        }
+    }
+    count
+}

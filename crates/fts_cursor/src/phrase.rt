@@ -1,0 +1,179 @@
+// A cursor over the documents in which a phrase stands: positions are read only where all of its terms do.
+ghost use Rattle.std.specs.Prelude.{◌≡◌, ℕ, ◌+◌, ◌-◌, ◌^◌, ◌<◌, ◌≤◌, ◌==◌, ◌∷◌, Some, drop, filter, length, min, slice_get, true, IfOk};
+ghost use Rattle.std.specs.List.{list_all, list_any};
+ghost use Rattle.fts_model.specs.Queries.{query_fits};
+ghost use Rattle.fts_model.specs.QueryValues.{phrase};
+ghost use Rattle.fts_segment.specs.PositionsLeft.{positions_left};
+ghost use Rattle.fts_cursor.specs.declared.phrase.Member.{Member};
+ghost use Rattle.fts_cursor.specs.Conjoined.{AllFollow, common_of};
+ghost use Rattle.fts_cursor.specs.Meeting.{FirstPasses};
+ghost use Rattle.fts_cursor.specs.Phrases.{AreMembersOf, is_behind, phrase_at};
+ghost use Rattle.fts_cursor.specs.Remaining.{at_least};
+ghost use Rattle.fts_cursor.specs.Standing.{Continues, Walked};
+ghost use Rattle.fts_cursor.specs.Terms.{AreTied};
+
+use crate::conjunction::Conjunction;
+use crate::doc_set::DocSet;
+use fts_pack::ListSource;
+use fts_segment::{ListId, Positions, Segment};
+use std::marker::Model;
+
+/// A member of a phrase: the list of its term, and its offset.
+#[derive(Clone, Copy)]
+pub(crate) struct Member<'a> {
+    pub(crate) list: ListId<'a>,
+    pub(crate) offset: u32,
+}
+
+/// A cursor over the documents in which the terms stand at their offsets from some one position.
+#[derive(Drop)]
+pub(crate) struct PhraseCursor<'a> {
+    segment: &'a Segment,
+    terms: Conjunction<ListSource<'a>>,
+    first: Member<'a>,
+    others: Vec<Member<'a>>,
+}
+
+impl<'a> Model for PhraseCursor<'a> {
+    ghost use Rattle.std.specs.Prelude.{◌∷◌, filter};
+    ghost use Rattle.fts_cursor.specs.Standing.{Standing};
+
+    ghost Value = { Standing };
+
+    ghost use Rattle.fts_cursor.specs.Conjoined.{common_of};
+    ghost use Rattle.fts_cursor.specs.Phrases.{IsPhrase, phrase_at};
+    ghost use Rattle.fts_cursor.specs.Terms.{of_terms};
+
+    ghost view = { λ c. of_terms c.terms (filter (phrase_at (c.first ∷ c.others.items)) (common_of c.terms)) };
+
+    ghost invariant = { λ c. IsPhrase c.terms (c.first ∷ c.others.items) };
+}
+
+impl<'a> PhraseCursor<'a> {
+    /// Takes the terms as they were made, and a member for each: that of the leading cursor, and the others in turn.
+    pub(crate) fn new(
+        segment: &'a Segment,
+        terms: Conjunction<ListSource<'a>>,
+        first: Member<'a>,
+        others: Vec<Member<'a>>,
+    ) -> PhraseCursor<'a>
+        requires tied { AreTied terms }
+        requires members { AreMembersOf terms (first ∷ others.items) }
+        ensures { result.remaining
+            ≡ filter (phrase_at (first.entry ∷ others.entry.items)) (common_of terms.entry) }
+    {
+        let mut terms = terms;
+        settle(segment, &mut terms, &first, &others);
+        PhraseCursor {
+            segment,
+            terms,
+            first,
+            others,
+        }
+    }
+
+    /// How many blocks were opened since the cursors were made, or the greatest `u64`.
+    pub(crate) fn openings(&self) -> u64
+        ensures sum { result ≡ min (2 ^ 64 - 1) self.now.openings }
+        ensures bound { self.now.openings ≤ self.now.most }
+    {
+        self.terms.openings()
+    }
+}
+
+impl<'a> DocSet for PhraseCursor<'a> {
+    ghost remaining = { λ c. c.remaining };
+
+    fn doc(&self) -> Option<u32> {
+        self.terms.doc()
+    }
+
+    fn advance(&mut self)
+        ensures remaining { self.new.remaining ≡ drop 1 self.old.remaining }
+        ensures walked { Walked self.old self.new }
+    {
+        self.terms.advance();
+        settle(self.segment, &mut self.terms, &self.first, &self.others);
+    }
+
+    fn seek(&mut self, target: u32)
+        ensures remaining { self.new.remaining ≡ at_least target self.old.remaining }
+        ensures continues { Continues self.old self.new }
+    {
+        self.terms.seek(target);
+        settle(self.segment, &mut self.terms, &self.first, &self.others);
+    }
+}
+
+// Passes over documents in which the phrase doesn't stand.
+fn settle(segment: &Segment, terms: &mut Conjunction<ListSource>, first: &Member, others: &[Member])
+    requires { AreMembersOf terms.old (first.now ∷ others.now) }
+    ensures same { filter (phrase_at (first.now ∷ others.now)) (common_of terms.new)
+        ≡ filter (phrase_at (first.now ∷ others.now)) (common_of terms.old) }
+    ensures settled { FirstPasses (phrase_at (first.now ∷ others.now)) (common_of terms.new) }
+    ensures follows { AllFollow terms.old terms.new }
+{
+    while let Some(_doc) = terms.doc() {
+        if stands(segment, terms, first, others) {
+            return;
+        }
+        terms.advance();
+    }
+}
+
+// Whether the phrase stands in the document at which its terms do.
+fn stands(
+    segment: &Segment,
+    terms: &Conjunction<ListSource>,
+    first: &Member,
+    others: &[Member],
+) -> bool
+    requires some { 0 < length (common_of terms.now) }
+    requires members { AreMembersOf terms.now (first.now ∷ others.now) }
+    ensures { (doc : ℕ) → slice_get (common_of terms.now) 0 ≡ Some doc
+        → result ≡ phrase_at (first.now ∷ others.now) doc }
+{
+    let mut positions = segment.positions(first.list, terms.lead_posting());
+    while let Some(position) = positions.next() {
+        if all_follow(segment, terms, others, first.offset, position) {
+            return true;
+        }
+    }
+    false
+}
+
+// Whether each of the other members stands as far behind a position as its offset is behind the first one's.
+fn all_follow(
+    segment: &Segment,
+    terms: &Conjunction<ListSource>,
+    others: &[Member],
+    offset: u32,
+    position: u32,
+) -> bool
+    requires some { 0 < length (common_of terms.now) }
+    requires members { (first : Member) × AreMembersOf terms.now (first ∷ others.now) }
+    ensures { (doc : ℕ) → slice_get (common_of terms.now) 0 ≡ Some doc
+        → result ≡ list_all (is_behind offset position doc) others.now }
+{
+    for (k, member) in others.iter().enumerate() {
+        let positions = segment.positions(member.list, terms.other_posting(k));
+        let sum = u64::from(position) + u64::from(member.offset);
+        if !has_position(positions, offset, sum) {
+            return false;
+        }
+    }
+    true
+}
+
+// Whether one of the positions makes a sum with an offset.
+fn has_position(positions: Positions, offset: u32, sum: u64) -> bool
+    ensures { result ≡ list_any (λ q. q + offset == sum) (positions_left positions.entry) }
+{
+    let mut positions = positions;
+    while let Some(position) = positions.next() {
+        if u64::from(position) + u64::from(offset) == sum {
+            return true;
+        }
+    }
+    false
+}

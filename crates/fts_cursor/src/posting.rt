@@ -1,0 +1,201 @@
+// A cursor over the blocks of one list, of which one is open at a time.
+ghost use Rattle.std.specs.Prelude.{◌≡◌, ℕ, ◌+◌, ◌^◌, ◌<◌, ◌≤◌, List, [], drop, length, min, slice_index, slice_index_or, take, if◌then◌else◌, nat_lt};
+ghost use Rattle.fts_pack.specs.Documents.{blocks_of, last_of};
+ghost use Rattle.fts_cursor.specs.Posting.{Follows, Walks, blocks_reached, opened_by_step, remaining_of};
+ghost use Rattle.fts_cursor.specs.Remaining.{at_least, IsPlaceOf};
+
+use crate::doc_set::DocSet;
+use fts_pack::Blocks;
+use std::marker::Model;
+
+/// A cursor over the blocks of one list. Its open block lies in the value.
+#[derive(Drop)]
+pub struct PostingCursor<B: Blocks> {
+    source: B,
+    block: usize,
+    at: usize,
+    len: usize,
+    opened: u64,
+    numbers: [u32; 128],
+}
+
+impl<B: Blocks> Model for PostingCursor<B> {
+    ghost use Rattle.fts_cursor.specs.Posting.{Posting, IsPosting};
+
+    ghost Value = { Posting };
+
+    ghost view = { λ c. record { blocks = B.contents c.source; block = c.block; at = c.at; opened = c.opened; count = B.openings c.source } };
+
+    ghost invariant = { λ c. IsPosting (B.contents c.source) c.block c.at c.len c.opened c.numbers };
+}
+
+impl<B: Blocks> PostingCursor<B> {
+    /// Opens the first block, if there is one.
+    pub fn new(blocks: B) -> PostingCursor<B>
+        ensures blocks { result.blocks ≡ B.contents blocks }
+        ensures first { (result.block ≡ 0) × (result.at ≡ 0) }
+        ensures opened { result.opened ≡ (if nat_lt 0 (length (B.contents blocks)) then 1 else 0) }
+        ensures counted { result.count ≡ B.openings blocks + result.opened }
+    {
+        let mut cursor = PostingCursor {
+            block: blocks.blocks(),
+            source: blocks,
+            at: 0,
+            len: 0,
+            opened: 0,
+            numbers: [0; 128],
+        };
+        cursor.enter(0);
+        cursor
+    }
+
+    /// The place in its list of the document at which it stands, where all blocks but the last have 128.
+    pub fn posting(&self) -> usize
+        requires stands { 0 < length (remaining_of self.now) }
+        requires few { length self.now.blocks ≤ 2 ^ 32 }
+        ensures { (documents : List ℕ) → self.now.blocks ≡ blocks_of documents
+            → drop result documents ≡ remaining_of self.now }
+    {
+        self.block * 128 + self.at
+    }
+
+    /// How many blocks were opened since it was made, the making included.
+    pub fn openings(&self) -> u64
+        ensures opened { result ≡ self.now.opened }
+        ensures bound { result ≤ blocks_reached self.now }
+        ensures end { remaining_of self.now ≡ [] → blocks_reached self.now
+            ≡ length self.now.blocks }
+    {
+        self.opened
+    }
+
+    // Leaves everything behind.
+    pub(crate) fn finish(&mut self)
+        ensures nothing { remaining_of self.new ≡ [] }
+        ensures follows { Follows self.old self.new }
+    {
+        self.block = self.source.blocks();
+        self.at = 0;
+        self.len = 0;
+    }
+
+    // Stands at the beginning of a block, or at the end.
+    fn enter(&mut self, block: usize)
+        requires few { self.old.opened ≤ block }
+        requires within { block ≤ length self.old.blocks }
+        ensures place { (self.new.block ≡ block) × (self.new.at ≡ 0) }
+        ensures opened { self.new.opened
+            ≡ self.old.opened + (if nat_lt block (length self.old.blocks) then 1 else 0) }
+        ensures follows { Follows self.old self.new }
+    {
+        self.block = block;
+        self.at = 0;
+        self.len = 0;
+        if block < self.source.blocks() {
+            self.len = self.source.open(block, &mut self.numbers);
+            self.opened += 1;
+        }
+    }
+}
+
+impl<B: Blocks> DocSet for PostingCursor<B> {
+    ghost remaining = { remaining_of };
+
+    #[inline]
+    fn doc(&self) -> Option<u32> {
+        if self.at < self.len {
+            Some(self.numbers[self.at])
+        } else {
+            None
+        }
+    }
+
+    /// Opens a block exactly where the open one ends here and another follows.
+    #[inline]
+    fn advance(&mut self)
+        ensures remaining { remaining_of self.new ≡ drop 1 (remaining_of self.old) }
+        ensures opened { self.new.opened ≡ self.old.opened + opened_by_step self.old }
+        ensures walks { Walks self.old self.new }
+    {
+        if self.at >= self.len {
+            return;
+        }
+        if self.at + 1 < self.len {
+            self.at += 1;
+        } else {
+            let next = self.block + 1;
+            self.enter(next);
+        }
+    }
+
+    /// Looks in the open block first, and else opens the one block in which the target lies or would lie, if there is one.
+    fn seek(&mut self, target: u32)
+        ensures remaining { remaining_of self.new ≡ at_least target (remaining_of self.old) }
+        ensures once { self.new.opened ≤ self.old.opened + 1 }
+        ensures follows { Follows self.old self.new }
+    {
+        if self.at >= self.len {
+            return;
+        }
+        if self.numbers[self.len - 1] < target {
+            let block = block_of(&self.source, self.block + 1, target);
+            self.enter(block);
+        }
+        self.at = place_of(&self.numbers, self.at, self.len, target);
+    }
+
+    /// Opens each block that it reaches.
+    fn fill(&mut self, out: &mut [u32; 128]) -> usize
+        ensures count { result ≡ min 128 (length (remaining_of self.old)) }
+        ensures taken { take result out.new ≡ take 128 (remaining_of self.old) }
+        ensures remaining { remaining_of self.new ≡ drop 128 (remaining_of self.old) }
+        ensures walks { Walks self.old self.new }
+    {
+        for filled in 0..128 {
+            match self.doc() {
+                Some(doc) => out[filled] = doc,
+                None => return filled,
+            }
+            self.advance();
+        }
+        128
+    }
+}
+
+// The first block from `from` on that ends with the target or more: the number of blocks where there is none.
+fn block_of<B: Blocks>(source: &B, from: usize, target: u32) -> usize
+    requires { from ≤ length (B.contents source.now) }
+    ensures { IsPlaceOf (λ k. last_of (slice_index_or (B.contents source.now) k [])) from
+        (length (B.contents source.now)) target result }
+{
+    let mut low = from;
+    let mut high = source.blocks();
+    while low < high {
+        let middle = low + (high - low) / 2;
+        if source.last(middle) < target {
+            low = middle + 1;
+        } else {
+            high = middle;
+        }
+    }
+    low
+}
+
+// The first place of those in `from..to` that has the target or more: `to` where there is none.
+pub(crate) fn place_of(numbers: &[u32], from: usize, to: usize, target: u32) -> usize
+    requires order { from ≤ to }
+    requires within { to ≤ length numbers.now }
+    ensures { IsPlaceOf (slice_index numbers.now) from to target result }
+{
+    let mut low = from;
+    let mut high = to;
+    while low < high {
+        let middle = low + (high - low) / 2;
+        if numbers[middle] < target {
+            low = middle + 1;
+        } else {
+            high = middle;
+        }
+    }
+    low
+}

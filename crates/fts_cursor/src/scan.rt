@@ -1,0 +1,128 @@
+// A cursor over the documents that are kept by their number alone.
+ghost use Rattle.std.specs.Prelude.{◌≡◌, ◌%◌, ◌^◌, ◌-◌, ◌<◌, ◌≤◌, length, slice_index, take};
+ghost use Rattle.fts_cursor.specs.Remaining.{at_least};
+ghost use Rattle.fts_cursor.specs.Scans.{AreFor, kept_from, kept_in};
+
+use crate::doc_set::DocSet;
+use crate::kept::{self, Kept};
+use crate::posting::place_of;
+use std::marker::Model;
+
+/// A cursor over the documents that are kept. Those of the stretch in which it stands lie in the value.
+#[derive(Drop)]
+pub(crate) struct ScanCursor<'a> {
+    kept: Kept<'a>,
+    docs: usize,
+    from: usize,
+    at: usize,
+    len: usize,
+    numbers: [u32; 128],
+}
+
+impl<'a> Model for ScanCursor<'a> {
+    ghost use Rattle.std.specs.Prelude.{ℕ, List, drop};
+    ghost use Rattle.fts_cursor.specs.Scans.{IsScan, kept_from};
+
+    ghost Value = { List ℕ };
+
+    ghost view = { λ s. drop s.at (kept_from s.kept s.from s.docs) };
+
+    ghost invariant = { λ s. IsScan s.kept s.docs s.from s.at s.len s.numbers };
+}
+
+impl<'a> ScanCursor<'a> {
+    /// Of so many documents.
+    pub(crate) fn new(kept: Kept<'a>, docs: usize) -> ScanCursor<'a>
+        requires few { docs ≤ 2 ^ 32 }
+        requires are_for { AreFor kept docs }
+        ensures { result ≡ kept_from kept.entry 0 docs }
+    {
+        let mut numbers = [0; 128];
+        let (from, len) = find(kept, docs, 0, 0, &mut numbers);
+        ScanCursor {
+            kept,
+            docs,
+            from,
+            at: 0,
+            len,
+            numbers,
+        }
+    }
+}
+
+impl DocSet for ScanCursor<'_> {
+    ghost remaining = { λ s. s };
+
+    #[inline]
+    fn doc(&self) -> Option<u32> {
+        if self.at < self.len {
+            Some(self.numbers[self.at])
+        } else {
+            None
+        }
+    }
+
+    #[inline]
+    fn advance(&mut self) {
+        if self.at >= self.len {
+            return;
+        }
+        if self.at + 1 < self.len {
+            self.at += 1;
+        } else {
+            let next = self.from + 128;
+            let (from, len) = find(self.kept, self.docs, next, 0, &mut self.numbers);
+            self.from = from;
+            self.at = 0;
+            self.len = len;
+        }
+    }
+
+    /// Looks in the stretch in which it stands first, and else begins at that of the target.
+    fn seek(&mut self, target: u32) {
+        if self.at >= self.len {
+            return;
+        }
+        if self.numbers[self.len - 1] < target {
+            let next = (self.from + 128).max(target as usize / 128 * 128);
+            let (from, len) = find(self.kept, self.docs, next, target, &mut self.numbers);
+            self.from = from;
+            self.at = 0;
+            self.len = len;
+        }
+        self.at = place_of(&self.numbers, self.at, self.len, target);
+    }
+}
+
+// The first stretch from one on in which a document of the target or more is kept, and how many are kept there: they lie
+// at the front of `numbers`.
+fn find(
+    kept: Kept,
+    docs: usize,
+    from: usize,
+    target: u32,
+    numbers: &mut [u32; 128],
+) -> (usize, usize)
+    requires few { docs ≤ 2 ^ 32 }
+    requires are_for { AreFor kept docs }
+    requires aligned { from % 64 ≡ 0 }
+    requires near { from ≤ 2 ^ 33 }
+    ensures aligned { result.0 % 64 ≡ 0 }
+    ensures near { result.0 ≤ 2 ^ 33 }
+    ensures same { at_least target (kept_from kept.entry result.0 docs)
+        ≡ at_least target (kept_from kept.entry from docs) }
+    ensures some { result.0 < docs → 0 < result.1 }
+    ensures reaches { result.0 < docs → target ≤ slice_index numbers.new (result.1 - 1) }
+    ensures count { result.1 ≡ length (kept_in kept.entry result.0 docs) }
+    ensures written { take result.1 numbers.new ≡ kept_in kept.entry result.0 docs }
+{
+    let mut from = from;
+    while from < docs {
+        let len = kept::write(kept, docs, from, numbers);
+        if len > 0 && numbers[len - 1] >= target {
+            return (from, len);
+        }
+        from += 128;
+    }
+    (from, 0)
+}

@@ -1,0 +1,149 @@
+// The cursor of queries that are terms and must all match: one conjunction, led by the shortest list.
+ghost use Rattle.std.specs.Prelude.{◌≡◌, ◌≢◌, ℕ, ◌+◌, ◌-◌, ◌*◌, ◌≤◌, ◌<◌, ◌∷◌, [], false, true, IfOk, MatchOption, length, map, nat_lt, if◌then◌else◌};
+ghost use Rattle.std.specs.List.{AllZip, list_all};
+ghost use Rattle.fts_model.specs.Queries.{matches};
+ghost use Rattle.fts_model.specs.QueryValues.{query_value};
+ghost use Rattle.fts_pack.specs.Documents.{block_count};
+ghost use Rattle.fts_segment.specs.Segments.{numbers_where};
+ghost use Rattle.fts_cursor.specs.Builds.{is_term};
+ghost use Rattle.fts_cursor.specs.Hits.{segment_hits};
+ghost use Rattle.fts_cursor.specs.Leading.{IsLed, IsOver, fewest};
+ghost use Rattle.fts_cursor.specs.Meeting.{in_all};
+
+use crate::conjunction::Conjunction;
+use crate::posting::PostingCursor;
+use crate::tree::Tree;
+use fts_model::Query;
+use fts_pack::{List, ListSource};
+use fts_segment::Segment;
+use std::alloc::{AllocError, Global};
+
+/// Whether each of the queries is a term.
+pub(crate) fn are_terms(queries: &[Query]) -> bool
+    ensures { result ≡ list_all (λ q. is_term (query_value q)) queries.now }
+{
+    for query in queries {
+        if !is_term(query) {
+            return false;
+        }
+    }
+    true
+}
+
+/// The documents that have each of the terms.
+pub(crate) fn of_terms<'a>(
+    alloc: Global,
+    segment: &'a Segment,
+    queries: &[Query],
+) -> Result<Tree<'a>, AllocError>
+    requires some { 0 < length queries.now }
+    requires terms { list_all (λ q. is_term (query_value q)) queries.now ≡ true }
+    ensures remaining { IfOk result (λ t. t.remaining ≡ numbers_where
+        (λ d. list_all (λ q. matches segment.now.schema d.value (query_value q)) queries.now)
+        0 segment.now.documents) }
+    ensures most { IfOk result (λ t.
+        let least = fewest (map (λ q. segment_hits segment.now (query_value q)) queries.now) in
+        t.most ≤ block_count least + (length queries.now - 1) * (least + 1)) }
+    ensures opened { IfOk result (λ t. t.remaining ≢ [] → length queries.now ≤ t.openings) }
+{
+    let Some(lists) = lists_of(alloc, segment, queries)? else {
+        return Ok(Tree::nothing());
+    };
+    let lead = cursor_over(lists.shortest);
+    let others = cursors_over(alloc, &lists.others)?;
+    Ok(Tree::terms(Conjunction::new(lead, others)))
+}
+
+// Lists, of which the shortest leads.
+#[derive(Drop)]
+struct Lists<'a> {
+    shortest: &'a List,
+    others: Vec<&'a List>,
+}
+
+// The lists of terms, and none where no document has all of them.
+fn lists_of<'a>(
+    alloc: Global,
+    segment: &'a Segment,
+    queries: &[Query],
+) -> Result<Option<Lists<'a>>, AllocError>
+    requires some { 0 < length queries.now }
+    requires terms { list_all (λ q. is_term (query_value q)) queries.now ≡ true }
+    ensures { IfOk result (λ found.
+        let hits = map (λ q. segment_hits segment.now (query_value q)) queries.now in
+        MatchOption found
+        ((d : ℕ) → in_all hits d ≡ false)
+        (λ lists. IsLed hits lists.shortest.now (map (λ l. l.now) lists.others.items))) }
+{
+    let Some(mut shortest) = list_of(segment, &queries[0]) else {
+        return Ok(None);
+    };
+    let mut others = Vec::with_capacity(alloc, queries.len())?;
+    for place in 1..queries.len() {
+        let Some(list) = list_of(segment, &queries[place]) else {
+            return Ok(None);
+        };
+        let (shorter, longer) = by_length(shortest, list);
+        shortest = shorter;
+        others.push(longer)?;
+    }
+    Ok(Some(Lists { shortest, others }))
+}
+
+// The list of a term, and none where no document has it.
+fn list_of<'a>(segment: &'a Segment, query: &Query) -> Option<&'a List>
+    requires { is_term (query_value query.now) ≡ true }
+    ensures { MatchOption result
+        (segment_hits segment.now (query_value query.now) ≡ [])
+        (λ list. list.now ≡ segment_hits segment.now (query_value query.now)) }
+{
+    let Query::Term(term) = query else {
+        unreachable!();
+    };
+    Some(segment.postings(segment.find(term)?))
+}
+
+// Two lists, the shorter first.
+fn by_length<'a>(a: &'a List, b: &'a List) -> (&'a List, &'a List)
+    ensures shorter { result.0.now
+        ≡ (if nat_lt (length b.now) (length a.now) then b.now else a.now) }
+    ensures longer { result.1.now
+        ≡ (if nat_lt (length b.now) (length a.now) then a.now else b.now) }
+{
+    if b.len() < a.len() { (b, a) } else { (a, b) }
+}
+
+/// A cursor over a list.
+pub(crate) fn cursor_over(list: &List) -> PostingCursor<ListSource<'_>>
+    ensures { IsOver result list.now }
+{
+    PostingCursor::new(list.source())
+}
+
+// A cursor over each list.
+fn cursors_over<'a>(
+    alloc: Global,
+    lists: &[&'a List],
+) -> Result<Vec<PostingCursor<ListSource<'a>>>, AllocError>
+    ensures { IfOk result (λ cursors. AllZip (λ p l. IsOver p l.now) cursors.items lists.now) }
+{
+    let mut cursors = Vec::with_capacity(alloc, lists.len())?;
+    for list in lists {
+        cursors.push(cursor_over(list))?;
+    }
+    Ok(cursors)
+}
+
+// Whether the query is a term.
+fn is_term(query: &Query) -> bool
+    ensures { result ≡ is_term (query_value query.now) }
+{
+    match query {
+        Query::Term(_) => true,
+        Query::All
+        | Query::None
+        | Query::Phrase { .. }
+        | Query::Range { .. }
+        | Query::Bool { .. } => false,
+    }
+}

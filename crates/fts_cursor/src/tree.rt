@@ -1,0 +1,450 @@
+// Cursors of queries within one another, each of which knows the first document that remains of it.
+ghost use Rattle.std.specs.Prelude.{◌≡◌, ◌≢◌, ℕ, ◌+◌, ◌-◌, ◌^◌, ◌<◌, ◌≤◌, ◌∷◌, All, [], true, MatchBool, drop, length, min, slice_get};
+ghost use Rattle.std.specs.List.{AllZip};
+ghost use Rattle.std.specs.List.Sorted.{IsStrictlyIncreasing};
+ghost use Rattle.fts_cursor.specs.Conjoined.{IsAhead, common_of, counts_of, most_of};
+ghost use Rattle.fts_cursor.specs.Meeting.{IsLeast, common, in_all, lacks, lesser_of, union, without};
+ghost use Rattle.fts_cursor.specs.Posting.{blocks_reached, remaining_of};
+ghost use Rattle.fts_cursor.specs.Remaining.{at_least};
+ghost use Rattle.fts_cursor.specs.Standing.{Continues, Left, Narrowed, Standing, Walked, all_most, all_openings, remains};
+ghost use Rattle.fts_cursor.specs.Trees.{IsNow, Met, StandsAt, differ, meet, standing};
+
+use crate::conjunction::Conjunction;
+use crate::doc_set::DocSet;
+use crate::phrase::PhraseCursor;
+use crate::posting::PostingCursor;
+use crate::scan::ScanCursor;
+use fts_pack::ListSource;
+use std::marker::Model;
+
+/// The documents that match a query.
+#[cycle(tree)]
+#[derive(Drop)]
+pub(crate) struct Tree<'a> {
+    doc: Option<u32>,
+    node: Node<'a>,
+}
+
+#[cycle(tree)]
+#[derive(Drop)]
+enum Node<'a> {
+    Nothing,
+    Scan(ScanCursor<'a>),
+    Postings(PostingCursor<ListSource<'a>>),
+    Terms(Conjunction<ListSource<'a>>),
+    Phrase(PhraseCursor<'a>),
+    And(Meeting<'a>),
+    Or(Vec<Tree<'a>>),
+    Without(Difference<'a>),
+}
+
+// What all have in common: one leads.
+#[cycle(tree)]
+#[derive(Drop)]
+struct Meeting<'a> {
+    lead: Box<Tree<'a>>,
+    others: Vec<Tree<'a>>,
+}
+
+// What the first has and the second doesn't.
+#[cycle(tree)]
+#[derive(Drop)]
+struct Difference<'a> {
+    kept: Box<Tree<'a>>,
+    dropped: Box<Tree<'a>>,
+}
+
+impl<'a> Model for Tree<'a> {
+    ghost use Rattle.fts_cursor.specs.Standing.{Standing};
+
+    ghost Value = { Standing };
+
+    ghost use Rattle.fts_cursor.specs.Trees.{standing, StandsAt};
+
+    ghost view = { λ c. standing c.node };
+
+    ghost invariant = { λ c. StandsAt c.doc c.node };
+
+    ghost size = { λ s. s.height };
+
+    ghost use Rattle.fts_cursor.specs.Falls.{node_falls};
+
+    ghost size_decreases = { λ c h. node_falls c.node };
+}
+
+impl<'a> Tree<'a> {
+    /// Of no document.
+    pub(crate) fn nothing() -> Tree<'a>
+        ensures remaining { result.remaining ≡ [] }
+        ensures counts { (result.openings ≡ 0) × (result.most ≡ 0) × (result.whole ≡ true) }
+    {
+        Tree {
+            doc: None,
+            node: Node::Nothing,
+        }
+    }
+
+    /// Of what is found by the number alone.
+    pub(crate) fn scan(scan: ScanCursor<'a>) -> Tree<'a>
+        ensures remaining { result.remaining ≡ scan.entry }
+        ensures counts { (result.openings ≡ 0) × (result.most ≡ 0) }
+    {
+        let doc = scan.doc();
+        Tree {
+            doc,
+            node: Node::Scan(scan),
+        }
+    }
+
+    /// Of a list.
+    pub(crate) fn postings(postings: PostingCursor<ListSource<'a>>) -> Tree<'a>
+        requires tied { postings.count ≡ postings.opened }
+        ensures remaining { result.remaining ≡ remaining_of postings.entry }
+        ensures openings { result.openings ≡ postings.entry.opened }
+        ensures most { result.most ≡ length postings.entry.blocks }
+        ensures whole { postings.entry.opened ≡ blocks_reached postings.entry
+            → result.whole ≡ true }
+    {
+        let doc = postings.doc();
+        Tree {
+            doc,
+            node: Node::Postings(postings),
+        }
+    }
+
+    /// Of what lists have in common.
+    pub(crate) fn terms(terms: Conjunction<ListSource<'a>>) -> Tree<'a>
+        requires lead { terms.lead.count ≡ terms.lead.opened }
+        requires others { All (λ p. p.count ≡ p.opened) terms.others }
+        ensures remaining { result.remaining ≡ common_of terms.entry }
+        ensures openings { result.openings ≡ counts_of terms.entry }
+        ensures most { result.most ≡ most_of terms.entry }
+    {
+        let doc = terms.doc();
+        Tree {
+            doc,
+            node: Node::Terms(terms),
+        }
+    }
+
+    /// Of a phrase.
+    pub(crate) fn phrase(phrase: PhraseCursor<'a>) -> Tree<'a>
+        ensures { result.remaining ≡ phrase.entry.remaining }
+    {
+        let doc = phrase.doc();
+        Tree {
+            doc,
+            node: Node::Phrase(phrase),
+        }
+    }
+
+    /// Of what all have in common. The one that leads is best the one with the fewest documents.
+    pub(crate) fn and(lead: Box<Tree<'a>>, others: Vec<Tree<'a>>) -> Tree<'a>
+        ensures { result.remaining ≡ common lead.entry.value.remaining (remains others.entry.items) }
+    {
+        let mut parts = Meeting { lead, others };
+        let doc = align_parts(&mut parts);
+        Tree {
+            doc,
+            node: Node::And(parts),
+        }
+    }
+
+    /// Of what one of them has.
+    pub(crate) fn or(parts: Vec<Tree<'a>>) -> Tree<'a>
+        ensures { result.remaining ≡ union (remains parts.entry.items) }
+    {
+        let mut parts = parts;
+        let doc = seek_each(&mut parts, 0);
+        Tree {
+            doc,
+            node: Node::Or(parts),
+        }
+    }
+
+    /// The same, where it is the part itself if there is one alone.
+    pub(crate) fn any(parts: Vec<Tree<'a>>) -> Tree<'a>
+        ensures remaining { result.remaining ≡ union (remains parts.entry.items) }
+        ensures alone { (part : Standing) → parts.entry.items ≡ part ∷ [] → result ≡ part }
+        ensures none { parts.entry.items ≡ [] → result.most ≡ 0 }
+    {
+        if parts.is_empty() {
+            return Tree::nothing();
+        }
+        let mut parts = parts;
+        if parts.len() == 1 {
+            if let Some(part) = parts.pop() {
+                // Shows the proof that its documents rise.
+                let _ = &part.doc;
+                return part;
+            }
+        }
+        Tree::or(parts)
+    }
+
+    /// Of what the first has and the second doesn't.
+    pub(crate) fn without(kept: Box<Tree<'a>>, dropped: Box<Tree<'a>>) -> Tree<'a>
+        ensures { result.remaining ≡ without kept.entry.value.remaining dropped.entry.value.remaining }
+    {
+        let mut parts = Difference { kept, dropped };
+        let doc = settle(&mut parts);
+        Tree {
+            doc,
+            node: Node::Without(parts),
+        }
+    }
+
+    /// How many blocks were opened since the cursors were made, the making included, or the greatest `u64`.
+    #[cycle(openings)]
+    pub(crate) fn openings(&self) -> u64
+        ensures sum { result ≡ min (2 ^ 64 - 1) self.now.openings }
+        ensures bound { self.now.openings ≤ self.now.most }
+        ensures end { self.now.whole ≡ true → self.now.remaining ≡ []
+            → self.now.openings ≡ self.now.most }
+    {
+        match &self.node {
+            Node::Nothing | Node::Scan(_) => 0,
+            Node::Postings(postings) => postings.openings(),
+            Node::Terms(terms) => terms.openings(),
+            Node::Phrase(phrase) => phrase.openings(),
+            Node::And(parts) => parts
+                .lead
+                .openings()
+                .saturating_add(openings_in(&parts.others)),
+            Node::Or(parts) => openings_in(parts),
+            Node::Without(parts) => parts
+                .kept
+                .openings()
+                .saturating_add(parts.dropped.openings()),
+        }
+    }
+
+    /// The first document that remains.
+    #[inline]
+    pub(crate) fn doc(&self) -> Option<u32>
+        ensures first { result ≡ slice_get self.now.remaining 0 }
+        ensures rises { IsStrictlyIncreasing self.now.remaining }
+    {
+        self.doc
+    }
+
+    /// Leaves the first document behind.
+    #[cycle(tree)]
+    pub(crate) fn advance(&mut self)
+        ensures remaining { self.new.remaining ≡ drop 1 self.old.remaining }
+        ensures walked { Walked self.old self.new }
+    {
+        if let Some(doc) = self.doc {
+            self.doc = step(&mut self.node, doc);
+        }
+    }
+
+    /// Leaves behind what lies before the target.
+    #[cycle(tree)]
+    pub(crate) fn seek(&mut self, target: u32)
+        ensures remaining { self.new.remaining ≡ at_least target self.old.remaining }
+        ensures continues { Continues self.old self.new }
+    {
+        if let Some(doc) = self.doc {
+            if doc < target {
+                self.doc = skip(&mut self.node, target);
+            }
+        }
+    }
+}
+
+// How many blocks all of them opened.
+#[cycle(openings)]
+fn openings_in(parts: &[Tree]) -> u64
+    ensures sum { result ≡ min (2 ^ 64 - 1) (all_openings parts.now) }
+    ensures bound { all_openings parts.now ≤ all_most parts.now }
+{
+    let mut sum = 0u64;
+    for part in parts {
+        sum = sum.saturating_add(part.openings());
+    }
+    sum
+}
+
+// Leaves the node's first document behind, and gives the next.
+#[cycle(tree)]
+fn step(node: &mut Node, doc: u32) -> Option<u32>
+    requires { StandsAt (Some doc) node.old }
+    ensures now { IsNow result node.new (drop 1 (standing node.old).remaining) }
+    ensures walked { Walked (standing node.old) (standing node.new) }
+{
+    match node {
+        Node::Nothing => None,
+        Node::Scan(scan) => {
+            scan.advance();
+            scan.doc()
+        }
+        Node::Postings(postings) => {
+            postings.advance();
+            postings.doc()
+        }
+        Node::Terms(terms) => {
+            terms.advance();
+            terms.doc()
+        }
+        Node::Phrase(phrase) => {
+            phrase.advance();
+            phrase.doc()
+        }
+        Node::And(parts) => {
+            parts.lead.advance();
+            align_parts(parts)
+        }
+        Node::Or(parts) => pass(parts, doc),
+        Node::Without(parts) => {
+            parts.kept.advance();
+            settle(parts)
+        }
+    }
+}
+
+// Leaves behind what lies before the target, and gives the first document from there on.
+#[cycle(tree)]
+fn skip(node: &mut Node, target: u32) -> Option<u32>
+    requires { (doc : ℕ) × StandsAt (Some doc) node.old × (doc < target) }
+    ensures now { IsNow result node.new (at_least target (standing node.old).remaining) }
+    ensures continues { Continues (standing node.old) (standing node.new) }
+{
+    match node {
+        Node::Nothing => None,
+        Node::Scan(scan) => {
+            scan.seek(target);
+            scan.doc()
+        }
+        Node::Postings(postings) => {
+            postings.seek(target);
+            postings.doc()
+        }
+        Node::Terms(terms) => {
+            terms.seek(target);
+            terms.doc()
+        }
+        Node::Phrase(phrase) => {
+            phrase.seek(target);
+            phrase.doc()
+        }
+        Node::And(parts) => {
+            parts.lead.seek(target);
+            align_parts(parts)
+        }
+        Node::Or(parts) => seek_each(parts, target),
+        Node::Without(parts) => {
+            parts.kept.seek(target);
+            settle(parts)
+        }
+    }
+}
+
+// Seeks the document with each in turn, and gives the first that all may have: that one, where all stand at it, or a
+// later one. `None` where one of them is at its end.
+#[cycle(tree)]
+fn bring_parts(others: &mut [Tree], doc: u32) -> Option<u32>
+    ensures each { AllZip (Narrowed doc) others.old others.new }
+    ensures next { IsAhead doc (remains others.new) result }
+{
+    for other in others.iter_mut() {
+        other.seek(doc);
+        let next = other.doc()?;
+        if next != doc {
+            return Some(next);
+        }
+    }
+    Some(doc)
+}
+
+// Brings all to the first document that they have in common, and gives it.
+#[cycle(tree)]
+fn align_parts(parts: &mut Meeting) -> Option<u32>
+    ensures met { Met result (meet parts.old) (in_all (remains parts.new.others.items))
+        parts.new.lead.value.remaining }
+    ensures continues { Continues (standing (Node.And parts.old)) (standing (Node.And parts.new)) }
+{
+    while let Some(doc) = parts.lead.doc() {
+        match bring_parts(&mut parts.others, doc) {
+            Some(next) if next == doc => return Some(doc),
+            Some(next) => parts.lead.seek(next),
+            None => return None,
+        }
+    }
+    None
+}
+
+// Brings the first to the first of its documents that the second doesn't have, and gives it.
+#[cycle(tree)]
+fn settle(parts: &mut Difference) -> Option<u32>
+    ensures met { Met result (differ parts.old) (lacks parts.new.dropped.value.remaining)
+        parts.new.kept.value.remaining }
+    ensures continues { Continues (standing (Node.Without parts.old)) (standing (Node.Without parts.new)) }
+{
+    while let Some(doc) = parts.kept.doc() {
+        parts.dropped.seek(doc);
+        let found = parts.dropped.doc();
+        if !is_at(found, doc) {
+            return Some(doc);
+        }
+        parts.kept.advance();
+    }
+    None
+}
+
+// Whether it is that document.
+fn is_at(found: Option<u32>, doc: u32) -> bool
+    ensures { MatchBool result (found ≡ Some doc) (found ≢ Some doc) }
+{
+    match found {
+        Some(other) => other == doc,
+        None => false,
+    }
+}
+
+// The lesser of two documents, if there is one.
+fn lesser(a: Option<u32>, b: u32) -> Option<u32>
+    ensures { result ≡ lesser_of a b }
+{
+    match a {
+        Some(a) if a < b => Some(a),
+        _ => Some(b),
+    }
+}
+
+// Leaves the first document of all behind, and gives the next.
+#[cycle(tree)]
+fn pass(parts: &mut [Tree], doc: u32) -> Option<u32>
+    requires { All (λ part. part.remaining ≡ at_least doc part.remaining) parts.old }
+    ensures each { AllZip (Left (doc + 1)) parts.old parts.new }
+    ensures least { IsLeast result (remains parts.new) }
+{
+    let mut least = None;
+    for part in parts.iter_mut() {
+        if let Some(first) = part.doc() {
+            if first == doc {
+                part.advance();
+            }
+        }
+        if let Some(first) = part.doc() {
+            least = lesser(least, first);
+        }
+    }
+    least
+}
+
+// Leaves behind what lies before the target in each, and gives the first document of all.
+#[cycle(tree)]
+fn seek_each(parts: &mut [Tree], target: u32) -> Option<u32>
+    ensures each { AllZip (Left target) parts.old parts.new }
+    ensures least { IsLeast result (remains parts.new) }
+{
+    let mut least = None;
+    for part in parts.iter_mut() {
+        part.seek(target);
+        if let Some(first) = part.doc() {
+            least = lesser(least, first);
+        }
+    }
+    least
+}
