@@ -1,0 +1,64 @@
+-- What documents that fit a schema have in its number fields.
+use Rattle.std.proofs.Common.{◌≡◌, ℕ, zero, suc, true, false, ◌&&◌, Bool, List, [], ◌∷◌, Option, Some, None, refl, subst, All, get_or}
+use Rattle.std.specs.Prelude.{option_and_then, slice_get}
+use Rattle.std.specs.Str.{bytes_eq}
+use Rattle.fts_model.specs.declared.schema.Kind.{Kind}
+use Rattle.fts_model.specs.declared.schema.Kind.TheVariants as kinds
+use Rattle.fts_model.specs.declared.schema.Field.{Field}
+use Rattle.fts_model.specs.declared.value.FieldValue.{FieldValue}
+use Rattle.fts_model.specs.declared.value.FieldValue.TheVariants as values
+use Rattle.fts_model.specs.declared.value.Number.TheVariants as numbers
+use Rattle.fts_model.specs.declared.operation.Stamped.{Stamped}
+use Rattle.fts_model.specs.Schemas.{holds_numbers}
+use Rattle.fts_model.specs.Documents.{DocumentValue, AreValuesOf, CanHave, IsDocument, fits, fits_fields, is_of_kind, is_value_of, may_stand}
+use Rattle.fts_model.specs.Operations.{kind_at}
+use Rattle.fts_segment.specs.Segments.{SegmentValue}
+use Rattle.fts_collect.specs.Internals.Collected.{HasNumbers}
+
+-- both of two tests
+pub both : (a b : Bool) → (a && b) ≡ true → (a ≡ true) × (b ≡ true)
+both true b h = (refl, h)
+both false b h = cc
+
+-- a value of some field that is of the kind of a number field is a value of that
+value_can : (kind other : Kind) (v : FieldValue) → holds_numbers kind ≡ true → is_of_kind kind v ≡ true → is_value_of other v ≡ true → is_value_of kind v ≡ true
+value_can kinds.Text other v holds is can = cc
+value_can kinds.Keyword other v holds is can = cc
+value_can kinds.U64 other (values.Text text) holds is can = cc
+value_can kinds.U64 other (values.Number (numbers.I64 z)) holds is can = cc
+value_can kinds.U64 kinds.Text (values.Number (numbers.U64 n)) holds is can = cc
+value_can kinds.U64 kinds.Keyword (values.Number (numbers.U64 n)) holds is can = cc
+value_can kinds.U64 kinds.U64 (values.Number (numbers.U64 n)) holds is can = can
+value_can kinds.U64 kinds.I64 (values.Number (numbers.U64 n)) holds is can = cc
+value_can kinds.I64 other (values.Text text) holds is can = cc
+value_can kinds.I64 other (values.Number (numbers.U64 n)) holds is can = cc
+value_can kinds.I64 kinds.Text (values.Number (numbers.I64 z)) holds is can = cc
+value_can kinds.I64 kinds.Keyword (values.Number (numbers.I64 z)) holds is can = cc
+value_can kinds.I64 kinds.U64 (values.Number (numbers.I64 z)) holds is can = cc
+value_can kinds.I64 kinds.I64 (values.Number (numbers.I64 z)) holds is can = can
+
+-- what may stand in a number field is what it can have
+may_can : (there field : Field) (v : Option FieldValue) (kind : Kind) → CanHave field.kind v → may_stand (Some there) field v ≡ true → there.kind ≡ kind → holds_numbers kind ≡ true → CanHave kind v
+may_can there field None kind can stands same holds = tt
+may_can there field (Some v) kind can stands same holds =
+    let P : Kind → Type 0 = λ k. is_of_kind k v ≡ true in
+    value_can kind field.kind v holds (subst P same (both (bytes_eq field.name there.name) (is_of_kind there.kind v) stands).1) can
+
+-- each of values that fit a schema is one that the number field of its number can have
+field_can : (schema fields : List Field) (vs : List (Option FieldValue)) (field : ℕ) (kind : Kind) → AreValuesOf fields vs → fits_fields schema fields vs ≡ true →
+    kind_at schema field ≡ Some kind → holds_numbers kind ≡ true → CanHave kind (option_and_then (λ v. v) (slice_get vs field))
+field_can schema [] [] field kind are fit known holds = tt
+field_can schema [] (v ∷ vs) field kind are fit known holds = absurd are
+field_can schema (f ∷ fs) [] field kind are fit known holds = absurd are
+field_can [] (f ∷ fs) (v ∷ vs) field kind are fit known holds = let no : None ≡ Some kind = known in cc
+field_can (s ∷ ss) (f ∷ fs) (v ∷ vs) zero kind are fit known holds =
+    let there : Some s.kind ≡ Some kind = known in
+    may_can s f v kind are.0 (both (may_stand (Some s) f v) (fits_fields ss fs vs) fit).0 (cc) holds
+field_can (s ∷ ss) (f ∷ fs) (v ∷ vs) (suc field) kind are fit known holds =
+    field_can ss fs vs field kind are.1 (both (may_stand (Some s) f v) (fits_fields ss fs vs) fit).1 known holds
+
+-- documents that fit the schema of their segment have numbers where it says so
+pub has_numbers : (segment : SegmentValue) → All (λ d. IsDocument d.value) segment.documents → All (λ d. fits segment.schema d.value ≡ true) segment.documents → HasNumbers segment
+has_numbers segment documents fit field kind known holds k d within =
+    let at : Stamped DocumentValue = get_or segment.documents k d in
+    field_can segment.schema at.value.schema at.value.values field kind (documents k d within).1 (fit k d within) known holds

@@ -1,0 +1,14 @@
+pub mod ApartLemmas
+pub mod CollectLemmas
+pub mod FirstLemmas
+pub mod FitLemmas
+pub mod GroupsLemmas
+pub mod KeysLemmas
+pub mod LiveLemmas
+pub mod NumbersLemmas
+pub mod OpeningsLemmas
+pub mod PartsLemmas
+pub mod RankingLemmas
+pub mod SeenLemmas
+pub mod TallyLemmas
+pub mod ValuesLemmas

@@ -1,0 +1,63 @@
+-- How many blocks were opened, and how many musts a query has.
+use Rattle.std.proofs.Common.{◌≡◌, ◌≢◌, ℕ, ◌-◌, ◌^◌, ◌<◌, ◌≤◌, List, [], ◌∷◌, length, map, min, refl, sym, ap, ◌∙◌, arith}
+use Rattle.std.proofs.lemmas.List.{length-map}
+use Rattle.fts_model.specs.declared.operation.Term.{Term}
+use Rattle.fts_model.specs.declared.query.Query.TheOpen.{Query-F}
+use Rattle.fts_model.specs.declared.query.Query.TheViews as views
+use Rattle.fts_model.specs.declared.query.Query.TheVariants.{rolls-Bool}
+use Rattle.fts_model.specs.declared.query.Query.TheFolds.{fold-roll-Query}
+use Rattle.fts_model.specs.QueryValues.{QueryValue, boolean, no_queries, term, query_list, value_by_parts, query_value}
+use Rattle.fts_model.specs.declared.operation.Stamped.{Stamped}
+use Rattle.fts_model.specs.declared.query.Request.{Request}
+use Rattle.fts_model.specs.Documents.{DocumentValue}
+use Rattle.fts_model.specs.Operations.{has}
+use Rattle.fts_model.specs.Answers.{AnswerValue, answer_of}
+use Rattle.fts_segment.specs.Segments.{SegmentValue}
+use Rattle.fts_cursor.specs.Openings.{HasMusts, blocks_with}
+use Rattle.fts_cursor.specs.Standing.{Standing, Walked}
+use Rattle.fts_collect.specs.Internals.Collected.{hits_at}
+use Rattle.fts_collect.proofs.LiveLemmas.{length-numbers_where}
+
+-- lists of one value are as long
+query_list-length : (xs ys : List QueryValue) → query_list xs ≡ query_list ys → length xs ≡ length ys
+query_list-length [] [] same = refl
+query_list-length [] (y ∷ ys) same = cc
+query_list-length (x ∷ xs) [] same = cc
+query_list-length (x ∷ xs) (y ∷ ys) same =
+    let rest : query_list xs ≡ query_list ys = cc in
+    omega (arith, query_list-length xs ys rest)
+
+-- a query that has these terms as its musts has as many musts
+pub musts-length : (must must_not should : _) (terms : List Term) → HasMusts (query_value (views.Bool must must_not should)) terms → length must.items ≡ length terms
+musts-length must must_not should terms has =
+    let whole : boolean (query_list (map query_value must.items)) (query_list (map query_value must_not.items)) (query_list (map query_value should.items))
+    ≡ boolean (query_list (map term terms)) no_queries no_queries =
+    sym (ap query_value (sym (rolls-Bool must must_not should)) ∙ fold-roll-Query QueryValue value_by_parts (Query-F.Bool must must_not should)) ∙ has in
+    let same : query_list (map query_value must.items) ≡ query_list (map term terms) = cc in
+    sym (length-map must.items query_value) ∙ query_list-length (map query_value must.items) (map term terms) same ∙ length-map terms term
+
+-- a cursor that walked and walked on
+pub walked-on : (a b c : Standing) → Walked a b → Walked b c → Walked a c
+walked-on a b c first second = record {
+  continues = record {
+    most = second.continues.most ∙ first.continues.most;
+    more = omega (arith, first.continues.more, second.continues.more);
+    height = second.continues.height ∙ first.continues.height;
+  };
+  whole = λ w. second.whole (first.whole w);
+}
+
+-- the blocks of a term can be counted in 64 bits
+pub blocks-few : (segment : SegmentValue) (t : Term) → length segment.documents ≤ 2 ^ 32 → min (2 ^ 64 - 1) (blocks_with segment t) ≡ blocks_with segment t
+blocks-few segment t few = omega (arith, few, length-numbers_where (λ (d : Stamped DocumentValue). has segment.schema d.value t) 0 segment.documents)
+
+-- one number is at most another, and that at most a third
+pub at_most : (a b c : ℕ) → a ≤ b → b ≤ c → a ≤ c
+at_most a b c first second = omega arith
+
+-- where hits are counted, there are hits
+pub some_hits : (segment : SegmentValue) (request : Request) (docs : List ℕ) (answer : AnswerValue) → answer ≡ answer_of request (hits_at segment docs) → 0 < answer.count → docs ≢ []
+some_hits segment request docs answer is some none =
+    let counted : answer.count ≡ length (hits_at segment docs) = ap (λ (a : AnswerValue). a.count) is in
+    let nothing : length (hits_at segment docs) ≡ 0 = ap (λ ds. length (hits_at segment ds)) none in
+    omega (arith, counted, nothing, some)

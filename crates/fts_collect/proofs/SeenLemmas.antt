@@ -1,0 +1,73 @@
+-- How the hits of a cursor are seen, some at a time.
+use Rattle.std.proofs.Common.{◌≡◌, ℕ, ◌+◌, ◌<◌, List, [], ◌∷◌, ◌++◌, length, take, drop, Some, None, Option, refl, sym, ap, subst, ◌∙◌, arith, append_assoc, All}
+use Rattle.std.specs.Prelude.{slice_get}
+use Rattle.std.specs.List.{cons_option}
+use Rattle.std.proofs.lemmas.List.{take-append-drop}
+use Rattle.std.proofs.lemmas.List.Elements.{All-head, All-tail}
+use Rattle.std.proofs.lemmas.Option.{slice_get-get_or}
+use Rattle.itertools.proofs.KMergeLemmas.{All-front}
+use Rattle.fts_model.specs.declared.operation.Stamped.{Stamped}
+use Rattle.fts_model.specs.declared.query.Request.{Request}
+use Rattle.fts_model.specs.Documents.{DocumentValue}
+use Rattle.fts_segment.specs.Segments.{SegmentValue}
+use Rattle.fts_collect.specs.declared.collecting.Seen.{Seen}
+use Rattle.fts_collect.specs.Internals.Collected.{HasSeen, IsUnderWay, hits_at}
+
+-- where none of the first hits is at hand, there are no hits
+no_first : (xs : List ℕ) → take 128 xs ≡ [] → drop 128 xs ≡ []
+no_first [] none = refl
+no_first (x ∷ xs) none = cc
+
+-- the first hits are at hand, and none were seen
+pub under_way-first : (segment : SegmentValue) (request : Request) (all docs remaining : List ℕ) (seen : Seen) → HasSeen segment request [] seen →
+    docs ≡ take 128 all → remaining ≡ drop 128 all → IsUnderWay segment request all docs remaining seen
+under_way-first segment request all docs remaining seen none at rest = record {
+  before = [];
+  seen_is = none;
+  rest = ap (λ xs. xs ++ remaining) at ∙ ap (λ xs. take 128 all ++ xs) rest ∙ take-append-drop 128 all;
+  end = λ empty. rest ∙ no_first all (sym at ∙ empty);
+}
+
+-- those at hand were seen, and the next are at hand
+pub under_way-next : (segment : SegmentValue) (request : Request) (all docs remaining more others : List ℕ) (old new : Seen) → IsUnderWay segment request all docs remaining old →
+    ((before : List ℕ) → HasSeen segment request before old → HasSeen segment request (before ++ docs) new) →
+    more ≡ take 128 remaining → others ≡ drop 128 remaining → IsUnderWay segment request all more others new
+under_way-next segment request all docs remaining more others old new under taken at rest = record {
+  before = under.before ++ docs;
+  seen_is = taken under.before under.seen_is;
+  rest =
+      ap (λ xs. (under.before ++ docs) ++ xs) (ap (λ xs. xs ++ others) at ∙ ap (λ xs. take 128 remaining ++ xs) rest ∙ take-append-drop 128 remaining)
+      ∙ append_assoc under.before docs remaining
+      ∙ under.rest;
+  end = λ empty. rest ∙ no_first remaining (sym at ∙ empty);
+}
+
+-- what holds of elements holds of those behind the first
+All-behind : (P : ℕ → Type 0) (xs ys : List ℕ) → All P (xs ++ ys) → All P ys
+All-behind P [] ys ps = ps
+All-behind P (x ∷ xs) ys ps = All-behind P xs ys (All-tail P x (xs ++ ys) ps)
+
+-- what holds of all hits holds of those at hand
+pub under_way-all : (P : ℕ → Type 0) (segment : SegmentValue) (request : Request) (all docs remaining : List ℕ) (seen : Seen) → IsUnderWay segment request all docs remaining seen →
+    All P all → All P docs
+under_way-all P segment request all docs remaining seen under ps =
+    let Q : List ℕ → Type 0 = All P in
+    All-front P docs remaining (All-behind P under.before (docs ++ remaining) (subst Q (sym under.rest) ps))
+
+-- one more document, where there is one
+length-one_more : (o : Option (Stamped DocumentValue)) (d : Stamped DocumentValue) (rest : List (Stamped DocumentValue)) → o ≡ Some d → length (cons_option o rest) ≡ length rest + 1
+length-one_more None d rest is = cc
+length-one_more (Some e) d rest is = omega arith
+
+-- there are as many documents as numbers of documents
+pub length-hits_at : (segment : SegmentValue) (docs : List ℕ) → All (λ doc. doc < length segment.documents) docs → length (hits_at segment docs) ≡ length docs
+length-hits_at segment [] within = refl
+length-hits_at segment (doc ∷ docs) within =
+    let P : ℕ → Type 0 = λ doc. doc < length segment.documents in
+    let inside : doc < length segment.documents = All-head P doc docs within in
+    let d : Stamped DocumentValue = record { stamp = 0; value = record { schema = []; values = [] } } in
+    omega (
+      arith,
+      length-one_more (slice_get segment.documents doc) _ (hits_at segment docs) (slice_get-get_or segment.documents doc d inside),
+      length-hits_at segment docs (All-tail P doc docs within),
+    )

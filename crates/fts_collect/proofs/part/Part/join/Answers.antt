@@ -1,0 +1,18 @@
+use Rattle.std.proofs.Common.{◌∙◌, sym, ap, subst, List, sum_by, arith}
+use Rattle.fts_model.specs.Answers.{answer_of}
+use Rattle.fts_collect.specs.Parts.{PartValue, ArePartsOf}
+use Rattle.fts_collect.proofs.PartsLemmas.{count-joined, same_answer}
+use Rattle.fts_collect.proofs.part.Part.join.Goals as goal
+
+pub returns-clause-joined : goal.returns-clause-joined
+returns-clause-joined c = λ hits are once few.
+    let request = c.args.request.now in
+    let parts = c.args.parts.items in
+    let P : List PartValue → Type 0 = ArePartsOf request hits in
+    let sum = count-joined request hits parts are in
+    let F = λ (ps : List PartValue). sum_by (λ part. part.answer.count) ps in
+    let here = ap F c.deref-3.ensures.value ∙ sum in
+    same_answer _ (answer_of request hits)
+    (c.joined_count-count.ensures (omega (arith, here, few)) ∙ here)
+    (c.in-Ok.ensures hits (subst P (sym c.deref.ensures.value) are) few)
+    (c.asked_top-top.ensures hits are once)

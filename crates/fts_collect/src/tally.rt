@@ -1,0 +1,182 @@
+// Hits counted by their numbers in a column.
+ghost use Rattle.std.specs.Prelude.{◌≡◌, ◌≤◌, ◌<◌, ◌+◌, ◌-◌, ◌++◌, ◌^◌, ℕ, List, IfOk, OnOk, length, min, None, option_to_list, slice_index, slice_index_or, slice_set};
+ghost use Rattle.fts_model.specs.declared.schema.Kind.{Kind};
+ghost use Rattle.fts_collect.specs.Internals.Collecting.{AreCounts, AreWithin, groups_from, groups_of_runs, number_at, present_at};
+
+use fts_model::{Kind, Number};
+use fts_pack::{Column, u64_to_i64};
+use itertools::Itertools;
+use std::alloc::{AllocError, Global};
+
+/// The number that a column of this kind keeps as this one.
+pub(crate) fn number_at(kind: Kind, number: u64) -> Number
+    ensures { result ≡ number_at kind number }
+{
+    match kind {
+        Kind::I64 => Number::I64(u64_to_i64(number)),
+        _ => Number::U64(number),
+    }
+}
+
+/// The groups of numbers that stand in order: each run of one number is one.
+fn groups_of_sorted(
+    alloc: Global,
+    kind: Kind,
+    numbers: &[u64],
+) -> Result<Vec<(Number, u64)>, AllocError>
+    ensures { IfOk result (λ list. list.items ≡ groups_of_runs kind numbers.now) }
+{
+    numbers
+        .iter()
+        .copied()
+        .dedup_with_count()
+        .map(|(count, number)| (number_at(kind, number), count as u64))
+        .collect(alloc)
+}
+
+/// The groups of numbers that were counted, of which the first is the least.
+fn groups_of_counts(
+    alloc: Global,
+    kind: Kind,
+    least: u64,
+    counts: &[u64],
+) -> Result<Vec<(Number, u64)>, AllocError>
+    requires { least + length counts.now ≤ 2 ^ 64 }
+    ensures { IfOk result (λ list. list.items ≡ groups_from kind least counts.now) }
+{
+    let mut list = Vec::new(alloc);
+    for (i, count) in counts.iter().enumerate() {
+        if *count > 0 {
+            list.push((number_at(kind, least + i as u64), *count))?;
+        }
+    }
+    Ok(list)
+}
+
+/// Counts one more at a place.
+fn count_number(counts: &mut [u64], place: usize)
+    requires { place < length counts.old }
+    ensures { counts.new
+        ≡ slice_set counts.old place (min (slice_index counts.old place + 1) (2 ^ 64 - 1)) }
+{
+    counts[place] = counts[place].saturating_add(1);
+}
+
+/// Counts the number of a document in a column, if it has one.
+fn count_doc(column: &Column, doc: u32, least: u64, counts: &mut [u64])
+    requires { AreWithin column.now least (length counts.old) }
+    ensures counted { (kind : Kind) (numbers : List ℕ) → AreCounts kind numbers least counts.old →
+        AreCounts kind (numbers ++ option_to_list (slice_index_or column.now doc None))
+        least counts.new }
+    ensures long { length counts.new ≡ length counts.old }
+{
+    match column.get(doc as usize) {
+        None => {}
+        Some(number) => count_number(counts, (number - least) as usize),
+    }
+}
+
+/// Counts the numbers of documents in a column.
+fn count_docs(column: &Column, docs: &[u32], least: u64, counts: &mut [u64])
+    requires { AreWithin column.now least (length counts.old) }
+    ensures counted { (kind : Kind) (numbers : List ℕ) → AreCounts kind numbers least counts.old →
+        AreCounts kind (numbers ++ present_at column.now docs.now) least counts.new }
+    ensures long { length counts.new ≡ length counts.old }
+{
+    for doc in docs {
+        count_doc(column, *doc, least, counts);
+    }
+}
+
+/// Puts the number of a document in a column behind others, if it has one.
+fn push_doc(column: &Column, doc: u32, numbers: &mut Vec<u64>) -> Result<(), AllocError>
+    ensures { OnOk result (numbers.new.items
+        ≡ numbers.old.items ++ option_to_list (slice_index_or column.now doc None)) }
+{
+    match column.get(doc as usize) {
+        None => Ok(()),
+        Some(number) => {
+            numbers.push(number)?;
+            Ok(())
+        }
+    }
+}
+
+/// Puts the numbers of documents in a column behind others.
+fn push_docs(column: &Column, docs: &[u32], numbers: &mut Vec<u64>) -> Result<(), AllocError>
+    ensures { OnOk result (numbers.new.items
+        ≡ numbers.old.items ++ present_at column.now docs.now) }
+{
+    for doc in docs {
+        push_doc(column, *doc, numbers)?;
+    }
+    Ok(())
+}
+
+/// The numbers of hits in a column.
+#[derive(Drop)]
+pub(crate) enum Tally {
+    /// How often each number came, from the least of the column on.
+    Counts { least: u64, counts: Vec<u64> },
+    /// The numbers as they came.
+    Numbers(Vec<u64>),
+}
+
+/// The most numbers that are counted each at a place of its own.
+const MOST_COUNTS: u64 = 65_536;
+
+impl Tally {
+    ghost use Rattle.std.specs.Prelude.{◌≡◌, ◌<◌, ◌++◌, ◌^◌, ℕ, List, [], IfOk, OnOk, length};
+    ghost use Rattle.fts_model.specs.declared.schema.Kind.{Kind};
+    ghost use Rattle.fts_collect.specs.Internals.Collecting.{IsTally, IsTallyFor, groups_of, present_at};
+
+    /// Of no hits. There is a place for each number where they lie close together.
+    pub(crate) fn new(alloc: Global, column: &Column) -> Result<Tally, AllocError>
+        ensures none { IfOk result (λ tally. (kind : Kind) → IsTally kind [] tally) }
+        ensures for_column { IfOk result (IsTallyFor column.now) }
+    {
+        match column.range() {
+            Some((least, greatest)) if greatest - least < MOST_COUNTS => {
+                let counts = vec![in alloc; 0u64; (greatest - least) as usize + 1]?;
+                Ok(Tally::Counts { least, counts })
+            }
+            _ => Ok(Tally::Numbers(Vec::new(alloc))),
+        }
+    }
+
+    /// Takes the numbers of more hits.
+    pub(crate) fn take(&mut self, column: &Column, docs: &[u32]) -> Result<(), AllocError>
+        requires { IsTallyFor column.now self.old }
+        ensures taken { OnOk result ((kind : Kind) (numbers : List ℕ) →
+            IsTally kind numbers self.old →
+            IsTally kind (numbers ++ present_at column.now docs.now) self.new) }
+        ensures for_column { OnOk result (IsTallyFor column.now self.new) }
+    {
+        match self {
+            Tally::Counts { least, counts } => {
+                count_docs(column, docs, *least, counts);
+                Ok(())
+            }
+            Tally::Numbers(numbers) => push_docs(column, docs, numbers),
+        }
+    }
+
+    /// The groups of the numbers, under the kind of their field.
+    pub(crate) fn into_groups(
+        self,
+        alloc: Global,
+        kind: Kind,
+    ) -> Result<Vec<(Number, u64)>, AllocError>
+        requires { IsTallyFor [] self }
+        ensures { (numbers : List ℕ) → IsTally kind numbers self → length numbers < 2 ^ 64 →
+            IfOk result (λ list. list.items ≡ groups_of kind numbers) }
+    {
+        match self {
+            Tally::Counts { least, counts } => groups_of_counts(alloc, kind, least, &counts),
+            Tally::Numbers(mut numbers) => {
+                numbers.sort_unstable();
+                groups_of_sorted(alloc, kind, &numbers)
+            }
+        }
+    }
+}
