@@ -11,7 +11,7 @@ use Rattle.fts_model.specs.declared.operation.Op.TheVariants.{Add, Delete, Delet
 use Rattle.fts_model.specs.declared.operation.Stamped.{Stamped}
 use Rattle.fts_model.specs.Documents.{DocumentValue}
 use Rattle.fts_model.specs.Operations.{survives, added, added_by}
-use Rattle.fts_merge.specs.Contents.{where_set}
+use Rattle.fts_segment.specs.Contents.{where_set}
 use Rattle.fts_merge.specs.Strikes.{bits_where}
 use Rattle.fts_segment.specs.Segments.{SegmentValue}
 use Rattle.fts_index.specs.Entries.{EntryValue, IsEntry, live_in, has_live}

@@ -10,7 +10,7 @@ use Rattle.fts_model.specs.declared.operation.Stamped.{Stamped}
 use Rattle.fts_model.specs.Documents.{DocumentValue}
 use Rattle.fts_model.specs.Operations.{adds, added, survives, StampsRise}
 use Rattle.fts_model.proofs.OperationsAlive.{alive-pairs}
-use Rattle.fts_merge.specs.Contents.{where_set}
+use Rattle.fts_segment.specs.Contents.{where_set}
 use Rattle.fts_index.specs.Entries.{EntryValue, IsEntry, live_in, live_count, has_live, content}
 use Rattle.fts_index.specs.declared.cut.Cut.{Cut}
 use Rattle.fts_index.specs.Cuts.{IsCut, groups_of}
@@ -31,7 +31,7 @@ ids_struck ops (e ∷ es) r = (above_struck e.id es r.0, ids_struck ops es r.1) 
   above_struck n (f ∷ es) a = (a.0, above_struck n es a.1)
 
 -- the numbers of new segments begin with the first
-ids_from : (schema : List Field) (ops : List (Stamped Op)) (id low : ℕ) (groups : List (List (Stamped DocumentValue))) → low ≤ id → AllByRecursion (λ (e : EntryValue). low ≤ e.id) (fresh_from schema ops id groups)
+pub ids_from : (schema : List Field) (ops : List (Stamped Op)) (id low : ℕ) (groups : List (List (Stamped DocumentValue))) → low ≤ id → AllByRecursion (λ (e : EntryValue). low ≤ e.id) (fresh_from schema ops id groups)
 ids_from schema ops id low [] l = tt
 ids_from schema ops id low (ds ∷ groups) l = (l, ids_from schema ops (id + 1) low groups (omega arith))
 

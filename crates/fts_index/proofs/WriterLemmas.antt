@@ -1,5 +1,5 @@
 -- The stamps of a batch and of what its commit leaves.
-use Rattle.std.proofs.Common.{◌≡◌, ◌<◌, ◌≤◌, ◌+◌, ◌^◌, ◌==◌, Option, Some, None, ℕ, zero, suc, Bool, true, false, cond, List, [], ◌∷◌, ◌++◌, length, subst, sym, ap, ◌∙◌, arith, All}
+use Rattle.std.proofs.Common.{◌≡◌, ◌<◌, ◌≤◌, ◌+◌, ◌^◌, ◌==◌, Option, Some, None, ℕ, zero, suc, true, false, cond, List, [], ◌∷◌, ◌++◌, length, subst, sym, ◌∙◌, arith, All}
 use Rattle.std.specs.List.{AllByRecursion, range_with_len}
 use Rattle.std.proofs.lemmas.Bool.{and_parts, eqb-true}
 use Rattle.std.proofs.lemmas.List.Elements.{All-from_recursion, recursion_from_All}
@@ -9,6 +9,7 @@ use Rattle.fts_model.specs.declared.operation.Op.TheVariants.{Add, Delete, Delet
 use Rattle.fts_model.specs.declared.operation.Stamped.{Stamped}
 use Rattle.fts_model.specs.Documents.{DocumentValue}
 use Rattle.fts_model.specs.Operations.{alive, adds, is_struck, left_by, StampsRise}
+use Rattle.fts_model.proofs.OperationsAlive.{alive-pairs}
 use Rattle.fts_index.specs.Rounds.{Gathered, stamps_of}
 use Rattle.fts_index.specs.declared.stamps.Terms.{Terms}
 use Rattle.fts_index.specs.Snapshots.{IsBehind, content_of}
@@ -94,6 +95,28 @@ left_below schema ds ops stamp first below above run =
     (All-weaker_by (λ (d : Stamped DocumentValue). d.stamp < stamp) (λ d. d.stamp < end) (λ d h. omega (arith, h, above)) ds
     (recursion_from_All (λ (d : Stamped DocumentValue). d.stamp < stamp) ds below)))
     (all_stamped (λ s. s < end) ops (subst (AllByRecursion (λ x. x < end)) (sym run) (run_to end first (length ops) (omega arith))))))
+
+length-between : {X : Type 0} (xs : List (Stamped X)) (low high : ℕ) → low ≤ high → Rises (λ x. x.stamp) xs → AllByRecursion (λ x. low ≤ x.stamp) xs → AllByRecursion (λ x. x.stamp < high) xs →
+    low + length xs ≤ high
+length-between [] low high l r a b = omega arith
+length-between (x ∷ xs) low high l r a b = omega (arith, a.0, length-between xs (x.stamp + 1) high (omega (arith, b.0)) r.1 (All-weaker_by (λ y. x.stamp < y.stamp) (λ y. x.stamp + 1 ≤ y.stamp) (λ y h. omega (arith, h)) xs r.0) b.1)
+
+any_stamp : {X : Type 0} (xs : List (Stamped X)) → AllByRecursion (λ x. 0 ≤ x.stamp) xs
+any_stamp [] = tt
+any_stamp (x ∷ xs) = (omega arith, any_stamp xs)
+
+-- there are no more documents than stamps below theirs
+pub length-below : (ds : List (Stamped DocumentValue)) (high : ℕ) → StampsRise ds → All (λ d. d.stamp < high) ds → length ds ≤ high
+length-below ds high rise below =
+    omega (arith, length-between ds 0 high (omega arith) (by_stamp ds rise) (any_stamp ds) (recursion_from_All (λ (d : Stamped DocumentValue). d.stamp < high) ds below))
+
+-- what a commit leaves are no more documents than stamps
+pub left_few : (schema : List Field) (ds : List (Stamped DocumentValue)) (ops : List (Stamped Op)) (stamp first : ℕ) → StampsRise ds → All (λ d. d.stamp < stamp) ds → stamp < first →
+    stamps_of ops ≡ range_with_len first (length ops) → length (alive schema (adds ds ++ ops)) ≤ first + length ops
+left_few schema ds ops stamp first rise below above run =
+    length-below (alive schema (adds ds ++ ops)) (first + length ops)
+    (alive-pairs (λ m n. m < n) schema (adds ds ++ ops) (rise_behind ds ops rise (batch_behind ds ops stamp first below above run)))
+    (left_below schema ds ops stamp first below above run)
 
 -- the first stamp of a batch of the open round
 pub first_behind : (stamp rounds : ℕ) (round : Option Terms) (batch : Gathered) → IsOpen stamp rounds round → is_of round batch ≡ true → batch.first ≡ stamp + 1

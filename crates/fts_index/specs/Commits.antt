@@ -4,13 +4,18 @@ use Rattle.fts_model.specs.declared.schema.Field.{Field}
 use Rattle.fts_model.specs.declared.operation.Op.{Op}
 use Rattle.fts_model.specs.declared.operation.Stamped.{Stamped}
 use Rattle.fts_model.specs.declared.refusal.Refusal.{Refusal}
-use Rattle.fts_model.specs.declared.refusal.Refusal.TheVariants.{StampsUsedUp}
+use Rattle.fts_model.specs.declared.refusal.Refusal.TheVariants.{StampsUsedUp, OtherSchema}
 use Rattle.fts_model.specs.Documents.{DocumentValue}
-use Rattle.fts_model.specs.Operations.{survives, added}
+use Rattle.fts_model.specs.Operations.{op_fits, survives, added}
 use Rattle.fts_merge.specs.Strikes.{bits_after}
 use Rattle.fts_index.specs.Entries.{EntryValue, has_live}
 use Rattle.fts_index.specs.declared.cut.Cut.{Cut}
 use Rattle.fts_index.specs.Cuts.{groups_of}
+
+-- the first operation that doesn't fit the schema, if there is one
+abbrev pub misfit : List Field → List (Stamped Op) → Option Refusal
+misfit schema [] = None
+misfit schema (op ∷ ops) = if op_fits schema op.value then misfit schema ops else Some (OtherSchema op.stamp)
 
 -- a segment after operations
 abbrev pub struck : List (Stamped Op) → EntryValue → EntryValue

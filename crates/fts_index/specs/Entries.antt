@@ -4,7 +4,7 @@ use Rattle.std.specs.List.{list_any}
 use Rattle.fts_model.specs.declared.operation.Stamped.{Stamped}
 use Rattle.fts_model.specs.Documents.{DocumentValue}
 use Rattle.fts_segment.specs.Segments.{SegmentValue}
-use Rattle.fts_merge.specs.Contents.{content_of}
+use Rattle.fts_segment.specs.Contents.{content_of}
 use Rattle.fts_index.specs.Order.{in_stamp_order}
 
 -- a segment of this number, and a bit for each of its documents: it is set where the document is live

@@ -1,6 +1,5 @@
 -- What the jobs of a commit make.
 use Rattle.std.specs.Prelude.{◌≡◌, ℕ, ◌<◌, List, length, Result, IfOk, IsOkUnless, slice_index_or}
-use Rattle.fts_model.specs.declared.schema.Field.{Field}
 use Rattle.fts_model.specs.declared.operation.Op.{Op}
 use Rattle.fts_model.specs.declared.operation.Stamped.{Stamped}
 use Rattle.fts_model.specs.declared.refusal.Refusal.{Refusal}
@@ -12,13 +11,13 @@ use Rattle.fts_index.specs.declared.jobs.Task.{Task}
 use Rattle.fts_index.specs.declared.jobs.Task.TheVariants.{Strike, Build}
 
 -- the segment that a task leaves
-abbrev pub entry_of_task : List Field → List (Stamped Op) → Task → EntryValue
-entry_of_task schema ops (Strike entry) = struck ops entry.now
-entry_of_task schema ops (Build id group) = fresh schema ops id group.now
+abbrev pub entry_of_task : List (Stamped Op) → Task → EntryValue
+entry_of_task ops (Strike entry) = struck ops entry.now
+entry_of_task ops (Build segment) = fresh segment.schema.now ops segment.id segment.group.now
 
 -- the segment that a job leaves
 abbrev pub entry_of : CommitJob → EntryValue
-entry_of job = entry_of_task job.schema.now job.ops.now job.task
+entry_of job = entry_of_task job.ops.now job.task
 
 -- a job answers the segment that it leaves, or want of memory
 abbrev pub Answers : CommitJob → Result EntryValue Refusal → Type 0

@@ -11,7 +11,10 @@ pub mod Jobs
 pub mod Sources
 pub mod Merges
 pub mod Snapshots
+pub mod Following
 pub mod Publications
 pub mod PublicationsHistory
 pub mod PublicationsShown
 pub mod Writers
+pub mod Searches
+pub mod SearchJobs

@@ -1,6 +1,6 @@
 -- What a merge does to segments.
-use Rattle.std.specs.Prelude.{ℕ, ◌+◌, ◌==◌, nat_lt, Bool, true, not, Option, Some, None, List, [], ◌∷◌, ◌++◌, map, filter, sum_by, flat_map, if◌then◌else◌}
-use Rattle.std.specs.List.{list_any}
+use Rattle.std.specs.Prelude.{◌≡◌, ℕ, ◌+◌, ◌<◌, ◌==◌, nat_lt, Bool, true, not, Option, Some, None, List, [], ◌∷◌, ◌++◌, length, map, filter, sum_by, flat_map, if◌then◌else◌}
+use Rattle.std.specs.List.{list_any, HoldsAt}
 use Rattle.fts_model.specs.declared.schema.Field.{Field}
 use Rattle.fts_model.specs.declared.operation.Stamped.{Stamped}
 use Rattle.fts_model.specs.declared.refusal.Refusal.{Refusal}
@@ -17,6 +17,15 @@ is_among ids id = list_any (λ other. id == other) ids
 -- whether there is a segment of this number
 abbrev pub is_there : List EntryValue → ℕ → Bool
 is_there entries id = list_any (λ entry. entry.id == id) entries
+
+-- the segment at a place has this number
+pub record IsPlaceOf (entries : List EntryValue) (id place : ℕ) : Type 0 where
+  pub within : place < length entries
+  pub there : HoldsAt (λ entry. entry.id ≡ id) entries place
+
+-- for each segment, whether its number is among these
+abbrev pub marks_of : List EntryValue → List ℕ → List Bool
+marks_of entries ids = map (λ entry. is_among ids entry.id) entries
 
 -- the segment of this number alone, if there is one
 abbrev pub entry_at : List EntryValue → ℕ → List EntryValue

@@ -1,8 +1,8 @@
 -- What a writer publishes: which lists of publications there are, and what is known of one.
-use Rattle.std.specs.Prelude.{◌≡◌, ℕ, ◌≤◌, List, [], ◌∷◌, ◌++◌, Some, AllPairs, fold, slice_get}
+use Rattle.std.specs.Prelude.{◌≡◌, ℕ, ◌<◌, ◌≤◌, ◌^◌, List, [], ◌∷◌, ◌++◌, Some, AllPairs, fold, length, slice_get}
 use Rattle.logbook.specs.Pages.{Book}
 use Rattle.fts_index.specs.Entries.{content}
-use Rattle.fts_index.specs.Snapshots.{SnapshotValue}
+use Rattle.fts_index.specs.Snapshots.{SnapshotValue, content_of}
 use Rattle.fts_index.specs.declared.publications.publication.Publication.{Publication}
 
 -- the publication that each writer begins with: stamp 0, and no document
@@ -31,17 +31,22 @@ pub record Known : Type 0 where
   pub of : Book
   pub list : List Publication
 
--- the same, with one publication more
-abbrev pub with_publication : Known → Publication → Known
-with_publication known p = record { of = known.of; list = known.list ++ p ∷ [] }
-
 -- a snapshot at its commit stamp, with what was seen of the writer's publications when it was taken
 pub record FrontValue : Type 0 where
   pub stamp : ℕ
   pub snapshot : SnapshotValue
   pub seen : Known
 
--- what was seen are publications, of which the last has this stamp and this content
+-- the same after a snapshot was published at a stamp: the list has one publication more
+abbrev pub published : ℕ → SnapshotValue → FrontValue → FrontValue
+published stamp snapshot f = record {
+  stamp = stamp;
+  snapshot = snapshot;
+  seen = record { of = f.seen.of; list = f.seen.list ++ publication stamp snapshot ∷ [] };
+}
+
+-- what was seen are publications, of which the last has this stamp and this content, of fewer than 2^64 documents
 pub record IsFront (f : FrontValue) : Type 0 where
   pub legal : ArePublications f.seen.list
   pub last : newest f.seen.list ≡ publication f.stamp f.snapshot
+  pub few : length (content_of f.snapshot) < 2 ^ 64

@@ -4,8 +4,16 @@ use Rattle.std.specs.declared.alloc.AllocError.{AllocError}
 use mathlib.Core.Option.{some}
 use lib.ListN.{get_elem?}
 use Rattle.logbook.specs.Pages.{Book}
+use Rattle.atomic_table.specs.declared.shared.Seat.{Seat}
+use Rattle.left_right.specs.declared.part.Part.{Part}
+use Rattle.left_right.specs.declared.board.Doing.{Doing}
+use Rattle.left_right.specs.Sides.{view}
 use Rattle.fts_index.specs.Publications.{FrontValue}
 use Rattle.fts_index.specs.declared.publications.name.Name.{Name}
+
+-- which writer a place knows, once it was told
+abbrev pub told_name : {T : Type 0} → Seat (Option (Part T)) (Doing T (Option Name)) → Option Name
+told_name = view
 
 abbrev pub name_of : Book → Name
 name_of b = record { number = b.number; log_name = b.log_name; cells_name = b.cells_name }

@@ -1,17 +1,14 @@
 -- What contracts see of a writer, and what its calls make of it.
-use Rattle.std.specs.Prelude.{◌≡◌, ℕ, ◌+◌, ◌*◌, ◌^◌, ◌<◌, ◌≤◌, ◌==◌, ◌&&◌, ◌||◌, nat_le, not, Bool, true, false, Option, Some, None, List, [], ◌∷◌, length, All, MatchOption, ◌⊎◌, Result, Ok, Err, if◌then◌else◌}
-use Rattle.fts_model.specs.declared.schema.Field.{Field}
-use Rattle.fts_model.specs.declared.operation.Op.{Op}
-use Rattle.fts_model.specs.declared.operation.Stamped.{Stamped}
+use Rattle.std.specs.Prelude.{◌≡◌, ℕ, ◌+◌, ◌*◌, ◌^◌, ◌<◌, ◌≤◌, ◌==◌, ◌&&◌, ◌||◌, nat_le, not, Bool, true, false, Option, Some, None, List, length, All, MatchOption, ◌⊎◌, Result, Ok, Err, if◌then◌else◌}
 use Rattle.fts_model.specs.declared.refusal.Refusal.{Refusal}
-use Rattle.fts_model.specs.declared.refusal.Refusal.TheVariants.{Memory, RoundOpen, StampsUsedUp, StaleBatch, OtherSchema}
-use Rattle.fts_model.specs.Operations.{op_fits}
+use Rattle.fts_model.specs.declared.refusal.Refusal.TheVariants.{Memory, RoundOpen, StampsUsedUp, StaleBatch}
 use Rattle.fts_model.specs.Results.{first_of}
 use Rattle.fts_index.specs.declared.cut.Cut.{Cut}
 use Rattle.fts_index.specs.declared.stamps.Terms.{Terms}
 use Rattle.fts_index.specs.Rounds.{Gathered}
+use Rattle.fts_index.specs.Commits.{misfit}
 use Rattle.fts_index.specs.Snapshots.{SnapshotValue, content_of, after_commit, commit_fault, after_merge}
-use Rattle.fts_index.specs.Publications.{FrontValue, publication, newest, with_publication}
+use Rattle.fts_index.specs.Publications.{FrontValue, published}
 
 -- a call succeeded where nothing was wrong; else it was refused for that, or for memory
 abbrev pub IsRefusedFor : {X : Type 0} → Option Refusal → Result X Refusal → Type 0
@@ -60,11 +57,6 @@ abbrev pub is_of : Option Terms → Gathered → Bool
 is_of None batch = false
 is_of (Some terms) batch = terms.round == batch.round && terms.first == batch.first
 
--- the first operation that doesn't fit the schema, if there is one
-abbrev pub misfit : List Field → List (Stamped Op) → Option Refusal
-misfit schema [] = None
-misfit schema (op ∷ ops) = if op_fits schema op.value then misfit schema ops else Some (OtherSchema op.stamp)
-
 -- why a batch can't be committed
 abbrev pub batch_fault : Cut → Gathered → WriterValue → Option Refusal
 batch_fault cut batch w =
@@ -75,18 +67,10 @@ batch_fault cut batch w =
 abbrev pub stamp_behind : Gathered → ℕ
 stamp_behind batch = batch.first + length batch.ops
 
--- a front, and a snapshot published at a stamp behind it
-abbrev pub front_after : FrontValue → ℕ → SnapshotValue → FrontValue
-front_after front stamp snapshot = record {
-  stamp = stamp;
-  snapshot = snapshot;
-  seen = with_publication front.seen (publication stamp snapshot);
-}
-
 -- the writer after the commit of a batch
 abbrev pub with_commit : Cut → Gathered → WriterValue → WriterValue
 with_commit cut batch w = record {
-  front = front_after w.front (stamp_behind batch) (after_commit cut batch.ops w.front.snapshot);
+  front = published (stamp_behind batch) (after_commit cut batch.ops w.front.snapshot) w.front;
   rounds = w.rounds;
   round = None;
 }
@@ -94,11 +78,7 @@ with_commit cut batch w = record {
 -- the writer after a merge: the publication before is published again, with the merged snapshot
 abbrev pub with_merge : List ℕ → WriterValue → WriterValue
 with_merge ids w = record {
-  front = record {
-    stamp = w.front.stamp;
-    snapshot = after_merge ids w.front.snapshot;
-    seen = with_publication w.front.seen (newest w.front.seen.list);
-  };
+  front = published w.front.stamp (after_merge ids w.front.snapshot) w.front;
   rounds = w.rounds;
   round = w.round;
 }

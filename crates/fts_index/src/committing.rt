@@ -1,9 +1,10 @@
 // The parts of a commit between the jobs: which operations strike at all, and which segments stay.
-ghost use Rattle.std.specs.Prelude.{◌≡◌, ◌≤◌, ◌<◌, ◌+◌, ◌^◌, ◌++◌, ◌∷◌, [], List, length, map, filter, IfOk, IfErr, OnOk, IsOkUnless};
+ghost use Rattle.std.specs.Prelude.{◌≡◌, ◌≤◌, ◌<◌, ◌+◌, ◌^◌, ◌++◌, ◌∷◌, [], List, length, map, filter, IfOk, IfErr, OnOk, IsOkUnless, All};
 ghost use Rattle.fts_model.specs.declared.schema.Field.{Field};
 ghost use Rattle.fts_model.specs.declared.operation.Stamped.{Stamped};
 ghost use Rattle.fts_model.specs.Documents.{DocumentValue};
 ghost use Rattle.fts_model.specs.Operations.{survives};
+ghost use Rattle.fts_segment.specs.Segments.{AllFit};
 ghost use Rattle.fts_index.specs.Entries.{has_live};
 ghost use Rattle.fts_index.specs.Commits.{struck, fresh_from};
 ghost use Rattle.fts_index.specs.Jobs.{entry_of, AreAnswers};
@@ -66,7 +67,8 @@ pub(crate) fn jobs_of_batch<'a>(
     batch: &'a [Stamped<Op>],
     groups: &'a [Group],
 ) -> Result<Vec<CommitJob<'a>>, AllocError>
-    requires { next + length groups.now < 2 ^ 62 }
+    requires room { next + length groups.now < 2 ^ 62 }
+    requires fit { All (AllFit schema.now) groups.now }
     ensures { IfOk result (λ jobs. map entry_of jobs.items
         ≡ map (struck batch.now) entries.now ++ fresh_from schema.now batch.now next groups.now) }
 {

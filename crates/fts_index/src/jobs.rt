@@ -1,11 +1,13 @@
 // The jobs of a commit: what it does to one segment each.
-ghost use Rattle.std.specs.Prelude.{◌≡◌, ◌≤◌, ◌+◌, ◌++◌, ◌<◌, ◌^◌, true, map, length, IfOk, OnOk, IsOkUnless};
+ghost use Rattle.std.specs.Prelude.{◌≡◌, ◌≤◌, ◌+◌, ◌++◌, ◌<◌, ◌^◌, true, map, length, IfOk, OnOk, IsOkUnless, All};
 ghost use Rattle.fts_model.specs.Operations.{survives};
+ghost use Rattle.fts_segment.specs.Segments.{AllFit};
 ghost use Rattle.fts_index.specs.Commits.{struck, fresh, fresh_from};
 ghost use Rattle.fts_index.specs.Jobs.{entry_of, AreAnswers};
 
 use crate::entry::Entry;
 use crate::group::Group;
+use crate::new_segment::NewSegment;
 use fts_merge::strike;
 use fts_model::{Document, Op, Refusal, Schema, Stamped};
 use fts_pack::Bits;
@@ -18,15 +20,14 @@ use std::alloc::{AllocError, Global};
 pub(crate) enum Task<'a> {
     /// An old segment is struck.
     Strike(&'a Entry),
-    /// A new segment of this number is built and struck.
-    Build { id: u64, group: &'a Group },
+    /// A new segment is built and struck.
+    Build(NewSegment<'a>),
 }
 
 /// What a commit does to one segment: an old one is struck, or a new one is built of its documents and struck.
 #[derive(Drop)]
 pub struct CommitJob<'a> {
     alloc: Global,
-    schema: &'a Schema,
     ops: &'a [Stamped<Op>],
     task: Task<'a>,
 }
@@ -41,7 +42,7 @@ impl Job for CommitJob<'_> {
     fn run(&self) -> Result<Entry, Refusal> {
         match &self.task {
             Task::Strike(entry) => struck(self.alloc, self.ops, entry),
-            Task::Build { id, group } => fresh(self.alloc, self.schema, self.ops, *id, group),
+            Task::Build(segment) => fresh(self.alloc, self.ops, segment),
         }
     }
 }
@@ -66,7 +67,8 @@ fn built(
     schema: &Schema,
     documents: &[Stamped<Document>],
 ) -> Result<Segment, Refusal>
-    requires { length documents.now ≤ 65536 }
+    requires few { length documents.now ≤ 65536 }
+    requires fit { AllFit schema.now documents.now }
     ensures ok { IfOk result (λ segment. segment ≡ record { schema = schema.now; documents = documents.now }) }
     ensures memory { IsOkUnless result Refusal.Memory }
 {
@@ -78,20 +80,14 @@ fn built(
 }
 
 /// A new segment after operations.
-fn fresh(
-    alloc: Global,
-    schema: &Schema,
-    ops: &[Stamped<Op>],
-    id: u64,
-    group: &Group,
-) -> Result<Entry, Refusal>
-    ensures ok { IfOk result (λ new. new ≡ fresh schema.now ops.now id group.now) }
+fn fresh(alloc: Global, ops: &[Stamped<Op>], new: &NewSegment<'_>) -> Result<Entry, Refusal>
+    ensures ok { IfOk result (λ entry. entry ≡ fresh new.now.schema.now ops.now new.now.id new.now.group.now) }
     ensures memory { IsOkUnless result Refusal.Memory }
 {
-    let segment = built(alloc, schema, group.documents())?;
+    let segment = built(alloc, new.schema, new.group.documents())?;
     let all = Bits::all_set(alloc, segment.docs())?;
     let live = strike(alloc, &segment, &all, ops)?;
-    Ok(Entry::new(alloc, id, segment, live)?)
+    Ok(Entry::new(alloc, new.id, segment, live)?)
 }
 
 /// The jobs of a commit: one for each old segment, and then one for each group of adds, whose segments are numbered from
@@ -104,18 +100,14 @@ pub(crate) fn commit_jobs<'a>(
     id: u64,
     groups: &'a [Group],
 ) -> Result<Vec<CommitJob<'a>>, AllocError>
-    requires { id + length groups.now < 2 ^ 62 }
+    requires room { id + length groups.now < 2 ^ 62 }
+    requires fit { All (AllFit schema.now) groups.now }
     ensures { IfOk result (λ jobs. map entry_of jobs.items ≡ map (struck ops.now) entries.now ++ fresh_from schema.now ops.now id groups.now) }
 {
     let mut jobs = Vec::new(alloc);
     for entry in entries {
         let task = Task::Strike(entry);
-        jobs.push(CommitJob {
-            alloc,
-            schema,
-            ops,
-            task,
-        })?;
+        jobs.push(CommitJob { alloc, ops, task })?;
     }
     push_builds(&mut jobs, alloc, schema, ops, id, groups)?;
     Ok(jobs)
@@ -130,18 +122,14 @@ fn push_builds<'a>(
     first: u64,
     groups: &'a [Group],
 ) -> Result<(), AllocError>
-    requires { first + length groups.now < 2 ^ 62 }
+    requires room { first + length groups.now < 2 ^ 62 }
+    requires fit { All (AllFit schema.now) groups.now }
     ensures { OnOk result (map entry_of jobs.new.items ≡ map entry_of jobs.old.items ++ fresh_from schema.now ops.now first groups.now) }
 {
     let mut id = first;
     for group in groups {
-        let task = Task::Build { id, group };
-        jobs.push(CommitJob {
-            alloc,
-            schema,
-            ops,
-            task,
-        })?;
+        let task = Task::Build(NewSegment { schema, id, group });
+        jobs.push(CommitJob { alloc, ops, task })?;
         id += 1;
     }
     Ok(())

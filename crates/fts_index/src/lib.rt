@@ -10,6 +10,7 @@
 //!   any thread may run.
 //! - Commits are *published* ([`publications`]). A [`Reader`] in any thread takes the newest one by one look, without a lock,
 //!   and never goes back; a [`Searcher`] keeps the one that it was made of.
+//! - A search asks each segment by a job of its own, and joins what these tell ([`Searcher::search`]).
 //!
 //! ```text
 //! let mut writer = Writer::new(rt, alloc, &schema)?;
@@ -24,6 +25,8 @@
 //! reader.told(&committed.seen)?;
 //! let searcher = reader.searcher()?;
 //! // searcher.commit_stamp() is committed.stamp, or more
+//! let found = searcher.search(rt, alloc, &query, &request, 4, &Open)?;
+//! // found.answer is that over all documents of the commit
 //! writer.close(rt);
 //! ```
 #![tactic(auto)]
@@ -35,11 +38,14 @@ mod entry;
 mod group;
 mod jobs;
 mod lane;
+pub mod laws;
 mod merging;
+mod new_segment;
 mod numbers;
 mod planning;
 pub mod publications;
 mod round;
+mod searching;
 mod snapshot;
 mod stamps;
 mod writer;
@@ -51,6 +57,7 @@ pub use jobs::CommitJob;
 pub use lane::{Lane, LaneEnd};
 pub use publications::{CommitSeen, Publisher, Reader, Searcher};
 pub use round::{Round, open_round};
+pub use searching::Found;
 pub use snapshot::Snapshot;
 pub use stamps::Terms;
 pub use writer::{Committed, Writer};

@@ -1,9 +1,10 @@
 // The parts of a merge: which segments are named, and what comes in their place.
-ghost use Rattle.std.specs.Prelude.{◌≡◌, ◌<◌, ◌++◌, ◌^◌, map, length, IfOk, OnOk};
-ghost use Rattle.fts_model.specs.Results.{Gives, ok_unless};
+ghost use Rattle.std.specs.Prelude.{◌≡◌, ◌<◌, ◌++◌, ◌∷◌, ◌^◌, ℕ, List, [], Some, false, map, length, vec_len, IfNone, IfOk, OnOk, MatchOption};
+ghost use Rattle.fts_model.specs.Results.{Gives, ok_unless, first_of};
 ghost use Rattle.fts_merge.specs.Merges.{AreOfOneSchema, schema_of, live_count, contents};
 ghost use Rattle.fts_index.specs.Sources.{source_of};
-ghost use Rattle.fts_index.specs.Merges.{is_among, is_there, entry_at, entries_at, without, whole, merged, names_fault, size_fault, merge_fault};
+ghost use Rattle.fts_index.specs.Snapshots.{IdsRise};
+ghost use Rattle.fts_index.specs.Merges.{is_there, IsPlaceOf, marks_of, entry_at, entries_at, without, whole, merged, fault_behind, names_fault, size_fault, merge_fault};
 
 use crate::entry::Entry;
 use crate::numbers::are_used_up;
@@ -12,37 +13,69 @@ use fts_model::Refusal;
 use fts_pack::Bits;
 use std::alloc::{AllocError, Global};
 
-/// Whether a segment has this number.
-fn is_there(entries: &[Entry], id: u64) -> bool
-    ensures { result ≡ is_there entries.now id }
-{
-    entries.iter().any(|entry| entry.id() == id)
-}
+/// The most documents of a merged segment.
+const MOST_DOCUMENTS: usize = 1_048_576;
 
-/// Whether a number is among these.
-fn is_among(ids: &[u64], id: u64) -> bool
-    ensures { result ≡ is_among ids.now id }
+/// The place of the segment of this number, if there is one: it is looked up by halving.
+fn place_of(entries: &[Entry], id: u64) -> Option<usize>
+    requires { IdsRise entries.now }
+    ensures { MatchOption result (is_there entries.now id ≡ false) (IsPlaceOf entries.now id) }
 {
-    ids.iter().any(|other| id == *other)
-}
-
-/// What is wrong with a list of segments to merge: it is empty, or the first number that no segment has or that stands before.
-fn names_fault(entries: &[Entry], ids: &[u64]) -> Option<Refusal>
-    ensures { result ≡ names_fault entries.now ids.now }
-{
-    if ids.is_empty() {
-        return Some(Refusal::NoSegments);
-    }
-    for at in 0..ids.len() {
-        let id = ids[at];
-        if !is_there(entries, id) {
-            return Some(Refusal::UnknownSegment(id));
+    let mut low = 0;
+    let mut high = entries.len();
+    while low < high {
+        let middle = low + (high - low) / 2;
+        let found = entries[middle].id();
+        if found == id {
+            return Some(middle);
         }
-        if is_among(&ids[..at], id) {
-            return Some(Refusal::SegmentTwice(id));
+        if found < id {
+            low = middle + 1;
+        } else {
+            high = middle;
         }
     }
     None
+}
+
+/// Marks the segment of this number. Or it tells why it can't be named: no segment has the number, or it was marked before.
+fn mark(entries: &[Entry], marks: &mut Vec<bool>, id: u64) -> Option<Refusal>
+    requires rise { IdsRise entries.now }
+    requires count { vec_len marks.old ≡ length entries.now }
+    ensures count { vec_len marks.new ≡ length entries.now }
+    ensures marks { (before : List ℕ) → marks.old.items ≡ marks_of entries.now before →
+        IfNone result (marks.new.items ≡ marks_of entries.now (before ++ id ∷ [])) }
+    ensures fault { (before ids : List ℕ) → marks.old.items ≡ marks_of entries.now before →
+        fault_behind entries.now before (id ∷ ids)
+        ≡ first_of result (fault_behind entries.now (before ++ id ∷ []) ids) }
+{
+    let Some(place) = place_of(entries, id) else {
+        return Some(Refusal::UnknownSegment(id));
+    };
+    if marks[place] {
+        return Some(Refusal::SegmentTwice(id));
+    }
+    marks[place] = true;
+    None
+}
+
+/// A mark for each segment, whether its number is among these; or what is wrong with the numbers: there is none, or the first
+/// that no segment has or that stands before.
+fn marks_of(alloc: Global, entries: &[Entry], ids: &[u64]) -> Result<Vec<bool>, Refusal>
+    requires { IdsRise entries.now }
+    ensures { Gives (λ marks. marks.items) result
+        (ok_unless (names_fault entries.now ids.now) (marks_of entries.now ids.now)) }
+{
+    if ids.is_empty() {
+        return Err(Refusal::NoSegments);
+    }
+    let mut marks = vec![in alloc; false; entries.len()]?;
+    for id in ids {
+        if let Some(fault) = mark(entries, &mut marks, *id) {
+            return Err(fault);
+        }
+    }
+    Ok(marks)
 }
 
 /// Puts the segment of this number behind others, if there is one.
@@ -51,13 +84,13 @@ fn push_source<'a>(
     entries: &'a [Entry],
     id: u64,
 ) -> Result<(), AllocError>
-    ensures { OnOk result (sources.new.items ≡ sources.old.items ++ map source_of (entry_at entries.now id)) }
+    requires { IdsRise entries.now }
+    ensures { OnOk result
+        (sources.new.items ≡ sources.old.items ++ map source_of (entry_at entries.now id)) }
 {
-    for entry in entries {
-        if entry.id() == id {
-            sources.push(Source::new(entry.segment(), entry.live()))?;
-            return Ok(());
-        }
+    if let Some(place) = place_of(entries, id) {
+        let entry = &entries[place];
+        sources.push(Source::new(entry.segment(), entry.live()))?;
     }
     Ok(())
 }
@@ -68,7 +101,9 @@ fn sources<'a>(
     entries: &'a [Entry],
     ids: &[u64],
 ) -> Result<Vec<Source<'a>>, AllocError>
-    ensures { IfOk result (λ sources. sources.items ≡ map source_of (entries_at entries.now ids.now)) }
+    requires { IdsRise entries.now }
+    ensures { IfOk result
+        (λ sources. sources.items ≡ map source_of (entries_at entries.now ids.now)) }
 {
     let mut sources = Vec::new(alloc);
     for id in ids {
@@ -77,17 +112,34 @@ fn sources<'a>(
     Ok(sources)
 }
 
-/// The segments of other numbers.
-fn others(alloc: Global, entries: &[Entry], ids: &[u64]) -> Result<Vec<Entry>, AllocError>
-    ensures { IfOk result (λ others. others.items ≡ without entries.now ids.now) }
+/// The segments that aren't marked.
+fn others(alloc: Global, entries: &[Entry], marks: &[bool]) -> Result<Vec<Entry>, AllocError>
+    requires { length marks.now ≡ length entries.now }
+    ensures { IfOk result (λ others. (ids : List ℕ) → marks.now ≡ marks_of entries.now ids →
+        others.items ≡ without entries.now ids) }
 {
     let mut others = Vec::new(alloc);
-    for entry in entries {
-        if !is_among(ids, entry.id()) {
+    for (i, entry) in entries.iter().enumerate() {
+        if !marks[i] {
             others.push(entry.clone()?)?;
         }
     }
     Ok(others)
+}
+
+/// Why live documents of sources can't become one segment where no number is left for it: there are too many, or that.
+fn fault_without_number(sources: &[Source<'_>]) -> Refusal
+    ensures { Some result ≡ first_of (size_fault (live_count sources.now)) (Some Refusal.StampsUsedUp) }
+{
+    let mut room = MOST_DOCUMENTS;
+    for source in sources {
+        let live = source.live().count_ones();
+        if live > room {
+            return Refusal::TooLarge;
+        }
+        room -= live;
+    }
+    Refusal::StampsUsedUp
 }
 
 /// A segment of the live documents of sources, all live.
@@ -113,21 +165,23 @@ pub(crate) fn merge_entries(
     next: u64,
 ) -> Result<Vec<Entry>, Refusal>
     requires next { next < 2 ^ 62 }
+    requires rise { IdsRise entries.now }
     requires schemas { AreOfOneSchema (map source_of entries.now) }
     ensures { Gives (λ new. new.items) result (ok_unless (merge_fault next entries.now ids.now) (merged (schema_of (map source_of entries.now)) next ids.now entries.now)) }
 {
-    if let Some(fault) = names_fault(entries, ids) {
-        return Err(fault);
-    }
+    let marks = match marks_of(alloc, entries, ids) {
+        Ok(marks) => marks,
+        Err(refusal) => return Err(refusal),
+    };
     let sources = sources(alloc, entries, ids)?;
+    if are_used_up(next, 1) {
+        return Err(fault_without_number(&sources));
+    }
     let entry = match merged_entry(alloc, next, &sources) {
         Ok(entry) => entry,
         Err(refusal) => return Err(refusal),
     };
-    if are_used_up(next, 1) {
-        return Err(Refusal::StampsUsedUp);
-    }
-    let mut new = others(alloc, entries, ids)?;
+    let mut new = others(alloc, entries, &marks)?;
     new.push(entry)?;
     Ok(new)
 }

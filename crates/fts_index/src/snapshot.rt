@@ -1,10 +1,11 @@
 // What is seen of an index at one time, and what commits and merges make of it.
-ghost use Rattle.std.specs.Prelude.{◌≡◌, ◌≤◌, ◌++◌, [], map, length, IfOk, IsOkUnless};
+ghost use Rattle.std.specs.Prelude.{◌≡◌, ◌≤◌, ◌++◌, [], None, map, length, IfOk, IsOkUnless};
 ghost use Rattle.fts_model.specs.Operations.{alive, adds};
 ghost use Rattle.fts_model.specs.Results.{Gives, ok_unless};
 ghost use Rattle.fts_index.specs.Entries.{content};
 ghost use Rattle.fts_index.specs.Infos.{info_of, candidate_ids};
 ghost use Rattle.fts_index.specs.Cuts.{IsCut};
+ghost use Rattle.fts_index.specs.Commits.{misfit};
 ghost use Rattle.fts_index.specs.Snapshots.{IsBehind, IsSnapshot, after_commit, commit_fault, after_merge, merge_fault};
 
 use crate::committing::{entries_of_jobs, jobs_of_batch};
@@ -54,7 +55,8 @@ impl Snapshot {
 
     /// The schema of all documents.
     pub fn schema(&self) -> &Schema
-        ensures { result.now ≡ self.now.schema }
+        ensures schema { result.now ≡ self.now.schema }
+        ensures snapshot { IsSnapshot self.now }
     {
         &self.schema
     }
@@ -67,8 +69,8 @@ impl Snapshot {
         &self.entries
     }
 
-    /// The snapshot after the operations of a batch, whose stamps rise above those of the documents that are there. Its adds are
-    /// cut into new segments, numbered in the order of their first adds. Segments without a live document are gone.
+    /// The snapshot after the operations of a batch, which fit the schema, and whose stamps rise above those of the documents that
+    /// are there. Its adds are cut into new segments, numbered in the order of their first adds. Segments without a live document are gone.
     ///
     /// `StampsUsedUp` where the next number would reach 2^62.
     ///
@@ -85,6 +87,7 @@ impl Snapshot {
         requires cut { IsCut cut }
         requires workers { (1 ≤ workers) × (workers ≤ 64) }
         requires behind { IsBehind (content self.now.entries) batch.now }
+        requires fits { misfit self.now.schema batch.now ≡ None }
         ensures snapshot { Gives (λ new. new) result (ok_unless (commit_fault cut batch.now self.now) (after_commit cut batch.now self.now)) }
         ensures content { IfOk result (λ new. content new.entries ≡ alive self.now.schema (adds (content self.now.entries) ++ batch.now)) }
     {

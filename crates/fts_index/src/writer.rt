@@ -4,10 +4,11 @@ ghost use Rattle.std.specs.List.{range_with_len};
 ghost use Rattle.fts_model.specs.Operations.{alive, adds};
 ghost use Rattle.fts_index.specs.Rounds.{fresh};
 ghost use Rattle.fts_index.specs.Cuts.{IsCut};
+ghost use Rattle.fts_index.specs.Commits.{misfit};
 ghost use Rattle.fts_index.specs.Infos.{info_of, candidate_ids};
 ghost use Rattle.fts_index.specs.Snapshots.{content_of, merge_fault};
 ghost use Rattle.fts_index.specs.Publications.{opening};
-ghost use Rattle.fts_index.specs.Writers.{IsRefusedFor, next_round, with_round, without_round, round_fault, is_of, misfit, batch_fault, stamp_behind, with_commit, with_merge};
+ghost use Rattle.fts_index.specs.Writers.{IsRefusedFor, next_round, with_round, without_round, round_fault, is_of, batch_fault, stamp_behind, with_commit, with_merge};
 
 use crate::batch::Batch;
 use crate::cut::Cut;
@@ -83,6 +84,7 @@ impl Writer {
         ensures stamp { IfOk result (λ w. w.front.stamp ≡ 0) }
         ensures schema { IfOk result (λ w. w.front.snapshot.schema ≡ schema.now) }
         ensures segments { IfOk result (λ w. w.front.snapshot.entries ≡ []) }
+        ensures numbers { IfOk result (λ w. w.front.snapshot.next_id ≡ 0) }
         ensures publications { IfOk result (λ w. w.front.seen.list ≡ opening ∷ []) }
         ensures rounds { IfOk result (λ w. (w.rounds ≡ 0) × (w.round ≡ None)) }
         ensures memory { IsOkUnless result Refusal.Memory }

@@ -1,10 +1,11 @@
 // A snapshot at its commit stamp, with the publications that were seen when it was taken: what publishers, readers and
 // searchers each hold.
-ghost use Rattle.std.specs.Prelude.{◌≡◌, ◌<◌, ◌≤◌, ◌⊎◌, [], ◌∷◌, IfOk, IfSome, MatchOption, length};
+ghost use Rattle.std.specs.Prelude.{◌≡◌, ◌<◌, ◌≤◌, ◌^◌, ◌⊎◌, [], ◌∷◌, IfOk, IfSome, MatchOption, length};
 ghost use Rattle.std.specs.Arc.{arc_value};
 ghost use mathlib.Core.List.{IsPrefix};
 ghost use Rattle.fts_index.specs.Entries.{content};
-ghost use Rattle.fts_index.specs.Publications.{opening, publication, with_publication, Follows, IsFront};
+ghost use Rattle.fts_index.specs.Snapshots.{content_of};
+ghost use Rattle.fts_index.specs.Publications.{opening, publication, published, Follows, IsFront};
 ghost use Rattle.fts_index.specs.PublicationsHistory.{head_of};
 
 use crate::publications::commit::Commit;
@@ -26,8 +27,9 @@ pub struct Front {
 }
 
 impl Model for Front {
-    ghost use Rattle.std.specs.Prelude.{◌≡◌, length};
+    ghost use Rattle.std.specs.Prelude.{◌≡◌, ◌<◌, ◌^◌, length};
     ghost use Rattle.std.specs.Arc.{arc_value};
+    ghost use Rattle.fts_index.specs.Snapshots.{content_of};
     ghost use Rattle.fts_index.specs.Publications.{FrontValue, IsFront, ArePublications, newest, publication};
 
     ghost Value = { FrontValue };
@@ -40,7 +42,8 @@ impl Model for Front {
 
     ghost invariant = { λ f. (f.count ≡ length f.seen.log)
         × (newest f.seen.log ≡ publication (arc_value f.commit).stamp (arc_value f.commit).snapshot)
-        × ArePublications f.seen.log };
+        × ArePublications f.seen.log
+        × (length (content_of (arc_value f.commit).snapshot) < 2 ^ 64) };
 }
 
 impl Front {
@@ -101,12 +104,9 @@ impl Front {
         requires head { head.now ≡ head_of self.now.seen.of }
         requires follows { Follows (publication self.now.stamp self.now.snapshot)
             (publication (arc_value commit).stamp (arc_value commit).snapshot) }
-        ensures { IfSome result (λ f. f ≡ record {
-          stamp = (arc_value commit).stamp;
-          snapshot = (arc_value commit).snapshot;
-          seen = with_publication self.now.seen
-              (publication (arc_value commit).stamp (arc_value commit).snapshot);
-        }) }
+        requires few { length (content_of (arc_value commit).snapshot) < 2 ^ 64 }
+        ensures { IfSome result (λ f.
+            f ≡ published (arc_value commit).stamp (arc_value commit).snapshot self.now) }
     {
         let expected = self.count;
         if expected == u64::MAX {

@@ -1,10 +1,10 @@
 // The part of a writer that publishes. It alone changes the list of publications.
-ghost use Rattle.std.specs.Prelude.{◌≡◌, ◌<◌, ◌⊎◌, [], ◌∷◌, Some, IfOk, IfErr, OnOk, OnErr, IsOkUnless, MatchResult};
+ghost use Rattle.std.specs.Prelude.{◌≡◌, ◌<◌, ◌^◌, ◌⊎◌, [], ◌∷◌, ◌++◌, Some, IfOk, IfErr, OnOk, OnErr, IsOkUnless, MatchResult, length};
 ghost use Rattle.std.specs.Arc.{arc_value};
-ghost use Rattle.left_right.specs.Sides.{view as seat_view};
 ghost use Rattle.fts_index.specs.Entries.{content};
-ghost use Rattle.fts_index.specs.Publications.{opening, newest, publication, with_publication, Follows, IsFront};
-ghost use Rattle.fts_index.specs.PublicationsShown.{name_of};
+ghost use Rattle.fts_index.specs.Snapshots.{content_of};
+ghost use Rattle.fts_index.specs.Publications.{opening, newest, publication, published, Follows, IsFront};
+ghost use Rattle.fts_index.specs.PublicationsShown.{name_of, told_name};
 
 use crate::publications::commit::Commit;
 use crate::publications::front::Front;
@@ -32,17 +32,16 @@ pub struct Publisher {
 
 impl Model for Publisher {
     ghost use Rattle.std.specs.Prelude.{◌≡◌, Some};
-    ghost use Rattle.left_right.specs.Sides.{view as seat_view};
     ghost use Rattle.fts_index.specs.Publications.{FrontValue};
     ghost use Rattle.fts_index.specs.PublicationsHistory.{head_of};
-    ghost use Rattle.fts_index.specs.PublicationsShown.{name_of};
+    ghost use Rattle.fts_index.specs.PublicationsShown.{name_of, told_name};
 
     ghost Value = { FrontValue };
 
     ghost view = { λ p. p.front };
 
     ghost invariant = { λ p. (p.head ≡ head_of p.front.seen.of)
-        × (seat_view p.desk.desk.place ≡ Some (name_of p.front.seen.of))
+        × (told_name p.desk.desk.place ≡ Some (name_of p.front.seen.of))
         × (p.desk.desk.shown.value.seen.of ≡ p.front.seen.of) };
 }
 
@@ -71,7 +70,8 @@ impl Publisher {
         Ok(Publisher { desk, head, front })
     }
 
-    /// Publishes what a commit left, at a stamp above all before. A refusal publishes nothing.
+    /// Publishes what a commit left, at a stamp above all before. It has fewer than 2^64 documents. A refusal publishes
+    /// nothing, and the snapshot is let go.
     pub fn publish<R: Wait>(
         &mut self,
         rt: &R,
@@ -79,12 +79,9 @@ impl Publisher {
         snapshot: Snapshot,
         stamp: Stamp,
     ) -> Result<CommitSeen, Refusal>
-        requires { self.old.stamp < stamp }
-        ensures new { OnOk result (self.new ≡ record {
-          stamp = stamp;
-          snapshot = snapshot;
-          seen = with_publication self.old.seen (publication stamp snapshot);
-        }) }
+        requires later { self.old.stamp < stamp }
+        requires few { length (content_of snapshot) < 2 ^ 64 }
+        ensures new { OnOk result (self.new ≡ published stamp snapshot self.old) }
         ensures seen { IfOk result (λ seen. seen ≡ self.new.seen) }
         ensures same { OnErr result (self.new ≡ self.old) }
         ensures memory { IsOkUnless result Refusal.Memory }
@@ -93,7 +90,7 @@ impl Publisher {
     }
 
     /// Publishes what a merge left: another snapshot with the content of the one before, at the same stamp. A refusal
-    /// publishes nothing.
+    /// publishes nothing, and the snapshot is let go.
     pub fn publish_again<R: Wait>(
         &mut self,
         rt: &R,
@@ -101,11 +98,9 @@ impl Publisher {
         snapshot: Snapshot,
     ) -> Result<CommitSeen, Refusal>
         requires { content snapshot.entries ≡ content self.old.snapshot.entries }
-        ensures new { OnOk result (self.new ≡ record {
-          stamp = self.old.stamp;
-          snapshot = snapshot;
-          seen = with_publication self.old.seen (newest self.old.seen.list);
-        }) }
+        ensures new { OnOk result (self.new ≡ published self.old.stamp snapshot self.old) }
+        ensures again { OnOk result
+            (self.new.seen.list ≡ self.old.seen.list ++ newest self.old.seen.list ∷ []) }
         ensures seen { IfOk result (λ seen. seen ≡ self.new.seen) }
         ensures same { OnErr result (self.new ≡ self.old) }
         ensures memory { IsOkUnless result Refusal.Memory }
@@ -172,13 +167,10 @@ impl Publisher {
         snapshot: Snapshot,
         stamp: Stamp,
     ) -> Result<CommitSeen, Refusal>
-        requires { Follows (publication self.old.stamp self.old.snapshot)
+        requires follows { Follows (publication self.old.stamp self.old.snapshot)
             (publication stamp snapshot) }
-        ensures new { OnOk result (self.new ≡ record {
-          stamp = stamp;
-          snapshot = snapshot;
-          seen = with_publication self.old.seen (publication stamp snapshot);
-        }) }
+        requires few { length (content_of snapshot) < 2 ^ 64 }
+        ensures new { OnOk result (self.new ≡ published stamp snapshot self.old) }
         ensures seen { IfOk result (λ seen. seen ≡ self.new.seen) }
         ensures same { OnErr result (self.new ≡ self.old) }
         ensures memory { IsOkUnless result Refusal.Memory }
@@ -205,8 +197,8 @@ fn show<R: Wait>(rt: &R, desk: &mut Desk, front: Front) -> Result<(), AllocError
     requires { desk.old.desk.shown.value.seen.of ≡ front.seen.of }
     ensures shown { desk.new.desk.shown.value.seen.of ≡ front.seen.of }
     ensures seat { MatchResult result
-        (λ _. seat_view desk.new.desk.place ≡ Some (name_of front.seen.of))
-        (λ _. seat_view desk.new.desk.place ≡ seat_view desk.old.desk.place) }
+        (λ _. told_name desk.new.desk.place ≡ Some (name_of front.seen.of))
+        (λ _. told_name desk.new.desk.place ≡ told_name desk.old.desk.place) }
 {
     replace_with(desk, (rt, front), |desk, (rt, front)| put(rt, desk, front))
 }
@@ -215,8 +207,8 @@ fn put<R: Wait>(rt: &R, desk: Desk, front: Front) -> (Desk, Result<(), AllocErro
     requires { desk.desk.shown.value.seen.of ≡ front.seen.of }
     ensures shown { result.0.desk.shown.value.seen.of ≡ front.seen.of }
     ensures seat { MatchResult result.1
-        (λ _. seat_view result.0.desk.place ≡ Some (name_of front.seen.of))
-        (λ _. seat_view result.0.desk.place ≡ seat_view desk.desk.place) }
+        (λ _. told_name result.0.desk.place ≡ Some (name_of front.seen.of))
+        (λ _. told_name result.0.desk.place ≡ told_name desk.desk.place) }
 {
     let mut desk = desk;
     match desk.append(front) {

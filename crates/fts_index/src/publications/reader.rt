@@ -1,9 +1,8 @@
 // A reader of publications, which waits for nobody.
 ghost use Rattle.std.specs.Prelude.{◌≡◌, ◌⊎◌, Some, IfOk, OnOk, OnErr, IsOkUnless};
 ghost use mathlib.Core.List.{IsPrefix};
-ghost use Rattle.left_right.specs.Sides.{view as seat_view};
 ghost use Rattle.fts_index.specs.Publications.{IsFront};
-ghost use Rattle.fts_index.specs.PublicationsShown.{name_of, Finds};
+ghost use Rattle.fts_index.specs.PublicationsShown.{name_of, told_name, Finds};
 
 use crate::publications::front::Front;
 use crate::publications::searcher::{CommitSeen, Searcher};
@@ -23,21 +22,20 @@ pub struct Reader {
 
 impl Model for Reader {
     ghost use Rattle.std.specs.Prelude.{◌≡◌, Some};
-    ghost use Rattle.left_right.specs.Sides.{view as seat_view};
     ghost use Rattle.fts_index.specs.Publications.{Known};
-    ghost use Rattle.fts_index.specs.PublicationsShown.{name_of};
+    ghost use Rattle.fts_index.specs.PublicationsShown.{name_of, told_name};
 
     ghost Value = { Known };
 
     ghost view = { λ r. r.front.seen };
 
-    ghost invariant = { λ r. seat_view r.place.place ≡ Some (name_of r.front.seen.of) };
+    ghost invariant = { λ r. told_name r.place.place ≡ Some (name_of r.front.seen.of) };
 }
 
 impl Reader {
     /// A reader that knows what the front has seen.
     pub(crate) fn at(place: Place, front: Front) -> Reader
-        requires { seat_view place.place ≡ Some (name_of front.seen.of) }
+        requires { told_name place.place ≡ Some (name_of front.seen.of) }
         ensures { result ≡ front.seen }
     {
         Reader { place, front }
@@ -76,8 +74,8 @@ impl Reader {
 
 /// Takes the front that is shown, if one is and it is newer.
 fn refresh(place: &mut Place, front: &mut Front) -> Result<(), AllocError>
-    requires { seat_view place.old.place ≡ Some (name_of front.old.seen.of) }
-    ensures seat { seat_view place.new.place ≡ Some (name_of front.new.seen.of) }
+    requires { told_name place.old.place ≡ Some (name_of front.old.seen.of) }
+    ensures seat { told_name place.new.place ≡ Some (name_of front.new.seen.of) }
     ensures of { front.new.seen.of ≡ front.old.seen.of }
     ensures grows { IsPrefix front.old.seen.list front.new.seen.list }
 {
@@ -89,14 +87,14 @@ fn refresh(place: &mut Place, front: &mut Front) -> Result<(), AllocError>
 
 /// The front that is shown, if one is and it is newer than what is known.
 fn look(place: &mut Place, known: &Front) -> Result<Option<Front>, AllocError>
-    ensures { Finds (seat_view place.old.place) (seat_view place.new.place) result }
+    ensures { Finds (told_name place.old.place) (told_name place.new.place) result }
 {
     replace_with(place, known, |place, known| enter(place, known))
 }
 
 /// The one step of a reader. No front is shown once the writer was closed.
 fn enter(place: Place, known: &Front) -> (Place, Result<Option<Front>, AllocError>)
-    ensures { Finds (seat_view place.place) (seat_view result.0.place) result.1 }
+    ensures { Finds (told_name place.place) (told_name result.0.place) result.1 }
 {
     match place.enter_as::<Names>() {
         Ok(reading) => {

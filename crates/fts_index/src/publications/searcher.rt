@@ -1,11 +1,23 @@
 // What is handed out: a snapshot to search, and what a commit was seen to publish.
-ghost use Rattle.std.specs.Prelude.{◌≡◌};
+ghost use Rattle.std.specs.Prelude.{◌≡◌, ◌≤◌, ◌-◌, ◌^◌, List, true, IfOk, IsOkUnless, min};
+ghost use Rattle.fts_model.specs.declared.operation.Term.{Term};
+ghost use Rattle.fts_model.specs.Queries.{query_fits, request_fits};
+ghost use Rattle.fts_model.specs.QueryValues.{query_value};
+ghost use Rattle.fts_model.specs.Answers.{answer};
+ghost use Rattle.fts_cursor.specs.Openings.{IsOfOneTerm, HasMusts};
+ghost use Rattle.fts_index.specs.Snapshots.{content_of};
+ghost use Rattle.fts_index.specs.Searches.{blocks_in, most_in, least_in};
 ghost use Rattle.fts_index.specs.Publications.{IsFront};
 
 use crate::publications::front::Front;
+use crate::searching::{Found, search_snapshot};
 use crate::snapshot::Snapshot;
-use fts_model::Stamp;
+use fts_model::{Query, Refusal, Request, Stamp};
+use fts_pool::Gate;
+use std::alloc::Global;
 use std::marker::Model;
+use std::sync::Wait;
+use std::thread::Threads;
 
 /// A snapshot to search, which it keeps whatever is published afterwards. Contracts see it with its commit stamp and with
 /// the publications that were seen when it was taken.
@@ -37,6 +49,41 @@ impl Searcher {
         ensures front { IsFront self.now }
     {
         self.front.snapshot()
+    }
+
+    /// What a query finds among all documents of the commit. The segments are searched by up to so many threads, 1 to 64, the
+    /// calling one among them: one job for each segment, in their order. The gate is called around each.
+    ///
+    /// It also tells how many blocks of lists of documents were opened: each one once, of each segment, for a query of one
+    /// term, and no more than the bound of a conjunction for one of several terms that all must stand. The only refusal is
+    /// `Memory`.
+    pub fn search<R: Threads + Wait + Sync, G: Gate>(
+        &self,
+        rt: &R,
+        alloc: Global,
+        query: &Query,
+        request: &Request,
+        workers: usize,
+        gate: &G,
+    ) -> Result<Found, Refusal>
+        requires query { query_fits self.now.snapshot.schema (query_value query.now) ≡ true }
+        requires request { request_fits self.now.snapshot.schema request.now ≡ true }
+        requires workers { (1 ≤ workers) × (workers ≤ 64) }
+        ensures answer { IfOk result (λ found. found.answer ≡ answer self.now.snapshot.schema
+            (query_value query.now) request.now (content_of self.now.snapshot)) }
+        ensures one_term { IfOk result (λ found. (t : Term) →
+            IsOfOneTerm (query_value query.now) t →
+            found.openings ≡ min (2 ^ 64 - 1) (blocks_in self.now.snapshot.entries t)) }
+        ensures musts { IfOk result (λ found. (terms : List Term) →
+            HasMusts (query_value query.now) terms →
+            found.openings ≤ most_in self.now.snapshot.entries terms) }
+        ensures opened { IfOk result (λ found. (terms : List Term) →
+            HasMusts (query_value query.now) terms → min (2 ^ 64 - 1)
+            (least_in self.now.snapshot.schema (query_value query.now)
+            self.now.snapshot.entries terms) ≤ found.openings) }
+        ensures memory { IsOkUnless result Refusal.Memory }
+    {
+        search_snapshot(rt, alloc, self.snapshot(), query, request, workers, gate)
     }
 }
 

@@ -17,7 +17,7 @@ new-requires c =
     let one = whole (schema_of sources) c.args.id (contents sources) in
     let segment : c.into_segment-segment.result ≡ one.segment = c.into_segment-segment.ensures ∙ ap (λ m. m.segment) c.in-Ok.ensures.ok in
     let bits : c.in_ok-live.live ≡ one.live =
-    c.in_ok-live.ensures.ok ∙ ap (λ n. replicate n true) (c.docs.ensures ∙ ap (λ (s : SegmentValue). length s.documents) segment) ∙ all_set (contents sources) in
+    c.in_ok-live.ensures.ok ∙ ap (λ n. replicate n true) (c.docs.ensures.len ∙ ap (λ (s : SegmentValue). length s.documents) segment) ∙ all_set (contents sources) in
     let few = not_large (Ok c.in-Ok.merged) c.in-Ok.merged (live_count sources) refl c.in-Ok.ensures.large in
     subst IsEntry (sym (same_entry c.args.id c.args.id c.into_segment-segment.result one.segment c.in_ok-live.live one.live refl segment bits))
     (entry_whole (schema_of sources) c.args.id (contents sources) (omega (arith, length-contents sources, few)))
@@ -28,7 +28,7 @@ returns c =
     let one = whole (schema_of sources) c.args.id (contents sources) in
     let segment : c.into_segment-segment.result ≡ one.segment = c.into_segment-segment.ensures ∙ ap (λ m. m.segment) c.in-Ok.ensures.ok in
     let bits : c.in_ok-live.live ≡ one.live =
-    c.in_ok-live.ensures.ok ∙ ap (λ n. replicate n true) (c.docs.ensures ∙ ap (λ (s : SegmentValue). length s.documents) segment) ∙ all_set (contents sources) in
+    c.in_ok-live.ensures.ok ∙ ap (λ n. replicate n true) (c.docs.ensures.len ∙ ap (λ (s : SegmentValue). length s.documents) segment) ∙ all_set (contents sources) in
     let few = not_large (Ok c.in-Ok.merged) c.in-Ok.merged (live_count sources) refl c.in-Ok.ensures.large in
     ap (λ fault. ok_unless fault one) (size_none (live_count sources) few)
     ∙ ap Ok (sym (c.in_ok-new.ensures ∙ same_entry c.args.id c.args.id c.into_segment-segment.result one.segment c.in_ok-live.live one.live refl segment bits))

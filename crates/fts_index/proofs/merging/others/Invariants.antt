@@ -1,7 +1,7 @@
 -- What stays true in the loop of `merging::others`.
-use Rattle.std.proofs.Common.{◌≡◌, take}
-use Rattle.fts_index.specs.Merges.{without}
+use Rattle.std.proofs.Common.{◌≡◌, ℕ, List, take}
+use Rattle.fts_index.specs.Merges.{marks_of, without}
 use Rattle.fts_index.proofs.merging.others.Given as goal
 
-abbrev pub invariant-loop-entry : goal.invariant-loop-entry
-invariant-loop-entry l = l.others.items ≡ without (take l.entry-index l.entries) l.ids
+abbrev pub invariant-loop-i : goal.invariant-loop-i
+invariant-loop-i l = (ids : List ℕ) → l.marks ≡ marks_of l.entries ids → l.others.items ≡ without (take l.i l.entries) ids

@@ -1,4 +1,4 @@
-use Rattle.fts_index.proofs.PublicationsLists.{newest_follows}
+use Rattle.fts_index.proofs.PublicationsLemmas.{newest_follows}
 use Rattle.fts_index.proofs.publications.laws.newest_follows.Goals as goal
 
 pub returns : goal.returns

@@ -1,6 +1,6 @@
 use Rattle.std.proofs.Common.{◌≡◌, drop, ap, ◌∙◌}
 use Rattle.left_right.specs.Sides.{view}
-use Rattle.fts_index.proofs.PublicationsNaming.{looks, of_next, of_shown, seat_shown}
+use Rattle.fts_index.proofs.PublicationsShownLemmas.{looks, of_next, of_shown, seat_shown}
 use Rattle.fts_index.proofs.publications.publisher.put.Goals as goal
 use Rattle.fts_index.proofs.publications.publisher.put.Goals.{in-Ok, in-Err}
 

@@ -1,5 +1,5 @@
 use Rattle.std.proofs.Common.{refl}
-use Rattle.fts_index.proofs.PublicationsNaming.{looks}
+use Rattle.fts_index.proofs.PublicationsShownLemmas.{looks}
 use Rattle.fts_index.proofs.publications.reader.enter.Goals as goal
 
 pub enter_as-requires : goal.enter_as-requires

@@ -1,17 +1,26 @@
 -- What is left of the proof of `snapshot::Snapshot::commit`.
-use Rattle.std.proofs.Common.{◌≡◌, ◌<◌, ◌+◌, ◌^◌, ◌++◌, length, map, filter, sym, ap, subst, ◌∙◌}
+use Rattle.std.proofs.Common.{◌≡◌, ◌<◌, ◌+◌, ◌^◌, ◌++◌, length, map, filter, All, sym, ap, subst, ◌∙◌}
 use Rattle.std.proofs.lemmas.List.Elements.{recursion_from_All}
 use Rattle.fts_model.specs.Operations.{alive, adds, added}
 use Rattle.fts_index.specs.Entries.{EntryValue, has_live, content}
 use Rattle.fts_index.specs.Cuts.{groups_of}
 use Rattle.fts_index.specs.Jobs.{entry_of}
-use Rattle.fts_index.specs.Commits.{struck, fresh_from, committed}
+use Rattle.fts_index.specs.Commits.{struck, fresh_from, committed, misfit}
 use Rattle.fts_index.specs.Snapshots.{SnapshotValue, IsBehind, IsSnapshot, after_commit}
+use Rattle.fts_segment.specs.Segments.{AllFit}
 use Rattle.fts_index.proofs.CommitLemmas.{content-committed}
+use Rattle.fts_index.proofs.FitLemmas.{groups_fit}
 use Rattle.fts_index.proofs.SnapshotLemmas.{snapshot_after_commit, snapshot_with, same_snapshot}
 use Rattle.fts_index.proofs.WriterLemmas.{rise_behind}
 use Rattle.fts_index.proofs.SourceLemmas.{room_left}
 use Rattle.fts_index.proofs.snapshot.Snapshot.commit.Goals as goal
+
+pub jobs_of_batch-requires-clause-fit : goal.jobs_of_batch-requires-clause-fit
+jobs_of_batch-requires-clause-fit g c =
+    let schema = c.self.inside.schema in
+    let batch = c.args.batch.now in
+    subst (All (AllFit schema)) (sym (c.deref-2.ensures.value ∙ c.in_ok-groups.ensures))
+    (groups_fit schema c.args.cut batch (ap (λ (s : SnapshotValue). misfit s.schema batch) c.self.view_is ∙ c.requires.fits))
 
 pub invariant_of-result : goal.invariant_of-result
 invariant_of-result g c =

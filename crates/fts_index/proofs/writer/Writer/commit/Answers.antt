@@ -1,8 +1,10 @@
-use Rattle.std.proofs.Common.{◌≡◌, ◌<◌, ◌+◌, ◌++◌, length, subst, sym, ap, ◌∙◌, arith}
+use Rattle.std.proofs.Common.{◌<◌, ◌+◌, ◌++◌, All, length, subst, sym, ap, ◌∙◌, arith}
+use Rattle.fts_model.specs.declared.operation.Stamped.{Stamped}
+use Rattle.fts_model.specs.Documents.{DocumentValue}
 use Rattle.fts_model.specs.Operations.{alive, adds}
 use Rattle.fts_index.specs.Publications.{FrontValue}
 use Rattle.fts_index.specs.Snapshots.{SnapshotValue, IsBehind, content_of}
-use Rattle.fts_index.proofs.WriterLemmas.{batch_behind, first_behind, writer_behind}
+use Rattle.fts_index.proofs.WriterLemmas.{batch_behind, first_behind, left_few, writer_behind}
 use Rattle.fts_index.proofs.writer.Writer.commit.Goals as goal
 
 pub commit-requires-clause-behind : goal.commit-requires-clause-behind
@@ -25,3 +27,14 @@ invariant_of-self-2 g c =
     (ap (λ (f : FrontValue). f.stamp) c.in_ok-seen.ensures.new ∙ c.end-stamp.ensures.end ∙ ap (λ os. c.args.batch.now.first + length os) (sym same))
     holds
     c.self.invariant.below (omega (arith, first)) c.ops-2.ensures.numbered (omega (arith, c.end-stamp.ensures.end, c.end-stamp.ensures.small, ap (λ os. length os) same)) c.self.invariant.rounds
+
+pub publish-requires-clause-few : goal.publish-requires-clause-few
+publish-requires-clause-few g c =
+    let w = c.self.inside in
+    let first = first_behind w.publisher.stamp w.rounds w.round c.args.batch.now c.self.invariant.round (sym c.is_of.ensures ∙ c.if-not-is_of.false) in
+    let before = c.snapshot-snapshot.result.now in
+    let ops = c.ops-2.result.now in
+    let below = subst (λ (s : SnapshotValue). All (λ (d : Stamped DocumentValue). d.stamp < w.publisher.stamp) (content_of s)) (sym c.snapshot-snapshot.ensures.snapshot) c.self.invariant.below in
+    let most = left_few before.schema (content_of before) ops w.publisher.stamp c.args.batch.now.first c.schema.ensures.snapshot.stamps below (omega (arith, first)) c.ops-2.ensures.numbered in
+    let count = ap length c.in_ok-next.ensures.content in
+    omega (arith, most, count, ap length c.ops-2.ensures.ops, c.end-stamp.ensures.end, c.end-stamp.ensures.small)

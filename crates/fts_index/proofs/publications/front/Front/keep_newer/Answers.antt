@@ -1,7 +1,7 @@
 use Rattle.std.proofs.Common.{◌≤◌, ap, subst, arith, length, List}
 use mathlib.Core.List.{IsPrefix}
 use Rattle.fts_index.specs.declared.publications.publication.Publication.{Publication}
-use Rattle.fts_index.proofs.PublicationsLists.{prefix_itself, prefix_shorter}
+use Rattle.fts_index.proofs.PublicationsLemmas.{prefix_self, prefix_shorter}
 use Rattle.fts_index.proofs.publications.front.Front.keep_newer.Goals as goal
 
 pub returns-then-self-other-clause-mine : goal.returns-then-self-other-clause-mine
@@ -11,6 +11,12 @@ returns-then-self-other-clause-mine c =
     let less : length c.self.inside.seen.log ≤ length c.other.inside.seen.log = omega (arith, c.self.invariant.0, c.other.invariant.0) in
     subst (λ (l : List Publication). IsPrefix l c.other.inside.seen.log) (ap (λ f. f.seen.list) c.self.view_is) (prefix_shorter c.self.inside.seen.log c.other.inside.seen.log both mine c.learn.ensures.3 less)
 
+pub returns-then-self-other-clause-other : goal.returns-then-self-other-clause-other
+returns-then-self-other-clause-other c = subst (λ (l : List Publication). IsPrefix l c.other.inside.seen.log) (ap (λ f. f.seen.list) c.other.view_is) (prefix_self c.other.inside.seen.log)
+
+pub returns-else-self-other-clause-mine : goal.returns-else-self-other-clause-mine
+returns-else-self-other-clause-mine c = prefix_self _
+
 pub returns-else-self-other-clause-other : goal.returns-else-self-other-clause-other
 returns-else-self-other-clause-other c =
     let both = c.learn.new.self.log in
@@ -18,6 +24,3 @@ returns-else-self-other-clause-other c =
     let less : length c.other.inside.seen.log ≤ length c.self.inside.seen.log = omega (arith, c.self.invariant.0, c.other.invariant.0) in
     let short : IsPrefix c.other.inside.seen.log c.self.inside.seen.log = prefix_shorter c.other.inside.seen.log c.self.inside.seen.log both c.learn.ensures.3 mine less in
     rw (← c.self.view_is, ← c.other.view_is) short
-
-pub returns-then-self-other-clause-other : goal.returns-then-self-other-clause-other
-returns-then-self-other-clause-other c = rw (← c.other.view_is) (prefix_itself c.other.inside.seen.log)

@@ -4,8 +4,8 @@ use Rattle.std.specs.Arc.{arc_value}
 use Rattle.fts_index.specs.declared.publications.commit.Commit.{Commit}
 use Rattle.fts_index.specs.declared.publications.publication.Publication.{Publication}
 use Rattle.fts_index.specs.Publications.{FrontValue, newest, publication, Follows, ArePublications}
-use Rattle.fts_index.proofs.PublicationsLists.{published_snoc, fold_last}
-use Rattle.fts_index.proofs.PublicationsAppending.{append_moves}
+use Rattle.fts_index.proofs.PublicationsLemmas.{published_snoc, fold_last}
+use Rattle.fts_index.proofs.PublicationsStepsLemmas.{append_moves}
 use Rattle.fts_index.proofs.publications.front.Front.with.Goals as goal
 
 -- what is published by a commit
@@ -46,4 +46,5 @@ invariant_of-result c =
       omega (arith, c.self.invariant.0, ap length full, length-append c.self.inside.seen.log (next ∷ [])),
       ap newest full ∙ fold_last _ c.self.inside.seen.log next,
       subst ArePublications (sym full) (published_snoc _ _ c.self.invariant.2 follows),
+      c.requires.few,
     )

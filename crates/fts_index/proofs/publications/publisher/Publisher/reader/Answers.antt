@@ -1,4 +1,4 @@
-use Rattle.fts_index.proofs.PublicationsNaming.{admits, forks, merges}
+use Rattle.fts_index.proofs.PublicationsShownLemmas.{admits, forks, merges}
 use Rattle.fts_index.proofs.publications.publisher.Publisher.reader.Goals as goal
 
 pub reader-requires : goal.reader-requires

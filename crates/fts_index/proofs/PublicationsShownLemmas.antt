@@ -7,7 +7,7 @@ use Rattle.left_right.specs.Register.{Admits, TurnsAt, Forks, Merges}
 use Rattle.atomic_table.proofs.Lists.{at_set, at_snoc}
 use Rattle.fts_index.specs.declared.publications.name.Name.{Name}
 use Rattle.fts_index.specs.Publications.{FrontValue}
-use Rattle.fts_index.proofs.PublicationsLists.{fold_last}
+use Rattle.fts_index.proofs.PublicationsLemmas.{fold_last}
 use Rattle.fts_index.specs.PublicationsShown.{name_of, KnowsName, IsOfOne, Looks}
 
 set_knows : (x : FrontValue) (views : List (Option Name)) (seat : ℕ) (w : Option Name) → IsOfOne x views → KnowsName w x.seen.of → IsOfOne x (set views seat w)

@@ -8,7 +8,7 @@ use Rattle.logbook.specs.Pages.{Cell, cell, keeps, no_nib, step, Moves, Goes}
 use Rattle.fts_index.specs.declared.publications.publication.Publication.{Publication}
 use Rattle.fts_index.specs.Publications.{ArePublications}
 use Rattle.fts_index.specs.PublicationsHistory.{IsKept, Appends}
-use Rattle.fts_index.proofs.PublicationsLists.{prefix_whole}
+use Rattle.fts_index.proofs.PublicationsLemmas.{prefix_whole}
 
 abbrev pub shown : List Publication → List Publication
 shown list = []

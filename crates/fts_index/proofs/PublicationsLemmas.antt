@@ -3,10 +3,15 @@ use Rattle.std.proofs.Common.{◌≡◌, ℕ, ◌<◌, ◌≤◌, List, [], ◌�
 use Rattle.std.specs.Prelude.{AllPairs}
 use Rattle.std.proofs.Math.ListN.{get_or-append}
 use Rattle.std.proofs.Math.Nat.{eq-or-lt_of_le}
+use Rattle.std.proofs.lemmas.List.{append-nil}
 use Rattle.std.proofs.lemmas.List.Quantifiers.{all_pairs_push}
 use mathlib.Core.List.{IsPrefix}
 use Rattle.fts_index.specs.declared.publications.publication.Publication.{Publication}
 use Rattle.fts_index.specs.Publications.{opening, Follows, ArePublications, newest}
+
+-- each list begins itself
+pub prefix_self : {A : Type 0} (xs : List A) → IsPrefix xs xs
+prefix_self xs = ([], append-nil xs)
 
 -- of two beginnings of one list the shorter begins the longer
 pub prefix_shorter : {A : Type 0} (xs ys zs : List A) → IsPrefix xs zs → IsPrefix ys zs → length xs ≤ length ys → IsPrefix xs ys
@@ -77,6 +82,3 @@ newest_follows [] (y ∷ ys) p are =
     subst (λ (q : Publication). Follows q (newest (y ∷ ys))) first (newest_after (y ∷ ys) 0 y are.follow (omega arith))
 newest_follows (x ∷ xs) more p are =
     subst (λ (l : List Publication). Follows (newest (x ∷ xs)) (newest l)) p.1 (rest_follows x xs p.0 (subst ArePublications (sym p.1) are))
-
-pub prefix_itself : {X : Type 0} (xs : List X) → IsPrefix xs xs
-prefix_itself xs = ([], append-nil xs)

@@ -1,0 +1,29 @@
+-- How a snapshot follows another, and when a segment that was merged fits one in place of its sources.
+use Rattle.std.specs.Prelude.{◌≡◌, ◌≤◌, ◌<◌, ℕ, Bool, true, false, Some, List, slice_get, Contains}
+use Rattle.std.specs.Option.{option_map_or}
+use Rattle.fts_merge.specs.Merges.{MergedValue}
+use Rattle.fts_index.specs.Entries.{EntryValue}
+use Rattle.fts_index.specs.Snapshots.{SnapshotValue}
+
+-- whether the bit of this number is set
+abbrev pub is_set : List Bool → ℕ → Bool
+is_set bits n = option_map_or (λ bit. bit) (slice_get bits n) false
+
+-- a segment later on: its number and documents are the same, and what is live was live before
+pub record IsLater (before after : EntryValue) : Type 0 where
+  pub id : after.id ≡ before.id
+  pub segment : after.segment ≡ before.segment
+  pub live : (n : ℕ) → is_set after.live n ≡ true → is_set before.live n ≡ true
+
+-- a snapshot follows another: the next number doesn't fall, and each segment whose number is below the old one's is one of the old ones, later on
+pub record Follows (old new : SnapshotValue) : Type 0 where
+  pub next : old.next_id ≤ new.next_id
+  pub segments : (entry : EntryValue) → Contains new.entries entry → entry.id < old.next_id → (before : EntryValue) × Contains old.entries before × IsLater before entry
+
+-- the segments of these numbers, merged in their order, can be replaced in a snapshot: the numbers were given already, and each document that is live in one of the segments that are
+-- there stands in the merged segment, and its origin at the same place
+pub record Fits (merged : MergedValue) (ids : List ℕ) (s : SnapshotValue) : Type 0 where
+  pub below : (id : ℕ) → Contains ids id → id < s.next_id
+  pub mapped : (entry : EntryValue) (source n : ℕ) → Contains s.entries entry → slice_get ids source ≡ Some entry.id → is_set entry.live n ≡ true →
+      (place : ℕ) × (slice_get merged.origins place ≡ Some (record { source = source; document = n }))
+      × (slice_get merged.segment.documents place ≡ slice_get entry.segment.documents n)

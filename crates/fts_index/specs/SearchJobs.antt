@@ -1,0 +1,32 @@
+-- What the jobs of a search are asked, and what they answer.
+use Rattle.std.specs.Prelude.{Result, IfOk, IsOkUnless}
+use Rattle.fts_model.specs.declared.query.Request.{Request}
+use Rattle.fts_model.specs.declared.refusal.Refusal.{Refusal}
+use Rattle.fts_model.specs.declared.refusal.Refusal.TheVariants.{Memory}
+use Rattle.fts_model.specs.QueryValues.{QueryValue, query_value}
+use Rattle.fts_collect.specs.Parts.{PartValue}
+use Rattle.fts_index.specs.Entries.{EntryValue}
+use Rattle.fts_index.specs.Searches.{IsPartOf}
+use Rattle.fts_index.specs.declared.searching.job.SearchJob.{SearchJob}
+
+-- a query and a request, for a segment
+pub record Asked : Type 0 where
+  pub query : QueryValue
+  pub request : Request
+  pub entry : EntryValue
+
+-- the same query and request for each segment
+abbrev pub asks : QueryValue → Request → EntryValue → Asked
+asks query request entry = record { query = query; request = request; entry = entry }
+
+-- what a job is asked
+abbrev pub asked_of : SearchJob → Asked
+asked_of job = record { query = query_value job.query.now; request = job.request.now; entry = job.entry.now }
+
+-- a result is a part of what was asked, or want of memory
+abbrev pub Tells : Asked → Result PartValue Refusal → Type 0
+Tells asked result = IfOk result (IsPartOf asked.query asked.request asked.entry) × IsOkUnless result Memory
+
+-- a job answers what it is asked
+abbrev pub AnswersSearch : SearchJob → Result PartValue Refusal → Type 0
+AnswersSearch job result = Tells (asked_of job) result

@@ -1,0 +1,62 @@
+// The job of a search: what it does to one segment.
+ghost use Rattle.std.specs.Prelude.{◌≡◌, true};
+ghost use Rattle.fts_model.specs.Queries.{query_fits, request_fits};
+ghost use Rattle.fts_model.specs.QueryValues.{query_value};
+
+use crate::entry::Entry;
+use fts_collect::{Part, collect};
+use fts_model::{Query, Refusal, Request};
+use fts_pool::Job;
+use std::alloc::Global;
+
+/// A query and a request, for the live documents of one segment.
+#[derive(Drop)]
+pub struct SearchJob<'a> {
+    alloc: Global,
+    entry: &'a Entry,
+    query: &'a Query,
+    request: &'a Request,
+    ghost query_fits: { query_fits entry.now.segment.schema (query_value query.now) ≡ true },
+    ghost request_fits: { request_fits entry.now.segment.schema request.now ≡ true },
+}
+
+impl<'a> SearchJob<'a> {
+    pub(crate) fn new(
+        alloc: Global,
+        entry: &'a Entry,
+        query: &'a Query,
+        request: &'a Request,
+    ) -> SearchJob<'a>
+        requires query { query_fits entry.now.segment.schema (query_value query.now) ≡ true }
+        requires request { request_fits entry.now.segment.schema request.now ≡ true }
+        ensures entry { result.entry.now ≡ entry.now }
+        ensures query { query_value result.query.now ≡ query_value query.now }
+        ensures request { result.request.now ≡ request.now }
+    {
+        SearchJob {
+            alloc,
+            entry,
+            query,
+            request,
+        }
+    }
+}
+
+impl Job for SearchJob<'_> {
+    ghost use Rattle.fts_index.specs.SearchJobs.{AnswersSearch};
+
+    type Out = Result<Part, Refusal>;
+
+    ghost gives = { AnswersSearch };
+
+    fn run(&self) -> Result<Part, Refusal> {
+        let entry = self.entry;
+        collect(
+            self.alloc,
+            entry.segment(),
+            entry.live(),
+            self.query,
+            self.request,
+        )
+    }
+}
