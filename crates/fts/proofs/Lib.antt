@@ -2,7 +2,11 @@ pub mod Adds
 pub mod AnswerLemmas
 pub mod BlankLemmas
 pub mod CarrierLemmas
+pub mod CommitLemmas
+pub mod EngineLemmas
+pub mod FitLemmas
 pub mod HistoryLemmas
 pub mod LineLemmas
+pub mod MergeLemmas
 pub mod RunLemmas
 pub mod StreamLemmas

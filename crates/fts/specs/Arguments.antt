@@ -11,7 +11,7 @@ use Rattle.fts.specs.declared.cli.args.ArgFault.{ArgFault}
 use Rattle.fts.specs.declared.cli.args.ArgFault.TheVariants as refused
 use Rattle.fts.specs.declared.cli.args.Asked.{Asked}
 use Rattle.fts.specs.declared.cli.args.Asked.TheVariants.{Run, Help}
-use Rattle.fts.specs.declared.engine.options.TheConstants.Options.{DEFAULT}
+use Rattle.fts.specs.DefaultOptions.{AreDefault}
 
 -- `fts`, which requires a subcommand
 abbrev pub required : App → App
@@ -31,7 +31,7 @@ faults_of words = fault_of command words
 
 -- what is asked for by words with these faults
 abbrev pub Asks : Kinds → Asked → Type 0
-Asks faults (Run options) = (faults ≡ []) × (options ≡ DEFAULT)
+Asks faults (Run options) = (faults ≡ []) × AreDefault options
 Asks faults (Help text) = IsAmong DisplayHelp faults ⊎ IsAmong DisplayVersion faults
 
 -- why words with these faults ask for nothing

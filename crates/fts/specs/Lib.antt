@@ -2,8 +2,10 @@ pub mod Arguments
 pub mod Carriers
 pub mod CommandViews
 pub mod Commands
+pub mod DefaultOptions
 pub mod Histories
 pub mod Indexes
+pub mod Limits
 pub mod ListIndexes
 pub mod Lists
 pub mod Outputs
@@ -13,3 +15,5 @@ pub mod Sessions
 pub mod Steps
 pub mod Streams
 pub mod Text
+pub mod WaitingOperations
+pub mod WriterIndexes

@@ -12,7 +12,7 @@ mod script;
 
 use cli::args::{ArgFault, Asked, args};
 use cli::status::{arg_status, run_status, status};
-use engine::list_engine::ListEngine;
+use engine::index_engine::IndexEngine;
 use engine::options::Options;
 use script::fault::Fault;
 use script::run_std::run_std;
@@ -40,7 +40,7 @@ fn asked(rt: &(impl Env + AllocGlobal)) -> Result<Asked, ArgFault> {
 ///
 /// The exit status, and the streams with the bytes that were read and written.
 fn run_standard(
-    rt: &(impl AllocGlobal + Threads + Wait + Eprint),
+    rt: &(impl AllocGlobal + Threads + Wait + Sync + Eprint),
     stdin: Stdin,
     stdout: Stdout,
     options: Options,
@@ -54,7 +54,7 @@ fn run_standard(
     ensures stopped { result.0 ≢ 0 →
         BeginsOutputUnless (0 < result.1.ends) result.1.moved.bytes result.2.moved.bytes }
 {
-    let (outcome, reader, writer) = run_std::<ListEngine, _, _>(rt, stdin, stdout, options);
+    let (outcome, reader, writer) = run_std::<IndexEngine, _, _>(rt, stdin, stdout, options);
     if let Err(fault) = &outcome {
         let _ = rt.eprintln(format_args!("fts: {fault}"));
     }

@@ -138,7 +138,7 @@ impl Engine for ListEngine {
     ghost changes = { λ e. e.commit_stamp + length e.pending.items };
 
     fn open(
-        rt: &(impl AllocGlobal + Threads + Wait),
+        rt: &(impl AllocGlobal + Threads + Wait + Sync),
         options: Options,
         schema: Schema,
     ) -> Result<Self, Refusal> {
@@ -173,7 +173,7 @@ impl Engine for ListEngine {
         Ok(stamp)
     }
 
-    fn commit(&mut self, rt: &(impl AllocGlobal + Threads + Wait)) -> Result<Stamp, Refusal> {
+    fn commit<R: AllocGlobal + Threads + Wait + Sync>(&mut self, rt: &R) -> Result<Stamp, Refusal> {
         let stamp = self.next_stamp();
         commit(rt.alloc(), &self.schema, &mut self.documents, &self.pending)?;
         self.pending.clear();
@@ -181,12 +181,15 @@ impl Engine for ListEngine {
         Ok(stamp)
     }
 
-    fn rollback(&mut self, _rt: &(impl AllocGlobal + Threads + Wait)) -> Result<Stamp, Refusal> {
+    fn rollback(
+        &mut self,
+        _rt: &(impl AllocGlobal + Threads + Wait + Sync),
+    ) -> Result<Stamp, Refusal> {
         self.pending.clear();
         Ok(self.commit_stamp)
     }
 
-    fn merge(&mut self, _rt: &(impl AllocGlobal + Threads + Wait)) -> Result<u64, Refusal> {
+    fn merge(&mut self, _rt: &(impl AllocGlobal + Threads + Wait + Sync)) -> Result<u64, Refusal> {
         let count = self.documents.len();
         if count > MOST_MERGED {
             return Err(Refusal::TooLarge);
@@ -194,14 +197,14 @@ impl Engine for ListEngine {
         Ok(count as u64)
     }
 
-    fn search(
+    fn search<R: AllocGlobal + Threads + Wait + Sync>(
         &mut self,
-        rt: &(impl AllocGlobal + Threads + Wait),
+        rt: &R,
         query: &Query,
         request: &Request,
     ) -> Result<Answer, Refusal> {
         scan::answer(rt.alloc(), &self.schema, query, request, &self.documents)
     }
 
-    fn close(self, _rt: &(impl AllocGlobal + Threads + Wait)) {}
+    fn close(self, _rt: &(impl AllocGlobal + Threads + Wait + Sync)) {}
 }

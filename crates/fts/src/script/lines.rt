@@ -99,7 +99,7 @@ impl PartialLine {
     /// Replies to the line, which is whole now, and begins the next.
     pub fn answer<E: Engine>(
         &mut self,
-        rt: &(impl AllocGlobal + Threads + Wait),
+        rt: &(impl AllocGlobal + Threads + Wait + Sync),
         session: &mut Session<E>,
         replies: &mut String,
     ) -> Result<(), AllocError>

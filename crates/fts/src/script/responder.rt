@@ -72,7 +72,7 @@ impl<E: Engine> Responder<E> {
     /// Replies to the line that ends with `piece`.
     fn end_line(
         &mut self,
-        rt: &(impl AllocGlobal + Threads + Wait),
+        rt: &(impl AllocGlobal + Threads + Wait + Sync),
         piece: &[u8],
     ) -> Result<(), AllocError>
         requires line_number_fits { self.old.session.number ≤ 2 ^ 61 }
@@ -99,7 +99,7 @@ impl<E: Engine> Responder<E> {
     /// Takes the bytes up to the end of a line, or all where none ends, and says how many.
     fn take_line(
         &mut self,
-        rt: &(impl AllocGlobal + Threads + Wait),
+        rt: &(impl AllocGlobal + Threads + Wait + Sync),
         bytes: &[u8],
     ) -> Result<usize, AllocError>
         requires line_number_fits { self.old.session.number ≤ 2 ^ 61 }
@@ -130,7 +130,7 @@ impl<E: Engine> Responder<E> {
     /// Takes lines until the bytes are done or many replies wait, and says how many bytes it took.
     fn take_lines(
         &mut self,
-        rt: &(impl AllocGlobal + Threads + Wait),
+        rt: &(impl AllocGlobal + Threads + Wait + Sync),
         bytes: &[u8],
     ) -> Result<usize, AllocError>
         requires line_number_fits { self.old.session.number + length bytes.now ≤ 2 ^ 61 }
@@ -157,7 +157,7 @@ impl<E: Engine> Responder<E> {
     /// Replies to the lines of a piece. At a fault it is closed.
     pub fn feed<W: ScriptOut>(
         mut self,
-        rt: &(impl AllocGlobal + Threads + Wait),
+        rt: &(impl AllocGlobal + Threads + Wait + Sync),
         piece: &[u8],
         writer: &mut W,
     ) -> Result<Responder<E>, Fault>
@@ -207,7 +207,10 @@ impl<E: Engine> Responder<E> {
     }
 
     /// Replies to the line that the end of the input ends, if there is one.
-    fn end_input(&mut self, rt: &(impl AllocGlobal + Threads + Wait)) -> Result<(), AllocError>
+    fn end_input(
+        &mut self,
+        rt: &(impl AllocGlobal + Threads + Wait + Sync),
+    ) -> Result<(), AllocError>
         requires line_number_fits { self.old.session.number ≤ 2 ^ 61 }
         requires none_wait { string_bytes self.old.replies ≡ [] }
         ensures ok { OnOk result
@@ -224,7 +227,7 @@ impl<E: Engine> Responder<E> {
     /// Replies to the last line, closes, and writes and flushes all.
     pub fn end<W: ScriptOut>(
         mut self,
-        rt: &(impl AllocGlobal + Threads + Wait),
+        rt: &(impl AllocGlobal + Threads + Wait + Sync),
         writer: &mut W,
     ) -> Result<(), Fault>
         requires line_number_fits { self.session.number ≤ 2 ^ 61 }
@@ -261,7 +264,7 @@ impl<E: Engine> Responder<E> {
     }
 
     /// Ends the index. Replies that wait are dropped.
-    pub fn close(self, rt: &(impl AllocGlobal + Threads + Wait)) {
+    pub fn close(self, rt: &(impl AllocGlobal + Threads + Wait + Sync)) {
         let Responder {
             session,
             line: _,

@@ -29,7 +29,7 @@ fn zeros(alloc: Global, count: usize) -> Result<Vec<u8>, AllocError>
 
 /// Reads a script to its end, and writes its replies, whatever the options and whatever the engine.
 pub fn run_script<E: Engine, R: ScriptIn, W: ScriptOut>(
-    rt: &(impl AllocGlobal + Threads + Wait),
+    rt: &(impl AllocGlobal + Threads + Wait + Sync),
     reader: &mut R,
     writer: &mut W,
     options: Options,

@@ -17,7 +17,7 @@ use std::thread::Threads;
 ///
 /// What the reader gave is `result.1.moved.bytes`, and what the writer took is `result.2.moved.bytes`.
 pub fn run_std<E: Engine, R: Read, W: Write>(
-    rt: &(impl AllocGlobal + Threads + Wait),
+    rt: &(impl AllocGlobal + Threads + Wait + Sync),
     reader: R,
     writer: W,
     options: Options,

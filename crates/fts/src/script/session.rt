@@ -1,9 +1,12 @@
 // A script line by line: what it has come to, and its replies.
-ghost use Rattle.std.specs.Prelude.{◌≡◌, ◌+◌, ◌^◌, ◌<◌, ◌≤◌, ◌++◌, List, ℕ, Option, Some, None, Ok, Err, false, IfOk, OnOk, OnErr, MatchOption, ⊤, length, string_bytes, option_map, codes};
+ghost use Rattle.std.specs.Prelude.{◌≡◌, ◌+◌, ◌^◌, ◌<◌, ◌≤◌, ◌++◌, List, ℕ, Option, Some, None, Ok, Err, true, false, IfOk, OnOk, OnErr, MatchOption, ⊤, length, string_bytes, option_map, codes};
 ghost use Rattle.serde_json.specs.View.{view};
 ghost use Rattle.std.specs.Option.{ok_or};
 ghost use Rattle.fts_model.specs.Results.{Gives};
-ghost use Rattle.fts_model.specs.Operations.{term_of};
+ghost use Rattle.std.specs.Option.{option_copied};
+ghost use Rattle.fts_model.specs.Documents.{document_of, fits};
+ghost use Rattle.fts_model.specs.Operations.{op_fits, term_fits, term_of};
+ghost use Rattle.fts_model.specs.Queries.{query_fits, request_fits, request_of};
 ghost use Rattle.fts_model.specs.QueryValues.{query_value};
 ghost use Rattle.fts_query.specs.Outcomes.{refusal_without_byte};
 ghost use Rattle.fts_query.specs.Answers.{answer};
@@ -22,7 +25,7 @@ use crate::engine::options::Options;
 use crate::script::answer::answer_value;
 use crate::script::command::{Command, Search, command_of};
 use crate::script::lines::is_blank;
-use fts_model::{Document, Field, Op, Query, Refusal, Request, Schema, Term};
+use fts_model::{Document, Field, Op, Order, Query, Refusal, Request, Schema, Term};
 use fts_query::parse;
 use serde_json::{Value, json};
 use std::alloc::{AllocError, Global};
@@ -49,7 +52,7 @@ fn refusal_reply(alloc: Global, refusal: Refusal, line: u64) -> Result<Value, Al
 
 /// Takes a schema: a new index, and the reply.
 fn open<E: Engine>(
-    rt: &(impl AllocGlobal + Threads + Wait),
+    rt: &(impl AllocGlobal + Threads + Wait + Sync),
     options: Options,
     index: &mut Option<E>,
     fields: Vec<Field>,
@@ -73,7 +76,8 @@ fn open<E: Engine>(
 
 /// Takes an operation.
 fn submit<E: Engine>(alloc: Global, engine: &mut E, op: Op) -> Result<Value, Refusal>
-    requires { E.changes engine.old ≤ 2 ^ 61 }
+    requires changes { E.changes engine.old ≤ 2 ^ 61 }
+    requires fits { op_fits (E.index engine.old).schema op ≡ true }
     ensures executes { Executes
         (replied (number_reply (codes "stamp")) (submit indexes op (E.index engine.old)))
         (Some (E.index engine.old)) (Some (E.index engine.new)) result }
@@ -84,6 +88,15 @@ fn submit<E: Engine>(alloc: Global, engine: &mut E, op: Op) -> Result<Value, Ref
     Ok(reply)
 }
 
+/// The document that a value is.
+fn document_in<E: Engine>(alloc: Global, engine: &E, json: &Value) -> Result<Document, Refusal>
+    ensures document { Gives (λ document. document) result
+        (document_of (E.index engine.now).schema (view json.now)) }
+    ensures fits { IfOk result (λ document. fits (E.index engine.now).schema document ≡ true) }
+{
+    Document::from_json(alloc, engine.schema(), json)
+}
+
 /// Adds a document.
 fn add<E: Engine>(alloc: Global, engine: &mut E, json: &Value) -> Result<Value, Refusal>
     requires { E.changes engine.old ≤ 2 ^ 61 }
@@ -91,14 +104,15 @@ fn add<E: Engine>(alloc: Global, engine: &mut E, json: &Value) -> Result<Value, 
         (Some (E.index engine.old)) (Some (E.index engine.new)) result }
     ensures changes { E.changes engine.new ≤ E.changes engine.old + 1 }
 {
-    let document = Document::from_json(alloc, engine.schema(), json)?;
+    let document = document_in(alloc, engine, json)?;
     submit(alloc, engine, Op::Add(document))
 }
 
 /// The term that a value is in the field of a name.
 fn term_in<E: Engine>(alloc: Global, engine: &E, name: &str, json: &Value) -> Result<Term, Refusal>
-    ensures { Gives (λ term. term) result
+    ensures term { Gives (λ term. term) result
         (term_of (E.index engine.now).schema name.now (view json.now)) }
+    ensures fits { IfOk result (λ term. term_fits (E.index engine.now).schema term ≡ true) }
 {
     Term::new(alloc, engine.schema(), name, json)
 }
@@ -132,7 +146,8 @@ fn without_byte(refusal: Refusal) -> Refusal
 
 /// The query that a text is.
 fn query_of(alloc: Global, schema: &Schema, text: &str) -> Result<Query, Refusal>
-    ensures { Gives query_value result (answer schema.now text.now) }
+    ensures query { Gives query_value result (answer schema.now text.now) }
+    ensures fits { IfOk result (λ query. query_fits schema.now (query_value query) ≡ true) }
 {
     match parse(alloc, schema, text) {
         Ok(query) => Ok(query),
@@ -140,9 +155,22 @@ fn query_of(alloc: Global, schema: &Schema, text: &str) -> Result<Query, Refusal
     }
 }
 
+/// The request for these groups and this top list.
+fn request_of(
+    schema: &Schema,
+    groups: Option<&str>,
+    top: Option<(&str, u64, Order)>,
+) -> Result<Request, Refusal>
+    ensures request { result ≡ request_of schema.now (option_copied groups.entry)
+        (option_map (λ t. (t.0.now, t.1, t.2)) top.entry) }
+    ensures fits { IfOk result (λ request. request_fits schema.now request ≡ true) }
+{
+    Request::new(schema, groups, top)
+}
+
 /// Answers a search.
 fn search<E: Engine>(
-    rt: &(impl AllocGlobal + Threads + Wait),
+    rt: &(impl AllocGlobal + Threads + Wait + Sync),
     engine: &mut E,
     asked: Search<'_>,
 ) -> Result<Value, Refusal>
@@ -152,14 +180,14 @@ fn search<E: Engine>(
     ensures changes { E.changes engine.new ≤ E.changes engine.old }
 {
     let query = query_of(rt.alloc(), engine.schema(), asked.query)?;
-    let request = Request::new(engine.schema(), asked.groups, asked.top)?;
+    let request = request_of(engine.schema(), asked.groups, asked.top)?;
     let answer = engine.search(rt, &query, &request)?;
     Ok(answer_value(rt.alloc(), &answer)?)
 }
 
 /// Executes a command that comes behind the schema.
 fn execute_open<E: Engine>(
-    rt: &(impl AllocGlobal + Threads + Wait),
+    rt: &(impl AllocGlobal + Threads + Wait + Sync),
     engine: &mut E,
     command: Command<'_>,
 ) -> Result<Value, Refusal>
@@ -194,7 +222,7 @@ fn execute_open<E: Engine>(
 
 /// Executes a command.
 fn execute<E: Engine>(
-    rt: &(impl AllocGlobal + Threads + Wait),
+    rt: &(impl AllocGlobal + Threads + Wait + Sync),
     options: Options,
     index: &mut Option<E>,
     command: Command<'_>,
@@ -232,7 +260,7 @@ fn json_of(alloc: Global, line: &[u8]) -> Result<Value, Refusal>
 
 /// The outcome of a line that isn't blank and isn't too long.
 fn execute_whole<E: Engine>(
-    rt: &(impl AllocGlobal + Threads + Wait),
+    rt: &(impl AllocGlobal + Threads + Wait + Sync),
     options: Options,
     index: &mut Option<E>,
     line: &[u8],
@@ -264,7 +292,7 @@ fn push_reply(alloc: Global, reply: &Value, out: &mut String) -> Result<(), Allo
 
 /// Replies to a line that isn't blank and isn't too long.
 fn answer_whole<E: Engine>(
-    rt: &(impl AllocGlobal + Threads + Wait),
+    rt: &(impl AllocGlobal + Threads + Wait + Sync),
     options: Options,
     index: &mut Option<E>,
     number: u64,
@@ -324,7 +352,7 @@ impl<E: Engine> Session<E> {
     #[tactic(auto, unfolding(crate::specs::Replies::reply_on, crate::specs::Replies::carried_over))]
     pub fn answer(
         &mut self,
-        rt: &(impl AllocGlobal + Threads + Wait),
+        rt: &(impl AllocGlobal + Threads + Wait + Sync),
         line: &[u8],
         out: &mut String,
     ) -> Result<(), AllocError>
@@ -376,7 +404,7 @@ impl<E: Engine> Session<E> {
     }
 
     /// Ends the index, if there is one.
-    pub fn close(self, rt: &(impl AllocGlobal + Threads + Wait)) {
+    pub fn close(self, rt: &(impl AllocGlobal + Threads + Wait + Sync)) {
         let Session {
             options: _,
             number: _,

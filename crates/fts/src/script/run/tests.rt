@@ -61,7 +61,7 @@ fn replies(rt: &impl AllocGlobal, count: usize, ended: bool) -> Result<Vec<u8>, 
 
 /// Runs a script, and hands the reader and the writer back.
 fn run_over<R: Read, W: Write>(
-    rt: &(impl AllocGlobal + Threads + Wait),
+    rt: &(impl AllocGlobal + Threads + Wait + Sync),
     reader: R,
     writer: W,
     options: Options,
@@ -163,7 +163,7 @@ fn writer_of(
 
 /// Whether a script has these replies, whatever the size of its reads.
 fn replies_to(
-    rt: &(impl AllocGlobal + Abort + Threads + Wait),
+    rt: &(impl AllocGlobal + Abort + Threads + Wait + Sync),
     script: &[u8],
     wanted: &[u8],
 ) -> Result<(), Fail> {
@@ -201,7 +201,7 @@ fn lines_behind_white_space(rt: HostRuntime) -> Result<(), Fail> {
 /// Runs the script over a writer with room for its replies. A run that ends for memory has written the replies to the
 /// lines before the one that the last byte belongs to.
 fn ends_for_memory(
-    rt: &(impl AllocGlobal + Abort + Threads + Wait),
+    rt: &(impl AllocGlobal + Abort + Threads + Wait + Sync),
     script: &[u8],
     room: usize,
 ) -> Result<bool, Fail> {
@@ -249,7 +249,7 @@ fn each_read_fails(rt: HostRuntime) -> Result<(), Fail> {
 }
 
 fn write_fails(
-    rt: &(impl AllocGlobal + Abort + Threads + Wait),
+    rt: &(impl AllocGlobal + Abort + Threads + Wait + Sync),
     step: usize,
     fails: usize,
     kind: Option<io::ErrorKind>,
@@ -422,7 +422,7 @@ fn many_replies_in_a_block(rt: HostRuntime) -> Result<(), Fail> {
 
 /// Whether a script has these replies behind that to the schema.
 fn gives(
-    rt: &(impl AllocGlobal + Abort + Threads + Wait),
+    rt: &(impl AllocGlobal + Abort + Threads + Wait + Sync),
     lines: &str,
     wanted: &str,
 ) -> Result<(), Fail> {
@@ -475,4 +475,5 @@ fn nesting(rt: HostRuntime) -> Result<(), Fail> {
     Ok(())
 }
 
+mod options;
 mod worked;

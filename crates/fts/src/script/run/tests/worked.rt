@@ -8,7 +8,7 @@ use std::thread::Threads;
 
 /// Runs a script whose last line lacks its LF, and compares its replies. No option occurs in them.
 fn shows(
-    rt: &(impl AllocGlobal + Abort + Threads + Wait),
+    rt: &(impl AllocGlobal + Abort + Threads + Wait + Sync),
     says: &str,
     lines: &[(&str, &str)],
 ) -> Result<(), Fail> {
