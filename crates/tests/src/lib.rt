@@ -2,6 +2,10 @@
 #![tactic(auto)]
 
 #[cfg(test)]
+mod collect;
+#[cfg(test)]
+mod cursor;
+#[cfg(test)]
 mod fixtures;
 #[cfg(test)]
 mod merge;
@@ -13,6 +17,8 @@ mod pack;
 mod pool;
 #[cfg(test)]
 mod query;
+#[cfg(test)]
+mod readers;
 #[cfg(test)]
 mod rounds;
 #[cfg(test)]

@@ -1,8 +1,10 @@
 // fts_pack: what was packed is read, at every width and every number of numbers.
-ghost use Rattle.std.specs.Prelude.{◌≡◌, ◌+◌, ◌<◌, ◌≤◌, length};
+ghost use Rattle.std.specs.Prelude.{◌≡◌, ◌+◌, ◌^◌, ◌<◌, ◌≤◌, length};
 
 use fts_model::Refusal;
-use fts_pack::{BLOCK, Bits, Block, Blocks, Column, List, i64_to_u64, u64_to_i64};
+use fts_pack::{BLOCK, Bits, Block, Blocks, Column, List, Numbers, i64_to_u64, u64_to_i64};
+use std::alloc::{AllocError, Global};
+use std::process::Abort;
 use std::test::Fail;
 
 // Numbers of at most so many bits, the greatest of them first.
@@ -45,6 +47,42 @@ fn a_refused_block_can_be_packed_again(rt: HostRuntime) -> Result<(), Fail> {
     let mut out = [0; BLOCK];
     assert_eq!(rt; block.unpack(&mut out), 3);
     assert_eq!(rt; &out[..3], numbers.as_slice());
+    Ok(())
+}
+
+// Each number by itself, and the blocks of them.
+fn check_numbers(rt: &impl Abort, packed: &Numbers, numbers: &[u32]) {
+    assert_eq!(rt; packed.len(), numbers.len());
+    for index in 0..packed.len() {
+        assert_eq!(rt; numbers.get(index).copied(), Some(packed.get(index)));
+    }
+    let mut out = [7; BLOCK];
+    for (block, wanted) in numbers.chunks(BLOCK).enumerate() {
+        if block < packed.len().div_ceil(BLOCK) {
+            let count = packed.open(block, &mut out).min(BLOCK);
+            assert_eq!(rt; &out[..count], wanted);
+        }
+    }
+}
+
+// Two blocks of a width with one of zeros between, and one of three numbers.
+fn blocks_of(alloc: Global, width: u32) -> Result<Vec<u32>, AllocError> {
+    let block = numbers_of(width);
+    let mut numbers = Vec::new(alloc);
+    numbers.extend_from_slice(&block)?;
+    numbers.extend_from_slice(&[0; BLOCK])?;
+    numbers.extend_from_slice(&block)?;
+    numbers.extend_from_slice(&block[..3])?;
+    Ok(numbers)
+}
+
+#[test]
+fn numbers_of_every_width_come_back(rt: HostRuntime) -> Result<(), Fail> {
+    for width in 0..33u32 {
+        let numbers = blocks_of(rt.alloc(), width)?;
+        let packed = Numbers::build(rt.alloc(), &numbers)?;
+        check_numbers(&rt, &packed, &numbers);
+    }
     Ok(())
 }
 
@@ -181,16 +219,22 @@ fn every_width_of_values_comes_back(rt: HostRuntime) -> Result<(), Fail> {
     Ok(())
 }
 
-#[test]
-fn a_refused_column_can_be_built_again(rt: HostRuntime) -> Result<(), Fail> {
-    let values = [Some(5), None, Some(1)];
-    let column = match Column::build(rt.alloc(), &values) {
-        Ok(column) => column,
+// A column of these values. Where a growth was refused, the second try succeeds.
+fn built(rt: &impl Abort, alloc: Global, values: &[Option<u64>]) -> Result<Column, Refusal>
+    requires { length values.now ≤ 2 ^ 32 }
+{
+    match Column::build(alloc, values) {
+        Ok(column) => Ok(column),
         Err(refusal) => {
             assert_eq!(rt; refusal, Refusal::Memory);
-            Column::build(rt.alloc(), &values)?
+            Column::build(alloc, values)
         }
-    };
+    }
+}
+
+#[test]
+fn a_refused_column_can_be_built_again(rt: HostRuntime) -> Result<(), Fail> {
+    let column = built(&rt, rt.alloc(), &[Some(5), None, Some(1)])?;
     assert_eq!(rt; column.get(0), Some(5));
     assert_eq!(rt; column.get(1), None);
     assert_eq!(rt; column.get(2), Some(1));

@@ -31,32 +31,37 @@ impl Job for Square {
     }
 }
 
-/// Holds one of two jobs back until the other one has passed, and counts its calls.
+/// Holds one of three jobs back until the other two have passed, and counts its calls.
 #[derive(Drop)]
 struct Holding {
     held: usize,
-    before: [AtomicU64; 2],
-    after: [AtomicU64; 2],
+    before: [AtomicU64; 3],
+    after: [AtomicU64; 3],
     released: AtomicU64,
+}
+
+fn zeros() -> [AtomicU64; 3] {
+    [AtomicU64::new(0), AtomicU64::new(0), AtomicU64::new(0)]
 }
 
 fn holding_back(held: usize) -> Holding {
     Holding {
         held,
-        before: [AtomicU64::new(0), AtomicU64::new(0)],
-        after: [AtomicU64::new(0), AtomicU64::new(0)],
+        before: zeros(),
+        after: zeros(),
         released: AtomicU64::new(0),
     }
 }
 
-fn has_passed(gate: &Holding, job: usize) -> bool {
-    match gate.after.get(job) {
-        Some(count) => count.load(Ordering::SeqCst) > 0,
-        None => false,
-    }
+/// How many jobs have passed.
+fn passed(gate: &Holding) -> usize {
+    gate.after
+        .iter()
+        .filter(|count| count.load(Ordering::SeqCst) > 0)
+        .count()
 }
 
-fn count(counts: &[AtomicU64; 2], job: usize) {
+fn count(counts: &[AtomicU64; 3], job: usize) {
     if let Some(count) = counts.get(job) {
         count.fetch_add(1, Ordering::SeqCst);
     }
@@ -69,7 +74,7 @@ impl Gate for Holding {
             return;
         }
         for _ in 0..1_000_000_000u64 {
-            if has_passed(self, 1usize.saturating_sub(job)) {
+            if passed(self) == 2 {
                 self.released.fetch_add(1, Ordering::SeqCst);
                 return;
             }
@@ -83,14 +88,14 @@ impl Gate for Holding {
 }
 
 #[test]
-fn a_held_job_waits_while_another_worker_runs_the_other(rt: HostRuntime) -> Result<(), Fail> {
-    for held in 0..2usize {
-        let jobs = [square_of(3), square_of(4)];
+fn a_held_job_waits_while_another_worker_runs_the_others(rt: HostRuntime) -> Result<(), Fail> {
+    for held in 0..3usize {
+        let jobs = [square_of(3), square_of(4), square_of(5)];
         let gate = holding_back(held);
         let squares = run_all(&rt, rt.alloc(), &jobs, 2, &gate)?;
-        assert_eq!(rt; squares.as_slice(), [9, 16].as_slice());
+        assert_eq!(rt; squares.as_slice(), [9, 16, 25].as_slice());
         assert_eq!(rt; gate.released.load(Ordering::SeqCst), 1);
-        for job in 0..2usize {
+        for job in 0..3usize {
             assert_eq!(rt; gate.before[job].load(Ordering::SeqCst), 1);
             assert_eq!(rt; gate.after[job].load(Ordering::SeqCst), 1);
             assert_eq!(rt; jobs[job].runs.load(Ordering::SeqCst), 1);

@@ -320,23 +320,19 @@ fn limits(rt: HostRuntime) -> Result<(), Fail> {
     let (open, close) = (repeated(alloc, "(", 32)?, repeated(alloc, ")", 32)?);
     let deep = format!(in alloc; "{open}a{close}")?;
     finds(&rt, alloc, &SHELF, deep.as_str(), 4)?;
-    for (text, wanted) in [
-        (repeated(alloc, "a", 4097)?, "TooLong"),
-        (repeated(alloc, "(", 4097)?, "TooLong"),
-        (repeated(alloc, "(", 4096)?, "TooDeep"),
-        (format!(in alloc; "({deep})")?, "TooDeep"),
+    let deeper = format!(in alloc; "({deep})")?;
+    is_refused(&rt, alloc, &schema, deeper.as_str(), "TooDeep")?;
+    for (before, character, count, wanted) in [
+        ("", "a", 4097, "TooLong"),
+        ("", "(", 4097, "TooLong"),
+        ("", "(", 4096, "TooDeep"),
         // A `)` too many is no nesting, and doesn't make room for one.
-        (format!(in alloc; "))({open}")?, "TooDeep"),
-        (
-            format!(in alloc; "\"{}", repeated(alloc, "(", 33)?.as_str())?,
-            "Syntax",
-        ),
-        (
-            format!(in alloc; "\"{}", repeated(alloc, "(", 40)?.as_str())?,
-            "Syntax",
-        ),
-        (repeated(alloc, "-", 4096)?, "Syntax"),
+        ("))(", "(", 32, "TooDeep"),
+        ("\"", "(", 33, "Syntax"),
+        ("\"", "(", 40, "Syntax"),
+        ("", "-", 4096, "Syntax"),
     ] {
+        let text = format!(in alloc; "{before}{}", repeated(alloc, character, count)?.as_str())?;
         is_refused(&rt, alloc, &schema, text.as_str(), wanted)?;
     }
     Ok(())

@@ -1,11 +1,17 @@
 // fts_index: the lanes of a round draw each stamp once, a full lane hands the operation back, and a batch is in the order of its
 // stamps.
-ghost use Rattle.std.specs.Prelude.{◌≡◌, ◌≤◌, ℕ, ◌<◌, length, slice_index_or, All, IfOk};
-ghost use Rattle.fts_index.specs.Rounds.{IsLaneOf, SameLane, lanes_of, times};
+ghost use Rattle.std.specs.Prelude.{◌≡◌, ◌≤◌, ℕ, ◌<◌, length, map, slice_index_or, All, IfOk};
+ghost use Rattle.std.specs.List.{range_with_len};
+ghost use Rattle.fts_index.specs.Rounds.{IsLaneOf, SameLane, fresh, lanes_of, times};
 
-use fts_index::{Batch, Lane, LaneEnd, Round, open_round};
-use fts_model::{FieldValue, Number, Op, Refusal, Stamp, Term};
+use crate::fixtures::schema;
+use crate::writer;
+use fts_index::{Batch, Cut, Lane, LaneEnd, Round, Writer, open_round};
+use fts_model::{Document, FieldValue, Number, Op, Refusal, Schema, Stamp, Term};
+use fts_pool::Open;
+use serde_json::{Map, Value};
 use std::alloc::{AllocError, Global};
+use std::sync::Wait;
 use std::test::Fail;
 use std::thread::{Threads, map_vec};
 
@@ -36,14 +42,35 @@ fn submit(lane: &mut Lane, op: Op) -> Option<Stamp>
     }
 }
 
-/// Submits so many operations, each of which names the stamp of the lane's last one, and ends the lane.
-fn filled(lane: Lane, count: usize) -> LaneEnd
+/// A document with this price.
+fn add(alloc: Global, schema: &Schema, price: u64) -> Result<Op, Refusal> {
+    let mut json = Map::new(alloc);
+    json.insert(String::from_str(alloc, "price")?, Value::from(price))?;
+    let json = Value::Object(json);
+    Ok(Op::Add(Document::from_json(alloc, schema, &json)?))
+}
+
+fn price_of(op: &Op) -> Option<u64> {
+    let Op::Add(document) = op else {
+        return None;
+    };
+    match document.value(2) {
+        Some(FieldValue::Number(Number::U64(price))) => Some(*price),
+        _ => None,
+    }
+}
+
+/// Submits so many documents, the price of each of which is the stamp of the lane's last one, and ends the lane.
+fn filled(alloc: Global, schema: &Schema, lane: Lane, count: usize) -> LaneEnd
     ensures { SameLane lane result }
 {
     let mut lane = lane;
     let mut last = 0;
     for _ in 0..count {
-        if let Some(stamp) = submit(&mut lane, delete(last)) {
+        let Ok(op) = add(alloc, schema, last) else {
+            return lane.end();
+        };
+        if let Some(stamp) = submit(&mut lane, op) {
             last = stamp;
         }
     }
@@ -53,6 +80,8 @@ fn filled(lane: Lane, count: usize) -> LaneEnd
 /// Fills each lane in a thread of its own.
 fn all_filled<R: Threads + Sync>(
     rt: &R,
+    alloc: Global,
+    schema: &Schema,
     lanes: Vec<Lane>,
     count: usize,
 ) -> Result<Vec<LaneEnd>, AllocError>
@@ -65,49 +94,71 @@ fn all_filled<R: Threads + Sync>(
         lanes,
         &|lane: Lane| -> LaneEnd
             ensures { SameLane lane result }
-        { filled(lane, count) },
+        { filled(alloc, schema, lane, count) },
     )
 }
 
 /// Gathers the ends, again where a growth was refused.
-fn gather(round: Round, alloc: Global, ends: Vec<LaneEnd>) -> Result<Batch, Fail>
+fn gather(alloc: Global, round: Round, ends: Vec<LaneEnd>) -> Result<Batch, Refusal>
     requires lanes { All (IsLaneOf round) ends.items }
     requires each_once { (n : ℕ) → times n (lanes_of ends.items) ≤ 1 }
 {
     match round.gather(alloc, ends) {
         Ok(batch) => Ok(batch),
-        Err((round, ends, _)) => Ok(round.gather(alloc, ends).map_err(|e| e.2)?),
+        Err((round, ends, _)) => round.gather(alloc, ends).map_err(|e| e.2),
     }
 }
 
+/// Fills the lanes of a round in threads, and gathers their ends.
 fn gathered<R: Threads + Sync>(
     rt: &R,
     alloc: Global,
-    lanes: usize,
+    schema: &Schema,
+    round: Round,
+    lanes: Vec<Lane>,
     count: usize,
-    cap: usize,
-) -> Result<Batch, Fail>
-    requires lanes { (1 ≤ lanes) × (lanes ≤ 64) }
-    requires cap { (1 ≤ cap) × (cap ≤ 1000000) }
+) -> Result<Batch, Refusal>
+    requires { lanes.items ≡ map (fresh round) (range_with_len 0 round.terms.lanes) }
 {
-    let (round, lanes) = open_round(alloc, 7, 1, lanes, cap)?;
-    let ends = all_filled(rt, lanes, count)?;
-    gather(round, alloc, ends)
+    let ends = all_filled(rt, alloc, schema, lanes, count)?;
+    gather(alloc, round, ends)
+}
+
+/// A commit of two lanes with 1,000 documents each: the batch, the commit's stamp, and how many documents are found.
+fn two_lanes<R: Threads + Wait + Sync>(
+    rt: &R,
+    alloc: Global,
+    writer: &mut Writer,
+) -> Result<(Batch, Stamp, usize), Refusal> {
+    let schema = writer.schema().clone()?;
+    let (round, lanes) = writer.open_round(alloc, 2, 1000)?;
+    let batch = gathered(rt, alloc, &schema, round, lanes, 1000)?;
+    let committed = writer.commit(rt, alloc, &batch, Cut::Deal(1), 2, &Open)?;
+    let mut documents = 0usize;
+    for entry in writer.searcher()?.snapshot().entries() {
+        documents = documents.wrapping_add(entry.live_count());
+    }
+    Ok((batch, committed.stamp, documents))
 }
 
 #[test]
 fn two_threads_draw_each_stamp_once(rt: HostRuntime) -> Result<(), Fail> {
-    let batch = gathered(&rt, rt.alloc(), 2, 1000, 1000)?;
-    assert_eq!(rt; batch.round(), 7);
-    assert_eq!(rt; batch.first(), 1);
-    assert_eq!(rt; batch.ops().len(), 2000);
-    assert_eq!(rt; batch.end(), 2001);
+    let alloc = rt.alloc();
+    let mut writer = Writer::new(&rt, alloc, &schema(alloc)?)?;
+    let committed = two_lanes(&rt, alloc, &mut writer);
+    writer.close(&rt);
+    let (batch, stamp, documents) = committed?;
+    assert_eq!(rt;
+        (batch.first(), batch.ops().len(), batch.end()),
+        (1, 2000, 2001)
+    );
+    assert_eq!(rt; (stamp, documents), (2001, 2000));
     let mut next = 1;
     let mut begun = 0u64;
     for op in batch.ops() {
         assert_eq!(rt; op.stamp, next);
         next = op.stamp.wrapping_add(1);
-        let last = number_of(&op.value).unwrap_or(u64::MAX);
+        let last = price_of(&op.value).unwrap_or(u64::MAX);
         assert!(rt; last < op.stamp);
         if last == 0 {
             begun = begun.wrapping_add(1);
@@ -119,7 +170,10 @@ fn two_threads_draw_each_stamp_once(rt: HostRuntime) -> Result<(), Fail> {
 
 #[test]
 fn full_lanes_draw_nothing(rt: HostRuntime) -> Result<(), Fail> {
-    let batch = gathered(&rt, rt.alloc(), 3, 20, 10)?;
+    let alloc = rt.alloc();
+    let (round, lanes) = open_round(alloc, 7, 1, 3, 10)?;
+    let batch = gathered(&rt, alloc, &schema(alloc)?, round, lanes, 20)?;
+    assert_eq!(rt; batch.round(), 7);
     assert_eq!(rt; batch.ops().len(), 30);
     Ok(())
 }
@@ -148,7 +202,7 @@ fn one_of_two(alloc: Global) -> Result<(Refusal, Batch), Fail> {
         Err(back) => back,
     };
     ends.push(second.end()).map_err(|_| AllocError)?;
-    Ok((refusal, gather(round, alloc, ends)?))
+    Ok((refusal, gather(alloc, round, ends)?))
 }
 
 #[test]
@@ -159,31 +213,39 @@ fn a_lane_is_missing(rt: HostRuntime) -> Result<(), Fail> {
     Ok(())
 }
 
-/// On one thread lane 3 draws first, then lane 1, lane 3 and lane 0; the ends come in the order 2, 0, 3, 1.
-fn four_lanes(alloc: Global) -> Result<Batch, Fail> {
-    let (round, mut lanes) = open_round(alloc, 0, 1, 4, 10)?;
+/// On one thread lane 3 adds a, lane 1 adds b, lane 3 deletes a and lane 0 adds c; the ends come in the order 2, 0, 3, 1.
+fn four_lanes(alloc: Global, writer: &mut Writer) -> Result<Batch, Refusal> {
+    let schema = writer.schema().clone()?;
+    let (round, mut lanes) = writer.open_round(alloc, 4, 10)?;
     let mut lane_3 = lanes.pop().ok_or(AllocError)?;
     let lane_2 = lanes.pop().ok_or(AllocError)?;
     let mut lane_1 = lanes.pop().ok_or(AllocError)?;
     let mut lane_0 = lanes.pop().ok_or(AllocError)?;
-    let _stamp = submit(&mut lane_3, delete(30));
-    let _stamp = submit(&mut lane_1, delete(10));
-    let _stamp = submit(&mut lane_3, delete(31));
-    let _stamp = submit(&mut lane_0, delete(0));
+    let _stamp = submit(&mut lane_3, writer::add(alloc, &schema, "a")?);
+    let _stamp = submit(&mut lane_1, writer::add(alloc, &schema, "b")?);
+    let _stamp = submit(&mut lane_3, writer::delete(alloc, "a")?);
+    let _stamp = submit(&mut lane_0, writer::add(alloc, &schema, "c")?);
     let ends = vec![in alloc; lane_2.end(), lane_0.end(), lane_3.end(), lane_1.end()]?;
-    gather(round, alloc, ends)
+    gather(alloc, round, ends)
+}
+
+/// The commit of these lanes.
+fn four_lanes_seen<R: Threads + Wait + Sync>(
+    rt: &R,
+    alloc: Global,
+    writer: &mut Writer,
+) -> Result<String, Refusal> {
+    let batch = four_lanes(alloc, writer)?;
+    writer.commit(rt, alloc, &batch, Cut::Runs(10), 1, &Open)?;
+    writer::seen(alloc, writer)
 }
 
 #[test]
 fn a_batch_is_in_the_order_of_its_stamps(rt: HostRuntime) -> Result<(), Fail> {
-    let batch = four_lanes(rt.alloc())?;
-    let mut numbers = Vec::new(rt.alloc());
-    let mut next = 1;
-    for op in batch.ops() {
-        assert_eq!(rt; op.stamp, next);
-        next = op.stamp.wrapping_add(1);
-        numbers.push(number_of(&op.value).unwrap_or(u64::MAX))?;
-    }
-    assert_eq!(rt; numbers.as_slice(), [30, 10, 31, 0].as_slice());
+    let alloc = rt.alloc();
+    let mut writer = Writer::new(&rt, alloc, &schema(alloc)?)?;
+    let seen = four_lanes_seen(&rt, alloc, &mut writer);
+    writer.close(&rt);
+    assert_eq!(rt; seen?.as_str(), "5: (0,3,2) 2b 4c");
     Ok(())
 }

@@ -1,20 +1,15 @@
-// fts_segment: the documents `{"title":"a b a","price":4}`, `{"title":"b"}` and `{"tag":"a"}` at stamps 3, 5 and 9, under
-// the fields `title` (text), `tag` (keyword), `price` (`u64`) and `temp` (`i64`).
-use crate::fixtures::schema;
+// fts_segment: what is found in the example, and what a builder takes.
+ghost use Rattle.std.specs.Prelude.{◌≡◌};
+
+use crate::fixtures::{add, document, example, finished, schema};
 use fts_model::{Document, FieldValue, Number, Refusal, Schema, Term, Text};
 use fts_pack::{Blocks, Column};
 use fts_segment::{Builder, Segment};
-use serde_json::Value;
 use std::alloc::{AllocError, Global};
 use std::process::Abort;
 use std::test::Fail;
 
 mod generated;
-
-fn document(alloc: Global, schema: &Schema, json: &str) -> Result<Document, Fail> {
-    let json = Value::from_str(alloc, json)?;
-    Ok(Document::from_json(alloc, schema, &json)?)
-}
 
 fn text(alloc: Global, field: usize, text: &str) -> Result<Term, AllocError> {
     let value = FieldValue::Text(Text::new(String::from_str(alloc, text)?));
@@ -24,54 +19,6 @@ fn text(alloc: Global, field: usize, text: &str) -> Result<Term, AllocError> {
 fn number(field: usize, number: Number) -> Term {
     let value = FieldValue::Number(number);
     Term { field, value }
-}
-
-// Adds the document. Where a growth was refused, the builder is as before, and the second try succeeds.
-fn add(builder: &mut Builder, stamp: u64, document: &Document) -> Result<(), Fail> {
-    let docs = builder.docs();
-    if docs < 1_048_576 && builder.add(stamp, document).is_err() {
-        if builder.docs() != docs {
-            return Err(Fail::from("a refused add left a document"));
-        }
-        builder.add(stamp, document)?;
-    }
-    Ok(())
-}
-
-// The segment of the documents. Where a growth was refused, the builder comes back, and the second try succeeds.
-fn finished(alloc: Global, builder: Builder) -> Result<Segment, Fail> {
-    let docs = builder.docs();
-    match builder.finish(alloc) {
-        Ok(segment) => Ok(segment),
-        Err((builder, refusal)) => {
-            if builder.docs() != docs || refusal != Refusal::Memory {
-                return Err(Fail::from("a refused finish changed the builder"));
-            }
-            Ok(builder.finish(alloc).map_err(|e| e.1)?)
-        }
-    }
-}
-
-fn example(alloc: Global, merging: bool) -> Result<Segment, Fail> {
-    let schema = schema(alloc)?;
-    let mut builder = if merging {
-        Builder::merging(alloc, &schema)?
-    } else {
-        Builder::new(alloc, &schema)?
-    };
-    let first = document(alloc, &schema, r#"{"title":"a b a","price":4}"#)?;
-    add(&mut builder, 3, &first)?;
-    add(
-        &mut builder,
-        5,
-        &document(alloc, &schema, r#"{"title":"b"}"#)?,
-    )?;
-    add(
-        &mut builder,
-        9,
-        &document(alloc, &schema, r#"{"tag":"a"}"#)?,
-    )?;
-    finished(alloc, builder)
 }
 
 // Whether the term has these postings, and no list where there are none.
@@ -173,8 +120,9 @@ fn with_numbers(alloc: Global) -> Result<Segment, Fail> {
     let schema = schema(alloc)?;
     let mut builder = Builder::new(alloc, &schema)?;
     let first = document(alloc, &schema, r#"{"price":4,"temp":-1}"#)?;
-    add(&mut builder, 1, &first)?;
-    add(&mut builder, 2, &document(alloc, &schema, "{}")?)?;
+    add(&mut builder, &schema, 1, &first)?;
+    let second = document(alloc, &schema, "{}")?;
+    add(&mut builder, &schema, 2, &second)?;
     finished(alloc, builder)
 }
 
@@ -214,16 +162,26 @@ fn copies(rt: HostRuntime) -> Result<(), Fail> {
     stands(&rt, &copy, &text(alloc, 0, "a")?, 0, &[0, 2])
 }
 
+// Adds so many documents without a value.
+fn fill(builder: &mut Builder, schema: &Schema, empty: &Document, count: u64) -> Result<(), Fail>
+    requires { builder.old.segment.schema ≡ schema.now }
+    ensures { builder.new.segment.schema ≡ schema.now }
+{
+    for stamp in 0..count {
+        add(builder, schema, stamp, empty)?;
+    }
+    Ok(())
+}
+
 #[test]
 fn full_builder(rt: HostRuntime) -> Result<(), Fail> {
     let alloc = rt.alloc();
     let schema = schema(alloc)?;
     let empty = document(alloc, &schema, "{}")?;
     let mut builder = Builder::new(alloc, &schema)?;
-    for stamp in 0..65_536 {
-        add(&mut builder, stamp, &empty)?;
-    }
+    fill(&mut builder, &schema, &empty, 65_536)?;
     assert_eq!(rt; builder.docs(), 65_536);
+    assert!(rt; empty.fits(&schema));
     let refused = builder.add(65_536, &empty).err();
     assert_eq!(rt; refused, Some(Refusal::SegmentFull));
     let segment = finished(alloc, builder)?;

@@ -1,7 +1,9 @@
 // fts_segment: 10,000 generated documents. Each term of each is found, with the postings, the positions and the numbers that
 // a look at every document gives, which knows the words that its text was written with.
-use super::{add, column, document, finished, number, text};
-use crate::fixtures::schema;
+ghost use Rattle.std.specs.Prelude.{◌≡◌};
+
+use super::{column, number, text};
+use crate::fixtures::{add, document, finished, schema};
 use fts_model::{Number, Schema, Term};
 use fts_pack::Blocks;
 use fts_segment::{Builder, Segment};
@@ -223,14 +225,16 @@ fn generated(alloc: Global, json: &mut String, chance: &mut Chance) -> Result<Ro
 }
 
 // Adds generated documents, and gives what they are.
-fn add_generated(alloc: Global, schema: &Schema, builder: &mut Builder) -> Result<Vec<Row>, Fail> {
+fn add_generated(alloc: Global, schema: &Schema, builder: &mut Builder) -> Result<Vec<Row>, Fail>
+    requires { builder.old.segment.schema ≡ schema.now }
+{
     let mut chance = Chance { state: 11 };
     let mut json = String::new(alloc);
     let mut rows = Vec::new(alloc);
     for doc in 0..DOCUMENTS {
         rows.push(generated(alloc, &mut json, &mut chance)?)?;
         let document = document(alloc, schema, json.as_str())?;
-        add(builder, u64::from(doc), &document)?;
+        add(builder, schema, u64::from(doc), &document)?;
     }
     Ok(rows)
 }

@@ -1,14 +1,14 @@
 -- The threads' ends are those of the lanes that the round was opened with.
-use Rattle.std.proofs.Common.{ap, sym}
+use Rattle.std.proofs.Common.{refl}
 use Rattle.fts_index.proofs.RoundsDealtLemmas.{all_of_round, all_once}
 use Rattle.tests.proofs.rounds.gathered.Goals as goal
 
 pub gather-requires-clause-lanes : goal.gather-requires-clause-lanes
 gather-requires-clause-lanes g c =
     let ends = c.in_ok-ends.ensures in
-    all_of_round c.in_ok-round.round c.in_ok-round.lanes.items c.in_ok-ends.ends.items c.args.lanes c.in_ok-round.ensures.lanes (sym (ap (λ t. t.lanes) c.in_ok-round.ensures.terms)) ends.len ends.same
+    all_of_round c.args.round c.args.lanes.items c.in_ok-ends.ends.items c.args.round.terms.lanes c.requires refl ends.len ends.same
 
 pub gather-requires-clause-each_once : goal.gather-requires-clause-each_once
 gather-requires-clause-each_once g c =
     let ends = c.in_ok-ends.ensures in
-    all_once c.in_ok-round.round c.in_ok-round.lanes.items c.in_ok-ends.ends.items c.args.lanes c.in_ok-round.ensures.lanes (sym (ap (λ t. t.lanes) c.in_ok-round.ensures.terms)) ends.len ends.same
+    all_once c.args.round c.args.lanes.items c.in_ok-ends.ends.items c.args.round.terms.lanes c.requires refl ends.len ends.same

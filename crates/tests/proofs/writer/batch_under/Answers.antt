@@ -3,7 +3,7 @@ use Rattle.std.proofs.Common.{◌≡◌, List, [], ◌∷◌, ◌++◌, length, 
 use Rattle.std.specs.Prelude.{All}
 use Rattle.std.proofs.lemmas.List.Elements.{All-from_recursion}
 use Rattle.fts_index.specs.Rounds.{Opened, Held, IsLaneOf, SameLane, fresh}
-use Rattle.tests.proofs.writer.batch.Goals as goal
+use Rattle.tests.proofs.writer.batch_under.Goals as goal
 
 last_one : (xs : List Held) (x y : Held) → x ∷ [] ≡ xs ++ y ∷ [] → y ≡ x
 last_one [] x y e = sym (ap (λ (l : List Held). get_or l 0 x) e)
