@@ -17,7 +17,7 @@ import time
 
 PROGRAM = "crates/fts/out/fts"
 COUNT = int(sys.argv[1]) if len(sys.argv) > 1 else 100_000
-SEARCHES = int(sys.argv[2]) if len(sys.argv) > 2 else 100
+SEARCHES = int(sys.argv[2]) if len(sys.argv) > 2 else 2_000
 
 random.seed(1)
 WORDS = sorted({"".join(random.choice("abcdefghijklmnopqrstuvwxyz") for _ in range(random.randint(4, 9))) for _ in range(50_000)})
