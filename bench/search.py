@@ -74,9 +74,11 @@ def our_times():
     with tempfile.TemporaryDirectory() as scratch:
         copy = pathlib.Path(scratch) / "copy"
         shutil.copytree(root, copy, ignore=shutil.ignore_patterns(".git"))
-        # The gate takes no source outside of the crates, so it ends in .txt there.
-        (copy / "crates/search_bench/src").mkdir(parents=True)
-        shutil.copy(root / "bench/search/src/main.rt.txt", copy / "crates/search_bench/src/main.rt")
+        # The gate takes no source outside of the crates, so they end in .txt there.
+        for source in (root / "bench/search").rglob("*.txt"):
+            place = copy / "crates/search_bench" / source.relative_to(root / "bench/search").with_suffix("")
+            place.parent.mkdir(parents=True, exist_ok=True)
+            shutil.copy(source, place)
         with open(copy / "crates.txt", "a") as crates:
             crates.write("search_bench: fts_collect fts_query fts_segment fts_pack fts_model serde_json anyhow\n")
         data = "\n".join(lines).encode()
