@@ -52,6 +52,13 @@ int posix_memalign(void **p, size_t a, size_t n) { return refuses() ? ENOMEM : n
 __attribute__((destructor)) static void tell(void) {
     if (getenv("FAIL_COUNT")) dprintf(2, "%ld\n", count);
 }
+
+/* A program that may have threads ends by this call alone. */
+void _exit(int status) {
+    tell();
+    ((void (*)(int))dlsym(RTLD_NEXT, "_exit"))(status);
+    __builtin_unreachable();
+}
 """
 
 
