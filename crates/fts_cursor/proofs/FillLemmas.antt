@@ -1,8 +1,10 @@
 -- Documents that are taken from the front of a list, one after the other.
-use Rattle.std.proofs.Common.{◌≡◌, ℕ, ◌+◌, ◌<◌, ◌≤◌, Some, None, List, [], ◌∷◌, ◌++◌, length, get_or, set, take, drop, min, refl, sym, ap, ap₂, subst, ◌∙◌, arith}
+use Rattle.std.proofs.Common.{◌≡◌, ℕ, ◌+◌, ◌-◌, ◌<◌, ◌≤◌, Some, None, List, [], ◌∷◌, ◌++◌, length, get_or, set, take, drop, min, refl, sym, ap, ap₂, subst, ◌∙◌, inl, inr, arith}
 use Rattle.std.specs.List.{slice_get}
-use Rattle.std.proofs.lemmas.List.{take_more, take_more_set, take_all, drop_all, drop-drop, get_or-drop, length-drop}
+use Rattle.std.proofs.lemmas.Bool.{cases_lt}
+use Rattle.std.proofs.lemmas.List.{append-nil, drop-take, length-append, nil_from_length, take-append-drop, take-append-le, take-take, take_more, take_more_set, take_all, drop_all, drop-drop, get_or-drop, length-drop}
 use Rattle.std.proofs.lemmas.Option.{get_or_from_slice_get, slice_get_within}
+use Rattle.fts_cursor.specs.Fills.{IsStretch}
 
 -- the first so many of `whole` lie at the front of `out`, and the others are left
 pub record Taken (whole left out : List ℕ) (count : ℕ) : Type 0 where
@@ -51,3 +53,51 @@ full-front whole left out count room h is = subst (λ n. take n out ≡ take n w
 
 pub full-left : (whole left out : List ℕ) (count room : ℕ) → Taken whole left out count → count ≡ room → left ≡ drop room whole
 full-left whole left out count room h is = h.left_is ∙ ap (λ n. drop n whole) is
+
+take-add : (n m : ℕ) (xs : List ℕ) → take (n + m) xs ≡ take n xs ++ take m (drop n xs)
+take-add n m xs =
+    sym (take-append-drop n (take (n + m) xs)) ∙ ap₂ (λ ys zs. ys ++ zs) (take-take n (n + m) xs (omega arith)) (drop-take n m xs)
+
+-- a stretch more
+pub Taken-stretch : (whole left next out written : List ℕ) (filled count : ℕ) → Taken whole left out filled → IsStretch left next out written filled count → Taken whole next written (filled + count)
+Taken-stretch whole left next out written filled count h s = record {
+  left_is = s.left_is ∙ ap (drop count) h.left_is ∙ drop-drop count filled whole;
+  front = s.front ∙ ap₂ (λ xs ys. xs ++ take count ys) h.front h.left_is ∙ sym (take-add filled count whole);
+  within = omega (arith, h.within, s.within, ap length h.left_is, length-drop filled whole);
+}
+
+-- a stretch of nothing
+module _ (whole left next out written : List ℕ) (filled count : ℕ) (h : Taken whole left out filled) (s : IsStretch left next out written filled count) (none : count ≡ 0) where
+  pub Taken-rest : Taken whole next written filled
+  Taken-rest = subst (Taken whole next written) (let e : filled + count ≡ filled = omega (arith, none) in e) (Taken-stretch whole left next out written filled count h s)
+
+  pub none_left : None ≡ slice_get next 0
+  none_left =
+      let gone : length left ≡ 0 = elim (cases_lt 0 (length left)) [ inl some ↦ absurd (omega (arith, none, s.some some)) | inr empty ↦ omega (arith, empty) ] in
+      ap (λ xs. slice_get xs 0) (sym (nil_from_length next (omega (arith, gone, ap length s.left_is, length-drop count left))))
+
+-- where nothing is left, nothing is taken
+pub no_stretch : (left out : List ℕ) (filled : ℕ) → (0 < length left → ⊥) → filled < 128 → IsStretch left left out out filled 0
+no_stretch left out filled none room = record {
+  some = λ some. absurd (none some);
+  within = omega arith;
+  room = omega (arith, room);
+  front = ap (λ n. take n out) (let e : filled + 0 ≡ filled = omega arith in e) ∙ sym (append-nil (take filled out));
+  left_is = refl;
+}
+
+-- a stretch out of an array at whose front lies what is open
+pub stretch_copied : (numbers here rest next out written : List ℕ) (at len filled count : ℕ) → take len numbers ≡ here → len ≡ length here → at < len → filled < 128 → count ≡ min (len - at) (128 - filled) →
+    take (filled + count) written ≡ take filled out ++ take count (drop at numbers) → next ≡ drop count (drop at here ++ rest) → IsStretch (drop at here ++ rest) next out written filled count
+stretch_copied numbers here rest next out written at len filled count is size inside room most copied left =
+    let long : length (drop at here ++ rest) ≡ len - at + length rest = omega (arith, length-append (drop at here) rest, length-drop at here, size) in
+    let fits : count ≤ len - at = omega (arith, most) in
+    let whole : at + (len - at) ≡ len = omega (arith, inside) in
+    let front : take (len - at) (drop at numbers) ≡ drop at here = sym (drop-take at (len - at) numbers) ∙ ap (λ n. drop at (take n numbers)) whole ∙ ap (drop at) is in
+    record {
+      some = λ _. omega (arith, most, inside, room);
+      within = omega (arith, long, fits);
+      room = omega (arith, most, room);
+      front = copied ∙ ap (λ xs. take filled out ++ xs) (sym (take-take count (len - at) (drop at numbers) fits) ∙ ap (take count) front ∙ sym (take-append-le count (drop at here) rest (omega (arith, fits, length-drop at here, size))));
+      left_is = left;
+    }

@@ -147,7 +147,7 @@ pub record IsFresh (lists : List (List ℕ)) (shortest : List ℕ) (others : Lis
   pub most : most_of c ≡ block_count (fewest lists) + (length lists - 1) * (fewest lists + 1)
   pub opened : common shortest others ≢ [] → length lists ≤ counts_of c
 
-length_zip : {A B : Type 0} (R : A → B → Type 0) (xs : List A) (ys : List B) → AllZip R xs ys → length xs ≡ length ys
+pub length_zip : {A B : Type 0} (R : A → B → Type 0) (xs : List A) (ys : List B) → AllZip R xs ys → length xs ≡ length ys
 length_zip R [] [] h = refl
 length_zip R [] (y ∷ ys) h = absurd h
 length_zip R (x ∷ xs) [] h = absurd h

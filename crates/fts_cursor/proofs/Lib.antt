@@ -7,7 +7,9 @@ pub mod TermsLemmas
 pub mod ScanLemmas
 pub mod PartsLemmas
 pub mod UnionLemmas
+pub mod WindowLemmas
 pub mod TreeLemmas
+pub mod GatherLemmas
 pub mod PhraseLemmas
 pub mod HitsLemmas
 pub mod BoolHits
@@ -16,3 +18,4 @@ pub mod OpensLemmas
 pub mod DepthLemmas
 pub mod PhraseHits
 pub mod RangeLemmas
+pub mod PromiseLemmas

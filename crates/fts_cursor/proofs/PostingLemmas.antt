@@ -48,21 +48,27 @@ remaining_rises p blocks same h =
     let r = Rises-place p.blocks p.block p.at (subst (λ bs. IsStrictlyIncreasing (flat bs)) same h) in
     increasing-from_Rises r.0 (remaining_of p) r.1
 
--- a step within the open block
-pub step_within : (here rest : List ℕ) (at : ℕ) → at < length here → drop (at + 1) here ++ rest ≡ drop 1 (drop at here ++ rest)
-step_within here rest at inside =
-    ap (λ xs. xs ++ rest) (sym (drop-drop 1 at here)) ∙ sym (drop-append-le 1 (drop at here) rest (omega (arith, length-drop at here)))
+-- steps within the open block
+pub leave_within : (here rest : List ℕ) (at count : ℕ) → at + count ≤ length here → drop (at + count) here ++ rest ≡ drop count (drop at here ++ rest)
+leave_within here rest at count inside =
+    ap (λ xs. xs ++ rest) (sym (drop-drop count at here)) ∙ sym (drop-append-le count (drop at here) rest (omega (arith, length-drop at here, inside)))
 
--- a step over its end
-pub step_over : (p q : Posting) → q.blocks ≡ p.blocks → q.block ≡ p.block + 1 → q.at ≡ 0 → length (here p) ≡ p.at + 1 → remaining_of q ≡ drop 1 (remaining_of p)
-step_over p q blocks block at end =
+pub step_within : (here rest : List ℕ) (at : ℕ) → at < length here → drop (at + 1) here ++ rest ≡ drop 1 (drop at here ++ rest)
+step_within here rest at inside = leave_within here rest at 1 (omega (arith, inside))
+
+-- steps to its end
+pub leave_over : (p q : Posting) (count : ℕ) → q.blocks ≡ p.blocks → q.block ≡ p.block + 1 → q.at ≡ 0 → length (here p) ≡ p.at + count → remaining_of q ≡ drop count (remaining_of p)
+leave_over p q count blocks block at end =
     let rest = flat (drop (suc p.block) p.blocks) in
     let next : q.block ≡ suc p.block = omega (arith, block) in
     ap (λ n. drop n (here q) ++ flat (drop (suc q.block) q.blocks)) at
     ∙ sym (split_block q.blocks q.block)
     ∙ ap₂ (λ n bs. flat (drop n bs)) next blocks
-    ∙ sym (ap (λ xs. xs ++ rest) (drop_all (p.at + 1) (here p) (omega (arith, end))))
-    ∙ step_within (here p) rest p.at (omega (arith, end))
+    ∙ sym (ap (λ xs. xs ++ rest) (drop_all (p.at + count) (here p) (omega (arith, end))))
+    ∙ leave_within (here p) rest p.at count (omega (arith, end))
+
+pub step_over : (p q : Posting) → q.blocks ≡ p.blocks → q.block ≡ p.block + 1 → q.at ≡ 0 → length (here p) ≡ p.at + 1 → remaining_of q ≡ drop 1 (remaining_of p)
+step_over p q blocks block at end = leave_over p q 1 blocks block at end
 
 last_of-append : (xs ys : List ℕ) → 0 < length ys → last_of (xs ++ ys) ≡ last_of ys
 last_of-append xs ys some =

@@ -1,11 +1,12 @@
 -- The documents of a range that pass a test, stretch by stretch.
 use Rattle.std.proofs.Common.{◌≡◌, ℕ, zero, suc, ◌+◌, ◌-◌, ◌<◌, ◌≤◌, Bool, true, false, cond, ◌&&◌, nat_le, Option, Some, None, is_some, option_map, Bor, List, [], ◌∷◌, ◌++◌, length, get_or, set, take, drop, map, min, refl, sym, ap, ap₂, subst, ◌∙◌, inl, inr, arith}
+use Rattle.std.specs.Int.{from_bool}
 use Rattle.std.specs.List.{filter, range_with_len, slice_get}
 use Rattle.std.specs.List.Sorted.{IsStrictlyIncreasing}
 use Rattle.std.specs.Option.{option_copied, option_map_or}
 use Rattle.std.proofs.lemmas.Option.{slice_get-get_or, slice_get-map}
 use Rattle.std.proofs.lemmas.Bool.{cases_lt, lt-leb}
-use Rattle.std.proofs.lemmas.List.{append-nil, take_more_set, length-append, length-drop, get_or-drop, get_or-take, get_or_append_left, drop-append-le, drop-drop, drop_all}
+use Rattle.std.proofs.lemmas.List.{append-nil, take-set, take_more_set, length-append, length-drop, get_or-drop, get_or-take, get_or_append_left, drop-append-le, drop-drop, drop_all}
 use Rattle.std.proofs.lemmas.List.Elements.{filter-append}
 use Rattle.fts_pack.specs.Documents.{Rises}
 use Rattle.fts_cursor.specs.Remaining.{at_least, IsPlaceOf}
@@ -59,6 +60,15 @@ KeptUpTo-passed p from out place count h fails =
     let more = one p from place false fails ∙ append-nil (passing p from place) in
     record { front = h.front ∙ sym more; size = h.size ∙ ap length (sym more); behind = omega (arith, h.behind) }
 
+-- what is written and counted only where it passes
+pub KeptUpTo-written : (p : ℕ → Bool) (from : ℕ) (out : List ℕ) (place count more : ℕ) (b : Bool) → KeptUpTo p from out place count → p (from + place) ≡ b → count < length out → more ≡ count + from_bool b →
+    KeptUpTo p from (set out count (from + place)) (place + 1) more
+KeptUpTo-written p from out place count more true h passes room is = subst (KeptUpTo p from (set out count (from + place)) (place + 1)) (sym is) (KeptUpTo-kept p from out place count h passes room)
+KeptUpTo-written p from out place count more false h fails room is =
+    let same : more ≡ count = omega (arith, is) in
+    let after = KeptUpTo-passed p from out place count h fails in
+    subst (KeptUpTo p from (set out count (from + place)) (place + 1)) (sym same) (record { front = take-set out count (from + place) ∙ after.front; size = after.size; behind = after.behind })
+
 -- the first stretch, and the others
 pub passing-stretch : (p : ℕ → Bool) (from docs : ℕ) → passing p from (docs - from) ≡ passing p from (min 128 (docs - from)) ++ passing p (from + 128) (docs - (from + 128))
 passing-stretch p from docs = elim (cases_lt (docs - from) 128) [
@@ -86,6 +96,15 @@ Rises-drop (suc k) from (x ∷ xs) h = Rises-drop k (suc x) xs h.1
 
 pub increasing-passing : (p : ℕ → Bool) (a n k : ℕ) → IsStrictlyIncreasing (drop k (passing p a n))
 increasing-passing p a n k = let r = Rises-drop k a (passing p a n) (Rises-passing p a n) in increasing-from_Rises r.0 (drop k (passing p a n)) r.1
+
+-- past the end nothing is left
+pub none_kept : (p : ℕ → Bool) (from docs at : ℕ) → 0 < length (drop at (passing p from (docs - from))) → from < docs
+none_kept p from docs at some = elim (cases_lt from docs) [
+  | inl inside ↦ inside
+  | inr past ↦
+      let none : docs - from ≡ 0 = omega (arith, past) in
+      absurd (omega (arith, some, length-drop at (passing p from (docs - from)), ap (λ n. length (passing p from n)) none))
+]
 
 low_range : (target a n : ℕ) → a + n ≤ target → at_least target (range_with_len a n) ≡ []
 low_range target a zero low = refl
@@ -167,6 +186,14 @@ module _ (p : ℕ → Bool) (from docs at len : ℕ) (numbers here rest : List �
   pub scan_over : at + 1 ≡ len → rest ≡ drop 1 (drop at (passing p from (docs - from)))
   scan_over end =
       sym (drop-drop 1 at (passing p from (docs - from)) ∙ ap₂ (λ (n : ℕ) (xs : List ℕ). drop n xs) end all ∙ drop-append-le len here rest (omega (arith, size)) ∙ ap (λ xs. xs ++ rest) (drop_all len here (omega (arith, size))))
+
+  -- what is left, in the stretch and behind it
+  pub scan_left : at < len → drop at here ++ rest ≡ drop at (passing p from (docs - from))
+  scan_left inside = sym (ap (drop at) all ∙ drop-append-le at here rest (omega (arith, size, inside)))
+
+  pub scan_behind : (count : ℕ) → at < len → at + count ≡ len → rest ≡ drop count (drop at here ++ rest)
+  scan_behind count inside end =
+      sym (drop-append-le count (drop at here) rest (omega (arith, length-drop at here, size, end)) ∙ ap (λ xs. xs ++ rest) (drop_all count (drop at here) (omega (arith, length-drop at here, size, end))))
 
   -- what is left of the stretch is below the target
   pub scan_below : (target : ℕ) → at < len → get_or numbers (len - 1) 0 < target → at_least target (drop at (passing p from (docs - from))) ≡ at_least target rest

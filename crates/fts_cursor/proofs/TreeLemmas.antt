@@ -19,7 +19,7 @@ use Rattle.fts_cursor.specs.declared.tree.Node.TheVariants.{And}
 use Rattle.fts_cursor.proofs.RemainingLemmas.{Rises-from_increasing, increasing-from_Rises, fewer-at_least, first-at_least, at_least_all, nothing_first}
 use Rattle.fts_cursor.proofs.MeetingLemmas.{FirstPasses-first, filter-past, Rises-from_first, filter-ahead, filter-first, filter-none, filter-rises, filter-same, has-at_least, has-before_first, has-first, has-none, is_itself}
 use Rattle.fts_cursor.proofs.PartsLemmas.{Continues-beside, Continues-same, Continues-together, Continues-trans, LeftUpTo, UpTo-next, in_all-narrowed}
-use Rattle.fts_cursor.proofs.UnionLemmas.{Rises-union, has-union, remains-more, union-left}
+use Rattle.fts_cursor.proofs.UnionLemmas.{Rises-union, has-union, remains-more}
 
 -- a node whose parts were brought together
 pub IsNow-met : (doc : Option ℕ) (node : Node) (before remaining : List ℕ) (test : ℕ → Bool) (lead : List ℕ) → Met doc before test lead → (standing node).remaining ≡ filter test lead → PartsStand doc node → IsTiedNode node → before ≡ remaining → IsNow doc node remaining
@@ -90,27 +90,12 @@ right_false false b h = h
 pub Left-seek : (target : ℕ) (p q : Standing) → q.remaining ≡ at_least target p.remaining → Continues p q → Left target p q
 Left-seek target p q is continues = record { remaining = is; continues = continues }
 
-drop_first : (doc : ℕ) (xs : List ℕ) → IsStrictlyIncreasing xs → Some doc ≡ slice_get xs 0 → drop 1 xs ≡ at_least (doc + 1) xs
+pub drop_first : (doc : ℕ) (xs : List ℕ) → IsStrictlyIncreasing xs → Some doc ≡ slice_get xs 0 → drop 1 xs ≡ at_least (doc + 1) xs
 drop_first doc [] rises is = refl
 drop_first doc (x ∷ xs) rises is =
     let same : doc ≡ x = cc in
     let up = (Rises-from_increasing (x ∷ xs) rises).1 in
     sym (ap (λ b. cond b (x ∷ at_least (doc + 1) xs) (at_least (doc + 1) xs)) (lt-leb (doc + 1) x (omega (arith, same))) ∙ at_least_all (doc + 1) (suc x) xs up (omega (arith, same)))
-
--- the part that stood at the document left it behind
-pub Left-passed : (doc : ℕ) (p q : Standing) → IsStrictlyIncreasing p.remaining → Some doc ≡ slice_get p.remaining 0 → q.remaining ≡ drop 1 p.remaining → Continues p q → Left (doc + 1) p q
-Left-passed doc p q rises first is continues = record { remaining = is ∙ drop_first doc p.remaining rises first; continues = continues }
-
--- a part that stands further on stays
-pub Left-further : (doc first : ℕ) (p : Standing) → IsStrictlyIncreasing p.remaining → Some first ≡ slice_get p.remaining 0 → p.remaining ≡ at_least doc p.remaining → first ≢ doc → Left (doc + 1) p p
-Left-further doc first p rises is up other =
-    let le = first-at_least doc p.remaining first (is ∙ ap (λ xs. slice_get xs 0) up) in
-    record { remaining = stays_from_first (doc + 1) first p.remaining rises is (omega (arith, le, other)); continues = Continues-same p }
-
-pub Left-ended : (target : ℕ) (p : Standing) → None ≡ slice_get p.remaining 0 → Left target p p
-Left-ended target p none =
-    let empty = nothing_first p.remaining none in
-    record { remaining = empty ∙ sym (ap (at_least target) empty); continues = Continues-same p }
 
 pub LeftUpTo-next : (target : ℕ) (initial now : List Standing) (least later : Option ℕ) (index : ℕ) → LeftUpTo target initial now least index → (d₀ q : Standing) → index < length now → Left target (get_or now index d₀) q → IsLeast later (remains (take index now) ++ q.remaining ∷ []) → LeftUpTo target initial (set now index q) later (index + 1)
 LeftUpTo-next target initial now least later index h d₀ q inside left is = record {
@@ -119,7 +104,7 @@ LeftUpTo-next target initial now least later index h d₀ q inside left is = rec
 }
 
 -- parts of which the union begins at the document begin there or later
-from_union : (doc : ℕ) (xs : List ℕ) (lists : List (List ℕ)) → ((d : ℕ) → d < doc → has xs d ≡ false) → xs ≡ at_least doc xs
+pub from_union : (doc : ℕ) (xs : List ℕ) (lists : List (List ℕ)) → ((d : ℕ) → d < doc → has xs d ≡ false) → xs ≡ at_least doc xs
 from_union doc [] lists h = refl
 from_union doc (x ∷ xs) lists h =
     let up : doc ≤ x = elim (cases_lt x doc) [
@@ -138,19 +123,6 @@ pub parts_from : (parts : List Standing) (doc : ℕ) → slice_get (union (remai
 parts_from parts doc first k e inside =
     let rises = increasing-from_Rises 0 (union (remains parts)) (Rises-union (remains parts)) in
     from_union doc (get_or parts k e).remaining (remains parts) (λ d low. lacks_each parts d (sym (has-union (remains parts) d) ∙ has-before_first (union (remains parts)) doc d rises (sym first) low) k e inside)
-
--- a union whose parts left its first document behind
-pub union-passed : (parts after : List Standing) (doc : ℕ) → slice_get (union (remains parts)) 0 ≡ Some doc → AllZip (Left (doc + 1)) parts after → union (remains after) ≡ drop 1 (union (remains parts))
-union-passed parts after doc first each =
-    union-left (doc + 1) parts after each
-    ∙ sym (drop_first doc (union (remains parts)) (increasing-from_Rises 0 (union (remains parts)) (Rises-union (remains parts))) (sym first))
-
-pub union_rises : (parts : List Standing) → IsStrictlyIncreasing (union (remains parts))
-union_rises parts = increasing-from_Rises 0 (union (remains parts)) (Rises-union (remains parts))
-
--- parts that left nothing behind
-pub union-whole : (parts after : List Standing) → AllZip (Left 0) parts after → union (remains after) ≡ union (remains parts)
-union-whole parts after each = union-left 0 parts after each ∙ at_least_all 0 0 (union (remains parts)) (Rises-union (remains parts)) (omega arith)
 
 openings-suc : (parts : List Standing) (index : ℕ) (d : Standing) → index < length parts → all_openings (take (suc index) parts) ≡ all_openings (take index parts) + (get_or parts index d).openings
 openings-suc [] index d inside = absurd (omega arith)

@@ -14,20 +14,20 @@ use Rattle.fts_cursor.proofs.MeetingLemmas.{below_is_other, is_itself, has-below
 below : (d x : ℕ) (xs : List ℕ) → d < x → with_one d (x ∷ xs) ≡ d ∷ (x ∷ xs)
 below d x xs h = ap (λ b. cond b (d ∷ (x ∷ xs)) (cond (d == x) (x ∷ xs) (x ∷ with_one d xs))) (lt-ltb d x h)
 
-same : (d x : ℕ) (xs : List ℕ) → d ≡ x → with_one d (x ∷ xs) ≡ x ∷ xs
+pub same : (d x : ℕ) (xs : List ℕ) → d ≡ x → with_one d (x ∷ xs) ≡ x ∷ xs
 same d x xs e =
     ap (λ b. cond b (d ∷ (x ∷ xs)) (cond (d == x) (x ∷ xs) (x ∷ with_one d xs))) (le-ltb d x (omega (arith, e)))
     ∙ ap (λ b. cond b (x ∷ xs) (x ∷ with_one d xs)) (ap (λ y. d == y) (sym e) ∙ is_itself d)
 
-above : (d x : ℕ) (xs : List ℕ) → x < d → with_one d (x ∷ xs) ≡ x ∷ with_one d xs
+pub above : (d x : ℕ) (xs : List ℕ) → x < d → with_one d (x ∷ xs) ≡ x ∷ with_one d xs
 above d x xs h =
     ap (λ b. cond b (d ∷ (x ∷ xs)) (cond (d == x) (x ∷ xs) (x ∷ with_one d xs))) (le-ltb d x (omega (arith, h)))
     ∙ ap (λ b. cond b (x ∷ xs) (x ∷ with_one d xs)) (below_is_other d x h)
 
-stays : (t x : ℕ) (xs : List ℕ) → t ≤ x → at_least t (x ∷ xs) ≡ x ∷ at_least t xs
+pub stays : (t x : ℕ) (xs : List ℕ) → t ≤ x → at_least t (x ∷ xs) ≡ x ∷ at_least t xs
 stays t x xs h = ap (λ b. cond b (x ∷ at_least t xs) (at_least t xs)) (le-leb t x h)
 
-leaves : (t x : ℕ) (xs : List ℕ) → x < t → at_least t (x ∷ xs) ≡ at_least t xs
+pub leaves : (t x : ℕ) (xs : List ℕ) → x < t → at_least t (x ∷ xs) ≡ at_least t xs
 leaves t x xs h = ap (λ b. cond b (x ∷ at_least t xs) (at_least t xs)) (lt-leb t x h)
 
 -- one of three ways
@@ -69,11 +69,11 @@ or_true : (a : Bool) → (a || true) ≡ true
 or_true true = refl
 or_true false = refl
 
-or_false : (a : Bool) → (a || false) ≡ a
+pub or_false : (a : Bool) → (a || false) ≡ a
 or_false true = refl
 or_false false = refl
 
-has-with_one : (d : ℕ) (xs : List ℕ) (y : ℕ) → has (with_one d xs) y ≡ ((d == y) || has xs y)
+pub has-with_one : (d : ℕ) (xs : List ℕ) (y : ℕ) → has (with_one d xs) y ≡ ((d == y) || has xs y)
 has-with_one d [] y = refl
 has-with_one d (x ∷ xs) y = by_order (has (with_one d (x ∷ xs)) y ≡ ((d == y) || has (x ∷ xs) y)) d x
     (λ lt. ap (λ zs. has zs y) (below d x xs lt))
@@ -115,7 +115,7 @@ at_least-with_one_out t d (x ∷ xs) out = by_order (at_least t (with_one d (x �
     let low : x < t = omega (arith, gt, out) in
     ap (at_least t) (above d x xs gt) ∙ leaves t x (with_one d xs) low ∙ at_least-with_one_out t d xs out ∙ sym (leaves t x xs low))
 
-at_least-with_all : (t : ℕ) (xs ys : List ℕ) → at_least t (with_all xs ys) ≡ with_all (at_least t xs) (at_least t ys)
+pub at_least-with_all : (t : ℕ) (xs ys : List ℕ) → at_least t (with_all xs ys) ≡ with_all (at_least t xs) (at_least t ys)
 at_least-with_all t [] ys = refl
 at_least-with_all t (x ∷ xs) ys = elim (cases_lt x t) [
   | inl low ↦
@@ -137,7 +137,7 @@ has_nothing : (xs : List ℕ) → ((d : ℕ) → has xs d ≡ false) → xs ≡ 
 has_nothing [] h = refl
 has_nothing (x ∷ xs) h = absurd (false≢true (sym (h x) ∙ ap (λ b. b || has xs x) (is_itself x)))
 
-first_of : (xs : List ℕ) (first : ℕ) → Rises 0 xs → has xs first ≡ true → ((d : ℕ) → d < first → has xs d ≡ false) → Some first ≡ slice_get xs 0
+pub first_of : (xs : List ℕ) (first : ℕ) → Rises 0 xs → has xs first ≡ true → ((d : ℕ) → d < first → has xs d ≡ false) → Some first ≡ slice_get xs 0
 first_of [] first h there lack = absurd (false≢true there)
 first_of (x ∷ xs) first h there lack = by_order (Some first ≡ Some x) x first
     (λ lt. absurd (false≢true (sym (lack x lt) ∙ ap (λ b. b || has xs x) (is_itself x))))
@@ -150,7 +150,7 @@ union_first None lists h = sym (ap (λ xs. slice_get xs 0) (has_nothing (union l
 union_first (Some first) lists h =
     first_of (union lists) first (Rises-union lists) (has-union lists first ∙ h.0) (λ d low. has-union lists d ∙ h.1 d low)
 
-in_some-append : (lists : List (List ℕ)) (xs : List ℕ) (d : ℕ) → in_some (lists ++ xs ∷ []) d ≡ (in_some lists d || has xs d)
+pub in_some-append : (lists : List (List ℕ)) (xs : List ℕ) (d : ℕ) → in_some (lists ++ xs ∷ []) d ≡ (in_some lists d || has xs d)
 in_some-append [] xs d = or_false (has xs d)
 in_some-append (ys ∷ lists) xs d = ap (λ b. has ys d || b) (in_some-append lists xs d) ∙ sym (or_assoc (has ys d) (in_some lists d) (has xs d))
 
@@ -186,7 +186,7 @@ IsLeast-some (Some a) lists xs first h rises is = elim (cases_lt a first) [
 pub remains-more : (now : List Standing) (index : ℕ) (q : Standing) → index < length now → remains (take (index + 1) (set now index q)) ≡ remains (take index now) ++ q.remaining ∷ []
 remains-more now index q inside = ap remains (take_more_set now index q inside) ∙ map-append (λ s. s.remaining) (take index now) (q ∷ [])
 
-with_one-front : (x : ℕ) (xs : List ℕ) → Rises (suc x) xs → with_one x xs ≡ x ∷ xs
+pub with_one-front : (x : ℕ) (xs : List ℕ) → Rises (suc x) xs → with_one x xs ≡ x ∷ xs
 with_one-front x [] h = refl
 with_one-front x (y ∷ ys) h = below x y ys (omega (arith, h.0))
 

@@ -14,5 +14,5 @@ node_falls (Postings p) = omega arith
 node_falls (Terms c) = omega arith
 node_falls (Phrase s) = omega arith
 node_falls (And parts) = omega (arith, most-heights parts.others.items)
-node_falls (Or parts) = omega (arith, most-heights parts.items)
+node_falls (Or buffered) = omega (arith, most-heights buffered.parts.items)
 node_falls (Without parts) = omega arith

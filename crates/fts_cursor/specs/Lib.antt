@@ -1,4 +1,5 @@
 pub mod Remaining
+pub mod Fills
 pub mod Posting
 pub mod Meeting
 pub mod Conjoined
@@ -8,6 +9,7 @@ pub mod Phrases
 pub mod Leading
 pub mod Builds
 pub mod Scans
+pub mod Windows
 pub mod Trees
 pub mod Falls
 pub mod Ranges

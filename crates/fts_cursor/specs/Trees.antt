@@ -1,16 +1,35 @@
 -- What a tree of cursors stands for.
-use Rattle.std.specs.Prelude.{◌≡◌, ℕ, ◌==◌, Bool, true, false, List, [], Option, Some, None, length, slice_get}
+use Rattle.std.specs.Prelude.{◌≡◌, ℕ, ◌==◌, ◌≤◌, ◌&&◌, ◌||◌, nat_le, Bool, true, false, List, [], ◌∷◌, Option, Some, None, length, slice_get}
 use Rattle.std.specs.List.{filter}
 use Rattle.std.specs.List.Sorted.{IsStrictlyIncreasing}
 use Rattle.fts_cursor.specs.Posting.{blocks_reached, remaining_of}
 use Rattle.fts_cursor.specs.Conjoined.{common_of}
-use Rattle.fts_cursor.specs.Meeting.{FirstPasses, common, in_all, lacks, union, without}
+use Rattle.fts_cursor.specs.Meeting.{FirstPasses, common, has, in_all, in_some, lacks, union, without}
 use Rattle.fts_cursor.specs.Standing.{Standing, beside, remains, together}
 use Rattle.fts_cursor.specs.Terms.{AreTied, IsTied, of_terms}
+use Rattle.fts_cursor.specs.Windows.{marked}
+use Rattle.fts_cursor.specs.declared.tree.BufferedUnion.{BufferedUnion}
 use Rattle.fts_cursor.specs.declared.tree.Difference.{Difference}
 use Rattle.fts_cursor.specs.declared.tree.Meeting.{Meeting}
 use Rattle.fts_cursor.specs.declared.tree.Node.{Node}
 use Rattle.fts_cursor.specs.declared.tree.Node.TheVariants.{Nothing, Scan, Postings, Terms, Phrase, And, Or, Without}
+use Rattle.fts_cursor.specs.declared.window.Window.{Window}
+
+-- the documents of a window
+abbrev pub found : Window → List ℕ
+found window = marked window.from window.last window.marks
+
+-- each of the lists begins behind the window
+abbrev pub AreBeyond : Window → List (List ℕ) → Type 0
+AreBeyond window lists = (d : ℕ) → d ≤ window.last → in_some lists d ≡ false
+
+-- the window has those too that pass, up to its last
+abbrev pub AreMarked : (ℕ → Bool) → Window → Window → Type 0
+AreMarked test old new = (d : ℕ) → has (found new) d ≡ (has (found old) d || (nat_le d old.last && test d))
+
+-- what the window has, and the parts
+abbrev pub gathered : BufferedUnion → List ℕ
+gathered buffered = union (found buffered.window ∷ remains buffered.parts.items)
 
 -- what parts have in common, and what one has and the other doesn't
 abbrev pub meet : Meeting → List ℕ
@@ -26,7 +45,7 @@ standing (Postings p) = record { remaining = remaining_of p; openings = p.count;
 standing (Terms c) = of_terms c (common_of c)
 standing (Phrase s) = record s { whole = false }
 standing (And parts) = beside parts.lead.value (together parts.others.items) (meet parts)
-standing (Or parts) = beside (together parts.items) (together []) (union (remains parts.items))
+standing (Or buffered) = beside (together buffered.parts.items) (together []) (gathered buffered)
 standing (Without parts) = beside parts.kept.value parts.dropped.value (differ parts)
 
 -- the first that passes, if there is one, is the first of what leads
@@ -34,10 +53,16 @@ abbrev pub PassesAt : Option ℕ → (ℕ → Bool) → List ℕ → Type 0
 PassesAt None test lead = Unit {0}
 PassesAt (Some doc) test lead = FirstPasses test lead
 
+-- the window has the first document, if there is one, and the parts lie behind it
+pub record IsBuffered (doc : Option ℕ) (window : Window) (lists : List (List ℕ)) : Type 0 where
+  pub first : doc ≡ slice_get (found window) 0
+  pub beyond : AreBeyond window lists
+
 -- the parts stand at the node's first document, if there is one
 abbrev pub PartsStand : Option ℕ → Node → Type 0
 PartsStand doc (And parts) = PassesAt doc (in_all (remains parts.others.items)) parts.lead.value.remaining
 PartsStand doc (Without parts) = PassesAt doc (lacks parts.dropped.value.remaining) parts.kept.value.remaining
+PartsStand doc (Or buffered) = IsBuffered doc buffered.window (remains buffered.parts.items)
 PartsStand doc node = Unit {0}
 
 -- each opening of a source was counted by its cursor

@@ -1,6 +1,7 @@
 // The cursor of a query: a tree of cursors, one for each query within it.
-ghost use Rattle.std.specs.Prelude.{◌≡◌, ◌≢◌, ◌≤◌, ◌<◌, ◌∷◌, [], true, List, IfOk, IsOkUnless, MatchOption, length, map};
+ghost use Rattle.std.specs.Prelude.{◌≡◌, ◌≢◌, ◌-◌, ◌^◌, ◌≤◌, ◌<◌, ◌∷◌, All, EachIndex, [], true, List, IfOk, IsOkUnless, MatchOption, length, map, min, slice_index};
 ghost use Rattle.std.specs.List.{AllZip, list_all};
+ghost use Rattle.std.specs.List.Sorted.{IsStrictlyIncreasing};
 ghost use Rattle.fts_model.specs.declared.operation.Term.{Term};
 ghost use Rattle.fts_model.specs.Queries.{query_fits};
 ghost use Rattle.fts_model.specs.QueryValues.{every, phrase, query_value};
@@ -123,7 +124,7 @@ fn trees_of<'a>(
     Ok(trees)
 }
 
-// What all have in common.
+// What all have in common. The part that promises the fewest documents leads.
 fn all<'a>(alloc: Global, parts: Vec<Tree<'a>>) -> Result<Tree<'a>, AllocError>
     requires { 0 < length parts.items }
     ensures { IfOk result (λ t. (first : Standing) (rest : List Standing) →
@@ -131,9 +132,41 @@ fn all<'a>(alloc: Global, parts: Vec<Tree<'a>>) -> Result<Tree<'a>, AllocError>
         → t.remaining ≡ common first.remaining (remains rest)) }
 {
     let mut parts = parts;
-    let lead = parts.remove(0);
+    let promises = promises_of(alloc, &parts)?;
+    let lead = parts.remove(place_of_least(&promises));
     let lead = Box::new(alloc, lead)?;
     Ok(Tree::and(lead, parts))
+}
+
+// How many documents remain of each part at most, or the greatest `usize`.
+fn promises_of(alloc: Global, parts: &[Tree]) -> Result<Vec<usize>, AllocError>
+    ensures bounds { IfOk result (λ promises. AllZip
+        (λ promise part. min (2 ^ 64 - 1) (length part.remaining) ≤ promise)
+        promises.items parts.now) }
+    ensures rise { IfOk result (λ promises.
+        All (λ part. IsStrictlyIncreasing part.remaining) parts.now) }
+{
+    let mut promises = Vec::with_capacity(alloc, parts.len())?;
+    for part in parts {
+        promises.push(part.promise())?;
+    }
+    Ok(promises)
+}
+
+// The place of the least number.
+fn place_of_least(numbers: &[usize]) -> usize
+    requires { 0 < length numbers.now }
+    ensures inside { result < length numbers.now }
+    ensures least { EachIndex numbers.now (λ k. slice_index numbers.now result
+        ≤ slice_index numbers.now k) }
+{
+    let mut least = 0;
+    for place in 1..numbers.len() {
+        if numbers[place] < numbers[least] {
+            least = place;
+        }
+    }
+    least
 }
 
 // Every document.

@@ -1,5 +1,5 @@
 // A conjunction of posting cursors: one of them leads, and the others are sought for its documents alone.
-ghost use Rattle.std.specs.Prelude.{◌≡◌, ℕ, ◌+◌, ◌-◌, ◌*◌, ◌^◌, ◌<◌, ◌≤◌, All, List, drop, length, min, slice_get, slice_index_or};
+ghost use Rattle.std.specs.Prelude.{◌≡◌, ℕ, ◌+◌, ◌-◌, ◌*◌, ◌^◌, ◌<◌, ◌≤◌, All, List, drop, length, min, slice_get, slice_index_or, take};
 ghost use Rattle.std.specs.List.{AllZip};
 ghost use Rattle.fts_cursor.specs.Conjoined.{AllFollow, AreFew, Brought, IsAhead, MayBeBrought, StandAt, StandTogether, common_of, each_remaining, members_of, most_of, openings_of, reached};
 ghost use Rattle.fts_cursor.specs.Meeting.{common};
@@ -41,6 +41,13 @@ impl<B: Blocks + Drop> Conjunction<B> {
         let mut others = others;
         align(&mut lead, &mut others);
         Conjunction { lead, others }
+    }
+
+    /// How many documents remain at most, or the greatest `usize`.
+    pub(crate) fn promise(&self) -> usize
+        ensures { min (2 ^ 64 - 1) (length (common_of self.now)) ≤ result }
+    {
+        self.lead.promise()
     }
 
     /// The place in the leading list of the document at which all stand.
@@ -109,6 +116,23 @@ impl<B: Blocks + Drop> DocSet for Conjunction<B> {
                 align(&mut self.lead, &mut self.others);
             }
         }
+    }
+
+    fn fill(&mut self, out: &mut [u32; 128]) -> usize
+        ensures count { result ≡ min 128 (length (common_of self.old)) }
+        ensures taken { take result out.new ≡ take 128 (common_of self.old) }
+        ensures remaining { common_of self.new ≡ drop 128 (common_of self.old) }
+        ensures follows { AllFollow self.old self.new }
+    {
+        for filled in 0..128 {
+            match self.doc() {
+                Some(doc) => out[filled] = doc,
+                None => return filled,
+            }
+            // To the next that all have.
+            self.advance();
+        }
+        128
     }
 }
 

@@ -97,15 +97,32 @@ impl<'a> DocSet for Cursor<'a> {
         ensures remaining { self.new.remaining ≡ drop 128 self.old.remaining }
         ensures walked { Walked self.old self.new }
     {
-        for filled in 0..128 {
-            match self.doc() {
-                Some(doc) => out[filled] = doc,
-                None => return filled,
-            }
-            self.advance();
+        match self.live {
+            None => self.tree.fill(out),
+            Some(live) => fill_live(&mut self.tree, live, out),
         }
-        128
     }
+}
+
+// Takes the next 128 documents whose bit is set of a tree that stands at one of them.
+fn fill_live(tree: &mut Tree, live: &Bits, out: &mut [u32; 128]) -> usize
+    requires { FirstPasses (is_live live.now) tree.old.remaining }
+    ensures count { result ≡ min 128 (length (filter (is_live live.now) tree.old.remaining)) }
+    ensures taken { take result out.new ≡ take 128 (filter (is_live live.now) tree.old.remaining) }
+    ensures remaining { filter (is_live live.now) tree.new.remaining
+        ≡ drop 128 (filter (is_live live.now) tree.old.remaining) }
+    ensures settled { FirstPasses (is_live live.now) tree.new.remaining }
+    ensures walked { Walked tree.old tree.new }
+{
+    for filled in 0..128 {
+        match tree.doc() {
+            Some(doc) => out[filled] = doc,
+            None => return filled,
+        }
+        tree.advance();
+        settle(tree, live);
+    }
+    128
 }
 
 // Whether the document's bit is set. What has no bit isn't live.

@@ -66,10 +66,10 @@ fn write_within(column: &Column, low: u64, high: u64, from: usize, out: &mut [u3
     let present = column.present();
     let mut count = 0;
     for place in 0..stretch.len {
-        if is_within(present.get(from + place), values[place], low, high) {
-            out[count] = (from + place) as u32;
-            count += 1;
-        }
+        // Written in any case, since a branch that can't be foretold costs more.
+        out[count] = (from + place) as u32;
+        let kept = is_within(present.get(from + place), values[place], low, high);
+        count += usize::from(kept);
     }
     count
 }

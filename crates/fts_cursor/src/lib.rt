@@ -29,6 +29,7 @@ mod range;
 mod scan;
 mod terms;
 mod tree;
+mod window;
 
 pub use build::cursor_of;
 pub use conjunction::Conjunction;

@@ -1,5 +1,5 @@
 // A cursor over the documents in which a phrase stands: positions are read only where all of its terms do.
-ghost use Rattle.std.specs.Prelude.{◌≡◌, ℕ, ◌+◌, ◌-◌, ◌^◌, ◌<◌, ◌≤◌, ◌==◌, ◌∷◌, Some, drop, filter, length, min, slice_get, true, IfOk};
+ghost use Rattle.std.specs.Prelude.{◌≡◌, ℕ, ◌+◌, ◌-◌, ◌^◌, ◌<◌, ◌≤◌, ◌==◌, ◌∷◌, Some, drop, filter, length, min, slice_get, take, true, IfOk};
 ghost use Rattle.std.specs.List.{list_all, list_any};
 ghost use Rattle.fts_model.specs.Queries.{query_fits};
 ghost use Rattle.fts_model.specs.QueryValues.{phrase};
@@ -72,6 +72,13 @@ impl<'a> PhraseCursor<'a> {
         }
     }
 
+    /// How many documents remain at most, or the greatest `usize`.
+    pub(crate) fn promise(&self) -> usize
+        ensures { min (2 ^ 64 - 1) (length self.now.remaining) ≤ result }
+    {
+        self.terms.promise()
+    }
+
     /// How many blocks were opened since the cursors were made, or the greatest `u64`.
     pub(crate) fn openings(&self) -> u64
         ensures sum { result ≡ min (2 ^ 64 - 1) self.now.openings }
@@ -102,6 +109,22 @@ impl<'a> DocSet for PhraseCursor<'a> {
     {
         self.terms.seek(target);
         settle(self.segment, &mut self.terms, &self.first, &self.others);
+    }
+
+    fn fill(&mut self, out: &mut [u32; 128]) -> usize
+        ensures count { result ≡ min 128 (length self.old.remaining) }
+        ensures taken { take result out.new ≡ take 128 self.old.remaining }
+        ensures remaining { self.new.remaining ≡ drop 128 self.old.remaining }
+        ensures walked { Walked self.old self.new }
+    {
+        for filled in 0..128 {
+            let Some(doc) = self.doc() else {
+                return filled;
+            };
+            out[filled] = doc;
+            self.advance();
+        }
+        128
     }
 }
 

@@ -1,7 +1,8 @@
 // A cursor over the blocks of one list, of which one is open at a time.
-ghost use Rattle.std.specs.Prelude.{◌≡◌, ℕ, ◌+◌, ◌^◌, ◌<◌, ◌≤◌, List, [], drop, length, min, slice_index, slice_index_or, take, if◌then◌else◌, nat_lt};
+ghost use Rattle.std.specs.Prelude.{◌≡◌, ℕ, ◌+◌, ◌-◌, ◌^◌, ◌<◌, ◌≤◌, ◌++◌, List, [], drop, length, min, slice_index, slice_index_or, take, if◌then◌else◌, nat_lt};
 ghost use Rattle.fts_pack.specs.Documents.{blocks_of, last_of};
-ghost use Rattle.fts_cursor.specs.Posting.{Follows, Walks, blocks_reached, opened_by_step, remaining_of};
+ghost use Rattle.fts_cursor.specs.Fills.{IsStretch};
+ghost use Rattle.fts_cursor.specs.Posting.{Follows, Walks, blocks_reached, here, opened_by_step, remaining_of};
 ghost use Rattle.fts_cursor.specs.Remaining.{at_least, IsPlaceOf};
 
 use crate::doc_set::DocSet;
@@ -69,6 +70,13 @@ impl<B: Blocks> PostingCursor<B> {
         self.opened
     }
 
+    // How many documents remain at most, or the greatest `usize`: as if each block that is left were full.
+    pub(crate) fn promise(&self) -> usize
+        ensures { min (2 ^ 64 - 1) (length (remaining_of self.now)) ≤ result }
+    {
+        (self.source.blocks() - self.block).saturating_mul(128)
+    }
+
     // Leaves everything behind.
     pub(crate) fn finish(&mut self)
         ensures nothing { remaining_of self.new ≡ [] }
@@ -95,6 +103,38 @@ impl<B: Blocks> PostingCursor<B> {
             self.len = self.source.open(block, &mut self.numbers);
             self.opened += 1;
         }
+    }
+
+    // Leaves so many documents of the open block behind.
+    #[inline]
+    fn leave(&mut self, count: usize)
+        requires some { 0 < count }
+        requires within { self.old.at + count ≤ length (here self.old) }
+        ensures remaining { remaining_of self.new ≡ drop count (remaining_of self.old) }
+        ensures walks { Walks self.old self.new }
+    {
+        if self.at + count < self.len {
+            self.at += count;
+        } else {
+            let next = self.block + 1;
+            self.enter(next);
+        }
+    }
+
+    // Copies what fits of the rest of the open block behind what fills `out` so far, and leaves it behind.
+    fn take_block(&mut self, out: &mut [u32; 128], filled: usize) -> usize
+        requires { filled < 128 }
+        ensures taken { IsStretch (remaining_of self.old) (remaining_of self.new) out.old out.new
+            filled result }
+        ensures walks { Walks self.old self.new }
+    {
+        if self.at >= self.len {
+            return 0;
+        }
+        let count = (self.len - self.at).min(128 - filled);
+        copy_part(&self.numbers, self.at, count, out, filled);
+        self.leave(count);
+        count
     }
 }
 
@@ -144,32 +184,68 @@ impl<B: Blocks> DocSet for PostingCursor<B> {
         self.at = place_of(&self.numbers, self.at, self.len, target);
     }
 
-    /// Opens each block that it reaches.
+    /// Copies what it takes of each block that it reaches, and opens each of them.
     fn fill(&mut self, out: &mut [u32; 128]) -> usize
         ensures count { result ≡ min 128 (length (remaining_of self.old)) }
         ensures taken { take result out.new ≡ take 128 (remaining_of self.old) }
         ensures remaining { remaining_of self.new ≡ drop 128 (remaining_of self.old) }
         ensures walks { Walks self.old self.new }
     {
-        for filled in 0..128 {
-            match self.doc() {
-                Some(doc) => out[filled] = doc,
-                None => return filled,
+        let mut filled = 0;
+        while filled < 128 {
+            let count = self.take_block(out, filled);
+            if count == 0 {
+                return filled;
             }
-            self.advance();
+            filled += count;
         }
         128
     }
 }
 
-// The first block from `from` on that ends with the target or more: the number of blocks where there is none.
+// Copies so many numbers from one place on to another.
+pub(crate) fn copy_part(
+    numbers: &[u32; 128],
+    from: usize,
+    count: usize,
+    out: &mut [u32; 128],
+    to: usize,
+)
+    requires read { from + count ≤ 128 }
+    requires write { to + count ≤ 128 }
+    ensures { take (to + count) out.new ≡ take to out.old ++ take count (drop from numbers.now) }
+{
+    out[to..to + count].copy_from_slice(&numbers[from..from + count]);
+}
+
+// The first block from `from` on that ends with the target or more: the number of blocks where there is none. Looks at
+// the next first, then at ever farther ones, and halves what is left between.
 fn block_of<B: Blocks>(source: &B, from: usize, target: u32) -> usize
     requires { from ≤ length (B.contents source.now) }
     ensures { IsPlaceOf (λ k. last_of (slice_index_or (B.contents source.now) k [])) from
         (length (B.contents source.now)) target result }
 {
+    let to = source.blocks();
     let mut low = from;
-    let mut high = source.blocks();
+    while low - from < to - low {
+        let block = low + (low - from);
+        if source.last(block) >= target {
+            return block_between(source, low, block, target);
+        }
+        low = block + 1;
+    }
+    block_between(source, low, to, target)
+}
+
+// The first of the blocks `from..to` that ends with the target or more: `to` where there is none.
+fn block_between<B: Blocks>(source: &B, from: usize, to: usize, target: u32) -> usize
+    requires order { from ≤ to }
+    requires within { to ≤ length (B.contents source.now) }
+    ensures { IsPlaceOf (λ k. last_of (slice_index_or (B.contents source.now) k [])) from to
+        target result }
+{
+    let mut low = from;
+    let mut high = to;
     while low < high {
         let middle = low + (high - low) / 2;
         if source.last(middle) < target {
@@ -181,8 +257,28 @@ fn block_of<B: Blocks>(source: &B, from: usize, target: u32) -> usize
     low
 }
 
-// The first place of those in `from..to` that has the target or more: `to` where there is none.
+// The first place of those in `from..to` that has the target or more: `to` where there is none. Looks at the nearest
+// first, then at ever farther ones, and halves what is left between: what is sought is mostly near.
+#[inline]
 pub(crate) fn place_of(numbers: &[u32], from: usize, to: usize, target: u32) -> usize
+    requires order { from ≤ to }
+    requires within { to ≤ length numbers.now }
+    ensures { IsPlaceOf (slice_index numbers.now) from to target result }
+{
+    let mut low = from;
+    while low - from < to - low {
+        let place = low + (low - from);
+        if numbers[place] >= target {
+            return place_between(numbers, low, place, target);
+        }
+        low = place + 1;
+    }
+    place_between(numbers, low, to, target)
+}
+
+// The same, by halving.
+#[inline]
+fn place_between(numbers: &[u32], from: usize, to: usize, target: u32) -> usize
     requires order { from ≤ to }
     requires within { to ≤ length numbers.now }
     ensures { IsPlaceOf (slice_index numbers.now) from to target result }

@@ -1,11 +1,12 @@
 // A cursor over the documents that are kept by their number alone.
 ghost use Rattle.std.specs.Prelude.{◌≡◌, ◌%◌, ◌^◌, ◌-◌, ◌<◌, ◌≤◌, length, slice_index, take};
+ghost use Rattle.fts_cursor.specs.Fills.{IsStretch};
 ghost use Rattle.fts_cursor.specs.Remaining.{at_least};
 ghost use Rattle.fts_cursor.specs.Scans.{AreFor, kept_from, kept_in};
 
 use crate::doc_set::DocSet;
 use crate::kept::{self, Kept};
-use crate::posting::place_of;
+use crate::posting::{copy_part, place_of};
 use std::marker::Model;
 
 /// A cursor over the documents that are kept. Those of the stretch in which it stands lie in the value.
@@ -47,6 +48,35 @@ impl<'a> ScanCursor<'a> {
             len,
             numbers,
         }
+    }
+
+    /// How many documents remain at most: as many as were not looked at.
+    pub(crate) fn promise(&self) -> usize
+        ensures { length self.now ≤ result }
+    {
+        self.docs.saturating_sub(self.from)
+    }
+
+    // Copies what fits of the rest of the stretch behind what fills `out` so far, and leaves it behind.
+    fn take_stretch(&mut self, out: &mut [u32; 128], filled: usize) -> usize
+        requires { filled < 128 }
+        ensures { IsStretch self.old self.new out.old out.new filled result }
+    {
+        if self.at >= self.len {
+            return 0;
+        }
+        let count = (self.len - self.at).min(128 - filled);
+        copy_part(&self.numbers, self.at, count, out, filled);
+        if self.at + count < self.len {
+            self.at += count;
+        } else {
+            let next = self.from + 128;
+            let (from, len) = find(self.kept, self.docs, next, 0, &mut self.numbers);
+            self.from = from;
+            self.at = 0;
+            self.len = len;
+        }
+        count
     }
 }
 
@@ -91,6 +121,19 @@ impl DocSet for ScanCursor<'_> {
             self.len = len;
         }
         self.at = place_of(&self.numbers, self.at, self.len, target);
+    }
+
+    /// Copies what it takes of each stretch.
+    fn fill(&mut self, out: &mut [u32; 128]) -> usize {
+        let mut filled = 0;
+        while filled < 128 {
+            let count = self.take_stretch(out, filled);
+            if count == 0 {
+                return filled;
+            }
+            filled += count;
+        }
+        128
     }
 }
 

@@ -1,19 +1,20 @@
 // Cursors of queries within one another, each of which knows the first document that remains of it.
-ghost use Rattle.std.specs.Prelude.{◌≡◌, ◌≢◌, ℕ, ◌+◌, ◌-◌, ◌^◌, ◌<◌, ◌≤◌, ◌∷◌, All, [], true, MatchBool, drop, length, min, slice_get};
+ghost use Rattle.std.specs.Prelude.{◌≡◌, ◌≢◌, ℕ, ◌+◌, ◌-◌, ◌^◌, ◌<◌, ◌≤◌, ◌∷◌, All, [], true, MatchBool, drop, length, min, slice_get, take};
 ghost use Rattle.std.specs.List.{AllZip};
 ghost use Rattle.std.specs.List.Sorted.{IsStrictlyIncreasing};
 ghost use Rattle.fts_cursor.specs.Conjoined.{IsAhead, common_of, counts_of, most_of};
-ghost use Rattle.fts_cursor.specs.Meeting.{IsLeast, common, in_all, lacks, lesser_of, union, without};
-ghost use Rattle.fts_cursor.specs.Posting.{blocks_reached, remaining_of};
+ghost use Rattle.fts_cursor.specs.Meeting.{IsLeast, common, has, in_all, in_some, lacks, lesser_of, union, without};
+ghost use Rattle.fts_cursor.specs.Posting.{Follows, blocks_reached, remaining_of};
 ghost use Rattle.fts_cursor.specs.Remaining.{at_least};
 ghost use Rattle.fts_cursor.specs.Standing.{Continues, Left, Narrowed, Standing, Walked, all_most, all_openings, remains};
-ghost use Rattle.fts_cursor.specs.Trees.{IsNow, Met, StandsAt, differ, meet, standing};
+ghost use Rattle.fts_cursor.specs.Trees.{AreBeyond, AreMarked, IsNow, Met, StandsAt, differ, found, gathered, meet, standing};
 
 use crate::conjunction::Conjunction;
 use crate::doc_set::DocSet;
 use crate::phrase::PhraseCursor;
 use crate::posting::PostingCursor;
 use crate::scan::ScanCursor;
+use crate::window::Window;
 use fts_pack::ListSource;
 use std::marker::Model;
 
@@ -34,7 +35,7 @@ enum Node<'a> {
     Terms(Conjunction<ListSource<'a>>),
     Phrase(PhraseCursor<'a>),
     And(Meeting<'a>),
-    Or(Vec<Tree<'a>>),
+    Or(BufferedUnion<'a>),
     Without(Difference<'a>),
 }
 
@@ -44,6 +45,14 @@ enum Node<'a> {
 struct Meeting<'a> {
     lead: Box<Tree<'a>>,
     others: Vec<Tree<'a>>,
+}
+
+// What one of the parts has. The first documents are found already, and all parts stand behind the window of these.
+#[cycle(tree)]
+#[derive(Drop)]
+struct BufferedUnion<'a> {
+    parts: Vec<Tree<'a>>,
+    window: Window,
 }
 
 // What the first has and the second doesn't.
@@ -154,11 +163,12 @@ impl<'a> Tree<'a> {
     pub(crate) fn or(parts: Vec<Tree<'a>>) -> Tree<'a>
         ensures { result.remaining ≡ union (remains parts.entry.items) }
     {
-        let mut parts = parts;
-        let doc = seek_each(&mut parts, 0);
+        let window = Window::at(0, 0);
+        let mut buffered = BufferedUnion { parts, window };
+        let doc = refill(&mut buffered, 0);
         Tree {
             doc,
-            node: Node::Or(parts),
+            node: Node::Or(buffered),
         }
     }
 
@@ -211,11 +221,32 @@ impl<'a> Tree<'a> {
                 .lead
                 .openings()
                 .saturating_add(openings_in(&parts.others)),
-            Node::Or(parts) => openings_in(parts),
+            Node::Or(buffered) => openings_in(&buffered.parts),
             Node::Without(parts) => parts
                 .kept
                 .openings()
                 .saturating_add(parts.dropped.openings()),
+        }
+    }
+
+    /// How many documents remain at most, or the greatest `usize`.
+    #[cycle(promise)]
+    pub(crate) fn promise(&self) -> usize
+        ensures bound { min (2 ^ 64 - 1) (length self.now.remaining) ≤ result }
+        ensures rises { IsStrictlyIncreasing self.now.remaining }
+    {
+        match &self.node {
+            Node::Nothing => 0,
+            Node::Scan(scan) => scan.promise(),
+            Node::Postings(postings) => postings.promise(),
+            Node::Terms(terms) => terms.promise(),
+            Node::Phrase(phrase) => phrase.promise(),
+            Node::And(parts) => parts.lead.promise(),
+            Node::Or(buffered) => buffered
+                .window
+                .promise()
+                .saturating_add(promise_in(&buffered.parts)),
+            Node::Without(parts) => parts.kept.promise(),
         }
     }
 
@@ -234,8 +265,8 @@ impl<'a> Tree<'a> {
         ensures remaining { self.new.remaining ≡ drop 1 self.old.remaining }
         ensures walked { Walked self.old self.new }
     {
-        if let Some(doc) = self.doc {
-            self.doc = step(&mut self.node, doc);
+        if self.doc.is_some() {
+            self.doc = step(&mut self.node);
         }
     }
 
@@ -250,6 +281,19 @@ impl<'a> Tree<'a> {
                 self.doc = skip(&mut self.node, target);
             }
         }
+    }
+
+    /// Takes the next 128 documents, or all where fewer remain: writes them to the front of `out`, and gives how many
+    /// they are.
+    pub(crate) fn fill(&mut self, out: &mut [u32; 128]) -> usize
+        ensures count { result ≡ min 128 (length self.old.remaining) }
+        ensures taken { take result out.new ≡ take 128 self.old.remaining }
+        ensures remaining { self.new.remaining ≡ drop 128 self.old.remaining }
+        ensures walked { Walked self.old self.new }
+    {
+        let (count, doc) = fill(&mut self.node, self.doc, out);
+        self.doc = doc;
+        count
     }
 }
 
@@ -266,10 +310,22 @@ fn openings_in(parts: &[Tree]) -> u64
     sum
 }
 
+// How many documents all of them have at most, or the greatest `usize`.
+#[cycle(promise)]
+fn promise_in(parts: &[Tree]) -> usize
+    ensures { min (2 ^ 64 - 1) (length (union (remains parts.now))) ≤ result }
+{
+    let mut sum = 0usize;
+    for part in parts {
+        sum = sum.saturating_add(part.promise());
+    }
+    sum
+}
+
 // Leaves the node's first document behind, and gives the next.
 #[cycle(tree)]
-fn step(node: &mut Node, doc: u32) -> Option<u32>
-    requires { StandsAt (Some doc) node.old }
+fn step(node: &mut Node) -> Option<u32>
+    requires { (doc : ℕ) × StandsAt (Some doc) node.old }
     ensures now { IsNow result node.new (drop 1 (standing node.old).remaining) }
     ensures walked { Walked (standing node.old) (standing node.new) }
 {
@@ -295,7 +351,10 @@ fn step(node: &mut Node, doc: u32) -> Option<u32>
             parts.lead.advance();
             align_parts(parts)
         }
-        Node::Or(parts) => pass(parts, doc),
+        Node::Or(buffered) => {
+            buffered.window.advance();
+            gather(buffered, 0)
+        }
         Node::Without(parts) => {
             parts.kept.advance();
             settle(parts)
@@ -332,12 +391,62 @@ fn skip(node: &mut Node, target: u32) -> Option<u32>
             parts.lead.seek(target);
             align_parts(parts)
         }
-        Node::Or(parts) => seek_each(parts, target),
+        Node::Or(buffered) => gather(buffered, target),
         Node::Without(parts) => {
             parts.kept.seek(target);
             settle(parts)
         }
     }
+}
+
+// Takes the next 128 of a node that stands at the document, and gives how many they are, and the next.
+fn fill(node: &mut Node, doc: Option<u32>, out: &mut [u32; 128]) -> (usize, Option<u32>)
+    requires { StandsAt doc node.old }
+    ensures count { result.0 ≡ min 128 (length (standing node.old).remaining) }
+    ensures taken { take result.0 out.new ≡ take 128 (standing node.old).remaining }
+    ensures now { IsNow result.1 node.new (drop 128 (standing node.old).remaining) }
+    ensures walked { Walked (standing node.old) (standing node.new) }
+{
+    match node {
+        Node::Scan(scan) => {
+            let count = scan.fill(out);
+            (count, scan.doc())
+        }
+        Node::Postings(postings) => {
+            let count = postings.fill(out);
+            (count, postings.doc())
+        }
+        Node::Terms(terms) => {
+            let count = terms.fill(out);
+            (count, terms.doc())
+        }
+        Node::Phrase(phrase) => {
+            let count = phrase.fill(out);
+            (count, phrase.doc())
+        }
+        Node::Nothing | Node::And(_) | Node::Or(_) | Node::Without(_) => {
+            fill_by_steps(node, doc, out)
+        }
+    }
+}
+
+// The same, a document at a time.
+fn fill_by_steps(node: &mut Node, doc: Option<u32>, out: &mut [u32; 128]) -> (usize, Option<u32>)
+    requires { StandsAt doc node.old }
+    ensures count { result.0 ≡ min 128 (length (standing node.old).remaining) }
+    ensures taken { take result.0 out.new ≡ take 128 (standing node.old).remaining }
+    ensures now { IsNow result.1 node.new (drop 128 (standing node.old).remaining) }
+    ensures walked { Walked (standing node.old) (standing node.new) }
+{
+    let mut next = doc;
+    for filled in 0..128 {
+        let Some(first) = next else {
+            return (filled, None);
+        };
+        out[filled] = first;
+        next = step(node);
+    }
+    (128, next)
 }
 
 // Seeks the document with each in turn, and gives the first that all may have: that one, where all stand at it, or a
@@ -412,27 +521,6 @@ fn lesser(a: Option<u32>, b: u32) -> Option<u32>
     }
 }
 
-// Leaves the first document of all behind, and gives the next.
-#[cycle(tree)]
-fn pass(parts: &mut [Tree], doc: u32) -> Option<u32>
-    requires { All (λ part. part.remaining ≡ at_least doc part.remaining) parts.old }
-    ensures each { AllZip (Left (doc + 1)) parts.old parts.new }
-    ensures least { IsLeast result (remains parts.new) }
-{
-    let mut least = None;
-    for part in parts.iter_mut() {
-        if let Some(first) = part.doc() {
-            if first == doc {
-                part.advance();
-            }
-        }
-        if let Some(first) = part.doc() {
-            least = lesser(least, first);
-        }
-    }
-    least
-}
-
 // Leaves behind what lies before the target in each, and gives the first document of all.
 #[cycle(tree)]
 fn seek_each(parts: &mut [Tree], target: u32) -> Option<u32>
@@ -447,4 +535,104 @@ fn seek_each(parts: &mut [Tree], target: u32) -> Option<u32>
         }
     }
     least
+}
+
+// Leaves behind what lies before the target, and gives the first document from there on.
+#[cycle(tree)]
+#[inline]
+fn gather(buffered: &mut BufferedUnion, target: u32) -> Option<u32>
+    requires { AreBeyond buffered.old.window (remains buffered.old.parts.items) }
+    ensures now { IsNow result (Node.Or buffered.new) (at_least target (gathered buffered.old)) }
+    ensures continues { Continues (standing (Node.Or buffered.old)) (standing (Node.Or buffered.new)) }
+{
+    buffered.window.seek(target);
+    if let Some(doc) = buffered.window.first() {
+        return Some(doc);
+    }
+    refill(buffered, target)
+}
+
+// Moves a window that has nothing left to the first document from the target on, and fills it.
+#[cycle(tree)]
+fn refill(buffered: &mut BufferedUnion, target: u32) -> Option<u32>
+    requires { found buffered.old.window ≡ [] }
+    ensures now { IsNow result (Node.Or buffered.new)
+        (at_least target (union (remains buffered.old.parts.items))) }
+    ensures continues { Continues (standing (Node.Or buffered.old)) (standing (Node.Or buffered.new)) }
+{
+    // The next search after one that goes far may go as far again, so that takes the one document that it asks for.
+    let reach = if buffered.window.is_near(target) {
+        127
+    } else {
+        0
+    };
+    let least = seek_each(&mut buffered.parts, target)?;
+    buffered.window = Window::at(least, reach);
+    mark_each(&mut buffered.parts, &mut buffered.window);
+    Some(least)
+}
+
+// Marks the documents of each part that lie in the window, and leaves them behind.
+#[cycle(tree)]
+fn mark_each(parts: &mut [Tree], window: &mut Window)
+    requires { All (λ part. part.remaining ≡ at_least window.old.from part.remaining) parts.old }
+    ensures each { AllZip (Left (window.old.last + 1)) parts.old parts.new }
+    ensures place { (window.new.from ≡ window.old.from) × (window.new.last ≡ window.old.last) }
+    ensures marked { AreMarked (in_some (remains parts.old)) window.old window.new }
+{
+    for part in parts.iter_mut() {
+        mark_part(part, window);
+    }
+}
+
+// Marks the documents of a part that lie in the window, and leaves them behind.
+#[cycle(tree)]
+fn mark_part(part: &mut Tree, window: &mut Window)
+    requires { part.old.remaining ≡ at_least window.old.from part.old.remaining }
+    ensures left { Left (window.old.last + 1) part.old part.new }
+    ensures place { (window.new.from ≡ window.old.from) × (window.new.last ≡ window.old.last) }
+    ensures marked { AreMarked (has part.old.remaining) window.old window.new }
+{
+    match &mut part.node {
+        Node::Postings(postings) => part.doc = mark_postings(postings, window),
+        _ => mark_any(part, window),
+    }
+}
+
+// The same, document by document.
+#[cycle(tree)]
+fn mark_any(part: &mut Tree, window: &mut Window)
+    requires { part.old.remaining ≡ at_least window.old.from part.old.remaining }
+    ensures left { Left (window.old.last + 1) part.old part.new }
+    ensures place { (window.new.from ≡ window.old.from) × (window.new.last ≡ window.old.last) }
+    ensures marked { AreMarked (has part.old.remaining) window.old window.new }
+{
+    while let Some(doc) = part.doc() {
+        if !window.covers(doc) {
+            return;
+        }
+        window.mark(doc);
+        part.advance();
+    }
+}
+
+// The same for a list, with no choice between cursors a document. Gives the first document behind the window.
+fn mark_postings(postings: &mut PostingCursor<ListSource>, window: &mut Window) -> Option<u32>
+    requires { remaining_of postings.old ≡ at_least window.old.from (remaining_of postings.old) }
+    ensures remaining { remaining_of postings.new
+        ≡ at_least (window.old.last + 1) (remaining_of postings.old) }
+    ensures follows { Follows postings.old postings.new }
+    ensures first { result ≡ slice_get (remaining_of postings.new) 0 }
+    ensures rises { IsStrictlyIncreasing (remaining_of postings.new) }
+    ensures place { (window.new.from ≡ window.old.from) × (window.new.last ≡ window.old.last) }
+    ensures marked { AreMarked (has (remaining_of postings.old)) window.old window.new }
+{
+    while let Some(doc) = postings.doc() {
+        if !window.covers(doc) {
+            return Some(doc);
+        }
+        window.mark(doc);
+        postings.advance();
+    }
+    None
 }

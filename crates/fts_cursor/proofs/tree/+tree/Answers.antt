@@ -1,21 +1,24 @@
 -- The steps of the tree: each part of a contract from those of the parts.
-use Rattle.std.proofs.Common.{◌≡◌, [], Some, ◌+◌, ◌*◌, ◌<◌, ap, subst, sym, ◌∙◌, refl, arith, drop, length, get_or}
+use Rattle.std.proofs.Common.{◌≡◌, ℕ, [], ◌∷◌, Some, None, ◌+◌, ◌*◌, ◌<◌, ap, subst, sym, ◌∙◌, refl, arith, drop, length, get_or}
 use Rattle.std.specs.List.{AllZip, filter, slice_get}
 use Rattle.std.specs.List.Sorted.{IsStrictlyIncreasing}
 use Rattle.fts_cursor.proofs.MeetingLemmas.{filter-at_least}
 use Rattle.std.proofs.lemmas.List.{with_items_is}
-use Rattle.fts_cursor.specs.Meeting.{common, in_all, lacks, union}
-use Rattle.fts_cursor.specs.Standing.{Continues, Left, Narrowed, Standing, heights, remains, together}
+use Rattle.fts_cursor.specs.Meeting.{IsLeast, common, in_all, in_some, lacks, union}
+use Rattle.fts_cursor.specs.Standing.{Continues, Left, Narrowed, Standing, heights, remains}
 use Rattle.fts_cursor.specs.Terms.{AreTied}
-use Rattle.fts_cursor.specs.Trees.{standing}
+use Rattle.fts_cursor.specs.Trees.{AreMarked, IsBuffered, IsNow, found, gathered, standing}
+use Rattle.std.specs.Vec.{with_items}
+use Rattle.fts_cursor.specs.declared.tree.Node.TheVariants.{Or}
+use Rattle.fts_cursor.proofs.GatherLemmas.{Continues-parts, IsMarking-next, IsMarking-none, IsNow-none, IsNow-some, MarkedUpTo-next, MarkedUpTo-none, fill_ahead, filled, filled_buffered, gathered_from, gathered_next, gathered_within, marking_done, marking_ended, marking_left, marking_low, marking_past}
 use Rattle.fts_cursor.specs.Remaining.{at_least}
-use Rattle.fts_cursor.proofs.PartsLemmas.{Continues-beside, Continues-same, Continues-together, Continues-trans, NarrowedUpTo-next, Narrowed-same, Narrowed-seek, UpTo-all, UpTo-exit, ahead-later, ahead-none, all_stand, height_ahead}
+use Rattle.fts_cursor.proofs.PartsLemmas.{Continues-beside, Continues-same, Continues-trans, NarrowedUpTo-next, Narrowed-same, Narrowed-seek, UpTo-all, UpTo-exit, ahead-later, ahead-none, all_stand, height_ahead}
 use Rattle.fts_cursor.proofs.RemainingLemmas.{nothing_first}
-use Rattle.fts_cursor.proofs.UnionLemmas.{IsLeast-none, IsLeast-some, union-left, union_first}
-use Rattle.fts_cursor.proofs.TreeLemmas.{IsNow-first, IsNow-met, Left-ended, Left-further, Left-passed, Left-seek, LeftUpTo-next, Met-end, difference-here, difference-passed, meeting-continues, meeting-fewer, meeting-here, meeting-none, meeting-sought, parts_from, stays_from_first, union-passed, union_rises}
+use Rattle.fts_cursor.proofs.UnionLemmas.{IsLeast-none, IsLeast-some, union-left}
+use Rattle.fts_cursor.proofs.TreeLemmas.{IsNow-first, IsNow-met, Left-seek, LeftUpTo-next, Met-end, difference-here, difference-passed, meeting-continues, meeting-fewer, meeting-here, meeting-none, meeting-sought, stays_from_first}
 use Rattle.fts_cursor.proofs.TermsLemmas.{terms-continue}
 use Rattle.fts_cursor.proofs.tree.+tree.Goals as goal
-use Rattle.fts_cursor.proofs.tree.+tree.Goals.{pass-in-Some+then-first-doc, pass-in-Some+else-first-doc, pass-in_default, pass-in-Some-doc, pass-in_default-doc, seek_each-in-Some, seek_each-in_default}
+use Rattle.fts_cursor.proofs.tree.+tree.Goals.{seek_each-in-Some, seek_each-in_default}
 
 pub Tree::seek-returns-else-doc-target-clause-remaining : goal.Tree::seek-returns-else-doc-target-clause-remaining
 Tree::seek-returns-else-doc-target-clause-remaining t c =
@@ -79,7 +82,7 @@ align_parts-returns-clause-met t c =
 pub bring_parts-seek-requires : goal.bring_parts-seek-requires
 bring_parts-seek-requires t c =
     let ahead = height_ahead (Narrowed c.args.doc) c.args.others.now c.loop-other.others c.loop-other.other-index c.other-item.result c.loop-other.invariant.up_to (omega (arith, c.loop-other.invariant.up_to.size)) in
-    let less : 6 * (get_or c.loop-other.others c.loop-other.other-index c.other-item.result).height + 2 < t = omega (arith, ahead, c.decreases) in
+    let less : 8 * (get_or c.loop-other.others c.loop-other.other-index c.other-item.result).height + 2 < t = omega (arith, ahead, c.decreases) in
     (less, tt)
 
 pub bring_parts-returns-in_err-next-clause-each : goal.bring_parts-returns-in_err-next-clause-each
@@ -113,37 +116,10 @@ bring_parts-returns-clause-next t c = (
   λ d high low. absurd (omega (arith, high, low)),
 )
 
-pub pass-advance-requires : goal.pass-advance-requires
-pass-advance-requires t c =
-    let ahead = height_ahead (Left (c.args.doc + 1)) c.args.parts.now c.loop-part.parts c.loop-part.part-index c.part-item.result c.loop-part.invariant.up_to (omega (arith, c.loop-part.invariant.up_to.size)) in
-    let less : 6 * (get_or c.loop-part.parts c.loop-part.part-index c.part-item.result).height + 2 < t = omega (arith, ahead, c.decreases) in
-    (less, tt)
-
-pub pass-loop-part-preserved : goal.pass-loop-part-preserved
-pass-loop-part-preserved t c =
-    let inside : c.loop-part.part-index < length c.loop-part.parts = omega (arith, c.loop-part.invariant.up_to.size) in
-    let old = get_or c.loop-part.parts c.loop-part.part-index c.part-item.result in
-    let same : old ≡ get_or c.args.parts.now c.loop-part.part-index c.part-item.result = c.loop-part.invariant.up_to.rest c.loop-part.part-index c.part-item.result (omega arith) in
-    let from : old.remaining ≡ at_least c.args.doc old.remaining = rw same (c.requires c.loop-part.part-index c.part-item.result (omega arith)) in
-    let left : Left (c.args.doc + 1) old c.match-doc.part = elim c.match-doc.branch [
-      | pass-in-Some+then-first-doc w ↦
-          let first = sym w.in-Some.is ∙ c.doc.ensures.first in
-          rw w.part-is (Left-passed c.args.doc old w.advance.new.self c.doc.ensures.rises (rw w.if-first-doc.true at first) w.advance.ensures.remaining w.advance.ensures.walked.continues)
-      | pass-in-Some+else-first-doc w ↦ rw w.part-is (Left-further c.args.doc w.in-Some.first old c.doc.ensures.rises (sym w.in-Some.is ∙ c.doc.ensures.first) from w.if-first-doc.false)
-      | pass-in_default w ↦ rw w.part-is (Left-ended (c.args.doc + 1) old (sym w.in_default.is ∙ c.doc.ensures.first))
-    ] in
-    LeftUpTo-next (c.args.doc + 1) c.args.parts.now c.loop-part.parts c.loop-part.least c.match-doc-2.least c.loop-part.part-index c.loop-part.invariant c.part-item.result c.match-doc.part inside left (elim c.match-doc-2.branch [
-      | pass-in-Some-doc w ↦ rw (w.least-is, w.lesser-least.ensures) (IsLeast-some c.loop-part.least _ c.match-doc.part.remaining _ c.loop-part.invariant.least_is c.doc-in-loop-part.ensures.rises (sym w.in-Some-doc.is ∙ c.doc-in-loop-part.ensures.first))
-      | pass-in_default-doc w ↦ rw w.least-is (IsLeast-none c.loop-part.least _ c.match-doc.part.remaining c.loop-part.invariant.least_is (sym w.in_default-doc.is ∙ c.doc-in-loop-part.ensures.first))
-    ])
-
-pub pass-returns-clause-each : goal.pass-returns-clause-each
-pass-returns-clause-each t c = UpTo-all (Left (c.args.doc + 1)) c.args.parts.now c.loop-part.parts c.loop-part.part-index c.loop-part.invariant.up_to (omega (arith, c.loop-part.invariant.up_to.size))
-
 pub seek_each-seek-requires : goal.seek_each-seek-requires
 seek_each-seek-requires t c =
     let ahead = height_ahead (Left c.args.target) c.args.parts.now c.loop-part.parts c.loop-part.part-index c.part-item.result c.loop-part.invariant.up_to (omega (arith, c.loop-part.invariant.up_to.size)) in
-    let less : 6 * (get_or c.loop-part.parts c.loop-part.part-index c.part-item.result).height + 2 < t = omega (arith, ahead, c.decreases) in
+    let less : 8 * (get_or c.loop-part.parts c.loop-part.part-index c.part-item.result).height + 2 < t = omega (arith, ahead, c.decreases) in
     (less, tt)
 
 pub seek_each-loop-part-preserved : goal.seek_each-loop-part-preserved
@@ -193,22 +169,6 @@ skip-returns-in-And-clause-now t c =
     ∙ filter-at_least c.args.target test c.in-And.parts.lead.value.remaining
     ∙ ap (λ n. at_least c.args.target (standing n).remaining) (sym c.in-And.is))
 
-pub skip-returns-in-Or-clause-now : goal.skip-returns-in-Or-clause-now
-skip-returns-in-Or-clause-now t c =
-    let items = with_items_is c.in-Or.parts c.seek_each.new.parts (omega arith) in
-    let each : AllZip (Left c.args.target) c.in-Or.parts.items c.seek_each.new.parts = rw c.deref_mut-in-Or.ensures.value at c.seek_each.ensures.each in
-    IsNow-first c.seek_each.result _ _
-    (union_first c.seek_each.result (remains c.seek_each.new.parts) c.seek_each.ensures.least ∙ ap (λ ps. slice_get (union (remains ps)) 0) (sym items))
-    (subst (λ ps. IsStrictlyIncreasing (union (remains ps))) (sym items) (union_rises c.seek_each.new.parts))
-    tt tt
-    (ap (λ ps. union (remains ps)) items ∙ union-left c.args.target c.in-Or.parts.items c.seek_each.new.parts each ∙ ap (λ n. at_least c.args.target (standing n).remaining) (sym c.in-Or.is))
-
-pub skip-returns-in-Or-clause-continues : goal.skip-returns-in-Or-clause-continues
-skip-returns-in-Or-clause-continues t c =
-    let items = with_items_is c.in-Or.parts c.seek_each.new.parts (omega arith) in
-    let each : AllZip (Left c.args.target) c.in-Or.parts.items c.seek_each.new.parts = rw c.deref_mut-in-Or.ensures.value at c.seek_each.ensures.each in
-    rw (c.in-Or.is, items) (Continues-beside (together c.in-Or.parts.items) (together []) (together c.seek_each.new.parts) (together []) _ _ (Continues-together (Left c.args.target) (λ p q h. h.continues) c.in-Or.parts.items c.seek_each.new.parts each) (Continues-same (together [])))
-
 pub skip-returns-in-Without-clause-now : goal.skip-returns-in-Without-clause-now
 skip-returns-in-Without-clause-now t c =
     let test = lacks c.in-Without.parts.dropped.value.remaining in
@@ -217,35 +177,195 @@ skip-returns-in-Without-clause-now t c =
     ∙ filter-at_least c.args.target test c.in-Without.parts.kept.value.remaining
     ∙ ap (λ n. at_least c.args.target (standing n).remaining) (sym c.in-Without.is))
 
-pub step-pass-requires : goal.step-pass-requires
-step-pass-requires t c =
-    let here : slice_get (union (remains c.in-Or.parts.items)) 0 ≡ Some c.args.doc = sym (c.requires.first ∙ ap (λ n. slice_get (standing n).remaining 0) c.in-Or.is) in
-    let less : 6 * heights c.deref_mut-in-Or.result.now + 3 < t = omega (arith, c.decreases, ap heights c.deref_mut-in-Or.ensures.value, ap (λ n. (standing n).height) c.in-Or.is) in
-    (less, rw c.deref_mut-in-Or.ensures.value (parts_from c.in-Or.parts.items c.args.doc here))
-
 pub step-returns-in-Terms-clause-now : goal.step-returns-in-Terms-clause-now
 step-returns-in-Terms-clause-now t c =
-    let tied : AreTied c.in-Terms.terms = rw c.in-Terms.is at c.requires.tied in
+    let tied : AreTied c.in-Terms.terms = rw c.in-Terms.is at c.requires.1.tied in
     IsNow-first c.doc-in-Terms.result _ _ c.doc-in-Terms.ensures.first c.doc-in-Terms.ensures.rises tt (terms-continue c.in-Terms.terms c.advance-in-Terms.new.self c.advance-in-Terms.ensures.follows tied).1 (rw c.in-Terms.is c.advance-in-Terms.ensures.remaining)
 
 pub step-returns-in-Terms-clause-walked : goal.step-returns-in-Terms-clause-walked
 step-returns-in-Terms-clause-walked t c =
-    let tied : AreTied c.in-Terms.terms = rw c.in-Terms.is at c.requires.tied in
+    let tied : AreTied c.in-Terms.terms = rw c.in-Terms.is at c.requires.1.tied in
     rw c.in-Terms.is (record { continues = (terms-continue c.in-Terms.terms c.advance-in-Terms.new.self c.advance-in-Terms.ensures.follows tied).0 _ _; whole = λ h. h })
+
+pub gather-returns-in-Some-clause-now : goal.gather-returns-in-Some-clause-now
+gather-returns-in-Some-clause-now t c =
+    let b = c.args.buffered.now in
+    let w = c.seek.new.self in
+    let first : Some c.in-Some.doc ≡ slice_get (found w) 0 = sym c.in-Some.is ∙ c.first.ensures in
+    let beyond = c.requires in
+    IsNow-some (record { parts = b.parts; window = w }) _
+    (gathered_within c.args.target c.in-Some.doc b.window w (remains b.parts.items) beyond c.seek.ensures.marked c.seek.ensures.place.1 first)
+    c.in-Some.doc
+    (record { first = first; beyond = λ d within. beyond d (omega (arith, within, c.seek.ensures.place.1)) })
+
+pub refill-returns-in_err-least-clause-now : goal.refill-returns-in_err-least-clause-now
+refill-returns-in_err-least-clause-now t c =
+    let b = c.args.buffered.now in
+    let w = b.window in
+    let after = c.seek_each.new.parts in
+    let items = with_items_is b.parts after (omega arith) in
+    let each : AllZip (Left c.args.target) b.parts.items after = rw c.deref_mut.ensures.value at c.seek_each.ensures.each in
+    let none : None ≡ slice_get (found w) 0 = sym (ap (λ xs. slice_get xs 0) c.requires) in
+    rw c.from_residual.ensures (IsNow-none (record { parts = with_items b.parts after; window = w }) _
+    (ap (λ ps. union (found w ∷ remains ps)) items
+    ∙ ap (λ xs. union (xs ∷ remains after)) c.requires
+    ∙ union-left c.args.target b.parts.items after each)
+    none
+    (subst (λ ps. IsLeast None (remains ps)) (sym items) c.in_err-least.ensures.least))
+
+pub refill-returns-in_err-least-clause-continues : goal.refill-returns-in_err-least-clause-continues
+refill-returns-in_err-least-clause-continues t c =
+    let b = c.args.buffered.now in
+    let after = c.seek_each.new.parts in
+    let items = with_items_is b.parts after (omega arith) in
+    let each : AllZip (Left c.args.target) b.parts.items after = rw c.deref_mut.ensures.value at c.seek_each.ensures.each in
+    rw items (Continues-parts c.args.target b.parts.items after _ _ each)
+
+pub refill-mark_each-requires : goal.refill-mark_each-requires
+refill-mark_each-requires t c =
+    let b = c.args.buffered.now in
+    let after = c.seek_each.new.parts in
+    let items = with_items_is b.parts after (omega arith) in
+    let now : c.deref_mut-2.result.now ≡ after = c.deref_mut-2.ensures.value ∙ items in
+    let each : AllZip (Left c.args.target) b.parts.items after = rw c.deref_mut.ensures.value at c.seek_each.ensures.each in
+    let same = Continues-parts c.args.target b.parts.items after [] [] each in
+    let less : 8 * heights c.deref_mut-2.result.now + 6 < t = omega (arith, c.decreases, ap heights now, same.height) in
+    (less, rw (now, c.at-buffered.ensures.from) (fill_ahead after c.in_ok-least.least c.in_ok-least.ensures.least))
+
+pub refill-returns-clause-now : goal.refill-returns-clause-now
+refill-returns-clause-now t c =
+    let b = c.args.buffered.now in
+    let after = c.seek_each.new.parts in
+    let last = c.mark_each.new.parts in
+    let w = c.mark_each.new.window in
+    let items = with_items_is b.parts after (omega arith) in
+    let now : c.deref_mut-2.result.now ≡ after = c.deref_mut-2.ensures.value ∙ items in
+    let all = with_items_is (with_items b.parts after) last (omega (arith, ap length now, ap length items)) in
+    let each : AllZip (Left c.args.target) b.parts.items after = rw c.deref_mut.ensures.value at c.seek_each.ensures.each in
+    let marks : AllZip (Left (c.at-buffered.result.last + 1)) after last = rw now at c.mark_each.ensures.each in
+    let marked : AreMarked (in_some (remains after)) c.at-buffered.result w = subst (λ ps. AreMarked (in_some (remains ps)) c.at-buffered.result w) now c.mark_each.ensures.marked in
+    let least = c.in_ok-least.ensures.least in
+    IsNow-some (record { parts = with_items (with_items b.parts after) last; window = w }) _
+    (ap (λ ps. union (found w ∷ remains ps)) all
+    ∙ filled after c.in_ok-least.least least last c.at-buffered.result w c.at-buffered.ensures.from c.at-buffered.ensures.nothing c.mark_each.ensures.place.1 marks marked
+    ∙ union-left c.args.target b.parts.items after each)
+    c.in_ok-least.least
+    (subst (λ ps. IsBuffered (Some c.in_ok-least.least) w (remains ps)) (sym all)
+    (filled_buffered after c.in_ok-least.least least last c.at-buffered.result w c.at-buffered.ensures.from c.at-buffered.ensures.nothing c.mark_each.ensures.place.1 marks marked))
+
+pub refill-returns-clause-continues : goal.refill-returns-clause-continues
+refill-returns-clause-continues t c =
+    let b = c.args.buffered.now in
+    let after = c.seek_each.new.parts in
+    let last = c.mark_each.new.parts in
+    let items = with_items_is b.parts after (omega arith) in
+    let now : c.deref_mut-2.result.now ≡ after = c.deref_mut-2.ensures.value ∙ items in
+    let all = with_items_is (with_items b.parts after) last (omega (arith, ap length now, ap length items)) in
+    let each : AllZip (Left c.args.target) b.parts.items after = rw c.deref_mut.ensures.value at c.seek_each.ensures.each in
+    let marks : AllZip (Left (c.at-buffered.result.last + 1)) after last = rw now at c.mark_each.ensures.each in
+    let sought = Continues-parts c.args.target b.parts.items after (gathered b) [] each in
+    rw all (Continues-trans _ _ _ sought (Continues-parts (c.at-buffered.result.last + 1) after last [] _ marks))
+
+pub mark_each-mark_part-requires : goal.mark_each-mark_part-requires
+mark_each-mark_part-requires t c =
+    let h = c.loop-part.invariant in
+    let place = c.loop-part.part-index in
+    let part = get_or c.loop-part.parts place c.part-item.result in
+    let inside : place < length c.args.parts.now = omega (arith, h.up_to.size) in
+    let deep = height_ahead (Left (c.args.window.now.last + 1)) c.args.parts.now c.loop-part.parts place c.part-item.result h.up_to (omega (arith, h.up_to.size)) in
+    let less : 8 * part.height + 5 < t = omega (arith, deep, c.decreases) in
+    (less, rw (h.up_to.rest place c.part-item.result (omega arith), h.place.0) (c.requires place c.part-item.result inside))
+
+pub mark_each-returns-clause-each : goal.mark_each-returns-clause-each
+mark_each-returns-clause-each t c = UpTo-all (Left (c.args.window.now.last + 1)) c.args.parts.now c.loop-part.parts c.loop-part.part-index c.loop-part.invariant.up_to (omega (arith, c.loop-part.invariant.up_to.size))
+
+pub mark_each-loop-part-preserved : goal.mark_each-loop-part-preserved
+mark_each-loop-part-preserved t c =
+    let h = c.loop-part.invariant in
+    let inside : c.loop-part.part-index < length c.loop-part.parts = omega (arith, h.up_to.size) in
+    MarkedUpTo-next c.args.parts.now c.loop-part.parts c.args.window.now c.loop-part.window c.loop-part.part-index h c.part-item.result c.mark_part.new.part c.mark_part.new.window inside c.mark_part.ensures.left c.mark_part.ensures.place c.mark_part.ensures.marked
+
+pub mark_each-loop-part-init : goal.mark_each-loop-part-init
+mark_each-loop-part-init t c = MarkedUpTo-none c.args.parts.now c.args.window.now
+
+pub mark_any-loop-doc-init : goal.mark_any-loop-doc-init
+mark_any-loop-doc-init t c = record { continues = Continues-same c.args.part.now; marking = IsMarking-none c.args.part.now.remaining c.args.window.now c.requires }
+
+pub mark_any-mark-requires-clause-low : goal.mark_any-mark-requires-clause-low
+mark_any-mark-requires-clause-low t c =
+    marking_low c.args.part.now.remaining c.loop-doc.part.remaining c.args.window.now c.loop-doc.window c.loop-doc.invariant.marking c.doc.ensures.rises c.in-Some.doc (sym c.in-Some.is ∙ c.doc.ensures.first)
+
+pub mark_any-loop-doc-preserved : goal.mark_any-loop-doc-preserved
+mark_any-loop-doc-preserved t c =
+    record {
+      continues = Continues-trans _ _ _ c.loop-doc.invariant.continues c.advance.ensures.walked.continues;
+      marking = IsMarking-next c.args.part.now.remaining c.loop-doc.part.remaining c.args.window.now c.loop-doc.window c.loop-doc.invariant.marking c.doc.ensures.rises c.in-Some.doc (sym c.in-Some.is ∙ c.doc.ensures.first) c.if-not-covers.ensures c.advance.new.self.remaining c.mark.new.self c.advance.ensures.remaining c.mark.ensures.place c.mark.ensures.marked;
+    }
+
+past : (t : ℕ) (c : goal.mark_any-Then-not-covers t) → c.loop-doc.part.remaining ≡ at_least (c.args.window.now.last + 1) c.loop-doc.part.remaining
+past t c = marking_past c.args.part.now.remaining c.loop-doc.part.remaining c.args.window.now c.loop-doc.window c.loop-doc.invariant.marking c.doc.ensures.rises c.in-Some.doc (sym c.in-Some.is ∙ c.doc.ensures.first) c.if-not-covers.ensures
+
+pub mark_any-returns-then-not-covers-clause-left : goal.mark_any-returns-then-not-covers-clause-left
+mark_any-returns-then-not-covers-clause-left t c =
+    record { remaining = marking_left c.args.part.now.remaining c.loop-doc.part.remaining c.args.window.now c.loop-doc.window c.loop-doc.invariant.marking c.doc.ensures.rises (past t c); continues = c.loop-doc.invariant.continues }
+
+pub mark_any-returns-then-not-covers-clause-marked : goal.mark_any-returns-then-not-covers-clause-marked
+mark_any-returns-then-not-covers-clause-marked t c = marking_done c.args.part.now.remaining c.loop-doc.part.remaining c.args.window.now c.loop-doc.window c.loop-doc.invariant.marking c.doc.ensures.rises (past t c)
+
+ended : (t : ℕ) (c : goal.mark_any-In_default t) → c.loop-doc.part.remaining ≡ at_least (c.args.window.now.last + 1) c.loop-doc.part.remaining
+ended t c = marking_ended c.loop-doc.part.remaining (c.args.window.now.last + 1) (sym c.in_default.is ∙ c.doc.ensures.first)
+
+pub mark_any-returns-clause-left : goal.mark_any-returns-clause-left
+mark_any-returns-clause-left t c =
+    record { remaining = marking_left c.args.part.now.remaining c.loop-doc.part.remaining c.args.window.now c.loop-doc.window c.loop-doc.invariant.marking c.doc.ensures.rises (ended t c); continues = c.loop-doc.invariant.continues }
+
+pub mark_any-returns-clause-marked : goal.mark_any-returns-clause-marked
+mark_any-returns-clause-marked t c = marking_done c.args.part.now.remaining c.loop-doc.part.remaining c.args.window.now c.loop-doc.window c.loop-doc.invariant.marking c.doc.ensures.rises (ended t c)
+
+pub skip-gather-requires : goal.skip-gather-requires
+skip-gather-requires t c =
+    let less : 8 * heights c.in-Or.buffered.parts.items + 8 < t = omega (arith, c.decreases, ap (λ n. (standing n).height) c.in-Or.is) in
+    let parts : IsBuffered (Some c.requires.0) c.in-Or.buffered.window (remains c.in-Or.buffered.parts.items) = rw c.in-Or.is at c.requires.1.parts in
+    (less, parts.beyond)
+
+pub skip-returns-in-Or-clause-now : goal.skip-returns-in-Or-clause-now
+skip-returns-in-Or-clause-now t c =
+    subst (IsNow c.gather.result (Or c.gather.new.buffered)) (ap (λ n. at_least c.args.target (standing n).remaining) (sym c.in-Or.is)) c.gather.ensures.now
+
+pub skip-returns-in-Or-clause-continues : goal.skip-returns-in-Or-clause-continues
+skip-returns-in-Or-clause-continues t c = rw c.in-Or.is c.gather.ensures.continues
+
+pub step-gather-requires : goal.step-gather-requires
+step-gather-requires t c =
+    let less : 8 * heights c.in-Or.buffered.parts.items + 8 < t = omega (arith, c.decreases, ap (λ n. (standing n).height) c.in-Or.is) in
+    let parts : IsBuffered (Some c.requires.0) c.in-Or.buffered.window (remains c.in-Or.buffered.parts.items) = rw c.in-Or.is at c.requires.1.parts in
+    (less, λ d within. parts.beyond d (omega (arith, within, c.advance-in-Or.ensures.place.1)))
 
 pub step-returns-in-Or-clause-now : goal.step-returns-in-Or-clause-now
 step-returns-in-Or-clause-now t c =
-    let items = with_items_is c.in-Or.parts c.pass.new.parts (omega arith) in
-    let each : AllZip (Left (c.args.doc + 1)) c.in-Or.parts.items c.pass.new.parts = rw c.deref_mut-in-Or.ensures.value at c.pass.ensures.each in
-    let here : slice_get (union (remains c.in-Or.parts.items)) 0 ≡ Some c.args.doc = sym (c.requires.first ∙ ap (λ n. slice_get (standing n).remaining 0) c.in-Or.is) in
-    IsNow-first c.pass.result _ _
-    (union_first c.pass.result (remains c.pass.new.parts) c.pass.ensures.least ∙ ap (λ ps. slice_get (union (remains ps)) 0) (sym items))
-    (subst (λ ps. IsStrictlyIncreasing (union (remains ps))) (sym items) (union_rises c.pass.new.parts))
-    tt tt
-    (ap (λ ps. union (remains ps)) items ∙ union-passed c.in-Or.parts.items c.pass.new.parts c.args.doc here each ∙ ap (λ n. drop 1 (standing n).remaining) (sym c.in-Or.is))
+    let b = c.in-Or.buffered in
+    let parts : IsBuffered (Some c.requires.0) b.window (remains b.parts.items) = rw c.in-Or.is at c.requires.1.parts in
+    subst (IsNow c.gather.result (Or c.gather.new.buffered))
+    (gathered_next c.requires.0 b.window c.advance-in-Or.new.self (remains b.parts.items) parts c.advance-in-Or.ensures.marked ∙ ap (λ n. drop 1 (standing n).remaining) (sym c.in-Or.is))
+    c.gather.ensures.now
 
 pub step-returns-in-Or-clause-walked : goal.step-returns-in-Or-clause-walked
 step-returns-in-Or-clause-walked t c =
-    let items = with_items_is c.in-Or.parts c.pass.new.parts (omega arith) in
-    let each : AllZip (Left (c.args.doc + 1)) c.in-Or.parts.items c.pass.new.parts = rw c.deref_mut-in-Or.ensures.value at c.pass.ensures.each in
-    rw (c.in-Or.is, items) (record { continues = (Continues-beside (together c.in-Or.parts.items) (together []) (together c.pass.new.parts) (together []) _ _ (Continues-together (Left (c.args.doc + 1)) (λ p q h. h.continues) c.in-Or.parts.items c.pass.new.parts each) (Continues-same (together []))); whole = λ h. h })
+    let k = c.gather.ensures.continues in
+    rw c.in-Or.is (record { continues = record { most = k.most; more = k.more; height = k.height }; whole = λ h. h })
+
+pub gather-refill-requires : goal.gather-refill-requires
+gather-refill-requires t c =
+    let less : 8 * heights c.args.buffered.now.parts.items + 7 < t = omega arith in
+    (less, nothing_first (found c.seek.new.self) (sym c.in_default.is ∙ c.first.ensures))
+
+pub gather-returns-clause-now : goal.gather-returns-clause-now
+gather-returns-clause-now t c =
+    let b = c.args.buffered.now in
+    let none = nothing_first (found c.seek.new.self) (sym c.in_default.is ∙ c.first.ensures) in
+    subst (IsNow c.refill.result (Or c.refill.new.buffered)) (gathered_from c.args.target b.window c.seek.new.self (remains b.parts.items) c.seek.ensures.marked none) c.refill.ensures.now
+
+pub gather-returns-clause-continues : goal.gather-returns-clause-continues
+gather-returns-clause-continues t c =
+    let k = c.refill.ensures.continues in
+    record { most = k.most; more = k.more; height = k.height }

@@ -1,20 +1,27 @@
--- Each turn takes the first document that is left.
+-- Each turn takes a stretch of what is left.
 use Rattle.std.proofs.Common.{arith}
-use Rattle.fts_cursor.proofs.FillLemmas.{Taken-front, Taken-left, Taken-more, full-front, full-left}
+use Rattle.fts_cursor.proofs.FillLemmas.{Taken-front, Taken-left, Taken-rest, Taken-stretch, full-front, full-left, none_left}
 use Rattle.fts_cursor.proofs.PostingLemmas.{Walks-trans}
 use Rattle.fts_cursor.proofs.posting.PostingCursorDocSet.fill.Goals as goal
 
 pub loop-filled-preserved : goal.loop-filled-preserved
 loop-filled-preserved g c = record {
-  taken = Taken-more _ _ c.loop-filled.out _ c.loop-filled.filled c.in-Some.doc c.loop-filled.invariant.taken c.in-Some.ensures.first (omega arith) c.advance.ensures.remaining;
-  walks = Walks-trans _ _ _ c.loop-filled.invariant.walks c.advance.ensures.walks;
+  taken = Taken-stretch _ _ _ c.loop-filled.out _ c.loop-filled.filled c.take_block-count.result c.loop-filled.invariant.taken c.take_block-count.ensures.taken;
+  walks = Walks-trans _ _ _ c.loop-filled.invariant.walks c.take_block-count.ensures.walks;
+  room = c.take_block-count.ensures.taken.room;
 }
 
-pub returns-in-None-clause-taken : goal.returns-in-None-clause-taken
-returns-in-None-clause-taken g c = Taken-front _ _ _ c.loop-filled.filled 128 c.loop-filled.invariant.taken (omega arith) c.in-None.ensures.first
+pub returns-then-count-eq0-clause-taken : goal.returns-then-count-eq0-clause-taken
+returns-then-count-eq0-clause-taken g c =
+    let rest = Taken-rest _ _ _ c.loop-filled.out _ c.loop-filled.filled c.take_block-count.result c.loop-filled.invariant.taken c.take_block-count.ensures.taken c.if-count-eq0.true in
+    let none = none_left _ _ _ c.loop-filled.out _ c.loop-filled.filled c.take_block-count.result c.loop-filled.invariant.taken c.take_block-count.ensures.taken c.if-count-eq0.true in
+    Taken-front _ _ _ c.loop-filled.filled 128 rest c.loop-filled.invariant.room none
 
-pub returns-in-None-clause-remaining : goal.returns-in-None-clause-remaining
-returns-in-None-clause-remaining g c = Taken-left _ _ _ c.loop-filled.filled 128 c.loop-filled.invariant.taken (omega arith) c.in-None.ensures.first
+pub returns-then-count-eq0-clause-remaining : goal.returns-then-count-eq0-clause-remaining
+returns-then-count-eq0-clause-remaining g c =
+    let rest = Taken-rest _ _ _ c.loop-filled.out _ c.loop-filled.filled c.take_block-count.result c.loop-filled.invariant.taken c.take_block-count.ensures.taken c.if-count-eq0.true in
+    let none = none_left _ _ _ c.loop-filled.out _ c.loop-filled.filled c.take_block-count.result c.loop-filled.invariant.taken c.take_block-count.ensures.taken c.if-count-eq0.true in
+    Taken-left _ _ _ c.loop-filled.filled 128 rest c.loop-filled.invariant.room none
 
 pub returns-clause-taken : goal.returns-clause-taken
 returns-clause-taken g c = full-front _ _ c.loop-filled.out c.loop-filled.filled 128 c.loop-filled.invariant.taken (omega arith)

@@ -1,8 +1,8 @@
 -- Each turn takes the first document that is left.
-use Rattle.std.proofs.Common.{arith}
+use Rattle.std.proofs.Common.{sym, ◌∙◌, arith}
 use Rattle.fts_cursor.proofs.FillLemmas.{Taken-front, Taken-left, Taken-more, full-front, full-left}
 use Rattle.fts_cursor.proofs.TreeLemmas.{Walked-trans}
-use Rattle.fts_cursor.proofs.cursor.CursorDocSet.fill.Goals as goal
+use Rattle.fts_cursor.proofs.phrase.PhraseCursorDocSet.fill.Goals as goal
 
 pub loop-filled-preserved : goal.loop-filled-preserved
 loop-filled-preserved c = record {
@@ -10,11 +10,11 @@ loop-filled-preserved c = record {
   walked = Walked-trans _ _ _ c.loop-filled.invariant.walked c.advance.ensures.walked;
 }
 
-pub returns-in-None-clause-taken : goal.returns-in-None-clause-taken
-returns-in-None-clause-taken c = Taken-front _ _ _ c.loop-filled.filled 128 c.loop-filled.invariant.taken (omega arith) c.in-None.ensures.first
+pub returns-in_default-clause-taken : goal.returns-in_default-clause-taken
+returns-in_default-clause-taken c = Taken-front _ _ _ c.loop-filled.filled 128 c.loop-filled.invariant.taken (omega arith) (sym c.in_default.is ∙ c.doc.ensures.first)
 
-pub returns-in-None-clause-remaining : goal.returns-in-None-clause-remaining
-returns-in-None-clause-remaining c = Taken-left _ _ _ c.loop-filled.filled 128 c.loop-filled.invariant.taken (omega arith) c.in-None.ensures.first
+pub returns-in_default-clause-remaining : goal.returns-in_default-clause-remaining
+returns-in_default-clause-remaining c = Taken-left _ _ _ c.loop-filled.filled 128 c.loop-filled.invariant.taken (omega arith) (sym c.in_default.is ∙ c.doc.ensures.first)
 
 pub returns-clause-taken : goal.returns-clause-taken
 returns-clause-taken c = full-front _ _ c.loop-filled.out c.loop-filled.filled 128 c.loop-filled.invariant.taken (omega arith)

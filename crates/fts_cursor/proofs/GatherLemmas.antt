@@ -1,0 +1,281 @@
+-- A disjunction: the documents of its window, and what remains of its parts behind it.
+use Rattle.std.proofs.Common.{◌≡◌, ℕ, zero, suc, ◌+◌, ◌-◌, ◌<◌, ◌≤◌, Bool, true, false, cond, ◌||◌, ◌&&◌, ◌==◌, nat_le, Some, None, List, [], ◌∷◌, ◌++◌, length, get_or, set, take, drop, refl, sym, ap, ap₂, subst, ◌∙◌, inl, inr, arith}
+use Rattle.std.specs.List.{AllZip, slice_get}
+use Rattle.std.specs.List.Sorted.{IsStrictlyIncreasing}
+use Rattle.std.proofs.lemmas.Bool.{cases_Bool, cases_lt, le-leb, lt-leb, false≢true}
+use Rattle.std.proofs.lemmas.List.{take_more, take_all, map-append}
+use Rattle.fts_pack.specs.Documents.{Rises}
+use Rattle.fts_cursor.specs.Remaining.{at_least}
+use Rattle.fts_cursor.specs.Scans.{passing}
+use Rattle.fts_cursor.specs.Meeting.{IsLeast, has, in_some, union, with_all, with_one}
+use Rattle.fts_cursor.specs.Standing.{Continues, Left, Standing, beside, remains, together}
+use Rattle.fts_cursor.specs.Trees.{AreBeyond, AreMarked, IsBuffered, IsNow, found, gathered}
+use Rattle.fts_cursor.specs.Windows.{is_marked}
+use Rattle.fts_cursor.specs.declared.tree.BufferedUnion.{BufferedUnion}
+use Rattle.fts_cursor.specs.declared.tree.Node.TheVariants.{Or}
+use Rattle.fts_cursor.specs.declared.window.Window.{Window}
+use Rattle.fts_cursor.proofs.RemainingLemmas.{Rises-from_increasing, at_least_all, first-at_least, increasing-from_Rises, nothing_first}
+use Rattle.fts_cursor.proofs.MeetingLemmas.{above_is_other, below_is_other, has-at_least, has-before_first, has-below, has-first, has-none, is_itself}
+use Rattle.fts_cursor.proofs.ScanLemmas.{Rises-passing}
+use Rattle.fts_cursor.proofs.PartsLemmas.{Continues-beside, Continues-same, Continues-together, UpTo, UpTo-next, UpTo-none}
+use Rattle.fts_cursor.proofs.UnionLemmas.{Rises-union, at_least-with_all, by_order, first_of, has-union, has-with_one, in_some-append, leaves, or_false, union-left, union_first}
+use Rattle.fts_cursor.proofs.TreeLemmas.{IsNow-first, drop_first, from_union, parts_from, stays_from_first}
+
+-- rising lists that have the same are the same
+same_from : (next : ℕ) (xs ys : List ℕ) → Rises next xs → Rises next ys → ((d : ℕ) → next ≤ d → has xs d ≡ has ys d) → xs ≡ ys
+same_from next [] [] up down h = refl
+same_from next [] (y ∷ ys) up down h = absurd (false≢true (h y down.0 ∙ ap (λ b. b || has ys y) (is_itself y)))
+same_from next (x ∷ xs) [] up down h = absurd (false≢true (sym (h x up.0) ∙ ap (λ b. b || has xs x) (is_itself x)))
+same_from next (x ∷ xs) (y ∷ ys) up down h = by_order (x ∷ xs ≡ y ∷ ys) x y
+    (λ lt. absurd (false≢true (sym (has-below y (y ∷ ys) x (omega arith, down.1) lt) ∙ sym (h x up.0) ∙ ap (λ b. b || has xs x) (is_itself x))))
+    (λ eq.
+    let later : Rises (suc x) ys = subst (λ z. Rises (suc z) ys) (sym eq) down.1 in
+    let rest : xs ≡ ys = same_from (suc x) xs ys up.1 later (λ d high.
+    ap (λ b. b || has xs d) (sym (above_is_other x d (omega (arith, high)))) ∙ h d (omega (arith, high, up.0)) ∙ ap (λ b. b || has ys d) (above_is_other y d (omega (arith, high, eq)))) in
+    ap₂ (λ z zs. z ∷ zs) eq rest)
+    (λ gt. absurd (false≢true (sym (has-below x (x ∷ xs) y (omega arith, up.1) gt) ∙ h y down.0 ∙ ap (λ b. b || has ys y) (is_itself y))))
+
+-- nothing below the target is left
+has-at_least_low : (target : ℕ) (xs : List ℕ) (d : ℕ) → d < target → has (at_least target xs) d ≡ false
+has-at_least_low target [] d low = refl
+has-at_least_low target (x ∷ xs) d low = elim (cases_lt x target) [
+  | inl out ↦ ap (λ b. has (cond b (x ∷ at_least target xs) (at_least target xs)) d) (lt-leb target x out) ∙ has-at_least_low target xs d low
+  | inr stay ↦
+      ap (λ b. has (cond b (x ∷ at_least target xs) (at_least target xs)) d) (le-leb target x stay)
+      ∙ ap₂ (λ a b. a || b) (below_is_other x d (omega (arith, low, stay))) (has-at_least_low target xs d low)
+]
+
+-- a window has nothing behind its last document
+passing-behind : (p : ℕ → Bool) (a n d : ℕ) → a + n ≤ d → has (passing p a n) d ≡ false
+passing-behind p a zero d high = refl
+passing-behind p a (suc n) d high =
+    let rest = passing-behind p (a + 1) n d (omega (arith, high)) in
+    elim (cases_Bool (p a)) [
+      | inl kept ↦ ap (λ b. has (cond b (a ∷ passing p (a + 1) n) (passing p (a + 1) n)) d) kept ∙ ap₂ (λ x y. x || y) (above_is_other a d (omega (arith, high))) rest
+      | inr other ↦ ap (λ b. has (cond b (a ∷ passing p (a + 1) n) (passing p (a + 1) n)) d) other ∙ rest
+    ]
+
+found_behind : (w : Window) (d : ℕ) → w.last < d → has (found w) d ≡ false
+found_behind w d high = passing-behind (is_marked w.from w.marks) w.from (suc w.last - w.from) d (omega (arith, high, w.order))
+
+found_rises : (w : Window) → Rises 0 (found w)
+found_rises w = Rises-from_increasing (found w) (increasing-from_Rises w.from (found w) (Rises-passing (is_marked w.from w.marks) w.from (suc w.last - w.from)))
+
+found_first : (w : Window) (doc : ℕ) → Some doc ≡ slice_get (found w) 0 → doc ≤ w.last
+found_first w doc first = elim (cases_lt w.last doc) [
+  | inl past ↦ absurd (false≢true (sym (found_behind w doc past) ∙ has-first (found w) doc first))
+  | inr within ↦ within
+]
+
+-- how far the documents of a part were marked
+pub record IsMarking (initial now : List ℕ) (old new : Window) : Type 0 where
+  pub place : (new.from ≡ old.from) × (new.last ≡ old.last)
+  pub up : now ≡ at_least old.from now
+  pub left : at_least (old.last + 1) now ≡ at_least (old.last + 1) initial
+  pub same : (d : ℕ) → (has (found new) d || has now d) ≡ (has (found old) d || has initial d)
+
+-- how far those of several were
+pub record MarkedUpTo (initial now : List Standing) (old new : Window) (index : ℕ) : Type 0 where
+  pub up_to : UpTo (Left (old.last + 1)) initial now index
+  pub place : (new.from ≡ old.from) × (new.last ≡ old.last)
+  pub marked : AreMarked (in_some (remains (take index initial))) old new
+
+or_shift : (a b c : Bool) → ((a || b) || c) ≡ (b || (a || c))
+or_shift true true c = refl
+or_shift true false c = refl
+or_shift false b c = refl
+
+and_nothing : (b : Bool) → (b && false) ≡ false
+and_nothing true = refl
+and_nothing false = refl
+
+either : (a l i p : Bool) → ((a || (l && i)) || (l && p)) ≡ (a || (l && (i || p)))
+either true l i p = refl
+either false true i p = refl
+either false false i p = refl
+
+at_least_passed : (target doc : ℕ) (xs : List ℕ) → Some doc ≡ slice_get xs 0 → doc < target → at_least target (drop 1 xs) ≡ at_least target xs
+at_least_passed target doc [] first low = refl
+at_least_passed target doc (x ∷ xs) first low =
+    let same : doc ≡ x = cc in
+    sym (leaves target x xs (omega (arith, same, low)))
+
+has_split : (doc d : ℕ) (xs : List ℕ) → Some doc ≡ slice_get xs 0 → has xs d ≡ ((doc == d) || has (drop 1 xs) d)
+has_split doc d [] first = absurd (let e : Some doc ≡ None = first in cc)
+has_split doc d (x ∷ xs) first =
+    let same : doc ≡ x = cc in
+    ap (λ y. (y == d) || has xs d) (sym same)
+
+rises_rest : (doc : ℕ) (xs : List ℕ) → IsStrictlyIncreasing xs → Some doc ≡ slice_get xs 0 → Rises (suc doc) (drop 1 xs)
+rises_rest doc [] rises first = tt
+rises_rest doc (x ∷ xs) rises first =
+    let same : doc ≡ x = cc in
+    subst (λ y. Rises (suc y) xs) (sym same) (Rises-from_increasing (x ∷ xs) rises).1
+
+pub IsMarking-none : (documents : List ℕ) (w : Window) → documents ≡ at_least w.from documents → IsMarking documents documents w w
+IsMarking-none documents w up = record { place = (refl, refl); up = up; left = refl; same = λ d. refl }
+
+module _ (initial now : List ℕ) (old new : Window) (h : IsMarking initial now old new) (rises : IsStrictlyIncreasing now) where
+  pub marking_low : (doc : ℕ) → Some doc ≡ slice_get now 0 → new.from ≤ doc
+  marking_low doc first =
+      omega (arith, first-at_least old.from now doc (first ∙ ap (λ xs. slice_get xs 0) h.up), h.place.0)
+
+  -- one document more
+  pub IsMarking-next : (doc : ℕ) → Some doc ≡ slice_get now 0 → doc ≤ new.last → (later : List ℕ) (w : Window) → later ≡ drop 1 now → (w.from ≡ new.from) × (w.last ≡ new.last) → found w ≡ with_one doc (found new) → IsMarking initial later old w
+  IsMarking-next doc first within later w is place marked = record {
+    place = (place.0 ∙ h.place.0, place.1 ∙ h.place.1);
+    up =
+        let rest = rises_rest doc now rises first in
+        let low = marking_low doc first in
+        is ∙ sym (ap (at_least old.from) is ∙ at_least_all old.from (suc doc) (drop 1 now) rest (omega (arith, low, h.place.0)));
+    left = ap (at_least (old.last + 1)) is ∙ at_least_passed (old.last + 1) doc now first (omega (arith, within, h.place.1)) ∙ h.left;
+    same = λ d.
+        ap₂ (λ xs ys. has xs d || has ys d) marked is
+        ∙ ap (λ b. b || has (drop 1 now) d) (has-with_one doc (found new) d)
+        ∙ or_shift (doc == d) (has (found new) d) (has (drop 1 now) d)
+        ∙ ap (λ b. has (found new) d || b) (sym (has_split doc d now first))
+        ∙ h.same d;
+  }
+
+  pub marking_past : (doc : ℕ) → Some doc ≡ slice_get now 0 → new.last < doc → now ≡ at_least (old.last + 1) now
+  marking_past doc first past = stays_from_first (old.last + 1) doc now rises first (omega (arith, past, h.place.1))
+
+  -- what remains lies behind the window
+  module _ (end : now ≡ at_least (old.last + 1) now) where
+    pub marking_left : now ≡ at_least (old.last + 1) initial
+    marking_left = end ∙ h.left
+
+    pub marking_done : AreMarked (has initial) old new
+    marking_done d = elim (cases_lt old.last d) [
+      | inl past ↦
+          found_behind new d (omega (arith, past, h.place.1))
+          ∙ sym (ap₂ (λ a b. a || (b && has initial d)) (found_behind old d past) (lt-leb d old.last past))
+      | inr within ↦
+          let none : has now d ≡ false = ap (λ xs. has xs d) end ∙ has-at_least_low (old.last + 1) now d (omega (arith, within)) in
+          sym (or_false (has (found new) d)) ∙ ap (λ b. has (found new) d || b) (sym none) ∙ h.same d
+          ∙ sym (ap (λ b. has (found old) d || (b && has initial d)) (le-leb d old.last within))
+    ]
+
+pub marking_ended : (now : List ℕ) (target : ℕ) → None ≡ slice_get now 0 → now ≡ at_least target now
+marking_ended now target none =
+    let empty = nothing_first now none in
+    empty ∙ sym (ap (at_least target) empty)
+
+pub MarkedUpTo-none : (parts : List Standing) (w : Window) → MarkedUpTo parts parts w w 0
+MarkedUpTo-none parts w = record {
+  up_to = UpTo-none (Left (w.last + 1)) parts;
+  place = (refl, refl);
+  marked = λ d. sym (ap (λ b. has (found w) d || b) (and_nothing (nat_le d w.last)) ∙ or_false (has (found w) d));
+}
+
+module _ (initial now : List Standing) (old new : Window) (index : ℕ) (h : MarkedUpTo initial now old new index) where
+  pub MarkedUpTo-next : (d₀ q : Standing) (w : Window) → index < length now → Left (new.last + 1) (get_or now index d₀) q → (w.from ≡ new.from) × (w.last ≡ new.last) → AreMarked (has (get_or now index d₀).remaining) new w → MarkedUpTo initial (set now index q) old w (index + 1)
+  MarkedUpTo-next d₀ q w inside left place marked =
+      let p = get_or now index d₀ in
+      let same : p ≡ get_or initial index d₀ = h.up_to.rest index d₀ (omega arith) in
+      let moved : Left (old.last + 1) p q = subst (λ n. Left (n + 1) p q) h.place.1 left in
+      let there : index < length initial = omega (arith, inside, h.up_to.size) in
+      let more : remains (take (index + 1) initial) ≡ remains (take index initial) ++ p.remaining ∷ [] =
+      ap remains (take_more initial index d₀ there) ∙ map-append (λ s. s.remaining) (take index initial) (get_or initial index d₀ ∷ []) ∙ ap (λ (s : Standing). remains (take index initial) ++ s.remaining ∷ []) (sym same) in
+      record {
+        up_to = UpTo-next (Left (old.last + 1)) initial now index h.up_to d₀ q inside moved;
+        place = (place.0 ∙ h.place.0, place.1 ∙ h.place.1);
+        marked = λ d.
+            marked d
+            ∙ ap₂ (λ a n. a || (nat_le d n && has p.remaining d)) (h.marked d) h.place.1
+            ∙ either (has (found old) d) (nat_le d old.last) (in_some (remains (take index initial)) d) (has p.remaining d)
+            ∙ ap (λ b. has (found old) d || (nat_le d old.last && b)) (sym (ap (λ lists. in_some lists d) more ∙ in_some-append (remains (take index initial)) p.remaining d));
+      }
+
+  pub MarkedUpTo-all : length now ≤ index → AreMarked (in_some (remains initial)) old new
+  MarkedUpTo-all all = subst (λ ps. AreMarked (in_some (remains ps)) old new) (take_all index initial (omega (arith, all, h.up_to.size))) h.marked
+
+-- the window's first is the first of all
+gathered_least : (doc : ℕ) (w : Window) (lists : List (List ℕ)) → IsBuffered (Some doc) w lists → IsLeast (Some doc) (found w ∷ lists)
+gathered_least doc w lists h = (
+  ap (λ b. b || in_some lists doc) (has-first (found w) doc h.first),
+  λ d low. ap₂ (λ a b. a || b) (has-before_first (found w) doc d (increasing-from_Rises 0 (found w) (found_rises w)) h.first low) (h.beyond d (omega (arith, low, found_first w doc h.first))),
+)
+
+module _ (b : BufferedUnion) (remaining : List ℕ) (is : gathered b ≡ remaining) where
+  abbrev lists : List (List ℕ)
+  lists = remains b.parts.items
+
+  rises_all : IsStrictlyIncreasing (gathered b)
+  rises_all = increasing-from_Rises 0 (gathered b) (Rises-union (found b.window ∷ lists))
+
+  pub IsNow-some : (doc : ℕ) → IsBuffered (Some doc) b.window lists → IsNow (Some doc) (Or b) remaining
+  IsNow-some doc h = IsNow-first (Some doc) (Or b) remaining (union_first (Some doc) (found b.window ∷ lists) (gathered_least doc b.window lists h)) rises_all h tt is
+
+  pub IsNow-none : None ≡ slice_get (found b.window) 0 → IsLeast None lists → IsNow None (Or b) remaining
+  IsNow-none none h =
+      let nowhere : IsLeast None (found b.window ∷ lists) = λ d. ap₂ (λ x y. x || y) (has-none (found b.window) d none) (h d) in
+      let buffered : IsBuffered None b.window lists = record { first = none; beyond = λ d within. h d } in
+      IsNow-first None (Or b) remaining (union_first None (found b.window ∷ lists) nowhere) rises_all buffered tt is
+
+-- a target up to the window's end is one for its documents alone
+narrowed : (target : ℕ) (w : Window) (lists : List (List ℕ)) → target ≤ w.last + 1 → AreBeyond w lists → union (at_least target (found w) ∷ lists) ≡ at_least target (union (found w ∷ lists))
+narrowed target w lists le beyond =
+    let stay = from_union target (union lists) lists (λ d low. has-union lists d ∙ beyond d (omega (arith, low, le))) in
+    ap (with_all (at_least target (found w))) stay ∙ sym (at_least-with_all target (found w) (union lists))
+
+-- a search within the window
+pub gathered_within : (target doc : ℕ) (old new : Window) (lists : List (List ℕ)) → AreBeyond old lists → found new ≡ at_least target (found old) → new.last ≡ old.last → Some doc ≡ slice_get (found new) 0 → union (found new ∷ lists) ≡ at_least target (union (found old ∷ lists))
+gathered_within target doc old new lists beyond is last first =
+    let up = first-at_least target (found old) doc (first ∙ ap (λ xs. slice_get xs 0) is) in
+    let within = found_first new doc first in
+    ap (λ xs. union (xs ∷ lists)) is ∙ narrowed target old lists (omega (arith, up, within, last)) beyond
+
+-- the step over the window's first
+pub gathered_next : (doc : ℕ) (old new : Window) (lists : List (List ℕ)) → IsBuffered (Some doc) old lists → found new ≡ drop 1 (found old) → at_least 0 (union (found new ∷ lists)) ≡ drop 1 (union (found old ∷ lists))
+gathered_next doc old new lists h is =
+    let within = found_first old doc h.first in
+    at_least_all 0 0 (union (found new ∷ lists)) (Rises-union (found new ∷ lists)) (omega arith)
+    ∙ ap (λ xs. union (xs ∷ lists)) (is ∙ drop_first doc (found old) (increasing-from_Rises 0 (found old) (found_rises old)) h.first)
+    ∙ narrowed (doc + 1) old lists (omega (arith, within)) h.beyond
+    ∙ sym (drop_first doc (union (found old ∷ lists)) (increasing-from_Rises 0 (union (found old ∷ lists)) (Rises-union (found old ∷ lists))) (union_first (Some doc) (found old ∷ lists) (gathered_least doc old lists h)))
+
+-- where the window has none from the target on, the parts have all
+pub gathered_from : (target : ℕ) (old new : Window) (lists : List (List ℕ)) → found new ≡ at_least target (found old) → found new ≡ [] → at_least target (union lists) ≡ at_least target (union (found old ∷ lists))
+gathered_from target old new lists is none =
+    ap (λ xs. with_all xs (at_least target (union lists))) (sym none ∙ is) ∙ sym (at_least-with_all target (found old) (union lists))
+
+-- a window is filled from the first document of all parts
+module _ (parts : List Standing) (least : ℕ) (h : IsLeast (Some least) (remains parts)) where
+  pub fill_ahead : (k : ℕ) (e : Standing) → k < length parts → (get_or parts k e).remaining ≡ at_least least (get_or parts k e).remaining
+  fill_ahead = parts_from parts least (sym (union_first (Some least) (remains parts) h))
+
+  module _ (after : List Standing) (old new : Window) (from : old.from ≡ least) (nothing : found old ≡ []) (last : new.last ≡ old.last) (each : AllZip (Left (old.last + 1)) parts after) (marked : AreMarked (in_some (remains parts)) old new) where
+    lies : (d : ℕ) → has (found new) d ≡ (nat_le d old.last && in_some (remains parts) d)
+    lies d = marked d ∙ ap (λ xs. has xs d || (nat_le d old.last && in_some (remains parts) d)) nothing
+
+    after_low : (d : ℕ) → d ≤ old.last → in_some (remains after) d ≡ false
+    after_low d within =
+        sym (has-union (remains after) d) ∙ ap (λ xs. has xs d) (union-left (old.last + 1) parts after each)
+        ∙ has-at_least_low (old.last + 1) (union (remains parts)) d (omega (arith, within))
+
+    after_high : (d : ℕ) → old.last < d → in_some (remains after) d ≡ has (union (remains parts)) d
+    after_high d past =
+        sym (has-union (remains after) d) ∙ ap (λ xs. has xs d) (union-left (old.last + 1) parts after each)
+        ∙ has-at_least (old.last + 1) (union (remains parts)) d (omega (arith, past))
+
+    pub filled : union (found new ∷ remains after) ≡ union (remains parts)
+    filled = same_from 0 (union (found new ∷ remains after)) (union (remains parts)) (Rises-union (found new ∷ remains after)) (Rises-union (remains parts)) (λ d high. has-union (found new ∷ remains after) d ∙ elim (cases_lt old.last d) [
+      | inl past ↦ ap₂ (λ a b. a || b) (lies d ∙ ap (λ b. b && in_some (remains parts) d) (lt-leb d old.last past)) (after_high d past)
+      | inr within ↦
+          ap₂ (λ a b. a || b) (lies d ∙ ap (λ b. b && in_some (remains parts) d) (le-leb d old.last within)) (after_low d within)
+          ∙ or_false (in_some (remains parts) d) ∙ sym (has-union (remains parts) d)
+    ])
+
+    pub filled_buffered : IsBuffered (Some least) new (remains after)
+    filled_buffered = record {
+      first = first_of (found new) least (found_rises new)
+          (lies least ∙ ap₂ (λ a b. a && b) (le-leb least old.last (omega (arith, old.order, from))) h.0)
+          (λ d low. lies d ∙ ap (λ b. nat_le d old.last && b) (h.1 d low) ∙ and_nothing (nat_le d old.last));
+      beyond = λ d within. after_low d (omega (arith, within, last));
+    }
+
+-- parts that were moved one after the other
+pub Continues-parts : (target : ℕ) (parts after : List Standing) (before remaining : List ℕ) → AllZip (Left target) parts after → Continues (beside (together parts) (together []) before) (beside (together after) (together []) remaining)
+Continues-parts target parts after before remaining each =
+    Continues-beside (together parts) (together []) (together after) (together []) before remaining (Continues-together (Left target) (λ p q h. h.continues) parts after each) (Continues-same (together []))

@@ -1,0 +1,36 @@
+-- The tree stands at the first of its documents that are live.
+use Rattle.std.proofs.Common.{ap, ◌∙◌, arith}
+use Rattle.std.specs.List.{filter}
+use Rattle.fts_cursor.specs.Hits.{is_live}
+use Rattle.fts_cursor.proofs.FillLemmas.{Taken-front, Taken-left, Taken-more, full-front, full-left}
+use Rattle.fts_cursor.proofs.MeetingLemmas.{filter-first, filter-step}
+use Rattle.fts_cursor.proofs.TreeLemmas.{Walked-trans}
+use Rattle.fts_cursor.proofs.cursor.fill_live.Goals as goal
+
+pub loop-filled-preserved : goal.loop-filled-preserved
+loop-filled-preserved c =
+    let test = is_live c.args.live.now in
+    let left = c.loop-filled.tree.remaining in
+    record {
+      taken =
+          Taken-more _ (filter test left) c.loop-filled.out _ c.loop-filled.filled c.in-Some.doc c.loop-filled.invariant.taken (c.in-Some.ensures.first ∙ filter-first test left c.loop-filled.invariant.settled) (omega arith)
+          (c.settle.ensures.remaining ∙ ap (filter test) c.advance.ensures.remaining ∙ filter-step test left c.loop-filled.invariant.settled);
+      settled = c.settle.ensures.settled;
+      walked = Walked-trans _ _ _ (Walked-trans _ _ _ c.loop-filled.invariant.walked c.advance.ensures.walked) c.settle.ensures.walked;
+    }
+
+pub returns-in-None-clause-taken : goal.returns-in-None-clause-taken
+returns-in-None-clause-taken c =
+    let none = c.in-None.ensures.first ∙ filter-first (is_live c.args.live.now) c.loop-filled.tree.remaining c.loop-filled.invariant.settled in
+    Taken-front _ _ _ c.loop-filled.filled 128 c.loop-filled.invariant.taken (omega arith) none
+
+pub returns-in-None-clause-remaining : goal.returns-in-None-clause-remaining
+returns-in-None-clause-remaining c =
+    let none = c.in-None.ensures.first ∙ filter-first (is_live c.args.live.now) c.loop-filled.tree.remaining c.loop-filled.invariant.settled in
+    Taken-left _ _ _ c.loop-filled.filled 128 c.loop-filled.invariant.taken (omega arith) none
+
+pub returns-clause-taken : goal.returns-clause-taken
+returns-clause-taken c = full-front _ _ c.loop-filled.out c.loop-filled.filled 128 c.loop-filled.invariant.taken (omega arith)
+
+pub returns-clause-remaining : goal.returns-clause-remaining
+returns-clause-remaining c = full-left _ _ c.loop-filled.out c.loop-filled.filled 128 c.loop-filled.invariant.taken (omega arith)

@@ -1,0 +1,14 @@
+-- The documents so far lie at the front.
+use Rattle.std.specs.List.{filter}
+use Rattle.fts_cursor.specs.Hits.{is_live}
+use Rattle.fts_cursor.specs.Meeting.{FirstPasses}
+use Rattle.fts_cursor.specs.Standing.{Walked}
+use Rattle.fts_cursor.proofs.FillLemmas.{Taken}
+use Rattle.fts_cursor.proofs.cursor.fill_live.Given as goal
+
+abbrev pub invariant-loop-filled : goal.invariant-loop-filled
+invariant-loop-filled l = record {
+  taken : Taken (filter (is_live l.live) l.initial.tree.remaining) (filter (is_live l.live) l.tree.remaining) l.out l.filled;
+  settled : FirstPasses (is_live l.live) l.tree.remaining;
+  walked : Walked l.initial.tree l.tree;
+}
