@@ -16,6 +16,7 @@ use Rattle.std.proofs.lemmas.List.Sums.{fold_push, sum_by-cons}
 use Rattle.std.proofs.lemmas.List.Sorted.{sorted_far, ranks_by, sum_by-IsPermutation}
 use Rattle.fts_model.proofs.Lists.{pairs_none, pairs_front, pairs_behind}
 use Rattle.fts_collect.specs.declared.least.Key.{Key}
+use Rattle.fts_collect.specs.Internals.Ranking.{keep_keys}
 use Rattle.fts_collect.specs.Internals.Keys.{key_cmp, key_lt, put_key, first_keys, IsBound, IsLeast}
 
 -- keys stand in one order
@@ -79,6 +80,49 @@ take-behind : (k : ℕ) (x : Key) (xs : List Key) → take k (x ∷ xs) ≡ take
 take-behind zero x xs = refl
 take-behind (suc k) x xs = ap (λ ys. x ∷ ys) (take-shorter k xs)
 
+-- of two keys before all others, either may be put in front first, however they compare
+front_at : (a b : Key) (rest : List Key) (o : Ordering) → key_cmp a b ≡ o →
+    cond (key_lt b a) (b ∷ a ∷ rest) (a ∷ b ∷ rest) ≡ cond (key_lt a b) (a ∷ b ∷ rest) (b ∷ a ∷ rest)
+front_at a b rest Less e =
+    let before : key_lt a b ≡ true = ap is_lt e in
+    ap (λ c. cond c (b ∷ a ∷ rest) (a ∷ b ∷ rest)) (lt_one_way a b before) ∙ sym (ap (λ c. cond c (a ∷ b ∷ rest) (b ∷ a ∷ rest)) before)
+front_at a b rest Equal e =
+    let P : Key → Type 0 = λ x. cond (key_lt x a) (x ∷ a ∷ rest) (a ∷ x ∷ rest) ≡ cond (key_lt a x) (a ∷ x ∷ rest) (x ∷ a ∷ rest) in
+    subst P (key_same a b e) refl
+front_at a b rest Greater e =
+    let behind : key_lt b a ≡ true = ap is_lt (key_total.antisymm b a ∙ ap ordering_reverse e) in
+    ap (λ c. cond c (b ∷ a ∷ rest) (a ∷ b ∷ rest)) behind ∙ sym (ap (λ c. cond c (a ∷ b ∷ rest) (b ∷ a ∷ rest)) (lt_one_way b a behind))
+
+-- of two keys where the first alone stands before another, either may be put first
+apart_swap : (other : Key) (others : List Key) (a b : Key) → key_lt a other ≡ true → key_lt b other ≡ false →
+    put_key (a ∷ other ∷ others) b ≡ put_key (other ∷ put_key others b) a
+apart_swap other others a b e f =
+    let rest = other ∷ others in
+    let behind : key_lt b a ≡ false = not_before b other a f (lt_one_way a other e) in
+    ap (λ c. cond c (b ∷ a ∷ rest) (a ∷ cond (key_lt b other) (b ∷ rest) (other ∷ put_key others b))) behind
+    ∙ ap (λ c. a ∷ cond c (b ∷ rest) (other ∷ put_key others b)) f
+    ∙ sym (ap (λ c. cond c (a ∷ other ∷ put_key others b) (other ∷ put_key (put_key others b) a)) e)
+
+-- two keys may be put among others in either order, whether they stand before the first of these or not
+swap_at : (other : Key) (others : List Key) (a b : Key) (x y : Bool) → key_lt a other ≡ x → key_lt b other ≡ y → put_key (put_key others a) b ≡ put_key (put_key others b) a →
+    put_key (cond x (a ∷ other ∷ others) (other ∷ put_key others a)) b ≡ put_key (cond y (b ∷ other ∷ others) (other ∷ put_key others b)) a
+swap_at other others a b true true e f same =
+    let rest = other ∷ others in
+    ap (λ c. cond (key_lt b a) (b ∷ a ∷ rest) (a ∷ cond c (b ∷ rest) (other ∷ put_key others b))) f
+    ∙ front_at a b rest (key_cmp a b) refl
+    ∙ sym (ap (λ c. cond (key_lt a b) (a ∷ b ∷ rest) (b ∷ cond c (a ∷ rest) (other ∷ put_key others a))) e)
+swap_at other others a b true false e f same = apart_swap other others a b e f
+swap_at other others a b false true e f same = sym (apart_swap other others b a f e)
+swap_at other others a b false false e f same =
+    ap (λ c. cond c (b ∷ other ∷ put_key others a) (other ∷ put_key (put_key others a) b)) f
+    ∙ ap (λ ks. other ∷ ks) same
+    ∙ sym (ap (λ c. cond c (a ∷ other ∷ put_key others b) (other ∷ put_key (put_key others b) a)) e)
+
+-- two keys may be put among others in either order
+put_key-swap : (keys : List Key) (a b : Key) → put_key (put_key keys a) b ≡ put_key (put_key keys b) a
+put_key-swap [] a b = front_at a b [] (key_cmp a b) refl
+put_key-swap (other ∷ others) a b = swap_at other others a b (key_lt a other) (key_lt b other) refl refl (put_key-swap others a b)
+
 -- what is beyond the first keys has no part in what they are with one more
 pub take-put_key : (k : ℕ) (keys : List Key) (key : Key) → take k (put_key keys key) ≡ take k (put_key (take k keys) key)
 take-put_key zero keys key = refl
@@ -86,6 +130,18 @@ take-put_key (suc k) [] key = refl
 take-put_key (suc k) (other ∷ others) key =
     elim (key_lt key other) as (λ b. take (suc k) (cond b (key ∷ other ∷ others) (other ∷ put_key others key)) ≡ take (suc k) (cond b (key ∷ other ∷ take k others) (other ∷ put_key (take k others) key)))
     [ true ↦ ap (λ ks. key ∷ ks) (take-behind k other others) | false ↦ ap (λ ks. other ∷ ks) (take-put_key k others key) ]
+
+-- two keys may be taken in either order
+take-swap : (k : ℕ) (keys : List Key) (a b : Key) → take k (put_key (take k (put_key keys a)) b) ≡ take k (put_key (take k (put_key keys b)) a)
+take-swap k keys a b =
+    sym (take-put_key k (put_key keys a) b) ∙ ap (take k) (put_key-swap keys a b) ∙ take-put_key k (put_key keys b) a
+
+-- the first of keys that come may be taken last
+pub keep-last : (k : ℕ) (keys : List Key) (key : Key) (more : List Key) →
+    keep_keys k keys (key ∷ more) ≡ take k (put_key (keep_keys k keys more) key)
+keep-last k keys key [] = refl
+keep-last k keys key (other ∷ more) =
+    ap (λ ks. keep_keys k ks more) (take-swap k keys key other) ∙ keep-last k (take k (put_key keys other)) key more
 
 -- the first keys with one more
 pub first_keys-push : (k : ℕ) (keys : List Key) (key : Key) → first_keys k (keys ++ key ∷ []) ≡ take k (put_key (first_keys k keys) key)

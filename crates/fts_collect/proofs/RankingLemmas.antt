@@ -1,8 +1,8 @@
 -- The first hits by their keys.
-use Rattle.std.proofs.Common.{◌≡◌, ℕ, ◌-◌, ◌^◌, ◌<◌, ◌≤◌, ◌==◌, nat_lt, Bool, true, false, cond, ⊎_elim, List, [], ◌∷◌, ◌++◌, length, take, map, fold, Option, Some, None, refl, sym, ap, ◌∙◌, arith, All, AllPairs, IfSome, get_or, option_map}
+use Rattle.std.proofs.Common.{◌≡◌, ℕ, ◌-◌, ◌^◌, ◌<◌, ◌≤◌, ◌==◌, nat_lt, Bool, true, false, cond, ⊎_elim, List, [], ◌∷◌, ◌++◌, length, take, map, fold, Option, Some, None, refl, sym, ap, ◌∙◌, arith, All, AllPairs, IfSome, get_or, option_map, suc, drop, drop-cons}
 use Rattle.std.specs.Prelude.{slice_get, slice_index_or, option_and_then}
 use Rattle.std.specs.List.{filter_map, cons_option}
-use Rattle.std.specs.Option.{option_map_or}
+use Rattle.std.specs.Option.{option_map_or, option_to_list}
 use Rattle.std.specs.Ordering.{nat_cmp, ordering_then, is_lt, match_ordering}
 use Rattle.std.specs.declared.cmp.Ordering.{Ordering}
 use Rattle.std.specs.declared.cmp.Ordering.TheVariants.{Less, Equal, Greater}
@@ -28,7 +28,7 @@ use Rattle.fts_collect.specs.declared.least.Key.{Key}
 use Rattle.fts_collect.specs.Internals.Collecting.{number_at}
 use Rattle.fts_collect.specs.Internals.Keys.{key_lt, put_key, first_keys}
 use Rattle.fts_collect.specs.Internals.Ranking.{rank_in, stamp_at, document_at, key_at, keys_at, hit_of, keep_keys}
-use Rattle.fts_collect.proofs.KeysLemmas.{All-put_key, take-put_key}
+use Rattle.fts_collect.proofs.KeysLemmas.{All-put_key, take-put_key, keep-last}
 use Rattle.fts_collect.proofs.NumbersLemmas.{number_at-cmp}
 use Rattle.fts_collect.proofs.ValuesLemmas.{kept_at, fits_at, kept-cons, map-cons}
 
@@ -233,3 +233,19 @@ first_keys-within segment field k order docs within =
 -- more keys than the first are taken after them
 pub keep-first : (k : ℕ) (keys more : List Key) → keep_keys k (first_keys k keys) more ≡ first_keys k (keys ++ more)
 keep-first k keys more = sym (take-keep k (fold put_key [] keys) more) ∙ ap (take k) (sym (fold-append put_key [] keys more))
+
+-- a key that comes before more, if there is one, may be taken last
+keep-option : (k : ℕ) (keys : List Key) (o : Option Key) (more : List Key) →
+    keep_keys k keys (cons_option o more) ≡ keep_keys k (keep_keys k keys more) (option_to_list o)
+keep-option k keys None more = refl
+keep-option k keys (Some key) more = keep-last k keys key more
+
+-- the keys of documents from the one before a place on, of which the first is taken last
+pub keep-from : (k : ℕ) (keys : List Key) (order : Order) (documents : List (Stamped DocumentValue)) (numbers : List (Option ℕ)) (docs : List ℕ) (i : ℕ) → 0 < i → i ≤ length docs →
+    keep_keys k (keep_keys k keys (keys_at order documents numbers (drop i docs))) (option_to_list (key_at order documents numbers (get_or docs (i - 1) 0)))
+    ≡ keep_keys k keys (keys_at order documents numbers (drop (i - 1) docs))
+keep-from k keys order documents numbers docs i some within =
+    let behind : suc (i - 1) ≡ i = omega (arith, some) in
+    let first : drop (i - 1) docs ≡ get_or docs (i - 1) 0 ∷ drop i docs =
+    drop-cons docs (i - 1) 0 (omega (arith, some, within)) ∙ ap (λ j. get_or docs (i - 1) 0 ∷ drop j docs) behind in
+    sym (ap (λ ds. keep_keys k keys (keys_at order documents numbers ds)) first ∙ keep-option k keys (key_at order documents numbers (get_or docs (i - 1) 0)) (keys_at order documents numbers (drop i docs)))

@@ -45,7 +45,8 @@ fn offer_hit(
     least.offer(Key { rank, stamp, doc })
 }
 
-/// Offers the hits that have a number in a column.
+/// Offers the hits that have a number in a column, the last first: where ranks fall from document to document, each hit
+/// would else keep out those before it, and few are kept out at one compare.
 pub(crate) fn offer_hits(
     segment: &Segment,
     column: &Column,
@@ -60,8 +61,8 @@ pub(crate) fn offer_hits(
           (keys_at order segment.now.documents column.now docs.now);
     }) }
 {
-    for doc in docs {
-        offer_hit(segment, column, order, *doc, least)?;
+    for i in (0..docs.len()).rev() {
+        offer_hit(segment, column, order, docs[i], least)?;
     }
     Ok(())
 }

@@ -1,7 +1,7 @@
-use Rattle.std.proofs.Common.{◌≡◌, take}
+use Rattle.std.proofs.Common.{◌≡◌, drop}
 use Rattle.fts_collect.specs.Internals.Ranking.{keep_keys, keys_at}
 use Rattle.fts_collect.proofs.ranking.offer_hits.Given as goal
 
-abbrev pub invariant-loop-doc : goal.invariant-loop-doc
-invariant-loop-doc l =
-    l.least ≡ record { k = l.fn.least.k; keys = keep_keys l.fn.least.k l.fn.least.keys (keys_at l.order l.segment.documents l.column (take l.doc-index l.docs)) }
+abbrev pub invariant-loop-i : goal.invariant-loop-i
+invariant-loop-i l =
+    l.least ≡ record { k = l.fn.least.k; keys = keep_keys l.fn.least.k l.fn.least.keys (keys_at l.order l.segment.documents l.column (drop l.i l.docs)) }
