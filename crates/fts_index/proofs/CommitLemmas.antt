@@ -1,5 +1,5 @@
 -- The content of a snapshot after a commit: what is alive after the operations of its batch.
-use Rattle.std.proofs.Common.{◌≡◌, ◌<◌, ◌≤◌, ◌+◌, ◌&&◌, ◌||◌, ℕ, Bool, true, false, cond, not, nat_lt, List, [], ◌∷◌, ◌++◌, map, filter, subst, refl, sym, ap, ◌∙◌, arith}
+use Rattle.std.proofs.Common.{◌≡◌, ◌<◌, ◌+◌, ◌&&◌, ◌||◌, ℕ, Bool, true, false, not, nat_lt, List, [], ◌∷◌, ◌++◌, map, filter, subst, refl, sym, ap, ◌∙◌}
 use Rattle.std.specs.List.{flat_map, list_any, AllByRecursion}
 use Rattle.std.proofs.lemmas.List.Elements.{All-from_recursion, recursion_from_All, filter-append, filter_agree}
 use Rattle.std.proofs.lemmas.List.Sorted.{IsPermutation-sym, IsPermutation-append}
@@ -16,7 +16,7 @@ use Rattle.fts_index.specs.Entries.{EntryValue, live_in, content}
 use Rattle.fts_index.specs.declared.cut.Cut.{Cut}
 use Rattle.fts_index.specs.Cuts.{groups_of}
 use Rattle.fts_index.specs.Commits.{struck, fresh, fresh_from, committed}
-use Rattle.fts_index.proofs.OrderLemmas.{Rises, ByStamp, rises_from_pairs, pairs_from_rises, rises_filtered, permutation_in_order, in_stamp_order-permutation, in_stamp_order-rises, filter-in_stamp_order}
+use Rattle.fts_index.proofs.OrderLemmas.{ByStamp, rises_from_pairs, pairs_from_rises, permutation_in_order, in_stamp_order-permutation, in_stamp_order-rises, filter-in_stamp_order}
 use Rattle.fts_index.proofs.EntryLemmas.{joined, entry_with, bits_where-agree, live_in-filter, live_in-struck, live_in-fresh}
 use Rattle.fts_index.proofs.CutLemmas.{groups_permute}
 

@@ -1,21 +1,20 @@
 -- Following is transitive, what fits a snapshot fits each that follows it, and commits and merges are followed.
-use Rattle.std.proofs.Common.{◌≡◌, ◌<◌, ◌≤◌, ◌+◌, ◌&&◌, ◌⊎◌, inl, inr, ⊎_elim, ℕ, zero, suc, Bool, true, false, not, Some, List, [], ◌∷◌, ◌++◌, map, filter, slice_get, subst, refl, sym, ap, ◌∙◌, arith, All, Contains}
-use Rattle.std.specs.List.{AllByRecursion}
-use Rattle.std.proofs.lemmas.List.Elements.{All-contains, All-from_recursion, recursion_from_All, Contains-append_cases}
+use Rattle.std.proofs.Common.{◌≡◌, ◌<◌, ◌≤◌, ◌&&◌, inl, inr, ℕ, zero, suc, Bool, true, false, not, Some, List, [], ◌∷◌, ◌++◌, map, filter, slice_get, subst, refl, sym, ap, ◌∙◌, arith, Contains}
+use Rattle.std.proofs.lemmas.List.Elements.{All-contains, All-from_recursion, Contains-append_cases}
 use Rattle.fts_model.specs.declared.operation.Op.{Op}
 use Rattle.fts_model.specs.declared.operation.Stamped.{Stamped}
-use Rattle.fts_model.specs.Documents.{DocumentValue}
-use Rattle.fts_model.specs.Operations.{adds, added, survives, StampsRise}
+use Rattle.fts_model.specs.Operations.{added, survives}
 use Rattle.fts_model.proofs.Lists.{Contains-cases, Contains-first, Contains-behind, Contains-none, Contains-from_filter}
-use Rattle.fts_merge.specs.Merges.{MergedValue}
 use Rattle.fts_merge.specs.Strikes.{bits_where}
 use Rattle.fts_index.specs.Entries.{EntryValue, has_live}
 use Rattle.fts_index.specs.declared.cut.Cut.{Cut}
 use Rattle.fts_index.specs.Cuts.{groups_of}
 use Rattle.fts_index.specs.Commits.{struck, fresh_from}
 use Rattle.fts_index.specs.Merges.{is_among, without, whole, gathered}
+use Rattle.fts_index.specs.MergedSegments.{MergedSegmentValue}
 use Rattle.fts_index.specs.Snapshots.{SnapshotValue, after_commit, after_merge}
 use Rattle.fts_index.specs.Following.{is_set, IsLater, Follows, Fits}
+use Rattle.fts_index.specs.LateMerges.{ended, after_end}
 use Rattle.fts_index.proofs.SnapshotLemmas.{ids_from}
 
 later_itself : (e : EntryValue) → IsLater e e
@@ -33,22 +32,26 @@ follows_further a b c f g = record {
       (two.0, two.1, record { id = one.2.id ∙ two.2.id; segment = one.2.segment ∙ two.2.segment; live = λ n k. two.2.live n (one.2.live n k) });
 }
 
-pub fits_further : (merged : MergedValue) (ids : List ℕ) (a b : SnapshotValue) → Fits merged ids a → Follows a b → Fits merged ids b
-fits_further merged ids a b f g = record {
+-- a member stands at a place
+pub contains_at : (xs : List ℕ) (k x : ℕ) → slice_get xs k ≡ Some x → Contains xs x
+contains_at [] k x h = cc
+contains_at (y ∷ xs) zero x h = Contains-first y xs x cc
+contains_at (y ∷ xs) (suc k) x h = Contains-behind y xs x (contains_at xs k x h)
+
+pub fits_further : (m : MergedSegmentValue) (a b : SnapshotValue) → Fits m a → Follows a b → Fits m b
+fits_further m a b f g = record {
   below = λ id c. omega (arith, f.below id c, g.next);
+  schema = λ e c named.
+      let one = g.segments e c (f.below e.id named) in
+      f.schema one.0 one.1 (subst (Contains m.ids) one.2.id named) ∙ ap (λ s. s.schema) (sym one.2.segment);
   mapped = λ e source n c i h.
-      let named = f.below e.id (contains_at ids source e.id i) in
-      let one = g.segments e c named in
+      let one = g.segments e c (f.below e.id (contains_at m.ids source e.id i)) in
       let found = f.mapped one.0 source n one.1 (i ∙ ap (λ id. Some id) one.2.id) (one.2.live n h) in
       (found.0, found.1, found.2 ∙ ap (λ s. slice_get s.documents n) (sym one.2.segment));
-} where
-  contains_at : (xs : List ℕ) (k x : ℕ) → slice_get xs k ≡ Some x → Contains xs x
-  contains_at [] k x h = cc
-  contains_at (y ∷ xs) zero x h = Contains-first y xs x cc
-  contains_at (y ∷ xs) (suc k) x h = Contains-behind y xs x (contains_at xs k x h)
+}
 
 -- a member of a map is that of a member
-contains_mapped : {X Y : Type 0} (f : X → Y) (xs : List X) (y : Y) → Contains (map f xs) y → (x : X) × Contains xs x × (f x ≡ y)
+pub contains_mapped : {X Y : Type 0} (f : X → Y) (xs : List X) (y : Y) → Contains (map f xs) y → (x : X) × Contains xs x × (f x ≡ y)
 contains_mapped f [] y c = absurd (Contains-none y c)
 contains_mapped {X} f (x ∷ xs) y c =
     elim (Contains-cases (f x) (map f xs) y c) as (λ _. (z : X) × Contains (x ∷ xs) z × (f z ≡ y))
@@ -93,6 +96,20 @@ follows_merge s ids =
           elim (Contains-append_cases (without s.entries ids) (one ∷ []) e c) as (λ _. (f : EntryValue) × Contains s.entries f × IsLater f e) [
             | inl k ↦ (e, (Contains-from_filter test s.entries e k).0, later_itself e)
             | inr k ↦ elim (Contains-cases one [] e k) as (λ _. (f : EntryValue) × Contains s.entries f × IsLater f e)
+                [ inl x ↦ let high : s.next_id ≡ e.id = ap (λ (f : EntryValue). f.id) x in absurd (omega (arith, high, l)) | inr n ↦ absurd (Contains-none e n) ]
+          ];
+    }
+
+pub follows_end : (s : SnapshotValue) (m : MergedSegmentValue) → Follows s (after_end m s)
+follows_end s m =
+    let test : EntryValue → Bool = λ e. not (is_among m.ids e.id) in
+    let one = ended s.next_id m s.entries in
+    record {
+      next = omega arith;
+      segments = λ e c l.
+          elim (Contains-append_cases (without s.entries m.ids) (filter has_live (one ∷ [])) e c) as (λ _. (f : EntryValue) × Contains s.entries f × IsLater f e) [
+            | inl k ↦ (e, (Contains-from_filter test s.entries e k).0, later_itself e)
+            | inr k ↦ elim (Contains-cases one [] e (Contains-from_filter has_live (one ∷ []) e k).0) as (λ _. (f : EntryValue) × Contains s.entries f × IsLater f e)
                 [ inl x ↦ let high : s.next_id ≡ e.id = ap (λ (f : EntryValue). f.id) x in absurd (omega (arith, high, l)) | inr n ↦ absurd (Contains-none e n) ]
           ];
     }

@@ -18,6 +18,11 @@ pub mod PlaceLemmas
 pub mod SourceLemmas
 pub mod PlanLemmas
 pub mod FollowLemmas
+pub mod EndLemmas
+pub mod LookupLemmas
+pub mod EndingLemmas
+pub mod EndedLemmas
+pub mod BeginLemmas
 pub mod PublicationsLemmas
 pub mod PublicationsStepsLemmas
 pub mod PublicationsShownLemmas

@@ -107,6 +107,14 @@ marked (e ∷ es) before id (suc k) r l h =
 pub marks_of-more : (es : List EntryValue) (before : List ℕ) (id k : ℕ) → IdsRise es → IsPlaceOf es id k → set (marks_of es before) k true ≡ marks_of es (before ++ id ∷ [])
 marks_of-more es before id k rise place = marked es before id k (rises_from_pairs (λ (e : EntryValue). e.id) es rise) place.within place.there
 
+-- one number more that no segment has marks none
+pub marks_absent : (es : List EntryValue) (before : List ℕ) (id : ℕ) → is_there es id ≡ false → marks_of es before ≡ marks_of es (before ++ id ∷ [])
+marks_absent [] before id h = refl
+marks_absent (e ∷ es) before id h =
+    let apart : (b c : Bool) → (b || c) ≡ false → (b ≡ false) × (c ≡ false) = elim [ true ↦ λ c k. cc | false ↦ λ c k. (refl, k) ] in
+    let both = apart (e.id == id) (is_there es id) h in
+    ap (λ b. b ∷ marks_of es before) (among_other before id e.id (λ same. grind (arith, nat_tests, both.0, same))) ∙ ap (λ bits. is_among (before ++ id ∷ []) e.id ∷ bits) (marks_absent es before id both.1)
+
 -- a number that stands before is the fault
 pub fault_twice : (es : List EntryValue) (before ids : List ℕ) (id : ℕ) → is_there es id ≡ true → is_among before id ≡ true → fault_behind es before (id ∷ ids) ≡ Some (SegmentTwice id)
 fault_twice es before ids id t a =

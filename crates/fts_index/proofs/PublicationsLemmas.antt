@@ -1,13 +1,14 @@
 -- Lists of publications: beginnings of one list, and one publication more.
-use Rattle.std.proofs.Common.{◌≡◌, ℕ, ◌<◌, ◌≤◌, List, [], ◌∷◌, ◌++◌, length, slice_index_or, fold, refl, ap, sym, ◌∙◌, subst, arith, length-append, append-nil, ⊎_elim}
+use Rattle.std.proofs.Common.{◌≡◌, ℕ, ◌<◌, ◌≤◌, List, [], ◌∷◌, ◌++◌, length, slice_index_or, fold, take, refl, ap, sym, ◌∙◌, subst, arith, length-append, append-nil, ⊎_elim}
 use Rattle.std.specs.Prelude.{AllPairs}
 use Rattle.std.proofs.Math.ListN.{get_or-append}
 use Rattle.std.proofs.Math.Nat.{eq-or-lt_of_le}
-use Rattle.std.proofs.lemmas.List.{append-nil}
+use Rattle.std.proofs.lemmas.Bool.{cases_lt}
+use Rattle.std.proofs.lemmas.List.{append-nil, take_all}
 use Rattle.std.proofs.lemmas.List.Quantifiers.{all_pairs_push}
 use mathlib.Core.List.{IsPrefix}
 use Rattle.fts_index.specs.declared.publications.publication.Publication.{Publication}
-use Rattle.fts_index.specs.Publications.{opening, Follows, ArePublications, newest}
+use Rattle.fts_index.specs.Publications.{opening, Follows, ArePublications, newest, FrontValue, IsFront, IsOneCommit}
 
 -- each list begins itself
 pub prefix_self : {A : Type 0} (xs : List A) → IsPrefix xs xs
@@ -82,3 +83,25 @@ newest_follows [] (y ∷ ys) p are =
     subst (λ (q : Publication). Follows q (newest (y ∷ ys))) first (newest_after (y ∷ ys) 0 y are.follow (omega arith))
 newest_follows (x ∷ xs) more p are =
     subst (λ (l : List Publication). Follows (newest (x ∷ xs)) (newest l)) p.1 (rest_follows x xs p.0 (subst ArePublications (sym p.1) are))
+
+-- what two beginnings of one list tell last has equal contents where it has equal stamps
+pub newest-content : (xs ys both : List Publication) → IsPrefix xs both → IsPrefix ys both → ArePublications xs → ArePublications ys → (newest xs).stamp ≡ (newest ys).stamp → (newest xs).content ≡ (newest ys).content
+newest-content xs ys both p q are others same =
+    ⊎_elim
+    (λ (less : length xs < length ys). (newest_follows xs ys (prefix_shorter xs ys both p q (omega arith)) others).1 same)
+    (λ (least : length ys ≤ length xs). sym ((newest_follows ys xs (prefix_shorter ys xs both q p least) are).1 (sym same)))
+    (cases_lt (length xs) (length ys))
+
+-- what two fronts of one list stand for is one commit where their stamps are equal, but for the schema
+pub one_commit : (a b : FrontValue) (both : List Publication) → IsPrefix a.seen.list both → IsPrefix b.seen.list both → IsFront a → IsFront b → a.stamp ≡ b.stamp → a.snapshot.schema ≡ b.snapshot.schema → IsOneCommit a b
+one_commit a b both p q mine other same schema =
+    let stamps : (newest a.seen.list).stamp ≡ (newest b.seen.list).stamp = ap (λ (n : Publication). n.stamp) mine.last ∙ same ∙ sym (ap (λ (n : Publication). n.stamp) other.last) in
+    record {
+      stamp = same;
+      schema = schema;
+      content = sym (ap (λ (n : Publication). n.content) mine.last) ∙ newest-content a.seen.list b.seen.list both p q mine.legal other.legal stamps ∙ ap (λ (n : Publication). n.content) other.last;
+    }
+
+-- lists whose beginnings of some length are one are one, where that is all of both
+pub same_whole : {A : Type 0} (xs ys : List A) (n : ℕ) → take n xs ≡ take n ys → length xs ≤ n → length ys ≤ n → xs ≡ ys
+same_whole xs ys n same all others = sym (take_all n xs all) ∙ same ∙ take_all n ys others

@@ -1,27 +1,27 @@
 -- What holds of every snapshot holds after a commit and after a merge.
-use Rattle.std.proofs.Common.{◌≡◌, ◌≢◌, ◌<◌, ◌≤◌, ◌+◌, ◌^◌, ◌||◌, ◌==◌, ℕ, Bool, true, false, cond, not, None, List, [], ◌∷◌, ◌++◌, length, map, filter, sum_by, count_by, All, subst, refl, sym, ap, ◌∙◌, arith}
+use Rattle.std.proofs.Common.{◌≡◌, ◌<◌, ◌≤◌, ◌+◌, ◌^◌, ◌||◌, ◌==◌, ℕ, Bool, true, false, cond, not, None, List, [], ◌∷◌, ◌++◌, length, map, filter, sum_by, count_by, All, subst, refl, sym, ap, ◌∙◌, arith}
 use Rattle.std.specs.List.{flat_map, list_any, AllByRecursion}
 use Rattle.std.proofs.lemmas.List.{length-append, length-map}
-use Rattle.std.proofs.lemmas.List.Sums.{sum_by-cons, sum_by-append}
+use Rattle.std.proofs.lemmas.List.Sums.{sum_by-cons}
 use Rattle.std.proofs.lemmas.List.Elements.{All-from_recursion, recursion_from_All, All-append, All-filter, All-map, All-weaker, All-cons, All-nil, filter_passes}
 use Rattle.fts_model.specs.declared.schema.Field.{Field}
 use Rattle.fts_model.specs.declared.operation.Op.{Op}
 use Rattle.fts_model.specs.declared.operation.Stamped.{Stamped}
 use Rattle.fts_model.specs.Documents.{DocumentValue}
-use Rattle.fts_model.specs.Operations.{adds, added, survives, StampsRise}
+use Rattle.fts_model.specs.Operations.{adds, added, StampsRise}
 use Rattle.fts_model.proofs.OperationsAlive.{alive-pairs}
 use Rattle.fts_segment.specs.Contents.{where_set}
 use Rattle.fts_index.specs.Entries.{EntryValue, IsEntry, live_in, live_count, has_live, content}
 use Rattle.fts_index.specs.declared.cut.Cut.{Cut}
 use Rattle.fts_index.specs.Cuts.{IsCut, groups_of}
-use Rattle.fts_index.specs.Commits.{struck, fresh, fresh_from, committed, all_after, new_segments}
-use Rattle.fts_index.specs.Merges.{is_there, is_among, entry_at, entries_at, without, gathered, whole, merged, names_fault}
+use Rattle.fts_index.specs.Commits.{struck, fresh, fresh_from, new_segments}
+use Rattle.fts_index.specs.Merges.{is_there, is_among, entry_at, entries_at, without, gathered, whole, names_fault}
 use Rattle.fts_index.specs.Snapshots.{SnapshotValue, IsSnapshot, after_commit, after_merge}
-use Rattle.fts_index.proofs.OrderLemmas.{Rises, rises_from_pairs, pairs_from_rises, rises_filtered, rises_joined, All-weaker_by}
+use Rattle.fts_index.proofs.OrderLemmas.{rises_from_pairs, pairs_from_rises, rises_filtered, rises_joined, All-weaker_by}
 use Rattle.fts_index.proofs.EntryLemmas.{entry_struck, entry_fresh}
 use Rattle.fts_index.proofs.CutLemmas.{IsWithin, groups_within}
 use Rattle.fts_index.proofs.CommitLemmas.{by_stamp, content-committed}
-use Rattle.fts_index.proofs.MergeLemmas.{ById, AreNamed, names_given, content-merged}
+use Rattle.fts_index.proofs.MergeLemmas.{ById, names_given, content-merged}
 
 ids_struck : (ops : List (Stamped Op)) (es : List EntryValue) → ById es → ById (map (struck ops) es)
 ids_struck ops [] r = tt

@@ -1,9 +1,8 @@
 -- The segments of a snapshot as the sources of a merge, and what a merge is refused for.
-use Rattle.std.proofs.Common.{◌≡◌, ◌<◌, ◌≤◌, ◌+◌, ◌^◌, ◌↔◌, ℕ, Bool, true, false, cond, nat_le, nat_lt, Option, Some, None, Result, Ok, Err, List, [], ◌∷◌, ◌++◌, length, map, sum_by, count_by, replicate, All, subst, refl, sym, ap, ◌∙◌, ◌⊎◌, inl, inr, ⊎_elim, arith}
+use Rattle.std.proofs.Common.{◌≡◌, ◌<◌, ◌≤◌, ◌+◌, ◌^◌, ◌↔◌, ℕ, true, false, cond, nat_le, nat_lt, Option, Some, None, Result, Ok, Err, List, [], ◌∷◌, ◌++◌, length, map, sum_by, count_by, replicate, All, refl, sym, ap, ◌∙◌, ⊎_elim, arith}
 use Rattle.std.specs.List.{flat_map, AllByRecursion}
 use Rattle.std.proofs.lemmas.Bool.{cases_lt}
 use Rattle.std.proofs.lemmas.Bool.Decides.{nat_tests}
-use Rattle.std.proofs.lemmas.List.{length-map}
 use Rattle.std.proofs.lemmas.List.Sums.{sum_by-cons}
 use Rattle.std.proofs.lemmas.List.Elements.{All-from_recursion, recursion_from_All, All-weaker}
 use Rattle.fts_model.specs.declared.schema.Field.{Field}
@@ -14,7 +13,7 @@ use Rattle.fts_merge.specs.Merges.{SourceValue, MergedValue, AreOfOneSchema, sch
 use Rattle.fts_merge.specs.Merges as sources
 use Rattle.fts_index.specs.Entries.{EntryValue, live_in, live_count}
 use Rattle.fts_index.specs.Commits.{numbers_fault}
-use Rattle.fts_index.specs.Merges.{entries_at, gathered, names_fault, size_fault, merge_fault}
+use Rattle.fts_index.specs.Merges.{entries_at, names_fault, size_fault, merge_fault}
 use Rattle.fts_index.specs.Sources.{source_of}
 use Rattle.fts_index.proofs.SnapshotLemmas.{all_entries_at, some_sources}
 
@@ -102,14 +101,14 @@ numbers_none n e = ap (λ b. cond b (Some StampsUsedUp) None) (sym e)
 pub room_left : (n : ℕ) → false ≡ nat_le (2 ^ 62) n → n < 2 ^ 62
 room_left n e = grind (arith, nat_tests)
 
-first_none : {X : Type 0} (a b : Option X) → first_of a b ≡ None → (a ≡ None) × (b ≡ None)
+pub first_none : {X : Type 0} (a b : Option X) → first_of a b ≡ None → (a ≡ None) × (b ≡ None)
 first_none None b h = (refl, h)
 first_none (Some x) b h = cc
 
 size_few : (n : ℕ) → size_fault n ≡ None → n ≤ 1048576
 size_few n h = ⊎_elim (λ (l : 1048576 < n). let e : nat_lt 1048576 n ≡ true = grind (arith, nat_tests) in let f : Some TooLarge ≡ None = ap (λ b. cond b (Some TooLarge) None) (sym e) ∙ h in cc) (λ (l : n ≤ 1048576). l) (cases_lt 1048576 n)
 
-numbers_room : (n : ℕ) → numbers_fault n ≡ None → n < 2 ^ 62
+pub numbers_room : (n : ℕ) → numbers_fault n ≡ None → n < 2 ^ 62
 numbers_room n h =
     ⊎_elim (λ (l : n < 2 ^ 62). l)
     (λ (l : 2 ^ 62 ≤ n). let e : nat_le (2 ^ 62) n ≡ true = grind (arith, nat_tests) in let f : Some StampsUsedUp ≡ None = ap (λ b. cond b (Some StampsUsedUp) None) (sym e) ∙ h in cc)

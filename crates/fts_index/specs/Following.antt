@@ -1,8 +1,8 @@
 -- How a snapshot follows another, and when a segment that was merged fits one in place of its sources.
 use Rattle.std.specs.Prelude.{◌≡◌, ◌≤◌, ◌<◌, ℕ, Bool, true, false, Some, List, slice_get, Contains}
 use Rattle.std.specs.Option.{option_map_or}
-use Rattle.fts_merge.specs.Merges.{MergedValue}
 use Rattle.fts_index.specs.Entries.{EntryValue}
+use Rattle.fts_index.specs.MergedSegments.{MergedSegmentValue}
 use Rattle.fts_index.specs.Snapshots.{SnapshotValue}
 
 -- whether the bit of this number is set
@@ -20,10 +20,11 @@ pub record Follows (old new : SnapshotValue) : Type 0 where
   pub next : old.next_id ≤ new.next_id
   pub segments : (entry : EntryValue) → Contains new.entries entry → entry.id < old.next_id → (before : EntryValue) × Contains old.entries before × IsLater before entry
 
--- the segments of these numbers, merged in their order, can be replaced in a snapshot: the numbers were given already, and each document that is live in one of the segments that are
--- there stands in the merged segment, and its origin at the same place
-pub record Fits (merged : MergedValue) (ids : List ℕ) (s : SnapshotValue) : Type 0 where
-  pub below : (id : ℕ) → Contains ids id → id < s.next_id
-  pub mapped : (entry : EntryValue) (source n : ℕ) → Contains s.entries entry → slice_get ids source ≡ Some entry.id → is_set entry.live n ≡ true →
-      (place : ℕ) × (slice_get merged.origins place ≡ Some (record { source = source; document = n }))
-      × (slice_get merged.segment.documents place ≡ slice_get entry.segment.documents n)
+-- a merged segment can take the place of its sources in a snapshot: their numbers were given already, and of each source that is there it has the schema and each live document, whose origin
+-- stands at the same place
+pub record Fits (m : MergedSegmentValue) (s : SnapshotValue) : Type 0 where
+  pub below : (id : ℕ) → Contains m.ids id → id < s.next_id
+  pub schema : (entry : EntryValue) → Contains s.entries entry → Contains m.ids entry.id → m.merged.segment.schema ≡ entry.segment.schema
+  pub mapped : (entry : EntryValue) (source n : ℕ) → Contains s.entries entry → slice_get m.ids source ≡ Some entry.id → is_set entry.live n ≡ true →
+      (place : ℕ) × (slice_get m.merged.origins place ≡ Some (record { source = source; document = n }))
+      × (slice_get m.merged.segment.documents place ≡ slice_get entry.segment.documents n)

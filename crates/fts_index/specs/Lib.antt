@@ -11,7 +11,10 @@ pub mod Jobs
 pub mod Sources
 pub mod Merges
 pub mod Snapshots
+pub mod MergedSegments
 pub mod Following
+pub mod Lookups
+pub mod LateMerges
 pub mod Publications
 pub mod PublicationsHistory
 pub mod PublicationsShown

@@ -50,3 +50,9 @@ pub record IsFront (f : FrontValue) : Type 0 where
   pub legal : ArePublications f.seen.list
   pub last : newest f.seen.list ≡ publication f.stamp f.snapshot
   pub few : length (content_of f.snapshot) < 2 ^ 64
+
+-- both are of one commit: the same stamp and schema, and the same content, however it lies in segments
+pub record IsOneCommit (a b : FrontValue) : Type 0 where
+  pub stamp : a.stamp ≡ b.stamp
+  pub schema : a.snapshot.schema ≡ b.snapshot.schema
+  pub content : content_of a.snapshot ≡ content_of b.snapshot

@@ -1,5 +1,5 @@
 -- What contracts see of a writer, and what its calls make of it.
-use Rattle.std.specs.Prelude.{◌≡◌, ℕ, ◌+◌, ◌*◌, ◌^◌, ◌<◌, ◌≤◌, ◌==◌, ◌&&◌, ◌||◌, nat_le, not, Bool, true, false, Option, Some, None, List, length, All, MatchOption, ◌⊎◌, Result, Ok, Err, if◌then◌else◌}
+use Rattle.std.specs.Prelude.{◌≡◌, ℕ, ◌+◌, ◌*◌, ◌^◌, ◌<◌, ◌≤◌, ◌==◌, ◌&&◌, ◌||◌, nat_le, Bool, false, Option, Some, None, List, length, All, MatchOption, ◌⊎◌, Result, Ok, Err, if◌then◌else◌}
 use Rattle.fts_model.specs.declared.refusal.Refusal.{Refusal}
 use Rattle.fts_model.specs.declared.refusal.Refusal.TheVariants.{Memory, RoundOpen, StampsUsedUp, StaleBatch}
 use Rattle.fts_model.specs.Results.{first_of}
@@ -7,7 +7,9 @@ use Rattle.fts_index.specs.declared.cut.Cut.{Cut}
 use Rattle.fts_index.specs.declared.stamps.Terms.{Terms}
 use Rattle.fts_index.specs.Rounds.{Gathered}
 use Rattle.fts_index.specs.Commits.{misfit}
-use Rattle.fts_index.specs.Snapshots.{SnapshotValue, content_of, after_commit, commit_fault, after_merge}
+use Rattle.fts_index.specs.Snapshots.{content_of, after_commit, commit_fault, after_merge}
+use Rattle.fts_index.specs.MergedSegments.{MergedSegmentValue}
+use Rattle.fts_index.specs.LateMerges.{end_fault, after_end}
 use Rattle.fts_index.specs.Publications.{FrontValue, published}
 
 -- a call succeeded where nothing was wrong; else it was refused for that, or for memory
@@ -79,6 +81,18 @@ with_commit cut batch w = record {
 abbrev pub with_merge : List ℕ → WriterValue → WriterValue
 with_merge ids w = record {
   front = published w.front.stamp (after_merge ids w.front.snapshot) w.front;
+  rounds = w.rounds;
+  round = w.round;
+}
+
+-- why a merge can't end
+abbrev pub late_fault : MergedSegmentValue → WriterValue → Option Refusal
+late_fault m w = end_fault w.front.snapshot.next_id m w.front.snapshot.entries
+
+-- the writer after the end of a merge: the publication before is published again, with the merged segment in place of its sources
+abbrev pub with_end : MergedSegmentValue → WriterValue → WriterValue
+with_end m w = record {
+  front = published w.front.stamp (after_end m w.front.snapshot) w.front;
   rounds = w.rounds;
   round = w.round;
 }

@@ -41,6 +41,7 @@ impl Entry {
     ghost use Rattle.std.specs.Prelude.{◌≡◌, ◌≤◌, IfOk};
     ghost use Rattle.fts_index.specs.Entries.{IsEntry, live_count, has_live};
     ghost use Rattle.fts_index.specs.Infos.{info_of};
+    ghost use Rattle.fts_index.specs.Following.{is_set};
 
     /// The segment of this number with these bits.
     pub(crate) fn new(
@@ -93,6 +94,13 @@ impl Entry {
     {
         let bits = self.live();
         bits.count_ones() > 0
+    }
+
+    /// Whether the document of this number is live.
+    pub fn is_live(&self, document: usize) -> bool
+        ensures { result ≡ is_set self.now.live document }
+    {
+        document < self.live.len() && self.live.get(document)
     }
 
     /// How large the segment is.

@@ -4,12 +4,13 @@ ghost use Rattle.fts_model.specs.declared.operation.Op.{Op};
 ghost use Rattle.fts_model.specs.declared.operation.Stamped.{Stamped};
 ghost use Rattle.fts_model.specs.Documents.{DocumentValue};
 ghost use Rattle.fts_model.specs.Operations.{alive, adds, StampsRise};
-ghost use Rattle.fts_merge.specs.Merges.{MergedValue};
 ghost use Rattle.fts_index.specs.Entries.{IsEntry, EntryValue, content, live_count};
-ghost use Rattle.fts_index.specs.Merges.{entries_at, gathered};
+ghost use Rattle.fts_index.specs.Merges.{entries_at, gathered, names_fault};
 ghost use Rattle.fts_index.specs.declared.cut.Cut.{Cut};
+ghost use Rattle.fts_index.specs.MergedSegments.{MergedSegmentValue, IsMergedSegment, merged_of};
 ghost use Rattle.fts_index.specs.Snapshots.{SnapshotValue, IsSnapshot, after_commit, after_merge};
 ghost use Rattle.fts_index.specs.Following.{Follows, Fits};
+ghost use Rattle.fts_index.specs.LateMerges.{after_end};
 
 /// Whatever history left the content before a commit, what is alive after it and the batch is the content afterwards.
 pub fn a_commit_continues_each_history()
@@ -32,13 +33,26 @@ pub fn following_is_transitive()
     ensures further { (a b c : SnapshotValue) → Follows a b → Follows b c → Follows a c }
 {}
 
-/// What a commit and a merge leave follows what was.
+/// What a commit, a merge and the end of a merge leave follows what was.
 pub fn commits_and_merges_are_followed()
     ensures commit { (s : SnapshotValue) (cut : Cut) (batch : List (Stamped Op)) → Follows s (after_commit cut batch s) }
     ensures merge { (s : SnapshotValue) (ids : List ℕ) → Follows s (after_merge ids s) }
+    ensures end_merge { (s : SnapshotValue) (m : MergedSegmentValue) → Follows s (after_end m s) }
 {}
 
 /// What fits a snapshot fits each one that follows it.
 pub fn what_fits_goes_on_to_fit()
-    ensures { (merged : MergedValue) (ids : List ℕ) (a b : SnapshotValue) → Fits merged ids a → Follows a b → Fits merged ids b }
+    ensures { (m : MergedSegmentValue) (a b : SnapshotValue) → Fits m a → Follows a b → Fits m b }
+{}
+
+/// The end of a merge leaves what is found, where the merged segment fits.
+pub fn the_end_of_a_merge_leaves_the_content()
+    ensures { (m : MergedSegmentValue) (s : SnapshotValue) → IsMergedSegment m → IsSnapshot s → Fits m s →
+        content (after_end m s).entries ≡ content s.entries }
+{}
+
+/// What a job of segments of a snapshot makes fits that snapshot.
+pub fn a_merge_fits_where_it_begins()
+    ensures { (s : SnapshotValue) (ids : List ℕ) → IsSnapshot s → names_fault s.entries ids ≡ None →
+        Fits (merged_of (entries_at s.entries ids)) s }
 {}

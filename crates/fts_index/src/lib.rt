@@ -8,6 +8,8 @@
 //!   never changes: a commit or a merge makes another one, which shares all that stays, so a refusal leaves everything as it
 //!   was, and who holds a snapshot keeps it. What a commit does to each segment is a job of its own ([`CommitJob`]), which
 //!   any thread may run.
+//! - A merge can end later: [`Writer::begin_merge`] gives a [`MergeJob`], which any thread may run beside the writer, and
+//!   [`Writer::end_merge`] puts the [`MergedSegment`] in place of its sources, with the live bits that these have by then.
 //! - Commits are *published* ([`publications`]). A [`Reader`] in any thread takes the newest one by one look, without a lock,
 //!   and never goes back; a [`Searcher`] keeps the one that it was made of.
 //! - A search asks each segment by a job of its own, and joins what these tell ([`Searcher::search`]).
@@ -32,13 +34,18 @@
 #![tactic(auto)]
 
 mod batch;
+mod beginning;
 mod committing;
 mod cut;
+mod ending;
 mod entry;
 mod group;
 mod jobs;
 mod lane;
 pub mod laws;
+mod lookup;
+mod merge_job;
+mod merged_segment;
 mod merging;
 mod new_segment;
 mod numbers;
@@ -55,6 +62,8 @@ pub use cut::Cut;
 pub use entry::{Entry, SegmentInfo};
 pub use jobs::CommitJob;
 pub use lane::{Lane, LaneEnd};
+pub use merge_job::MergeJob;
+pub use merged_segment::MergedSegment;
 pub use publications::{CommitSeen, Publisher, Reader, Searcher};
 pub use round::{Round, open_round};
 pub use searching::Found;

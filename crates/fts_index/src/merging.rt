@@ -61,7 +61,7 @@ fn mark(entries: &[Entry], marks: &mut Vec<bool>, id: u64) -> Option<Refusal>
 
 /// A mark for each segment, whether its number is among these; or what is wrong with the numbers: there is none, or the first
 /// that no segment has or that stands before.
-fn marks_of(alloc: Global, entries: &[Entry], ids: &[u64]) -> Result<Vec<bool>, Refusal>
+pub(crate) fn marks_of(alloc: Global, entries: &[Entry], ids: &[u64]) -> Result<Vec<bool>, Refusal>
     requires { IdsRise entries.now }
     ensures { Gives (λ marks. marks.items) result
         (ok_unless (names_fault entries.now ids.now) (marks_of entries.now ids.now)) }
@@ -74,6 +74,35 @@ fn marks_of(alloc: Global, entries: &[Entry], ids: &[u64]) -> Result<Vec<bool>, 
         if let Some(fault) = mark(entries, &mut marks, *id) {
             return Err(fault);
         }
+    }
+    Ok(marks)
+}
+
+/// Marks the segment of this number, if there is one.
+fn mark_there(entries: &[Entry], marks: &mut Vec<bool>, id: u64)
+    requires rise { IdsRise entries.now }
+    requires count { vec_len marks.old ≡ length entries.now }
+    ensures count { vec_len marks.new ≡ length entries.now }
+    ensures marks { (before : List ℕ) → marks.old.items ≡ marks_of entries.now before →
+        marks.new.items ≡ marks_of entries.now (before ++ id ∷ []) }
+{
+    if let Some(place) = place_of(entries, id) {
+        marks[place] = true;
+    }
+}
+
+/// A mark for each segment, whether its number is among these, of which some may be gone.
+pub(crate) fn marks_there(
+    alloc: Global,
+    entries: &[Entry],
+    ids: &[u64],
+) -> Result<Vec<bool>, AllocError>
+    requires { IdsRise entries.now }
+    ensures { IfOk result (λ marks. marks.items ≡ marks_of entries.now ids.now) }
+{
+    let mut marks = vec![in alloc; false; entries.len()]?;
+    for id in ids {
+        mark_there(entries, &mut marks, *id);
     }
     Ok(marks)
 }
@@ -113,7 +142,11 @@ fn sources<'a>(
 }
 
 /// The segments that aren't marked.
-fn others(alloc: Global, entries: &[Entry], marks: &[bool]) -> Result<Vec<Entry>, AllocError>
+pub(crate) fn others(
+    alloc: Global,
+    entries: &[Entry],
+    marks: &[bool],
+) -> Result<Vec<Entry>, AllocError>
     requires { length marks.now ≡ length entries.now }
     ensures { IfOk result (λ others. (ids : List ℕ) → marks.now ≡ marks_of entries.now ids →
         others.items ≡ without entries.now ids) }

@@ -31,6 +31,7 @@ mod name;
 mod publication;
 mod publisher;
 mod reader;
+mod schemas;
 mod searcher;
 mod shown;
 

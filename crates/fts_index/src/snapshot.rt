@@ -6,12 +6,20 @@ ghost use Rattle.fts_index.specs.Entries.{content};
 ghost use Rattle.fts_index.specs.Infos.{info_of, candidate_ids};
 ghost use Rattle.fts_index.specs.Cuts.{IsCut};
 ghost use Rattle.fts_index.specs.Commits.{misfit};
+ghost use Rattle.fts_index.specs.Merges.{entries_at, names_fault};
+ghost use Rattle.fts_index.specs.MergedSegments.{merged_of};
+ghost use Rattle.fts_index.specs.Following.{Fits};
+ghost use Rattle.fts_index.specs.LateMerges.{end_fault, after_end};
 ghost use Rattle.fts_index.specs.Snapshots.{IsBehind, IsSnapshot, after_commit, commit_fault, after_merge, merge_fault};
 
+use crate::beginning::begun;
 use crate::committing::{entries_of_jobs, jobs_of_batch};
 use crate::cut::Cut;
+use crate::ending::end_entries;
 use crate::entry::{Entry, SegmentInfo};
 use crate::group::groups;
+use crate::merge_job::MergeJob;
+use crate::merged_segment::MergedSegment;
 use crate::merging::merge_entries;
 use crate::numbers::are_used_up;
 use crate::planning::candidates;
@@ -123,6 +131,40 @@ impl Snapshot {
         ensures content { IfOk result (λ new. content new.entries ≡ content self.now.entries) }
     {
         let entries = merge_entries(alloc, &self.entries, ids, self.next_id)?;
+        let schema = self.schema.clone()?;
+        Ok(Snapshot {
+            schema,
+            entries,
+            next_id: self.next_id + 1,
+        })
+    }
+
+    /// Begins a merge of the segments of these numbers, in their order, which keeps them with their live bits as they are.
+    ///
+    /// `NoSegments` for an empty list; then at the first bad place `UnknownSegment`, or `SegmentTwice` where the number stands
+    /// before.
+    pub fn begin_merge(&self, alloc: Global, ids: &[u64]) -> Result<MergeJob, Refusal>
+        ensures job { Gives (λ job. job) result (ok_unless (names_fault self.now.entries ids.now) (entries_at self.now.entries ids.now)) }
+        ensures fits { IfOk result (λ job. Fits (merged_of job) self.now) }
+    {
+        let entries = begun(alloc, &self.entries, ids)?;
+        Ok(MergeJob::new(entries))
+    }
+
+    /// The snapshot with a merged segment in place of its sources, under the next number. Its live bits are those that its
+    /// sources have here, and where none is left the segment isn't there.
+    ///
+    /// `SourceGone` with the first source that isn't here, where none is here, or where one that isn't here has a document that
+    /// is live in another segment; then `StampsUsedUp` where the next number would reach 2^62.
+    pub fn end_merge(&self, alloc: Global, merged: &MergedSegment) -> Result<Snapshot, Refusal>
+        requires { Fits merged.now self.now }
+        ensures snapshot { Gives (λ new. new) result (ok_unless (end_fault self.now.next_id merged.now self.now.entries) (after_end merged.now self.now)) }
+        ensures content { IfOk result (λ new. content new.entries ≡ content self.now.entries) }
+    {
+        let entries = match end_entries(alloc, &self.entries, merged, self.next_id) {
+            Ok(entries) => entries,
+            Err(refusal) => return Err(refusal),
+        };
         let schema = self.schema.clone()?;
         Ok(Snapshot {
             schema,

@@ -1,5 +1,5 @@
 // The writer of an index: it opens rounds, commits their batches, merges segments, and publishes what these leave.
-ghost use Rattle.std.specs.Prelude.{◌≡◌, ◌+◌, ◌*◌, ◌^◌, ◌<◌, ◌≤◌, ◌⊎◌, ◌++◌, [], ◌∷◌, List, Some, None, Ok, IfOk, IfErr, OnOk, OnErr, IsOkUnless, map, length, option_map};
+ghost use Rattle.std.specs.Prelude.{◌≡◌, ◌+◌, ◌*◌, ◌^◌, ◌<◌, ◌≤◌, ◌⊎◌, ◌↔◌, ◌++◌, [], ◌∷◌, List, IsTrue, Some, None, Ok, IfOk, IfErr, OnOk, OnErr, IsOkUnless, map, length, option_map};
 ghost use Rattle.std.specs.List.{range_with_len};
 ghost use Rattle.fts_model.specs.Operations.{alive, adds};
 ghost use Rattle.fts_index.specs.Rounds.{fresh};
@@ -7,13 +7,18 @@ ghost use Rattle.fts_index.specs.Cuts.{IsCut};
 ghost use Rattle.fts_index.specs.Commits.{misfit};
 ghost use Rattle.fts_index.specs.Infos.{info_of, candidate_ids};
 ghost use Rattle.fts_index.specs.Snapshots.{content_of, merge_fault};
-ghost use Rattle.fts_index.specs.Publications.{opening};
-ghost use Rattle.fts_index.specs.Writers.{IsRefusedFor, next_round, with_round, without_round, round_fault, is_of, batch_fault, stamp_behind, with_commit, with_merge};
+ghost use Rattle.fts_index.specs.Merges.{entries_at, names_fault};
+ghost use Rattle.fts_index.specs.MergedSegments.{merged_of};
+ghost use Rattle.fts_index.specs.Following.{Follows, Fits};
+ghost use Rattle.fts_index.specs.Publications.{opening, IsOneCommit};
+ghost use Rattle.fts_index.specs.Writers.{IsRefusedFor, next_round, with_round, without_round, round_fault, is_of, batch_fault, stamp_behind, with_commit, with_merge, late_fault, with_end};
 
 use crate::batch::Batch;
 use crate::cut::Cut;
 use crate::entry::SegmentInfo;
 use crate::lane::Lane;
+use crate::merge_job::MergeJob;
+use crate::merged_segment::MergedSegment;
 use crate::publications::{CommitSeen, Publisher, Reader, Searcher};
 use crate::round::{Round, open_round};
 use crate::snapshot::Snapshot;
@@ -118,6 +123,14 @@ impl Writer {
         ensures memory { IsOkUnless result Refusal.Memory }
     {
         self.publisher.searcher()
+    }
+
+    /// Whether a searcher, which a reader of this writer made, searches the last commit.
+    pub fn is_last(&self, searcher: &Searcher) -> bool
+        requires { searcher.now.seen.of ≡ self.now.front.seen.of }
+        ensures { IsTrue result ↔ IsOneCommit searcher.now self.now.front }
+    {
+        self.publisher.is_last(searcher)
     }
 
     /// Opens a round of so many lanes, 1 to 64, each of which takes up to `cap` operations, 1 to 1,000,000. Its first stamp is the
@@ -241,6 +254,54 @@ impl Writer {
         let merged = self.publisher.snapshot().merge(alloc, ids)?;
         self.publisher.publish_again(rt, alloc, merged)?;
         Ok(())
+    }
+
+    /// Begins a merge of the segments of these numbers, in their order, which may be run in another thread and ended here later.
+    ///
+    /// `NoSegments` for an empty list; then at the first bad place `UnknownSegment`, or `SegmentTwice` where the number stands
+    /// before.
+    pub fn begin_merge(&self, alloc: Global, ids: &[u64]) -> Result<MergeJob, Refusal>
+        ensures job { IfOk result (λ job.
+            job ≡ entries_at self.now.front.snapshot.entries ids.now) }
+        ensures fits { IfOk result (λ job. Fits (merged_of job) self.now.front.snapshot) }
+        ensures refused { IsRefusedFor
+            (names_fault self.now.front.snapshot.entries ids.now) result }
+    {
+        self.publisher.snapshot().begin_merge(alloc, ids)
+    }
+
+    /// Ends a merge that was begun on this writer: the merged segment takes the place of its sources under the next number. What
+    /// was struck since the merge was begun is struck in it, and what is found stays as it was.
+    ///
+    /// `SourceGone` with the first source that isn't in the last commit, where none is, or where one that isn't there has a
+    /// document that is live in another segment; then `StampsUsedUp` where the new segment's number would reach 2^62. A refusal
+    /// leaves everything as it was, and hands the merged segment back.
+    pub fn end_merge<R: Wait>(
+        &mut self,
+        rt: &R,
+        alloc: Global,
+        merged: MergedSegment,
+    ) -> Result<CommitSeen, (MergedSegment, Refusal)>
+        requires fits { Fits merged self.old.front.snapshot }
+        ensures writer { OnOk result (self.new ≡ with_end merged self.old) }
+        ensures can { OnOk result (late_fault merged self.old ≡ None) }
+        ensures refused { IfErr result (λ e.
+            (e.1 ≡ Refusal.Memory) ⊎ (late_fault merged self.old ≡ Some e.1)) }
+        ensures content { OnOk result
+            (content_of self.new.front.snapshot ≡ content_of self.old.front.snapshot) }
+        ensures seen { IfOk result (λ seen. seen ≡ self.new.front.seen) }
+        ensures follows { Follows self.old.front.snapshot self.new.front.snapshot }
+        ensures same { OnErr result (self.new ≡ self.old) }
+        ensures handed_back { IfErr result (λ e. e.0 ≡ merged) }
+    {
+        let next = match self.publisher.snapshot().end_merge(alloc, &merged) {
+            Ok(next) => next,
+            Err(refusal) => return Err((merged, refusal)),
+        };
+        match self.publisher.publish_again(rt, alloc, next) {
+            Ok(seen) => Ok(seen),
+            Err(refusal) => Err((merged, refusal)),
+        }
     }
 
     /// A reader for another thread, which knows all that was published so far. `NoReader` where there are 64.

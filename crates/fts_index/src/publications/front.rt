@@ -1,16 +1,17 @@
 // A snapshot at its commit stamp, with the publications that were seen when it was taken: what publishers, readers and
 // searchers each hold.
-ghost use Rattle.std.specs.Prelude.{◌≡◌, ◌<◌, ◌≤◌, ◌^◌, ◌⊎◌, [], ◌∷◌, IfOk, IfSome, MatchOption, length};
+ghost use Rattle.std.specs.Prelude.{◌≡◌, ◌<◌, ◌≤◌, ◌^◌, ◌⊎◌, ◌↔◌, [], ◌∷◌, IsTrue, IfOk, IfSome, MatchOption, length};
 ghost use Rattle.std.specs.Arc.{arc_value};
 ghost use mathlib.Core.List.{IsPrefix};
 ghost use Rattle.fts_index.specs.Entries.{content};
 ghost use Rattle.fts_index.specs.Snapshots.{content_of};
-ghost use Rattle.fts_index.specs.Publications.{opening, publication, published, Follows, IsFront};
+ghost use Rattle.fts_index.specs.Publications.{opening, publication, published, Follows, IsFront, IsOneCommit};
 ghost use Rattle.fts_index.specs.PublicationsHistory.{head_of};
 
 use crate::publications::commit::Commit;
 use crate::publications::history::{Append, Head, History, Nothing, SeenList};
 use crate::publications::publication::Publication;
+use crate::publications::schemas::are_same;
 use crate::snapshot::Snapshot;
 use fts_model::Stamp;
 use logbook::{Offer, Seen, Start, Word};
@@ -147,6 +148,19 @@ impl Front {
         if self.count < other.count {
             *self = other;
         }
+    }
+
+    /// Whether both are of one commit. One writer's stamps tell that, but for the schema.
+    pub fn is_of_commit(&self, other: &Front) -> bool
+        requires { other.now.seen.of ≡ self.now.seen.of }
+        ensures { IsTrue result ↔ IsOneCommit self.now other.now }
+    {
+        let mut both = self.seen.again();
+        both.learn(&other.seen);
+        if self.stamp() != other.stamp() {
+            return false;
+        }
+        are_same(self.snapshot().schema(), other.snapshot().schema())
     }
 
     /// The stamp of the commit.

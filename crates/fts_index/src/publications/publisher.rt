@@ -1,9 +1,9 @@
 // The part of a writer that publishes. It alone changes the list of publications.
-ghost use Rattle.std.specs.Prelude.{◌≡◌, ◌<◌, ◌^◌, ◌⊎◌, [], ◌∷◌, ◌++◌, Some, IfOk, IfErr, OnOk, OnErr, IsOkUnless, MatchResult, length};
+ghost use Rattle.std.specs.Prelude.{◌≡◌, ◌<◌, ◌^◌, ◌⊎◌, ◌↔◌, [], ◌∷◌, ◌++◌, Some, IsTrue, IfOk, IfErr, OnOk, OnErr, IsOkUnless, MatchResult, length};
 ghost use Rattle.std.specs.Arc.{arc_value};
 ghost use Rattle.fts_index.specs.Entries.{content};
 ghost use Rattle.fts_index.specs.Snapshots.{content_of};
-ghost use Rattle.fts_index.specs.Publications.{opening, newest, publication, published, Follows, IsFront};
+ghost use Rattle.fts_index.specs.Publications.{opening, newest, publication, published, Follows, IsFront, IsOneCommit};
 ghost use Rattle.fts_index.specs.PublicationsShown.{name_of, told_name};
 
 use crate::publications::commit::Commit;
@@ -132,6 +132,14 @@ impl Publisher {
     {
         let front = self.front.again()?;
         Ok(Searcher { front })
+    }
+
+    /// Whether a searcher of this publisher's searches the newest commit.
+    pub fn is_last(&self, searcher: &Searcher) -> bool
+        requires { searcher.now.seen.of ≡ self.now.seen.of }
+        ensures { IsTrue result ↔ IsOneCommit searcher.now self.now }
+    {
+        searcher.front.is_of_commit(&self.front)
     }
 
     /// A reader that knows all publications so far. `NoReader` where there are 64 already; one that is dropped makes room for

@@ -1,5 +1,5 @@
 -- What is left of the proof of `jobs::fresh`.
-use Rattle.std.proofs.Common.{◌≡◌, ◌≤◌, true, length, replicate, refl, sym, ap, subst, ◌∙◌}
+use Rattle.std.proofs.Common.{◌≤◌, true, length, replicate, refl, sym, ap, subst, ◌∙◌}
 use Rattle.fts_model.specs.Operations.{survives}
 use Rattle.fts_segment.specs.Segments.{SegmentValue}
 use Rattle.fts_merge.specs.Strikes.{bits_after}

@@ -1,5 +1,5 @@
 -- What is left of the proof of `jobs::struck`.
-use Rattle.std.proofs.Common.{◌≡◌, [], length, sym, ap, subst, ◌∙◌, arith}
+use Rattle.std.proofs.Common.{sym, ap, subst, ◌∙◌, arith}
 use Rattle.std.proofs.lemmas.Bool.Decides.{nat_tests}
 use Rattle.fts_merge.specs.Strikes.{bits_after}
 use Rattle.fts_index.specs.Entries.{IsEntry}

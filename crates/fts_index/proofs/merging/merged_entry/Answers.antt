@@ -1,12 +1,12 @@
 -- What is left of the proof of `merging::merged_entry`.
-use Rattle.std.proofs.Common.{◌≡◌, ◌≤◌, true, Ok, length, map, replicate, refl, sym, ap, subst, ◌∙◌, arith}
+use Rattle.std.proofs.Common.{◌≡◌, true, Ok, length, replicate, refl, sym, ap, subst, ◌∙◌, arith}
 use Rattle.fts_segment.specs.Segments.{SegmentValue}
 use Rattle.fts_model.specs.Results.{ok_unless}
-use Rattle.fts_merge.specs.Merges.{schema_of, live_count, contents, merge_of}
+use Rattle.fts_merge.specs.Merges.{schema_of, live_count, contents}
 use Rattle.fts_merge.proofs.MergingLemmas.{length-contents}
 use Rattle.fts_index.specs.Entries.{IsEntry}
-use Rattle.fts_index.specs.Merges.{whole, size_fault}
-use Rattle.fts_index.proofs.EntryLemmas.{entry_with, same_entry}
+use Rattle.fts_index.specs.Merges.{whole}
+use Rattle.fts_index.proofs.EntryLemmas.{same_entry}
 use Rattle.fts_index.proofs.SnapshotLemmas.{entry_whole}
 use Rattle.fts_index.proofs.SourceLemmas.{all_set, not_large, size_none}
 use Rattle.fts_index.proofs.merging.merged_entry.Goals as goal

@@ -1,5 +1,5 @@
 -- What is left of the proof of `planning::ids_at`.
-use Rattle.std.proofs.Common.{◌+◌, ◌∷◌, [], ◌++◌, get_or, map, take, sym, ap, ◌∙◌, arith}
+use Rattle.std.proofs.Common.{◌∷◌, [], ◌++◌, get_or, map, take, sym, ap, ◌∙◌}
 use Rattle.std.proofs.lemmas.List.{map-append, take_more}
 use Rattle.fts_index.specs.Infos.{id_at}
 use Rattle.fts_index.proofs.PlanLemmas.{id_at-within}

@@ -6,7 +6,7 @@ use Rattle.fts_index.specs.Entries.{EntryValue, has_live, content}
 use Rattle.fts_index.specs.Cuts.{groups_of}
 use Rattle.fts_index.specs.Jobs.{entry_of}
 use Rattle.fts_index.specs.Commits.{struck, fresh_from, committed, misfit}
-use Rattle.fts_index.specs.Snapshots.{SnapshotValue, IsBehind, IsSnapshot, after_commit}
+use Rattle.fts_index.specs.Snapshots.{SnapshotValue, IsBehind, IsSnapshot}
 use Rattle.fts_segment.specs.Segments.{AllFit}
 use Rattle.fts_index.proofs.CommitLemmas.{content-committed}
 use Rattle.fts_index.proofs.FitLemmas.{groups_fit}

@@ -1,7 +1,6 @@
 -- What is left of the proof of `snapshot::Snapshot::merge`.
 use Rattle.std.proofs.Common.{◌≡◌, ◌+◌, ℕ, None, Ok, List, map, refl, sym, ap, subst, ◌∙◌}
 use Rattle.std.proofs.lemmas.List.Elements.{recursion_from_All}
-use Rattle.fts_model.specs.declared.schema.Field.{Field}
 use Rattle.fts_model.specs.Results.{ok_unless}
 use Rattle.fts_merge.specs.Merges.{AreOfOneSchema, schema_of}
 use Rattle.fts_index.specs.Entries.{EntryValue, content}
@@ -13,7 +12,7 @@ use Rattle.fts_index.proofs.OrderLemmas.{rises_from_pairs}
 use Rattle.fts_index.proofs.CommitLemmas.{by_stamp}
 use Rattle.fts_index.proofs.MergeLemmas.{names_given, content-merged}
 use Rattle.fts_index.proofs.SnapshotLemmas.{snapshot_after_merge, snapshot_with, same_snapshot}
-use Rattle.fts_index.proofs.SourceLemmas.{snapshot_schema, schema_of-sources, some_entries, unless_ok, CanMerge, can_merge}
+use Rattle.fts_index.proofs.SourceLemmas.{snapshot_schema, schema_of-sources, some_entries, unless_ok, can_merge}
 use Rattle.fts_index.proofs.snapshot.Snapshot.merge.Goals as goal
 
 -- the segments that a merge was said to leave, by the schema of a snapshot
