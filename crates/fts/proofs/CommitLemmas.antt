@@ -1,5 +1,5 @@
 -- A commit of a writer, as an engine sees it.
-use Rattle.std.proofs.Common.{◌≡◌, ◌+◌, ◌*◌, ◌^◌, ◌<◌, ◌≤◌, ◌≢◌, ◌⊎◌, inl, inr, ℕ, zero, suc, Bool, true, false, cond, Option, None, Some, List, [], ◌∷◌, ◌++◌, length, map, filter, nat_le, refl, sym, ap, subst, ◌∙◌, arith}
+use Rattle.std.proofs.Common.{◌≡◌, ◌+◌, ◌*◌, ◌^◌, ◌<◌, ◌≤◌, ◌⊎◌, inl, inr, ℕ, zero, suc, Bool, true, false, cond, Option, None, Some, List, [], ◌∷◌, ◌++◌, length, map, filter, nat_le, refl, sym, ap, subst, ◌∙◌, arith}
 use Rattle.std.proofs.lemmas.Bool.Decides.{nat_tests}
 use Rattle.std.proofs.lemmas.List.{length-append, length-map}
 use Rattle.fts_model.specs.declared.operation.Op.{Op}
@@ -80,6 +80,7 @@ commits_batch cut batch ops old mid new same is same_ops first fine content =
       schema = ap (λ (w : WriterValue). w.front.snapshot.schema) is;
       documents = content;
       stamp = ap (λ (w : WriterValue). w.front.stamp) is ∙ omega (arith, first);
+      of = ap (λ (w : WriterValue). w.front.seen.of) is;
       segments = subst (λ (w : WriterValue). segments_of w ≤ segments_of mid + 2 * length batch.ops) (sym is) more;
       room = subst (λ (w : WriterValue). w.front.snapshot.next_id < 2 ^ 62) (sym is) room;
     } in
@@ -88,6 +89,7 @@ commits_batch cut batch ops old mid new same is same_ops first fine content =
       schema = there.schema ∙ ap (λ f. f.snapshot.schema) same;
       documents = subst (λ f. content_of new.front.snapshot ≡ alive f.snapshot.schema (adds (content_of f.snapshot) ++ ops)) same there.documents;
       stamp = subst (λ f. new.front.stamp ≡ f.stamp + length ops + 1) same there.stamp;
+      of = there.of ∙ ap (λ f. f.seen.of) same;
       segments = subst (λ f. segments_of new ≤ f.snapshot.next_id + length f.snapshot.entries + 2 * length ops) same there.segments;
       room = there.room;
     }

@@ -1,7 +1,6 @@
 -- What is read under a schema fits it.
-use Rattle.std.proofs.Common.{◌≡◌, ◌&&◌, ◌∷◌, ◌∙◌, ℕ, Bool, true, false, cond, List, [], length, Option, None, Some, Result, Ok, Err, IfOk, map, refl, sym, ap, subst, option_map, nat_le}
+use Rattle.std.proofs.Common.{◌≡◌, ◌&&◌, ◌∷◌, ◌∙◌, ℕ, true, false, cond, List, [], length, Option, None, Some, Result, Ok, Err, IfOk, map, refl, ap, subst, option_map, nat_le}
 use Rattle.std.specs.Option.{ok_or, option_and_then, option_map_or}
-use Rattle.std.specs.Str.{bytes_eq}
 use Rattle.std.proofs.lemmas.Slice.Eq.{bytes_eq-Decides}
 use Rattle.serde_json.specs.Data.{Data, null, boolean, number, string, array, object, Members}
 use Rattle.serde_json.specs.Find.{as_u64, as_i64, get_member}

@@ -8,5 +8,7 @@ pub mod FitLemmas
 pub mod HistoryLemmas
 pub mod LineLemmas
 pub mod MergeLemmas
+pub mod ParseLemmas
+pub mod RangeLemmas
 pub mod RunLemmas
 pub mod StreamLemmas

@@ -1,5 +1,5 @@
 -- A merge of a writer, as an engine sees it.
-use Rattle.std.proofs.Common.{◌≡◌, ◌+◌, ◌*◌, ◌^◌, ◌<◌, ◌≤◌, ◌≢◌, ◌==◌, ◌||◌, ◌⊎◌, inl, inr, ℕ, Bool, true, false, cond, not, Option, None, Some, List, [], ◌∷◌, ◌++◌, length, map, filter, sum_by, nat_le, nat_lt, refl, sym, ap, subst, ◌∙◌, arith}
+use Rattle.std.proofs.Common.{◌≡◌, ◌+◌, ◌^◌, ◌<◌, ◌≤◌, ◌≢◌, ◌==◌, ◌||◌, ℕ, true, false, cond, not, Option, None, Some, List, [], ◌∷◌, ◌++◌, length, map, filter, sum_by, nat_le, nat_lt, refl, sym, ap, subst, ◌∙◌, arith}
 use Rattle.std.specs.List.{AllByRecursion, flat_map}
 use Rattle.std.proofs.lemmas.Bool.Decides.{nat_tests}
 use Rattle.std.proofs.lemmas.List.{length-append, length-map}
@@ -7,7 +7,7 @@ use Rattle.std.proofs.lemmas.List.Elements.{recursion_from_All}
 use Rattle.std.proofs.lemmas.List.Sorted.{length_permutation}
 use Rattle.std.proofs.lemmas.List.Sums.{sum_by-cons}
 use Rattle.fts_model.specs.declared.refusal.Refusal.{Refusal}
-use Rattle.fts_model.specs.declared.refusal.Refusal.TheVariants.{Memory, TooLarge, StampsUsedUp, UnknownSegment, SegmentTwice}
+use Rattle.fts_model.specs.declared.refusal.Refusal.TheVariants.{TooLarge, StampsUsedUp, UnknownSegment, SegmentTwice}
 use Rattle.fts_model.specs.Results.{first_of}
 use Rattle.fts_index.specs.Commits.{numbers_fault}
 use Rattle.fts_index.specs.Entries.{EntryValue, IsEntry, live_in, live_count, content}
@@ -15,9 +15,8 @@ use Rattle.fts_index.specs.Infos.{info_of}
 use Rattle.fts_index.specs.declared.entry.SegmentInfo.{SegmentInfo}
 use Rattle.fts_index.specs.Merges.{is_among, is_there, entry_at, entries_at, without, fault_behind, names_fault, size_fault, merge_fault}
 use Rattle.fts_index.specs.Snapshots.{SnapshotValue, IsSnapshot, content_of}
-use Rattle.fts_index.specs.Snapshots as snapshots
 use Rattle.fts_index.specs.Writers.{WriterValue, with_merge}
-use Rattle.fts_index.proofs.MergeLemmas.{AreDifferent, AreNamed, names_given}
+use Rattle.fts_index.proofs.MergeLemmas.{AreDifferent, names_given}
 use Rattle.fts_index.proofs.OrderLemmas.{Rises, rises_from_pairs, permutation_in_order}
 use Rattle.fts_index.proofs.SnapshotLemmas.{length-live_in}
 use Rattle.fts.proofs.CommitLemmas.{below_numbers}
@@ -90,6 +89,7 @@ merges_named more ids old new is fine same enough =
       schema = ap (λ (w : WriterValue). w.front.snapshot.schema) is;
       documents = same;
       stamp = ap (λ (w : WriterValue). w.front.stamp) is;
+      of = ap (λ (w : WriterValue). w.front.seen.of) is;
       rounds = ap (λ (w : WriterValue). w.rounds) is;
       round = ap (λ (w : WriterValue). w.round) is;
       segments = subst (λ (w : WriterValue). segments_of w ≤ segments_of old + more) (sym is) counted;
@@ -98,7 +98,7 @@ merges_named more ids old new is fine same enough =
 
 -- a writer that stays as it is
 pub merges_nothing : (more : ℕ) (w : WriterValue) → w.front.snapshot.next_id < 2 ^ 62 → Merges more w w
-merges_nothing more w room = record { schema = refl; documents = refl; stamp = refl; rounds = refl; round = refl; segments = omega arith; room = room }
+merges_nothing more w room = record { schema = refl; documents = refl; stamp = refl; of = refl; rounds = refl; round = refl; segments = omega arith; room = room }
 
 -- merges one behind the other
 pub merges_then : (a b c : WriterValue) → Merges 0 a b → Merges 0 b c → Merges 0 a c
@@ -106,6 +106,7 @@ merges_then a b c ab bc = record {
   schema = bc.schema ∙ ab.schema;
   documents = bc.documents ∙ ab.documents;
   stamp = bc.stamp ∙ ab.stamp;
+  of = bc.of ∙ ab.of;
   rounds = bc.rounds ∙ ab.rounds;
   round = bc.round ∙ ab.round;
   segments = omega (arith, ab.segments, bc.segments);

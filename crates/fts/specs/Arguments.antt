@@ -1,43 +1,44 @@
 -- What the words of a command line ask for, and what a fault makes the exit status.
-use Rattle.std.specs.Prelude.{ℕ, ◌≡◌, ◌≢◌, ◌⊎◌, true, Result, Ok, Err, List, [], codes}
-use Rattle.clap.specs.Kinds.{IsAmong, Kinds}
+use Rattle.std.specs.Prelude.{ℕ, ◌≡◌, ◌≢◌, ◌⊎◌, IfOk, Result, Ok, Err, None, List, []}
+use Rattle.clap.specs.Kinds.{FailsBy, IsAmong, Kinds}
 use Rattle.clap.specs.Faults.{fault_of}
-use Rattle.clap.specs.Simple.{App, new_app, on_top, with_subcommand}
+use Rattle.clap.specs.Walk.{Text}
+use Rattle.clap.specs.declared.error.Error.{Error}
 use Rattle.clap.specs.declared.error.kind.ErrorKind.{ErrorKind}
 use Rattle.clap.specs.declared.error.kind.ErrorKind.TheVariants.{DisplayHelp, DisplayVersion}
+use Rattle.clap.specs.declared.parser.matches.ArgMatches.{ArgMatches}
+use Rattle.fts.specs.RunOptions.{AreGiven, Places, command, cut_given, given_in, given_to_run}
 use Rattle.fts.specs.declared.script.fault.Fault.{Fault}
 use Rattle.fts.specs.declared.script.fault.Fault.TheVariants.{Memory, Read, Write, StampsUsedUp}
 use Rattle.fts.specs.declared.cli.args.ArgFault.{ArgFault}
 use Rattle.fts.specs.declared.cli.args.ArgFault.TheVariants as refused
 use Rattle.fts.specs.declared.cli.args.Asked.{Asked}
 use Rattle.fts.specs.declared.cli.args.Asked.TheVariants.{Run, Help}
-use Rattle.fts.specs.DefaultOptions.{AreDefault}
-
--- `fts`, which requires a subcommand
-abbrev pub required : App → App
-required = on_top (λ shape. record shape { subcommand_required = true })
-
--- an application that tells its version
-abbrev pub versioned : App → App
-versioned = on_top (λ shape. record shape { has_version = true })
-
--- the program's command, as clap's definitions see it: `fts` with the subcommand `run`
-abbrev pub command : App
-command = with_subcommand (required (versioned (new_app (codes "fts")))) (new_app (codes "run")).top
 
 -- by clap's definitions: what is wrong with the words, or asked for in place of a run
-unfoldable pub faults_of : List (List ℕ) → Kinds
-faults_of words = fault_of command words
+unfoldable pub faults_of : Places → List Text → Kinds
+faults_of places words = fault_of (command places) words
 
--- what is asked for by words with these faults
-abbrev pub Asks : Kinds → Asked → Type 0
-Asks faults (Run options) = (faults ≡ []) × AreDefault options
-Asks faults (Help text) = IsAmong DisplayHelp faults ⊎ IsAmong DisplayVersion faults
+-- what clap makes of the words, as its definitions say: the faults, or what `run` is given
+abbrev pub Parses : List Text → Result ArgMatches Error → Type 0
+Parses words result = (places : Places) × FailsBy (faults_of places words) result
+    × IfOk result (λ m. given_in m ≡ given_to_run places words)
 
--- why words with these faults ask for nothing
-abbrev pub Refuses : Kinds → ArgFault → Type 0
-Refuses faults refused.Memory = Unit {0}
-Refuses faults (refused.Usage text) = (kind : ErrorKind) × IsAmong kind faults × (kind ≢ DisplayHelp) × (kind ≢ DisplayVersion)
+-- what is asked for by these words
+abbrev pub Asks : List Text → Asked → Type 0
+Asks words (Run options) = (places : Places) × (faults_of places words ≡ [])
+    × AreGiven (given_to_run places words) options
+Asks words (Help text) = (places : Places)
+    × (IsAmong DisplayHelp (faults_of places words)
+    ⊎ IsAmong DisplayVersion (faults_of places words))
+
+-- Why these words ask for nothing: clap finds a fault, or finds none and both `--runs` and `--deal` are given.
+abbrev pub Refuses : List Text → ArgFault → Type 0
+Refuses words refused.Memory = Unit {0}
+Refuses words (refused.Usage text) = (places : Places) × (kind : ErrorKind)
+    × IsAmong kind (faults_of places words) × (kind ≢ DisplayHelp) × (kind ≢ DisplayVersion)
+Refuses words refused.TwoCuts = (places : Places) × (faults_of places words ≡ [])
+    × (cut_given (given_to_run places words) ≡ None)
 
 -- the exit status of a run that stopped
 abbrev pub status_of : Fault → ℕ
@@ -55,3 +56,4 @@ run_status_of (Err fault) = status_of fault
 abbrev pub arg_status_of : ArgFault → ℕ
 arg_status_of refused.Memory = 3
 arg_status_of (refused.Usage text) = 2
+arg_status_of refused.TwoCuts = 2

@@ -10,6 +10,7 @@ pub mod ListIndexes
 pub mod Lists
 pub mod Outputs
 pub mod Replies
+pub mod RunOptions
 pub mod Runs
 pub mod Sessions
 pub mod Steps

@@ -1,10 +1,11 @@
 -- An index over a writer of segments, and the operations that wait for its next commit.
-use Rattle.std.specs.Prelude.{◌≡◌, ℕ, ◌+◌, ◌*◌, ◌^◌, ◌<◌, ◌≤◌, None, List, ◌++◌, length}
+use Rattle.std.specs.Prelude.{◌≡◌, ℕ, ◌+◌, ◌*◌, ◌^◌, ◌<◌, ◌≤◌, Option, Some, None, List, ◌++◌, length}
 use Rattle.fts_model.specs.declared.operation.Op.{Op}
 use Rattle.fts_model.specs.declared.operation.Stamped.{Stamped}
 use Rattle.fts_model.specs.Operations.{alive, adds}
 use Rattle.fts_index.specs.Snapshots.{content_of}
 use Rattle.fts_index.specs.Commits.{misfit}
+use Rattle.fts_index.specs.Publications.{Known}
 use Rattle.fts_index.specs.Writers.{WriterValue}
 use Rattle.fts.specs.Indexes.{Index}
 use Rattle.fts.specs.declared.engine.waiting.Waiting.{Waiting}
@@ -28,6 +29,7 @@ pub record Commits (ops : List (Stamped Op)) (old new : WriterValue) : Type 0 wh
   pub schema : new.front.snapshot.schema ≡ old.front.snapshot.schema
   pub documents : content_of new.front.snapshot ≡ alive old.front.snapshot.schema (adds (content_of old.front.snapshot) ++ ops)
   pub stamp : new.front.stamp ≡ old.front.stamp + length ops + 1
+  pub of : new.front.seen.of ≡ old.front.seen.of
   pub segments : segments_of new ≤ segments_of old + 2 * length ops
   pub room : new.front.snapshot.next_id < 2 ^ 62
 
@@ -36,14 +38,20 @@ pub record Merges (more : ℕ) (old new : WriterValue) : Type 0 where
   pub schema : new.front.snapshot.schema ≡ old.front.snapshot.schema
   pub documents : content_of new.front.snapshot ≡ content_of old.front.snapshot
   pub stamp : new.front.stamp ≡ old.front.stamp
+  pub of : new.front.seen.of ≡ old.front.seen.of
   pub rounds : new.rounds ≡ old.rounds
   pub round : new.round ≡ old.round
   pub segments : segments_of new ≤ segments_of old + more
   pub room : new.front.snapshot.next_id < 2 ^ 62
 
+-- a reader, if there is one, is of the writer of which this is known
+abbrev pub IsReaderOf : Known → Option Known → Type 0
+IsReaderOf seen reader = (known : Known) → reader ≡ Some known → known.of ≡ seen.of
+
 -- What holds of an engine after so many calls that changed it. A call takes one stamp, opens one round and gives two numbers of segments at most.
-pub record IsIndexEngine (w : WriterValue) (waiting : Waiting) (pending calls : ℕ) : Type 0 where
+pub record IsIndexEngine (w : WriterValue) (reader : Option Known) (waiting : Waiting) (pending calls : ℕ) : Type 0 where
   pub waits : WaitsFor w waiting
+  pub reads : IsReaderOf w.front.seen reader
   pub counted : pending ≡ length (ops_of waiting)
   pub fit : misfit w.front.snapshot.schema (ops_of waiting) ≡ None
   pub stamps : w.front.stamp + pending ≤ calls

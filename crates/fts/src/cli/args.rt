@@ -1,12 +1,12 @@
 // The command line.
 ghost use Rattle.std.specs.Prelude.{◌≡◌, IfOk, IfErr, map, string_bytes};
-ghost use Rattle.clap.specs.Kinds.{FailsBy};
-ghost use Rattle.fts.specs.Arguments.{Asks, Refuses, faults_of};
+ghost use Rattle.fts.specs.Arguments.{Asks, Refuses};
 ghost use Rattle.fts.specs.declared.cli.args.ArgFault.TheVariants.{Memory};
 
+use crate::cli::given::options;
+use crate::cli::parser::parse;
 use crate::engine::options::Options;
 use clap::error::ErrorKind;
-use clap::{ArgMatches, Command};
 use std::alloc::{AllocError, Global};
 use thiserror::Error;
 
@@ -28,6 +28,10 @@ pub enum ArgFault {
     /// The words are no command; the text says what is wrong, and how to get help.
     #[error("{0}")]
     Usage(String),
+    /// Both `--runs` and `--deal` are given.
+    #[error("error: the argument '--runs <N>' cannot be used with '--deal <M>'\n\n\
+        Usage: fts run [OPTIONS]\n\nFor more information, try '--help'.\n")]
+    TwoCuts,
 }
 
 impl From<AllocError> for ArgFault {
@@ -38,28 +42,16 @@ impl From<AllocError> for ArgFault {
     }
 }
 
-/// Matches if the words ask for a run.
-fn parse<'a>(alloc: Global, words: &'a [String]) -> Result<ArgMatches<'a>, clap::Error>
-    ensures { FailsBy (faults_of (map string_bytes words.entry.now)) result }
-{
-    let run = Command::new(alloc, "run").about(
-        "Runs the script on standard input, a command a line, and writes a reply for each",
-    );
-    let fts = Command::new(alloc, "fts")
-        .about("A full-text index over JSON documents")
-        .version("0.1.0")
-        .subcommand_required(true)
-        .subcommand(run)?;
-    fts.try_get_matches_from(words)
-}
-
 /// Reads the words of a command line, of which the first is the program's name.
 pub fn args(alloc: Global, words: Vec<String>) -> Result<Asked, ArgFault>
-    ensures ok { IfOk result (Asks (faults_of (map string_bytes words.items))) }
-    ensures err { IfErr result (Refuses (faults_of (map string_bytes words.items))) }
+    ensures ok { IfOk result (Asks (map string_bytes words.items)) }
+    ensures err { IfErr result (Refuses (map string_bytes words.items)) }
 {
     match parse(alloc, words.as_slice()) {
-        Ok(_) => Ok(Asked::Run(Options::default())),
+        Ok(matches) => match options(&matches) {
+            Some(options) => Ok(Asked::Run(options)),
+            None => Err(ArgFault::TwoCuts),
+        },
         Err(error) => match error.kind() {
             ErrorKind::OutOfMemory => Err(ArgFault::Memory),
             ErrorKind::DisplayHelp | ErrorKind::DisplayVersion => {

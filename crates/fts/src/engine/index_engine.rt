@@ -1,14 +1,13 @@
 // An index over a writer of segments.
-ghost use Rattle.std.specs.Prelude.{◌≡◌, ◌+◌, ◌^◌, ◌<◌, ◌≤◌, None, length, IfOk, OnOk, OnErr, IsOkUnless};
-ghost use Rattle.fts_index.specs.Commits.{misfit};
-ghost use Rattle.fts.specs.WaitingOperations.{ops_of, WaitsFor};
-ghost use Rattle.fts.specs.WriterIndexes.{Commits};
+ghost use Rattle.std.specs.Prelude.{◌≡◌, IfOk, IsOkUnless};
+ghost use Rattle.fts_index.specs.Publications.{IsOneCommit};
+ghost use Rattle.fts.specs.WriterIndexes.{IsReaderOf};
 
-use crate::engine::options::{Merge, Options};
-use crate::engine::segments::{merge_all, merge_planned};
+use crate::engine::options::Options;
+use crate::engine::segments::merge_all;
 use crate::engine::waiting::Waiting;
 use crate::engine::{Engine, waiting};
-use fts_index::Writer;
+use fts_index::{CommitSeen, Reader, Searcher, Writer};
 use fts_model::{Answer, Op, Query, Refusal, Request, Schema, Stamp};
 use fts_pool::Open;
 use std::alloc::Global;
@@ -16,40 +15,50 @@ use std::marker::Model;
 use std::sync::Wait;
 use std::thread::Threads;
 
-/// Commits what waits, and then merges segments, where the options say so. At a refusal it goes on waiting.
-fn commit<R: Threads + Wait + Sync>(
-    rt: &R,
-    alloc: Global,
-    writer: &mut Writer,
-    waiting: &mut Waiting,
-    options: Options,
-) -> Result<Stamp, Refusal>
-    requires waits { WaitsFor writer.old waiting.old }
-    requires stamps { writer.old.front.stamp ≤ 2 ^ 61 }
-    requires rounds { writer.old.rounds ≤ 2 ^ 61 }
-    requires numbers { writer.old.front.snapshot.next_id + length (ops_of waiting.old) < 2 ^ 62 }
-    requires fit { misfit writer.old.front.snapshot.schema (ops_of waiting.old) ≡ None }
-    ensures commits { OnOk result (Commits (ops_of waiting.old) writer.old writer.new) }
-    ensures stamp { IfOk result (λ stamp. stamp ≡ writer.new.front.stamp) }
-    ensures done { OnOk result (waiting.new ≡ Waiting.Nothing) }
-    ensures front { OnErr result (writer.new.front ≡ writer.old.front) }
-    ensures kept { OnErr result (ops_of waiting.new ≡ ops_of waiting.old) }
-    ensures waits { WaitsFor writer.new waiting.new }
-    ensures counted { writer.new.rounds ≤ writer.old.rounds + 1 }
-    ensures memory { IsOkUnless result Refusal.Memory }
+/// A reader of a writer. There is none where the writer has no memory for it.
+fn reader_of(writer: &mut Writer) -> Option<Reader>
+    ensures same { writer.new ≡ writer.old }
+    ensures reader { IsReaderOf writer.new.front.seen result }
 {
-    let stamp = waiting::commit(rt, alloc, writer, waiting, options)?;
-    if let Merge::Policy = options.merge {
-        merge_planned(rt, alloc, writer);
+    match writer.reader() {
+        Ok(reader) => Some(reader),
+        Err(_) => None,
     }
-    Ok(stamp)
 }
 
-/// A writer of segments, and the operations since its last commit.
+/// Tells a reader, if there is one, of a commit. One that can't be told finds it by looking.
+fn tell(reader: &mut Option<Reader>, seen: &CommitSeen)
+    requires { IsReaderOf seen.now reader.old }
+    ensures { IsReaderOf seen.now reader.new }
+{
+    if let Some(reader) = reader {
+        let _ = reader.told(seen);
+    }
+}
+
+/// The last commit, to search: as a reader finds it, or else as the writer has it.
+fn last_commit(writer: &Writer, reader: &mut Option<Reader>) -> Result<Searcher, Refusal>
+    requires { IsReaderOf writer.now.front.seen reader.old }
+    ensures reader { IsReaderOf writer.now.front.seen reader.new }
+    ensures last { IfOk result (λ searcher. IsOneCommit searcher writer.now.front) }
+    ensures memory { IsOkUnless result Refusal.Memory }
+{
+    if let Some(reader) = reader {
+        let searcher = reader.searcher()?;
+        if writer.is_last(&searcher) {
+            return Ok(searcher);
+        }
+    }
+    writer.searcher()
+}
+
+/// A writer of segments, the operations since its last commit, and a reader that is told of each commit.
 pub struct IndexEngine {
     alloc: Global,
     options: Options,
     writer: Writer,
+    /// Finds the commit that is searched.
+    reader: Option<Reader>,
     waiting: Waiting,
     /// How many operations wait.
     pending: u64,
@@ -64,7 +73,7 @@ impl Model for IndexEngine {
 
     ghost view = { λ e. record { index = index_of e.writer e.waiting; calls = e.calls } };
 
-    ghost invariant = { λ e. IsIndexEngine e.writer e.waiting e.pending e.calls };
+    ghost invariant = { λ e. IsIndexEngine e.writer e.reader e.waiting e.pending e.calls };
 }
 
 impl Engine for IndexEngine {
@@ -78,11 +87,13 @@ impl Engine for IndexEngine {
         schema: Schema,
     ) -> Result<Self, Refusal> {
         let alloc = rt.alloc();
-        let writer = Writer::new(rt, alloc, &schema)?;
+        let mut writer = Writer::new(rt, alloc, &schema)?;
+        let reader = reader_of(&mut writer);
         Ok(IndexEngine {
             alloc,
             options,
             writer,
+            reader,
             waiting: Waiting::Nothing,
             pending: 0,
             calls: 0,
@@ -112,9 +123,10 @@ impl Engine for IndexEngine {
         self.calls += 1;
         let alloc = self.alloc;
         let options = self.options;
-        let stamp = commit(rt, alloc, &mut self.writer, &mut self.waiting, options)?;
+        let committed = waiting::commit(rt, alloc, &mut self.writer, &mut self.waiting, options)?;
         self.pending = 0;
-        Ok(stamp)
+        tell(&mut self.reader, &committed.seen);
+        Ok(committed.stamp)
     }
 
     fn rollback(
@@ -138,7 +150,7 @@ impl Engine for IndexEngine {
         query: &Query,
         request: &Request,
     ) -> Result<Answer, Refusal> {
-        let searcher = self.writer.searcher()?;
+        let searcher = last_commit(&self.writer, &mut self.reader)?;
         let workers = self.options.workers;
         let found = searcher.search(rt, rt.alloc(), query, request, workers, &Open)?;
         Ok(found.answer)
@@ -149,10 +161,12 @@ impl Engine for IndexEngine {
             alloc: _,
             options: _,
             writer,
+            reader,
             waiting: _,
             pending: _,
             calls: _,
         } = self;
+        drop(reader);
         writer.close(rt);
     }
 }

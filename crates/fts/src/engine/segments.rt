@@ -4,6 +4,7 @@ ghost use Rattle.fts_index.specs.Entries.{live_count};
 ghost use Rattle.fts_index.specs.Snapshots.{content_of};
 ghost use Rattle.fts.specs.WriterIndexes.{Merges};
 
+use crate::engine::options::Merge;
 use fts_index::{SegmentInfo, Writer};
 use fts_model::Refusal;
 use std::alloc::{AllocError, Global};
@@ -76,7 +77,7 @@ fn merge_some<R: Wait>(rt: &R, alloc: Global, writer: &mut Writer, ids: &[u64])
 }
 
 /// Merges what the merge policy says, as far as there is memory.
-pub fn merge_planned<R: Wait>(rt: &R, alloc: Global, writer: &mut Writer)
+fn merge_planned<R: Wait>(rt: &R, alloc: Global, writer: &mut Writer)
     requires { writer.old.front.snapshot.next_id < 2 ^ 62 }
     ensures { Merges 0 writer.old writer.new }
 {
@@ -84,5 +85,16 @@ pub fn merge_planned<R: Wait>(rt: &R, alloc: Global, writer: &mut Writer)
         for ids in &candidates {
             merge_some(rt, alloc, writer, ids);
         }
+    }
+}
+
+/// Merges behind a commit, where the option says so.
+pub fn merge_behind<R: Wait>(rt: &R, alloc: Global, writer: &mut Writer, merge: Merge)
+    requires { writer.old.front.snapshot.next_id < 2 ^ 62 }
+    ensures { Merges 0 writer.old writer.new }
+{
+    match merge {
+        Merge::Off => {}
+        Merge::Policy => merge_planned(rt, alloc, writer),
     }
 }

@@ -6,7 +6,8 @@ ghost use Rattle.fts.specs.WaitingOperations.{ops_of, first_ops, HasOneLane, IsI
 ghost use Rattle.fts.specs.WriterIndexes.{Commits};
 
 use crate::engine::options::Options;
-use fts_index::{Batch, Lane, LaneEnd, Round, Writer};
+use crate::engine::segments::merge_behind;
+use fts_index::{Batch, Committed, Lane, LaneEnd, Round, Writer};
 use fts_model::{Op, Refusal, Stamp};
 use std::alloc::Global;
 use std::mem;
@@ -156,21 +157,22 @@ fn gather(alloc: Global, writer: &mut Writer, waiting: Waiting) -> Result<Batch,
     }
 }
 
-/// Commits what waits. At a refusal it goes on waiting.
+/// Commits what waits, and then merges segments, where the options say so. At a refusal it goes on waiting.
 pub fn commit<R: Threads + Wait + Sync>(
     rt: &R,
     alloc: Global,
     writer: &mut Writer,
     waiting: &mut Waiting,
     options: Options,
-) -> Result<Stamp, Refusal>
+) -> Result<Committed, Refusal>
     requires waits { WaitsFor writer.old waiting.old }
     requires stamps { writer.old.front.stamp ≤ 2 ^ 61 }
     requires rounds { writer.old.rounds ≤ 2 ^ 61 }
     requires numbers { writer.old.front.snapshot.next_id + length (ops_of waiting.old) < 2 ^ 62 }
     requires fit { misfit writer.old.front.snapshot.schema (ops_of waiting.old) ≡ None }
     ensures commits { OnOk result (Commits (ops_of waiting.old) writer.old writer.new) }
-    ensures stamp { IfOk result (λ stamp. stamp ≡ writer.new.front.stamp) }
+    ensures stamp { IfOk result (λ c. c.stamp ≡ writer.new.front.stamp) }
+    ensures seen { IfOk result (λ c. c.seen.of ≡ writer.new.front.seen.of) }
     ensures done { OnOk result (waiting.new ≡ Waiting.Nothing) }
     ensures front { OnErr result (writer.new.front ≡ writer.old.front) }
     ensures kept { OnErr result (ops_of waiting.new ≡ ops_of waiting.old) }
@@ -193,7 +195,10 @@ pub fn commit<R: Threads + Wait + Sync>(
         options.workers,
         &fts_pool::Open,
     ) {
-        Ok(committed) => Ok(committed.stamp),
+        Ok(committed) => {
+            merge_behind(rt, alloc, writer, options.merge);
+            Ok(committed)
+        }
         Err(refusal) => {
             *waiting = Waiting::Gathered(batch);
             Err(refusal)

@@ -1,8 +1,17 @@
 use Rattle.std.proofs.Common.{refl}
 use Rattle.clap.proofs.OnLiterals.{clap_on_literals}
 use Rattle.fts.specs.Arguments.{faults_of}
+use Rattle.fts.specs.RunOptions.{given_to_run}
 use Rattle.fts.proofs.laws.command_line.Goals as goal
 
 pub returns : goal.returns
-unfolding clap_on_literals faults_of
-returns c = record { run = λ name. refl; help = λ name. refl; version = λ name. refl; nothing = λ name. refl }
+unfolding clap_on_literals faults_of given_to_run
+returns c = record {
+  run = λ places name. refl;
+  help = λ places name. refl;
+  version = λ places name. refl;
+  nothing = λ places name. refl;
+  workers = λ places name. refl;
+  beyond = λ places name. refl;
+  merge = λ places name. refl;
+}
