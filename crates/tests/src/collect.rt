@@ -2,6 +2,8 @@
 // cut into segments.
 ghost use Rattle.std.specs.Prelude.{◌≡◌, IfOk};
 
+mod random;
+
 use crate::fixtures::{add, document, finished, schema};
 use fts_collect::{Part, collect};
 use fts_model::scan::answer;
@@ -29,7 +31,7 @@ fn drawn(number: u64, most: u64) -> u64 {
 
 /// A document with some of the words `a`, `b` and `c`. One of three has no price and one of four no temp; those that have one
 /// share it with many others.
-fn generated(alloc: Global, schema: &Schema, stamp: u64) -> Result<Document, Fail> {
+pub(crate) fn generated(alloc: Global, schema: &Schema, stamp: u64) -> Result<Document, Fail> {
     let words = ["a", "b", "a b", "c a b", "c"];
     let word = words.get(drawn(stamp, 5) as usize).copied().unwrap_or("a");
     let price = drawn(stamp ^ 0x1111, 9);
@@ -61,7 +63,7 @@ fn documents(
 }
 
 /// The segment of documents.
-fn segment_of(
+pub(crate) fn segment_of(
     alloc: Global,
     schema: &Schema,
     documents: &[Stamped<Document>],
@@ -170,7 +172,12 @@ fn ranked(alloc: Global, top: &Option<Vec<Hit>>) -> Result<Vec<(u64, Number)>, A
 }
 
 /// Whether two answers tell the same.
-fn check_same(rt: &impl Abort, alloc: Global, found: &Answer, wanted: &Answer) -> Result<(), Fail> {
+pub(crate) fn check_same(
+    rt: &impl Abort,
+    alloc: Global,
+    found: &Answer,
+    wanted: &Answer,
+) -> Result<(), Fail> {
     assert_eq!(rt; found.count, wanted.count);
     assert_eq!(rt; found.groups, wanted.groups);
     assert_eq!(rt; found.top.is_some(), wanted.top.is_some());

@@ -9,7 +9,8 @@ use std::alloc::Global;
 use std::process::Abort;
 use std::test::Fail;
 
-mod generated;
+pub(crate) mod generated;
+pub(crate) mod random;
 
 // A segment of so many documents with title `common`: each whose number `every` divides has `common rare`.
 fn titles(alloc: Global, docs: u64, every: u64) -> Result<Segment, Fail> {

@@ -8,6 +8,8 @@ mod cursor;
 #[cfg(test)]
 mod fixtures;
 #[cfg(test)]
+mod late;
+#[cfg(test)]
 mod merge;
 #[cfg(test)]
 mod model;
@@ -21,6 +23,8 @@ mod query;
 mod readers;
 #[cfg(test)]
 mod rounds;
+#[cfg(test)]
+mod searching;
 #[cfg(test)]
 mod segment;
 #[cfg(test)]

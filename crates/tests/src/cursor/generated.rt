@@ -38,13 +38,13 @@ const LEAVES: [&str; 16] = [
 
 /// Numbers that only look random.
 #[derive(Drop)]
-struct Chance {
-    state: u64,
+pub(crate) struct Chance {
+    pub(crate) state: u64,
 }
 
 impl Chance {
     /// A number below `count`.
-    fn below(&mut self, count: usize) -> usize {
+    pub(crate) fn below(&mut self, count: usize) -> usize {
         self.state = self
             .state
             .wrapping_mul(6364136223846793005)
@@ -56,7 +56,11 @@ impl Chance {
 }
 
 // Writes a query of up to so many queries within one another. The first of several isn't a must-not.
-fn write_query(chance: &mut Chance, out: &mut String, depth: u8) -> Result<(), AllocError> {
+pub(crate) fn write_query(
+    chance: &mut Chance,
+    out: &mut String,
+    depth: u8,
+) -> Result<(), AllocError> {
     if depth == 0 || chance.below(4) == 0 {
         let leaf = LEAVES.get(chance.below(16)).copied().unwrap_or("*");
         return out.push_str(leaf);
@@ -163,7 +167,7 @@ fn walks_over_generated_queries(rt: HostRuntime) -> Result<(), Fail> {
 }
 
 // A walk over the documents of a query as it is written.
-fn walk_over(
+pub(crate) fn walk_over(
     rt: &impl Abort,
     alloc: Global,
     chance: &mut Chance,
