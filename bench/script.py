@@ -13,6 +13,7 @@ import random
 import sqlite3
 import subprocess
 import sys
+import threading
 import time
 
 PROGRAM = "crates/fts/out/fts"
@@ -56,20 +57,43 @@ KINDS = [
 ]
 
 
-def run(lines):
-    text = "\n".join(json.dumps(line) for line in lines).encode()
-    began = time.perf_counter()
-    out = subprocess.run([PROGRAM, "run"], input=text, stdout=subprocess.PIPE, check=True).stdout
-    return time.perf_counter() - began, out.decode().splitlines()
+class Session:
+    """A run of the program: it answers what it has read before it reads on."""
+
+    def __init__(self):
+        self.program = subprocess.Popen([PROGRAM, "run"], stdin=subprocess.PIPE, stdout=subprocess.PIPE)
+
+    def ask(self, lines):
+        """How long the replies to the lines took, and these."""
+        text = "".join(json.dumps(line) + "\n" for line in lines).encode()
+        began = time.perf_counter()
+        writing = threading.Thread(target=self.write, args=(text,))
+        writing.start()
+        replies = [self.program.stdout.readline() for _ in lines]
+        took = time.perf_counter() - began
+        writing.join()
+        return took, replies
+
+    def write(self, text):
+        self.program.stdin.write(text)
+        self.program.stdin.flush()
+
+    def end(self):
+        self.program.stdin.close()
+        assert self.program.wait() == 0
 
 
-def best(lines):
-    return min((run(lines) for _ in range(3)), key=lambda timed: timed[0])
+def best(lines, session):
+    return min((session.ask(lines) for _ in range(3)), key=lambda timed: timed[0])
 
 
-build = [SCHEMA, *({"add": d} for d in DOCUMENTS), {"commit": True}]
-empty, _ = best([SCHEMA])
-built, _ = best(build)
+built = 1 << 62
+for turn in range(3):
+    session = Session()
+    session.ask([SCHEMA])
+    built = min(built, session.ask([*({"add": d} for d in DOCUMENTS), {"commit": True}])[0])
+    if turn < 2:
+        session.end()
 
 began = time.perf_counter()
 base = sqlite3.connect(":memory:")
@@ -102,13 +126,14 @@ TOLD = {
 
 print(f"{COUNT} documents of 30 words, {SEARCHES} searches a kind, one thread")
 print(f"{'':16}{'fts':>10}{'FTS5':>10}{'fts / FTS5':>12}")
-print(f"{'build, s':16}{built - empty:10.2f}{sqlite_built:10.2f}{(built - empty) / sqlite_built:12.2f}")
+print(f"{'build, s':16}{built:10.2f}{sqlite_built:10.2f}{built / sqlite_built:12.2f}")
 for name, searches in KINDS:
-    took, replies = run([*build, *({"search": s} for s in searches)])
-    each = (took - built) / SEARCHES * 1000
+    took, replies = best([{"search": s} for s in searches], session)
+    each = took / SEARCHES * 1000
     began = time.perf_counter()
     told = [base.execute(*SQL[name](i)).fetchall() for i in range(SEARCHES)]
     sqlite_each = (time.perf_counter() - began) / SEARCHES * 1000
     tell = TOLD.get(name, lambda reply: [(reply["count"],)])
-    assert [tell(json.loads(r)) for r in replies[-SEARCHES:]] == told, f"{name}: the answers differ"
+    assert [tell(json.loads(r)) for r in replies] == told, f"{name}: the answers differ"
     print(f"{name + ', ms':16}{each:10.3f}{sqlite_each:10.3f}{each / sqlite_each:12.2f}")
+session.end()
