@@ -8,6 +8,7 @@ pub mod ScanLemmas
 pub mod PartsLemmas
 pub mod UnionLemmas
 pub mod WindowLemmas
+pub mod MarksLemmas
 pub mod TreeLemmas
 pub mod GatherLemmas
 pub mod PhraseLemmas

@@ -1,19 +1,22 @@
 -- Where a phrase stands.
-use Rattle.std.proofs.Common.{◌≡◌, ℕ, zero, suc, ◌+◌, ◌^◌, ◌<◌, ◌≤◌, nat_lt, cond, Bool, ◌&&◌, Some, None, List, [], ◌∷◌, All, length, get_or, drop, refl, sym, subst, ap, ◌∙◌, arith}
+use Rattle.std.proofs.Common.{◌≡◌, ℕ, zero, suc, ◌+◌, ◌^◌, ◌<◌, ◌≤◌, nat_lt, cond, Bool, ◌&&◌, Some, None, List, [], ◌∷◌, All, length, get_or, set, drop, refl, sym, subst, ap, ◌∙◌, arith}
 use Rattle.std.specs.List.{AllZip, filter, list_all, slice_get}
 use Rattle.std.specs.List.Sorted.{IsStrictlyIncreasing}
 use Rattle.std.proofs.lemmas.Bool.{le-ltb, lt-ltb}
-use Rattle.std.proofs.lemmas.List.{get_or-drop, length-drop}
+use Rattle.std.proofs.lemmas.List.{get_or-drop, length-drop, set-get_or}
 use Rattle.std.proofs.lemmas.List.Elements.{All-cons, All-head, All-nil, All-tail}
 use Rattle.std.proofs.lemmas.Option.{get_or_from_slice_get, slice_get_within}
 use Rattle.fts_pack.specs.Documents.{Rises, blocks_of}
 use Rattle.fts_pack.specs.SourceLaws.{length-blocks_of}
-use Rattle.fts_segment.specs.ListIds.{documents_in, positions_in}
+use Rattle.fts_segment.specs.ListIds.{documents_in}
 use Rattle.fts_cursor.specs.declared.phrase.Member.{Member}
 use Rattle.fts_cursor.specs.Conjoined.{AllFollow, Conjoined, common_of}
-use Rattle.fts_cursor.specs.Phrases.{AreMembersOf, positions_at, rank}
+use Rattle.fts_cursor.specs.Meeting.{FirstPasses}
+use Rattle.fts_cursor.specs.Phrases.{AreMembersOf, IsPhrase, phrase_at, positions_at, rank}
 use Rattle.fts_cursor.specs.Posting.{Follows, Posting}
+use Rattle.fts_cursor.specs.Terms.{AreTied}
 use Rattle.fts_cursor.proofs.RemainingLemmas.{Rises-from_increasing, Rises-get_or}
+use Rattle.fts_cursor.proofs.TermsLemmas.{terms-continue}
 
 pub none_below : (doc next : ℕ) (xs : List ℕ) → Rises next xs → doc ≤ next → filter (λ d. nat_lt d doc) xs ≡ []
 none_below doc next [] h low = refl
@@ -57,6 +60,27 @@ members-follow c d ms h are = record {
   few = are.few;
 }
 
+-- members that stay where the terms go on
+module _ (old new : Conjoined) (members at after : List Member) (here : at ≡ members) (same : after ≡ at) where
+  pub phrase-settled : AllFollow old new → AreMembersOf old members → AreTied old → FirstPasses (phrase_at at) (common_of new) → IsPhrase new after
+  phrase-settled follows are tied passes =
+      let P : List Member → Type 0 = IsPhrase new in
+      subst P (sym (same ∙ here)) (record {
+        members_are = members-follow old new members follows are;
+        settled = subst (λ (ms : List Member). FirstPasses (phrase_at ms) (common_of new)) here passes;
+        tied = (terms-continue old new follows tied).1;
+      })
+
+  pub phrase-same : (between : Conjoined) → filter (phrase_at at) (common_of new) ≡ filter (phrase_at at) (common_of between) → filter (phrase_at after) (common_of new) ≡ filter (phrase_at members) (common_of between)
+  phrase-same between is =
+      ap (λ (ms : List Member). filter (phrase_at ms) (common_of new)) same ∙ is ∙ ap (λ (ms : List Member). filter (phrase_at ms) (common_of between)) here
+
+-- a member that is put back as it was
+pub put_back : (ms : List Member) (k : ℕ) (d : Member) (positions : List (List ℕ)) → positions ≡ (get_or ms k d).positions →
+    set ms k (record { list = (get_or ms k d).list; positions = positions; offset = (get_or ms k d).offset }) ≡ ms
+put_back ms k d positions same =
+    ap (λ (ps : List (List ℕ)). set ms k (record { list = (get_or ms k d).list; positions = ps; offset = (get_or ms k d).offset })) same ∙ set-get_or ms k d
+
 -- lists of few documents have few blocks
 few_blocks : (p : Posting) (m : Member) → IsPaired p m → length (documents_in m.list) ≤ 2 ^ 32 → length p.blocks ≤ 2 ^ 32
 few_blocks p m is few = omega (arith, ap length is, length-blocks_of (documents_in m.list), few)
@@ -94,22 +118,22 @@ lead_few c first ms h = few_blocks c.lead first h.paired.0 (All-head (λ n. leng
 -- the positions of the first member where all stand
 pub first_positions : (c : Conjoined) (first : Member) (ms : List Member) (n doc : ℕ) → AreMembersOf c (first ∷ ms) →
     ((documents : List ℕ) → c.lead.blocks ≡ blocks_of documents → slice_get (drop n documents) 0 ≡ slice_get (common_of c) 0) → slice_get (common_of c) 0 ≡ Some doc →
-    get_or (positions_in first.list) n [] ≡ positions_at first doc
+    get_or (first.positions) n [] ≡ positions_at first doc
 first_positions c first ms n doc h at here =
     let rise = All-head (λ m. IsStrictlyIncreasing (documents_in m.list)) first ms h.rise in
-    ap (λ r. get_or (positions_in first.list) r []) (sym (rank_is (documents_in first.list) n doc rise (at (documents_in first.list) h.paired.0 ∙ here)))
+    ap (λ r. get_or (first.positions) r []) (sym (rank_is (documents_in first.list) n doc rise (at (documents_in first.list) h.paired.0 ∙ here)))
 
 -- those of another one
 pub other_positions : (c : Conjoined) (first : Member) (ms : List Member) (k n doc : ℕ) (m : Member) → AreMembersOf c (first ∷ ms) → m ≡ get_or ms k m → k < length ms →
     ((documents : List ℕ) (p : Posting) → (get_or c.others k p).blocks ≡ blocks_of documents → slice_get (drop n documents) 0 ≡ slice_get (common_of c) 0) → slice_get (common_of c) 0 ≡ Some doc →
-    get_or (positions_in m.list) n [] ≡ positions_at m doc
+    get_or (m.positions) n [] ≡ positions_at m doc
 other_positions c first ms k n doc m h is inside at here =
     let within : k < length c.others = omega (arith, as_many c first ms h, inside) in
     let paired : IsPaired (get_or c.others k c.lead) (get_or ms k m) = paired_at c.others ms k c.lead m h.paired.1 within in
     let blocks : (get_or c.others k c.lead).blocks ≡ blocks_of (documents_in m.list) = paired ∙ ap (λ (x : Member). blocks_of (documents_in x.list)) (sym is) in
     let rises : IsStrictlyIncreasing (documents_in (get_or ms k m).list) = All-tail (λ x. IsStrictlyIncreasing (documents_in x.list)) first ms h.rise k m inside in
     let rise : IsStrictlyIncreasing (documents_in m.list) = subst (λ (x : Member). IsStrictlyIncreasing (documents_in x.list)) (sym is) rises in
-    ap (λ r. get_or (positions_in m.list) r []) (sym (rank_is (documents_in m.list) n doc rise (at (documents_in m.list) c.lead blocks ∙ here)))
+    ap (λ r. get_or (m.positions) r []) (sym (rank_is (documents_in m.list) n doc rise (at (documents_in m.list) c.lead blocks ∙ here)))
 
 all_dropped : {X : Type 0} (f : X → Bool) (xs : List X) (k : ℕ) (x : X) → k < length xs → x ≡ get_or xs k x → list_all f (drop k xs) ≡ (f x && list_all f (drop (suc k) xs))
 all_dropped f [] k x inside is = absurd (omega (arith, inside))

@@ -1,19 +1,18 @@
 -- The documents of a range that pass a test, stretch by stretch.
-use Rattle.std.proofs.Common.{◌≡◌, ℕ, zero, suc, ◌+◌, ◌-◌, ◌<◌, ◌≤◌, Bool, true, false, cond, ◌&&◌, nat_le, Option, Some, None, is_some, option_map, Bor, List, [], ◌∷◌, ◌++◌, length, get_or, set, take, drop, map, min, refl, sym, ap, ap₂, subst, ◌∙◌, inl, inr, arith}
-use Rattle.std.specs.Int.{from_bool}
+use Rattle.std.proofs.Common.{◌≡◌, ℕ, zero, suc, ◌+◌, ◌-◌, ◌<◌, ◌≤◌, Bool, true, false, cond, ◌&&◌, nat_le, Option, Some, None, is_some, option_map, Bor, List, [], ◌∷◌, ◌++◌, length, get_or, set, take, drop, min, refl, sym, ap, ap₂, subst, ◌∙◌, inl, inr, arith}
 use Rattle.std.specs.List.{filter, range_with_len, slice_get}
 use Rattle.std.specs.List.Sorted.{IsStrictlyIncreasing}
 use Rattle.std.specs.Option.{option_copied, option_map_or}
-use Rattle.std.proofs.lemmas.Option.{slice_get-get_or, slice_get-map}
+use Rattle.std.proofs.lemmas.Option.{slice_get-get_or}
 use Rattle.std.proofs.lemmas.Bool.{cases_lt, lt-leb}
-use Rattle.std.proofs.lemmas.List.{append-nil, take-set, take_more_set, length-append, length-drop, get_or-drop, get_or-take, get_or_append_left, drop-append-le, drop-drop, drop_all}
+use Rattle.std.proofs.lemmas.List.{append-nil, take_more_set, length-append, length-drop, get_or-drop, get_or-take, get_or_append_left, drop-append-le, drop-drop, drop_all}
 use Rattle.std.proofs.lemmas.List.Elements.{filter-append}
 use Rattle.fts_pack.specs.Documents.{Rises}
 use Rattle.fts_cursor.specs.Remaining.{at_least, IsPlaceOf}
 use Rattle.fts_model.specs.declared.operation.Stamped.{Stamped}
 use Rattle.fts_model.specs.declared.value.FieldValue.{FieldValue}
 use Rattle.fts_model.specs.Documents.{DocumentValue, value_in_field}
-use Rattle.fts_cursor.specs.Scans.{has_value, has_within, keeps, kept_from, kept_in, passing, within}
+use Rattle.fts_cursor.specs.Scans.{has_value, keeps, kept_from, kept_in, passing, within}
 use Rattle.fts_cursor.specs.declared.kept.Kept.{Kept}
 use Rattle.fts_cursor.proofs.RemainingLemmas.{Rises-front, at_least-append, at_least_all, at_least_place, increasing-from_Rises}
 use Rattle.fts_cursor.proofs.MeetingLemmas.{Rises-filter, filter-at_least}
@@ -29,7 +28,7 @@ range-append a (suc m) n =
     let f : a + 1 + m ≡ a + suc m = omega arith in
     ap (range_with_len a) e ∙ ap (λ xs. a ∷ xs) (range-append (a + 1) m n ∙ ap (λ b. range_with_len (a + 1) m ++ range_with_len b n) f)
 
-passing-append : (p : ℕ → Bool) (a m n : ℕ) → passing p a (m + n) ≡ passing p a m ++ passing p (a + m) n
+pub passing-append : (p : ℕ → Bool) (a m n : ℕ) → passing p a (m + n) ≡ passing p a m ++ passing p (a + m) n
 passing-append p a m n = ap (filter p) (range-append a m n) ∙ filter-append p (range_with_len a m) (range_with_len (a + m) n)
 
 -- what passes so far lies at the front
@@ -59,15 +58,6 @@ pub KeptUpTo-passed : (p : ℕ → Bool) (from : ℕ) (out : List ℕ) (place co
 KeptUpTo-passed p from out place count h fails =
     let more = one p from place false fails ∙ append-nil (passing p from place) in
     record { front = h.front ∙ sym more; size = h.size ∙ ap length (sym more); behind = omega (arith, h.behind) }
-
--- what is written and counted only where it passes
-pub KeptUpTo-written : (p : ℕ → Bool) (from : ℕ) (out : List ℕ) (place count more : ℕ) (b : Bool) → KeptUpTo p from out place count → p (from + place) ≡ b → count < length out → more ≡ count + from_bool b →
-    KeptUpTo p from (set out count (from + place)) (place + 1) more
-KeptUpTo-written p from out place count more true h passes room is = subst (KeptUpTo p from (set out count (from + place)) (place + 1)) (sym is) (KeptUpTo-kept p from out place count h passes room)
-KeptUpTo-written p from out place count more false h fails room is =
-    let same : more ≡ count = omega (arith, is) in
-    let after = KeptUpTo-passed p from out place count h fails in
-    subst (KeptUpTo p from (set out count (from + place)) (place + 1)) (sym same) (record { front = take-set out count (from + place) ∙ after.front; size = after.size; behind = after.behind })
 
 -- the first stretch, and the others
 pub passing-stretch : (p : ℕ → Bool) (from docs : ℕ) → passing p from (docs - from) ≡ passing p from (min 128 (docs - from)) ++ passing p (from + 128) (docs - (from + 128))
@@ -130,13 +120,6 @@ pub within-is : (low high number : ℕ) (v : Option ℕ) (present : Bool) → pr
 within-is low high number None present is same = ap (λ b. b && (nat_le low number && nat_le number high)) (sym is)
 within-is low high number (Some x) present is same =
     ap (λ y. nat_le low y && nat_le y high) (sym (same x refl)) ∙ ap (λ b. b && (nat_le low number && nat_le number high)) (sym is)
-
-pub has_within-is : (low high number doc : ℕ) (column : List (Option ℕ)) (present : Bool) → doc < length column → slice_get (map is_some column) doc ≡ Some present → ((x : ℕ) → get_or column doc None ≡ Some x → number ≡ x) →
-    has_within low high column doc ≡ (present && (nat_le low number && nat_le number high))
-has_within-is low high number doc column present inside is same =
-    let there : Some present ≡ Some (is_some (get_or column doc None)) = sym is ∙ slice_get-map is_some column doc ∙ ap (option_map is_some) (slice_get-get_or column doc None inside) in
-    let known : present ≡ is_some (get_or column doc None) = cc in
-    within-is low high number (get_or column doc None) present known same
 
 -- a document has a value of a field
 valued_at : (s : Option (Stamped DocumentValue)) (d : DocumentValue) (field : ℕ) → option_map (λ e. e.value) s ≡ Some d → option_map_or (λ e. is_some (value_in_field e.value field)) s false ≡ is_some (value_in_field d field)

@@ -14,14 +14,14 @@ use Rattle.fts_cursor.proofs.ScanLemmas.{Rises-passing}
 use Rattle.fts_cursor.proofs.UnionLemmas.{above, leaves, same, stays, with_one-front}
 
 -- tests that agree on a range pass the same
-passing-same : (p q : ℕ → Bool) (a n : ℕ) → ((d : ℕ) → a ≤ d → d < a + n → p d ≡ q d) → passing p a n ≡ passing q a n
+pub passing-same : (p q : ℕ → Bool) (a n : ℕ) → ((d : ℕ) → a ≤ d → d < a + n → p d ≡ q d) → passing p a n ≡ passing q a n
 passing-same p q a zero h = refl
 passing-same p q a (suc n) h =
     ap₂ (λ b ys. cond b (a ∷ ys) ys) (h a (omega arith) (omega arith))
     (passing-same p q (a + 1) n (λ d high low. h d (omega (arith, high)) (omega (arith, low))))
 
 -- what fails at the front is passed over
-passing-ahead : (p : ℕ → Bool) (a k n : ℕ) → ((d : ℕ) → a ≤ d → d < a + k → p d ≡ false) → passing p a (k + n) ≡ passing p (a + k) n
+pub passing-ahead : (p : ℕ → Bool) (a k n : ℕ) → ((d : ℕ) → a ≤ d → d < a + k → p d ≡ false) → passing p a (k + n) ≡ passing p (a + k) n
 passing-ahead p a zero n h =
     let e : 0 + n ≡ n = omega arith in
     let f : a ≡ a + 0 = omega arith in
@@ -35,7 +35,7 @@ passing-ahead p a (suc k) n h =
     ∙ ap (λ b. passing p b n) f
 
 -- the first that passes, and what follows it
-passing-at : (p : ℕ → Bool) (a k n : ℕ) → k < n → ((d : ℕ) → a ≤ d → d < a + k → p d ≡ false) → p (a + k) ≡ true → passing p a n ≡ (a + k) ∷ passing p (a + suc k) (n - suc k)
+pub passing-at : (p : ℕ → Bool) (a k n : ℕ) → k < n → ((d : ℕ) → a ≤ d → d < a + k → p d ≡ false) → p (a + k) ≡ true → passing p a n ≡ (a + k) ∷ passing p (a + suc k) (n - suc k)
 passing-at p a k n inside lack there =
     let m = n - suc k in
     let e : n ≡ k + suc m = omega (arith, inside) in
@@ -45,7 +45,7 @@ passing-at p a k n inside lack there =
     ∙ ap (λ b. (a + k) ∷ passing p b m) f
 
 -- the same without it
-passing-next : (p q : ℕ → Bool) (a k n : ℕ) → k < n → ((d : ℕ) → a ≤ d → d < a + k → p d ≡ false) → p (a + k) ≡ true → ((d : ℕ) → a ≤ d → d < a + suc k → q d ≡ false) → ((d : ℕ) → a + suc k ≤ d → d < a + n → q d ≡ p d) → passing q a n ≡ drop 1 (passing p a n)
+pub passing-next : (p q : ℕ → Bool) (a k n : ℕ) → k < n → ((d : ℕ) → a ≤ d → d < a + k → p d ≡ false) → p (a + k) ≡ true → ((d : ℕ) → a ≤ d → d < a + suc k → q d ≡ false) → ((d : ℕ) → a + suc k ≤ d → d < a + n → q d ≡ p d) → passing q a n ≡ drop 1 (passing p a n)
 passing-next p q a k n inside lack there gone rest =
     let m = n - suc k in
     let e : n ≡ suc k + m = omega (arith, inside) in

@@ -3,7 +3,7 @@ use Rattle.std.specs.Prelude.{◌≡◌, ◌≢◌, ℕ, ◌≤◌, Bool, true, 
 use Rattle.fts_model.specs.declared.operation.Term.{Term}
 use Rattle.fts_model.specs.declared.value.FieldValue.TheVariants as values
 use Rattle.fts_model.specs.QueryValues.{QueryValue, term}
-use Rattle.fts_segment.specs.ListIds.{documents_in, positions_in}
+use Rattle.fts_segment.specs.ListIds.{documents_in}
 use Rattle.fts_segment.specs.Segments.{SegmentValue, positions, postings}
 use Rattle.fts_cursor.specs.declared.phrase.Member.{Member}
 use Rattle.fts_cursor.specs.Leading.{IsOver}
@@ -19,11 +19,11 @@ text_term field text = record { field = field; value = values.Text text }
 abbrev pub LacksTerm : SegmentValue → ℕ → List (ℕ × List ℕ) → Type 0
 LacksTerm segment field pattern = (k : ℕ) × (m : ℕ × List ℕ) × (slice_get pattern k ≡ Some m) × (postings segment (text_term field m.1) ≡ [])
 
--- the list of a member of a pattern, and its offset
+-- the list and the positions of a member of a pattern, and its offset
 pub record IsMemberFor (segment : SegmentValue) (field : ℕ) (wanted : ℕ × List ℕ) (member : Member) : Type 0 where
   pub offset : member.offset ≡ wanted.0
   pub documents : documents_in member.list ≡ postings segment (text_term field wanted.1)
-  pub positions_are : positions_in member.list ≡ positions segment (text_term field wanted.1)
+  pub positions_are : member.positions ≡ positions segment (text_term field wanted.1)
 
 -- a cursor over the list of a member, as it was made
 abbrev pub IsCursorOf : Posting → Member → Type 0

@@ -3,7 +3,7 @@ use Rattle.std.specs.Prelude.{◌≡◌, ℕ, ◌+◌, ◌^◌, ◌≤◌, ◌==
 use Rattle.std.specs.List.{AllZip, list_all, list_any}
 use Rattle.std.specs.List.Sorted.{IsStrictlyIncreasing}
 use Rattle.fts_pack.specs.Documents.{blocks_of}
-use Rattle.fts_segment.specs.ListIds.{documents_in, positions_in}
+use Rattle.fts_segment.specs.ListIds.{documents_in}
 use Rattle.fts_cursor.specs.declared.phrase.Member.{Member}
 use Rattle.fts_cursor.specs.Conjoined.{Conjoined, common_of}
 use Rattle.fts_cursor.specs.Meeting.{FirstPasses}
@@ -15,7 +15,7 @@ rank documents doc = length (filter (λ d. nat_lt d doc) documents)
 
 -- the positions of a member's term in a document
 abbrev pub positions_at : Member → ℕ → List ℕ
-positions_at member doc = slice_index_or (positions_in member.list) (rank (documents_in member.list) doc) []
+positions_at member doc = slice_index_or member.positions (rank (documents_in member.list) doc) []
 
 -- a member stands as far behind a position as its offset is behind another one
 abbrev pub is_behind : ℕ → ℕ → ℕ → Member → Bool

@@ -208,7 +208,8 @@ fn of_phrase<'a>(
     let terms = Conjunction::new(lead, cursors);
     let mut others = members;
     let first = others.remove(0);
-    Ok(Tree::phrase(PhraseCursor::new(segment, terms, first, others)))
+    let first = Box::new(alloc, first)?;
+    Ok(Tree::phrase(PhraseCursor::new(terms, first, others)))
 }
 
 // The lists of a phrase's terms, and none where one of them has no documents.
@@ -228,6 +229,7 @@ fn members_of<'a>(
             None => return Ok(None),
             Some(list) => members.push(Member {
                 list,
+                positions: segment.positions(list),
                 offset: *offset,
             })?,
         }

@@ -1,7 +1,8 @@
 // Which documents are kept by their number alone: they are looked at in stretches of 128.
-ghost use Rattle.std.specs.Prelude.{◌≡◌, ◌%◌, ◌-◌, ◌^◌, ◌<◌, ◌≤◌, ◌&&◌, nat_le, length, min, take};
+ghost use Rattle.std.specs.Prelude.{◌≡◌, ◌%◌, ◌-◌, ◌^◌, ◌<◌, ◌≤◌, length, min, take};
 ghost use Rattle.fts_cursor.specs.Scans.{AreFor, has_value, has_within, kept_in, passing};
 
+use crate::marks;
 use fts_pack::Column;
 use fts_segment::Segment;
 
@@ -62,24 +63,13 @@ fn write_within(column: &Column, low: u64, high: u64, from: usize, out: &mut [u3
         ≡ passing (has_within low high column.now) from (min 128 (length column.now - from)) }
 {
     let mut values = [0; 128];
-    let stretch = column.values(from, &mut values);
+    column.values(from, &mut values);
     let present = column.present();
-    let mut count = 0;
-    for place in 0..stretch.len {
-        // Written in any case, since a branch that can't be foretold costs more.
-        out[count] = (from + place) as u32;
-        let kept = is_within(present.get(from + place), values[place], low, high);
-        count += usize::from(kept);
-    }
-    count
-}
-
-// Whether there is the number, from `low` to `high`.
-#[inline]
-fn is_within(present: bool, number: u64, low: u64, high: u64) -> bool
-    ensures { result ≡ (present && (nat_le low number && nat_le number high)) }
-{
-    present && low <= number && number <= high
+    let (front, back) = values.split_at(64);
+    let first = marks::within(front, low, high) & present.word(from / 64);
+    let second = marks::within(back, low, high) & present.word(from / 64 + 1);
+    let count = marks::write(first, from, out, 0);
+    marks::write(second, from + 64, out, count)
 }
 
 fn write_valued(segment: &Segment, field: usize, from: usize, out: &mut [u32; 128]) -> usize

@@ -23,6 +23,7 @@ mod conjunction;
 mod cursor;
 mod doc_set;
 mod kept;
+mod marks;
 mod phrase;
 mod posting;
 mod range;

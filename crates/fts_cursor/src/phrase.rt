@@ -15,22 +15,23 @@ ghost use Rattle.fts_cursor.specs.Terms.{AreTied};
 use crate::conjunction::Conjunction;
 use crate::doc_set::DocSet;
 use fts_pack::ListSource;
-use fts_segment::{ListId, Positions, Segment};
+use fts_segment::{ListId, PositionReader, Positions};
 use std::marker::Model;
 
-/// A member of a phrase: the list of its term, and its offset.
-#[derive(Clone, Copy)]
+/// A member of a phrase: the list of its term, its positions in the documents of the list, and its offset.
+#[derive(Drop)]
 pub(crate) struct Member<'a> {
     pub(crate) list: ListId<'a>,
+    pub(crate) positions: PositionReader<'a>,
     pub(crate) offset: u32,
 }
 
 /// A cursor over the documents in which the terms stand at their offsets from some one position.
 #[derive(Drop)]
 pub(crate) struct PhraseCursor<'a> {
-    segment: &'a Segment,
     terms: Conjunction<ListSource<'a>>,
-    first: Member<'a>,
+    /// In a box, since what its reader keeps would make each node of a tree larger.
+    first: Box<Member<'a>>,
     others: Vec<Member<'a>>,
 }
 
@@ -44,28 +45,28 @@ impl<'a> Model for PhraseCursor<'a> {
     ghost use Rattle.fts_cursor.specs.Phrases.{IsPhrase, phrase_at};
     ghost use Rattle.fts_cursor.specs.Terms.{of_terms};
 
-    ghost view = { λ c. of_terms c.terms (filter (phrase_at (c.first ∷ c.others.items)) (common_of c.terms)) };
+    ghost view = { λ c. of_terms c.terms (filter (phrase_at (c.first.value ∷ c.others.items)) (common_of c.terms)) };
 
-    ghost invariant = { λ c. IsPhrase c.terms (c.first ∷ c.others.items) };
+    ghost invariant = { λ c. IsPhrase c.terms (c.first.value ∷ c.others.items) };
 }
 
 impl<'a> PhraseCursor<'a> {
     /// Takes the terms as they were made, and a member for each: that of the leading cursor, and the others in turn.
     pub(crate) fn new(
-        segment: &'a Segment,
         terms: Conjunction<ListSource<'a>>,
-        first: Member<'a>,
+        first: Box<Member<'a>>,
         others: Vec<Member<'a>>,
     ) -> PhraseCursor<'a>
         requires tied { AreTied terms }
-        requires members { AreMembersOf terms (first ∷ others.items) }
+        requires members { AreMembersOf terms (first.value ∷ others.items) }
         ensures { result.remaining
-            ≡ filter (phrase_at (first.entry ∷ others.entry.items)) (common_of terms.entry) }
+            ≡ filter (phrase_at (first.entry.value ∷ others.entry.items)) (common_of terms.entry) }
     {
         let mut terms = terms;
-        settle(segment, &mut terms, &first, &others);
+        let mut first = first;
+        let mut others = others;
+        settle(&mut terms, &mut first, &mut others);
         PhraseCursor {
-            segment,
             terms,
             first,
             others,
@@ -100,7 +101,7 @@ impl<'a> DocSet for PhraseCursor<'a> {
         ensures walked { Walked self.old self.new }
     {
         self.terms.advance();
-        settle(self.segment, &mut self.terms, &self.first, &self.others);
+        settle(&mut self.terms, &mut self.first, &mut self.others);
     }
 
     fn seek(&mut self, target: u32)
@@ -108,7 +109,7 @@ impl<'a> DocSet for PhraseCursor<'a> {
         ensures continues { Continues self.old self.new }
     {
         self.terms.seek(target);
-        settle(self.segment, &mut self.terms, &self.first, &self.others);
+        settle(&mut self.terms, &mut self.first, &mut self.others);
     }
 
     fn fill(&mut self, out: &mut [u32; 128]) -> usize
@@ -129,15 +130,17 @@ impl<'a> DocSet for PhraseCursor<'a> {
 }
 
 // Passes over documents in which the phrase doesn't stand.
-fn settle(segment: &Segment, terms: &mut Conjunction<ListSource>, first: &Member, others: &[Member])
-    requires { AreMembersOf terms.old (first.now ∷ others.now) }
-    ensures same { filter (phrase_at (first.now ∷ others.now)) (common_of terms.new)
-        ≡ filter (phrase_at (first.now ∷ others.now)) (common_of terms.old) }
-    ensures settled { FirstPasses (phrase_at (first.now ∷ others.now)) (common_of terms.new) }
+fn settle(terms: &mut Conjunction<ListSource>, first: &mut Member, others: &mut [Member])
+    requires { AreMembersOf terms.old (first.old ∷ others.old) }
+    ensures same { filter (phrase_at (first.old ∷ others.old)) (common_of terms.new)
+        ≡ filter (phrase_at (first.old ∷ others.old)) (common_of terms.old) }
+    ensures settled { FirstPasses (phrase_at (first.old ∷ others.old)) (common_of terms.new) }
     ensures follows { AllFollow terms.old terms.new }
+    ensures first { first.new ≡ first.old }
+    ensures others { others.new ≡ others.old }
 {
     while let Some(_doc) = terms.doc() {
-        if stands(segment, terms, first, others) {
+        if stands(terms, first, others) {
             return;
         }
         terms.advance();
@@ -145,20 +148,17 @@ fn settle(segment: &Segment, terms: &mut Conjunction<ListSource>, first: &Member
 }
 
 // Whether the phrase stands in the document at which its terms do.
-fn stands(
-    segment: &Segment,
-    terms: &Conjunction<ListSource>,
-    first: &Member,
-    others: &[Member],
-) -> bool
+fn stands(terms: &Conjunction<ListSource>, first: &mut Member, others: &mut [Member]) -> bool
     requires some { 0 < length (common_of terms.now) }
-    requires members { AreMembersOf terms.now (first.now ∷ others.now) }
-    ensures { (doc : ℕ) → slice_get (common_of terms.now) 0 ≡ Some doc
-        → result ≡ phrase_at (first.now ∷ others.now) doc }
+    requires members { AreMembersOf terms.now (first.old ∷ others.old) }
+    ensures stands { (doc : ℕ) → slice_get (common_of terms.now) 0 ≡ Some doc
+        → result ≡ phrase_at (first.old ∷ others.old) doc }
+    ensures first { first.new ≡ first.old }
+    ensures others { others.new ≡ others.old }
 {
-    let mut positions = segment.positions(first.list, terms.lead_posting());
+    let mut positions = first.positions.get(terms.lead_posting());
     while let Some(position) = positions.next() {
-        if all_follow(segment, terms, others, first.offset, position) {
+        if all_follow(terms, others, first.offset, position) {
             return true;
         }
     }
@@ -167,19 +167,19 @@ fn stands(
 
 // Whether each of the other members stands as far behind a position as its offset is behind the first one's.
 fn all_follow(
-    segment: &Segment,
     terms: &Conjunction<ListSource>,
-    others: &[Member],
+    others: &mut [Member],
     offset: u32,
     position: u32,
 ) -> bool
     requires some { 0 < length (common_of terms.now) }
-    requires members { (first : Member) × AreMembersOf terms.now (first ∷ others.now) }
-    ensures { (doc : ℕ) → slice_get (common_of terms.now) 0 ≡ Some doc
-        → result ≡ list_all (is_behind offset position doc) others.now }
+    requires members { (first : Member) × AreMembersOf terms.now (first ∷ others.old) }
+    ensures follow { (doc : ℕ) → slice_get (common_of terms.now) 0 ≡ Some doc
+        → result ≡ list_all (is_behind offset position doc) others.old }
+    ensures same { others.new ≡ others.old }
 {
-    for (k, member) in others.iter().enumerate() {
-        let positions = segment.positions(member.list, terms.other_posting(k));
+    for (k, member) in others.iter_mut().enumerate() {
+        let positions = member.positions.get(terms.other_posting(k));
         let sum = u64::from(position) + u64::from(member.offset);
         if !has_position(positions, offset, sum) {
             return false;

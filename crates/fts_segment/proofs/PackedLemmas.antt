@@ -1,15 +1,17 @@
 -- Runs of positions as they are packed.
-use Rattle.std.proofs.Common.{◌≡◌, ◌≢◌, ◌+◌, ◌-◌, ◌*◌, ◌/◌, ◌%◌, ◌^◌, ◌<◌, ◌≤◌, ◌==◌, ℕ, suc, zero, Bool, true, false, cond, List, [], ◌∷◌, ◌++◌, length, get_or, take, drop, sum, refl, sym, ap, ap₂, subst, ◌∙◌, inl, inr, arith, All, length-append, length-drop}
+use Rattle.std.proofs.Common.{◌≡◌, ◌≢◌, ◌+◌, ◌-◌, ◌*◌, ◌/◌, ◌%◌, ◌^◌, ◌<◌, ◌≤◌, ◌==◌, ℕ, suc, zero, Bool, true, false, cond, List, [], ◌∷◌, ◌++◌, map, length, get_or, take, drop, sum, refl, sym, ap, ap₂, subst, ◌∙◌, inl, inr, arith, All, length-append, length-drop}
 use Rattle.std.specs.Prelude.{slice_range}
 use Rattle.std.proofs.lemmas.Bool.{cases_lt, eqb-true, eqb-false}
-use Rattle.std.proofs.lemmas.List.{drop_more, drop-drop, take-append-le, drop-append-le, take_all, length_push, get_or_append_left, nil_from_length, append-nil, take-take, get_or-take, get_or-drop}
+use Rattle.std.proofs.lemmas.List.{drop_more, drop-drop, take-append-le, drop-append-le, take_all, length_push, length-take-le, get_or_append_left, nil_from_length, append-nil, take-take}
 use Rattle.std.proofs.lemmas.List.Elements.{All-push, All-head, All-tail}
-use Rattle.std.proofs.lemmas.List.Sums.{sum_by-cons, sum_by-append, sum_by_more_le}
-use Rattle.std.proofs.Math.Seq.{take-add, take-append_seam, get_or-append_seam}
+use Rattle.std.proofs.lemmas.List.Sums.{sum_by-cons, sum_by-append, sum_by-take-le, sum_by_more}
+use Rattle.std.proofs.Math.Seq.{take-append_seam, get_or-append_seam}
 use Rattle.fts_pack.specs.Documents.{block_at, block_count, documents_at, gaps, Rises}
 use Rattle.fts_pack.specs.SourceLaws.{length-block_at}
-use Rattle.fts_pack.proofs.DocumentsLemmas.{documents_at-gaps, length-gaps}
+use Rattle.fts_pack.proofs.DocumentsLemmas.{documents_at-gaps, length-documents_at, length-gaps}
+use Rattle.fts_pack.proofs.SumLemmas.{sum-take-add}
 use Rattle.fts_segment.specs.Runs.{IsRun, runs_at, ArePacked}
+use Rattle.fts_segment.specs.RunBounds.{AreBoundsOf}
 
 -- the difference of the next position
 pub record IsNextGap (run : List ℕ) (i next position : ℕ) : Type 0 where
@@ -134,45 +136,86 @@ ArePacked-push counts starts next gs run h is fit few next_is =
 pub run_within : (counts gs : List ℕ) (value : List (List ℕ)) (number : ℕ) → runs_at counts gs ≡ value → number < length value → number < length counts
 run_within counts gs value number view within = omega (arith, within, ap length view, length-runs_at counts gs)
 
--- where a run is found: the start of its 128 runs, and the counts of those before it
-pub record IsFound (counts starts gs : List ℕ) (number count : ℕ) (out : List ℕ) : Type 0 where
-  pub block : number / 128 < length starts
-  pub many : number % 128 < count
-  pub sum_fits : sum (take (number % 128) out) < 2 ^ 64
-  pub start_is : get_or starts (number / 128) 0 + sum (take (number % 128) out) ≡ sum (take number counts)
-  pub count_is : get_or out (number % 128) 0 ≡ get_or counts number 0
-  pub end_within : sum (take number counts) + get_or counts number 0 ≤ length gs
-
-pub found : (counts starts gs : List ℕ) (number count : ℕ) (out : List ℕ) → ArePacked counts starts gs → number < length counts → count ≡ length (block_at counts (number / 128)) → take count out ≡ block_at counts (number / 128) →
-    IsFound counts starts gs number count out
-found counts starts gs number count out h within count_is out_is =
-    let block = number / 128 in
-    let place = number % 128 in
-    let near : block < length starts = omega (arith, h.many) in
-    let many : place < count = omega (arith, count_is, length-block_at counts block) in
-    let number_is : block * 128 + place ≡ number = omega arith in
-    let back = drop (block * 128) counts in
-    let same : take place out ≡ take place back = sym (take-take place count out (omega arith)) ∙ ap (take place) out_is ∙ take-take place 128 back (omega arith) in
-    let before : sum (take number counts) ≡ sum (take (block * 128) counts) + sum (take place back) =
-    ap (λ n. sum (take n counts)) (sym number_is) ∙ ap sum (take-add (block * 128) place counts) ∙ sum_by-append (λ (x : ℕ). x) (take (block * 128) counts) (take place back) in
-    let start : get_or starts block 0 ≡ sum (take (block * 128) counts) = h.starts_are block near in
-    let most : sum (take number counts) + get_or counts number 0 ≤ sum counts = sum_by_more_le (λ (x : ℕ). x) counts number 0 within in
-    let sums : sum (take place out) ≡ sum (take place back) = ap sum same in
-    record {
-      block = near;
-      many = many;
-      sum_fits = omega (arith, h.whole, h.few);
-      start_is = omega arith;
-      count_is = sym (get_or-take count out place 0 many) ∙ ap (λ xs. get_or xs place 0) out_is ∙ get_or-take 128 back place 0 (omega arith) ∙ get_or-drop (block * 128) counts place 0 ∙ ap (λ n. get_or counts n 0) number_is;
-      end_within = omega (arith, h.whole);
-    }
-
 -- the positions of a run that was found
 pub found_run : (counts starts gs : List ℕ) (number start end : ℕ) → ArePacked counts starts gs → number < length counts → start ≡ sum (take number counts) → end ≡ start + get_or counts number 0 →
     get_or (runs_at counts gs) number [] ≡ documents_at 0 (slice_range gs start end)
 found_run counts starts gs number start end h within start_is end_is =
     let some : get_or counts number 0 ≡ end - start = omega (arith, end_is) in
     run_at counts gs number within ∙ ap₂ (λ n m. documents_at 0 (take n (drop m gs))) some (sym start_is)
+
+-- the lengths of the runs are the counts
+pub lengths_are : (counts gs : List ℕ) → sum counts ≡ length gs → map length (runs_at counts gs) ≡ counts
+lengths_are [] gs whole = refl
+lengths_are (n ∷ ns) gs whole =
+    let all : n + sum ns ≡ length gs = sym (total-cons n ns) ∙ whole in
+    let rest : sum ns ≡ length (drop n gs) = omega (arith, length-drop n gs) in
+    ap₂ (λ m ms. m ∷ ms) (length-documents_at 0 (take n gs) ∙ length-take-le n gs (omega (arith, all))) (lengths_are ns (drop n gs) rest)
+
+-- what is known of a block that is unpacked: the start of its runs, and the counts of these
+pub record IsUnpacked (counts starts : List ℕ) (block many : ℕ) (out : List ℕ) : Type 0 where
+  pub near : block < length starts
+  pub few : many ≤ 128
+  pub long : length (take many out) ≡ many
+  pub sum_fits : get_or starts block 0 + sum (take many out) < 2 ^ 64
+  pub within : (place : ℕ) → place ≤ 128 → block * 128 + place ≤ length counts → place ≤ many
+  pub sums_are : (place : ℕ) → place ≤ many → get_or starts block 0 + sum (take place (take many out)) ≡ sum (take (block * 128 + place) counts)
+
+pub unpacked : (counts starts gs : List ℕ) (block many : ℕ) (out : List ℕ) → ArePacked counts starts gs → block < block_count (length counts) → many ≡ length (block_at counts block) → take many out ≡ block_at counts block →
+    IsUnpacked counts starts block many out
+unpacked counts starts gs block many out h inside many_is out_is =
+    let near : block < length starts = omega (arith, h.many) in
+    let count = length-block_at counts block in
+    let start : get_or starts block 0 ≡ sum (take (block * 128) counts) = h.starts_are block near in
+    let back = drop (block * 128) counts in
+    let sums : (place : ℕ) → place ≤ many → get_or starts block 0 + sum (take place (take many out)) ≡ sum (take (block * 128 + place) counts) = λ place le.
+    let same : take place (take many out) ≡ take place back = ap (take place) out_is ∙ take-take place 128 back (omega (arith, many_is, count)) in
+    ap₂ (λ m (xs : List ℕ). m + sum xs) start same ∙ sym (sum-take-add (block * 128) place counts) in
+    let long : length (take many out) ≡ many = ap length out_is ∙ sym many_is in
+    record {
+      near = near;
+      few = omega (arith, many_is, count);
+      long = long;
+      sum_fits =
+          let all : take many (take many out) ≡ take many out = take_all many (take many out) (omega (arith, long)) in
+          omega (arith, ap sum all, sums many (omega arith), sum_by-take-le (λ (x : ℕ). x) counts (block * 128 + many), h.whole, h.few);
+      within = λ place le there. omega (arith, many_is, count);
+      sums_are = sums;
+    }
+
+-- the sums of its counts are the bounds of its runs
+pub bounds_are : (counts starts gs : List ℕ) (runs : List (List ℕ)) (block many : ℕ) (out bounds : List ℕ) → ArePacked counts starts gs → runs_at counts gs ≡ runs → IsUnpacked counts starts block many out →
+    ((place : ℕ) → place ≤ length (take many out) → get_or bounds place 0 ≡ get_or starts block 0 + sum (take place (take many out))) → AreBoundsOf runs block bounds
+bounds_are counts starts gs runs block many out bounds h view u are = λ place le there.
+    let there : block * 128 + place ≤ length counts = omega (arith, there, ap length view, length-runs_at counts gs) in
+    let near : place ≤ many = u.within place le there in
+    are place (omega (arith, u.long)) ∙ u.sums_are place near
+    ∙ ap (λ ns. sum (take (block * 128 + place) ns)) (sym (lengths_are counts gs h.whole) ∙ ap (map length) view)
+
+-- a run lies between its bounds
+pub record LiesBetween (counts gs : List ℕ) (number start end : ℕ) : Type 0 where
+  pub within : end ≤ length gs
+  pub is : get_or (runs_at counts gs) number [] ≡ documents_at 0 (slice_range gs start end)
+  pub fit : All (λ p. p < 2 ^ 32) (documents_at 0 (slice_range gs start end))
+
+pub lies_between : (counts starts gs : List ℕ) (runs : List (List ℕ)) (number : ℕ) (bounds : List ℕ) → ArePacked counts starts gs → runs_at counts gs ≡ runs → number < length runs → AreBoundsOf runs (number / 128) bounds →
+    LiesBetween counts gs number (get_or bounds (number % 128) 0) (get_or bounds (number % 128 + 1) 0)
+lies_between counts starts gs runs number bounds h view inside are =
+    let block = number / 128 in
+    let place = number % 128 in
+    let number_is : block * 128 + place ≡ number = omega arith in
+    let next_is : block * 128 + (place + 1) ≡ number + 1 = omega arith in
+    let within = run_within counts gs runs number view inside in
+    let lengths : map length runs ≡ counts = ap (map length) (sym view) ∙ lengths_are counts gs h.whole in
+    let start_is : get_or bounds place 0 ≡ sum (take number counts) = are place (omega arith) (omega arith) ∙ ap₂ (λ n ns. sum (take n ns)) number_is lengths in
+    let end_is : get_or bounds (place + 1) 0 ≡ sum (take (number + 1) counts) = are (place + 1) (omega arith) (omega arith) ∙ ap₂ (λ n ns. sum (take n ns)) next_is lengths in
+    let more : sum (take (number + 1) counts) ≡ sum (take number counts) + get_or counts number 0 = sum_by_more (λ (x : ℕ). x) counts number 0 within in
+    let is = found_run counts starts gs number (get_or bounds place 0) (get_or bounds (place + 1) 0) h within start_is (omega (arith, start_is, end_is, more)) in
+    let Fit : List ℕ → Type 0 = All (λ p. p < 2 ^ 32) in
+    record {
+      within = omega (arith, end_is, sum_by-take-le (λ (x : ℕ). x) counts (number + 1), h.whole);
+      is = is;
+      fit = subst Fit is (h.fit number [] (omega (arith, within, length-runs_at counts gs)));
+    }
 
 -- what comes next of the positions that are left
 pub record ComesNext (gs : List ℕ) (at end next gap : ℕ) : Type 0 where

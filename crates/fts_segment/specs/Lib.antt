@@ -14,6 +14,7 @@ pub mod FieldIndexes
 pub mod Stored
 pub mod Runs
 pub mod RunLogs
+pub mod RunBounds
 pub mod PositionLogs
 pub mod TermRuns
 pub mod ListIds

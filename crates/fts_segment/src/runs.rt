@@ -1,7 +1,8 @@
 // Runs of positions, packed: how many each has, and of each the first position and then differences less 1.
-ghost use Rattle.std.specs.Prelude.{◌≡◌, ◌<◌, ◌++◌, ◌∷◌, ◌^◌, ◌%◌, ◌==◌, [], IfOk, OnOk, cond, length, slice_index_or, sum};
-ghost use Rattle.fts_pack.specs.Documents.{gaps};
+ghost use Rattle.std.specs.Prelude.{◌≡◌, ◌+◌, ◌<◌, ◌≤◌, ◌++◌, ◌∷◌, ◌^◌, ◌%◌, ◌==◌, [], ℕ, IfOk, OnOk, Some, cond, length, slice_index, slice_index_or, sum, take};
+ghost use Rattle.fts_pack.specs.Documents.{block_count, gaps};
 ghost use Rattle.fts_segment.specs.Runs.{IsRun};
+ghost use Rattle.fts_segment.specs.RunBounds.{AreBounds};
 ghost use Rattle.fts_segment.specs.RunLogs.{IsRunLog, logged_runs};
 ghost use Rattle.fts_segment.specs.PositionsLeft.{positions_left};
 
@@ -12,7 +13,8 @@ use std::marker::Model;
 
 /// The positions of postings, a run for each. Contracts see the list of the runs.
 ///
-/// A run is found by adding the counts of at most 127 others, and no position of another is unpacked.
+/// A run is found by the counts of the 128 runs of its block, which are added up once, as long as runs of this block are
+/// asked for ([`Bounds`]). No position of another run is unpacked.
 #[derive(Drop)]
 pub(crate) struct Runs {
     /// How many positions each run has.
@@ -54,38 +56,73 @@ impl Runs {
     }
 
     /// The run of this number, and no positions where there is none.
-    pub(crate) fn get(&self, number: usize) -> Positions<'_>
-        ensures { positions_left result ≡ slice_index_or self.now number [] }
+    pub(crate) fn get(&self, number: usize, bounds: &mut Bounds) -> Positions<'_>
+        requires bounds { AreBounds self.now bounds.old }
+        ensures bounds { AreBounds self.now bounds.new }
+        ensures positions { positions_left result ≡ slice_index_or self.now number [] }
     {
         if number >= self.counts.len() {
             return Positions::none();
         }
-        self.run(number)
+        self.enter(number / BLOCK, bounds);
+        let place = number % BLOCK;
+        Positions::between(&self.gaps, bounds.at[place], bounds.at[place + 1])
     }
 
-    fn run(&self, number: usize) -> Positions<'_>
-        requires { number < length self.now }
-        ensures { positions_left result ≡ slice_index_or self.now number [] }
+    // Looks where the runs of a block begin and end, unless that is the block that was looked at last.
+    fn enter(&self, block: usize, bounds: &mut Bounds)
+        requires within { block < block_count (length self.now) }
+        requires bounds { AreBounds self.now bounds.old }
+        ensures block { bounds.new.block ≡ Some block }
+        ensures bounds { AreBounds self.now bounds.new }
     {
-        let (block, place) = (number / BLOCK, number % BLOCK);
+        if bounds.block == Some(block) {
+            return;
+        }
         let mut counts = [0; BLOCK];
-        self.counts.open(block, &mut counts);
-        let start = self.starts[block] + total(&counts[..place]);
-        let end = start + counts[place] as usize;
-        Positions::between(&self.gaps, start, end)
+        let many = self.counts.open(block, &mut counts);
+        add_up(self.starts[block], &counts[..many], &mut bounds.at);
+        bounds.block = Some(block);
     }
 }
 
-// The sum of the numbers.
-fn total(numbers: &[u32]) -> usize
-    requires { sum numbers.now < 2 ^ 64 }
-    ensures { result ≡ sum numbers.now }
+// Writes a number, and behind it its sums with the first count, with the first two, and so on.
+fn add_up(start: usize, counts: &[u32], out: &mut [usize; 129])
+    requires few { length counts.now ≤ 128 }
+    requires fits { start + sum counts.now < 2 ^ 64 }
+    ensures { (place : ℕ) → place ≤ length counts.now
+        → slice_index out.new place ≡ start + sum (take place counts.now) }
 {
-    let mut total = 0;
-    for number in numbers {
-        total += *number as usize;
+    let mut end = start;
+    out[0] = end;
+    for (place, count) in counts.iter().enumerate() {
+        end += *count as usize;
+        out[place + 1] = end;
     }
-    total
+}
+
+/// Where the runs of a block begin and end among the differences, where one was looked at.
+#[derive(Drop)]
+pub(crate) struct Bounds {
+    /// Which block it is.
+    pub(crate) block: Option<usize>,
+    /// Where each run of the block begins, and behind these where the last one ends.
+    pub(crate) at: [usize; 129],
+}
+
+impl Bounds {
+    ghost use Rattle.std.specs.Prelude.{List, ℕ};
+    ghost use Rattle.fts_segment.specs.RunBounds.{AreBounds};
+
+    /// Of no block.
+    pub(crate) fn new() -> Bounds
+        ensures { (runs : List (List ℕ)) → AreBounds runs result }
+    {
+        Bounds {
+            block: None,
+            at: [0; 129],
+        }
+    }
 }
 
 /// Runs as they come, as they are to be packed.

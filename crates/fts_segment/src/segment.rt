@@ -1,5 +1,5 @@
 // Documents that never change, with the terms that they have.
-ghost use Rattle.std.specs.Prelude.{◌≡◌, ◌≢◌, ◌^◌, ◌<◌, ◌≤◌, [], length, slice_get, option_map, Some, IfNone, IfSome, All, true, slice_index_or};
+ghost use Rattle.std.specs.Prelude.{◌≡◌, ◌≢◌, ◌^◌, ◌<◌, ◌≤◌, [], length, slice_get, option_map, Some, IfNone, IfSome, All, true};
 ghost use Rattle.fts_model.specs.Documents.{IsDocument, fits};
 ghost use Rattle.fts_model.specs.Queries.{is_number_field};
 ghost use Rattle.fts_model.specs.Operations.{kind_at};
@@ -7,10 +7,9 @@ ghost use Rattle.fts_model.specs.declared.schema.Kind.{Kind};
 ghost use Rattle.fts_segment.specs.FieldIndexes.{NumbersFit};
 ghost use Rattle.fts_segment.specs.Segments.{postings, positions, column};
 ghost use Rattle.fts_segment.specs.ListIds.{documents_in, positions_in};
-ghost use Rattle.fts_segment.specs.PositionsLeft.{positions_left};
 
 use crate::field_index::FieldIndex;
-use crate::positions::Positions;
+use crate::position_reader::PositionReader;
 use crate::term_positions::TermRuns;
 use fts_model::{Document, Schema, Stamp, Stamped, Term};
 use fts_pack::{Column, List};
@@ -105,15 +104,12 @@ impl Segment {
         list.list
     }
 
-    /// The positions of a term in the document of a posting, counted from 0: those of its tokens in a text, and 0 of a
-    /// keyword. A number has none.
-    pub fn positions<'a>(&self, list: ListId<'a>, posting: usize) -> Positions<'a>
-        ensures { positions_left result ≡ slice_index_or (positions_in list.entry) posting [] }
+    /// The positions of a term in the documents of its postings, counted from 0: those of its tokens in a text, and 0 of
+    /// a keyword. A number has none.
+    pub fn positions<'a>(&self, list: ListId<'a>) -> PositionReader<'a>
+        ensures { result ≡ positions_in list.entry }
     {
-        match list.positions {
-            Some(term) => term.get(posting),
-            None => Positions::none(),
-        }
+        PositionReader::new(list.positions)
     }
 
     /// The numbers of the documents in a number field, where an `i64` is the `u64` in its place.

@@ -7,7 +7,7 @@ ghost use Rattle.fts_segment.specs.RunLogs.{IsRunLog, logged_runs};
 use crate::grouping::Place;
 use crate::pieces::start_of;
 use crate::positions::Positions;
-use crate::runs::{RunLog, Runs};
+use crate::runs::{Bounds, RunLog, Runs};
 use std::alloc::{AllocError, Global};
 
 /// The positions of terms.
@@ -58,17 +58,20 @@ impl TermPositions {
 
 impl<'a> TermRuns<'a> {
     ghost use Rattle.std.specs.Prelude.{◌≡◌, [], slice_index_or};
+    ghost use Rattle.fts_segment.specs.RunBounds.{AreBounds};
     ghost use Rattle.fts_segment.specs.TermRuns.{runs_in};
     ghost use Rattle.fts_segment.specs.PositionsLeft.{positions_left};
 
     /// The positions in the document of a posting, and none where there is no such posting.
-    pub(crate) fn get(self, posting: usize) -> Positions<'a>
-        ensures { positions_left result ≡ slice_index_or (runs_in self.entry) posting [] }
+    pub(crate) fn get(self, posting: usize, bounds: &mut Bounds) -> Positions<'a>
+        requires bounds { AreBounds self.runs.now bounds.old }
+        ensures bounds { AreBounds self.entry.runs.now bounds.new }
+        ensures positions { positions_left result ≡ slice_index_or (runs_in self.entry) posting [] }
     {
         if posting >= self.end.saturating_sub(self.start) {
             return Positions::none();
         }
-        self.runs.get(self.start + posting)
+        self.runs.get(self.start + posting, bounds)
     }
 }
 

@@ -267,7 +267,7 @@ fn check(
     for row in rows {
         if sought.is_in(row) {
             let list = found.ok_or("no such term")?;
-            let positions: Vec<u32> = segment.positions(list, postings).collect(alloc)?;
+            let positions: Vec<u32> = segment.positions(list).get(postings).collect(alloc)?;
             assert_eq!(rt;
                 positions.as_slice(),
                 sought.positions(alloc, row)?.as_slice()

@@ -1,7 +1,11 @@
 -- The phrase stands in the documents that match.
-use Rattle.std.proofs.Common.{◌^◌, ◌≤◌, ◌∷◌, length, ap, ◌∙◌, arith}
+use Rattle.std.proofs.Common.{◌≡◌, ◌^◌, ◌≤◌, ◌∷◌, length, ap, ◌∙◌, arith, rules}
 use Rattle.std.specs.List.{filter}
+use Rattle.fts_cursor.specs.declared.phrase.Member.{Member}
+use Rattle.fts_cursor.specs.Conjoined.{each_remaining}
+use Rattle.fts_cursor.specs.Meeting.{common}
 use Rattle.fts_cursor.specs.Phrases.{phrase_at}
+use Rattle.fts_cursor.specs.Posting.{remaining_of}
 use Rattle.fts_cursor.proofs.PhraseHits.{fresh_rest, lacking, made}
 use Rattle.fts_cursor.proofs.PhraseLemmas.{members-follow}
 use Rattle.fts_cursor.proofs.TermsLemmas.{terms-continue}
@@ -15,8 +19,8 @@ new-terms-requires c =
     let cursors = rw c.deref.ensures.value at c.in_ok-cursors.ensures in
     record { fresh = fresh_rest c.in_ok-cursors.cursors.items c.in-Some.members.items c.remove-lead.new.self.items cursors c.remove-lead.ensures.items }
 
-pub new-requires-clause-tied : goal.new-requires-clause-tied
-new-requires-clause-tied c =
+pub new-requires-2-clause-tied : goal.new-requires-2-clause-tied
+new-requires-2-clause-tied c =
     let few : length c.args.segment.now.documents ≤ 2 ^ 32 = omega (arith, c.docs.ensures.few, c.docs.ensures.len) in
     let zip = rw c.in-Some.is at c.in_ok-members.ensures in
     let cursors = rw c.deref.ensures.value at c.in_ok-cursors.ensures in
@@ -24,14 +28,15 @@ new-requires-clause-tied c =
     c.remove-lead.ensures.value c.remove-lead.ensures.items c.remove-first.ensures.value c.remove-first.ensures.items in
     (terms-continue (record { lead = c.remove-lead.result; others = c.remove-lead.new.self.items }) c.new-terms.result c.new-terms.ensures.follows whole.tied).1
 
-pub new-requires-clause-members : goal.new-requires-clause-members
-new-requires-clause-members c =
+pub new-requires-2-clause-members : goal.new-requires-2-clause-members
+new-requires-2-clause-members c =
     let few : length c.args.segment.now.documents ≤ 2 ^ 32 = omega (arith, c.docs.ensures.few, c.docs.ensures.len) in
     let zip = rw c.in-Some.is at c.in_ok-members.ensures in
     let cursors = rw c.deref.ensures.value at c.in_ok-cursors.ensures in
     let whole = made c.args.segment.now c.args.field c.args.pattern.now c.in_ok-cursors.cursors.items c.in-Some.members.items c.remove-lead.result c.remove-lead.new.self.items c.remove-first.result c.remove-first.new.self.items c.requires few zip cursors
     c.remove-lead.ensures.value c.remove-lead.ensures.items c.remove-first.ensures.value c.remove-first.ensures.items in
-    members-follow (record { lead = c.remove-lead.result; others = c.remove-lead.new.self.items }) c.new-terms.result (c.remove-first.result ∷ c.remove-first.new.self.items) c.new-terms.ensures.follows whole.members
+    let first_is : c.in_ok-first.first.value ≡ c.remove-first.result = search rules in
+    rw first_is (members-follow (record { lead = c.remove-lead.result; others = c.remove-lead.new.self.items }) c.new-terms.result (c.remove-first.result ∷ c.remove-first.new.self.items) c.new-terms.ensures.follows whole.members)
 
 pub returns : goal.returns
 returns c =
@@ -40,4 +45,6 @@ returns c =
     let cursors = rw c.deref.ensures.value at c.in_ok-cursors.ensures in
     let whole = made c.args.segment.now c.args.field c.args.pattern.now c.in_ok-cursors.cursors.items c.in-Some.members.items c.remove-lead.result c.remove-lead.new.self.items c.remove-first.result c.remove-first.new.self.items c.requires few zip cursors
     c.remove-lead.ensures.value c.remove-lead.ensures.items c.remove-first.ensures.value c.remove-first.ensures.items in
-    c.phrase.ensures ∙ c.new.ensures ∙ ap (filter (phrase_at (c.remove-first.result ∷ c.remove-first.new.self.items))) c.new-terms.ensures.remaining ∙ whole.hits
+    let first_is : c.in_ok-first.first.value ≡ c.remove-first.result = search rules in
+    c.phrase.ensures ∙ c.new-2.ensures ∙ ap (filter (phrase_at (c.in_ok-first.first.value ∷ c.remove-first.new.self.items))) c.new-terms.ensures.remaining
+    ∙ ap (λ (m : Member). filter (phrase_at (m ∷ c.remove-first.new.self.items)) (common (remaining_of c.remove-lead.result) (each_remaining c.remove-lead.new.self.items))) first_is ∙ whole.hits

@@ -6,5 +6,8 @@ use Rattle.fts_cursor.specs.Phrases.{is_behind}
 use Rattle.fts_cursor.proofs.phrase.all_follow.Given as goal
 
 abbrev pub invariant-loop-k : goal.invariant-loop-k
-invariant-loop-k l =
-    (doc : ℕ) → slice_get (common_of l.terms) 0 ≡ Some doc → list_all (is_behind l.offset l.position doc) (drop l.k l.others) ≡ list_all (is_behind l.offset l.position doc) l.others
+invariant-loop-k l = record {
+  follow : (doc : ℕ) → slice_get (common_of l.terms) 0 ≡ Some doc →
+      list_all (is_behind l.offset l.position doc) (drop l.k l.initial.others) ≡ list_all (is_behind l.offset l.position doc) l.initial.others;
+  same : l.others ≡ l.initial.others;
+}

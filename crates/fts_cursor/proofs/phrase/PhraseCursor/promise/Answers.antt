@@ -6,4 +6,4 @@ use Rattle.fts_cursor.proofs.PromiseLemmas.{length-filter-le}
 use Rattle.fts_cursor.proofs.phrase.PhraseCursor.promise.Goals as goal
 
 pub returns : goal.returns
-returns c = rw (← c.self.view_is) (omega (arith, length-filter-le (phrase_at (c.self.inside.first ∷ c.self.inside.others.items)) (common_of c.self.inside.terms)))
+returns c = rw (← c.self.view_is) (omega (arith, length-filter-le (phrase_at (c.self.inside.first.value ∷ c.self.inside.others.items)) (common_of c.self.inside.terms)))

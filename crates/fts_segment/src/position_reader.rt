@@ -1,0 +1,55 @@
+// Reads the positions of a term in the documents of its postings.
+ghost use Rattle.std.specs.Prelude.{◌≡◌, [], slice_index_or};
+ghost use Rattle.fts_segment.specs.ListIds.{positions_of};
+ghost use Rattle.fts_segment.specs.PositionsLeft.{positions_left};
+
+use crate::positions::Positions;
+use crate::runs::Bounds;
+use crate::term_positions::TermRuns;
+use std::marker::Model;
+
+/// The positions of a term, a list for each of its postings. Contracts see the list of these.
+///
+/// Where the positions of 128 documents lie is kept, so that it is best asked for postings in rising order.
+#[derive(Drop)]
+pub struct PositionReader<'a> {
+    term: Option<TermRuns<'a>>,
+    bounds: Bounds,
+}
+
+impl<'a> Model for PositionReader<'a> {
+    ghost use Rattle.std.specs.Prelude.{List, ℕ};
+
+    ghost Value = { List (List ℕ) };
+
+    ghost use Rattle.std.specs.Prelude.{IfSome};
+    ghost use Rattle.fts_segment.specs.ListIds.{positions_of};
+    ghost use Rattle.fts_segment.specs.RunBounds.{AreBounds};
+
+    ghost view = { λ r. positions_of r.term };
+
+    ghost invariant = { λ r. IfSome r.term (λ term. AreBounds term.runs.now r.bounds) };
+}
+
+impl<'a> PositionReader<'a> {
+    /// Reads the positions of a term, or of a number, which has none.
+    pub(crate) fn new(term: Option<TermRuns<'a>>) -> PositionReader<'a>
+        ensures { result ≡ positions_of term.entry }
+    {
+        PositionReader {
+            term,
+            bounds: Bounds::new(),
+        }
+    }
+
+    /// The positions in the document of a posting, and none where there is no such posting.
+    pub fn get(&mut self, posting: usize) -> Positions<'a>
+        ensures positions { positions_left result ≡ slice_index_or self.old posting [] }
+        ensures same { self.new ≡ self.old }
+    {
+        match self.term {
+            Some(term) => term.get(posting, &mut self.bounds),
+            None => Positions::none(),
+        }
+    }
+}
