@@ -2,11 +2,13 @@
 ghost use Rattle.std.specs.Prelude.{◌≡◌, IfOk};
 ghost use Rattle.fts_index.specs.Following.{Follows, Fits};
 
+mod again;
 mod background;
 mod growths;
 
 use crate::fixtures::schema;
-use crate::writer::batch;
+use crate::searching;
+use crate::writer::{batch, seen};
 use fts_index::{Cut, MergedSegment, Writer};
 use fts_model::Refusal;
 use fts_pool::Open;
@@ -84,37 +86,51 @@ fn ended_after<R: Threads + Wait + Sync>(
     Ok(end(rt, alloc, writer, merged))
 }
 
-/// How many documents are found.
-fn count(writer: &Writer) -> Result<usize, Refusal> {
-    let searcher = writer.searcher()?;
-    let mut count: usize = 0;
-    for entry in searcher.snapshot().entries() {
-        count = count.saturating_add(entry.live_count());
-    }
-    Ok(count)
+/// How many documents of a writer a text finds.
+fn count<R: Threads + Wait + Sync>(
+    rt: &R,
+    alloc: Global,
+    writer: &Writer,
+    text: &str,
+) -> Result<u64, Refusal> {
+    searching::count(rt, alloc, &writer.searcher()?, text)
 }
 
+/// How many documents there are, and how many of the tag `p`.
+fn counts<R: Threads + Wait + Sync>(
+    rt: &R,
+    alloc: Global,
+    writer: &Writer,
+) -> Result<[u64; 2], Refusal> {
+    let all = count(rt, alloc, writer, "*")?;
+    Ok([all, count(rt, alloc, writer, "tag:p")?])
+}
+
+/// What is found before and after the end of a merge, of which one document was struck meanwhile.
 fn half_struck<R: Threads + Wait + Sync>(
     rt: &R,
     alloc: Global,
     writer: &mut Writer,
-) -> Result<(usize, bool), Refusal> {
+) -> Result<[[u64; 2]; 2], Refusal> {
     commit(rt, alloc, writer, &["+p", "+q"])?;
-    if let Some(refusal) = ended_after(rt, alloc, writer, &["-p"])? {
-        return Err(refusal);
+    let merged = merged(alloc, writer, &[0, 1])?;
+    commit(rt, alloc, writer, &["-p"])?;
+    let before = counts(rt, alloc, writer)?;
+    match end(rt, alloc, writer, merged) {
+        None => Ok([before, counts(rt, alloc, writer)?]),
+        Some(refusal) => Err(refusal),
     }
-    Ok((count(writer)?, has(alloc, writer, &[(2, 2, 1)])?))
 }
 
 #[test]
 fn what_was_struck_meanwhile_stays_struck(rt: HostRuntime) -> Result<(), Fail> {
     let alloc = rt.alloc();
     let mut writer = Writer::new(&rt, alloc, &schema(alloc)?)?;
-    let ended = half_struck(&rt, alloc, &mut writer);
-    let stamp = writer.commit_stamp();
+    let found = half_struck(&rt, alloc, &mut writer);
+    let seen = seen(alloc, &writer);
     writer.close(&rt);
-    assert_eq!(rt; ended?, (1, true));
-    assert_eq!(rt; stamp, 5);
+    assert_eq!(rt; found?, [[1, 0], [1, 0]]);
+    assert_eq!(rt; seen?.as_str(), "5: (2,2,1) 2q");
     Ok(())
 }
 
@@ -188,14 +204,15 @@ fn in_two_threads<R: Threads + Wait + Sync>(
     rt: &R,
     alloc: Global,
     writer: &mut Writer,
-) -> Result<(usize, bool), Refusal> {
+) -> Result<(u64, bool), Refusal> {
     commit(rt, alloc, writer, &["+p", "+q", "+r", "+s"])?;
     let (first, second) = both(rt, alloc, writer)?;
     commit(rt, alloc, writer, &["+t"])?;
     end(rt, alloc, writer, second);
     end(rt, alloc, writer, first);
     let expected = [(4, 1, 1), (5, 2, 2), (6, 2, 2)];
-    Ok((count(writer)?, has(alloc, writer, &expected)?))
+    let found = count(rt, alloc, writer, "*")?;
+    Ok((found, has(alloc, writer, &expected)?))
 }
 
 #[test]

@@ -1,5 +1,6 @@
 // fts_pool: each job is run once, between the gate's two calls, and its result stands in its place, whatever the workers do.
 use fts_pool::{Gate, Job, Open, run_all};
+use std::process::Abort;
 use std::sync::atomic::{AtomicU64, Ordering};
 use std::test::Fail;
 use std::thread::yield_now;
@@ -31,9 +32,10 @@ impl Job for Square {
     }
 }
 
-/// Holds one of three jobs back until the other two have passed, and counts its calls.
+/// Holds one of up to three jobs back until the others have passed, and counts its calls.
 #[derive(Drop)]
-struct Holding {
+pub(crate) struct Holding {
+    jobs: usize,
     held: usize,
     before: [AtomicU64; 3],
     after: [AtomicU64; 3],
@@ -44,8 +46,9 @@ fn zeros() -> [AtomicU64; 3] {
     [AtomicU64::new(0), AtomicU64::new(0), AtomicU64::new(0)]
 }
 
-fn holding_back(held: usize) -> Holding {
+pub(crate) fn holding_back(held: usize, jobs: usize) -> Holding {
     Holding {
+        jobs,
         held,
         before: zeros(),
         after: zeros(),
@@ -74,7 +77,7 @@ impl Gate for Holding {
             return;
         }
         for _ in 0..1_000_000_000u64 {
-            if passed(self) == 2 {
+            if passed(self).saturating_add(1) == self.jobs {
                 self.released.fetch_add(1, Ordering::SeqCst);
                 return;
             }
@@ -87,18 +90,26 @@ impl Gate for Holding {
     }
 }
 
+/// Whether the job was held until the others had passed, and each began and ended once.
+pub(crate) fn check_held(rt: &impl Abort, gate: &Holding) {
+    assert_eq!(rt; gate.released.load(Ordering::SeqCst), 1);
+    for job in 0..3usize {
+        let wanted = u64::from(job < gate.jobs);
+        assert_eq!(rt; gate.before[job].load(Ordering::SeqCst), wanted);
+        assert_eq!(rt; gate.after[job].load(Ordering::SeqCst), wanted);
+    }
+}
+
 #[test]
 fn a_held_job_waits_while_another_worker_runs_the_others(rt: HostRuntime) -> Result<(), Fail> {
     for held in 0..3usize {
         let jobs = [square_of(3), square_of(4), square_of(5)];
-        let gate = holding_back(held);
+        let gate = holding_back(held, 3);
         let squares = run_all(&rt, rt.alloc(), &jobs, 2, &gate)?;
         assert_eq!(rt; squares.as_slice(), [9, 16, 25].as_slice());
-        assert_eq!(rt; gate.released.load(Ordering::SeqCst), 1);
-        for job in 0..3usize {
-            assert_eq!(rt; gate.before[job].load(Ordering::SeqCst), 1);
-            assert_eq!(rt; gate.after[job].load(Ordering::SeqCst), 1);
-            assert_eq!(rt; jobs[job].runs.load(Ordering::SeqCst), 1);
+        check_held(&rt, &gate);
+        for job in &jobs {
+            assert_eq!(rt; job.runs.load(Ordering::SeqCst), 1);
         }
     }
     Ok(())

@@ -3,6 +3,7 @@
 ghost use Rattle.std.specs.Prelude.{◌≡◌, IfOk};
 
 use crate::fixtures::schema;
+use crate::searching::count;
 use crate::writer::batch;
 use fts_index::{CommitSeen, Cut, Reader, Writer};
 use fts_model::{Refusal, Stamp};
@@ -39,21 +40,29 @@ fn commit_all<R: Threads + Wait + Sync>(
     Ok(())
 }
 
-// The stamp of a searcher, if it is that of a commit with so many segments.
-fn stamp_found(reader: &mut Reader) -> Result<Option<Stamp>, Refusal>
+// The stamp of a searcher, if it is that of a commit with so many documents.
+fn stamp_found<R: Threads + Wait + Sync>(
+    rt: &R,
+    alloc: Global,
+    reader: &mut Reader,
+) -> Result<Option<Stamp>, Refusal>
     ensures { reader.new.of ≡ reader.old.of }
 {
     let searcher = reader.searcher()?;
     let stamp = searcher.commit_stamp();
-    let segments = searcher.snapshot().entries().len() as u64;
-    Ok((stamp % 2 == 0 && stamp / 2 == segments).then_some(stamp))
+    let found = count(rt, alloc, &searcher, "*")?;
+    Ok((stamp % 2 == 0 && stamp / 2 == found).then_some(stamp))
 }
 
 // True if each of 1,000 searchers is of a commit, and none is older than the one before.
-fn search_all(reader: &mut Reader) -> Result<bool, Refusal> {
+fn search_all<R: Threads + Wait + Sync>(
+    rt: &R,
+    alloc: Global,
+    reader: &mut Reader,
+) -> Result<bool, Refusal> {
     let mut newest = 0;
     for _ in 0..1000 {
-        match stamp_found(reader)? {
+        match stamp_found(rt, alloc, reader)? {
             Some(stamp) if newest <= stamp => newest = stamp,
             _ => return Ok(false),
         }
@@ -74,8 +83,8 @@ fn commit_and_search<R: Threads + Wait + Sync>(
         || commit_all(rt, alloc, writer).is_ok(),
         || join(
             rt,
-            || search_all(first) == Ok(true),
-            || search_all(second) == Ok(true),
+            || search_all(rt, alloc, first) == Ok(true),
+            || search_all(rt, alloc, second) == Ok(true),
         ),
     );
     committed && first && second
@@ -90,8 +99,8 @@ fn side_by_side<R: Threads + Wait + Sync + Abort>(
     let mut first = writer.reader()?;
     let mut second = writer.reader()?;
     assert!(rt; commit_and_search(rt, alloc, writer, &mut first, &mut second));
-    assert_eq!(rt; stamp_found(&mut first)?, Some(200));
-    assert_eq!(rt; stamp_found(&mut second)?, Some(200));
+    assert_eq!(rt; stamp_found(rt, alloc, &mut first)?, Some(200));
+    assert_eq!(rt; stamp_found(rt, alloc, &mut second)?, Some(200));
     Ok(())
 }
 
@@ -137,9 +146,14 @@ impl Gate for UntilFound {
 }
 
 // What a reader finds while a commit is held.
-fn find_beside(gate: &UntilFound, reader: &mut Reader) -> Result<Option<Stamp>, Refusal> {
+fn find_beside<R: Threads + Wait + Sync>(
+    rt: &R,
+    alloc: Global,
+    gate: &UntilFound,
+    reader: &mut Reader,
+) -> Result<Option<Stamp>, Refusal> {
     let began = becomes_set(&gate.began);
-    let stamp = stamp_found(reader);
+    let stamp = stamp_found(rt, alloc, reader);
     gate.found.store(1, Ordering::SeqCst);
     if began { stamp } else { Ok(None) }
 }
@@ -155,7 +169,7 @@ fn commit_and_find<R: Threads + Wait + Sync>(
     join(
         rt,
         || commit(rt, alloc, writer, gate).map(|_| ()),
-        || find_beside(gate, reader),
+        || find_beside(rt, alloc, gate, reader),
     )
 }
 
@@ -171,7 +185,7 @@ fn held_commit<R: Threads + Wait + Sync + Abort>(
     let (committed, beside) = commit_and_find(rt, alloc, writer, gate, &mut reader);
     committed?;
     assert_eq!(rt; beside, Ok(Some(2)));
-    assert_eq!(rt; stamp_found(&mut reader)?, Some(4));
+    assert_eq!(rt; stamp_found(rt, alloc, &mut reader)?, Some(4));
     Ok(())
 }
 
@@ -190,24 +204,66 @@ fn a_reader_finds_the_commit_before_while_one_is_made(rt: HostRuntime) -> Result
     Ok(outcome?)
 }
 
-// A reader that was told of the second commit and then of the first finds the second.
-fn told_backwards(
-    rt: &impl Abort,
+// Whether a reader that is told of a commit finds this.
+fn finds_told<R: Threads + Wait + Sync + Abort>(
+    rt: &R,
+    alloc: Global,
     reader: &mut Reader,
-    first: &CommitSeen,
-    second: &CommitSeen,
+    seen: &CommitSeen,
+    stamp: Stamp,
 ) -> Result<(), Refusal>
-    requires first { first.now.of ≡ reader.old.of }
-    requires second { second.now.of ≡ reader.old.of }
+    requires { seen.now.of ≡ reader.old.of }
+    ensures { reader.new.of ≡ reader.old.of }
 {
-    reader.told(second)?;
-    assert_eq!(rt; stamp_found(reader)?, Some(4));
-    reader.told(first)?;
-    assert_eq!(rt; stamp_found(reader)?, Some(4));
+    reader.told(seen)?;
+    assert_eq!(rt; stamp_found(rt, alloc, reader)?, Some(stamp));
     Ok(())
 }
 
-// Another reader, which was told of the second.
+// A commit of which one reader is told before a merge of all segments, and another one behind it, which finds it untold.
+fn first_told<R: Threads + Wait + Sync + Abort>(
+    rt: &R,
+    alloc: Global,
+    writer: &mut Writer,
+    reader: &mut Reader,
+    other: &mut Reader,
+) -> Result<CommitSeen, Refusal>
+    requires reader { reader.old.of ≡ writer.old.front.seen.of }
+    requires other { other.old.of ≡ writer.old.front.seen.of }
+    ensures writer { writer.new.front.seen.of ≡ writer.old.front.seen.of }
+    ensures reader { reader.new.of ≡ reader.old.of }
+    ensures other { other.new.of ≡ other.old.of }
+    ensures seen { IfOk result (λ seen. seen.of ≡ writer.old.front.seen.of) }
+{
+    assert_eq!(rt; stamp_found(rt, alloc, reader)?, Some(0));
+    let first = commit(rt, alloc, writer, &Open)?;
+    finds_told(rt, alloc, reader, &first, 2)?;
+    writer.merge(rt, alloc, &[0])?;
+    assert_eq!(rt; stamp_found(rt, alloc, reader)?, Some(2));
+    assert_eq!(rt; stamp_found(rt, alloc, other)?, Some(2));
+    finds_told(rt, alloc, other, &first, 2)?;
+    Ok(first)
+}
+
+// A second commit: a reader that is told of it, and then of the first one, finds it.
+fn second_told<R: Threads + Wait + Sync + Abort>(
+    rt: &R,
+    alloc: Global,
+    writer: &mut Writer,
+    reader: &mut Reader,
+    first: &CommitSeen,
+) -> Result<CommitSeen, Refusal>
+    requires reader { reader.old.of ≡ writer.old.front.seen.of }
+    requires first { first.now.of ≡ writer.old.front.seen.of }
+    ensures { IfOk result (λ seen. seen.of ≡ writer.old.front.seen.of) }
+{
+    let second = commit(rt, alloc, writer, &Open)?;
+    finds_told(rt, alloc, reader, &second, 4)?;
+    finds_told(rt, alloc, reader, first, 4)?;
+    Ok(second)
+}
+
+// A reader that was told of both commits, each time after the other reader.
 fn told<R: Threads + Wait + Sync + Abort>(
     rt: &R,
     alloc: Global,
@@ -215,9 +271,8 @@ fn told<R: Threads + Wait + Sync + Abort>(
 ) -> Result<Reader, Refusal> {
     let mut reader = writer.reader()?;
     let mut other = writer.reader()?;
-    let first = commit(rt, alloc, writer, &Open)?;
-    let second = commit(rt, alloc, writer, &Open)?;
-    told_backwards(rt, &mut reader, &first, &second)?;
+    let first = first_told(rt, alloc, writer, &mut reader, &mut other)?;
+    let second = second_told(rt, alloc, writer, &mut reader, &first)?;
     other.told(&second)?;
     Ok(other)
 }
@@ -229,7 +284,7 @@ fn what_was_told_stays_known(rt: HostRuntime) -> Result<(), Fail> {
     let mut writer = Writer::new(&rt, alloc, &schema(alloc)?)?;
     let outcome = told(&rt, alloc, &mut writer);
     writer.close(&rt);
-    assert_eq!(rt; stamp_found(&mut outcome?)?, Some(4));
+    assert_eq!(rt; stamp_found(&rt, alloc, &mut outcome?)?, Some(4));
     Ok(())
 }
 

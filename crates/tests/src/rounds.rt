@@ -4,13 +4,18 @@ ghost use Rattle.std.specs.Prelude.{◌≡◌, ◌≤◌, ℕ, ◌<◌, length, 
 ghost use Rattle.std.specs.List.{range_with_len};
 ghost use Rattle.fts_index.specs.Rounds.{IsLaneOf, SameLane, fresh, lanes_of, times};
 
+mod given_up;
+
 use crate::fixtures::schema;
+use crate::searching::count;
 use crate::writer;
 use fts_index::{Batch, Cut, Lane, LaneEnd, Round, Writer, open_round};
-use fts_model::{Document, FieldValue, Number, Op, Refusal, Schema, Stamp, Term};
+use fts_model::{Document, FieldValue, Number, Op, Refusal, Schema, Stamp, Stamped, Term};
 use fts_pool::Open;
 use serde_json::{Map, Value};
 use std::alloc::{AllocError, Global};
+use std::fmt::Write;
+use std::process::Abort;
 use std::sync::Wait;
 use std::test::Fail;
 use std::thread::{Threads, map_vec};
@@ -124,21 +129,32 @@ fn gathered<R: Threads + Sync>(
     gather(alloc, round, ends)
 }
 
-/// A commit of two lanes with 1,000 documents each: the batch, the commit's stamp, and how many documents are found.
+/// The stamp of a commit, and the stamp and the number of the documents that a reader finds that was told of it.
+fn told<R: Threads + Wait + Sync>(
+    rt: &R,
+    alloc: Global,
+    writer: &mut Writer,
+    batch: &Batch,
+) -> Result<(Stamp, Stamp, u64), Refusal> {
+    let mut reader = writer.reader()?;
+    let committed = writer.commit(rt, alloc, batch, Cut::Deal(1), 2, &Open)?;
+    reader.told(&committed.seen)?;
+    let searcher = reader.searcher()?;
+    let found = count(rt, alloc, &searcher, "*")?;
+    Ok((committed.stamp, searcher.commit_stamp(), found))
+}
+
+/// A commit of two lanes with 1,000 documents each, and what is found then.
 fn two_lanes<R: Threads + Wait + Sync>(
     rt: &R,
     alloc: Global,
     writer: &mut Writer,
-) -> Result<(Batch, Stamp, usize), Refusal> {
+) -> Result<(Batch, (Stamp, Stamp, u64)), Refusal> {
     let schema = writer.schema().clone()?;
     let (round, lanes) = writer.open_round(alloc, 2, 1000)?;
     let batch = gathered(rt, alloc, &schema, round, lanes, 1000)?;
-    let committed = writer.commit(rt, alloc, &batch, Cut::Deal(1), 2, &Open)?;
-    let mut documents = 0usize;
-    for entry in writer.searcher()?.snapshot().entries() {
-        documents = documents.wrapping_add(entry.live_count());
-    }
-    Ok((batch, committed.stamp, documents))
+    let told = told(rt, alloc, writer, &batch)?;
+    Ok((batch, told))
 }
 
 #[test]
@@ -147,12 +163,12 @@ fn two_threads_draw_each_stamp_once(rt: HostRuntime) -> Result<(), Fail> {
     let mut writer = Writer::new(&rt, alloc, &schema(alloc)?)?;
     let committed = two_lanes(&rt, alloc, &mut writer);
     writer.close(&rt);
-    let (batch, stamp, documents) = committed?;
+    let (batch, told) = committed?;
     assert_eq!(rt;
         (batch.first(), batch.ops().len(), batch.end()),
         (1, 2000, 2001)
     );
-    assert_eq!(rt; (stamp, documents), (2001, 2000));
+    assert_eq!(rt; told, (2001, 2001, 2000));
     let mut next = 1;
     let mut begun = 0u64;
     for op in batch.ops() {
@@ -178,14 +194,21 @@ fn full_lanes_draw_nothing(rt: HostRuntime) -> Result<(), Fail> {
     Ok(())
 }
 
+/// Fills a lane that takes one operation, and hands back the next.
+fn fill(rt: &impl Abort, lane: &mut Lane, op: Op, stamp: Stamp)
+    ensures { SameLane lane.old lane.new }
+{
+    assert_eq!(rt; submit(lane, op), Some(stamp));
+    let (op, refusal) = lane.submit(delete(9)).expect_err(rt, "full");
+    assert_eq!(rt; refusal, Refusal::LaneFull);
+    assert_eq!(rt; number_of(&op), Some(9));
+}
+
 #[test]
 fn a_full_lane_hands_the_operation_back(rt: HostRuntime) -> Result<(), Fail> {
     let (_round, mut lanes) = open_round(rt.alloc(), 0, 5, 1, 1)?;
     let mut lane = lanes.pop().expect(&rt, "a lane");
-    assert_eq!(rt; submit(&mut lane, Op::DeleteAll), Some(5));
-    let (op, refusal) = lane.submit(delete(9)).expect_err(&rt, "full");
-    assert_eq!(rt; refusal, Refusal::LaneFull);
-    assert_eq!(rt; number_of(&op), Some(9));
+    fill(&rt, &mut lane, Op::DeleteAll, 5);
     Ok(())
 }
 
@@ -229,23 +252,57 @@ fn four_lanes(alloc: Global, writer: &mut Writer) -> Result<Batch, Refusal> {
     gather(alloc, round, ends)
 }
 
-/// The commit of these lanes.
-fn four_lanes_seen<R: Threads + Wait + Sync>(
+/// An operation as it is printed: its stamp, and the tag behind `+` or `-`.
+fn list_op(list: &mut String, op: &Stamped<Op>) -> Result<(), AllocError> {
+    match &op.value {
+        Op::Add(document) => write!(list, " {}+{}", op.stamp, writer::tag_of(document)),
+        Op::Delete(term) => write!(list, " {}-{}", op.stamp, writer::text_of(&term.value)),
+        Op::DeleteAll => Ok(()),
+    }
+}
+
+/// The operations of a batch.
+fn listed(alloc: Global, batch: &Batch) -> Result<String, AllocError> {
+    let mut list = String::new(alloc);
+    for op in batch.ops() {
+        list_op(&mut list, op)?;
+    }
+    Ok(list)
+}
+
+/// How many documents have the tags a, b and c.
+fn tags_found<R: Threads + Wait + Sync>(
+    rt: &R,
+    alloc: Global,
+    writer: &Writer,
+) -> Result<[u64; 3], Refusal> {
+    let searcher = writer.searcher()?;
+    let a = count(rt, alloc, &searcher, "tag:a")?;
+    let b = count(rt, alloc, &searcher, "tag:b")?;
+    Ok([a, b, count(rt, alloc, &searcher, "tag:c")?])
+}
+
+/// The batch of these lanes, which is committed.
+fn four_lanes_committed<R: Threads + Wait + Sync>(
     rt: &R,
     alloc: Global,
     writer: &mut Writer,
-) -> Result<String, Refusal> {
+) -> Result<Batch, Refusal> {
     let batch = four_lanes(alloc, writer)?;
     writer.commit(rt, alloc, &batch, Cut::Runs(10), 1, &Open)?;
-    writer::seen(alloc, writer)
+    Ok(batch)
 }
 
 #[test]
 fn a_batch_is_in_the_order_of_its_stamps(rt: HostRuntime) -> Result<(), Fail> {
     let alloc = rt.alloc();
     let mut writer = Writer::new(&rt, alloc, &schema(alloc)?)?;
-    let seen = four_lanes_seen(&rt, alloc, &mut writer);
+    let batch = four_lanes_committed(&rt, alloc, &mut writer);
+    let found = tags_found(&rt, alloc, &writer);
+    let seen = writer::seen(alloc, &writer);
     writer.close(&rt);
+    assert_eq!(rt; listed(alloc, &batch?)?.as_str(), " 1+a 2+b 3-a 4+c");
+    assert_eq!(rt; found?, [0, 1, 1]);
     assert_eq!(rt; seen?.as_str(), "5: (0,3,2) 2b 4c");
     Ok(())
 }

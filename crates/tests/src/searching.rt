@@ -4,6 +4,8 @@ ghost use Rattle.fts_index.specs.Cuts.{IsCut};
 ghost use Rattle.fts_index.specs.Rounds.{SameLane};
 
 mod counts;
+mod held;
+mod openings;
 
 use crate::collect::{check_same, generated};
 use crate::fixtures::schema;
@@ -20,6 +22,29 @@ use std::process::Abort;
 use std::sync::Wait;
 use std::test::Fail;
 use std::thread::Threads;
+
+/// What a text finds, by one thread.
+pub(crate) fn found<R: Threads + Wait + Sync>(
+    rt: &R,
+    alloc: Global,
+    searcher: &Searcher,
+    text: &str,
+) -> Result<Found, Refusal> {
+    let schema = searcher.snapshot().schema();
+    let query = parse(alloc, schema, text)?;
+    let request = Request::new(schema, None, None)?;
+    searcher.search(rt, alloc, &query, &request, 1, &Open)
+}
+
+/// How many documents a text finds.
+pub(crate) fn count<R: Threads + Wait + Sync>(
+    rt: &R,
+    alloc: Global,
+    searcher: &Searcher,
+    text: &str,
+) -> Result<u64, Refusal> {
+    Ok(found(rt, alloc, searcher, text)?.answer.count)
+}
 
 /// The stamps of the operations of two commits. The stamp between them is that of the first commit.
 const FIRST: (u64, u64) = (1, 120);

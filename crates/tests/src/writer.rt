@@ -7,7 +7,7 @@ mod refusals;
 
 use crate::fixtures::schema;
 use fts_index::{Batch, CommitSeen, Cut, Entry, Lane, LaneEnd, Searcher, Writer};
-use fts_model::{Document, FieldValue, Op, Refusal, Schema, Stamp, Term, Text};
+use fts_model::{Document, FieldValue, Op, Refusal, Schema, Term, Text};
 use fts_pool::Open;
 use serde_json::Value;
 use std::alloc::{AllocError, Global};
@@ -91,10 +91,17 @@ fn commit<R: Threads + Wait + Sync>(
     Ok(committed.seen)
 }
 
-fn tag_of(document: &Document) -> &str {
+pub(crate) fn text_of(value: &FieldValue) -> &str {
+    match value {
+        FieldValue::Text(text) => text.as_str(),
+        FieldValue::Number(_) => "",
+    }
+}
+
+pub(crate) fn tag_of(document: &Document) -> &str {
     match document.value(1) {
-        Some(FieldValue::Text(tag)) => tag.as_str(),
-        _ => "",
+        Some(tag) => text_of(tag),
+        None => "",
     }
 }
 
@@ -138,7 +145,12 @@ pub(crate) fn seen(alloc: Global, writer: &Writer) -> Result<String, Refusal> {
 }
 
 /// Whether this is seen of a writer.
-fn shows(rt: &impl Abort, alloc: Global, writer: &Writer, wanted: &str) -> Result<(), Refusal> {
+pub(crate) fn shows(
+    rt: &impl Abort,
+    alloc: Global,
+    writer: &Writer,
+    wanted: &str,
+) -> Result<(), Refusal> {
     let seen = seen(alloc, writer)?;
     assert_eq!(rt; seen.as_str(), wanted);
     Ok(())
@@ -246,36 +258,5 @@ fn searchers_keep_what_they_found(rt: HostRuntime) -> Result<(), Fail> {
     for (searcher, wanted) in searchers.iter().zip(wanted) {
         assert_eq!(rt; found(alloc, searcher)?.as_str(), *wanted);
     }
-    Ok(())
-}
-
-/// The stamps that two readers find: one that was told of a commit, before and after a merge, and one that nobody told.
-fn stamps_found<R: Threads + Wait + Sync>(
-    rt: &R,
-    alloc: Global,
-    writer: &mut Writer,
-) -> Result<[Stamp; 4], Refusal> {
-    let mut told = writer.reader()?;
-    let mut untold = writer.reader()?;
-    let opening = told.searcher()?.commit_stamp();
-    let seen = commit(rt, alloc, writer, &["+p"])?;
-    told.told(&seen)?;
-    let first = told.searcher()?.commit_stamp();
-    writer.merge(rt, alloc, &[0])?;
-    Ok([
-        opening,
-        first,
-        told.searcher()?.commit_stamp(),
-        untold.searcher()?.commit_stamp(),
-    ])
-}
-
-#[test]
-fn readers_find_commits(rt: HostRuntime) -> Result<(), Fail> {
-    let alloc = rt.alloc();
-    let mut writer = Writer::new(&rt, alloc, &schema(alloc)?)?;
-    let found = stamps_found(&rt, alloc, &mut writer);
-    writer.close(&rt);
-    assert_eq!(rt; found?, [0, 2, 2, 2]);
     Ok(())
 }

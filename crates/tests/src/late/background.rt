@@ -57,15 +57,12 @@ fn run(alloc: Global, job: MergeJob) -> Result<MergedSegment, Refusal>
 }
 
 /// Begins a merge of four lines, which is run in a thread of its own.
-fn begun<R: Threads>(rt: &R, alloc: Global, writer: &Writer) -> Result<Thread, Refusal>
+fn begun<R: Threads>(rt: &R, alloc: Global, writer: &Writer) -> Result<Thread, Fail>
     ensures { IfOk result (λ t. Fits (merged_of t.promise.0.value) writer.now.front.snapshot) }
 {
     let job = writer.begin_merge(alloc, &[0, 1, 2, 3])?;
     let promise = Merging(Snapshot::of(&job));
-    match spawn_with(rt, promise, move || run(alloc, job)) {
-        Ok(thread) => Ok(thread),
-        Err(_) => Err(Refusal::Memory),
-    }
+    Ok(spawn_with(rt, promise, move || run(alloc, job))?)
 }
 
 /// Ends what a thread merged.
@@ -88,13 +85,13 @@ fn merged_beside<R: Threads + Wait + Sync>(
     rt: &R,
     alloc: Global,
     writer: &mut Writer,
-) -> Result<Option<Refusal>, Refusal> {
+) -> Result<Option<Refusal>, Fail> {
     commit(rt, alloc, writer, &["+a", "+b", "+c", "+d"])?;
     let thread = begun(rt, alloc, writer)?;
     let logged = log(rt, alloc, writer, &LINES);
     let ended = joined(rt, alloc, writer, thread);
     logged?;
-    ended
+    Ok(ended?)
 }
 
 #[test]

@@ -3,6 +3,7 @@ ghost use Rattle.std.specs.Prelude.{◌≡◌, IfOk};
 
 use super::{batch, commit, seen, shows};
 use crate::fixtures::schema;
+use crate::searching::count;
 use fts_index::{Batch, CommitSeen, Cut, Reader, Writer};
 use fts_model::{Refusal, Stamp};
 use fts_pool::Open;
@@ -27,6 +28,7 @@ fn commit_again<R: Threads + Wait + Sync + Abort>(
         Err(refusal) => {
             assert_eq!(rt; refusal, Refusal::Memory);
             shows(rt, alloc, writer, before.as_str())?;
+            assert_eq!(rt; count(rt, alloc, &writer.searcher()?, "*")?, 2);
             let committed = writer.commit(rt, alloc, batch, Cut::Runs(1), 2, &Open)?;
             Ok(committed.seen)
         }
@@ -90,6 +92,7 @@ fn committed<R: Threads + Wait + Sync + Abort>(
     let batch = batch(alloc, writer, &["-p", "+", "+"])?;
     let seen = commit_again(rt, alloc, writer, &batch)?;
     shows(rt, alloc, writer, "7: (1,1,1) (2,1,1) (3,1,1) 2q 5 6")?;
+    assert_eq!(rt; count(rt, alloc, &writer.searcher()?, "*")?, 3);
     Ok((reader, seen))
 }
 
