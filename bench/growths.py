@@ -16,8 +16,8 @@ import tempfile
 
 PROGRAM = "crates/fts/out/fts"
 
-# How a test tells that it ended for want of memory.
-WANT_OF_MEMORY = (b"error: AllocError", b"error: AllocFailed", b"error: Memory", b"error: Error(out of memory)")
+# How a test tells that it ended for want of memory, of which a new thread needs some too.
+WANT_OF_MEMORY = (b"error: AllocError", b"error: AllocFailed", b"error: Memory", b"error: Error(out of memory)", b"error: SpawnError")
 
 # Stands before the C library: the call numbered FAIL_AT finds no memory, and FAIL_COUNT asks how many calls there were.
 SHIM = r"""
