@@ -20,6 +20,9 @@ def having(w):
     return len(HAVE.get(w, ()))
 
 
+# Each side's time is the least of so many runs.
+RUNS = 3
+
 MATCH = "select count(*) from docs where docs match ?"
 JOIN = "from docs join columns on columns.rowid = docs.rowid where docs match ?"
 # How many steps the time of a kind is divided by, what these are, and the search as FTS5 has it.
@@ -42,7 +45,7 @@ STEPS = {
 def our_times():
     times = {}
     crates = "fts_collect fts_query fts_segment fts_pack fts_model serde_json anyhow"
-    for kind, _, nanos, openings in outputs("search", crates, runs=3):
+    for kind, _, nanos, openings in outputs("search", crates, runs=RUNS):
         times[kind] = min(times.get(kind, (1 << 62, 0)), (int(nanos), int(openings)))
     return times
 
@@ -58,16 +61,20 @@ def sqlite():
     return base
 
 
+def sqlite_time(base, sql):
+    began = time.perf_counter()
+    for case in CASES:
+        base.execute(*sql(*case)).fetchall()
+    return time.perf_counter() - began
+
+
 ours, base = our_times(), sqlite()
 print(f"| {SEARCHES} searches a kind | us a search | ns | of a | openings | FTS5, us | FTS5 / fts |")
 print("|---|---|---|---|---|---|---|")
 for kind in KINDS:
     steps, step, sql = STEPS[kind]
     nanos, openings = ours[kind]
-    began = time.perf_counter()
-    for case in CASES:
-        base.execute(*sql(*case)).fetchall()
-    theirs = (time.perf_counter() - began) / SEARCHES * 1e6
+    theirs = min(sqlite_time(base, sql) for _ in range(RUNS)) / SEARCHES * 1e6
     us = nanos / SEARCHES / 1000
     each = nanos / sum(steps(a, b) for a, b, _ in CASES)
     print(f"| `{kind}` | {us:.1f} | {each:.2f} | {step} | {openings} | {theirs:.1f} | {theirs / us:.1f} |")
