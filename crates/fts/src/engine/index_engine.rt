@@ -170,3 +170,6 @@ impl Engine for IndexEngine {
         writer.close(rt);
     }
 }
+
+#[cfg(test)]
+mod tests;

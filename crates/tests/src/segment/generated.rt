@@ -46,7 +46,7 @@ const TERMS: [&str; 9] = [
 ];
 
 /// How many terms there are with those that are numbers.
-const VOCABULARY: usize = 400;
+const VOCABULARY: usize = 100;
 
 /// What stands between words.
 const BETWEEN: [&str; 4] = [" ", ", ", "-", " — "];
@@ -179,7 +179,7 @@ fn push_title(
         return Ok(title);
     }
     json.push_str("\"")?;
-    for _ in 0..chance.below(24) {
+    for _ in 0..chance.below(12) {
         title.push(push_word(alloc, json, chance)?)?;
         let place = chance.below(BETWEEN.len());
         json.push_str(BETWEEN.get(place).copied().unwrap_or(" "))?;
@@ -260,29 +260,27 @@ fn check(
     rows: &[Row],
     sought: Sought,
 ) -> Result<(), Fail> {
-    let found = segment.find(&sought.term(alloc)?);
-    let mut postings = 0;
+    let Some(list) = segment.find(&sought.term(alloc)?) else {
+        assert!(rt; rows.iter().all(|row| !sought.is_in(row)));
+        return Ok(());
+    };
+    let mut reader = segment.positions(list);
     let mut wanted = Vec::new(alloc);
     let mut doc = 0u32;
     for row in rows {
         if sought.is_in(row) {
-            let list = found.ok_or("no such term")?;
-            let positions: Vec<u32> = segment.positions(list).get(postings).collect(alloc)?;
+            let positions: Vec<u32> = reader.get(wanted.len()).collect(alloc)?;
             assert_eq!(rt;
                 positions.as_slice(),
                 sought.positions(alloc, row)?.as_slice()
             );
             wanted.push(doc)?;
-            postings = wanted.len();
         }
         doc = doc.wrapping_add(1);
     }
-    let documents: Vec<u32> = match found {
-        None => Vec::new(alloc),
-        Some(list) => documents(alloc, segment.postings(list).source())?,
-    };
+    let documents = documents(alloc, segment.postings(list).source())?;
     assert_eq!(rt; documents.as_slice(), wanted.as_slice());
-    assert_eq!(rt; found.is_some(), !wanted.is_empty());
+    assert!(rt; !wanted.is_empty());
     Ok(())
 }
 

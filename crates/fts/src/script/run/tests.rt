@@ -360,9 +360,7 @@ fn answers_come_before_the_next_read(rt: HostRuntime) {
 
 /// A line of `count` times `byte`, and then `rest`.
 fn push_line(bytes: &mut Vec<u8>, byte: u8, count: usize, rest: &str) -> Result<(), Fail> {
-    for _ in 0..count {
-        bytes.push(byte)?;
-    }
+    bytes.resize(bytes.len().saturating_add(count), byte)?;
     bytes.extend_from_slice(rest.as_bytes())?;
     bytes.push(b'\n')?;
     Ok(())
