@@ -75,19 +75,19 @@ three m a b c d e =
     sym (ap (λ n. n % m) whole ∙ mul-add-mod_self_right (s / m + d / m) m (s % m + d % m + e))
 
 -- four documents more
-pub summed_more : (last : ℕ) (gaps : List ℕ) (at : ℕ) (out out' from from' loaded sums row : List ℕ) → length gaps ≡ 128 → at + 4 ≤ 128 → length loaded ≡ 4 → length out' ≡ 128 → IsSummed last gaps at out from
+pub summed_more : (last : ℕ) (gaps : List ℕ) (at : ℕ) (out out' from from' loaded sums added : List ℕ) → length gaps ≡ 128 → at + 4 ≤ 128 → length loaded ≡ 4 → length out' ≡ 128 → IsSummed last gaps at out from
     → ((lane : ℕ) → lane < 4 → get_or loaded lane 0 ≡ get_or out (at + lane) 0)
     → ((lane : ℕ) → lane < 4 → get_or sums lane 0 ≡ sum (take (lane + 1) loaded) % 2 ^ 32)
-    → ((lane : ℕ) → lane < 4 → get_or row lane 0 ≡ (get_or from lane 0 + get_or sums lane 0 + (lane + 1)) % 2 ^ 32)
+    → ((lane : ℕ) → lane < 4 → get_or added lane 0 ≡ (get_or from lane 0 + get_or sums lane 0 + (lane + 1)) % 2 ^ 32)
     → ((i : ℕ) → i < at → get_or out' i 0 ≡ get_or out i 0)
-    → ((lane : ℕ) → lane < 4 → get_or out' (at + lane) 0 ≡ get_or row lane 0)
+    → ((lane : ℕ) → lane < 4 → get_or out' (at + lane) 0 ≡ get_or added lane 0)
     → ((i : ℕ) → at + 4 ≤ i → i < 128 → get_or out' i 0 ≡ get_or out i 0)
-    → ((lane : ℕ) → lane < 4 → get_or from' lane 0 ≡ get_or row 3 0)
+    → ((lane : ℕ) → lane < 4 → get_or from' lane 0 ≡ get_or added 3 0)
     → (at' : ℕ) → at' ≡ at + 4 → IsSummed last gaps at' out' from'
-summed_more last gaps at out out' from from' loaded sums row long room four long' h is sums_are row_is before there behind from_is at' at_is =
+summed_more last gaps at out out' from from' loaded sums added long room four long' h is sums_are added_is before there behind from_is at' at_is =
     let e = loaded_is gaps out loaded at long room four h.kept is in
-    let reach : (lane : ℕ) → lane < 4 → get_or row lane 0 ≡ (last + sum (take (at + lane + 1) gaps) + (at + lane + 1)) % 2 ^ 32 = λ lane small.
-    row_is lane small
+    let reach : (lane : ℕ) → lane < 4 → get_or added lane 0 ≡ (last + sum (take (at + lane + 1) gaps) + (at + lane + 1)) % 2 ^ 32 = λ lane small.
+    added_is lane small
     ∙ ap₂ (λ x y. (x + y + (lane + 1)) % 2 ^ 32) (h.reached lane small) (sums_are lane small)
     ∙ three (2 ^ 32) last (sum (take at gaps)) at (sum (take (lane + 1) loaded)) (lane + 1)
     ∙ ap (λ n. n % 2 ^ 32) (let s = sum_loaded gaps loaded at lane e small in

@@ -1,0 +1,11 @@
+-- All is as before.
+use Rattle.std.proofs.Common.{sym, subst}
+use Rattle.fts_index.specs.Following.{Fits}
+use Rattle.fts_index.specs.MergedSegments.{MergedSegmentValue}
+use Rattle.fts_index.specs.Writers.{WriterValue}
+use Rattle.tests_index.proofs.late.again.refused.Goals as goal
+
+pub returns : goal.returns
+returns g c =
+    subst (λ (m : MergedSegmentValue). Fits m c.end_merge.new.self.front.snapshot) (sym c.in-Err.ensures.handed_back)
+    (subst (λ (w : WriterValue). Fits c.args.merged w.front.snapshot) (sym c.in-Err.ensures.same) c.requires)
