@@ -2,11 +2,13 @@
 
     python3 bench/growths.py examples/catalogue.jsonl
     python3 bench/growths.py crates/tests_segments/out/tests_segments_tests merge::plans
+    python3 bench/growths.py options
 
 Build the program first (README.md), or the tests with `rt test` in their crate; this takes gcc too. A run of the program
 has to end with status 3 and the replies to some first lines of the script, or with status 0 and all replies. A test whose
 name has the word has to pass, or to end for want of memory and by no failed assertion. Tests of thousands of documents take
-too long for it.
+too long for it. The last refuses nothing: it counts the growths of one script by each option of `fts run`, which no reply
+shows, and each has to change their number.
 """
 import os
 import pathlib
@@ -87,6 +89,19 @@ def refuse_in_script(shim, path):
     print(f"{sum(outcomes.values())} growths refused in turn: {outcomes[3]} runs ended for memory, {outcomes[0]} did without")
 
 
+def count_by_options(shim):
+    adds = "".join(f'{{"add":{{"price":{price}}}}}\n' for price in range(9))
+    script = f'{{"schema":[{{"name":"price","kind":"u64"}}]}}\n{adds}{{"commit":true}}\n{{"search":{{"query":"*"}}}}\n'.encode()
+    runs = ["--runs", "1"]
+    counts = {}
+    for options in ([], ["--deal", "2"], ["--runs", "4"], runs, [*runs, "--merge", "policy"], [*runs, "--workers", "4"]):
+        status, out, told = run(shim, [PROGRAM, "run", *options], script, FAIL_COUNT="1")
+        assert status == 0 and out.endswith(b'{"count":9}\n')
+        counts[" ".join(options) or "no option"] = growths(told)[-1]
+    assert len(set(counts.values())) == len(counts), counts
+    print("growths of one script: " + ", ".join(f"{options} {count}" for options, count in counts.items()))
+
+
 def refuse_in_tests(shim, binary, word):
     listed = run(shim, [binary, "--list"])[1].decode().splitlines()
     for name in (line.removesuffix(": test") for line in listed if line.endswith(": test") and word in line):
@@ -107,7 +122,9 @@ with tempfile.TemporaryDirectory() as folder:
     source, shim = pathlib.Path(folder, "shim.c"), str(pathlib.Path(folder, "shim.so"))
     source.write_text(SHIM)
     subprocess.run(["gcc", "-shared", "-fPIC", "-O1", "-o", shim, str(source), "-ldl"], check=True)
-    if sys.argv[1].endswith("_tests"):
+    if sys.argv[1] == "options":
+        count_by_options(shim)
+    elif sys.argv[1].endswith("_tests"):
         refuse_in_tests(shim, sys.argv[1], sys.argv[2] if len(sys.argv) > 2 else "")
     else:
         refuse_in_script(shim, sys.argv[1])
