@@ -92,14 +92,19 @@ def refuse_in_script(shim, path):
 def count_by_options(shim):
     adds = "".join(f'{{"add":{{"price":{price}}}}}\n' for price in range(9))
     script = f'{{"schema":[{{"name":"price","kind":"u64"}}]}}\n{adds}{{"commit":true}}\n{{"search":{{"query":"*"}}}}\n'.encode()
-    runs = ["--runs", "1"]
-    counts = {}
-    for options in ([], ["--deal", "2"], ["--runs", "4"], runs, [*runs, "--merge", "policy"], [*runs, "--workers", "4"]):
-        status, out, told = run(shim, [PROGRAM, "run", *options], script, FAIL_COUNT="1")
+
+    # As many words each time, since the command line takes memory too.
+    def count(cut, n, merge="off", workers="1"):
+        command = [PROGRAM, "run", cut, n, "--merge", merge, "--workers", workers]
+        status, out, told = run(shim, command, script, FAIL_COUNT="1")
         assert status == 0 and out.endswith(b'{"count":9}\n')
-        counts[" ".join(options) or "no option"] = growths(told)[-1]
-    assert len(set(counts.values())) == len(counts), counts
-    print("growths of one script: " + ", ".join(f"{options} {count}" for options, count in counts.items()))
+        return growths(told)[-1]
+
+    runs, fours, dealt, whole = count("--runs", "1"), count("--runs", "4"), count("--deal", "2"), count("--runs", "65536")
+    merged, shared = count("--runs", "1", merge="policy"), count("--runs", "1", workers="4")
+    assert runs > fours > dealt > whole and merged > runs and shared > runs, (runs, fours, dealt, whole, merged, shared)
+    print(f"growths of one script: {whole} in one segment, {dealt} in two, {fours} in three, {runs} in nine, "
+          f"{merged} where these are merged, {shared} with four workers")
 
 
 def refuse_in_tests(shim, binary, word):
