@@ -1,14 +1,2 @@
-pub mod Adds
-pub mod AnswerLemmas
-pub mod BlankLemmas
-pub mod CarrierLemmas
-pub mod CommitLemmas
-pub mod EngineLemmas
-pub mod FitLemmas
-pub mod HistoryLemmas
-pub mod LineLemmas
-pub mod MergeLemmas
 pub mod ParseLemmas
 pub mod RangeLemmas
-pub mod RunLemmas
-pub mod StreamLemmas

@@ -8,8 +8,8 @@ use Rattle.clap.specs.declared.error.kind.ErrorKind.{ErrorKind}
 use Rattle.clap.specs.declared.error.kind.ErrorKind.TheVariants.{DisplayHelp, DisplayVersion}
 use Rattle.clap.specs.declared.parser.matches.ArgMatches.{ArgMatches}
 use Rattle.fts.specs.RunOptions.{AreGiven, Places, command, cut_given, given_in, given_to_run}
-use Rattle.fts.specs.declared.script.fault.Fault.{Fault}
-use Rattle.fts.specs.declared.script.fault.Fault.TheVariants.{Memory, Read, Write, StampsUsedUp}
+use Rattle.fts_script.specs.declared.fault.Fault.{Fault}
+use Rattle.fts_script.specs.declared.fault.Fault.TheVariants.{Memory, Read, Write, StampsUsedUp}
 use Rattle.fts.specs.declared.cli.args.ArgFault.{ArgFault}
 use Rattle.fts.specs.declared.cli.args.ArgFault.TheVariants as refused
 use Rattle.fts.specs.declared.cli.args.Asked.{Asked}

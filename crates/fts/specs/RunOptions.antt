@@ -12,11 +12,11 @@ use Rattle.clap.specs.Walk.{Row, Rule, Text, first_of, one_of}
 use Rattle.clap.specs.declared.builder.value_parser.ValueParser.{ValueParser}
 use Rattle.clap.specs.declared.builder.value_parser.ValueParser.TheVariants.{Names, Unsigned}
 use Rattle.clap.specs.declared.parser.matches.ArgMatches.{ArgMatches}
-use Rattle.fts_index.specs.declared.cut.Cut.{Cut}
-use Rattle.fts_index.specs.declared.cut.Cut.TheVariants.{Runs, Deal}
-use Rattle.fts.specs.declared.engine.options.Options.{Options}
-use Rattle.fts.specs.declared.engine.options.Merge.{Merge}
-use Rattle.fts.specs.declared.engine.options.Merge.TheVariants.{Off, Policy}
+use Rattle.fts_model.specs.declared.cut.Cut.{Cut}
+use Rattle.fts_model.specs.declared.cut.Cut.TheVariants.{Runs, Deal}
+use Rattle.fts_script.specs.declared.options.Options.{Options}
+use Rattle.fts_script.specs.declared.options.Merge.{Merge}
+use Rattle.fts_script.specs.declared.options.Merge.TheVariants.{Off, Policy}
 
 -- Where the values of `--merge` lie in memory: clap keeps a reference to them, and compares their texts alone.
 pub record Places : Type 0 where

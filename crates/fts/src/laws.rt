@@ -4,7 +4,6 @@ ghost use Rattle.clap.specs.declared.error.kind.ErrorKind.TheVariants.{DisplayHe
 ghost use Rattle.clap.specs.declared.error.kind.ErrorKind.TheVariants.{InvalidValue, MissingSubcommand, ValueValidation};
 ghost use Rattle.fts.specs.Arguments.{faults_of};
 ghost use Rattle.fts.specs.RunOptions.{Places, given_to_run, number_given};
-ghost use Rattle.fts.specs.Outputs.{output, output_by_commands};
 
 /// Behind the program's name, `run` alone asks for a run, `--help` for help, `--version` for the version, and no word for
 /// nothing. A number of workers is read, and refused beyond 64; so is a time of merges that there isn't.
@@ -24,10 +23,4 @@ pub fn command_line()
         (name ∷ codes "run" ∷ codes "--workers" ∷ codes "65" ∷ []) ≡ ValueValidation ∷ [] }
     ensures merge { (places : Places) (name : List ℕ) → faults_of places
         (name ∷ codes "run" ∷ codes "--merge" ∷ codes "sometimes" ∷ []) ≡ InvalidValue ∷ [] }
-{}
-
-/// What is written depends on the commands that were accepted alone: a stamp is the place of a command among them, and a
-/// search sees the documents that are alive after the operations before the last commit.
-pub fn output_is_that_of_commands()
-    ensures { (input : List ℕ) → output input ≡ output_by_commands input }
 {}

@@ -2,21 +2,16 @@
 #![tactic(auto)]
 
 ghost use Rattle.std.specs.Prelude.{◌≡◌, ◌≢◌, ◌<◌};
-ghost use Rattle.fts.specs.Outputs.{output};
-ghost use Rattle.fts.specs.Runs.{BeginsOutputUnless};
+ghost use Rattle.fts_script.specs.Outputs.{output};
+ghost use Rattle.fts_script.specs.Runs.{BeginsOutputUnless};
 
 mod cli;
-mod engine;
 mod laws;
-mod script;
 
 use cli::args::{ArgFault, Asked, args};
 use cli::status::{arg_status, run_status, status};
-use engine::index_engine::IndexEngine;
-use engine::options::Options;
-use script::fault::Fault;
-use script::run_std::run_std;
-use script::std_streams::Plain;
+use fts_engine::IndexEngine;
+use fts_script::{Fault, Options, Plain, run_std};
 use std::env::Env;
 use std::io::{Eprint, Stdin, Stdout};
 use std::process::ExitCode;

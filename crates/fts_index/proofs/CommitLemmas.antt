@@ -13,7 +13,7 @@ use Rattle.fts_model.specs.Operations.{alive, adds, added, added_by, survives, s
 use Rattle.fts_model.proofs.OperationsByStamps.{alive-survives, All-added}
 use Rattle.fts_index.specs.Order.{in_stamp_order}
 use Rattle.fts_index.specs.Entries.{EntryValue, live_in, content}
-use Rattle.fts_index.specs.declared.cut.Cut.{Cut}
+use Rattle.fts_model.specs.declared.cut.Cut.{Cut}
 use Rattle.fts_index.specs.Cuts.{groups_of}
 use Rattle.fts_index.specs.Commits.{struck, fresh, fresh_from, committed}
 use Rattle.fts_index.proofs.OrderLemmas.{ByStamp, rises_from_pairs, pairs_from_rises, permutation_in_order, in_stamp_order-permutation, in_stamp_order-rises, filter-in_stamp_order}

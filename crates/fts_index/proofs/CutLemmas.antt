@@ -7,8 +7,8 @@ use Rattle.std.proofs.lemmas.Nat.{div-mul-add, mod-mul-add, mul-add-lt, div-add-
 use Rattle.std.proofs.Math.Nat.{le-mul_of_pos_right, mul-le-mul_left, mul-le-mul_right}
 use Rattle.std.proofs.lemmas.List.{append-nil, length-append}
 use Rattle.std.proofs.lemmas.List.Sorted.{IsPermutation-refl, IsPermutation-trans, IsPermutation-to_front, IsPermutation-append_left, IsPermutation-append_right}
-use Rattle.fts_index.specs.declared.cut.Cut.{Cut}
-use Rattle.fts_index.specs.declared.cut.Cut.TheVariants.{Runs, Deal}
+use Rattle.fts_model.specs.declared.cut.Cut.{Cut}
+use Rattle.fts_model.specs.declared.cut.Cut.TheVariants.{Runs, Deal}
 use Rattle.fts_index.specs.Cuts.{IsCut, place_of, put_into, dealt_from, groups_of}
 use Rattle.fts_index.proofs.OrderLemmas.{All-joined, All-weaker_by}
 use Rattle.fts_index.proofs.EntryLemmas.{joined}

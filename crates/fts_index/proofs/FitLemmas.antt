@@ -10,7 +10,7 @@ use Rattle.fts_model.specs.declared.refusal.Refusal.TheVariants.{OtherSchema}
 use Rattle.fts_model.specs.Documents.{DocumentValue, fits}
 use Rattle.fts_model.specs.Operations.{op_fits, added_by, added}
 use Rattle.fts_segment.specs.Segments.{AllFit}
-use Rattle.fts_index.specs.declared.cut.Cut.{Cut}
+use Rattle.fts_model.specs.declared.cut.Cut.{Cut}
 use Rattle.fts_index.specs.Cuts.{place_of, put_into, dealt_from, groups_of}
 use Rattle.fts_index.specs.Commits.{misfit}
 use Rattle.fts_index.proofs.OrderLemmas.{All-joined}

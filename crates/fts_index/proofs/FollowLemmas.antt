@@ -7,7 +7,7 @@ use Rattle.fts_model.specs.Operations.{added, survives}
 use Rattle.fts_model.proofs.Lists.{Contains-cases, Contains-first, Contains-behind, Contains-none, Contains-from_filter}
 use Rattle.fts_merge.specs.Strikes.{bits_where}
 use Rattle.fts_index.specs.Entries.{EntryValue, has_live}
-use Rattle.fts_index.specs.declared.cut.Cut.{Cut}
+use Rattle.fts_model.specs.declared.cut.Cut.{Cut}
 use Rattle.fts_index.specs.Cuts.{groups_of}
 use Rattle.fts_index.specs.Commits.{struck, fresh_from}
 use Rattle.fts_index.specs.Merges.{is_among, without, whole, gathered}

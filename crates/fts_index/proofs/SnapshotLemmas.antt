@@ -12,7 +12,7 @@ use Rattle.fts_model.specs.Operations.{adds, added, StampsRise}
 use Rattle.fts_model.proofs.OperationsAlive.{alive-pairs}
 use Rattle.fts_segment.specs.Contents.{where_set}
 use Rattle.fts_index.specs.Entries.{EntryValue, IsEntry, live_in, live_count, has_live, content}
-use Rattle.fts_index.specs.declared.cut.Cut.{Cut}
+use Rattle.fts_model.specs.declared.cut.Cut.{Cut}
 use Rattle.fts_index.specs.Cuts.{IsCut, groups_of}
 use Rattle.fts_index.specs.Commits.{struck, fresh, fresh_from, new_segments}
 use Rattle.fts_index.specs.Merges.{is_there, is_among, entry_at, entries_at, without, gathered, whole, names_fault}

@@ -9,7 +9,7 @@ use Rattle.fts_model.specs.Documents.{DocumentValue}
 use Rattle.fts_model.specs.Operations.{op_fits, survives, added}
 use Rattle.fts_merge.specs.Strikes.{bits_after}
 use Rattle.fts_index.specs.Entries.{EntryValue, has_live}
-use Rattle.fts_index.specs.declared.cut.Cut.{Cut}
+use Rattle.fts_model.specs.declared.cut.Cut.{Cut}
 use Rattle.fts_index.specs.Cuts.{groups_of}
 
 -- the first operation that doesn't fit the schema, if there is one

@@ -1,7 +1,7 @@
 -- How the adds of a batch are cut into segments.
 use Rattle.std.specs.Prelude.{ℕ, zero, suc, ◌+◌, ◌*◌, ◌/◌, ◌%◌, ◌≤◌, List, [], ◌∷◌, ◌++◌}
-use Rattle.fts_index.specs.declared.cut.Cut.{Cut}
-use Rattle.fts_index.specs.declared.cut.Cut.TheVariants.{Runs, Deal}
+use Rattle.fts_model.specs.declared.cut.Cut.{Cut}
+use Rattle.fts_model.specs.declared.cut.Cut.TheVariants.{Runs, Deal}
 
 -- the limits of a cut
 abbrev pub IsCut : Cut → Type 0

@@ -7,7 +7,7 @@ use Rattle.fts_model.specs.declared.refusal.Refusal.{Refusal}
 use Rattle.fts_model.specs.Documents.{DocumentValue}
 use Rattle.fts_model.specs.Operations.{StampsRise}
 use Rattle.fts_index.specs.Entries.{EntryValue, IsEntry, has_live, content}
-use Rattle.fts_index.specs.declared.cut.Cut.{Cut}
+use Rattle.fts_model.specs.declared.cut.Cut.{Cut}
 use Rattle.fts_index.specs.Commits.{committed, new_segments, numbers_fault}
 use Rattle.fts_index.specs.Merges.{merged, merge_fault as fault_of_merge}
 

@@ -3,8 +3,8 @@ ghost use Rattle.std.specs.Prelude.{◌≡◌, ◌<◌, ◌≤◌, ◌+◌, ◌^
 ghost use Rattle.fts_model.specs.Operations.{added_by, added};
 ghost use Rattle.fts_index.specs.Cuts.{IsCut, place_of, put_into, dealt_from, groups_of};
 
-use crate::cut::Cut;
-use fts_model::{Document, Op, Stamp, Stamped};
+use crate::cut::place;
+use fts_model::{Cut, Document, Op, Stamp, Stamped};
 use std::alloc::{AllocError, Global};
 use std::marker::Model;
 
@@ -89,7 +89,7 @@ fn put_added(
     };
     let value = document.clone()?;
     let stamp = op.stamp;
-    put(alloc, groups, cut.place(count), Stamped { stamp, value })?;
+    put(alloc, groups, place(cut, count), Stamped { stamp, value })?;
     Ok(count + 1)
 }
 

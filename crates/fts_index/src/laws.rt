@@ -6,7 +6,7 @@ ghost use Rattle.fts_model.specs.Documents.{DocumentValue};
 ghost use Rattle.fts_model.specs.Operations.{alive, adds, StampsRise};
 ghost use Rattle.fts_index.specs.Entries.{IsEntry, EntryValue, content, live_count};
 ghost use Rattle.fts_index.specs.Merges.{entries_at, gathered, names_fault};
-ghost use Rattle.fts_index.specs.declared.cut.Cut.{Cut};
+ghost use Rattle.fts_model.specs.declared.cut.Cut.{Cut};
 ghost use Rattle.fts_index.specs.MergedSegments.{MergedSegmentValue, IsMergedSegment, merged_of};
 ghost use Rattle.fts_index.specs.Snapshots.{SnapshotValue, IsSnapshot, after_commit, after_merge};
 ghost use Rattle.fts_index.specs.Following.{Follows, Fits};

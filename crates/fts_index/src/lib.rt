@@ -58,7 +58,7 @@ mod stamps;
 mod writer;
 
 pub use batch::Batch;
-pub use cut::Cut;
+pub use fts_model::Cut;
 pub use entry::{Entry, SegmentInfo};
 pub use jobs::CommitJob;
 pub use lane::{Lane, LaneEnd};

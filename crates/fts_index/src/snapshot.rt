@@ -14,7 +14,6 @@ ghost use Rattle.fts_index.specs.Snapshots.{IsBehind, IsSnapshot, after_commit, 
 
 use crate::beginning::begun;
 use crate::committing::{entries_of_jobs, jobs_of_batch};
-use crate::cut::Cut;
 use crate::ending::end_entries;
 use crate::entry::{Entry, SegmentInfo};
 use crate::group::groups;
@@ -23,7 +22,7 @@ use crate::merged_segment::MergedSegment;
 use crate::merging::merge_entries;
 use crate::numbers::are_used_up;
 use crate::planning::candidates;
-use fts_model::{Op, Refusal, Schema, Stamped};
+use fts_model::{Cut, Op, Refusal, Schema, Stamped};
 use fts_pool::Gate;
 use std::alloc::{AllocError, Global};
 use std::marker::Model;

@@ -14,7 +14,6 @@ ghost use Rattle.fts_index.specs.Publications.{opening, IsOneCommit};
 ghost use Rattle.fts_index.specs.Writers.{IsRefusedFor, next_round, with_round, without_round, round_fault, is_of, batch_fault, stamp_behind, with_commit, with_merge, late_fault, with_end};
 
 use crate::batch::Batch;
-use crate::cut::Cut;
 use crate::entry::SegmentInfo;
 use crate::lane::Lane;
 use crate::merge_job::MergeJob;
@@ -23,7 +22,7 @@ use crate::publications::{CommitSeen, Publisher, Reader, Searcher};
 use crate::round::{Round, open_round};
 use crate::snapshot::Snapshot;
 use crate::stamps::Terms;
-use fts_model::{Op, Refusal, Schema, Stamp, Stamped};
+use fts_model::{Cut, Op, Refusal, Schema, Stamp, Stamped};
 use fts_pool::Gate;
 use std::alloc::Global;
 use std::marker::Model;

@@ -28,6 +28,7 @@
 #![tactic(auto)]
 
 mod answer;
+mod cut;
 mod document;
 mod ghosts;
 pub mod laws;
@@ -40,6 +41,7 @@ mod text;
 mod value;
 
 pub use answer::{Answer, Hit};
+pub use cut::Cut;
 pub use document::Document;
 pub use ghosts::{GhostBytes, GhostCount};
 pub use operation::{Op, Stamp, Stamped, Term};

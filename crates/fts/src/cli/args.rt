@@ -5,7 +5,7 @@ ghost use Rattle.fts.specs.declared.cli.args.ArgFault.TheVariants.{Memory};
 
 use crate::cli::given::options;
 use crate::cli::parser::parse;
-use crate::engine::options::Options;
+use fts_script::Options;
 use clap::error::ErrorKind;
 use std::alloc::{AllocError, Global};
 use thiserror::Error;

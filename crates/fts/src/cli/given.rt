@@ -5,7 +5,7 @@ ghost use Rattle.clap.specs.Walk.{first_of, one_of, rows_of};
 ghost use Rattle.fts.specs.RunOptions.{AreGiven, AreInRange, IsNumber, cut_asked, cut_given, given_in};
 ghost use Rattle.fts.specs.RunOptions.{merge_asked, number_given};
 
-use crate::engine::options::{Cut, Merge, Options};
+use fts_script::{Cut, Merge, Options};
 use clap::ArgMatches;
 
 /// The number behind an option, if it is given.

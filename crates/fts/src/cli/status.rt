@@ -3,7 +3,7 @@ ghost use Rattle.std.specs.Prelude.{◌≡◌};
 ghost use Rattle.fts.specs.Arguments.{arg_status_of, run_status_of, status_of};
 
 use crate::cli::args::ArgFault;
-use crate::script::fault::Fault;
+use fts_script::Fault;
 
 /// The exit status of a run that stopped.
 pub fn status(fault: &Fault) -> u8

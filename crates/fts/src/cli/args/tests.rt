@@ -1,8 +1,8 @@
 // Command lines, with what the program says of them.
 use super::{ArgFault, Asked, args};
 use crate::cli::status::{arg_status, status};
-use crate::engine::options::{Cut, Merge, Options};
-use crate::script::fault::Fault;
+use fts_script::{Cut, Merge, Options};
+use fts_script::Fault;
 use std::test::Fail;
 
 fn asked(rt: &impl AllocGlobal, words: &[&str]) -> Result<Result<Asked, ArgFault>, Fail> {

@@ -1,0 +1,154 @@
+// The script of a case, and the replies that it should have.
+use crate::case::{list, only, text};
+use anyhow::{Result, bail};
+use serde_json::Value;
+use std::alloc::Global;
+use std::fs;
+use std::rt::Files;
+
+/// A script and its replies, each line of both ended by an LF.
+#[derive(Drop)]
+pub(crate) struct Script {
+    /// Whether it runs over segments too. What it shows may lie in its lines alone, which no engine sees.
+    pub(crate) over_segments: bool,
+    pub(crate) input: String,
+    pub(crate) wanted: String,
+}
+
+/// The fields `title` (text, default), `tag` (keyword, default), `price` (`u64`) and `temp` (`i64`).
+const SCHEMA: &str = r#"{"schema":[{"name":"title","kind":"text","default":true},{"name":"tag","kind":"keyword","default":true},{"name":"price","kind":"u64"},{"name":"temp","kind":"i64"}]}"#;
+
+/// The most that a line or a piece of it is repeated.
+const MOST: u64 = 10_000_000;
+
+/// How many times a piece stands in a stretch.
+const STRETCH: u64 = 4096;
+
+/// Puts a text behind others, so many times.
+fn push_times(line: &mut String, text: &str, times: u64) -> Result<()> {
+    for _ in 0..times {
+        line.push_str(text)?;
+    }
+    Ok(())
+}
+
+/// Puts a text behind others, so many times: many of them by stretches.
+fn push_repeated(alloc: Global, line: &mut String, text: &str, times: u64) -> Result<()> {
+    let mut stretch = String::new(alloc);
+    push_times(&mut stretch, text, STRETCH)?;
+    push_times(line, stretch.as_str(), times / STRETCH)?;
+    push_times(line, text, times % STRETCH)
+}
+
+/// Puts a piece of a line behind others: a text, or `[times, text]`.
+fn push_piece(alloc: Global, line: &mut String, piece: &Value) -> Result<()> {
+    match piece {
+        Value::String(text) => line.push_str(text.as_str())?,
+        Value::Array(pair) => match pair.as_slice() {
+            [times, Value::String(text)] => {
+                let times = times.as_u64().unwrap_or(0).min(MOST);
+                push_repeated(alloc, line, text.as_str(), times)?;
+            }
+            _ => bail!("has a piece that isn't [times, text]"),
+        },
+        _ => bail!("has a piece that is neither a text nor [times, text]"),
+    }
+    Ok(())
+}
+
+/// A line or a reply: a text as it stands, an object in compact form, or a list of pieces.
+fn line_of(alloc: Global, json: &Value) -> Result<String> {
+    match json {
+        Value::String(text) => Ok(text.clone()?),
+        Value::Object(_) => Ok(json.to_string(alloc)?),
+        Value::Array(pieces) => {
+            let mut line = String::new(alloc);
+            for piece in pieces {
+                push_piece(alloc, &mut line, piece)?;
+            }
+            Ok(line)
+        }
+        _ => bail!("has a line that is neither a text, an object nor a list of pieces"),
+    }
+}
+
+/// Puts a line and its end behind others.
+fn push_line(lines: &mut String, line: &str) -> Result<()> {
+    lines.push_str(line)?;
+    lines.push('\n')?;
+    Ok(())
+}
+
+/// The reply to a line that stands so many times, where it stands for the i-th time from 0: its stamp rises by one.
+fn reply_of(alloc: Global, json: &Value, i: u64) -> Result<String> {
+    match json.get("stamp").and_then(Value::as_u64) {
+        Some(first) => Ok(format!(in alloc; "{{\"stamp\":{}}}", first.saturating_add(i))?),
+        None => line_of(alloc, json),
+    }
+}
+
+impl Script {
+    /// Puts a line behind others, so many times, and what it should be answered, if it should be.
+    fn push(&mut self, alloc: Global, line: &Value, reply: &Value, times: u64) -> Result<()> {
+        let line = line_of(alloc, line)?;
+        for i in 0..times.min(MOST) {
+            push_line(&mut self.input, line.as_str())?;
+            if !reply.is_null() {
+                push_line(&mut self.wanted, reply_of(alloc, reply, i)?.as_str())?;
+            }
+        }
+        Ok(())
+    }
+
+    /// Puts `[line, reply]` or `[line, reply, times]` behind others.
+    fn push_pair(&mut self, alloc: Global, pair: &Value) -> Result<()> {
+        let Value::Array(members) = pair else {
+            bail!("has a line without its reply");
+        };
+        match members.as_slice() {
+            [line, reply] => self.push(alloc, line, reply, 1),
+            [line, reply, times] => self.push(alloc, line, reply, times.as_u64().unwrap_or(0)),
+            _ => bail!("has a line that isn't [line, reply] or [line, reply, times]"),
+        }
+    }
+}
+
+/// The script of a file, and the replies of another.
+fn of_files<R: AllocGlobal + Files>(rt: &R, case: &Value) -> Result<Script> {
+    only(case, &["case", "do", "script", "replies"])?;
+    Ok(Script {
+        over_segments: true,
+        input: fs::read_to_string(rt, text(case, "script")?)?,
+        wanted: fs::read_to_string(rt, text(case, "replies")?)?,
+    })
+}
+
+/// The script of lines that stand beside their replies.
+fn of_lines(alloc: Global, case: &Value, before: &[(&str, &str)], over_segments: bool) -> Result<Script> {
+    only(case, &["case", "do", "lines"])?;
+    let mut script = Script {
+        over_segments,
+        input: String::new(alloc),
+        wanted: String::new(alloc),
+    };
+    for (line, reply) in before {
+        push_line(&mut script.input, line)?;
+        push_line(&mut script.wanted, reply)?;
+    }
+    for pair in list(case, "lines")? {
+        script.push_pair(alloc, pair)?;
+    }
+    Ok(script)
+}
+
+/// The script of a case.
+pub(crate) fn script_of<R: AllocGlobal + Files>(rt: &R, case: &Value) -> Result<Script> {
+    let alloc = rt.alloc();
+    match text(case, "do")? {
+        "files" => of_files(rt, case),
+        "lines" => of_lines(alloc, case, &[], true),
+        "lines under a schema" => of_lines(alloc, case, &[(SCHEMA, "{\"fields\":4}")], true),
+        "lines without an index" => of_lines(alloc, case, &[], false),
+        other => bail!("asks for {other:?}, which isn't known"),
+    }
+}

@@ -1,0 +1,2 @@
+pub mod WaitingOperations
+pub mod WriterIndexes

@@ -1,0 +1,195 @@
+// An index over a writer of segments.
+ghost use Rattle.std.specs.Prelude.{◌≡◌, IfOk, IsOkUnless};
+ghost use Rattle.fts_index.specs.Publications.{IsOneCommit};
+ghost use Rattle.fts_engine.specs.WriterIndexes.{IsReaderOf};
+
+use crate::segments::merge_all;
+use crate::waiting;
+use crate::waiting::Waiting;
+use fts_index::{CommitSeen, Reader, Searcher, SegmentInfo, Writer};
+use fts_model::{Answer, Op, Query, Refusal, Request, Schema, Stamp};
+use fts_pool::Open;
+use fts_script::{Engine, Options};
+use std::alloc::Global;
+use std::marker::Model;
+use std::sync::Wait;
+use std::thread::Threads;
+
+/// A reader of a writer. There is none where the writer has no memory for it.
+fn reader_of(writer: &mut Writer) -> Option<Reader>
+    ensures same { writer.new ≡ writer.old }
+    ensures reader { IsReaderOf writer.new.front.seen result }
+{
+    match writer.reader() {
+        Ok(reader) => Some(reader),
+        Err(_) => None,
+    }
+}
+
+/// Tells a reader, if there is one, of a commit. One that can't be told finds it by looking.
+fn tell(reader: &mut Option<Reader>, seen: &CommitSeen)
+    requires { IsReaderOf seen.now reader.old }
+    ensures { IsReaderOf seen.now reader.new }
+{
+    if let Some(reader) = reader {
+        let _ = reader.told(seen);
+    }
+}
+
+/// The last commit, to search: as a reader finds it, or else as the writer has it.
+fn last_commit(writer: &Writer, reader: &mut Option<Reader>) -> Result<Searcher, Refusal>
+    requires { IsReaderOf writer.now.front.seen reader.old }
+    ensures reader { IsReaderOf writer.now.front.seen reader.new }
+    ensures last { IfOk result (λ searcher. IsOneCommit searcher writer.now.front) }
+    ensures memory { IsOkUnless result Refusal.Memory }
+{
+    if let Some(reader) = reader {
+        let searcher = reader.searcher()?;
+        if writer.is_last(&searcher) {
+            return Ok(searcher);
+        }
+    }
+    writer.searcher()
+}
+
+/// A writer of segments, the operations since its last commit, and a reader that is told of each commit.
+pub struct IndexEngine {
+    alloc: Global,
+    options: Options,
+    writer: Writer,
+    /// Finds the commit that is searched.
+    reader: Option<Reader>,
+    waiting: Waiting,
+    /// How many operations wait.
+    pending: u64,
+    /// How many calls changed something.
+    calls: u64,
+}
+
+impl Model for IndexEngine {
+    ghost use Rattle.std.specs.Prelude.{is_some, map};
+    ghost use Rattle.fts_index.specs.Infos.{info_of};
+    ghost use Rattle.fts_engine.specs.WriterIndexes.{EngineValue, IsIndexEngine, index_of};
+
+    ghost Value = { EngineValue };
+
+    ghost view = { λ e. record {
+        index = index_of e.writer e.waiting;
+        calls = e.calls;
+        segments = map info_of e.writer.front.snapshot.entries;
+        has_reader = is_some e.reader } };
+
+    ghost invariant = { λ e. IsIndexEngine e.writer e.reader e.waiting e.pending e.calls };
+}
+
+impl IndexEngine {
+    /// How large the segments of the last commit are, by rising numbers. No reply shows them.
+    pub fn segments(&self, alloc: Global) -> Result<Vec<SegmentInfo>, Refusal>
+        ensures segments { IfOk result (λ infos. infos.items ≡ self.now.segments) }
+        ensures memory { IsOkUnless result Refusal.Memory }
+    {
+        self.writer.segments(alloc)
+    }
+
+    /// Whether the last commit is searched through a reader. There is none where the writer had no memory for it.
+    pub fn has_reader(&self) -> bool
+        ensures { result ≡ self.now.has_reader }
+    {
+        self.reader.is_some()
+    }
+}
+
+impl Engine for IndexEngine {
+    ghost index = { λ e. e.index };
+
+    ghost changes = { λ e. e.calls };
+
+    fn open(
+        rt: &(impl AllocGlobal + Threads + Wait + Sync),
+        options: Options,
+        schema: Schema,
+    ) -> Result<Self, Refusal> {
+        let alloc = rt.alloc();
+        let mut writer = Writer::new(rt, alloc, &schema)?;
+        let reader = reader_of(&mut writer);
+        Ok(IndexEngine {
+            alloc,
+            options,
+            writer,
+            reader,
+            waiting: Waiting::Nothing,
+            pending: 0,
+            calls: 0,
+        })
+    }
+
+    fn schema(&self) -> &Schema {
+        self.writer.schema()
+    }
+
+    fn commit_stamp(&self) -> Stamp {
+        self.writer.commit_stamp()
+    }
+
+    fn next_stamp(&self) -> Stamp {
+        self.writer.commit_stamp() + self.pending + 1
+    }
+
+    fn submit(&mut self, op: Op) -> Result<Stamp, Refusal> {
+        self.calls += 1;
+        let stamp = waiting::submit(self.alloc, &mut self.writer, &mut self.waiting, op)?;
+        self.pending += 1;
+        Ok(stamp)
+    }
+
+    fn commit<R: AllocGlobal + Threads + Wait + Sync>(&mut self, rt: &R) -> Result<Stamp, Refusal> {
+        self.calls += 1;
+        let alloc = self.alloc;
+        let options = self.options;
+        let committed = waiting::commit(rt, alloc, &mut self.writer, &mut self.waiting, options)?;
+        self.pending = 0;
+        tell(&mut self.reader, &committed.seen);
+        Ok(committed.stamp)
+    }
+
+    fn rollback(
+        &mut self,
+        _rt: &(impl AllocGlobal + Threads + Wait + Sync),
+    ) -> Result<Stamp, Refusal> {
+        self.calls += 1;
+        self.waiting = Waiting::Nothing;
+        self.pending = 0;
+        Ok(self.writer.abandon())
+    }
+
+    fn merge(&mut self, rt: &(impl AllocGlobal + Threads + Wait + Sync)) -> Result<u64, Refusal> {
+        self.calls += 1;
+        merge_all(rt, self.alloc, &mut self.writer)
+    }
+
+    fn search<R: AllocGlobal + Threads + Wait + Sync>(
+        &mut self,
+        rt: &R,
+        query: &Query,
+        request: &Request,
+    ) -> Result<Answer, Refusal> {
+        let searcher = last_commit(&self.writer, &mut self.reader)?;
+        let workers = self.options.workers;
+        let found = searcher.search(rt, rt.alloc(), query, request, workers, &Open)?;
+        Ok(found.answer)
+    }
+
+    fn close(self, rt: &(impl AllocGlobal + Threads + Wait + Sync)) {
+        let IndexEngine {
+            alloc: _,
+            options: _,
+            writer,
+            reader,
+            waiting: _,
+            pending: _,
+            calls: _,
+        } = self;
+        drop(reader);
+        writer.close(rt);
+    }
+}

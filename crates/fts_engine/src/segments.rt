@@ -1,0 +1,100 @@
+// Merges of the segments of a writer.
+ghost use Rattle.std.specs.Prelude.{◌≡◌, ◌+◌, ◌^◌, ◌<◌, ◌≤◌, ◌⊎◌, length, map, sum_by, MatchOption, IfOk, IfErr, OnOk, OnErr};
+ghost use Rattle.fts_index.specs.Entries.{live_count};
+ghost use Rattle.fts_index.specs.Snapshots.{content_of};
+ghost use Rattle.fts_engine.specs.WriterIndexes.{Merges};
+
+use fts_index::{SegmentInfo, Writer};
+use fts_model::Refusal;
+use fts_script::Merge;
+use std::alloc::{AllocError, Global};
+use std::sync::Wait;
+
+/// The most documents that are merged.
+const MOST_MERGED: usize = 1_048_576;
+
+/// How many live documents segments have together, unless they are over 1,048,576.
+fn live_in(segments: &[SegmentInfo]) -> Option<usize>
+    ensures { MatchOption result (1048576 < sum_by (λ segment. segment.live) segments.now)
+        (λ live. (live ≡ sum_by (λ segment. segment.live) segments.now) × (live ≤ 1048576)) }
+{
+    let mut live = 0;
+    for segment in segments {
+        if segment.live > MOST_MERGED - live {
+            return None;
+        }
+        live += segment.live;
+    }
+    Some(live)
+}
+
+/// The numbers of segments.
+fn ids_of(alloc: Global, segments: &[SegmentInfo]) -> Result<Vec<u64>, AllocError>
+    ensures { IfOk result (λ ids. ids.items ≡ map (λ segment. segment.id) segments.now) }
+{
+    segments.iter().map(|segment| segment.id).collect(alloc)
+}
+
+/// Merges all segments into one, if there is one, and answers how many documents are live. It is refused as `TooLarge`
+/// where there are over 1,048,576.
+pub fn merge_all<R: Wait>(rt: &R, alloc: Global, writer: &mut Writer) -> Result<u64, Refusal>
+    requires number { 0 < length writer.old.front.snapshot.entries →
+        writer.old.front.snapshot.next_id + 1 < 2 ^ 62 }
+    requires room { writer.old.front.snapshot.next_id < 2 ^ 62 }
+    ensures merges { OnOk result (Merges 1 writer.old writer.new) }
+    ensures count { IfOk result (λ n. n ≡ length (content_of writer.old.front.snapshot)) }
+    ensures few { IfOk result (λ n. n ≤ 1048576) }
+    ensures same { OnErr result (writer.new ≡ writer.old) }
+    ensures refused { IfErr result (λ e. (e ≡ Refusal.Memory) ⊎ ((e ≡ Refusal.TooLarge)
+        × (1048576 < length (content_of writer.old.front.snapshot)))) }
+{
+    let searcher = writer.searcher()?;
+    if searcher.snapshot().entries().is_empty() {
+        return Ok(0);
+    }
+    let segments = writer.segments(alloc)?;
+    match live_in(&segments) {
+        None => Err(Refusal::TooLarge),
+        Some(live) => {
+            let ids = ids_of(alloc, &segments)?;
+            match writer.merge(rt, alloc, &ids) {
+                Ok(()) => Ok(live as u64),
+                Err(refusal) => Err(refusal),
+            }
+        }
+    }
+}
+
+/// Merges segments that are worth it. What is refused is left as it is, to be merged after a later commit.
+fn merge_some<R: Wait>(rt: &R, alloc: Global, writer: &mut Writer, ids: &[u64])
+    requires { writer.old.front.snapshot.next_id < 2 ^ 62 }
+    ensures { Merges 0 writer.old writer.new }
+{
+    // A merge of one segment would make another number of it, and nothing less.
+    if ids.len() >= 2 {
+        let _ = writer.merge(rt, alloc, ids);
+    }
+}
+
+/// Merges what the merge policy says, as far as there is memory.
+fn merge_planned<R: Wait>(rt: &R, alloc: Global, writer: &mut Writer)
+    requires { writer.old.front.snapshot.next_id < 2 ^ 62 }
+    ensures { Merges 0 writer.old writer.new }
+{
+    if let Ok(candidates) = writer.plan(alloc) {
+        for ids in &candidates {
+            merge_some(rt, alloc, writer, ids);
+        }
+    }
+}
+
+/// Merges behind a commit, where the option says so.
+pub fn merge_behind<R: Wait>(rt: &R, alloc: Global, writer: &mut Writer, merge: Merge)
+    requires { writer.old.front.snapshot.next_id < 2 ^ 62 }
+    ensures { Merges 0 writer.old writer.new }
+{
+    match merge {
+        Merge::Off => {}
+        Merge::Policy => merge_planned(rt, alloc, writer),
+    }
+}

@@ -1,0 +1,440 @@
+-- What a step of a run keeps.
+use Rattle.std.proofs.Common.{inl, ltb, lt-ltb, IfOk, Result, Ok, Err, OnErr, OnOk, ◌≡◌, ◌<◌, ◌≤◌, ◌-◌, Bool, true, false, cond, eqb, ◌&&◌, ℕ, ◌+◌, List, [], ◌∷◌, ◌++◌, length, take, drop, refl, ap, sym, ◌∙◌, append_assoc, append-nil, take-append-drop, subst, arith, rules, tests}
+use Rattle.std.proofs.lemmas.List.{take_all, length-drop, length-append, length-take-le, nil_from_length}
+use Rattle.std.proofs.Math.Seq.{take-add}
+use Rattle.fts_script.specs.declared.lines.PartialLine.{PartialLine}
+use Rattle.fts_script.specs.Streams.{Transferred, Wrote}
+use Rattle.fts_script.specs.Text.{is_blank, lines_of, IsWhole, HasNoEnd}
+use Rattle.fts_script.specs.Outputs.{SessionValue, start, after_line, reply_to, replies, after_lines, output}
+use Rattle.fts_script.specs.Runs.{Holds, Answered, AnswersFirst, AnswersEnded, BeginsOutput, BeginsOutputUnless, BeginsWith, Finishes, IsWritten, Advances, AdvancesFirst, AdvancesToStop, RunState, StopsFirst}
+use Rattle.fts_script.proofs.BlankLemmas.{Holds-length, Holds-nothing-short, IsWritten-front}
+use Rattle.fts_script.proofs.StreamLemmas.{append_more}
+use Rattle.fts_script.proofs.LineLemmas.{lines_of-append, lines_of-ended, lines_of-unended, HasNoEnd-append, HasNoEnd-late, HasNoEnd-shorter, IsWhole-ended}
+
+replies-append : (s : SessionValue) (xs ys : List (List ℕ)) → replies s (xs ++ ys) ≡ replies s xs ++ replies (after_lines s xs) ys
+replies-append s [] ys = refl
+replies-append s (x ∷ xs) ys =
+    ap (λ r. reply_to s x ++ r) (replies-append (after_line s x) xs ys)
+    ∙ sym (append_assoc (reply_to s x) (replies (after_line s x) xs) (replies (after_lines (after_line s x) xs) ys))
+
+after_lines-append : (s : SessionValue) (xs ys : List (List ℕ)) → after_lines s (xs ++ ys) ≡ after_lines (after_lines s xs) ys
+after_lines-append s [] ys = refl
+after_lines-append s (x ∷ xs) ys = after_lines-append (after_line s x) xs ys
+
+-- the output of whole lines and what comes behind them
+output-append : (done more : List ℕ) → IsWhole done →
+    output (done ++ more) ≡ output done ++ replies (after_lines start (lines_of done)) (lines_of more)
+output-append done more h =
+    ap (replies start) (lines_of-append done more h) ∙ replies-append start (lines_of done) (lines_of more)
+
+-- one more line, of which these are the lines
+output-line : (done more line : List ℕ) → IsWhole done → lines_of more ≡ line ∷ [] →
+    output (done ++ more) ≡ output done ++ reply_to (after_lines start (lines_of done)) line
+output-line done more line w is =
+    let s = after_lines start (lines_of done) in
+    output-append done more w
+    ∙ ap (λ ls. output done ++ replies s ls) is
+    ∙ ap (λ r. output done ++ r) (append-nil (reply_to s line))
+
+-- no line ends
+pub Advances-unended : (s : SessionValue) (p q : PartialLine) (bytes a : List ℕ) → HasNoEnd bytes →
+    ((line : List ℕ) → Holds p line → Holds q (line ++ bytes)) → Advances s s p q bytes a a
+Advances-unended s p q bytes a none grows = record {
+  leads = λ input out r. record {
+    done = r.done;
+    line = r.line ++ bytes;
+    split = ap (λ v. v ++ bytes) r.split ∙ append_assoc r.done r.line bytes;
+    whole = r.whole;
+    unended = HasNoEnd-append r.line bytes r.unended none;
+    script = r.script;
+    holds = grows r.line r.holds;
+    replied = r.replied;
+  };
+}
+
+-- the line ends
+pub Advances-ended : (s t : SessionValue) (p q : PartialLine) (piece a b : List ℕ) → HasNoEnd piece →
+    ((line : List ℕ) → Holds p line → b ≡ a ++ reply_to s (line ++ piece)) →
+    ((line : List ℕ) → Holds p line → t ≡ after_line s (line ++ piece)) →
+    Holds q [] → Advances s t p q (piece ++ 10 ∷ []) a b
+Advances-ended s t p q piece a b none replies_to goes_on next = record {
+  leads = λ input out r.
+      let line = r.line ++ piece in
+      let is : lines_of (line ++ 10 ∷ []) ≡ line ∷ [] = lines_of-ended line (HasNoEnd-append r.line piece r.unended none) in
+      record {
+        done = r.done ++ (line ++ 10 ∷ []);
+        line = [];
+        split = ap (λ v. v ++ (piece ++ 10 ∷ [])) r.split ∙ simp (append_assoc, append-nil);
+        whole = subst IsWhole (append_assoc r.done line (10 ∷ [])) (IsWhole-ended (r.done ++ line));
+        unended = tt;
+        script = goes_on r.line r.holds ∙ ap (λ v. after_line v line) r.script
+            ∙ sym (after_lines-append start (lines_of r.done) (line ∷ []))
+            ∙ ap (after_lines start) (ap (λ ls. lines_of r.done ++ ls) (sym is) ∙ sym (lines_of-append r.done (line ++ 10 ∷ []) r.whole));
+        holds = next;
+        replied = ap (λ v. out ++ v) (replies_to r.line r.holds)
+            ∙ sym (append_assoc out a (reply_to s line))
+            ∙ ap (λ v. v ++ reply_to s line) r.replied
+            ∙ ap (λ v. output r.done ++ reply_to v line) r.script
+            ∙ sym (output-line r.done (line ++ 10 ∷ []) line r.whole is);
+      };
+}
+
+pub Advances-none : (s : SessionValue) (p : PartialLine) (a : List ℕ) → Advances s s p p [] a a
+Advances-none s p a = record {
+  leads = λ input out r. subst (λ v. Answered s p v (out ++ a)) (sym (append-nil input)) r;
+}
+
+pub Advances-then : (s t u : SessionValue) (p q r : PartialLine) (xs ys a b c : List ℕ) →
+    Advances s t p q xs a b → Advances t u q r ys b c → Advances s u p r (xs ++ ys) a c
+Advances-then s t u p q r xs ys a b c first second = record {
+  leads = λ input out from.
+      subst (λ v. Answered u r v (out ++ c)) (append_assoc input xs ys) (second.leads (input ++ xs) out (first.leads input out from));
+}
+
+-- whatever comes behind them
+abbrev answers_first : (t : SessionValue) (q : PartialLine) (input xs more out : List ℕ) → Answered t q (input ++ xs) out → AnswersFirst (length (xs ++ more)) (input ++ (xs ++ more)) out
+answers_first t q input xs more out r = record {
+  done = r.done;
+  rest = r.line ++ more;
+  split = sym (append_assoc input xs more) ∙ ap (λ v. v ++ more) r.split ∙ append_assoc r.done r.line more;
+  whole = r.whole;
+  replied = r.replied;
+  late = HasNoEnd-late r.line more (length (xs ++ more)) (omega (arith, length-append xs more)) r.unended;
+}
+
+pub AdvancesFirst-leads : (s t : SessionValue) (p q : PartialLine) (xs more a b : List ℕ) →
+    Advances s t p q xs a b → AdvancesFirst s p (xs ++ more) a b
+AdvancesFirst-leads s t p q xs more a b first = record {
+  leads = λ input out from. answers_first t q input xs more (out ++ b) (first.leads input out from);
+}
+
+-- and memory runs out there
+pub AdvancesToStop-leads : (s t : SessionValue) (p q : PartialLine) (xs more a b : List ℕ) → Advances s t p q xs a b →
+    ((line : List ℕ) → Holds q line → HasNoEnd line → IsWritten (lines_of (line ++ more))) → AdvancesToStop s p (xs ++ more) a b
+AdvancesToStop-leads s t p q xs more a b first written = record {
+  leads = λ input out from.
+      let r = first.leads input out from in
+      (answers_first t q input xs more (out ++ b) r, λ some. written r.line r.holds r.unended);
+}
+
+-- the replies of some lines went out
+pub RunState-sent : (before now after : List ℕ) (s t : SessionValue) (p q : PartialLine) (input bytes gathered : List ℕ) →
+    Advances s t p q bytes [] gathered → after ≡ now ++ gathered →
+    RunState before now s p input → RunState before after t q (input ++ bytes)
+RunState-sent before now after s t p q input bytes gathered step sent r = record {
+  out = r.out ++ gathered;
+  taken = append_more before now after r.out gathered r.taken sent;
+  answered = step.leads input r.out (subst (λ v. Answered s p input v) (sym (append-nil r.out)) r.answered);
+}
+
+-- memory ran out, and the replies of the lines before went out
+pub Wrote-first : (before now after : List ℕ) (s : SessionValue) (p : PartialLine) (input bytes gathered : List ℕ) →
+    AdvancesToStop s p bytes [] gathered → after ≡ now ++ gathered →
+    RunState before now s p input → Wrote before after (StopsFirst (length bytes) (input ++ bytes))
+Wrote-first before now after s p input bytes gathered step sent r = record {
+  bytes = r.out ++ gathered;
+  taken = append_more before now after r.out gathered r.taken sent;
+  so = step.leads input r.out (subst (λ v. Answered s p input v) (sym (append-nil r.out)) r.answered);
+}
+
+AnswersFirst-begins : (n : ℕ) (input out : List ℕ) → AnswersFirst n input out → BeginsOutput input out
+AnswersFirst-begins n input out r = λ more. (
+  replies (after_lines start (lines_of r.done)) (lines_of (r.rest ++ more)),
+  ap output (ap (λ v. v ++ more) r.split ∙ append_assoc r.done r.rest more)
+      ∙ output-append r.done (r.rest ++ more) r.whole
+      ∙ ap (λ v. v ++ replies (after_lines start (lines_of r.done)) (lines_of (r.rest ++ more))) (sym r.replied),
+)
+
+-- a beginning of a beginning
+BeginsWith-take : (xs out gathered : List ℕ) (n : ℕ) → BeginsWith xs (out ++ gathered) → BeginsWith xs (out ++ take n gathered)
+BeginsWith-take xs out gathered n h = (
+  drop n gathered ++ h.0,
+  h.1 ∙ ap (λ v. (out ++ v) ++ h.0) (sym (take-append-drop n gathered)) ∙ simp append_assoc,
+)
+
+-- a write failed among the replies of some lines
+pub Wrote-cut : (before now after : List ℕ) (s : SessionValue) (p : PartialLine) (input bytes gathered : List ℕ) (n : ℕ) →
+    AdvancesFirst s p bytes [] gathered → after ≡ now ++ take n gathered →
+    RunState before now s p input → Wrote before after (BeginsOutput (input ++ bytes))
+Wrote-cut before now after s p input bytes gathered n step sent r = record {
+  bytes = r.out ++ take n gathered;
+  taken = append_more before now after r.out (take n gathered) r.taken sent;
+  so = λ more. BeginsWith-take _ r.out gathered n (AnswersFirst-begins (length bytes) (input ++ bytes) (r.out ++ gathered)
+      (step.leads input r.out (subst (λ v. Answered s p input v) (sym (append-nil r.out)) r.answered)) more);
+}
+
+pub Wrote-begins : (before now input : List ℕ) (n : ℕ) → Wrote before now (AnswersFirst n input) → Wrote before now (BeginsOutput input)
+Wrote-begins before now input n w = record {
+  bytes = w.bytes;
+  taken = w.taken;
+  so = AnswersFirst-begins n input w.bytes w.so;
+}
+
+pub Wrote-unless : (before now : List ℕ) (input : List ℕ) (ended : Type 0) → Wrote before now (BeginsOutput input) → Wrote before now (BeginsOutputUnless ended input)
+Wrote-unless before now input ended w = record {
+  bytes = w.bytes;
+  taken = w.taken;
+  so = λ more _. w.so more;
+}
+
+pub Wrote-ended : (before now : List ℕ) (input : List ℕ) (ended : Type 0) → ended → Wrote before now (BeginsWith (output input)) → Wrote before now (BeginsOutputUnless ended input)
+Wrote-ended before now input ended h w = record {
+  bytes = w.bytes;
+  taken = w.taken;
+  so = λ more only. (w.so.0, ap (λ v. output (input ++ v)) (only h) ∙ ap output (append-nil input) ∙ w.so.1);
+}
+
+-- what ended before the last n bytes ended before the last m
+abbrev answers_late : (input out : List ℕ) (m n : ℕ) → m ≤ n → AnswersFirst m input out → AnswersFirst n input out
+answers_late input out m n h r = record {
+  done = r.done;
+  rest = r.rest;
+  split = r.split;
+  whole = r.whole;
+  replied = r.replied;
+  late = HasNoEnd-shorter r.rest (length r.rest - n) (length r.rest - m) (omega (arith, h)) r.late;
+}
+
+pub Wrote-late : (before now input : List ℕ) (m n : ℕ) → m ≤ n → Wrote before now (StopsFirst m input) → Wrote before now (StopsFirst n input)
+Wrote-late before now input m n h w = record {
+  bytes = w.bytes;
+  taken = w.taken;
+  so = (answers_late input w.bytes m n h w.so.0, w.so.1);
+}
+
+pub Wrote-stopped : (before now input : List ℕ) (n : ℕ) → Wrote before now (StopsFirst n input) → Wrote before now (AnswersFirst n input)
+Wrote-stopped before now input n w = record { bytes = w.bytes; taken = w.taken; so = w.so.0 }
+
+-- memory ran out at the end of the input
+pub Wrote-stop : (before now : List ℕ) (s : SessionValue) (p : PartialLine) (input : List ℕ) → ((line : List ℕ) → Holds p line → is_blank line ≡ false) →
+    RunState before now s p input → Wrote before now (StopsFirst 0 input)
+Wrote-stop before now s p input written r =
+    let a = r.answered in record {
+      bytes = r.out;
+      taken = r.taken;
+      so = (
+        record {
+          done = a.done;
+          rest = a.line ++ [];
+          split = a.split ∙ ap (λ v. a.done ++ v) (sym (append-nil a.line));
+          whole = a.whole;
+          replied = a.replied;
+          late = HasNoEnd-late a.line [] 0 (omega arith) a.unended;
+        },
+        λ some. IsWritten-front a.line [] a.unended (written a.line a.holds),
+      );
+    }
+
+-- the last bytes are those of the latest read
+pub Wrote-latest : (P : ℕ → List ℕ → List ℕ → Type 0) (before now input bytes latest : List ℕ) → latest ≡ bytes →
+    Wrote before now (P (length bytes) input) → Wrote before now (P (length latest) input)
+Wrote-latest P before now input bytes latest e w = subst (λ v. Wrote before now (P (length v) input)) (sym e) w
+
+-- before the first read
+pub Transferred-none : (given taken : List ℕ) (n : ℕ) → Transferred given given taken taken (StopsFirst n)
+Transferred-none given taken n = record {
+  input = [];
+  read = sym (append-nil given);
+  wrote = record {
+    bytes = [];
+    taken = sym (append-nil taken);
+    so = (
+      record { done = []; rest = []; split = refl; whole = inl refl; replied = refl; late = HasNoEnd-late [] [] n (omega arith) tt },
+      λ some. absurd (some refl),
+    );
+  };
+}
+
+-- the lines that ended were answered
+pub Wrote-reached : (before now : List ℕ) (s : SessionValue) (p : PartialLine) (input : List ℕ) →
+    RunState before now s p input → Wrote before now (AnswersEnded input)
+Wrote-reached before now s p input r = record {
+  bytes = r.out;
+  taken = r.taken;
+  so = record {
+    done = r.answered.done;
+    line = r.answered.line;
+    split = r.answered.split;
+    whole = r.answered.whole;
+    unended = r.answered.unended;
+    replied = r.answered.replied;
+  };
+}
+
+-- whatever comes behind the input
+pub Wrote-more : (before now : List ℕ) (s : SessionValue) (p : PartialLine) (input more : List ℕ) →
+    RunState before now s p input → Wrote before now (AnswersFirst (length more) (input ++ more))
+Wrote-more before now s p input more r = record {
+  bytes = r.out;
+  taken = r.taken;
+  so = record {
+    done = r.answered.done;
+    rest = r.answered.line ++ more;
+    split = ap (λ v. v ++ more) r.answered.split ∙ append_assoc r.answered.done r.answered.line more;
+    whole = r.answered.whole;
+    replied = r.answered.replied;
+    late = HasNoEnd-late r.answered.line more (length more) (omega arith) r.answered.unended;
+  };
+}
+
+pub Wrote-same : (before now : List ℕ) (s : SessionValue) (p : PartialLine) (input : List ℕ) →
+    RunState before now s p input → Wrote before now (AnswersFirst 0 input)
+Wrote-same before now s p input r =
+    subst (λ v. Wrote before now (AnswersFirst 0 v)) (append-nil input) (Wrote-more before now s p input [] r)
+
+pub Holds-nothing : (p : PartialLine) (line : List ℕ) → Holds p [] → Holds p line → line ≡ []
+Holds-nothing p line none some =
+    let short = Holds-nothing-short p none in
+    nil_from_length line (Holds-length p line short some ∙ sym (Holds-length p [] short none))
+
+-- the input ended behind an LF
+pub Finishes-nothing : (s : SessionValue) (p : PartialLine) → Holds p [] → Finishes s p []
+Finishes-nothing s p none = record {
+  ends = λ input out r.
+      append-nil out ∙ r.replied
+      ∙ ap output (sym (r.split ∙ ap (λ v. r.done ++ v) (Holds-nothing p r.line none r.holds) ∙ append-nil r.done));
+}
+
+-- the end of the input ended a line
+pub Finishes-line : (s : SessionValue) (p : PartialLine) (reply : List ℕ) → (Holds p [] → ⊥) →
+    ((line : List ℕ) → Holds p line → reply ≡ reply_to s line) → Finishes s p reply
+Finishes-line s p reply some replies_to = record {
+  ends = λ input out r.
+      ap (λ v. out ++ v) (replies_to r.line r.holds)
+      ∙ ap (λ v. v ++ reply_to s r.line) r.replied
+      ∙ ap (λ v. output r.done ++ reply_to v r.line) r.script
+      ∙ sym (output-line r.done r.line r.line r.whole (lines_of-unended r.line r.unended (λ e. some (subst (Holds p) e r.holds))))
+      ∙ ap output (sym r.split);
+}
+
+pub Wrote-output : (before now after : List ℕ) (s : SessionValue) (p : PartialLine) (input gathered : List ℕ) →
+    Finishes s p gathered → after ≡ now ++ gathered →
+    RunState before now s p input → Wrote before after (λ out. out ≡ output input)
+Wrote-output before now after s p input gathered last sent r = record {
+  bytes = r.out ++ gathered;
+  taken = append_more before now after r.out gathered r.taken sent;
+  so = last.ends input r.out r.answered;
+}
+
+-- a write failed in the last reply
+pub Wrote-part : (before now after : List ℕ) (s : SessionValue) (p : PartialLine) (input gathered : List ℕ) (n : ℕ) →
+    Finishes s p gathered → after ≡ now ++ take n gathered →
+    RunState before now s p input → Wrote before after (BeginsWith (output input))
+Wrote-part before now after s p input gathered n last sent r = record {
+  bytes = r.out ++ take n gathered;
+  taken = append_more before now after r.out (take n gathered) r.taken sent;
+  so = BeginsWith-take (output input) r.out gathered n ([], sym (last.ends input r.out r.answered) ∙ sym (append-nil (r.out ++ gathered)));
+}
+
+pub Wrote-whole : (before now : List ℕ) (input : List ℕ) → Wrote before now (λ out. out ≡ output input) → Wrote before now (BeginsWith (output input))
+Wrote-whole before now input w = record {
+  bytes = w.bytes;
+  taken = w.taken;
+  so = ([], sym w.so ∙ sym (append-nil w.bytes));
+}
+
+pub Wrote-start : (before now : List ℕ) (s : SessionValue) (p : PartialLine) (input : List ℕ) →
+    RunState before now s p input → Wrote before now (BeginsWith (output input))
+Wrote-start before now s p input r =
+    let first = Wrote-same before now s p input r in
+    let begins = AnswersFirst-begins 0 input first.bytes first.so [] in record {
+      bytes = first.bytes;
+      taken = first.taken;
+      so = (begins.0, ap output (sym (append-nil input)) ∙ begins.1);
+    }
+
+-- what is left of the bytes to write
+pub tail_is : (bytes : List ℕ) (i : ℕ) → take (length bytes - i) (drop i bytes) ≡ drop i bytes
+tail_is bytes i = take_all (length bytes - i) (drop i bytes) (omega (arith, length-drop i bytes))
+
+pub sent_more : (bytes : List ℕ) (i n : ℕ) →
+    take i bytes ++ take n (take (length bytes - i) (drop i bytes)) ≡ take (i + n) bytes
+sent_more bytes i n = ap (λ v. take i bytes ++ take n v) (tail_is bytes i) ∙ sym (take-add i n bytes)
+
+pub within_more : (bytes : List ℕ) (i n : ℕ) → i ≤ length bytes →
+    n ≤ length (take (length bytes - i) (drop i bytes)) → i + n ≤ length bytes
+within_more bytes i n h k = omega (arith, ap length (tail_is bytes i), length-drop i bytes)
+
+-- a count that rises on a test
+pub counted_more : (a f h : ℕ) (t : Bool) → a ≤ f → h ≡ cond t (f + 1) f → a ≤ h
+counted_more a f h true le e = omega arith
+counted_more a f h false le e = omega arith
+
+pub on_err : {T E : Type 0} (r : Result T E) (Q : Type 0) → Q → OnErr r Q
+on_err (Ok v) Q h = tt
+on_err (Err e) Q h = h
+
+pub on_ok : {T E : Type 0} (r : Result T E) (Q : Type 0) → Q → OnOk r Q
+on_ok (Ok v) Q h = h
+on_ok (Err e) Q h = tt
+
+-- whether lines were taken or memory ran out
+pub AdvancesFirst-either : {E : Type 0} (result : Result ℕ E) (s t : SessionValue) (p q : PartialLine) (bytes a b : List ℕ) →
+    IfOk result (λ n. Advances s t p q (take n bytes) a b) → OnErr result (AdvancesToStop s p bytes a b) → AdvancesFirst s p bytes a b
+AdvancesFirst-either (Ok n) s t p q bytes a b ok err =
+    subst (λ v. AdvancesFirst s p v a b) (take-append-drop n bytes) (AdvancesFirst-leads s t p q (take n bytes) (drop n bytes) a b ok)
+AdvancesFirst-either (Err e) s t p q bytes a b ok err = record { leads = λ input out from. (err.leads input out from).0 }
+
+-- the bytes up to a place, and those behind it
+pub whole_is : (input bytes : List ℕ) (i : ℕ) →
+    (input ++ take i bytes) ++ take (length bytes - i) (drop i bytes) ≡ input ++ bytes
+whole_is input bytes i =
+    append_assoc input (take i bytes) (take (length bytes - i) (drop i bytes))
+    ∙ ap (λ v. input ++ (take i bytes ++ v)) (tail_is bytes i)
+    ∙ ap (λ v. input ++ v) (take-append-drop i bytes)
+
+pub part_is : (input bytes : List ℕ) (i n : ℕ) →
+    (input ++ take i bytes) ++ take n (take (length bytes - i) (drop i bytes)) ≡ input ++ take (i + n) bytes
+part_is input bytes i n =
+    append_assoc input (take i bytes) (take n (take (length bytes - i) (drop i bytes)))
+    ∙ ap (λ v. input ++ v) (sent_more bytes i n)
+
+-- the last bytes are the rest of a block
+pub Wrote-block : (before now input bytes : List ℕ) (i : ℕ) →
+    (let rest : List ℕ = take (length bytes - i) (drop i bytes) in Wrote before now (StopsFirst (length rest) ((input ++ take i bytes) ++ rest))) →
+    Wrote before now (StopsFirst (length bytes) (input ++ bytes))
+Wrote-block before now input bytes i w =
+    let rest : List ℕ = take (length bytes - i) (drop i bytes) in
+    let shorter : length rest ≤ length bytes = omega (arith, ap length (tail_is bytes i), length-drop i bytes) in
+    Wrote-late before now (input ++ bytes) (length rest) (length bytes) shorter
+    (subst (λ v. Wrote before now (StopsFirst (length rest) v)) (whole_is input bytes i) w)
+
+-- before the first byte
+pub RunState-start : (a : List ℕ) (s : SessionValue) (p : PartialLine) → s ≡ start → Holds p [] → RunState a a s p []
+RunState-start a s p e none = record {
+  out = [];
+  taken = sym (append-nil a);
+  answered = record { done = []; line = []; split = refl; whole = inl refl; unended = tt; script = e; holds = none; replied = refl };
+}
+
+-- a read that gave nothing
+pub given_none : (a b c input buffer : List ℕ) (n : ℕ) → n ≡ 0 → b ≡ a ++ input → c ≡ b ++ take n buffer → c ≡ a ++ input
+given_none a b c input buffer n z e f = f ∙ ap (λ k. b ++ take k buffer) z ∙ append-nil b ∙ e
+
+not_zero : (n : ℕ) → (n ≡ 0 → ⊥) → eqb n 0 ≡ false
+not_zero n h = search (rules, tests)
+
+-- a read that gave something told no end
+pub not_counted : (n e h : ℕ) (t : Bool) → (n ≡ 0 → ⊥) → h ≡ cond (eqb n 0 && t) (e + 1) e → h ≡ e
+not_counted n e h t ne k = k ∙ ap (λ v. cond (v && t) (e + 1) e) (not_zero n ne)
+
+-- a read that gave nothing, with room, told the end
+pub counted_end : (e h n m : ℕ) → n ≡ 0 → 0 < m → h ≡ cond (eqb n 0 && ltb 0 m) (e + 1) e → e < h
+counted_end e h n m z room k =
+    let some : ltb 0 m ≡ true = lt-ltb 0 m room in
+    let one : h ≡ e + 1 = k ∙ ap (λ v. cond (eqb v 0 && ltb 0 m) (e + 1) e) z ∙ ap (λ v. cond v (e + 1) e) some in omega arith
+
+-- so many bytes were read
+pub length_more : (input buffer : List ℕ) (n m : ℕ) → n ≤ length buffer → m ≡ length input → m + n ≡ length (input ++ take n buffer)
+length_more input buffer n m h e = omega (arith, length-append input (take n buffer), length-take-le n buffer h)
+
+-- the streams of a run that has just begun
+pub from_none : (P : List ℕ → List ℕ → Type 0) (a b c d : List ℕ) → a ≡ [] → c ≡ [] → Transferred a b c d P → P b d
+from_none P a b c d unread unwritten t =
+    subst (λ v. P v d) (sym (t.read ∙ ap (λ v. v ++ t.input) unread))
+    (subst (P t.input) (sym (t.wrote.taken ∙ ap (λ v. v ++ t.wrote.bytes) unwritten)) t.wrote.so)
+
+pub begins_from_none : (a b c d : List ℕ) (m n : ℕ) → a ≡ [] → c ≡ [] → m ≡ 0 →
+    Transferred a b c d (BeginsOutputUnless (m < n)) → BeginsOutputUnless (0 < n) b d
+begins_from_none a b c d m n unread unwritten none t = λ more only.
+    from_none (BeginsOutputUnless (m < n)) a b c d unread unwritten t more (λ told. only (omega (arith, none, told)))

@@ -1,0 +1,16 @@
+pub mod Carriers
+pub mod CommandViews
+pub mod Commands
+pub mod DefaultOptions
+pub mod Histories
+pub mod Indexes
+pub mod Limits
+pub mod ListIndexes
+pub mod Lists
+pub mod Outputs
+pub mod Replies
+pub mod Runs
+pub mod Sessions
+pub mod Steps
+pub mod Streams
+pub mod Text

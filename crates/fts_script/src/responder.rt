@@ -1,0 +1,275 @@
+// A script on its way: the line in hand, the commands so far, and the replies that wait.
+ghost use Rattle.std.specs.Prelude.{ℕ, ◌≡◌, ◌+◌, ◌^◌, ◌<◌, ◌≤◌, ◌++◌, false, List, [], length, take, string_bytes, IfOk, IfErr, OnOk, OnErr, IsErrOf};
+ghost use Rattle.fts_script.specs.Streams.{GainsTaken, Wrote};
+ghost use Rattle.fts_script.specs.Text.{is_blank, lines_of, HasNoEnd};
+ghost use Rattle.fts_script.specs.Commands.{longest};
+ghost use Rattle.fts_script.specs.Outputs.{start, output, reply_to, after_line};
+ghost use Rattle.fts_script.specs.Runs.{BeginsOutput, BeginsWith, Finishes, Holds, IsWritten, Advances, AdvancesToStop, RunState, StopsFirst};
+
+use crate::engine::Engine;
+use crate::options::Options;
+use crate::fault::Fault;
+use crate::lines::PartialLine;
+use crate::session::Session;
+use crate::streams::ScriptOut;
+use memchr::memchr;
+use std::alloc::{AllocError, Global};
+use std::sync::Wait;
+use std::thread::Threads;
+
+/// How many bytes of replies wait at most before a line is answered.
+const MOST_WAITING: usize = 65_536;
+
+/// Writes the replies that wait.
+fn send<W: ScriptOut>(writer: &mut W, replies: &mut String) -> Result<(), Fault>
+    ensures ok { OnOk result
+        (W.taken writer.new ≡ W.taken writer.old ++ string_bytes replies.old) }
+    ensures none_wait { OnOk result (string_bytes replies.new ≡ []) }
+    ensures err { OnErr result ((n : ℕ)
+        × (W.taken writer.new ≡ W.taken writer.old ++ take n (string_bytes replies.old))) }
+    ensures held { GainsTaken (W.taken writer.old) (W.taken writer.new) (W.held writer.old)
+        (W.held writer.new) }
+    ensures write { OnErr result (result ≡ Err Fault.Write) }
+    ensures fails { OnErr result (W.failed writer.old < W.failed writer.new) }
+    ensures failed { W.failed writer.old ≤ W.failed writer.new }
+    ensures flushes { W.flushes writer.new ≡ W.flushes writer.old }
+{
+    let bytes = replies.as_bytes();
+    let mut at = 0;
+    while at < bytes.len() {
+        match writer.write(&bytes[at..]) {
+            Ok(0) | Err(_) => return Err(Fault::Write),
+            Ok(n) => at += n,
+        }
+    }
+    replies.clear();
+    Ok(())
+}
+
+/// Answers a script that comes in pieces. It is ended by `end`, `close` or a fault.
+pub struct Responder<E: Engine> {
+    session: Session<E>,
+    /// The line in hand.
+    line: PartialLine,
+    /// The replies that wait to be written.
+    replies: String,
+}
+
+impl<E: Engine> Responder<E> {
+    /// Before the first piece.
+    pub fn new(alloc: Global, options: Options) -> Responder<E>
+        ensures session { result.session ≡ start }
+        ensures line { Holds result.line [] }
+        ensures none_wait { string_bytes result.replies ≡ [] }
+    {
+        Responder {
+            session: Session::new(options),
+            line: PartialLine::new(alloc),
+            replies: String::new(alloc),
+        }
+    }
+
+    /// Replies to the line that ends with `piece`.
+    fn end_line(
+        &mut self,
+        rt: &(impl AllocGlobal + Threads + Wait + Sync),
+        piece: &[u8],
+    ) -> Result<(), AllocError>
+        requires line_number_fits { self.old.session.number ≤ 2 ^ 61 }
+        requires fits_line { length piece.now ≤ longest }
+        ensures reply { OnOk result ((start : List ℕ) → Holds self.old.line start →
+            string_bytes self.new.replies
+            ≡ string_bytes self.old.replies ++ reply_to self.old.session (start ++ piece.now)) }
+        ensures script { OnOk result ((start : List ℕ) → Holds self.old.line start →
+            self.new.session ≡ after_line self.old.session (start ++ piece.now)) }
+        ensures next { OnOk result (Holds self.new.line []) }
+        ensures err { OnErr result (string_bytes self.new.replies ≡ string_bytes self.old.replies) }
+        ensures not_blank { OnErr result ((start : List ℕ) → Holds self.old.line start →
+            is_blank (start ++ piece.now) ≡ false) }
+        ensures lines_counted { self.new.session.number ≤ self.old.session.number + 1 }
+    {
+        if self.line.is_empty() {
+            // The line lies whole in its block, and is read there.
+            return self.session.answer(rt, piece, &mut self.replies);
+        }
+        self.line.grow(piece)?;
+        self.line.answer(rt, &mut self.session, &mut self.replies)
+    }
+
+    /// Takes the bytes up to the end of a line, or all where none ends, and says how many.
+    fn take_line(
+        &mut self,
+        rt: &(impl AllocGlobal + Threads + Wait + Sync),
+        bytes: &[u8],
+    ) -> Result<usize, AllocError>
+        requires line_number_fits { self.old.session.number ≤ 2 ^ 61 }
+        requires some { 0 < length bytes.now }
+        requires fits_line { length bytes.now ≤ longest }
+        ensures some { IfOk result (λ n. 0 < n) }
+        ensures bound { IfOk result (λ n. n ≤ length bytes.now) }
+        ensures ok { IfOk result (λ n.
+            Advances self.old.session self.new.session self.old.line self.new.line
+            (take n bytes.now) (string_bytes self.old.replies) (string_bytes self.new.replies)) }
+        ensures err { OnErr result (string_bytes self.new.replies ≡ string_bytes self.old.replies) }
+        ensures not_blank { OnErr result ((start : List ℕ) → Holds self.old.line start →
+            HasNoEnd start → IsWritten (lines_of (start ++ bytes.now))) }
+        ensures lines_counted { self.new.session.number ≤ self.old.session.number + 1 }
+    {
+        match memchr(b'\n', bytes) {
+            Some(end) => {
+                self.end_line(rt, &bytes[..end])?;
+                Ok(end + 1)
+            }
+            None => {
+                self.line.grow(bytes)?;
+                Ok(bytes.len())
+            }
+        }
+    }
+
+    /// Takes lines until the bytes are done or many replies wait, and says how many bytes it took.
+    fn take_lines(
+        &mut self,
+        rt: &(impl AllocGlobal + Threads + Wait + Sync),
+        bytes: &[u8],
+    ) -> Result<usize, AllocError>
+        requires line_number_fits { self.old.session.number + length bytes.now ≤ 2 ^ 61 }
+        requires some { 0 < length bytes.now }
+        requires fits_line { length bytes.now ≤ longest }
+        requires none_wait { string_bytes self.old.replies ≡ [] }
+        ensures some { IfOk result (λ n. 0 < n) }
+        ensures bound { IfOk result (λ n. n ≤ length bytes.now) }
+        ensures ok { IfOk result (λ n.
+            Advances self.old.session self.new.session self.old.line self.new.line
+            (take n bytes.now) [] (string_bytes self.new.replies)) }
+        ensures err { OnErr result (AdvancesToStop self.old.session self.old.line
+            bytes.now [] (string_bytes self.new.replies)) }
+        ensures lines_counted { IfOk result
+            (λ n. self.new.session.number ≤ self.old.session.number + n) }
+    {
+        let mut at = 0;
+        while at < bytes.len() && self.replies.len() < MOST_WAITING {
+            at += self.take_line(rt, &bytes[at..])?;
+        }
+        Ok(at)
+    }
+
+    /// Replies to the lines of a piece. At a fault it is closed.
+    pub fn feed<W: ScriptOut>(
+        mut self,
+        rt: &(impl AllocGlobal + Threads + Wait + Sync),
+        piece: &[u8],
+        writer: &mut W,
+    ) -> Result<Responder<E>, Fault>
+        requires line_number_fits { self.session.number + length piece.now ≤ 2 ^ 61 }
+        requires fits_line { length piece.now ≤ longest }
+        requires none_wait { string_bytes self.replies ≡ [] }
+        ensures ok { IfOk result (λ fed. (before input : List ℕ) →
+            RunState before (W.taken writer.old) self.session self.line input →
+            RunState before (W.taken writer.new) fed.session fed.line (input ++ piece.now)) }
+        ensures none_wait { IfOk result (λ fed. string_bytes fed.replies ≡ []) }
+        ensures memory { IsErrOf result Fault.Memory → ((before input : List ℕ) →
+            RunState before (W.taken writer.old) self.session self.line input →
+            Wrote before (W.taken writer.new) (StopsFirst (length piece.now) (input ++ piece.now))) }
+        ensures err { OnErr result ((before input : List ℕ) →
+            RunState before (W.taken writer.old) self.session self.line input →
+            Wrote before (W.taken writer.new) (BeginsOutput (input ++ piece.now))) }
+        ensures held { GainsTaken (W.taken writer.old) (W.taken writer.new) (W.held writer.old)
+            (W.held writer.new) }
+        ensures no_read { IsErrOf result Fault.Read → ⊥ }
+        ensures not_used_up { IsErrOf result Fault.StampsUsedUp → ⊥ }
+        ensures fails { IsErrOf result Fault.Write → W.failed writer.old < W.failed writer.new }
+        ensures failed { W.failed writer.old ≤ W.failed writer.new }
+        ensures flushes { W.flushes writer.new ≡ W.flushes writer.old }
+        ensures lines_counted { IfOk result (λ fed.
+            fed.session.number ≤ self.session.number + length piece.now) }
+    {
+        let mut at = 0;
+        while at < piece.len() {
+            let taken = self.take_lines(rt, &piece[at..]);
+            // The replies go out before more is read, and where memory ran out too.
+            match send(writer, &mut self.replies) {
+                Ok(()) => {}
+                Err(fault) => {
+                    self.close(rt);
+                    return Err(fault);
+                }
+            }
+            match taken {
+                Ok(n) => at += n,
+                Err(AllocError) => {
+                    self.close(rt);
+                    return Err(Fault::Memory);
+                }
+            }
+        }
+        Ok(self)
+    }
+
+    /// Replies to the line that the end of the input ends, if there is one.
+    fn end_input(
+        &mut self,
+        rt: &(impl AllocGlobal + Threads + Wait + Sync),
+    ) -> Result<(), AllocError>
+        requires line_number_fits { self.old.session.number ≤ 2 ^ 61 }
+        requires none_wait { string_bytes self.old.replies ≡ [] }
+        ensures ok { OnOk result
+            (Finishes self.old.session self.old.line (string_bytes self.new.replies)) }
+        ensures not_blank { OnErr result ((start : List ℕ) → Holds self.old.line start →
+            is_blank start ≡ false) }
+    {
+        if self.line.is_empty() {
+            return Ok(());
+        }
+        self.line.answer(rt, &mut self.session, &mut self.replies)
+    }
+
+    /// Replies to the last line, closes, and writes and flushes all.
+    pub fn end<W: ScriptOut>(
+        mut self,
+        rt: &(impl AllocGlobal + Threads + Wait + Sync),
+        writer: &mut W,
+    ) -> Result<(), Fault>
+        requires line_number_fits { self.session.number ≤ 2 ^ 61 }
+        requires none_wait { string_bytes self.replies ≡ [] }
+        ensures ok { OnOk result ((before input : List ℕ) →
+            RunState before (W.taken writer.old) self.session self.line input →
+            Wrote before (W.taken writer.new) (λ out. out ≡ output input)) }
+        ensures memory { IsErrOf result Fault.Memory → ((before input : List ℕ) →
+            RunState before (W.taken writer.old) self.session self.line input →
+            Wrote before (W.taken writer.new) (StopsFirst 0 input)) }
+        ensures err { OnErr result ((before input : List ℕ) →
+            RunState before (W.taken writer.old) self.session self.line input →
+            Wrote before (W.taken writer.new) (BeginsWith (output input))) }
+        ensures held { GainsTaken (W.taken writer.old) (W.taken writer.new) (W.held writer.old)
+            (W.held writer.new) }
+        ensures no_read { IsErrOf result Fault.Read → ⊥ }
+        ensures not_used_up { IsErrOf result Fault.StampsUsedUp → ⊥ }
+        ensures fails { IsErrOf result Fault.Write → W.failed writer.old < W.failed writer.new }
+        ensures flushed { OnOk result (W.flushes writer.old < W.flushes writer.new) }
+    {
+        let ended = self.end_input(rt);
+        let Responder {
+            session,
+            line: _,
+            mut replies,
+        } = self;
+        session.close(rt);
+        ended?;
+        send(writer, &mut replies)?;
+        if writer.flush().is_err() {
+            return Err(Fault::Write);
+        }
+        Ok(())
+    }
+
+    /// Ends the index. Replies that wait are dropped.
+    pub fn close(self, rt: &(impl AllocGlobal + Threads + Wait + Sync)) {
+        let Responder {
+            session,
+            line: _,
+            replies: _,
+        } = self;
+        session.close(rt);
+    }
+}

@@ -1,0 +1,112 @@
+// Readers and writers of std as streams of a script.
+ghost use Rattle.std.specs.Prelude.{◌≡◌, []};
+
+use crate::streams::{ScriptIn, ScriptOut, StreamError};
+use fts_model::{GhostBytes, GhostCount};
+use std::io::{Read, Write};
+
+/// A reader or writer of std, with the bytes and the counts of its calls for contracts alone.
+#[derive(Drop)]
+pub struct Plain<T> {
+    inner: T,
+    moved: GhostBytes,
+    latest: GhostBytes,
+    ends: GhostCount,
+    failed: GhostCount,
+    flushes: GhostCount,
+}
+
+impl<T> Plain<T> {
+    /// No call was made yet.
+    pub fn new(inner: T) -> Self
+        ensures inner { result.inner ≡ inner }
+        ensures moved { result.moved.bytes ≡ [] }
+        ensures ends { result.ends ≡ 0 }
+        ensures failed { result.failed ≡ 0 }
+        ensures flushes { result.flushes ≡ 0 }
+    {
+        Plain {
+            inner,
+            moved: GhostBytes::none(),
+            latest: GhostBytes::none(),
+            ends: GhostCount::zero(),
+            failed: GhostCount::zero(),
+            flushes: GhostCount::zero(),
+        }
+    }
+
+    pub fn into_inner(self) -> T
+        ensures { result ≡ self.inner }
+    {
+        self.inner
+    }
+}
+
+impl<T: Read> ScriptIn for Plain<T> {
+    ghost given = { λ p. p.moved.bytes };
+
+    ghost latest = { λ p. p.latest.bytes };
+
+    ghost remaining = { λ p. T.remaining p.inner };
+
+    ghost ends = { λ p. p.ends };
+
+    ghost failed = { λ p. p.failed };
+
+    fn read(&mut self, buffer: &mut [u8]) -> Result<usize, StreamError> {
+        self.latest = GhostBytes::none();
+        match self.inner.read(buffer) {
+            Ok(n) => {
+                self.latest = self.latest.and(&buffer[..n]);
+                self.moved = self.moved.and(&buffer[..n]);
+                if n == 0 && !buffer.is_empty() {
+                    self.ends = self.ends.and_one();
+                }
+                Ok(n)
+            }
+            Err(_) => {
+                self.failed = self.failed.and_one();
+                Err(StreamError)
+            }
+        }
+    }
+}
+
+impl<T: Write> ScriptOut for Plain<T> {
+    ghost taken = { λ p. p.moved.bytes };
+
+    ghost held = { λ p. T.contents p.inner };
+
+    ghost failed = { λ p. p.failed };
+
+    ghost flushes = { λ p. p.flushes };
+
+    fn write(&mut self, bytes: &[u8]) -> Result<usize, StreamError> {
+        match self.inner.write(bytes) {
+            Ok(n) => {
+                self.moved = self.moved.and(&bytes[..n]);
+                if n == 0 && !bytes.is_empty() {
+                    self.failed = self.failed.and_one();
+                }
+                Ok(n)
+            }
+            Err(_) => {
+                self.failed = self.failed.and_one();
+                Err(StreamError)
+            }
+        }
+    }
+
+    fn flush(&mut self) -> Result<(), StreamError> {
+        match self.inner.flush() {
+            Ok(()) => {
+                self.flushes = self.flushes.and_one();
+                Ok(())
+            }
+            Err(_) => {
+                self.failed = self.failed.and_one();
+                Err(StreamError)
+            }
+        }
+    }
+}

@@ -1,0 +1,7 @@
+-- Each add counts one call at most.
+use Rattle.std.proofs.Common.{◌≤◌}
+use Rattle.tests_scripts.proofs.segments.commit_eight.Given as goal
+
+abbrev pub invariant-loop : goal.invariant-loop
+invariant-loop g l = l.engine.calls ≤ l.counter
+

@@ -1,0 +1,7 @@
+//! Scripts over memory: readers and writers that are slow or fail, growths that are refused, and what no reply shows.
+#![tactic(auto)]
+
+#[cfg(test)]
+mod segments;
+#[cfg(test)]
+mod streams;

@@ -1,0 +1,378 @@
+// Scripts over memory, by readers and writers that are slow or fail.
+use crate::engine::list_engine::ListEngine;
+use crate::script::run_std::run_std;
+use std::cell::Cell;
+use std::io;
+use std::io::{Read, Write};
+use std::process::Abort;
+use std::sync::Wait;
+use std::test::Fail;
+use std::thread::Threads;
+
+/// The lines of a script, each with its reply; the last line lacks its LF.
+static SCRIPT: [(&str, &str); 10] = [
+    (SCHEMA, "{\"fields\":4}\n"),
+    ("", ""),
+    (" \t \r", ""),
+    ("{\"add\":{\"title\":\"Rust book\"}}", "{\"stamp\":1}\n"),
+    ("x", "{\"error\":\"BadJson\",\"line\":5}\n"),
+    (
+        "{\"add\":{\"nope\":1}}",
+        "{\"error\":\"UnknownField\",\"line\":6}\n",
+    ),
+    ("{\"commit\":true}", "{\"commit\":2}\n"),
+    ("{\"search\":{\"query\":\"rust\"}}", "{\"count\":1}\n"),
+    ("\u{e9}\u{e9}", "{\"error\":\"BadJson\",\"line\":9}\n"),
+    ("{\"search\":{\"query\":\"go\"}}", "{\"count\":0}\n"),
+];
+
+/// The fields `title` (text, default), `tag` (keyword, default), `price` (`u64`) and `temp` (`i64`).
+const SCHEMA: &str =
+    "{\"schema\":[{\"name\":\"title\",\"kind\":\"text\",\"default\":true},{\"name\":\"tag\",\"kind\":\"keyword\",\"default\":true},{\"name\":\"price\",\"kind\":\"u64\"},{\"name\":\"temp\",\"kind\":\"i64\"}]}";
+
+/// The input of the script.
+fn input(rt: &impl AllocGlobal) -> Result<Vec<u8>, Fail> {
+    let mut bytes = Vec::new(rt.alloc());
+    for (i, (line, _)) in SCRIPT.iter().enumerate() {
+        if i > 0 {
+            bytes.push(b'\n')?;
+        }
+        bytes.extend_from_slice(line.as_bytes())?;
+    }
+    Ok(bytes)
+}
+
+/// The replies to the lines that end within the first `count` bytes; at the end of the input the last line has ended too.
+fn replies(rt: &impl AllocGlobal, count: usize, ended: bool) -> Result<Vec<u8>, Fail> {
+    let mut bytes = Vec::new(rt.alloc());
+    let mut left = count;
+    for (line, reply) in &SCRIPT {
+        if left <= line.len() && !ended {
+            break;
+        }
+        left = left.saturating_sub(line.len()).saturating_sub(1);
+        bytes.extend_from_slice(reply.as_bytes())?;
+    }
+    Ok(bytes)
+}
+
+/// Runs a script, and hands the reader and the writer back.
+fn run_over<R: Read, W: Write>(
+    rt: &(impl AllocGlobal + Threads + Wait + Sync),
+    reader: R,
+    writer: W,
+    options: Options,
+) -> (Result<(), Fault>, R, W) {
+    let (outcome, reader, writer) = run_std::<ListEngine, _, _>(rt, reader, writer, options);
+    (outcome, reader.into_inner(), writer.into_inner())
+}
+
+/// Gives at most `step` bytes a call, and fails once, at the call numbered `fails`.
+#[derive(Drop)]
+struct Source<'a> {
+    bytes: &'a [u8],
+    step: usize,
+    fails: usize,
+    kind: io::ErrorKind,
+    calls: usize,
+}
+
+impl Read for Source<'_> {
+    fn read(&mut self, buffer: &mut [u8]) -> io::Result<usize> {
+        self.calls = self.calls.wrapping_add(1);
+        if self.calls == self.fails {
+            return Err(io::Error::from(self.kind));
+        }
+        let n = self.step.min(buffer.len()).min(self.bytes.len());
+        let (given, left) = self.bytes.split_at(n);
+        buffer[..n].copy_from_slice(given);
+        self.bytes = left;
+        Ok(n)
+    }
+}
+
+/// Takes at most `step` bytes a call; once, at the call numbered `fails`, it fails, or takes none where no kind is given.
+#[derive(Drop)]
+struct Sink {
+    bytes: Vec<u8>,
+    step: usize,
+    fails: usize,
+    kind: Option<io::ErrorKind>,
+    calls: usize,
+    flushes: usize,
+}
+
+impl Sink {
+    fn called(&mut self) -> io::Result<bool> {
+        self.calls = self.calls.wrapping_add(1);
+        if self.calls != self.fails {
+            return Ok(true);
+        }
+        match self.kind {
+            Some(kind) => Err(io::Error::from(kind)),
+            None => Ok(false),
+        }
+    }
+}
+
+impl Write for Sink {
+    fn write(&mut self, bytes: &[u8]) -> io::Result<usize> {
+        if !self.called()? {
+            return Ok(0);
+        }
+        let n = self.step.min(bytes.len());
+        self.bytes.extend_from_slice(&bytes[..n])?;
+        Ok(n)
+    }
+
+    fn flush(&mut self) -> io::Result<()> {
+        self.called()?;
+        self.flushes = self.flushes.wrapping_add(1);
+        Ok(())
+    }
+}
+
+fn reader_of(bytes: &[u8], step: usize, fails: usize, kind: io::ErrorKind) -> Source<'_> {
+    Source {
+        bytes,
+        step,
+        fails,
+        kind,
+        calls: 0,
+    }
+}
+
+fn writer_of(
+    rt: &impl AllocGlobal,
+    step: usize,
+    fails: usize,
+    kind: Option<io::ErrorKind>,
+) -> Sink {
+    Sink {
+        bytes: Vec::new(rt.alloc()),
+        step,
+        fails,
+        kind,
+        calls: 0,
+        flushes: 0,
+    }
+}
+
+/// Whether a script has these replies, whatever the size of its reads.
+fn replies_to(
+    rt: &(impl AllocGlobal + Abort + Threads + Wait + Sync),
+    script: &[u8],
+    wanted: &[u8],
+) -> Result<(), Fail> {
+    for step in [1, 2, 7, 1000] {
+        let reader = reader_of(script, step, 0, io::ErrorKind::Other);
+        let writer = writer_of(rt, step, 0, None);
+        let (outcome, _, written) = run_over(rt, reader, writer, Options::default());
+        assert_eq!(rt; outcome, Ok(()));
+        assert_eq!(rt; written.bytes.as_slice(), wanted);
+        assert_eq!(rt; written.flushes, 1);
+    }
+    Ok(())
+}
+
+#[test]
+fn whole_script(rt: HostRuntime) -> Result<(), Fail> {
+    let script = input(&rt)?;
+    let wanted = replies(&rt, script.len(), true)?;
+    replies_to(&rt, script.as_slice(), wanted.as_slice())
+}
+
+// White space at the beginning of a line changes no reply, wherever a read cuts it.
+#[test]
+fn lines_behind_white_space(rt: HostRuntime) -> Result<(), Fail> {
+    let mut script = Vec::new(rt.alloc());
+    for (line, _) in &SCRIPT {
+        script.extend_from_slice(b"  \t\r ")?;
+        script.extend_from_slice(line.as_bytes())?;
+        script.push(b'\n')?;
+    }
+    let wanted = replies(&rt, script.len(), true)?;
+    replies_to(&rt, script.as_slice(), wanted.as_slice())
+}
+
+/// Runs the script over a writer with room for its replies. A run that ends for memory has written the replies to the
+/// lines before the one that the last byte belongs to.
+fn ends_for_memory(
+    rt: &(impl AllocGlobal + Abort + Threads + Wait + Sync),
+    script: &[u8],
+    room: usize,
+) -> Result<bool, Fail> {
+    let mut writer = writer_of(rt, 1000, 0, None);
+    writer.bytes.reserve(room)?;
+    let reader = reader_of(script, 1, 0, io::ErrorKind::Other);
+    let (outcome, reader, written) = run_over(rt, reader, writer, Options::default());
+    if outcome == Ok(()) {
+        let wanted = replies(rt, script.len(), true)?;
+        assert_eq!(rt; written.bytes.as_slice(), wanted.as_slice());
+        return Ok(false);
+    }
+    assert_eq!(rt; outcome, Err(Fault::Memory));
+    let taken = script.len().wrapping_sub(reader.bytes.len());
+    let wanted = replies(rt, taken.saturating_sub(1), false)?;
+    assert_eq!(rt; written.bytes.as_slice(), wanted.as_slice(), "byte {taken}");
+    Ok(true)
+}
+
+// Each growth is refused in turn from outside; the second run has its memory.
+#[test]
+fn a_refused_growth_keeps_whole_replies(rt: HostRuntime) -> Result<(), Fail> {
+    let script = input(&rt)?;
+    let room = replies(&rt, script.len(), true)?.len();
+    if ends_for_memory(&rt, script.as_slice(), room)? {
+        assert!(rt; !ends_for_memory(&rt, script.as_slice(), room)?);
+    }
+    Ok(())
+}
+
+#[test]
+fn each_read_fails(rt: HostRuntime) -> Result<(), Fail> {
+    let script = input(&rt)?;
+    for kind in [io::ErrorKind::BrokenPipe, io::ErrorKind::Interrupted] {
+        for fails in 1..script.len() + 2 {
+            let reader = reader_of(script.as_slice(), 1, fails, kind);
+            let writer = writer_of(&rt, 5, 0, None);
+            let (outcome, _, written) = run_over(&rt, reader, writer, Options::default());
+            assert_eq!(rt; outcome, Err(Fault::Read), "call {fails}");
+            let wanted = replies(&rt, fails - 1, false)?;
+            assert_eq!(rt; written.bytes.as_slice(), wanted.as_slice(), "call {fails}");
+        }
+    }
+    Ok(())
+}
+
+fn write_fails(
+    rt: &(impl AllocGlobal + Abort + Threads + Wait + Sync),
+    step: usize,
+    fails: usize,
+    kind: Option<io::ErrorKind>,
+) -> Result<bool, Fail> {
+    let script = input(rt)?;
+    let whole = replies(rt, script.len(), true)?;
+    let reader = reader_of(script.as_slice(), step, 0, io::ErrorKind::Other);
+    let writer = writer_of(rt, step, fails, kind);
+    let (outcome, _, written) = run_over(rt, reader, writer, Options::default());
+    assert!(rt;
+        whole.as_slice().starts_with(written.bytes.as_slice()),
+        "call {fails}"
+    );
+    if fails <= written.calls && (kind.is_some() || written.flushes == 0) {
+        assert_eq!(rt; outcome, Err(Fault::Write), "call {fails}");
+        Ok(true)
+    } else {
+        assert_eq!(rt; outcome, Ok(()), "call {fails}");
+        assert_eq!(rt; written.bytes.as_slice(), whole.as_slice());
+        Ok(false)
+    }
+}
+
+#[test]
+fn each_write_fails(rt: HostRuntime) -> Result<(), Fail> {
+    for kind in [
+        Some(io::ErrorKind::BrokenPipe),
+        Some(io::ErrorKind::Interrupted),
+        None,
+    ] {
+        for step in [1, 4] {
+            let mut failed = 0u32;
+            for fails in 1..100 {
+                if write_fails(&rt, step, fails, kind)? {
+                    failed = failed.wrapping_add(1);
+                }
+            }
+            assert!(rt; failed > 10);
+        }
+    }
+    Ok(())
+}
+
+/// Gives a line a call, and fails where the replies to the lines before are not written by then.
+#[derive(Drop)]
+struct Patient<'a> {
+    line: usize,
+    wanted: usize,
+    written: &'a Cell<usize>,
+}
+
+impl Read for Patient<'_> {
+    fn read(&mut self, buffer: &mut [u8]) -> io::Result<usize> {
+        if self.written.get() != self.wanted {
+            return Err(io::Error::from(io::ErrorKind::WouldBlock));
+        }
+        if self.line >= SCRIPT.len() {
+            return Ok(0);
+        }
+        let (line, reply) = SCRIPT[self.line];
+        if buffer.len() <= line.len() {
+            return Ok(0);
+        }
+        buffer[..line.len()].copy_from_slice(line.as_bytes());
+        buffer[line.len()] = b'\n';
+        self.line += 1;
+        self.wanted = self.wanted.wrapping_add(reply.len());
+        Ok(line.len() + 1)
+    }
+}
+
+/// Counts the bytes that it takes.
+#[derive(Drop)]
+struct Counter<'a> {
+    written: &'a Cell<usize>,
+}
+
+impl Write for Counter<'_> {
+    fn write(&mut self, bytes: &[u8]) -> io::Result<usize> {
+        self.written
+            .set(self.written.get().wrapping_add(bytes.len()));
+        Ok(bytes.len())
+    }
+
+    fn flush(&mut self) -> io::Result<()> {
+        Ok(())
+    }
+}
+
+#[test]
+fn answers_come_before_the_next_read(rt: HostRuntime) {
+    let written = Cell::new(0);
+    let reader = Patient {
+        line: 0,
+        wanted: 0,
+        written: &written,
+    };
+    let (outcome, reader, _) = run_over(
+        &rt,
+        reader,
+        Counter { written: &written },
+        Options::default(),
+    );
+    assert_eq!(rt; outcome, Ok(()));
+    assert_eq!(rt; reader.line, SCRIPT.len());
+    assert_eq!(rt; written.get(), reader.wanted);
+}
+
+/// A line of `count` times `byte`, and then `rest`.
+fn push_line(bytes: &mut Vec<u8>, byte: u8, count: usize, rest: &str) -> Result<(), Fail> {
+    bytes.resize(bytes.len().saturating_add(count), byte)?;
+    bytes.extend_from_slice(rest.as_bytes())?;
+    bytes.push(b'\n')?;
+    Ok(())
+}
+
+#[test]
+fn many_replies_in_a_block(rt: HostRuntime) -> Result<(), Fail> {
+    let mut script = Vec::new(rt.alloc());
+    for _ in 0..40_000 {
+        push_line(&mut script, b'x', 1, "")?;
+    }
+    let writer = Vec::new(rt.alloc());
+    let (outcome, _, written) = run_over(&rt, script.as_slice(), writer, Options::default());
+    assert_eq!(rt; outcome, Ok(()));
+    // 28 bytes around each number, and 188,894 digits.
+    assert_eq!(rt; written.len(), 1_308_894);
+    Ok(())
+}
