@@ -1,0 +1,63 @@
+// What a case says beside what was given.
+use fts_model::Refusal;
+use serde_json::{Value, json};
+use std::alloc::{AllocError, Global};
+
+/// The bound that `{"at_most":n}` says.
+fn bound(says: &Value) -> Option<u64> {
+    let Value::Object(members) = says else {
+        return None;
+    };
+    match members.len() {
+        1 => says.get("at_most")?.as_u64(),
+        _ => None,
+    }
+}
+
+/// Whether what was given is what the case says: the same JSON value, but that `{"at_most":n}`, also within a list or an
+/// object, stands for each number up to n.
+pub fn fits(says: &Value, given: &Value) -> bool {
+    if let Some(most) = bound(says) {
+        return given.as_u64().is_some_and(|number| number <= most);
+    }
+    match (says, given) {
+        (Value::Array(says), Value::Array(given)) => {
+            if says.len() != given.len() {
+                return false;
+            }
+            for (says, given) in says.iter().zip(given.iter()) {
+                if !fits(says, given) {
+                    return false;
+                }
+            }
+            true
+        }
+        (Value::Object(says), Value::Object(given)) => {
+            if says.len() != given.len() {
+                return false;
+            }
+            for ((name, says), (given_name, given)) in says.iter().zip(given.iter()) {
+                if name != given_name || !fits(says, given) {
+                    return false;
+                }
+            }
+            true
+        }
+        (says, given) => says == given,
+    }
+}
+
+/// A refusal as a value: `{"error":"StaleBatch"}`, and with its number, if it has one, `{"error":"LaneMissing","number":1}`.
+///
+/// Up to which byte a query may still go on is not among them: a case that shows it says so by a word of its own.
+pub fn refused(alloc: Global, refusal: Refusal) -> Result<Value, AllocError> {
+    let name = refusal.name();
+    match refusal {
+        Refusal::LaneMissing(lane) => json!(in alloc; {"error": name, "number": lane}),
+        Refusal::OtherSchema(number)
+        | Refusal::UnknownSegment(number)
+        | Refusal::SegmentTwice(number)
+        | Refusal::SourceGone(number) => json!(in alloc; {"error": name, "number": number}),
+        _ => json!(in alloc; {"error": name}),
+    }
+}
