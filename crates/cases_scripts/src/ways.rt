@@ -1,6 +1,6 @@
 // The ways of running a script: over a plain list of documents, and over segments under each kind of options.
 use crate::script::Script;
-use anyhow::{Result, bail};
+use cases::Trouble;
 use fts_engine::IndexEngine;
 use fts_script::{Cut, Engine, ListEngine, Merge, Options, run_std};
 use std::alloc::Global;
@@ -36,7 +36,7 @@ fn run<E: Engine>(
     input: &str,
     wanted: &str,
     options: Options,
-) -> Result<Option<String>> {
+) -> Result<Option<String>, Trouble> {
     let alloc = rt.alloc();
     let (outcome, _, written) = run_std::<E, _, _>(rt, input.as_bytes(), Vec::new(alloc), options);
     if outcome.is_err() {
@@ -55,7 +55,7 @@ fn run<E: Engine>(
 pub(crate) fn difference(
     rt: &(impl AllocGlobal + Threads + Wait + Sync),
     script: &Script,
-) -> Result<Option<String>> {
+) -> Result<Option<String>, Trouble> {
     let input = script.input.as_str();
     let wanted = script.wanted.as_str();
     let unended = input.strip_suffix('\n').unwrap_or(input);
@@ -67,7 +67,7 @@ pub(crate) fn difference(
     }
     for (i, (workers, cut, merge)) in WAYS.iter().enumerate() {
         let Some(options) = Options::new(*workers, *cut, *merge) else {
-            bail!("no options");
+            return Err(Trouble::Impossible("options beyond their limits"));
         };
         let input = if i % 2 == 0 { input } else { unended };
         if let Some(other) = run::<IndexEngine>(rt, input, wanted, options)? {
