@@ -3,13 +3,7 @@ ghost use Rattle.std.specs.Prelude.{◌≡◌, ◌+◌, ◌≤◌, ◌++◌, dro
 ghost use Rattle.fts_postings.specs.Remaining.{IsPlaceOf};
 
 /// Copies so many numbers from one place on to another.
-pub fn copy_part(
-    numbers: &[u32; 128],
-    from: usize,
-    count: usize,
-    out: &mut [u32; 128],
-    to: usize,
-)
+pub fn copy_part(numbers: &[u32; 128], from: usize, count: usize, out: &mut [u32; 128], to: usize)
     requires read { from + count ≤ 128 }
     requires write { to + count ≤ 128 }
     ensures { take (to + count) out.new ≡ take to out.old ++ take count (drop from numbers.now) }
