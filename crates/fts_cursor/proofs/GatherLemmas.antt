@@ -5,20 +5,19 @@ use Rattle.std.specs.List.Sorted.{IsStrictlyIncreasing}
 use Rattle.std.proofs.lemmas.Bool.{cases_Bool, cases_lt, le-leb, lt-leb, false≢true}
 use Rattle.std.proofs.lemmas.List.{take_more, take_all, map-append}
 use Rattle.fts_pack.specs.Documents.{Rises}
-use Rattle.fts_cursor.specs.Remaining.{at_least}
-use Rattle.fts_cursor.specs.Scans.{passing}
-use Rattle.fts_cursor.specs.Meeting.{IsLeast, has, in_some, union, with_all, with_one}
+use Rattle.fts_postings.specs.Remaining.{at_least}
+use Rattle.fts_postings.specs.Windows.{is_marked, passing}
+use Rattle.fts_postings.specs.Meeting.{IsLeast, has, in_some, union, with_all, with_one}
 use Rattle.fts_cursor.specs.Standing.{Continues, Left, Standing, beside, remains, together}
 use Rattle.fts_cursor.specs.Trees.{AreBeyond, AreMarked, IsBuffered, IsNow, found, gathered}
-use Rattle.fts_cursor.specs.Windows.{is_marked}
 use Rattle.fts_cursor.specs.declared.tree.BufferedUnion.{BufferedUnion}
 use Rattle.fts_cursor.specs.declared.tree.Node.TheVariants.{Or}
-use Rattle.fts_cursor.specs.declared.window.Window.{Window}
-use Rattle.fts_cursor.proofs.RemainingLemmas.{Rises-from_increasing, at_least_all, first-at_least, increasing-from_Rises, nothing_first}
-use Rattle.fts_cursor.proofs.MeetingLemmas.{above_is_other, below_is_other, has-at_least, has-before_first, has-below, has-first, has-none, is_itself}
-use Rattle.fts_cursor.proofs.ScanLemmas.{Rises-passing}
-use Rattle.fts_cursor.proofs.PartsLemmas.{Continues-beside, Continues-same, Continues-together, UpTo, UpTo-next, UpTo-none}
-use Rattle.fts_cursor.proofs.UnionLemmas.{Rises-union, at_least-with_all, by_order, first_of, has-union, has-with_one, in_some-append, leaves, or_false, union-left, union_first}
+use Rattle.fts_postings.specs.declared.window.Window.{Window}
+use Rattle.fts_postings.proofs.RemainingLemmas.{Rises-from_increasing, at_least_all, first-at_least, increasing-from_Rises, nothing_first}
+use Rattle.fts_postings.proofs.MeetingLemmas.{above_is_other, below_is_other, has-at_least, has-before_first, has-below, has-first, has-none, is_itself}
+use Rattle.fts_postings.proofs.PassingLemmas.{Rises-passing}
+use Rattle.fts_cursor.proofs.PartsLemmas.{Continues-beside, Continues-same, Continues-together, UpTo, UpTo-next, UpTo-none, union-left}
+use Rattle.fts_postings.proofs.UnionLemmas.{Rises-union, at_least-with_all, by_order, first_of, has-union, has-with_one, in_some-append, leaves, or_false, union_first}
 use Rattle.fts_cursor.proofs.TreeLemmas.{IsNow-first, drop_first, from_union, parts_from, stays_from_first}
 
 -- rising lists that have the same are the same

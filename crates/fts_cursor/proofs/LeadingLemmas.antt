@@ -13,13 +13,13 @@ use Rattle.fts_model.proofs.QueriesBoolean.{matches_in}
 use Rattle.fts_pack.specs.Documents.{Rises, block_count, blocks_of}
 use Rattle.fts_pack.specs.SourceLaws.{blocks_joined, length-blocks_of}
 use Rattle.fts_segment.specs.Segments.{SegmentValue, numbers_where}
-use Rattle.fts_cursor.specs.Conjoined.{AllFollow, Conjoined, common_of, counts_of, each_remaining, members_of, most_of}
+use Rattle.fts_postings.specs.Conjoined.{AllFollow, Conjoined, common_of, counts_of, each_remaining, members_of, most_of}
 use Rattle.fts_cursor.specs.Leading.{IsLed, IsOver, fewest}
-use Rattle.fts_cursor.specs.Meeting.{common, has, in_all}
-use Rattle.fts_cursor.specs.Posting.{Posting, remaining_of}
+use Rattle.fts_postings.specs.Meeting.{common, has, in_all}
+use Rattle.fts_postings.specs.Posting.{Posting, remaining_of}
 use Rattle.fts_cursor.specs.Terms.{AreTied, IsTied}
 use Rattle.fts_cursor.proofs.HitsLemmas.{Rises-hits, at_all, has-filter, hits_of, in_all-hits, numbers_are}
-use Rattle.fts_cursor.proofs.MeetingLemmas.{Rises-filter, is_itself}
+use Rattle.fts_postings.proofs.MeetingLemmas.{Rises-filter, is_itself}
 use Rattle.fts_cursor.proofs.TermsLemmas.{terms-continue}
 
 and_unit : (a : Bool) → (a && true) ≡ a

@@ -1,14 +1,7 @@
-pub mod RemainingLemmas
-pub mod FillLemmas
-pub mod PostingLemmas
-pub mod MeetingLemmas
-pub mod ConjoinedLemmas
 pub mod TermsLemmas
 pub mod ScanLemmas
+pub mod WithinLemmas
 pub mod PartsLemmas
-pub mod UnionLemmas
-pub mod WindowLemmas
-pub mod MarksLemmas
 pub mod TreeLemmas
 pub mod GatherLemmas
 pub mod PhraseLemmas

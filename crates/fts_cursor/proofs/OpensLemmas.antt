@@ -22,7 +22,7 @@ use Rattle.fts_cursor.specs.Hits.{segment_hits}
 use Rattle.fts_cursor.specs.Leading.{fewest}
 use Rattle.fts_cursor.specs.Openings.{blocks_with, documents_with, least_documents}
 use Rattle.fts_cursor.specs.Standing.{Standing, Walked, remains}
-use Rattle.fts_cursor.specs.Meeting.{common, union}
+use Rattle.fts_postings.specs.Meeting.{common, union}
 use Rattle.fts_cursor.proofs.BoolHits.{all_kept, kept_by, must_hits, should_hits}
 use Rattle.fts_cursor.proofs.HitsLemmas.{hits_of}
 use Rattle.fts_cursor.proofs.LeadingLemmas.{all_hits}

@@ -1,15 +1,16 @@
 -- The parts of a cursor, one after the other.
-use Rattle.std.proofs.Common.{◌≡◌, ◌≢◌, ℕ, zero, suc, ◌+◌, ◌<◌, ◌≤◌, Option, Some, None, true, false, ◌&&◌, List, [], ◌∷◌, length, get_or, set, take, refl, sym, ap, ap₂, ◌∙◌, inl, inr, arith}
+use Rattle.std.proofs.Common.{◌≡◌, ◌≢◌, ℕ, zero, suc, ◌+◌, ◌<◌, ◌≤◌, Option, Some, None, true, false, ◌&&◌, List, [], ◌∷◌, ◌++◌, length, get_or, set, take, refl, sym, ap, ap₂, ◌∙◌, inl, inr, arith}
 use Rattle.std.specs.List.{AllZip, slice_get}
 use Rattle.std.specs.List.Sorted.{IsStrictlyIncreasing}
 use Rattle.std.proofs.lemmas.Bool.{cases_lt}
-use Rattle.std.proofs.lemmas.List.{get_or-set_same, get_or-set_other, length-set, length-map, get_or_default}
-use Rattle.fts_cursor.specs.Remaining.{at_least}
-use Rattle.fts_cursor.specs.Meeting.{IsLeast, has, in_all}
-use Rattle.fts_cursor.specs.Conjoined.{IsAhead}
+use Rattle.std.proofs.lemmas.List.{get_or-set_same, get_or-set_other, length-set, length-map, get_or_default, map-append, take_more_set}
+use Rattle.fts_postings.specs.Remaining.{at_least}
+use Rattle.fts_postings.specs.Meeting.{IsLeast, has, in_all, union, with_all}
+use Rattle.fts_postings.specs.Conjoined.{IsAhead}
 use Rattle.fts_cursor.specs.Standing.{Continues, Left, Narrowed, Standing, beside, heights, remains, together}
-use Rattle.fts_cursor.proofs.RemainingLemmas.{at_least-at_least, first-at_least}
-use Rattle.fts_cursor.proofs.MeetingLemmas.{has-before_first, has-first, has-none, in_all-lacking, in_all-each, has-at_least}
+use Rattle.fts_postings.proofs.RemainingLemmas.{Rises-from_increasing, at_least-at_least, first-at_least}
+use Rattle.fts_postings.proofs.MeetingLemmas.{has-before_first, has-first, has-none, in_all-lacking, in_all-each, has-at_least}
+use Rattle.fts_postings.proofs.UnionLemmas.{at_least-with_all, with_all-nil}
 
 -- the first parts stand in a relation to what they were, and the others are as they were
 pub record UpTo (R : Standing → Standing → Type 0) (initial now : List Standing) (index : ℕ) : Type 0 where
@@ -145,3 +146,22 @@ in_all-narrowed doc (p ∷ ps) (q ∷ qs) h d high =
 pub record LeftUpTo (target : ℕ) (initial now : List Standing) (least : Option ℕ) (index : ℕ) : Type 0 where
   pub up_to : UpTo (Left target) initial now index
   pub least_is : IsLeast least (remains (take index now))
+
+pub union-left : (t : ℕ) (ps qs : List Standing) → AllZip (Left t) ps qs → union (remains qs) ≡ at_least t (union (remains ps))
+union-left t [] [] h = refl
+union-left t [] (q ∷ qs) h = absurd h
+union-left t (p ∷ ps) [] h = absurd h
+union-left t (p ∷ ps) (q ∷ qs) h =
+    ap₂ with_all h.0.remaining (union-left t ps qs h.1) ∙ sym (at_least-with_all t p.remaining (union (remains ps)))
+
+-- the parts up to one that was written, with what remains of it
+pub remains-more : (now : List Standing) (index : ℕ) (q : Standing) → index < length now → remains (take (index + 1) (set now index q)) ≡ remains (take index now) ++ q.remaining ∷ []
+remains-more now index q inside = ap remains (take_more_set now index q inside) ∙ map-append (λ s. s.remaining) (take index now) (q ∷ [])
+
+-- the documents of one alone
+pub union-single : (parts : List Standing) (part : Standing) → length parts ≡ 1 → ((p : Standing) → parts ≡ p ∷ [] → part ≡ p) → IsStrictlyIncreasing part.remaining → part.remaining ≡ union (remains parts)
+union-single [] part one is rises = absurd (omega (arith, one))
+union-single (p ∷ []) part one is rises =
+    let same : part ≡ p = is p refl in
+    sym (ap (λ (s : Standing). with_all s.remaining []) (sym same) ∙ with_all-nil 0 part.remaining (Rises-from_increasing part.remaining rises))
+union-single (p ∷ q ∷ ps) part one is rises = absurd (omega (arith, one))

@@ -10,12 +10,12 @@ use Rattle.fts_pack.specs.Documents.{Rises, blocks_of}
 use Rattle.fts_pack.specs.SourceLaws.{length-blocks_of}
 use Rattle.fts_segment.specs.ListIds.{documents_in}
 use Rattle.fts_cursor.specs.declared.phrase.Member.{Member}
-use Rattle.fts_cursor.specs.Conjoined.{AllFollow, Conjoined, common_of}
-use Rattle.fts_cursor.specs.Meeting.{FirstPasses}
+use Rattle.fts_postings.specs.Conjoined.{AllFollow, Conjoined, common_of}
+use Rattle.fts_postings.specs.Meeting.{FirstPasses}
 use Rattle.fts_cursor.specs.Phrases.{AreMembersOf, IsPhrase, phrase_at, positions_at, rank}
-use Rattle.fts_cursor.specs.Posting.{Follows, Posting}
+use Rattle.fts_postings.specs.Posting.{Follows, Posting}
 use Rattle.fts_cursor.specs.Terms.{AreTied}
-use Rattle.fts_cursor.proofs.RemainingLemmas.{Rises-from_increasing, Rises-get_or}
+use Rattle.fts_postings.proofs.RemainingLemmas.{Rises-from_increasing, Rises-get_or}
 use Rattle.fts_cursor.proofs.TermsLemmas.{terms-continue}
 
 pub none_below : (doc next : ℕ) (xs : List ℕ) → Rises next xs → doc ≤ next → filter (λ d. nat_lt d doc) xs ≡ []

@@ -25,7 +25,8 @@ use Rattle.fts_segment.specs.FieldIndexes.{NumbersFit}
 use Rattle.fts_segment.specs.Occurrences.{values_in}
 use Rattle.fts_segment.specs.Segments.{SegmentValue, column, number_in, number_of, numbers_where}
 use Rattle.fts_cursor.specs.Ranges.{IsGreatestOf, IsLeastOf, IsWholeBound, is_bounded, key_from, key_to}
-use Rattle.fts_cursor.specs.Scans.{has_value, has_within, passing, within}
+use Rattle.fts_cursor.specs.Scans.{has_value, has_within, within}
+use Rattle.fts_postings.specs.Windows.{passing}
 use Rattle.fts_cursor.proofs.HitsLemmas.{numbers_are, passing_are, test_at}
 
 -- the order of numbers with a sign is that of their places

@@ -1,35 +1,22 @@
 -- The documents of a range that pass a test, stretch by stretch.
 use Rattle.std.proofs.Common.{◌≡◌, ℕ, zero, suc, ◌+◌, ◌-◌, ◌<◌, ◌≤◌, Bool, true, false, cond, ◌&&◌, nat_le, Option, Some, None, is_some, option_map, Bor, List, [], ◌∷◌, ◌++◌, length, get_or, set, take, drop, min, refl, sym, ap, ap₂, subst, ◌∙◌, inl, inr, arith}
 use Rattle.std.specs.List.{filter, range_with_len, slice_get}
-use Rattle.std.specs.List.Sorted.{IsStrictlyIncreasing}
 use Rattle.std.specs.Option.{option_copied, option_map_or}
 use Rattle.std.proofs.lemmas.Option.{slice_get-get_or}
 use Rattle.std.proofs.lemmas.Bool.{cases_lt, lt-leb}
 use Rattle.std.proofs.lemmas.List.{append-nil, take_more_set, length-append, length-drop, get_or-drop, get_or-take, get_or_append_left, drop-append-le, drop-drop, drop_all}
-use Rattle.std.proofs.lemmas.List.Elements.{filter-append}
 use Rattle.fts_pack.specs.Documents.{Rises}
-use Rattle.fts_cursor.specs.Remaining.{at_least, IsPlaceOf}
+use Rattle.fts_postings.specs.Remaining.{at_least, IsPlaceOf}
 use Rattle.fts_model.specs.declared.operation.Stamped.{Stamped}
 use Rattle.fts_model.specs.declared.value.FieldValue.{FieldValue}
 use Rattle.fts_model.specs.Documents.{DocumentValue, value_in_field}
-use Rattle.fts_cursor.specs.Scans.{has_value, keeps, kept_from, kept_in, passing, within}
+use Rattle.fts_cursor.specs.Scans.{has_value, keeps, kept_from, kept_in, within}
+use Rattle.fts_postings.specs.Windows.{passing}
 use Rattle.fts_cursor.specs.declared.kept.Kept.{Kept}
-use Rattle.fts_cursor.proofs.RemainingLemmas.{Rises-front, at_least-append, at_least_all, at_least_place, increasing-from_Rises}
-use Rattle.fts_cursor.proofs.MeetingLemmas.{Rises-filter, filter-at_least}
-use Rattle.fts_cursor.proofs.PostingLemmas.{all_below}
-
-range-append : (a m n : ℕ) → range_with_len a (m + n) ≡ range_with_len a m ++ range_with_len (a + m) n
-range-append a zero n =
-    let e : 0 + n ≡ n = omega arith in
-    let f : a ≡ a + 0 = omega arith in
-    ap (range_with_len a) e ∙ ap (λ b. range_with_len b n) f
-range-append a (suc m) n =
-    let e : suc m + n ≡ suc (m + n) = omega arith in
-    let f : a + 1 + m ≡ a + suc m = omega arith in
-    ap (range_with_len a) e ∙ ap (λ xs. a ∷ xs) (range-append (a + 1) m n ∙ ap (λ b. range_with_len (a + 1) m ++ range_with_len b n) f)
-
-pub passing-append : (p : ℕ → Bool) (a m n : ℕ) → passing p a (m + n) ≡ passing p a m ++ passing p (a + m) n
-passing-append p a m n = ap (filter p) (range-append a m n) ∙ filter-append p (range_with_len a m) (range_with_len (a + m) n)
+use Rattle.fts_postings.proofs.RemainingLemmas.{Rises-front, at_least-append, at_least_all, at_least_place}
+use Rattle.fts_postings.proofs.MeetingLemmas.{filter-at_least}
+use Rattle.fts_postings.proofs.PostingLemmas.{all_below}
+use Rattle.fts_postings.proofs.PassingLemmas.{range-append, passing-append, Rises-drop, Rises-passing}
 
 -- what passes so far lies at the front
 pub record KeptUpTo (p : ℕ → Bool) (from : ℕ) (out : List ℕ) (place count : ℕ) : Type 0 where
@@ -71,21 +58,6 @@ passing-stretch p from docs = elim (cases_lt (docs - from) 128) [
       let all : 128 ≡ min 128 (docs - from) = omega (arith, long) in
       ap (passing p from) e ∙ passing-append p from 128 (docs - (from + 128)) ∙ ap (λ m. passing p from m ++ passing p (from + 128) (docs - (from + 128))) all
 ]
-
-Rises-range : (a n : ℕ) → Rises a (range_with_len a n)
-Rises-range a zero = tt
-Rises-range a (suc n) = (omega arith, subst (λ b. Rises b (range_with_len (a + 1) n)) (let e : a + 1 ≡ suc a = omega arith in e) (Rises-range (a + 1) n))
-
-pub Rises-passing : (p : ℕ → Bool) (a n : ℕ) → Rises a (passing p a n)
-Rises-passing p a n = Rises-filter a p (range_with_len a n) (Rises-range a n)
-
-Rises-drop : (k from : ℕ) (xs : List ℕ) → Rises from xs → (next : ℕ) × Rises next (drop k xs)
-Rises-drop zero from xs h = (from, h)
-Rises-drop (suc k) from [] h = (from, tt)
-Rises-drop (suc k) from (x ∷ xs) h = Rises-drop k (suc x) xs h.1
-
-pub increasing-passing : (p : ℕ → Bool) (a n k : ℕ) → IsStrictlyIncreasing (drop k (passing p a n))
-increasing-passing p a n k = let r = Rises-drop k a (passing p a n) (Rises-passing p a n) in increasing-from_Rises r.0 (drop k (passing p a n)) r.1
 
 -- past the end nothing is left
 pub none_kept : (p : ℕ → Bool) (from docs at : ℕ) → 0 < length (drop at (passing p from (docs - from))) → from < docs

@@ -3,8 +3,8 @@ use Rattle.std.proofs.Common.{◌≡◌, ℕ, ◌+◌, ◌*◌, ◌≤◌, List,
 use Rattle.std.specs.List.{All, AllZip, flat_map, sum_by}
 use Rattle.std.proofs.lemmas.List.Elements.{All-cons, All-head, All-tail}
 use Rattle.std.proofs.lemmas.List.Sums.{sum_by-cons}
-use Rattle.fts_cursor.specs.Conjoined.{AllFollow, Conjoined, counts_of, members_of, openings_of}
-use Rattle.fts_cursor.specs.Posting.{Follows, Posting}
+use Rattle.fts_postings.specs.Conjoined.{AllFollow, Conjoined, counts_of, members_of, openings_of}
+use Rattle.fts_postings.specs.Posting.{Follows, Posting}
 use Rattle.fts_cursor.specs.Standing.{Continues}
 use Rattle.fts_cursor.specs.Terms.{AreTied, IsTied, of_terms}
 

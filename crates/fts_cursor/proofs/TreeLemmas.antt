@@ -4,10 +4,10 @@ use Rattle.std.specs.List.{AllZip, filter, slice_get}
 use Rattle.std.specs.List.Sorted.{IsStrictlyIncreasing}
 use Rattle.std.proofs.lemmas.Bool.{cases_lt, le-leb, lt-leb, false≢true}
 use Rattle.fts_pack.specs.Documents.{Rises}
-use Rattle.fts_cursor.specs.Remaining.{at_least}
-use Rattle.fts_cursor.specs.Meeting.{IsLeast, common, has, in_all, in_some, lacks, union, without}
+use Rattle.fts_postings.specs.Remaining.{at_least}
+use Rattle.fts_postings.specs.Meeting.{IsLeast, common, has, in_all, in_some, lacks, union, without}
 use Rattle.fts_cursor.specs.Standing.{Continues, Left, Narrowed, Standing, Walked, all_most, all_openings, beside, remains, together}
-use Rattle.fts_cursor.specs.Conjoined.{IsAhead}
+use Rattle.fts_postings.specs.Conjoined.{IsAhead}
 use Rattle.std.specs.Borrow.{Bor}
 use Rattle.fts_cursor.specs.Hits.{is_live}
 use Rattle.fts_cursor.specs.Live.{of_live}
@@ -16,10 +16,10 @@ use Rattle.fts_cursor.specs.declared.tree.Difference.{Difference}
 use Rattle.fts_cursor.specs.declared.tree.Meeting.{Meeting}
 use Rattle.fts_cursor.specs.declared.tree.Node.{Node}
 use Rattle.fts_cursor.specs.declared.tree.Node.TheVariants.{And}
-use Rattle.fts_cursor.proofs.RemainingLemmas.{Rises-from_increasing, increasing-from_Rises, fewer-at_least, first-at_least, at_least_all, nothing_first}
-use Rattle.fts_cursor.proofs.MeetingLemmas.{FirstPasses-first, filter-past, Rises-from_first, filter-ahead, filter-first, filter-none, filter-rises, filter-same, has-at_least, has-before_first, has-first, has-none, is_itself}
-use Rattle.fts_cursor.proofs.PartsLemmas.{Continues-beside, Continues-same, Continues-together, Continues-trans, LeftUpTo, UpTo-next, in_all-narrowed}
-use Rattle.fts_cursor.proofs.UnionLemmas.{Rises-union, has-union, remains-more}
+use Rattle.fts_postings.proofs.RemainingLemmas.{Rises-from_increasing, increasing-from_Rises, fewer-at_least, first-at_least, at_least_all, nothing_first}
+use Rattle.fts_postings.proofs.MeetingLemmas.{FirstPasses-first, filter-past, Rises-from_first, filter-ahead, filter-first, filter-none, filter-rises, filter-same, has-at_least, has-before_first, has-first, has-none, is_itself}
+use Rattle.fts_cursor.proofs.PartsLemmas.{Continues-beside, Continues-same, Continues-together, Continues-trans, LeftUpTo, UpTo-next, in_all-narrowed, remains-more}
+use Rattle.fts_postings.proofs.UnionLemmas.{Rises-union, has-union}
 
 -- a node whose parts were brought together
 pub IsNow-met : (doc : Option ℕ) (node : Node) (before remaining : List ℕ) (test : ℕ → Bool) (lead : List ℕ) → Met doc before test lead → (standing node).remaining ≡ filter test lead → PartsStand doc node → IsTiedNode node → before ≡ remaining → IsNow doc node remaining

@@ -8,7 +8,7 @@ use Rattle.fts_segment.specs.Segments.{SegmentValue, positions, postings}
 use Rattle.fts_cursor.specs.declared.phrase.Member.{Member}
 use Rattle.fts_cursor.specs.Leading.{IsOver}
 use Rattle.fts_cursor.specs.Openings.{HasMusts, IsOfOneTerm, blocks_with, most_for_musts}
-use Rattle.fts_cursor.specs.Posting.{Posting}
+use Rattle.fts_postings.specs.Posting.{Posting}
 use Rattle.fts_cursor.specs.Standing.{Standing}
 
 -- a text as a term

@@ -1,8 +1,8 @@
 -- Rising lists of documents of which the shortest leads.
 use Rattle.std.specs.Prelude.{◌≡◌, ℕ, suc, ◌<◌, ◌≤◌, min, List, [], ◌∷◌, fold, length}
 use Rattle.fts_pack.specs.Documents.{Rises, blocks_of}
-use Rattle.fts_cursor.specs.Meeting.{in_all}
-use Rattle.fts_cursor.specs.Posting.{Posting, remaining_of}
+use Rattle.fts_postings.specs.Meeting.{in_all}
+use Rattle.fts_postings.specs.Posting.{Posting, remaining_of}
 use Rattle.fts_cursor.specs.Terms.{IsTied}
 
 -- the length of the shortest of some lists

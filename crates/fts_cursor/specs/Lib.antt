@@ -1,15 +1,9 @@
-pub mod Remaining
-pub mod Fills
-pub mod Posting
-pub mod Meeting
-pub mod Conjoined
 pub mod Standing
 pub mod Terms
 pub mod Phrases
 pub mod Leading
 pub mod Builds
 pub mod Scans
-pub mod Windows
 pub mod Trees
 pub mod Falls
 pub mod Ranges

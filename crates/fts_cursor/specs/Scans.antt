@@ -1,9 +1,9 @@
 -- The documents that are kept by their numbers alone, a stretch at a time.
-use Rattle.std.specs.Prelude.{◌≡◌, ℕ, ◌-◌, ◌%◌, ◌^◌, ◌<◌, ◌≤◌, Bool, true, false, ◌&&◌, nat_le, List, Option, Some, None, filter, length, min, take, is_some, slice_get, slice_index_or}
-use Rattle.std.specs.List.{range_with_len}
+use Rattle.std.specs.Prelude.{◌≡◌, ℕ, ◌-◌, ◌%◌, ◌^◌, ◌<◌, ◌≤◌, Bool, true, false, ◌&&◌, nat_le, List, Option, Some, None, length, min, take, is_some, slice_get, slice_index_or}
 use Rattle.std.specs.Option.{option_map_or}
 use Rattle.fts_model.specs.Documents.{DocumentValue, value_in_field}
 use Rattle.fts_model.specs.declared.operation.Stamped.{Stamped}
+use Rattle.fts_postings.specs.Windows.{passing}
 use Rattle.fts_cursor.specs.declared.kept.Kept.{Kept}
 use Rattle.fts_cursor.specs.declared.kept.Kept.TheVariants.{Every, Within, Valued}
 
@@ -31,10 +31,6 @@ abbrev pub AreFor : Kept → ℕ → Type 0
 AreFor Every docs = Unit {0}
 AreFor (Within column low high) docs = length column.now ≡ docs
 AreFor (Valued segment field) docs = length segment.now.documents ≡ docs
-
--- those of so many documents from one on that pass
-abbrev pub passing : (ℕ → Bool) → ℕ → ℕ → List ℕ
-passing test from count = filter test (range_with_len from count)
 
 -- those kept of so many documents, from one on
 abbrev pub kept_from : Kept → ℕ → ℕ → List ℕ

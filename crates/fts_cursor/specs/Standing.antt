@@ -2,7 +2,7 @@
 use Rattle.std.specs.Prelude.{◌≡◌, ℕ, suc, ◌+◌, ◌≤◌, max, Bool, true, false, List, [], ◌∷◌, map}
 use Rattle.std.proofs.Common.{arith}
 use denote.Param.Weighed.{most}
-use Rattle.fts_cursor.specs.Remaining.{at_least}
+use Rattle.fts_postings.specs.Remaining.{at_least}
 
 -- what remains, how often its sources opened a block, how many blocks it opens at most, whether it goes over one list
 -- of which it has opened each block up to where it stands, and how deep the cursors lie in one another

@@ -1,7 +1,7 @@
 -- What a cursor over terms stands for in a tree.
 use Rattle.std.specs.Prelude.{◌≡◌, ℕ, All, false, List}
-use Rattle.fts_cursor.specs.Conjoined.{Conjoined, counts_of, most_of}
-use Rattle.fts_cursor.specs.Posting.{Posting}
+use Rattle.fts_postings.specs.Conjoined.{Conjoined, counts_of, most_of}
+use Rattle.fts_postings.specs.Posting.{Posting}
 use Rattle.fts_cursor.specs.Standing.{Standing}
 
 -- each opening of a source was counted by its cursor

@@ -2,18 +2,18 @@
 use Rattle.std.specs.Prelude.{◌≡◌, ℕ, ◌==◌, ◌≤◌, ◌&&◌, ◌||◌, nat_le, Bool, true, false, List, [], ◌∷◌, Option, Some, None, length, slice_get}
 use Rattle.std.specs.List.{filter}
 use Rattle.std.specs.List.Sorted.{IsStrictlyIncreasing}
-use Rattle.fts_cursor.specs.Posting.{blocks_reached, remaining_of}
-use Rattle.fts_cursor.specs.Conjoined.{common_of}
-use Rattle.fts_cursor.specs.Meeting.{FirstPasses, common, has, in_all, in_some, lacks, union, without}
+use Rattle.fts_postings.specs.Posting.{blocks_reached, remaining_of}
+use Rattle.fts_postings.specs.Conjoined.{common_of}
+use Rattle.fts_postings.specs.Meeting.{FirstPasses, common, has, in_all, in_some, lacks, union, without}
 use Rattle.fts_cursor.specs.Standing.{Standing, beside, remains, together}
 use Rattle.fts_cursor.specs.Terms.{AreTied, IsTied, of_terms}
-use Rattle.fts_cursor.specs.Windows.{marked}
+use Rattle.fts_postings.specs.Windows.{marked}
 use Rattle.fts_cursor.specs.declared.tree.BufferedUnion.{BufferedUnion}
 use Rattle.fts_cursor.specs.declared.tree.Difference.{Difference}
 use Rattle.fts_cursor.specs.declared.tree.Meeting.{Meeting}
 use Rattle.fts_cursor.specs.declared.tree.Node.{Node}
 use Rattle.fts_cursor.specs.declared.tree.Node.TheVariants.{Nothing, Scan, Postings, Terms, Phrase, And, Or, Without}
-use Rattle.fts_cursor.specs.declared.window.Window.{Window}
+use Rattle.fts_postings.specs.declared.window.Window.{Window}
 
 -- the documents of a window
 abbrev pub found : Window → List ℕ

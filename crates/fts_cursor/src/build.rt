@@ -8,23 +8,22 @@ ghost use Rattle.fts_model.specs.QueryValues.{every, phrase, query_value};
 ghost use Rattle.fts_pack.specs.Documents.{block_count};
 ghost use Rattle.fts_segment.specs.Segments.{positions, postings};
 ghost use Rattle.fts_cursor.specs.Hits.{live_hits, segment_hits};
-ghost use Rattle.fts_cursor.specs.Meeting.{common};
+ghost use Rattle.fts_postings.specs.Meeting.{common};
 ghost use Rattle.fts_cursor.specs.Builds.{IsCursorOf, IsMemberFor, LacksTerm, Opens, text_term};
 ghost use Rattle.fts_segment.specs.ListIds.{documents_in, positions_in};
 ghost use Rattle.fts_cursor.specs.Openings.{HasMusts, IsOfOneTerm, blocks_with, most_for_musts};
 ghost use Rattle.fts_cursor.specs.Standing.{Standing, remains};
 
-use crate::conjunction::Conjunction;
 use crate::cursor::Cursor;
 use crate::kept::Kept;
 use crate::phrase::{Member, PhraseCursor};
-use crate::posting::PostingCursor;
 use crate::range::of_range;
 use crate::scan::ScanCursor;
 use crate::terms::{are_terms, cursor_over, of_terms};
 use crate::tree::Tree;
 use fts_model::{FieldValue, Query, Refusal, Term, Text};
 use fts_pack::{Bits, ListSource};
+use fts_postings::{Conjunction, PostingCursor};
 use fts_segment::{ListId, Segment};
 use std::alloc::{AllocError, Global};
 

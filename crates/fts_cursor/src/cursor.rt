@@ -1,13 +1,13 @@
 // The cursor of a query: of the documents that match, those that are live remain.
 ghost use Rattle.std.specs.Prelude.{◌≡◌, ◌-◌, ◌^◌, ◌≤◌, true, [], drop, filter, length, min, take};
 ghost use Rattle.fts_cursor.specs.Hits.{is_live};
-ghost use Rattle.fts_cursor.specs.Meeting.{FirstPasses};
-ghost use Rattle.fts_cursor.specs.Remaining.{at_least};
+ghost use Rattle.fts_postings.specs.Meeting.{FirstPasses};
+ghost use Rattle.fts_postings.specs.Remaining.{at_least};
 ghost use Rattle.fts_cursor.specs.Standing.{Continues, Walked};
 
-use crate::doc_set::DocSet;
 use crate::tree::Tree;
 use fts_pack::Bits;
+use fts_postings::DocSet;
 use std::marker::Model;
 
 /// The live documents of a segment that match a query, from the first on. It borrows the segment and its bits.

@@ -1,9 +1,10 @@
 // Which documents are kept by their number alone: they are looked at in stretches of 128.
 ghost use Rattle.std.specs.Prelude.{◌≡◌, ◌%◌, ◌-◌, ◌^◌, ◌<◌, ◌≤◌, length, min, take};
-ghost use Rattle.fts_cursor.specs.Scans.{AreFor, has_value, has_within, kept_in, passing};
+ghost use Rattle.fts_cursor.specs.Scans.{AreFor, has_value, has_within, kept_in};
+ghost use Rattle.fts_postings.specs.Windows.{passing};
 
-use crate::marks;
 use fts_pack::Column;
+use fts_postings::marks;
 use fts_segment::Segment;
 
 /// Which documents are kept.

@@ -1,13 +1,13 @@
-//! Cursors: the documents of a segment that match a query, one after the other, without a list of them.
+//! The cursor of a query: the documents of a segment that match it, one after the other, without a list of them.
 //!
-//! [`cursor_of`] makes the [`Cursor`] of a query, over a segment and the bits of its documents. Like each [`DocSet`] it
-//! stands at a document ([`DocSet::doc`]), steps to the next ([`DocSet::advance`]), goes to the first from a number on
-//! ([`DocSet::seek`]), or writes up to 128 at once ([`DocSet::fill`]). Its steps take no memory.
+//! [`cursor_of`] makes the [`Cursor`] of a query, over a segment and the bits of its documents. It is a [`DocSet`]: it stands
+//! at a document, steps to the next, goes to the first from a number on, or writes up to 128 at once. Its steps take no
+//! memory.
 //!
-//! Lists are read by blocks: a [`PostingCursor`] opens a block where it enters it, and passes over blocks it needn't read.
-//! A [`Conjunction`] lets one list lead and seeks its documents alone in the others. Both count the blocks they open, and
-//! contracts bound the count. Ranges are read from columns 128 documents at a time, phrases from positions where all of
-//! their terms stand, and what must not match is asked for the documents that are left.
+//! It is a tree of cursors, one for each query within the query. A term is a [`PostingCursor`] over its list, and terms that
+//! must all match are a [`Conjunction`] of such. Ranges are read from columns 128 documents at a time, phrases from positions
+//! where all of their terms stand, and what must not match is asked for the documents that are left. Blocks that are opened
+//! are counted, and contracts bound the count.
 //!
 //! ```text
 //! let mut cursor = cursor_of(alloc, &segment, &live, &query)?;
@@ -19,21 +19,14 @@
 #![tactic(auto)]
 
 mod build;
-mod conjunction;
 mod cursor;
-mod doc_set;
 mod kept;
-mod marks;
 mod phrase;
-mod posting;
 mod range;
 mod scan;
 mod terms;
 mod tree;
-mod window;
 
 pub use build::cursor_of;
-pub use conjunction::Conjunction;
 pub use cursor::Cursor;
-pub use doc_set::DocSet;
-pub use posting::PostingCursor;
+pub use fts_postings::{Conjunction, DocSet, PostingCursor};

@@ -5,16 +5,15 @@ ghost use Rattle.fts_model.specs.Queries.{query_fits};
 ghost use Rattle.fts_model.specs.QueryValues.{phrase};
 ghost use Rattle.fts_segment.specs.PositionsLeft.{positions_left};
 ghost use Rattle.fts_cursor.specs.declared.phrase.Member.{Member};
-ghost use Rattle.fts_cursor.specs.Conjoined.{AllFollow, common_of};
-ghost use Rattle.fts_cursor.specs.Meeting.{FirstPasses};
+ghost use Rattle.fts_postings.specs.Conjoined.{AllFollow, common_of};
+ghost use Rattle.fts_postings.specs.Meeting.{FirstPasses};
 ghost use Rattle.fts_cursor.specs.Phrases.{AreMembersOf, is_behind, phrase_at};
-ghost use Rattle.fts_cursor.specs.Remaining.{at_least};
+ghost use Rattle.fts_postings.specs.Remaining.{at_least};
 ghost use Rattle.fts_cursor.specs.Standing.{Continues, Walked};
 ghost use Rattle.fts_cursor.specs.Terms.{AreTied};
 
-use crate::conjunction::Conjunction;
-use crate::doc_set::DocSet;
 use fts_pack::ListSource;
+use fts_postings::{Conjunction, DocSet};
 use fts_segment::{ListId, PositionReader, Positions};
 use std::marker::Model;
 
@@ -41,7 +40,7 @@ impl<'a> Model for PhraseCursor<'a> {
 
     ghost Value = { Standing };
 
-    ghost use Rattle.fts_cursor.specs.Conjoined.{common_of};
+    ghost use Rattle.fts_postings.specs.Conjoined.{common_of};
     ghost use Rattle.fts_cursor.specs.Phrases.{IsPhrase, phrase_at};
     ghost use Rattle.fts_cursor.specs.Terms.{of_terms};
 

@@ -1,12 +1,12 @@
 // A cursor over the documents that are kept by their number alone.
 ghost use Rattle.std.specs.Prelude.{◌≡◌, ◌%◌, ◌^◌, ◌-◌, ◌<◌, ◌≤◌, length, slice_index, take};
-ghost use Rattle.fts_cursor.specs.Fills.{IsStretch};
-ghost use Rattle.fts_cursor.specs.Remaining.{at_least};
+ghost use Rattle.fts_postings.specs.Fills.{IsStretch};
+ghost use Rattle.fts_postings.specs.Remaining.{at_least};
 ghost use Rattle.fts_cursor.specs.Scans.{AreFor, kept_from, kept_in};
 
-use crate::doc_set::DocSet;
 use crate::kept::{self, Kept};
-use crate::posting::{copy_part, place_of};
+use fts_postings::DocSet;
+use fts_postings::stretch::{copy_part, place_of};
 use std::marker::Model;
 
 /// A cursor over the documents that are kept. Those of the stretch in which it stands lie in the value.

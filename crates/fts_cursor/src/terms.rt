@@ -8,13 +8,12 @@ ghost use Rattle.fts_segment.specs.Segments.{numbers_where};
 ghost use Rattle.fts_cursor.specs.Builds.{is_term};
 ghost use Rattle.fts_cursor.specs.Hits.{segment_hits};
 ghost use Rattle.fts_cursor.specs.Leading.{IsLed, IsOver, fewest};
-ghost use Rattle.fts_cursor.specs.Meeting.{in_all};
+ghost use Rattle.fts_postings.specs.Meeting.{in_all};
 
-use crate::conjunction::Conjunction;
-use crate::posting::PostingCursor;
 use crate::tree::Tree;
 use fts_model::Query;
 use fts_pack::{List, ListSource};
+use fts_postings::{Conjunction, PostingCursor};
 use fts_segment::Segment;
 use std::alloc::{AllocError, Global};
 

@@ -2,20 +2,17 @@
 ghost use Rattle.std.specs.Prelude.{◌≡◌, ◌≢◌, ℕ, ◌+◌, ◌-◌, ◌^◌, ◌<◌, ◌≤◌, ◌∷◌, All, [], true, MatchBool, drop, length, min, slice_get, take};
 ghost use Rattle.std.specs.List.{AllZip};
 ghost use Rattle.std.specs.List.Sorted.{IsStrictlyIncreasing};
-ghost use Rattle.fts_cursor.specs.Conjoined.{IsAhead, common_of, counts_of, most_of};
-ghost use Rattle.fts_cursor.specs.Meeting.{IsLeast, common, has, in_all, in_some, lacks, lesser_of, union, without};
-ghost use Rattle.fts_cursor.specs.Posting.{Follows, blocks_reached, remaining_of};
-ghost use Rattle.fts_cursor.specs.Remaining.{at_least};
+ghost use Rattle.fts_postings.specs.Conjoined.{IsAhead, common_of, counts_of, most_of};
+ghost use Rattle.fts_postings.specs.Meeting.{IsLeast, common, has, in_all, in_some, lacks, lesser_of, union, without};
+ghost use Rattle.fts_postings.specs.Posting.{Follows, blocks_reached, remaining_of};
+ghost use Rattle.fts_postings.specs.Remaining.{at_least};
 ghost use Rattle.fts_cursor.specs.Standing.{Continues, Left, Narrowed, Standing, Walked, all_most, all_openings, remains};
 ghost use Rattle.fts_cursor.specs.Trees.{AreBeyond, AreMarked, IsNow, Met, StandsAt, differ, found, gathered, meet, standing};
 
-use crate::conjunction::Conjunction;
-use crate::doc_set::DocSet;
 use crate::phrase::PhraseCursor;
-use crate::posting::PostingCursor;
 use crate::scan::ScanCursor;
-use crate::window::Window;
 use fts_pack::ListSource;
+use fts_postings::{Conjunction, DocSet, PostingCursor, Window};
 use std::marker::Model;
 
 /// The documents that match a query.

@@ -6,7 +6,7 @@ use Rattle.std.proofs.lemmas.List.{nil_from_length}
 use Rattle.fts_model.specs.QueryValues.{query_value}
 use Rattle.fts_model.proofs.QueriesBoolean.{fits_in, matches_at_bool, matches_in}
 use Rattle.fts_cursor.specs.Builds.{Opens, is_term}
-use Rattle.fts_cursor.specs.Meeting.{union}
+use Rattle.fts_postings.specs.Meeting.{union}
 use Rattle.fts_cursor.specs.Standing.{Standing}
 use Rattle.fts_cursor.proofs.BoolHits.{IsBool, bool_apart, bool_kept, paired_more, some_from}
 use Rattle.fts_cursor.proofs.DepthLemmas.{depth, depth_at, one_of_all, parts_fall}

@@ -1,7 +1,7 @@
 -- Which of the parts leads doesn't change what they have in common.
 use Rattle.std.proofs.Common.{◌≡◌, ℕ, ◌-◌, ◌^◌, ◌<◌, ◌≤◌, All, List, length, min, rules, ap, ap₂, subst, ◌∙◌, arith}
 use Rattle.std.specs.List.Sorted.{IsStrictlyIncreasing}
-use Rattle.fts_cursor.specs.Meeting.{common}
+use Rattle.fts_postings.specs.Meeting.{common}
 use Rattle.fts_cursor.specs.Standing.{Standing, remains}
 use Rattle.fts_cursor.proofs.LeadingLemmas.{length_zip}
 use Rattle.fts_cursor.proofs.PromiseLemmas.{common-led}

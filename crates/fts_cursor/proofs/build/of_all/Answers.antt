@@ -1,5 +1,6 @@
 use Rattle.std.proofs.Common.{◌≡◌, ◌-◌, true, ap, length, ◌∙◌, arith}
-use Rattle.fts_cursor.specs.Scans.{keeps, passing}
+use Rattle.fts_cursor.specs.Scans.{keeps}
+use Rattle.fts_postings.specs.Windows.{passing}
 use Rattle.fts_cursor.specs.declared.kept.Kept.TheVariants.{Every}
 use Rattle.fts_cursor.proofs.HitsLemmas.{at_true, passing_are}
 use Rattle.fts_cursor.proofs.build.of_all.Goals as goal

@@ -2,10 +2,10 @@
 use Rattle.std.proofs.Common.{◌≡◌, ◌^◌, ◌≤◌, ◌∷◌, length, ap, ◌∙◌, arith, rules}
 use Rattle.std.specs.List.{filter}
 use Rattle.fts_cursor.specs.declared.phrase.Member.{Member}
-use Rattle.fts_cursor.specs.Conjoined.{each_remaining}
-use Rattle.fts_cursor.specs.Meeting.{common}
+use Rattle.fts_postings.specs.Conjoined.{each_remaining}
+use Rattle.fts_postings.specs.Meeting.{common}
 use Rattle.fts_cursor.specs.Phrases.{phrase_at}
-use Rattle.fts_cursor.specs.Posting.{remaining_of}
+use Rattle.fts_postings.specs.Posting.{remaining_of}
 use Rattle.fts_cursor.proofs.PhraseHits.{fresh_rest, lacking, made}
 use Rattle.fts_cursor.proofs.PhraseLemmas.{members-follow}
 use Rattle.fts_cursor.proofs.TermsLemmas.{terms-continue}

@@ -4,7 +4,7 @@ use Rattle.fts_pack.specs.Documents.{blocks_of}
 use Rattle.fts_pack.specs.ListSource.{documents_in as source_documents}
 use Rattle.fts_pack.specs.SourceLaws.{length-blocks_of}
 use Rattle.fts_segment.specs.Segments.{postings}
-use Rattle.fts_cursor.proofs.PostingLemmas.{posting_new}
+use Rattle.fts_postings.proofs.PostingLemmas.{posting_new}
 use Rattle.fts_cursor.proofs.build.of_term.Goals as goal
 
 pub returns-in-Some-clause-remaining : goal.returns-in-Some-clause-remaining

@@ -1,9 +1,9 @@
 -- The documents so far lie at the front.
 use Rattle.std.specs.List.{filter}
 use Rattle.fts_cursor.specs.Hits.{is_live}
-use Rattle.fts_cursor.specs.Meeting.{FirstPasses}
+use Rattle.fts_postings.specs.Meeting.{FirstPasses}
 use Rattle.fts_cursor.specs.Standing.{Walked}
-use Rattle.fts_cursor.proofs.FillLemmas.{Taken}
+use Rattle.fts_postings.proofs.FillLemmas.{Taken}
 use Rattle.fts_cursor.proofs.cursor.fill_live.Given as goal
 
 abbrev pub invariant-loop-filled : goal.invariant-loop-filled

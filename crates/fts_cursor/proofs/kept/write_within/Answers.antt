@@ -1,8 +1,9 @@
 -- The marks of two words are those that the column keeps.
 use Rattle.std.proofs.Common.{◌+◌, ◌-◌, ◌++◌, length, min, refl, ap, sym, ◌∙◌, bit_and, arith}
 use Rattle.std.proofs.lemmas.List.{length-append}
-use Rattle.fts_cursor.specs.Windows.{marked}
-use Rattle.fts_cursor.proofs.MarksLemmas.{length-marked, marked_inside, stretch_marks, two_words}
+use Rattle.fts_postings.specs.Windows.{marked}
+use Rattle.fts_postings.proofs.MarksLemmas.{length-marked}
+use Rattle.fts_cursor.proofs.WithinLemmas.{marked_inside, stretch_marks, two_words}
 use Rattle.fts_cursor.proofs.kept.write_within.Goals as goal
 
 pub write-count-requires-clause-few : goal.write-count-requires-clause-few

@@ -2,7 +2,7 @@
 use Rattle.std.proofs.Common.{◌≡◌, ℕ, ◌+◌, ◌==◌, ◌&&◌, List, [], Some, drop, get_or, ap, ap₂, sym, ◌∙◌, arith}
 use Rattle.std.specs.List.{list_all, list_any, slice_get}
 use Rattle.fts_cursor.specs.declared.phrase.Member.{Member}
-use Rattle.fts_cursor.specs.Conjoined.{common_of}
+use Rattle.fts_postings.specs.Conjoined.{common_of}
 use Rattle.fts_cursor.specs.Phrases.{is_behind}
 use Rattle.fts_cursor.proofs.PhraseLemmas.{all_drop, as_many, other_positions, others_few, put_back}
 use Rattle.fts_cursor.proofs.phrase.all_follow.Goals as goal

@@ -1,7 +1,7 @@
 -- The members that are left decide.
 use Rattle.std.proofs.Common.{◌≡◌, ℕ, Some, drop}
 use Rattle.std.specs.List.{list_all, slice_get}
-use Rattle.fts_cursor.specs.Conjoined.{common_of}
+use Rattle.fts_postings.specs.Conjoined.{common_of}
 use Rattle.fts_cursor.specs.Phrases.{is_behind}
 use Rattle.fts_cursor.proofs.phrase.all_follow.Given as goal
 

@@ -1,7 +1,7 @@
 -- The documents in which the phrase stands stay.
 use Rattle.std.proofs.Common.{◌≡◌, ◌∷◌, length}
 use Rattle.std.specs.List.{filter}
-use Rattle.fts_cursor.specs.Conjoined.{AllFollow, common_of}
+use Rattle.fts_postings.specs.Conjoined.{AllFollow, common_of}
 use Rattle.fts_cursor.specs.Phrases.{phrase_at}
 use Rattle.fts_cursor.proofs.phrase.settle.Given as goal
 

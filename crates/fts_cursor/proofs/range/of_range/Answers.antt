@@ -1,7 +1,8 @@
 -- A range goes over its column, or over the documents where it has no bounds.
 use Rattle.std.proofs.Common.{◌≡◌, ◌-◌, ◌||◌, length, ap, ap₂, sym, ◌∙◌, arith}
 use Rattle.fts_cursor.specs.Ranges.{is_bounded}
-use Rattle.fts_cursor.specs.Scans.{has_value, has_within, passing}
+use Rattle.fts_cursor.specs.Scans.{has_value, has_within}
+use Rattle.fts_postings.specs.Windows.{passing}
 use Rattle.fts_cursor.proofs.RangeLemmas.{Bounded, no_greatest, no_least, not_false, not_true, open_hits, within_hits}
 use Rattle.fts_cursor.proofs.range.of_range.Goals.{else-is_open-via-then-is_open+else-is_open-2, else-is_open-via-else-is_open, in_default-via-in-Some+in_default, in_default-via-in_default}
 use Rattle.fts_cursor.proofs.range.of_range.Goals as goal

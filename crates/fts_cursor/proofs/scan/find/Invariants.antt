@@ -1,6 +1,6 @@
 -- What was passed over is below the target.
 use Rattle.std.proofs.Common.{◌≡◌, ◌-◌, ◌%◌, ◌^◌, ◌≤◌}
-use Rattle.fts_cursor.specs.Remaining.{at_least}
+use Rattle.fts_postings.specs.Remaining.{at_least}
 use Rattle.fts_cursor.specs.Scans.{kept_from}
 use Rattle.fts_cursor.proofs.scan.find.Given as goal
 

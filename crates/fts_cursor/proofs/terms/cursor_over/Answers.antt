@@ -3,7 +3,7 @@ use Rattle.std.proofs.Common.{◌<◌, ap, ◌∙◌, arith}
 use Rattle.fts_pack.specs.Documents.{blocks_of}
 use Rattle.fts_cursor.proofs.BoolHits.{one_or_none}
 use Rattle.fts_cursor.proofs.LeadingLemmas.{one_where, one_where_some}
-use Rattle.fts_cursor.proofs.PostingLemmas.{posting_new}
+use Rattle.fts_postings.proofs.PostingLemmas.{posting_new}
 use Rattle.fts_cursor.proofs.terms.cursor_over.Goals as goal
 
 pub returns : goal.returns

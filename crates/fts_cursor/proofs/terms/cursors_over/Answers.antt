@@ -2,7 +2,7 @@
 use Rattle.std.proofs.Common.{ℕ, List}
 use Rattle.std.specs.Borrow.{Bor}
 use Rattle.fts_cursor.specs.Leading.{IsOver}
-use Rattle.fts_cursor.specs.Posting.{Posting}
+use Rattle.fts_postings.specs.Posting.{Posting}
 use Rattle.fts_cursor.proofs.BoolHits.{paired_more}
 use Rattle.fts_cursor.proofs.terms.cursors_over.Goals as goal
 

@@ -4,7 +4,7 @@ use Rattle.fts_cursor.specs.Terms.{AreTied, IsTied}
 use Rattle.fts_cursor.specs.Trees.{standing}
 use Rattle.fts_cursor.specs.declared.tree.Node.TheVariants.{Postings, Terms}
 use Rattle.std.proofs.lemmas.Bool.{eqb-true}
-use Rattle.fts_cursor.specs.Posting.{blocks_reached}
+use Rattle.fts_postings.specs.Posting.{blocks_reached}
 use Rattle.fts_cursor.proofs.PartsLemmas.{height_within}
 use Rattle.fts_cursor.proofs.TreeLemmas.{all_most-more, all_openings-more}
 use Rattle.fts_cursor.proofs.TermsLemmas.{terms-tied}

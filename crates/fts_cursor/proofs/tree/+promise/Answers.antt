@@ -1,12 +1,13 @@
 -- A sum goes on by one part, a part isn't as deep as all, and what is found is some of what leads.
 use Rattle.std.proofs.Common.{◌≡◌, ◌*◌, ◌<◌, List, length, ap, sym, ◌∙◌, arith}
 use Rattle.std.proofs.lemmas.List.{take_all}
-use Rattle.fts_cursor.specs.Meeting.{in_all, lacks, union}
+use Rattle.fts_postings.specs.Meeting.{in_all, lacks, union}
 use Rattle.fts_cursor.specs.Standing.{Standing, remains}
 use Rattle.fts_cursor.specs.Trees.{found, standing}
 use Rattle.fts_cursor.specs.declared.tree.Node.TheVariants.{And, Or, Without}
 use Rattle.fts_cursor.proofs.PartsLemmas.{height_within}
-use Rattle.fts_cursor.proofs.PromiseLemmas.{all_remaining, all_remaining-more, length-filter-le, length-union, length-with_all}
+use Rattle.fts_cursor.proofs.PromiseLemmas.{all_remaining, all_remaining-more, length-union}
+use Rattle.fts_postings.proofs.PromiseLemmas.{length-filter-le, length-with_all}
 use Rattle.fts_cursor.proofs.tree.+promise.Goals as goal
 
 pub promise_in-promise-requires : goal.promise_in-promise-requires

@@ -2,19 +2,19 @@
 use Rattle.std.proofs.Common.{◌≡◌, ℕ, [], ◌∷◌, Some, None, ◌+◌, ◌*◌, ◌<◌, ap, subst, sym, ◌∙◌, refl, arith, drop, length, get_or}
 use Rattle.std.specs.List.{AllZip, filter, slice_get}
 use Rattle.std.specs.List.Sorted.{IsStrictlyIncreasing}
-use Rattle.fts_cursor.proofs.MeetingLemmas.{filter-at_least}
+use Rattle.fts_postings.proofs.MeetingLemmas.{filter-at_least}
 use Rattle.std.proofs.lemmas.List.{with_items_is}
-use Rattle.fts_cursor.specs.Meeting.{IsLeast, common, in_all, in_some, lacks, union}
+use Rattle.fts_postings.specs.Meeting.{IsLeast, common, in_all, in_some, lacks, union}
 use Rattle.fts_cursor.specs.Standing.{Continues, Left, Narrowed, Standing, heights, remains}
 use Rattle.fts_cursor.specs.Terms.{AreTied}
 use Rattle.fts_cursor.specs.Trees.{AreMarked, IsBuffered, IsNow, found, gathered, standing}
 use Rattle.std.specs.Vec.{with_items}
 use Rattle.fts_cursor.specs.declared.tree.Node.TheVariants.{Or}
 use Rattle.fts_cursor.proofs.GatherLemmas.{Continues-parts, IsMarking-next, IsMarking-none, IsNow-none, IsNow-some, MarkedUpTo-next, MarkedUpTo-none, fill_ahead, filled, filled_buffered, gathered_from, gathered_next, gathered_within, marking_done, marking_ended, marking_left, marking_low, marking_past}
-use Rattle.fts_cursor.specs.Remaining.{at_least}
-use Rattle.fts_cursor.proofs.PartsLemmas.{Continues-beside, Continues-same, Continues-trans, NarrowedUpTo-next, Narrowed-same, Narrowed-seek, UpTo-all, UpTo-exit, ahead-later, ahead-none, all_stand, height_ahead}
-use Rattle.fts_cursor.proofs.RemainingLemmas.{nothing_first}
-use Rattle.fts_cursor.proofs.UnionLemmas.{IsLeast-none, IsLeast-some, union-left}
+use Rattle.fts_postings.specs.Remaining.{at_least}
+use Rattle.fts_cursor.proofs.PartsLemmas.{Continues-beside, Continues-same, Continues-trans, Narrowed-same, Narrowed-seek, NarrowedUpTo-next, UpTo-all, UpTo-exit, ahead-later, ahead-none, all_stand, height_ahead, union-left}
+use Rattle.fts_postings.proofs.RemainingLemmas.{nothing_first}
+use Rattle.fts_postings.proofs.UnionLemmas.{IsLeast-none, IsLeast-some}
 use Rattle.fts_cursor.proofs.TreeLemmas.{IsNow-first, IsNow-met, Left-seek, LeftUpTo-next, Met-end, difference-here, difference-passed, meeting-continues, meeting-fewer, meeting-here, meeting-none, meeting-sought, stays_from_first}
 use Rattle.fts_cursor.proofs.TermsLemmas.{terms-continue}
 use Rattle.fts_cursor.proofs.tree.+tree.Goals as goal

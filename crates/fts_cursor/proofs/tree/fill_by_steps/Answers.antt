@@ -1,7 +1,7 @@
 -- Each turn takes the first document that is left.
 use Rattle.std.proofs.Common.{sym, subst, ◌∙◌, arith}
 use Rattle.fts_cursor.specs.Trees.{StandsAt}
-use Rattle.fts_cursor.proofs.FillLemmas.{Taken-front, Taken-left, Taken-more, full-front, full-left}
+use Rattle.fts_postings.proofs.FillLemmas.{Taken-front, Taken-left, Taken-more, full-front, full-left}
 use Rattle.fts_cursor.proofs.TreeLemmas.{Walked-trans}
 use Rattle.fts_cursor.proofs.tree.fill_by_steps.Goals as goal
 

@@ -1,10 +1,10 @@
 -- The list is marked document by document, up to the window's end.
 use Rattle.std.proofs.Common.{◌≡◌, ◌+◌, sym, ◌∙◌}
-use Rattle.fts_cursor.specs.Posting.{remaining_of}
-use Rattle.fts_cursor.specs.Remaining.{at_least}
+use Rattle.fts_postings.specs.Posting.{remaining_of}
+use Rattle.fts_postings.specs.Remaining.{at_least}
 use Rattle.fts_cursor.proofs.GatherLemmas.{IsMarking-next, IsMarking-none, marking_done, marking_ended, marking_left, marking_low, marking_past}
-use Rattle.fts_cursor.proofs.MeetingLemmas.{fewer_behind}
-use Rattle.fts_cursor.proofs.PostingLemmas.{Follows-same, Follows-trans}
+use Rattle.fts_postings.proofs.MeetingLemmas.{fewer_behind}
+use Rattle.fts_postings.proofs.PostingLemmas.{Follows-same, Follows-trans}
 use Rattle.fts_cursor.proofs.tree.mark_postings.Goals as goal
 
 pub loop-doc-init : goal.loop-doc-init

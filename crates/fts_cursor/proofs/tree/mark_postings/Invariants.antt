@@ -1,6 +1,6 @@
 -- What was marked so far, and the blocks that were opened for it.
 use Rattle.std.proofs.Common.{length}
-use Rattle.fts_cursor.specs.Posting.{Follows, remaining_of}
+use Rattle.fts_postings.specs.Posting.{Follows, remaining_of}
 use Rattle.fts_cursor.proofs.GatherLemmas.{IsMarking}
 use Rattle.fts_cursor.proofs.tree.mark_postings.Given as goal
 

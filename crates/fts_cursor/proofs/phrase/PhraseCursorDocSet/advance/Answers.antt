@@ -3,10 +3,10 @@ use Rattle.std.proofs.Common.{◌∷◌, List, drop, ap, ap₂, ◌∙◌, arith
 use Rattle.std.specs.List.{filter}
 use Rattle.std.proofs.lemmas.List.{with_items_is}
 use Rattle.fts_cursor.specs.declared.phrase.Member.{Member}
-use Rattle.fts_cursor.specs.Conjoined.{common_of}
+use Rattle.fts_postings.specs.Conjoined.{common_of}
 use Rattle.fts_cursor.specs.Phrases.{phrase_at}
-use Rattle.fts_cursor.proofs.ConjoinedLemmas.{AllFollow-trans}
-use Rattle.fts_cursor.proofs.MeetingLemmas.{filter-step}
+use Rattle.fts_postings.proofs.ConjoinedLemmas.{AllFollow-trans}
+use Rattle.fts_postings.proofs.MeetingLemmas.{filter-step}
 use Rattle.fts_cursor.proofs.PhraseLemmas.{members-follow, phrase-same, phrase-settled}
 use Rattle.fts_cursor.proofs.TermsLemmas.{terms-continue}
 use Rattle.fts_cursor.proofs.phrase.PhraseCursorDocSet.advance.Goals as goal

@@ -1,6 +1,6 @@
 -- Each turn takes the first document that is left.
 use Rattle.std.proofs.Common.{sym, ◌∙◌, arith}
-use Rattle.fts_cursor.proofs.FillLemmas.{Taken-front, Taken-left, Taken-more, full-front, full-left}
+use Rattle.fts_postings.proofs.FillLemmas.{Taken-front, Taken-left, Taken-more, full-front, full-left}
 use Rattle.fts_cursor.proofs.TreeLemmas.{Walked-trans}
 use Rattle.fts_cursor.proofs.phrase.PhraseCursorDocSet.fill.Goals as goal
 

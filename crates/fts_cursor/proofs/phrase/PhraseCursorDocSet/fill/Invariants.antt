@@ -1,6 +1,6 @@
 -- The documents so far lie at the front.
 use Rattle.fts_cursor.specs.Standing.{Walked}
-use Rattle.fts_cursor.proofs.FillLemmas.{Taken}
+use Rattle.fts_postings.proofs.FillLemmas.{Taken}
 use Rattle.fts_cursor.proofs.phrase.PhraseCursorDocSet.fill.Given as goal
 
 abbrev pub invariant-loop-filled : goal.invariant-loop-filled

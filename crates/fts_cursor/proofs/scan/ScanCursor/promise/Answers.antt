@@ -1,7 +1,7 @@
 -- Those kept are some of those that are left.
 use Rattle.std.proofs.Common.{◌-◌, arith}
 use Rattle.fts_cursor.specs.Scans.{keeps}
-use Rattle.fts_cursor.proofs.PromiseLemmas.{scan_promise}
+use Rattle.fts_postings.proofs.PromiseLemmas.{scan_promise}
 use Rattle.fts_cursor.proofs.scan.ScanCursor.promise.Goals as goal
 
 pub returns : goal.returns

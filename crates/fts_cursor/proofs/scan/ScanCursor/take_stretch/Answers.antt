@@ -1,9 +1,9 @@
 -- What is copied is the front of what is left.
 use Rattle.std.proofs.Common.{◌≡◌, ◌+◌, ◌-◌, ◌<◌, drop, length, ap, sym, subst, ◌∙◌, arith}
 use Rattle.std.proofs.lemmas.List.{drop-drop}
-use Rattle.fts_cursor.specs.Fills.{IsStretch}
+use Rattle.fts_postings.specs.Fills.{IsStretch}
 use Rattle.fts_cursor.specs.Scans.{keeps, kept_from, kept_in}
-use Rattle.fts_cursor.proofs.FillLemmas.{no_stretch, stretch_copied}
+use Rattle.fts_postings.proofs.FillLemmas.{no_stretch, stretch_copied}
 use Rattle.fts_cursor.proofs.ScanLemmas.{none_kept, passing-stretch, same_all, scan_behind, scan_left}
 use Rattle.fts_cursor.proofs.scan.ScanCursor.take_stretch.Goals as goal
 

@@ -3,7 +3,8 @@ use Rattle.std.proofs.Common.{◌-◌, ap, subst, ◌∙◌}
 use Rattle.std.specs.List.{slice_get}
 use Rattle.std.specs.List.Sorted.{IsStrictlyIncreasing}
 use Rattle.fts_cursor.specs.Scans.{keeps}
-use Rattle.fts_cursor.proofs.ScanLemmas.{increasing-passing, passing-stretch, scan_first}
+use Rattle.fts_cursor.proofs.ScanLemmas.{passing-stretch, scan_first}
+use Rattle.fts_postings.proofs.PassingLemmas.{increasing-passing}
 use Rattle.fts_cursor.proofs.scan.ScanCursorDocSet.doc.Goals as goal
 
 pub returns-then-self-clause-first : goal.returns-then-self-clause-first

@@ -1,6 +1,6 @@
 -- Each turn takes a stretch of what is left.
 use Rattle.std.proofs.Common.{arith}
-use Rattle.fts_cursor.proofs.FillLemmas.{Taken-front, Taken-left, Taken-rest, Taken-stretch, full-front, full-left, none_left}
+use Rattle.fts_postings.proofs.FillLemmas.{Taken-front, Taken-left, Taken-rest, Taken-stretch, full-front, full-left, none_left}
 use Rattle.fts_cursor.proofs.scan.ScanCursorDocSet.fill.Goals as goal
 
 pub loop-filled-preserved : goal.loop-filled-preserved

@@ -1,6 +1,6 @@
 -- The documents so far lie at the front.
 use Rattle.std.proofs.Common.{◌-◌, ◌≤◌}
-use Rattle.fts_cursor.proofs.FillLemmas.{Taken}
+use Rattle.fts_postings.proofs.FillLemmas.{Taken}
 use Rattle.fts_cursor.proofs.scan.ScanCursorDocSet.fill.Given as goal
 
 abbrev pub invariant-loop-filled : goal.invariant-loop-filled

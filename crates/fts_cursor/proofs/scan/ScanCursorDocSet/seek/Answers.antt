@@ -1,6 +1,6 @@
 -- What lies before the stretch that is found is below the target.
 use Rattle.std.proofs.Common.{◌+◌, ap, sym, ◌∙◌, arith}
-use Rattle.fts_cursor.specs.Remaining.{at_least}
+use Rattle.fts_postings.specs.Remaining.{at_least}
 use Rattle.fts_cursor.specs.Scans.{keeps}
 use Rattle.fts_cursor.proofs.ScanLemmas.{Reached, Reached-place, passing-stretch, scan_below, scan_jump}
 use Rattle.fts_cursor.proofs.scan.ScanCursorDocSet.seek.Goals as goal

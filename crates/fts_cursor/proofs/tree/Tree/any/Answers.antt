@@ -2,7 +2,7 @@
 use Rattle.std.proofs.Common.{rules, subst, arith}
 use Rattle.std.specs.List.Sorted.{IsStrictlyIncreasing}
 use Rattle.fts_cursor.specs.Standing.{Standing}
-use Rattle.fts_cursor.proofs.UnionLemmas.{union-single}
+use Rattle.fts_cursor.proofs.PartsLemmas.{union-single}
 use Rattle.fts_cursor.proofs.tree.Tree.any.Goals as goal
 
 pub returns-in-Some-clause-alone : goal.returns-in-Some-clause-alone

@@ -1,11 +1,11 @@
 -- The window is empty at first, so the parts have all.
 use Rattle.std.proofs.Common.{subst, arith}
-use Rattle.fts_cursor.specs.Meeting.{union}
+use Rattle.fts_postings.specs.Meeting.{union}
 use Rattle.fts_cursor.specs.Standing.{remains}
 use Rattle.fts_cursor.specs.Trees.{IsNow}
 use Rattle.fts_cursor.specs.declared.tree.Node.TheVariants.{Or}
-use Rattle.fts_cursor.proofs.RemainingLemmas.{at_least_all}
-use Rattle.fts_cursor.proofs.UnionLemmas.{Rises-union}
+use Rattle.fts_postings.proofs.RemainingLemmas.{at_least_all}
+use Rattle.fts_postings.proofs.UnionLemmas.{Rises-union}
 use Rattle.fts_cursor.proofs.tree.Tree.or.Goals as goal
 
 made : (c : goal.After-refill-doc) → IsNow c.refill-doc.result (Or c.refill-doc.new.buffered) (union (remains c.args.parts.items))

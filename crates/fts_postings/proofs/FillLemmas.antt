@@ -1,0 +1,103 @@
+-- Documents that are taken from the front of a list, one after the other.
+use Rattle.std.proofs.Common.{◌≡◌, ℕ, ◌+◌, ◌-◌, ◌<◌, ◌≤◌, Some, None, List, [], ◌∷◌, ◌++◌, length, get_or, set, take, drop, min, refl, sym, ap, ap₂, subst, ◌∙◌, inl, inr, arith}
+use Rattle.std.specs.List.{slice_get}
+use Rattle.std.proofs.lemmas.Bool.{cases_lt}
+use Rattle.std.proofs.lemmas.List.{append-nil, drop-take, length-append, nil_from_length, take-append-drop, take-append-le, take-take, take_more, take_more_set, take_all, drop_all, drop-drop, get_or-drop, length-drop}
+use Rattle.std.proofs.lemmas.Option.{get_or_from_slice_get, slice_get_within}
+use Rattle.fts_postings.specs.Fills.{IsStretch}
+
+-- the first so many of `whole` lie at the front of `out`, and the others are left
+pub record Taken (whole left out : List ℕ) (count : ℕ) : Type 0 where
+  pub left_is : left ≡ drop count whole
+  pub front : take count out ≡ take count whole
+  pub within : count ≤ length whole
+
+pub Taken-none : (whole out : List ℕ) → Taken whole whole out 0
+Taken-none whole out = record { left_is = refl; front = refl; within = omega arith }
+
+first_within : (xs : List ℕ) (d : ℕ) → Some d ≡ slice_get xs 0 → 0 < length xs
+first_within xs d is = slice_get_within xs 0 d (sym is)
+
+pub Taken-more : (whole left out next : List ℕ) (count d : ℕ) → Taken whole left out count → Some d ≡ slice_get left 0 → count < length out → next ≡ drop 1 left → Taken whole next (set out count d) (count + 1)
+Taken-more whole left out next count d h is room step =
+    let some : 0 < length left = first_within left d is in
+    let inside : count < length whole = omega (arith, ap length h.left_is, length-drop count whole, some) in
+    let start : count + 0 ≡ count = omega arith in
+    let here : get_or whole count 0 ≡ d = ap (λ n. get_or whole n 0) (sym start) ∙ sym (get_or-drop count whole 0 0) ∙ ap (λ xs. get_or xs 0 0) (sym h.left_is) ∙ get_or_from_slice_get left 0 d 0 (sym is) in
+    record {
+      left_is = step ∙ ap (drop 1) h.left_is ∙ drop-drop 1 count whole ∙ ap (λ n. drop n whole) (omega arith);
+      front = take_more_set out count d room ∙ ap₂ (λ xs x. xs ++ x ∷ []) h.front (sym here) ∙ sym (take_more whole count 0 inside);
+      within = omega arith;
+    }
+
+-- all were taken
+module _ (whole left out : List ℕ) (count room : ℕ) (h : Taken whole left out count) (few : count ≤ room) (none : None ≡ slice_get left 0) where
+  left_none : left ≡ []
+  left_none = elim left as (λ xs. None ≡ slice_get xs 0 → xs ≡ []) [ [] ↦ λ e. refl | x ∷ xs ↦ λ e. absurd (let f : None ≡ Some x = e in cc) ] none
+
+  all : count ≡ length whole
+  all = omega (arith, h.within, ap length h.left_is, ap length left_none, length-drop count whole)
+
+  pub Taken-count : count ≡ min room (length whole)
+  Taken-count = omega (arith, all, few)
+
+  pub Taken-front : take count out ≡ take room whole
+  Taken-front = h.front ∙ take_all count whole (omega (arith, all)) ∙ sym (take_all room whole (omega (arith, all, few)))
+
+  pub Taken-left : left ≡ drop room whole
+  Taken-left = left_none ∙ sym (drop_all room whole (omega (arith, all, few)))
+
+-- there was no more room
+pub full-front : (whole left out : List ℕ) (count room : ℕ) → Taken whole left out count → count ≡ room → take room out ≡ take room whole
+full-front whole left out count room h is = subst (λ n. take n out ≡ take n whole) is h.front
+
+pub full-left : (whole left out : List ℕ) (count room : ℕ) → Taken whole left out count → count ≡ room → left ≡ drop room whole
+full-left whole left out count room h is = h.left_is ∙ ap (λ n. drop n whole) is
+
+take-add : (n m : ℕ) (xs : List ℕ) → take (n + m) xs ≡ take n xs ++ take m (drop n xs)
+take-add n m xs =
+    sym (take-append-drop n (take (n + m) xs)) ∙ ap₂ (λ ys zs. ys ++ zs) (take-take n (n + m) xs (omega arith)) (drop-take n m xs)
+
+-- a stretch more
+pub Taken-stretch : (whole left next out written : List ℕ) (filled count : ℕ) → Taken whole left out filled → IsStretch left next out written filled count → Taken whole next written (filled + count)
+Taken-stretch whole left next out written filled count h s = record {
+  left_is = s.left_is ∙ ap (drop count) h.left_is ∙ drop-drop count filled whole;
+  front = s.front ∙ ap₂ (λ xs ys. xs ++ take count ys) h.front h.left_is ∙ sym (take-add filled count whole);
+  within = omega (arith, h.within, s.within, ap length h.left_is, length-drop filled whole);
+}
+
+-- a stretch of nothing
+module _ (whole left next out written : List ℕ) (filled count : ℕ) (h : Taken whole left out filled) (s : IsStretch left next out written filled count) (none : count ≡ 0) where
+  pub Taken-rest : Taken whole next written filled
+  Taken-rest = subst (Taken whole next written) (let e : filled + count ≡ filled = omega (arith, none) in e) (Taken-stretch whole left next out written filled count h s)
+
+  pub none_left : None ≡ slice_get next 0
+  none_left =
+      let gone : length left ≡ 0 = elim (cases_lt 0 (length left)) [ inl some ↦ absurd (omega (arith, none, s.some some)) | inr empty ↦ omega (arith, empty) ] in
+      ap (λ xs. slice_get xs 0) (sym (nil_from_length next (omega (arith, gone, ap length s.left_is, length-drop count left))))
+
+-- where nothing is left, nothing is taken
+pub no_stretch : (left out : List ℕ) (filled : ℕ) → (0 < length left → ⊥) → filled < 128 → IsStretch left left out out filled 0
+no_stretch left out filled none room = record {
+  some = λ some. absurd (none some);
+  within = omega arith;
+  room = omega (arith, room);
+  front = ap (λ n. take n out) (let e : filled + 0 ≡ filled = omega arith in e) ∙ sym (append-nil (take filled out));
+  left_is = refl;
+}
+
+-- a stretch out of an array at whose front lies what is open
+pub stretch_copied : (numbers here rest next out written : List ℕ) (at len filled count : ℕ) → take len numbers ≡ here → len ≡ length here → at < len → filled < 128 → count ≡ min (len - at) (128 - filled) →
+    take (filled + count) written ≡ take filled out ++ take count (drop at numbers) → next ≡ drop count (drop at here ++ rest) → IsStretch (drop at here ++ rest) next out written filled count
+stretch_copied numbers here rest next out written at len filled count is size inside room most copied left =
+    let long : length (drop at here ++ rest) ≡ len - at + length rest = omega (arith, length-append (drop at here) rest, length-drop at here, size) in
+    let fits : count ≤ len - at = omega (arith, most) in
+    let whole : at + (len - at) ≡ len = omega (arith, inside) in
+    let front : take (len - at) (drop at numbers) ≡ drop at here = sym (drop-take at (len - at) numbers) ∙ ap (λ n. drop at (take n numbers)) whole ∙ ap (drop at) is in
+    record {
+      some = λ _. omega (arith, most, inside, room);
+      within = omega (arith, long, fits);
+      room = omega (arith, most, room);
+      front = copied ∙ ap (λ xs. take filled out ++ xs) (sym (take-take count (len - at) (drop at numbers) fits) ∙ ap (take count) front ∙ sym (take-append-le count (drop at here) rest (omega (arith, fits, length-drop at here, size))));
+      left_is = left;
+    }

@@ -1,0 +1,10 @@
+pub mod RemainingLemmas
+pub mod FillLemmas
+pub mod PostingLemmas
+pub mod MeetingLemmas
+pub mod PassingLemmas
+pub mod PromiseLemmas
+pub mod ConjoinedLemmas
+pub mod UnionLemmas
+pub mod WindowLemmas
+pub mod MarksLemmas

@@ -1,0 +1,26 @@
+-- Each turn takes the first document that is left.
+use Rattle.std.proofs.Common.{arith}
+use Rattle.fts_postings.proofs.FillLemmas.{Taken-front, Taken-left, Taken-more, Taken-none, full-front, full-left}
+use Rattle.fts_postings.proofs.ConjoinedLemmas.{AllFollow-same, AllFollow-trans}
+use Rattle.fts_postings.proofs.conjunction.ConjunctionDocSet.fill.Goals as goal
+
+pub loop-filled-init : goal.loop-filled-init
+loop-filled-init g c = record { taken = Taken-none _ c.args.out.now; follows = AllFollow-same c.args.self.now }
+
+pub loop-filled-preserved : goal.loop-filled-preserved
+loop-filled-preserved g c = record {
+  taken = Taken-more _ _ c.loop-filled.out _ c.loop-filled.filled c.in-Some.doc c.loop-filled.invariant.taken c.in-Some.ensures.first (omega arith) c.advance.ensures.remaining;
+  follows = AllFollow-trans _ _ _ c.loop-filled.invariant.follows c.advance.ensures.follows;
+}
+
+pub returns-in-None-clause-taken : goal.returns-in-None-clause-taken
+returns-in-None-clause-taken g c = Taken-front _ _ _ c.loop-filled.filled 128 c.loop-filled.invariant.taken (omega arith) c.in-None.ensures.first
+
+pub returns-in-None-clause-remaining : goal.returns-in-None-clause-remaining
+returns-in-None-clause-remaining g c = Taken-left _ _ _ c.loop-filled.filled 128 c.loop-filled.invariant.taken (omega arith) c.in-None.ensures.first
+
+pub returns-clause-taken : goal.returns-clause-taken
+returns-clause-taken g c = full-front _ _ c.loop-filled.out c.loop-filled.filled 128 c.loop-filled.invariant.taken (omega arith)
+
+pub returns-clause-remaining : goal.returns-clause-remaining
+returns-clause-remaining g c = full-left _ _ c.loop-filled.out c.loop-filled.filled 128 c.loop-filled.invariant.taken (omega arith)

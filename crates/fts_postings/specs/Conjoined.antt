@@ -1,0 +1,78 @@
+-- What contracts see of a conjunction of posting cursors, and the bound on its openings.
+use Rattle.std.specs.Prelude.{◌≡◌, ℕ, ◌+◌, ◌-◌, ◌*◌, ◌<◌, ◌≤◌, All, List, Option, None, Some, true, false, length, map, slice_get}
+use Rattle.std.specs.List.{AllZip, flat_map, sum_by}
+use Rattle.fts_postings.specs.Meeting.{common, in_all}
+use Rattle.fts_postings.specs.Posting.{Follows, Posting, remaining_of}
+use Rattle.fts_postings.specs.Remaining.{at_least}
+
+-- the cursor that leads, and the others
+pub record Conjoined : Type 0 where
+  pub lead : Posting
+  pub others : List Posting
+
+-- what remains of each
+abbrev pub each_remaining : List Posting → List (List ℕ)
+each_remaining others = map remaining_of others
+
+-- what is still to come of all
+abbrev pub common_of : Conjoined → List ℕ
+common_of c = common (remaining_of c.lead) (each_remaining c.others)
+
+-- all members of a cursor's list
+abbrev pub members_of : Posting → List ℕ
+members_of p = flat_map (λ block. block) p.blocks
+
+-- how many members there are up to the one at which the cursor stands, that one counted: all of them at the end
+abbrev pub reached : Posting → ℕ
+reached p = length (members_of p) - (length (remaining_of p) - 1)
+
+-- how many blocks all of them opened, and how many openings their sources counted
+abbrev pub openings_of : Conjoined → ℕ
+openings_of c = c.lead.opened + sum_by (λ p. p.opened) c.others
+
+abbrev pub counts_of : Conjoined → ℕ
+counts_of c = c.lead.count + sum_by (λ p. p.count) c.others
+
+-- how many blocks they open at most, whatever is sought
+abbrev pub most_of : Conjoined → ℕ
+most_of c = length c.lead.blocks + length c.others * (length (members_of c.lead) + 1)
+
+-- the same lists later on
+pub record AllFollow (old new : Conjoined) : Type 0 where
+  pub lead : Follows old.lead new.lead
+  pub others : AllZip Follows old.others new.others
+
+-- each of the others opened one block for each member that the leading cursor reached, and one when it was made
+abbrev pub AreFew : Posting → List Posting → Type 0
+AreFew lead others = All (λ p. p.opened ≤ reached lead + 1) others
+
+-- so few that each may open another block where the leading cursor stands
+pub record MayBeBrought (lead : Posting) (others : List Posting) : Type 0 where
+  pub few : AreFew lead others
+  pub fewer : 0 < length (remaining_of lead) → All (λ p. p.opened ≤ reached lead) others
+
+-- cursors stand at a document
+abbrev pub StandAt : ℕ → List Posting → Type 0
+StandAt doc cursors = All (λ p. slice_get (remaining_of p) 0 ≡ Some doc) cursors
+
+-- the others stand where the leading cursor does, or that one at its end
+abbrev pub StandTogether : Posting → List Posting → Type 0
+StandTogether lead others = (doc : ℕ) → slice_get (remaining_of lead) 0 ≡ Some doc → StandAt doc others
+
+pub record IsConjoined (lead : Posting) (others : List Posting) : Type 0 where
+  pub together : StandTogether lead others
+  pub few : AreFew lead others
+
+-- after one seek at most
+pub record Sought (doc : ℕ) (old new : Posting) : Type 0 where
+  pub follows : Follows old new
+  pub same : at_least doc (remaining_of new) ≡ at_least doc (remaining_of old)
+  pub once : new.opened ≤ old.opened + 1
+
+abbrev pub Brought : ℕ → List Posting → List Posting → Type 0
+Brought doc old new = AllZip (Sought doc) old new
+
+-- where the lists may next have a document in common, from `doc` on
+abbrev pub IsAhead : ℕ → List (List ℕ) → Option ℕ → Type 0
+IsAhead doc lists None = (d : ℕ) → doc ≤ d → in_all lists d ≡ false
+IsAhead doc lists (Some next) = (doc ≤ next) × (next ≡ doc → in_all lists doc ≡ true) × ((d : ℕ) → doc ≤ d → d < next → in_all lists d ≡ false)

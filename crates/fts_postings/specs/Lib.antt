@@ -1,0 +1,6 @@
+pub mod Remaining
+pub mod Fills
+pub mod Posting
+pub mod Meeting
+pub mod Conjoined
+pub mod Windows

@@ -1,0 +1,173 @@
+// A conjunction of posting cursors: one of them leads, and the others are sought for its documents alone.
+ghost use Rattle.std.specs.Prelude.{◌≡◌, ℕ, ◌+◌, ◌-◌, ◌*◌, ◌^◌, ◌<◌, ◌≤◌, All, List, drop, length, min, slice_get, slice_index_or, take};
+ghost use Rattle.std.specs.List.{AllZip};
+ghost use Rattle.fts_postings.specs.Conjoined.{AllFollow, AreFew, Brought, IsAhead, MayBeBrought, StandAt, StandTogether, common_of, each_remaining, members_of, most_of, openings_of, reached};
+ghost use Rattle.fts_postings.specs.Meeting.{common};
+ghost use Rattle.fts_pack.specs.Documents.{blocks_of};
+ghost use Rattle.fts_postings.specs.Posting.{Follows, Posting, remaining_of};
+ghost use Rattle.fts_postings.specs.Remaining.{at_least};
+
+use crate::doc_set::DocSet;
+use crate::posting::PostingCursor;
+use fts_pack::Blocks;
+use std::marker::Model;
+
+/// A conjunction of posting cursors.
+#[derive(Drop)]
+pub struct Conjunction<B: Blocks + Drop> {
+    lead: PostingCursor<B>,
+    others: Vec<PostingCursor<B>>,
+}
+
+impl<B: Blocks + Drop> Model for Conjunction<B> {
+    ghost use Rattle.fts_postings.specs.Conjoined.{Conjoined, IsConjoined};
+
+    ghost Value = { Conjoined };
+
+    ghost view = { λ c. record { lead = c.lead; others = c.others.items } };
+
+    ghost invariant = { λ c. IsConjoined c.lead c.others.items };
+}
+
+impl<B: Blocks + Drop> Conjunction<B> {
+    /// Takes the cursor that leads, which is best that of the shortest list, and the others as they were made.
+    pub fn new(lead: PostingCursor<B>, others: Vec<PostingCursor<B>>) -> Conjunction<B>
+        requires fresh { All (λ p. p.opened ≤ 1) others.items }
+        ensures remaining { common_of result
+            ≡ common (remaining_of lead) (each_remaining others.items) }
+        ensures follows { AllFollow (record { lead = lead; others = others.items }) result }
+    {
+        let mut lead = lead;
+        let mut others = others;
+        align(&mut lead, &mut others);
+        Conjunction { lead, others }
+    }
+
+    /// How many documents remain at most, or the greatest `usize`.
+    pub fn promise(&self) -> usize
+        ensures { min (2 ^ 64 - 1) (length (common_of self.now)) ≤ result }
+    {
+        self.lead.promise()
+    }
+
+    /// The place in the leading list of the document at which all stand.
+    pub fn lead_posting(&self) -> usize
+        requires stands { 0 < length (common_of self.now) }
+        requires few { length self.now.lead.blocks ≤ 2 ^ 32 }
+        ensures { (documents : List ℕ) → self.now.lead.blocks ≡ blocks_of documents
+            → slice_get (drop result documents) 0 ≡ slice_get (common_of self.now) 0 }
+    {
+        self.lead.posting()
+    }
+
+    /// Its place in another list.
+    pub fn other_posting(&self, other: usize) -> usize
+        requires inside { other < length self.now.others }
+        requires stands { 0 < length (common_of self.now) }
+        requires few { All (λ p. length p.blocks ≤ 2 ^ 32) self.now.others }
+        ensures { (documents : List ℕ) (p : Posting) →
+            (slice_index_or self.now.others other p).blocks ≡ blocks_of documents
+            → slice_get (drop result documents) 0 ≡ slice_get (common_of self.now) 0 }
+    {
+        self.others[other].posting()
+    }
+
+    /// How many blocks were opened since the cursors were made, or the greatest `u64`.
+    ///
+    /// They are no more than the blocks of the leading list, and for each other cursor one when it was made and one for
+    /// each document that the leading cursor reached.
+    pub fn openings(&self) -> u64
+        ensures sum { result ≡ min (2 ^ 64 - 1) (openings_of self.now) }
+        ensures bound { openings_of self.now
+            ≤ length self.now.lead.blocks + length self.now.others * (reached self.now.lead + 1) }
+        ensures most { openings_of self.now ≤ most_of self.now }
+    {
+        let mut sum = self.lead.openings();
+        for other in &self.others {
+            sum = sum.saturating_add(other.openings());
+        }
+        sum
+    }
+}
+
+impl<B: Blocks + Drop> DocSet for Conjunction<B> {
+    ghost remaining = { common_of };
+
+    #[inline]
+    fn doc(&self) -> Option<u32> {
+        self.lead.doc()
+    }
+
+    fn advance(&mut self)
+        ensures remaining { common_of self.new ≡ drop 1 (common_of self.old) }
+        ensures follows { AllFollow self.old self.new }
+    {
+        self.lead.advance();
+        align(&mut self.lead, &mut self.others);
+    }
+
+    fn seek(&mut self, target: u32)
+        ensures remaining { common_of self.new ≡ at_least target (common_of self.old) }
+        ensures follows { AllFollow self.old self.new }
+    {
+        if let Some(doc) = self.lead.doc() {
+            if doc < target {
+                self.lead.seek(target);
+                align(&mut self.lead, &mut self.others);
+            }
+        }
+    }
+
+    fn fill(&mut self, out: &mut [u32; 128]) -> usize
+        ensures count { result ≡ min 128 (length (common_of self.old)) }
+        ensures taken { take result out.new ≡ take 128 (common_of self.old) }
+        ensures remaining { common_of self.new ≡ drop 128 (common_of self.old) }
+        ensures follows { AllFollow self.old self.new }
+    {
+        for filled in 0..128 {
+            match self.doc() {
+                Some(doc) => out[filled] = doc,
+                None => return filled,
+            }
+            // To the next that all have.
+            self.advance();
+        }
+        128
+    }
+}
+
+// Seeks the document with each of the others in turn, and gives the first that all may have: that one, where all stand
+// at it, or a later one. `None` where one of them is at its end.
+fn bring<B: Blocks + Drop>(others: &mut [PostingCursor<B>], doc: u32) -> Option<u32>
+    ensures each { Brought doc others.old others.new }
+    ensures next { IsAhead doc (each_remaining others.new) result }
+    ensures stand { result ≡ Some doc → StandAt doc others.new }
+{
+    for other in others.iter_mut() {
+        other.seek(doc);
+        let next = other.doc()?;
+        if next != doc {
+            return Some(next);
+        }
+    }
+    Some(doc)
+}
+
+// Brings all to the first document that they have in common, or the leading one to its end.
+fn align<B: Blocks + Drop>(lead: &mut PostingCursor<B>, others: &mut [PostingCursor<B>])
+    requires few { MayBeBrought lead.old others.old }
+    ensures common { common (remaining_of lead.new) (each_remaining others.new)
+        ≡ common (remaining_of lead.old) (each_remaining others.old) }
+    ensures together { StandTogether lead.new others.new }
+    ensures few { AreFew lead.new others.new }
+    ensures lead { Follows lead.old lead.new }
+    ensures others { AllZip Follows others.old others.new }
+{
+    while let Some(doc) = lead.doc() {
+        match bring(others, doc) {
+            Some(next) if next == doc => return,
+            Some(next) => lead.seek(next),
+            None => lead.finish(),
+        }
+    }
+}

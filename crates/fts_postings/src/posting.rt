@@ -1,0 +1,244 @@
+// A cursor over the blocks of one list, of which one is open at a time.
+ghost use Rattle.std.specs.Prelude.{◌≡◌, ℕ, ◌+◌, ◌-◌, ◌^◌, ◌<◌, ◌≤◌, List, [], drop, length, min, slice_index_or, take, if◌then◌else◌, nat_lt};
+ghost use Rattle.fts_pack.specs.Documents.{blocks_of, last_of};
+ghost use Rattle.fts_postings.specs.Fills.{IsStretch};
+ghost use Rattle.fts_postings.specs.Posting.{Follows, Walks, blocks_reached, here, opened_by_step, remaining_of};
+ghost use Rattle.fts_postings.specs.Remaining.{at_least, IsPlaceOf};
+
+use crate::doc_set::DocSet;
+use crate::stretch::{copy_part, place_of};
+use fts_pack::Blocks;
+use std::marker::Model;
+
+/// A cursor over the blocks of one list. Its open block lies in the value.
+#[derive(Drop)]
+pub struct PostingCursor<B: Blocks> {
+    source: B,
+    block: usize,
+    at: usize,
+    len: usize,
+    opened: u64,
+    numbers: [u32; 128],
+}
+
+impl<B: Blocks> Model for PostingCursor<B> {
+    ghost use Rattle.fts_postings.specs.Posting.{Posting, IsPosting};
+
+    ghost Value = { Posting };
+
+    ghost view = { λ c. record { blocks = B.contents c.source; block = c.block; at = c.at; opened = c.opened; count = B.openings c.source } };
+
+    ghost invariant = { λ c. IsPosting (B.contents c.source) c.block c.at c.len c.opened c.numbers };
+}
+
+impl<B: Blocks> PostingCursor<B> {
+    /// Opens the first block, if there is one.
+    pub fn new(blocks: B) -> PostingCursor<B>
+        ensures blocks { result.blocks ≡ B.contents blocks }
+        ensures first { (result.block ≡ 0) × (result.at ≡ 0) }
+        ensures opened { result.opened ≡ (if nat_lt 0 (length (B.contents blocks)) then 1 else 0) }
+        ensures counted { result.count ≡ B.openings blocks + result.opened }
+    {
+        let mut cursor = PostingCursor {
+            block: blocks.blocks(),
+            source: blocks,
+            at: 0,
+            len: 0,
+            opened: 0,
+            numbers: [0; 128],
+        };
+        cursor.enter(0);
+        cursor
+    }
+
+    /// The place in its list of the document at which it stands, where all blocks but the last have 128.
+    pub fn posting(&self) -> usize
+        requires stands { 0 < length (remaining_of self.now) }
+        requires few { length self.now.blocks ≤ 2 ^ 32 }
+        ensures { (documents : List ℕ) → self.now.blocks ≡ blocks_of documents
+            → drop result documents ≡ remaining_of self.now }
+    {
+        self.block * 128 + self.at
+    }
+
+    /// How many blocks were opened since it was made, the making included.
+    pub fn openings(&self) -> u64
+        ensures opened { result ≡ self.now.opened }
+        ensures bound { result ≤ blocks_reached self.now }
+        ensures end { remaining_of self.now ≡ [] → blocks_reached self.now
+            ≡ length self.now.blocks }
+    {
+        self.opened
+    }
+
+    /// How many documents remain at most, or the greatest `usize`: as if each block that is left were full.
+    pub fn promise(&self) -> usize
+        ensures { min (2 ^ 64 - 1) (length (remaining_of self.now)) ≤ result }
+    {
+        (self.source.blocks() - self.block).saturating_mul(128)
+    }
+
+    // Leaves everything behind.
+    pub(crate) fn finish(&mut self)
+        ensures nothing { remaining_of self.new ≡ [] }
+        ensures follows { Follows self.old self.new }
+    {
+        self.block = self.source.blocks();
+        self.at = 0;
+        self.len = 0;
+    }
+
+    // Stands at the beginning of a block, or at the end.
+    fn enter(&mut self, block: usize)
+        requires few { self.old.opened ≤ block }
+        requires within { block ≤ length self.old.blocks }
+        ensures place { (self.new.block ≡ block) × (self.new.at ≡ 0) }
+        ensures opened { self.new.opened
+            ≡ self.old.opened + (if nat_lt block (length self.old.blocks) then 1 else 0) }
+        ensures follows { Follows self.old self.new }
+    {
+        self.block = block;
+        self.at = 0;
+        self.len = 0;
+        if block < self.source.blocks() {
+            self.len = self.source.open(block, &mut self.numbers);
+            self.opened += 1;
+        }
+    }
+
+    // Leaves so many documents of the open block behind.
+    #[inline]
+    fn leave(&mut self, count: usize)
+        requires some { 0 < count }
+        requires within { self.old.at + count ≤ length (here self.old) }
+        ensures remaining { remaining_of self.new ≡ drop count (remaining_of self.old) }
+        ensures walks { Walks self.old self.new }
+    {
+        if self.at + count < self.len {
+            self.at += count;
+        } else {
+            let next = self.block + 1;
+            self.enter(next);
+        }
+    }
+
+    // Copies what fits of the rest of the open block behind what fills `out` so far, and leaves it behind.
+    fn take_block(&mut self, out: &mut [u32; 128], filled: usize) -> usize
+        requires { filled < 128 }
+        ensures taken { IsStretch (remaining_of self.old) (remaining_of self.new) out.old out.new
+            filled result }
+        ensures walks { Walks self.old self.new }
+    {
+        if self.at >= self.len {
+            return 0;
+        }
+        let count = (self.len - self.at).min(128 - filled);
+        copy_part(&self.numbers, self.at, count, out, filled);
+        self.leave(count);
+        count
+    }
+}
+
+impl<B: Blocks> DocSet for PostingCursor<B> {
+    ghost remaining = { remaining_of };
+
+    #[inline]
+    fn doc(&self) -> Option<u32> {
+        if self.at < self.len {
+            Some(self.numbers[self.at])
+        } else {
+            None
+        }
+    }
+
+    /// Opens a block exactly where the open one ends here and another follows.
+    #[inline]
+    fn advance(&mut self)
+        ensures remaining { remaining_of self.new ≡ drop 1 (remaining_of self.old) }
+        ensures opened { self.new.opened ≡ self.old.opened + opened_by_step self.old }
+        ensures walks { Walks self.old self.new }
+    {
+        if self.at >= self.len {
+            return;
+        }
+        if self.at + 1 < self.len {
+            self.at += 1;
+        } else {
+            let next = self.block + 1;
+            self.enter(next);
+        }
+    }
+
+    /// Looks in the open block first, and else opens the one block in which the target lies or would lie, if there is one.
+    fn seek(&mut self, target: u32)
+        ensures remaining { remaining_of self.new ≡ at_least target (remaining_of self.old) }
+        ensures once { self.new.opened ≤ self.old.opened + 1 }
+        ensures follows { Follows self.old self.new }
+    {
+        if self.at >= self.len {
+            return;
+        }
+        if self.numbers[self.len - 1] < target {
+            let block = block_of(&self.source, self.block + 1, target);
+            self.enter(block);
+        }
+        self.at = place_of(&self.numbers, self.at, self.len, target);
+    }
+
+    /// Copies what it takes of each block that it reaches, and opens each of them.
+    fn fill(&mut self, out: &mut [u32; 128]) -> usize
+        ensures count { result ≡ min 128 (length (remaining_of self.old)) }
+        ensures taken { take result out.new ≡ take 128 (remaining_of self.old) }
+        ensures remaining { remaining_of self.new ≡ drop 128 (remaining_of self.old) }
+        ensures walks { Walks self.old self.new }
+    {
+        let mut filled = 0;
+        while filled < 128 {
+            let count = self.take_block(out, filled);
+            if count == 0 {
+                return filled;
+            }
+            filled += count;
+        }
+        128
+    }
+}
+
+// The first block from `from` on that ends with the target or more: the number of blocks where there is none. Looks at
+// the next first, then at ever farther ones, and halves what is left between.
+fn block_of<B: Blocks>(source: &B, from: usize, target: u32) -> usize
+    requires { from ≤ length (B.contents source.now) }
+    ensures { IsPlaceOf (λ k. last_of (slice_index_or (B.contents source.now) k [])) from
+        (length (B.contents source.now)) target result }
+{
+    let to = source.blocks();
+    let mut low = from;
+    while low - from < to - low {
+        let block = low + (low - from);
+        if source.last(block) >= target {
+            return block_between(source, low, block, target);
+        }
+        low = block + 1;
+    }
+    block_between(source, low, to, target)
+}
+
+// The first of the blocks `from..to` that ends with the target or more: `to` where there is none.
+fn block_between<B: Blocks>(source: &B, from: usize, to: usize, target: u32) -> usize
+    requires order { from ≤ to }
+    requires within { to ≤ length (B.contents source.now) }
+    ensures { IsPlaceOf (λ k. last_of (slice_index_or (B.contents source.now) k [])) from to
+        target result }
+{
+    let mut low = from;
+    let mut high = to;
+    while low < high {
+        let middle = low + (high - low) / 2;
+        if source.last(middle) < target {
+            low = middle + 1;
+        } else {
+            high = middle;
+        }
+    }
+    low
+}
