@@ -15,7 +15,7 @@ use Rattle.fts_snapshots.specs.declared.stamps.Terms.{Terms}
 use Rattle.fts_snapshots.specs.Snapshots.{IsBehind, content_of}
 use Rattle.fts_index.specs.Publications.{FrontValue}
 use Rattle.fts_index.specs.Writers.{IsOpen, IsWriter, is_of}
-use Rattle.fts_snapshots.proofs.OrderLemmas.{Rises, All-weaker_by, All-joined, rises_joined}
+use Rattle.fts_snapshots.proofs.OrderLemmas.{Rises, All-weaker_by, All-joined}
 use Rattle.fts_snapshots.proofs.CommitLemmas.{by_stamp, stamps_rise}
 use Rattle.fts_snapshots.proofs.SnapshotLemmas.{all_adds, rise_behind}
 
