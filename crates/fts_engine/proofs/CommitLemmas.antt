@@ -11,14 +11,14 @@ use Rattle.fts_model.specs.Documents.{DocumentValue}
 use Rattle.fts_model.specs.Operations.{alive, adds, added}
 use Rattle.fts_model.specs.Results.{first_of}
 use Rattle.fts_model.specs.declared.cut.Cut.{Cut}
-use Rattle.fts_index.specs.Cuts.{put_into, dealt_from, groups_of, place_of}
-use Rattle.fts_index.specs.Commits.{struck, fresh_from, all_after, committed, new_segments, numbers_fault}
-use Rattle.fts_index.specs.Entries.{EntryValue, has_live}
-use Rattle.fts_index.specs.Rounds.{Gathered}
-use Rattle.fts_index.specs.Snapshots.{content_of, commit_fault}
-use Rattle.fts_index.specs.Commits.{misfit}
+use Rattle.fts_snapshots.specs.Cuts.{put_into, dealt_from, groups_of, place_of}
+use Rattle.fts_snapshots.specs.Commits.{struck, fresh_from, all_after, committed, new_segments, numbers_fault}
+use Rattle.fts_snapshots.specs.Entries.{EntryValue, has_live}
+use Rattle.fts_snapshots.specs.Rounds.{Gathered}
+use Rattle.fts_snapshots.specs.Snapshots.{content_of, commit_fault}
+use Rattle.fts_snapshots.specs.Commits.{misfit}
 use Rattle.fts_index.specs.Writers.{WriterValue, with_commit, batch_fault, is_of}
-use Rattle.fts_index.proofs.EntryLemmas.{length-added}
+use Rattle.fts_snapshots.proofs.EntryLemmas.{length-added}
 use Rattle.fts_engine.specs.WriterIndexes.{Commits, segments_of}
 
 length-put_into : {X : Type 0} (k : ℕ) (x : X) (gs : List (List X)) → length (put_into k x gs) ≤ length gs + 1

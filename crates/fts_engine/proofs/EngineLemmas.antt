@@ -6,7 +6,7 @@ use Rattle.fts_model.specs.declared.operation.Stamped.{Stamped}
 use Rattle.fts_model.specs.declared.refusal.Refusal.TheVariants.{OtherSchema}
 use Rattle.fts_model.specs.declared.schema.Field.{Field}
 use Rattle.fts_model.specs.Operations.{op_fits}
-use Rattle.fts_index.specs.Commits.{misfit}
+use Rattle.fts_snapshots.specs.Commits.{misfit}
 use Rattle.fts_index.specs.Publications.{Known}
 use Rattle.fts_index.specs.Writers.{WriterValue}
 use Rattle.fts_engine.specs.declared.waiting.Waiting.{Waiting}

@@ -9,16 +9,16 @@ use Rattle.std.proofs.lemmas.List.Sums.{sum_by-cons}
 use Rattle.fts_model.specs.declared.refusal.Refusal.{Refusal}
 use Rattle.fts_model.specs.declared.refusal.Refusal.TheVariants.{TooLarge, StampsUsedUp, UnknownSegment, SegmentTwice}
 use Rattle.fts_model.specs.Results.{first_of}
-use Rattle.fts_index.specs.Commits.{numbers_fault}
-use Rattle.fts_index.specs.Entries.{EntryValue, IsEntry, live_in, live_count, content}
-use Rattle.fts_index.specs.Infos.{info_of}
-use Rattle.fts_index.specs.declared.entry.SegmentInfo.{SegmentInfo}
-use Rattle.fts_index.specs.Merges.{is_among, is_there, entry_at, entries_at, without, fault_behind, names_fault, size_fault, merge_fault}
-use Rattle.fts_index.specs.Snapshots.{SnapshotValue, IsSnapshot, content_of}
+use Rattle.fts_snapshots.specs.Commits.{numbers_fault}
+use Rattle.fts_snapshots.specs.Entries.{EntryValue, IsEntry, live_in, live_count, content}
+use Rattle.fts_snapshots.specs.Infos.{info_of}
+use Rattle.fts_snapshots.specs.declared.entry.SegmentInfo.{SegmentInfo}
+use Rattle.fts_snapshots.specs.Merges.{is_among, is_there, entry_at, entries_at, without, fault_behind, names_fault, size_fault, merge_fault}
+use Rattle.fts_snapshots.specs.Snapshots.{SnapshotValue, IsSnapshot, content_of}
 use Rattle.fts_index.specs.Writers.{WriterValue, with_merge}
-use Rattle.fts_index.proofs.MergeLemmas.{AreDifferent, names_given}
-use Rattle.fts_index.proofs.OrderLemmas.{Rises, rises_from_pairs, permutation_in_order}
-use Rattle.fts_index.proofs.SnapshotLemmas.{length-live_in}
+use Rattle.fts_snapshots.proofs.MergeLemmas.{AreDifferent, names_given}
+use Rattle.fts_snapshots.proofs.OrderLemmas.{Rises, rises_from_pairs, permutation_in_order}
+use Rattle.fts_snapshots.proofs.SnapshotLemmas.{length-live_in}
 use Rattle.fts_engine.proofs.CommitLemmas.{below_numbers}
 use Rattle.fts_engine.specs.WriterIndexes.{Merges, segments_of}
 

@@ -4,8 +4,8 @@ use Rattle.fts_model.specs.declared.refusal.Refusal.{Refusal}
 use Rattle.fts_model.specs.declared.refusal.Refusal.TheVariants.{Memory, LaneFull}
 use Rattle.fts_model.specs.declared.operation.Op.{Op}
 use Rattle.fts_model.specs.declared.operation.Stamped.{Stamped}
-use Rattle.fts_index.specs.Rounds.{Opened, Held, IsLaneOf}
-use Rattle.fts_index.specs.Rounds as rounds
+use Rattle.fts_snapshots.specs.Rounds.{Opened, Held, IsLaneOf}
+use Rattle.fts_snapshots.specs.Rounds as rounds
 use Rattle.fts_index.specs.Writers.{WriterValue, is_of}
 use Rattle.fts_engine.specs.declared.waiting.Waiting.{Waiting}
 use Rattle.fts_engine.specs.declared.waiting.Waiting.TheVariants.{Nothing, Open, Ended, Gathered}

@@ -68,7 +68,7 @@ pub struct IndexEngine {
 
 impl Model for IndexEngine {
     ghost use Rattle.std.specs.Prelude.{is_some, map};
-    ghost use Rattle.fts_index.specs.Infos.{info_of};
+    ghost use Rattle.fts_snapshots.specs.Infos.{info_of};
     ghost use Rattle.fts_engine.specs.WriterIndexes.{EngineValue, IsIndexEngine, index_of};
 
     ghost Value = { EngineValue };

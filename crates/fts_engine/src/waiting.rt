@@ -1,7 +1,7 @@
 // What waits for a commit: the operations of a round of one lane, which is opened when the first one is submitted.
 ghost use Rattle.std.specs.Prelude.{◌≡◌, ◌≢◌, ◌+◌, ◌*◌, ◌^◌, ◌<◌, ◌≤◌, ◌⊎◌, ◌++◌, [], ◌∷◌, None, Some, length, IfOk, IfErr, OnOk, OnErr, IsOkUnless};
-ghost use Rattle.fts_index.specs.Rounds.{fresh};
-ghost use Rattle.fts_index.specs.Commits.{misfit};
+ghost use Rattle.fts_snapshots.specs.Rounds.{fresh};
+ghost use Rattle.fts_snapshots.specs.Commits.{misfit};
 ghost use Rattle.fts_engine.specs.WaitingOperations.{ops_of, first_ops, HasOneLane, IsItsLane, IsItsEnd, IsItsBatch, IsBatchOf, GoOnWaiting, IsOpen, WaitsFor, Submits};
 ghost use Rattle.fts_engine.specs.WriterIndexes.{Commits};
 

@@ -19,11 +19,11 @@ use Rattle.fts_model.specs.Answers.{answer_of}
 use Rattle.fts_model.proofs.Lists.{Contains-cases, Contains-none}
 use Rattle.fts_cursor.specs.Openings.{IsOfOneTerm, HasMusts, blocks_with, most_for_musts}
 use Rattle.fts_collect.specs.Parts.{PartValue, ArePartsOf, joined}
-use Rattle.fts_index.specs.Entries.{EntryValue, live_in, content}
+use Rattle.fts_snapshots.specs.Entries.{EntryValue, live_in, content}
 use Rattle.fts_index.specs.Searches.{IsPartOf, blocks_in, most_in, has_hit, least_in}
 use Rattle.fts_index.specs.SearchJobs.{Asked, asks, asked_of, Tells, AnswersSearch}
 use Rattle.fts_index.specs.declared.searching.job.SearchJob.{SearchJob}
-use Rattle.fts_index.proofs.OrderLemmas.{permutation_in_order, filter-in_stamp_order}
+use Rattle.fts_snapshots.proofs.OrderLemmas.{permutation_in_order, filter-in_stamp_order}
 
 told_at : (query : QueryValue) (request : Request) (job : SearchJob) (answer : Result PartValue Refusal) (entry : EntryValue) (part : PartValue) →
     AnswersSearch job answer → asked_of job ≡ asks query request entry → answer ≡ Ok part → IsPartOf query request entry part

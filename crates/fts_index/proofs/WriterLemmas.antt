@@ -10,31 +10,14 @@ use Rattle.fts_model.specs.declared.operation.Stamped.{Stamped}
 use Rattle.fts_model.specs.Documents.{DocumentValue}
 use Rattle.fts_model.specs.Operations.{alive, adds, is_struck, left_by, StampsRise}
 use Rattle.fts_model.proofs.OperationsAlive.{alive-pairs}
-use Rattle.fts_index.specs.Rounds.{Gathered, stamps_of}
-use Rattle.fts_index.specs.declared.stamps.Terms.{Terms}
-use Rattle.fts_index.specs.Snapshots.{IsBehind, content_of}
+use Rattle.fts_snapshots.specs.Rounds.{Gathered, stamps_of}
+use Rattle.fts_snapshots.specs.declared.stamps.Terms.{Terms}
+use Rattle.fts_snapshots.specs.Snapshots.{IsBehind, content_of}
 use Rattle.fts_index.specs.Publications.{FrontValue}
 use Rattle.fts_index.specs.Writers.{IsOpen, IsWriter, is_of}
-use Rattle.fts_index.proofs.OrderLemmas.{Rises, All-weaker_by, All-joined, rises_joined}
-use Rattle.fts_index.proofs.CommitLemmas.{by_stamp, stamps_rise}
-
--- the stamps of the operations that add documents
-all_adds : (P : ℕ → Type 0) (ds : List (Stamped DocumentValue)) → AllByRecursion (λ d. P d.stamp) ds → AllByRecursion (λ o. P o.stamp) (adds ds)
-all_adds P [] h = tt
-all_adds P (d ∷ ds) h = (h.0, all_adds P ds h.1)
-
-adds_rise : (ds : List (Stamped DocumentValue)) → Rises (λ d. d.stamp) ds → Rises (λ o. o.stamp) (adds ds)
-adds_rise [] h = tt
-adds_rise (d ∷ ds) h = (all_adds (λ s. d.stamp < s) ds h.0, adds_rise ds h.1)
-
--- operations behind documents, after those that add these
-pub rise_behind : (ds : List (Stamped DocumentValue)) (ops : List (Stamped Op)) → StampsRise ds → IsBehind ds ops → StampsRise (adds ds ++ ops)
-rise_behind ds ops rise behind =
-    stamps_rise (adds ds ++ ops)
-    (rises_joined (λ (o : Stamped Op). o.stamp) behind.first (adds ds) ops (adds_rise ds (by_stamp ds rise))
-    (all_adds (λ s. s < behind.first) ds (recursion_from_All (λ (d : Stamped DocumentValue). d.stamp < behind.first) ds behind.before))
-    (by_stamp ops behind.rising)
-    (recursion_from_All (λ (o : Stamped Op). behind.first ≤ o.stamp) ops behind.behind))
+use Rattle.fts_snapshots.proofs.OrderLemmas.{Rises, All-weaker_by, All-joined}
+use Rattle.fts_snapshots.proofs.CommitLemmas.{by_stamp, stamps_rise}
+use Rattle.fts_snapshots.proofs.SnapshotLemmas.{all_adds, rise_behind}
 
 -- numbers one after the other
 run_from : (k a n : ℕ) → k ≤ a → AllByRecursion (λ x. k ≤ x) (range_with_len a n)

@@ -1,8 +1,8 @@
 -- What a writer publishes: which lists of publications there are, and what is known of one.
 use Rattle.std.specs.Prelude.{◌≡◌, ℕ, ◌<◌, ◌≤◌, ◌^◌, List, [], ◌∷◌, ◌++◌, Some, AllPairs, fold, length, slice_get}
 use Rattle.logbook.specs.Pages.{Book}
-use Rattle.fts_index.specs.Entries.{content}
-use Rattle.fts_index.specs.Snapshots.{SnapshotValue, content_of}
+use Rattle.fts_snapshots.specs.Entries.{content}
+use Rattle.fts_snapshots.specs.Snapshots.{SnapshotValue, content_of}
 use Rattle.fts_index.specs.declared.publications.publication.Publication.{Publication}
 
 -- the publication that each writer begins with: stamp 0, and no document

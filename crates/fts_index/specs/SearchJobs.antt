@@ -5,7 +5,7 @@ use Rattle.fts_model.specs.declared.refusal.Refusal.{Refusal}
 use Rattle.fts_model.specs.declared.refusal.Refusal.TheVariants.{Memory}
 use Rattle.fts_model.specs.QueryValues.{QueryValue, query_value}
 use Rattle.fts_collect.specs.Parts.{PartValue}
-use Rattle.fts_index.specs.Entries.{EntryValue}
+use Rattle.fts_snapshots.specs.Entries.{EntryValue}
 use Rattle.fts_index.specs.Searches.{IsPartOf}
 use Rattle.fts_index.specs.declared.searching.job.SearchJob.{SearchJob}
 

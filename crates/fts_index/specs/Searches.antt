@@ -9,7 +9,7 @@ use Rattle.fts_model.specs.QueryValues.{QueryValue}
 use Rattle.fts_model.specs.Answers.{answer}
 use Rattle.fts_cursor.specs.Openings.{IsOfOneTerm, HasMusts, blocks_with, most_for_musts}
 use Rattle.fts_collect.specs.Parts.{PartValue}
-use Rattle.fts_index.specs.Entries.{EntryValue, live_in}
+use Rattle.fts_snapshots.specs.Entries.{EntryValue, live_in}
 
 -- a part is what a segment tells of its live hits
 pub record IsPartOf (query : QueryValue) (request : Request) (entry : EntryValue) (part : PartValue) : Type 0 where

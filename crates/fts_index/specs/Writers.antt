@@ -4,12 +4,12 @@ use Rattle.fts_model.specs.declared.refusal.Refusal.{Refusal}
 use Rattle.fts_model.specs.declared.refusal.Refusal.TheVariants.{Memory, RoundOpen, StampsUsedUp, StaleBatch}
 use Rattle.fts_model.specs.Results.{first_of}
 use Rattle.fts_model.specs.declared.cut.Cut.{Cut}
-use Rattle.fts_index.specs.declared.stamps.Terms.{Terms}
-use Rattle.fts_index.specs.Rounds.{Gathered}
-use Rattle.fts_index.specs.Commits.{misfit}
-use Rattle.fts_index.specs.Snapshots.{content_of, after_commit, commit_fault, after_merge}
-use Rattle.fts_index.specs.MergedSegments.{MergedSegmentValue}
-use Rattle.fts_index.specs.LateMerges.{end_fault, after_end}
+use Rattle.fts_snapshots.specs.declared.stamps.Terms.{Terms}
+use Rattle.fts_snapshots.specs.Rounds.{Gathered}
+use Rattle.fts_snapshots.specs.Commits.{misfit}
+use Rattle.fts_snapshots.specs.Snapshots.{content_of, after_commit, commit_fault, after_merge}
+use Rattle.fts_snapshots.specs.MergedSegments.{MergedSegmentValue}
+use Rattle.fts_snapshots.specs.LateMerges.{end_fault, after_end}
 use Rattle.fts_index.specs.Publications.{FrontValue, published}
 
 -- a call succeeded where nothing was wrong; else it was refused for that, or for memory

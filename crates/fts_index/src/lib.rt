@@ -1,13 +1,10 @@
 //! The index: written by one writer in as many lanes as there are threads, and searched from any thread.
 //!
-//! - A [`Writer`] opens *rounds*. A round takes operations from several threads at once: each has a [`Lane`], which draws the
-//!   next stamp by one atomic step and keeps its operations to itself, so lanes never wait for each other. Ended lanes are
-//!   gathered by their [`Round`] into one [`Batch`], in the order of the stamps: that is the order in which the operations
-//!   count, whatever the threads did.
-//! - A batch is committed. What is found at one time is a [`Snapshot`]: segments, each with its number and its live bits. It
-//!   never changes: a commit or a merge makes another one, which shares all that stays, so a refusal leaves everything as it
-//!   was, and who holds a snapshot keeps it. What a commit does to each segment is a job of its own ([`CommitJob`]), which
-//!   any thread may run.
+//! What is found at one time, and how commits and merges lead from one such [`Snapshot`] to the next, is the crate below
+//! (`fts_snapshots`), whose types are handed on here.
+//!
+//! - A [`Writer`] opens rounds, commits their batches, and merges segments. It holds the newest snapshot, counts rounds and
+//!   stamps, and refuses a batch that isn't of the open round.
 //! - A merge can end later: [`Writer::begin_merge`] gives a [`MergeJob`], which any thread may run beside the writer, and
 //!   [`Writer::end_merge`] puts the [`MergedSegment`] in place of its sources, with the live bits that these have by then.
 //! - Commits are *published* ([`publications`]). A [`Reader`] in any thread takes the newest one by one look, without a lock,
@@ -33,40 +30,15 @@
 //! ```
 #![tactic(auto)]
 
-mod batch;
-mod beginning;
-mod committing;
-mod cut;
-mod ending;
-mod entry;
-mod group;
-mod jobs;
-mod lane;
-pub mod laws;
-mod lookup;
-mod merge_job;
-mod merged_segment;
-mod merging;
-mod new_segment;
-mod numbers;
-mod planning;
 pub mod publications;
-mod round;
 mod searching;
-mod snapshot;
-mod stamps;
 mod writer;
 
-pub use batch::Batch;
 pub use fts_model::Cut;
-pub use entry::{Entry, SegmentInfo};
-pub use jobs::CommitJob;
-pub use lane::{Lane, LaneEnd};
-pub use merge_job::MergeJob;
-pub use merged_segment::MergedSegment;
+pub use fts_snapshots::{
+    Batch, CommitJob, Entry, Lane, LaneEnd, MergeJob, MergedSegment, Round, SegmentInfo,
+    Snapshot, Terms, open_round,
+};
 pub use publications::{CommitSeen, Publisher, Reader, Searcher};
-pub use round::{Round, open_round};
 pub use searching::Found;
-pub use snapshot::Snapshot;
-pub use stamps::Terms;
 pub use writer::{Committed, Writer};

@@ -6,19 +6,18 @@ ghost use Rattle.fts_model.specs.Queries.{query_fits, request_fits};
 ghost use Rattle.fts_model.specs.QueryValues.{query_value};
 ghost use Rattle.fts_model.specs.Answers.{answer};
 ghost use Rattle.fts_cursor.specs.Openings.{IsOfOneTerm, HasMusts};
-ghost use Rattle.fts_index.specs.Snapshots.{content_of};
+ghost use Rattle.fts_snapshots.specs.Snapshots.{content_of};
 ghost use Rattle.fts_index.specs.Searches.{IsPartOf, blocks_in, most_in, least_in};
 ghost use Rattle.fts_index.specs.SearchJobs.{asks, asked_of};
 
 mod found;
 mod job;
 
-use crate::entry::Entry;
-use crate::snapshot::Snapshot;
 pub use found::Found;
 use fts_collect::Part;
 use fts_model::{Query, Refusal, Request};
 use fts_pool::{Gate, run_all};
+use fts_snapshots::{Entry, Snapshot};
 use job::SearchJob;
 use std::alloc::{AllocError, Global};
 use std::sync::Wait;

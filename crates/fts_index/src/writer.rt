@@ -2,28 +2,23 @@
 ghost use Rattle.std.specs.Prelude.{◌≡◌, ◌+◌, ◌*◌, ◌^◌, ◌<◌, ◌≤◌, ◌⊎◌, ◌↔◌, ◌++◌, [], ◌∷◌, List, IsTrue, Some, None, Ok, IfOk, IfErr, OnOk, OnErr, IsOkUnless, map, length, option_map};
 ghost use Rattle.std.specs.List.{range_with_len};
 ghost use Rattle.fts_model.specs.Operations.{alive, adds};
-ghost use Rattle.fts_index.specs.Rounds.{fresh};
-ghost use Rattle.fts_index.specs.Cuts.{IsCut};
-ghost use Rattle.fts_index.specs.Commits.{misfit};
-ghost use Rattle.fts_index.specs.Infos.{info_of, candidate_ids};
-ghost use Rattle.fts_index.specs.Snapshots.{content_of, merge_fault};
-ghost use Rattle.fts_index.specs.Merges.{entries_at, names_fault};
-ghost use Rattle.fts_index.specs.MergedSegments.{merged_of};
-ghost use Rattle.fts_index.specs.Following.{Follows, Fits};
+ghost use Rattle.fts_snapshots.specs.Rounds.{fresh};
+ghost use Rattle.fts_snapshots.specs.Cuts.{IsCut};
+ghost use Rattle.fts_snapshots.specs.Commits.{misfit};
+ghost use Rattle.fts_snapshots.specs.Infos.{info_of, candidate_ids};
+ghost use Rattle.fts_snapshots.specs.Snapshots.{content_of, merge_fault};
+ghost use Rattle.fts_snapshots.specs.Merges.{entries_at, names_fault};
+ghost use Rattle.fts_snapshots.specs.MergedSegments.{merged_of};
+ghost use Rattle.fts_snapshots.specs.Following.{Follows, Fits};
 ghost use Rattle.fts_index.specs.Publications.{opening, IsOneCommit};
 ghost use Rattle.fts_index.specs.Writers.{IsRefusedFor, next_round, with_round, without_round, round_fault, is_of, batch_fault, stamp_behind, with_commit, with_merge, late_fault, with_end};
 
-use crate::batch::Batch;
-use crate::entry::SegmentInfo;
-use crate::lane::Lane;
-use crate::merge_job::MergeJob;
-use crate::merged_segment::MergedSegment;
 use crate::publications::{CommitSeen, Publisher, Reader, Searcher};
-use crate::round::{Round, open_round};
-use crate::snapshot::Snapshot;
-use crate::stamps::Terms;
 use fts_model::{Cut, Op, Refusal, Schema, Stamp, Stamped};
 use fts_pool::Gate;
+use fts_snapshots::{
+    Batch, Lane, MergeJob, MergedSegment, Round, SegmentInfo, Snapshot, Terms, open_round,
+};
 use std::alloc::Global;
 use std::marker::Model;
 use std::sync::Wait;

@@ -1,6 +1,6 @@
 // fts_index: merges that are begun, run and ended later, beside commits and other merges.
 ghost use Rattle.std.specs.Prelude.{◌≡◌, IfOk};
-ghost use Rattle.fts_index.specs.Following.{Follows, Fits};
+ghost use Rattle.fts_snapshots.specs.Following.{Follows, Fits};
 
 mod again;
 mod background;

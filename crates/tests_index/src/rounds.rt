@@ -2,7 +2,7 @@
 // stamps.
 ghost use Rattle.std.specs.Prelude.{◌≡◌, ◌≤◌, ℕ, ◌<◌, length, map, slice_index_or, All, IfOk};
 ghost use Rattle.std.specs.List.{range_with_len};
-ghost use Rattle.fts_index.specs.Rounds.{IsLaneOf, SameLane, fresh, lanes_of, times};
+ghost use Rattle.fts_snapshots.specs.Rounds.{IsLaneOf, SameLane, fresh, lanes_of, times};
 
 mod given_up;
 

@@ -1,6 +1,6 @@
 // fts_index: a search of a commit answers as the plain scan does, whoever runs it, and a searcher keeps its commit.
 ghost use Rattle.std.specs.Prelude.{◌≤◌};
-ghost use Rattle.fts_index.specs.Cuts.{IsCut};
+ghost use Rattle.fts_snapshots.specs.Cuts.{IsCut};
 
 mod counts;
 mod held;

@@ -1,6 +1,6 @@
 // fts_index: what commits and merges leave of segments, what is planned, and the searchers of a writer.
 ghost use Rattle.std.specs.Prelude.{◌≡◌, IfOk};
-ghost use Rattle.fts_index.specs.Rounds.{SameLane};
+ghost use Rattle.fts_snapshots.specs.Rounds.{SameLane};
 
 mod growths;
 mod refusals;

@@ -1,6 +1,6 @@
 // What a publication shares among threads.
-use crate::snapshot::Snapshot;
 use fts_model::Stamp;
+use fts_snapshots::Snapshot;
 
 /// A snapshot with the stamp of its commit.
 #[derive(Drop)]

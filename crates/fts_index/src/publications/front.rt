@@ -3,8 +3,8 @@
 ghost use Rattle.std.specs.Prelude.{◌≡◌, ◌<◌, ◌≤◌, ◌^◌, ◌⊎◌, ◌↔◌, [], ◌∷◌, IsTrue, IfOk, IfSome, MatchOption, length};
 ghost use Rattle.std.specs.Arc.{arc_value};
 ghost use mathlib.Core.List.{IsPrefix};
-ghost use Rattle.fts_index.specs.Entries.{content};
-ghost use Rattle.fts_index.specs.Snapshots.{content_of};
+ghost use Rattle.fts_snapshots.specs.Entries.{content};
+ghost use Rattle.fts_snapshots.specs.Snapshots.{content_of};
 ghost use Rattle.fts_index.specs.Publications.{opening, publication, published, Follows, IsFront, IsOneCommit};
 ghost use Rattle.fts_index.specs.PublicationsHistory.{head_of};
 
@@ -12,8 +12,8 @@ use crate::publications::commit::Commit;
 use crate::publications::history::{Append, Head, History, Nothing, SeenList};
 use crate::publications::publication::Publication;
 use crate::publications::schemas::are_same;
-use crate::snapshot::Snapshot;
 use fts_model::Stamp;
+use fts_snapshots::Snapshot;
 use logbook::{Offer, Seen, Start, Word};
 use std::alloc::{AllocError, Global};
 use std::marker::Model;
@@ -30,7 +30,7 @@ pub struct Front {
 impl Model for Front {
     ghost use Rattle.std.specs.Prelude.{◌≡◌, ◌<◌, ◌^◌, length};
     ghost use Rattle.std.specs.Arc.{arc_value};
-    ghost use Rattle.fts_index.specs.Snapshots.{content_of};
+    ghost use Rattle.fts_snapshots.specs.Snapshots.{content_of};
     ghost use Rattle.fts_index.specs.Publications.{FrontValue, IsFront, ArePublications, newest, publication};
 
     ghost Value = { FrontValue };

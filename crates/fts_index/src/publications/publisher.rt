@@ -1,8 +1,8 @@
 // The part of a writer that publishes. It alone changes the list of publications.
 ghost use Rattle.std.specs.Prelude.{◌≡◌, ◌<◌, ◌^◌, ◌⊎◌, ◌↔◌, [], ◌∷◌, ◌++◌, Some, IsTrue, IfOk, IfErr, OnOk, OnErr, IsOkUnless, MatchResult, length};
 ghost use Rattle.std.specs.Arc.{arc_value};
-ghost use Rattle.fts_index.specs.Entries.{content};
-ghost use Rattle.fts_index.specs.Snapshots.{content_of};
+ghost use Rattle.fts_snapshots.specs.Entries.{content};
+ghost use Rattle.fts_snapshots.specs.Snapshots.{content_of};
 ghost use Rattle.fts_index.specs.Publications.{opening, newest, publication, published, Follows, IsFront, IsOneCommit};
 ghost use Rattle.fts_index.specs.PublicationsShown.{name_of, told_name};
 
@@ -12,9 +12,9 @@ use crate::publications::history::Head;
 use crate::publications::reader::Reader;
 use crate::publications::searcher::{CommitSeen, Searcher};
 use crate::publications::shown::{Copies, Desk, Names};
-use crate::snapshot::Snapshot;
 use core::mem::replace_with;
 use fts_model::{Refusal, Stamp};
+use fts_snapshots::Snapshot;
 use std::alloc::{AllocError, Global};
 use std::marker::Model;
 use std::sync::{Arc, Wait};

@@ -5,15 +5,15 @@ ghost use Rattle.fts_model.specs.Queries.{query_fits, request_fits};
 ghost use Rattle.fts_model.specs.QueryValues.{query_value};
 ghost use Rattle.fts_model.specs.Answers.{answer};
 ghost use Rattle.fts_cursor.specs.Openings.{IsOfOneTerm, HasMusts};
-ghost use Rattle.fts_index.specs.Snapshots.{content_of};
+ghost use Rattle.fts_snapshots.specs.Snapshots.{content_of};
 ghost use Rattle.fts_index.specs.Searches.{blocks_in, most_in, least_in};
 ghost use Rattle.fts_index.specs.Publications.{IsFront};
 
 use crate::publications::front::Front;
 use crate::searching::{Found, search_snapshot};
-use crate::snapshot::Snapshot;
 use fts_model::{Query, Refusal, Request, Stamp};
 use fts_pool::Gate;
+use fts_snapshots::Snapshot;
 use std::alloc::Global;
 use std::marker::Model;
 use std::sync::Wait;

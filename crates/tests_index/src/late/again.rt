@@ -1,6 +1,6 @@
 // fts_index: a merge whose sources another merge took can't end, however often it is tried, and is handed back whole.
 ghost use Rattle.std.specs.Prelude.{IfOk, IfSome};
-ghost use Rattle.fts_index.specs.Following.{Follows, Fits};
+ghost use Rattle.fts_snapshots.specs.Following.{Follows, Fits};
 
 use super::{commit, merged};
 use crate::fixtures::schema;

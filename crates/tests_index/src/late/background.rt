@@ -1,7 +1,7 @@
 // fts_index: a log that goes on while another thread merges what was there.
 ghost use Rattle.std.specs.Prelude.{◌≡◌, IfOk};
-ghost use Rattle.fts_index.specs.Following.{Follows, Fits};
-ghost use Rattle.fts_index.specs.MergedSegments.{merged_of};
+ghost use Rattle.fts_snapshots.specs.Following.{Follows, Fits};
+ghost use Rattle.fts_snapshots.specs.MergedSegments.{merged_of};
 
 use super::{commit, end};
 use crate::fixtures::schema;
@@ -38,7 +38,7 @@ struct Merging(Snapshot<MergeJob>);
 
 impl Promise<Result<MergedSegment, Refusal>> for Merging {
     ghost use Rattle.std.specs.Prelude.{◌≡◌, IfOk};
-    ghost use Rattle.fts_index.specs.MergedSegments.{merged_of};
+    ghost use Rattle.fts_snapshots.specs.MergedSegments.{merged_of};
 
     ghost kept_by = { λ p r. IfOk r (λ merged. merged ≡ merged_of p.0.value) };
 }

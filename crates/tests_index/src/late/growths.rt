@@ -1,8 +1,8 @@
 // fts_index: whichever growth is refused to a merge that ends later, or to a searcher, all is as before, and a second try
 // succeeds.
 ghost use Rattle.std.specs.Prelude.{◌≡◌, IfOk};
-ghost use Rattle.fts_index.specs.MergedSegments.{merged_of};
-ghost use Rattle.fts_index.specs.Following.{Fits};
+ghost use Rattle.fts_snapshots.specs.MergedSegments.{merged_of};
+ghost use Rattle.fts_snapshots.specs.Following.{Fits};
 
 use super::commit;
 use crate::fixtures::schema;

@@ -1,7 +1,7 @@
 use Rattle.std.proofs.Common.{◌≡◌, ◌<◌, ◌+◌, ◌==◌, ℕ, Bool, true, cond, List, [], ◌∷◌, ◌⊎◌, inl, inr, subst, arith}
 use Rattle.std.proofs.lemmas.Bool.Decides.{nat_tests}
-use Rattle.fts_index.specs.Rounds.{Held, lanes_of, times}
-use Rattle.fts_index.specs.Shuffles.{IsLeastMissing}
+use Rattle.fts_snapshots.specs.Rounds.{Held, lanes_of, times}
+use Rattle.fts_snapshots.specs.Shuffles.{IsLeastMissing}
 use Rattle.fts_model.specs.declared.refusal.Refusal.{Refusal}
 use Rattle.fts_model.specs.declared.refusal.Refusal.TheVariants.{Memory, LaneMissing}
 use Rattle.fts_engine.proofs.waiting.gather_end.Goals as goal

@@ -5,8 +5,8 @@ use Rattle.std.proofs.lemmas.List.Elements.{recursion_from_All}
 use Rattle.fts_model.specs.Queries.{hits}
 use Rattle.fts_model.specs.QueryValues.{query_value}
 use Rattle.fts_collect.specs.Parts.{PartValue}
-use Rattle.fts_index.specs.Entries.{EntryValue}
-use Rattle.fts_index.specs.Snapshots.{content_of}
+use Rattle.fts_snapshots.specs.Entries.{EntryValue}
+use Rattle.fts_snapshots.specs.Snapshots.{content_of}
 use Rattle.fts_index.specs.Searches.{IsPartOf}
 use Rattle.fts_index.proofs.SearchLemmas.{parts_of_content, once_among_hits, length-hits, openings-one_term, openings-most, openings-least}
 use Rattle.fts_index.proofs.searching.search_snapshot.Goals as goal

@@ -3,7 +3,7 @@ use Rattle.std.proofs.Common.{map, ap, ◌∙◌, ⊎_elim}
 use Rattle.std.proofs.lemmas.Result.{IfOk-weaker}
 use Rattle.fts_model.specs.QueryValues.{query_value}
 use Rattle.fts_index.specs.SearchJobs.{asked_of}
-use Rattle.fts_index.proofs.JobLemmas.{for_memory_alone}
+use Rattle.fts_snapshots.proofs.JobLemmas.{for_memory_alone}
 use Rattle.fts_index.proofs.SearchLemmas.{parts_told, refused_for_memory}
 use Rattle.fts_index.proofs.searching.segment_parts.Goals as goal
 

@@ -1,5 +1,5 @@
 use Rattle.std.proofs.Common.{◌≡◌, drop}
-use Rattle.fts_index.specs.Commits.{misfit}
+use Rattle.fts_snapshots.specs.Commits.{misfit}
 use Rattle.fts_index.proofs.writer.misfit.Given as goal
 
 -- what is wrong lies behind

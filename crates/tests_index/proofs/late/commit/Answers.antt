@@ -1,10 +1,10 @@
 -- What is left of the proof of `late::commit`.
 use Rattle.std.proofs.Common.{sym, ap, subst}
 use Rattle.fts_index.specs.Publications.{FrontValue}
-use Rattle.fts_index.specs.declared.cut.Cut.TheVariants.{Runs}
-use Rattle.fts_index.specs.Following.{Follows}
+use Rattle.fts_model.specs.declared.cut.Cut.TheVariants.{Runs}
+use Rattle.fts_snapshots.specs.Following.{Follows}
 use Rattle.fts_index.specs.Writers.{WriterValue}
-use Rattle.fts_index.proofs.FollowLemmas.{follows_commit}
+use Rattle.fts_snapshots.proofs.FollowLemmas.{follows_commit}
 use Rattle.tests_index.proofs.late.commit.Goals as goal
 
 pub returns-in-Ok : goal.returns-in-Ok

@@ -1,5 +1,5 @@
 -- What is left of the proof of `late::ended_after`.
-use Rattle.fts_index.proofs.FollowLemmas.{fits_further}
+use Rattle.fts_snapshots.proofs.FollowLemmas.{fits_further}
 use Rattle.tests_index.proofs.late.ended_after.Goals as goal
 
 pub end-requires : goal.end-requires

@@ -1,5 +1,5 @@
 -- What is left of the proof of `late::in_two_threads`.
-use Rattle.fts_index.proofs.FollowLemmas.{fits_further}
+use Rattle.fts_snapshots.proofs.FollowLemmas.{fits_further}
 use Rattle.tests_index.proofs.late.in_two_threads.Goals as goal
 
 pub end-requires : goal.end-requires

@@ -1,5 +1,5 @@
 -- What is left of the proof of `late::overtaken`.
-use Rattle.fts_index.proofs.FollowLemmas.{fits_further}
+use Rattle.fts_snapshots.proofs.FollowLemmas.{fits_further}
 use Rattle.tests_index.proofs.late.overtaken.Goals as goal
 
 pub end-second-requires : goal.end-second-requires

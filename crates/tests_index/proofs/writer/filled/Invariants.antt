@@ -1,5 +1,5 @@
 -- It stays the same lane.
-use Rattle.fts_index.specs.Rounds.{SameLane}
+use Rattle.fts_snapshots.specs.Rounds.{SameLane}
 use Rattle.tests_index.proofs.writer.filled.Given as goal
 
 abbrev pub invariant-loop-op : goal.invariant-loop-op

@@ -3,7 +3,7 @@ use Rattle.fts_model.specs.declared.operation.Stamped.{Stamped}
 use Rattle.fts_model.specs.Documents.{DocumentValue}
 use Rattle.fts_model.specs.Operations.{alive, adds}
 use Rattle.fts_index.specs.Publications.{FrontValue}
-use Rattle.fts_index.specs.Snapshots.{SnapshotValue, IsBehind, content_of}
+use Rattle.fts_snapshots.specs.Snapshots.{SnapshotValue, IsBehind, content_of}
 use Rattle.fts_index.proofs.WriterLemmas.{batch_behind, first_behind, left_few, writer_behind}
 use Rattle.fts_index.proofs.writer.Writer.commit.Goals as goal
 

@@ -2,13 +2,13 @@
 use Rattle.std.proofs.Common.{◌≡◌, ◌⊎◌, inl, inr, ⊎_elim, None, Result, Ok, Err, sym, ap, subst, ◌∙◌}
 use Rattle.std.specs.Prelude.{OnOk, OnErr}
 use Rattle.fts_index.specs.Publications.{FrontValue, published}
-use Rattle.fts_index.specs.Snapshots.{SnapshotValue}
-use Rattle.fts_index.specs.Following.{Follows}
-use Rattle.fts_index.specs.LateMerges.{end_fault, after_end}
+use Rattle.fts_snapshots.specs.Snapshots.{SnapshotValue}
+use Rattle.fts_snapshots.specs.Following.{Follows}
+use Rattle.fts_snapshots.specs.LateMerges.{end_fault, after_end}
 use Rattle.fts_index.specs.Writers.{WriterValue, late_fault}
-use Rattle.fts_index.proofs.EndingLemmas.{fault_of_err}
-use Rattle.fts_index.proofs.FollowLemmas.{follows_itself, follows_end}
-use Rattle.fts_index.proofs.SourceLemmas.{unless_ok}
+use Rattle.fts_snapshots.proofs.EndingLemmas.{fault_of_err}
+use Rattle.fts_snapshots.proofs.FollowLemmas.{follows_itself, follows_end}
+use Rattle.fts_snapshots.proofs.SourceLemmas.{unless_ok}
 use Rattle.fts_index.proofs.writer.Writer.end_merge.Goals as goal
 
 on_ok : {X E : Type 0} (P : Type 0) (r : Result X E) → P → OnOk r P

@@ -1,8 +1,8 @@
 -- A merge is followed.
 use Rattle.std.proofs.Common.{sym, subst}
-use Rattle.fts_index.specs.Following.{Follows}
+use Rattle.fts_snapshots.specs.Following.{Follows}
 use Rattle.fts_index.specs.Writers.{WriterValue}
-use Rattle.fts_index.proofs.FollowLemmas.{follows_merge}
+use Rattle.fts_snapshots.proofs.FollowLemmas.{follows_merge}
 use Rattle.tests_index.proofs.late.again.merge.Goals as goal
 
 pub returns-in-Ok : goal.returns-in-Ok

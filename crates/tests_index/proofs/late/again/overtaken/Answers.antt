@@ -1,5 +1,5 @@
 -- What was merged fits what the other merge left.
-use Rattle.fts_index.proofs.FollowLemmas.{fits_further}
+use Rattle.fts_snapshots.proofs.FollowLemmas.{fits_further}
 use Rattle.tests_index.proofs.late.again.overtaken.Goals as goal
 
 pub returns : goal.returns

@@ -1,5 +1,5 @@
 -- Each commit follows the one before.
-use Rattle.fts_index.proofs.FollowLemmas.{follows_itself, follows_further}
+use Rattle.fts_snapshots.proofs.FollowLemmas.{follows_itself, follows_further}
 use Rattle.tests_index.proofs.late.background.log.Goals as goal
 
 pub loop-line-init : goal.loop-line-init

@@ -1,6 +1,6 @@
 -- What was begun fits what the log left.
-use Rattle.fts_index.specs.MergedSegments.{merged_of}
-use Rattle.fts_index.proofs.FollowLemmas.{fits_further}
+use Rattle.fts_snapshots.specs.MergedSegments.{merged_of}
+use Rattle.fts_snapshots.proofs.FollowLemmas.{fits_further}
 use Rattle.tests_index.proofs.late.background.merged_beside.Goals as goal
 
 pub joined-ended-requires-after_bounds : goal.joined-ended-requires-after_bounds

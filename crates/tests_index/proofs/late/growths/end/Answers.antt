@@ -1,7 +1,7 @@
 -- All is as before.
 use Rattle.std.proofs.Common.{sym, subst}
-use Rattle.fts_index.specs.Following.{Fits}
-use Rattle.fts_index.specs.MergedSegments.{MergedSegmentValue}
+use Rattle.fts_snapshots.specs.Following.{Fits}
+use Rattle.fts_snapshots.specs.MergedSegments.{MergedSegmentValue}
 use Rattle.fts_index.specs.Writers.{WriterValue}
 use Rattle.tests_index.proofs.late.growths.end.Goals as goal
 

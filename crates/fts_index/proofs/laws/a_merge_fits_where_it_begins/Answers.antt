@@ -1,6 +1,0 @@
--- What is left of the proof of `laws::a_merge_fits_where_it_begins`.
-use Rattle.fts_index.proofs.BeginLemmas.{fits_begun}
-use Rattle.fts_index.proofs.laws.a_merge_fits_where_it_begins.Goals as goal
-
-pub returns : goal.returns
-returns c = fits_begun

@@ -1,6 +1,0 @@
--- What is left of the proof of `laws::following_is_transitive`.
-use Rattle.fts_index.proofs.FollowLemmas.{follows_itself, follows_further}
-use Rattle.fts_index.proofs.laws.following_is_transitive.Goals as goal
-
-pub returns : goal.returns
-returns c = record { itself = follows_itself; further = follows_further }

@@ -1,7 +1,0 @@
--- The segments of a snapshot as a merge takes them.
-use Rattle.fts_merge.specs.Merges.{SourceValue}
-use Rattle.fts_index.specs.Entries.{EntryValue}
-
--- a segment with its live bits
-abbrev pub source_of : EntryValue → SourceValue
-source_of entry = record { segment = entry.segment; live = entry.live }

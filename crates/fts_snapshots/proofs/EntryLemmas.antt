@@ -1,0 +1,175 @@
+-- What segments contain after operations, and that segments without a live document contain nothing.
+use Rattle.std.proofs.Common.{◌≡◌, ◌<◌, ◌≤◌, ◌+◌, ◌&&◌, ℕ, suc, Bool, true, false, cond, nat_lt, List, [], ◌∷◌, ◌++◌, length, get_or, take, map, filter, count_by, replicate, refl, sym, ap, ◌∙◌, append_assoc, arith}
+use Rattle.std.specs.List.{flat_map, list_any, AllByRecursion}
+use Rattle.std.proofs.lemmas.Bool.Decides.{nat_tests}
+use Rattle.std.proofs.lemmas.List.{append-nil, take_more, length-map, length-append, length-take-le}
+use Rattle.std.proofs.lemmas.List.Sums.{sum_by-cons}
+use Rattle.std.proofs.lemmas.List.Elements.{filter-append}
+use Rattle.fts_model.specs.declared.schema.Field.{Field}
+use Rattle.fts_model.specs.declared.operation.Op.{Op}
+use Rattle.fts_model.specs.declared.operation.Op.TheVariants.{Add, Delete, DeleteAll}
+use Rattle.fts_model.specs.declared.operation.Stamped.{Stamped}
+use Rattle.fts_model.specs.Documents.{DocumentValue}
+use Rattle.fts_model.specs.Operations.{survives, added, added_by}
+use Rattle.fts_segment.specs.Contents.{where_set}
+use Rattle.fts_merge.specs.Strikes.{bits_where}
+use Rattle.fts_segment.specs.Segments.{SegmentValue}
+use Rattle.fts_snapshots.specs.Entries.{EntryValue, IsEntry, live_in, has_live}
+use Rattle.fts_snapshots.specs.Commits.{struck, fresh, fresh_from}
+
+-- the members of groups, one group after the other
+abbrev pub joined : {X : Type 0} → List (List X) → List X
+joined groups = flat_map (λ group. group) groups
+
+kept_and_left : {X : Type 0} (b c : Bool) (x : X) (xs : List X) → cond (b && c) (x ∷ xs) xs ≡ cond b (cond c (x ∷ xs) xs) xs
+kept_and_left true c x xs = refl
+kept_and_left false c x xs = refl
+
+chosen_later : {X : Type 0} (b : Bool) (p : X → Bool) (x : X) (xs : List X) → cond b (cond (p x) (x ∷ filter p xs) (filter p xs)) (filter p xs) ≡ filter p (cond b (x ∷ xs) xs)
+chosen_later true p x xs = refl
+chosen_later false p x xs = refl
+
+-- where the bits of those are left that pass a test, they are set of those that were and pass
+pub where_set-bits_where : {X : Type 0} (p : X → Bool) (xs : List X) (bits : List Bool) → where_set xs (bits_where p xs bits) ≡ filter p (where_set xs bits)
+where_set-bits_where p [] bits = refl
+where_set-bits_where p (x ∷ xs) [] = refl
+where_set-bits_where p (x ∷ xs) (bit ∷ bits) =
+    ap (λ ys. cond (bit && p x) (x ∷ ys) ys) (where_set-bits_where p xs bits)
+    ∙ kept_and_left bit (p x) x (filter p (where_set xs bits))
+    ∙ chosen_later bit p x (where_set xs bits)
+
+pub where_set-map : {X : Type 0} (p : X → Bool) (xs : List X) → where_set xs (map p xs) ≡ filter p xs
+where_set-map p [] = refl
+where_set-map p (x ∷ xs) = ap (λ ys. cond (p x) (x ∷ ys) ys) (where_set-map p xs)
+
+-- where all bits are set, those are left that pass
+pub bits_where-full : {X : Type 0} (p : X → Bool) (xs : List X) → bits_where p xs (replicate (length xs) true) ≡ map p xs
+bits_where-full p [] = refl
+bits_where-full p (x ∷ xs) = ap (λ bits. p x ∷ bits) (bits_where-full p xs)
+
+-- where all pass, the bits stay
+pub bits_where-all : {X : Type 0} (xs : List X) (bits : List Bool) → length bits ≡ length xs → bits_where (λ x. true) xs bits ≡ bits
+bits_where-all [] [] e = refl
+bits_where-all [] (bit ∷ bits) e = absurd (omega (arith, e))
+bits_where-all (x ∷ xs) [] e = refl
+bits_where-all (x ∷ xs) (bit ∷ bits) e = ap (λ b. b ∷ bits_where (λ x. true) xs bits) (and_true bit) ∙ ap (λ bs. bit ∷ bs) (bits_where-all xs bits (omega (arith, e))) where
+  and_true : (b : Bool) → (b && true) ≡ b
+  and_true true = refl
+  and_true false = refl
+
+pub bits_where-agree : {X : Type 0} (p q : X → Bool) → ((x : X) → p x ≡ q x) → (xs : List X) (bits : List Bool) → bits_where p xs bits ≡ bits_where q xs bits
+bits_where-agree p q same [] bits = refl
+bits_where-agree p q same (x ∷ xs) [] = refl
+bits_where-agree p q same (x ∷ xs) (bit ∷ bits) =
+    ap (λ b. (bit && b) ∷ bits_where p xs bits) (same x) ∙ ap (λ bs. (bit && q x) ∷ bs) (bits_where-agree p q same xs bits)
+
+pub length-bits_where : {X : Type 0} (p : X → Bool) (xs : List X) (bits : List Bool) → length bits ≡ length xs → length (bits_where p xs bits) ≡ length xs
+length-bits_where p [] bits e = refl
+length-bits_where p (x ∷ xs) [] e = absurd (omega (arith, e))
+length-bits_where p (x ∷ xs) (bit ∷ bits) e = ap suc (length-bits_where p xs bits (omega (arith, e)))
+
+-- whether some bit is set
+pub some_counted : (bits : List Bool) → nat_lt 0 (count_by (λ bit. bit) bits) ≡ list_any (λ bit. bit) bits
+some_counted [] = refl
+some_counted (true ∷ bits) =
+    let more = sum_by-cons (λ (bit : Bool). cond bit 1 0) true bits in
+    let positive : 0 < count_by (λ bit. bit) (true ∷ bits) = omega (arith, more) in
+    grind (arith, nat_tests, positive)
+some_counted (false ∷ bits) = ap (nat_lt 0) (sum_by-cons (λ (bit : Bool). cond bit 1 0) false bits ∙ omega arith) ∙ some_counted bits
+
+where_set-none : {X : Type 0} (xs : List X) (bits : List Bool) → list_any (λ bit. bit) bits ≡ false → where_set xs bits ≡ []
+where_set-none [] bits e = refl
+where_set-none (x ∷ xs) [] e = refl
+where_set-none (x ∷ xs) (true ∷ bits) e = cc
+where_set-none (x ∷ xs) (false ∷ bits) e = where_set-none xs bits e
+
+-- segments without a live document may go
+pub live_in-filter : (es : List EntryValue) → flat_map live_in (filter has_live es) ≡ flat_map live_in es
+live_in-filter [] = refl
+live_in-filter (e ∷ es) =
+    elim (has_live e) as (λ b. has_live e ≡ b → flat_map live_in (cond b (e ∷ filter has_live es) (filter has_live es)) ≡ live_in e ++ flat_map live_in es) [
+      | true ↦ λ _. ap (λ ds. live_in e ++ ds) (live_in-filter es)
+      | false ↦ λ h. live_in-filter es ∙ ap (λ ds. ds ++ flat_map live_in es) (sym (where_set-none e.segment.documents e.live h))
+    ] refl
+
+-- segments of one schema contain after operations what survives these
+pub live_in-struck : (schema : List Field) (ops : List (Stamped Op)) (es : List EntryValue) → AllByRecursion (λ e. e.segment.schema ≡ schema) es →
+    flat_map live_in (map (struck ops) es) ≡ filter (survives schema ops) (flat_map live_in es)
+live_in-struck schema ops [] a = refl
+live_in-struck schema ops (e ∷ es) a =
+    ap (λ ds. live_in (struck ops e) ++ ds) (live_in-struck schema ops es a.1)
+    ∙ ap (λ ds. ds ++ filter (survives schema ops) (flat_map live_in es)) (where_set-bits_where (survives e.segment.schema ops) e.segment.documents e.live ∙ ap (λ s. filter (survives s ops) (live_in e)) a.0)
+    ∙ sym (filter-append (survives schema ops) (live_in e) (flat_map live_in es))
+
+-- new segments contain what survives of their documents
+pub live_in-fresh : (schema : List Field) (ops : List (Stamped Op)) (id : ℕ) (groups : List (List (Stamped DocumentValue))) →
+    flat_map live_in (fresh_from schema ops id groups) ≡ filter (survives schema ops) (joined groups)
+live_in-fresh schema ops id [] = refl
+live_in-fresh schema ops id (ds ∷ groups) =
+    ap (λ xs. live_in (fresh schema ops id ds) ++ xs) (live_in-fresh schema ops (id + 1) groups)
+    ∙ ap (λ xs. xs ++ filter (survives schema ops) (joined groups)) (where_set-map (survives schema ops) ds)
+    ∙ sym (filter-append (survives schema ops) ds (joined groups))
+
+-- a segment of a snapshot by its parts
+abbrev pub entry_with : ℕ → SegmentValue → List Bool → EntryValue
+entry_with id segment live = record { id = id; segment = segment; live = live }
+
+pub same_entry : (id other : ℕ) (segment segments : SegmentValue) (live lives : List Bool) → id ≡ other → segment ≡ segments → live ≡ lives → entry_with id segment live ≡ entry_with other segments lives
+same_entry id other segment segments live lives e f g =
+    ap (λ n. entry_with n segment live) e ∙ ap (λ s. entry_with other s live) f ∙ ap (entry_with other segments) g
+
+pub entry_struck : (ops : List (Stamped Op)) (e : EntryValue) → IsEntry e → IsEntry (struck ops e)
+entry_struck ops e i = record { bits = length-bits_where (survives e.segment.schema ops) e.segment.documents e.live i.bits; few = i.few }
+
+-- no operations strike nothing
+pub struck_none : (e : EntryValue) → IsEntry e → struck [] e ≡ e
+struck_none e i = ap (λ bits. record { id = e.id; segment = e.segment; live = bits }) (bits_where-all e.segment.documents e.live i.bits)
+
+pub entry_fresh : (schema : List Field) (ops : List (Stamped Op)) (id : ℕ) (documents : List (Stamped DocumentValue)) → length documents ≤ 65536 → IsEntry (fresh schema ops id documents)
+entry_fresh schema ops id documents l = record { bits = length-map documents (survives schema ops); few = omega (arith, l) }
+
+fresh_from-push : (schema : List Field) (ops : List (Stamped Op)) (id : ℕ) (gs : List (List (Stamped DocumentValue))) (g : List (Stamped DocumentValue)) →
+    fresh_from schema ops id (gs ++ g ∷ []) ≡ fresh_from schema ops id gs ++ fresh schema ops (id + length gs) g ∷ []
+fresh_from-push schema ops id [] g = ap (λ n. fresh schema ops n g ∷ []) (omega arith)
+fresh_from-push schema ops id (h ∷ gs) g =
+    ap (λ es. fresh schema ops id h ∷ es) (fresh_from-push schema ops (id + 1) gs g ∙ ap (λ n. fresh_from schema ops (id + 1) gs ++ fresh schema ops n g ∷ []) (omega arith))
+
+-- the member behind the first ones
+pub taken : {X : Type 0} (xs : List X) (i : ℕ) (x : X) → i < length xs → x ≡ get_or xs i x → take (i + 1) xs ≡ take i xs ++ x ∷ []
+taken xs i x l e = take_more xs i x l ∙ ap (λ y. take i xs ++ y ∷ []) (sym e)
+
+-- one new segment more
+pub fresh_more : (schema : List Field) (ops : List (Stamped Op)) (id i : ℕ) (gs : List (List (Stamped DocumentValue))) (g : List (Stamped DocumentValue)) → i < length gs → g ≡ get_or gs i g →
+    fresh_from schema ops id (take i gs) ++ fresh schema ops (id + i) g ∷ [] ≡ fresh_from schema ops id (take (i + 1) gs)
+fresh_more schema ops id i gs g l e =
+    ap (λ n. fresh_from schema ops id (take i gs) ++ fresh schema ops (id + n) g ∷ []) (sym (length-take-le' i gs l))
+    ∙ sym (fresh_from-push schema ops id (take i gs) g)
+    ∙ ap (fresh_from schema ops id) (sym (taken gs i g l e)) where
+      length-take-le' : {X : Type 0} (i : ℕ) (xs : List X) → i < length xs → length (take i xs) ≡ i
+      length-take-le' i xs l = omega (arith, length-take-le i xs)
+
+added-push : (ops : List (Stamped Op)) (op : Stamped Op) → added (ops ++ op ∷ []) ≡ added ops ++ added_by op.stamp op.value
+added-push [] op = append-nil (added_by op.stamp op.value)
+added-push (o ∷ ops) op =
+    ap (λ ds. added_by o.stamp o.value ++ ds) (added-push ops op)
+    ∙ sym (append_assoc (added_by o.stamp o.value) (added ops) (added_by op.stamp op.value))
+
+-- what one operation more adds
+pub added_more : (ops : List (Stamped Op)) (i : ℕ) (op : Stamped Op) → i < length ops → op ≡ get_or ops i op → added (take i ops) ++ added_by op.stamp op.value ≡ added (take (i + 1) ops)
+added_more ops i op l e = sym (added-push (take i ops) op) ∙ ap added (sym (taken ops i op l e))
+
+length-added_by : (stamp : ℕ) (op : Op) → length (added_by stamp op) ≤ 1
+length-added_by stamp (Add document) = omega arith
+length-added_by stamp (Delete term) = omega arith
+length-added_by stamp DeleteAll = omega arith
+
+-- no more is added than there are operations
+pub length-added : (ops : List (Stamped Op)) → length (added ops) ≤ length ops
+length-added [] = omega arith
+length-added (op ∷ ops) = omega (arith, length-append (added_by op.stamp op.value) (added ops), length-added_by op.stamp op.value, length-added ops)
+
+-- no more bits are set than there are
+pub count-le-length : (bits : List Bool) → count_by (λ bit. bit) bits ≤ length bits
+count-le-length [] = omega arith
+count-le-length (true ∷ bits) = omega (arith, count-le-length bits, sum_by-cons (λ (bit : Bool). cond bit 1 0) true bits)
+count-le-length (false ∷ bits) = omega (arith, count-le-length bits, sum_by-cons (λ (bit : Bool). cond bit 1 0) false bits)

@@ -1,0 +1,48 @@
+-- Lists of numbers, how often each stands there, and lists of stamped operations that rise.
+use Rattle.std.proofs.Common.{◌≡◌, ℕ, zero, suc, ◌+◌, ◌<◌, ◌≤◌, List, [], ◌∷◌, ◌++◌, length, All, refl, ap, ◌∙◌, arith}
+use Rattle.std.proofs.lemmas.List.{map-append}
+use Rattle.std.proofs.lemmas.List.Elements.{All-nil, All-cons}
+use Rattle.std.specs.List.{range_with_len}
+use Rattle.fts_model.specs.declared.operation.Op.{Op}
+use Rattle.fts_model.specs.declared.operation.Stamped.{Stamped}
+use Rattle.fts_snapshots.specs.Rounds.{AllAbove, AllBelow, Rises, stamps_of, times}
+
+pub times-append : (x : ℕ) (xs ys : List ℕ) → times x (xs ++ ys) ≡ times x xs + times x ys
+times-append x [] ys = omega arith
+times-append x (y ∷ xs) ys = let r = times-append x xs ys in omega arith
+
+pub range_with_len-snoc : (first n : ℕ) → range_with_len first (suc n) ≡ range_with_len first n ++ (first + n) ∷ []
+range_with_len-snoc first zero = ap (λ (k : ℕ). k ∷ []) (omega arith)
+range_with_len-snoc first (suc n) = ap (λ (l : List ℕ). first ∷ l) (range_with_len-snoc (first + 1) n ∙ ap (λ (k : ℕ). range_with_len (first + 1) n ++ k ∷ []) (omega arith))
+
+pub AllBelow-more : (n m : ℕ) (xs : List ℕ) → n ≤ m → AllBelow n xs → AllBelow m xs
+AllBelow-more n m [] le b = tt
+AllBelow-more n m (x ∷ xs) le b = let here = b.0 in (omega arith, AllBelow-more n m xs le b.1)
+
+pub AllBelow-append : (n : ℕ) (xs ys : List ℕ) → AllBelow n xs → AllBelow n ys → AllBelow n (xs ++ ys)
+AllBelow-append n [] ys a b = b
+AllBelow-append n (x ∷ xs) ys a b = (a.0, AllBelow-append n xs ys a.1 b)
+
+AllAbove-push : (n m : ℕ) (xs : List ℕ) → n < m → AllAbove n xs → AllAbove n (xs ++ m ∷ [])
+AllAbove-push n m [] lt a = (lt, tt)
+AllAbove-push n m (x ∷ xs) lt a = (a.0, AllAbove-push n m xs lt a.1)
+
+pub Rises-push : (n : ℕ) (xs : List ℕ) → AllBelow n xs → Rises xs → Rises (xs ++ n ∷ [])
+Rises-push n [] b r = (tt, tt)
+Rises-push n (x ∷ xs) b r = (AllAbove-push x n xs b.0 r.0, Rises-push n xs b.1 r.1)
+
+-- a list with nothing before it
+pub Rises-after_none : (xs ys : List ℕ) → length xs ≤ 0 → Rises ys → Rises (xs ++ ys)
+Rises-after_none [] ys none r = r
+Rises-after_none (x ∷ xs) ys none r = absurd (omega arith)
+
+pub times-none : (x : ℕ) (xs : List ℕ) → length xs ≡ 0 → times x xs ≡ 0
+times-none x [] e = refl
+times-none x (y ∷ xs) e = absurd (omega arith)
+
+pub stamps_of-push : (xs ys : List (Stamped Op)) (x : Stamped Op) → ys ≡ xs ++ x ∷ [] → stamps_of ys ≡ stamps_of xs ++ x.stamp ∷ []
+stamps_of-push xs ys x e = ap stamps_of e ∙ map-append (λ (s : Stamped Op). s.stamp) xs (x ∷ [])
+
+pub All-from_below : (n : ℕ) (xs : List (Stamped Op)) → AllBelow n (stamps_of xs) → All (λ s. s.stamp < n) xs
+All-from_below n [] b = All-nil (λ s. s.stamp < n)
+All-from_below n (x ∷ xs) b = All-cons (λ s. s.stamp < n) x xs b.0 (All-from_below n xs b.1)

@@ -1,0 +1,133 @@
+-- The segments of a snapshot as the sources of a merge, and what a merge is refused for.
+use Rattle.std.proofs.Common.{◌≡◌, ◌<◌, ◌≤◌, ◌+◌, ◌^◌, ◌↔◌, ℕ, true, false, cond, nat_le, nat_lt, Option, Some, None, Result, Ok, Err, List, [], ◌∷◌, ◌++◌, length, map, sum_by, count_by, replicate, All, refl, sym, ap, ◌∙◌, ⊎_elim, arith}
+use Rattle.std.specs.List.{flat_map, AllByRecursion}
+use Rattle.std.proofs.lemmas.Bool.{cases_lt}
+use Rattle.std.proofs.lemmas.Bool.Decides.{nat_tests}
+use Rattle.std.proofs.lemmas.List.Sums.{sum_by-cons}
+use Rattle.std.proofs.lemmas.List.Elements.{All-from_recursion, recursion_from_All, All-weaker}
+use Rattle.fts_model.specs.declared.schema.Field.{Field}
+use Rattle.fts_model.specs.declared.refusal.Refusal.{Refusal}
+use Rattle.fts_model.specs.declared.refusal.Refusal.TheVariants.{TooLarge, StampsUsedUp}
+use Rattle.fts_model.specs.Results.{ok_unless, first_of}
+use Rattle.fts_merge.specs.Merges.{SourceValue, MergedValue, AreOfOneSchema, schema_of, contents}
+use Rattle.fts_merge.specs.Merges as sources
+use Rattle.fts_snapshots.specs.Entries.{EntryValue, live_in, live_count}
+use Rattle.fts_snapshots.specs.Commits.{numbers_fault}
+use Rattle.fts_snapshots.specs.Merges.{entries_at, names_fault, size_fault, merge_fault}
+use Rattle.fts_snapshots.specs.Sources.{source_of}
+use Rattle.fts_snapshots.proofs.SnapshotLemmas.{all_entries_at, some_sources}
+
+pub contents-sources : (es : List EntryValue) → contents (map source_of es) ≡ flat_map live_in es
+contents-sources [] = refl
+contents-sources (e ∷ es) = ap (λ ds. live_in e ++ ds) (contents-sources es)
+
+pub live_count-sources : (es : List EntryValue) → sources.live_count (map source_of es) ≡ sum_by live_count es
+live_count-sources [] = refl
+live_count-sources (e ∷ es) =
+    sum_by-cons (λ (s : SourceValue). count_by (λ bit. bit) s.live) (source_of e) (map source_of es)
+    ∙ ap (λ n. live_count e + n) (live_count-sources es)
+    ∙ sym (sum_by-cons live_count e es)
+
+mapped : (schema : List Field) (es : List EntryValue) → AllByRecursion (λ e. e.segment.schema ≡ schema) es → AllByRecursion (λ (s : SourceValue). s.segment.schema ≡ schema) (map source_of es)
+mapped schema [] a = tt
+mapped schema (e ∷ es) a = (a.0, mapped schema es a.1)
+
+unmapped : (schema : List Field) (es : List EntryValue) → AllByRecursion (λ (s : SourceValue). s.segment.schema ≡ schema) (map source_of es) → AllByRecursion (λ e. e.segment.schema ≡ schema) es
+unmapped schema [] a = tt
+unmapped schema (e ∷ es) a = (a.0, unmapped schema es a.1)
+
+pub schema_of-sources : (schema : List Field) (es : List EntryValue) → AllByRecursion (λ e. e.segment.schema ≡ schema) es → 0 < length es → schema_of (map source_of es) ≡ schema
+schema_of-sources schema [] a l = absurd (omega (arith, l))
+schema_of-sources schema (e ∷ es) a l = a.0
+
+-- segments of one schema are sources of one schema
+one_schema : (schema : List Field) (es : List EntryValue) → AllByRecursion (λ e. e.segment.schema ≡ schema) es → 0 < length es → AreOfOneSchema (map source_of es)
+one_schema schema es a l =
+    let same = schema_of-sources schema es a l in
+    All-weaker (λ (s : SourceValue). s.segment.schema ≡ schema) (λ s. s.segment.schema ≡ schema_of (map source_of es)) (λ s h. h ∙ sym same) (map source_of es)
+    (All-from_recursion (λ (s : SourceValue). s.segment.schema ≡ schema) (map source_of es) (mapped schema es a))
+
+-- all segments of a snapshot are sources of one schema
+pub snapshot_schema : (schema : List Field) (es : List EntryValue) → All (λ e. e.segment.schema ≡ schema) es → AreOfOneSchema (map source_of es)
+snapshot_schema schema [] a = λ k d l. absurd (omega (arith, l))
+snapshot_schema schema (e ∷ es) a = one_schema schema (e ∷ es) (recursion_from_All (λ f. f.segment.schema ≡ schema) (e ∷ es) a) (omega arith)
+
+-- those of some numbers too, and the schema is the same
+pub named_schema : (es : List EntryValue) (ids : List ℕ) → AreOfOneSchema (map source_of es) → names_fault es ids ≡ None →
+    AreOfOneSchema (map source_of (entries_at es ids)) × (schema_of (map source_of (entries_at es ids)) ≡ schema_of (map source_of es))
+named_schema es ids a h =
+    let schema = schema_of (map source_of es) in
+    let each = unmapped schema es (recursion_from_All (λ (s : SourceValue). s.segment.schema ≡ schema) (map source_of es) a) in
+    let some = some_sources es ids h in
+    let at = all_entries_at (λ e. e.segment.schema ≡ schema) es ids each in
+    (one_schema schema (entries_at es ids) at some, schema_of-sources schema (entries_at es ids) at some)
+
+pub all_set : {X : Type 0} (xs : List X) → replicate (length xs) true ≡ map (λ _. true) xs
+all_set [] = refl
+all_set (x ∷ xs) = ap (λ bits. true ∷ bits) (all_set xs)
+
+-- what was merged was not too large
+pub not_large : (result : Result MergedValue Refusal) (merged : MergedValue) (n : ℕ) → result ≡ Ok merged → (result ≡ Err TooLarge) ↔ (1048576 < n) → n ≤ 1048576
+not_large result merged n e h = ⊎_elim (λ (l : 1048576 < n). let f : Ok merged ≡ Err TooLarge = sym e ∙ h.1 l in cc) (λ (l : n ≤ 1048576). l) (cases_lt 1048576 n)
+
+pub size_none : (n : ℕ) → n ≤ 1048576 → size_fault n ≡ None
+size_none n l = let e : nat_lt 1048576 n ≡ false = grind (arith, nat_tests) in ap (λ b. cond b (Some TooLarge) None) e
+
+pub unless_ok : {X E : Type 0} (fault : Option E) (x y : X) → ok_unless fault x ≡ Ok y → (fault ≡ None) × (y ≡ x)
+unless_ok None x y h = (refl, cc)
+unless_ok (Some e) x y h = cc
+
+-- a refusal for the size is that of the merge
+pub size_refused : {X Y : Type 0} (size number : Option Refusal) (x : X) (y : Y) (refusal : Refusal) → ok_unless size x ≡ Err refusal → ok_unless (first_of size number) y ≡ Err refusal
+size_refused None number x y refusal h = cc
+size_refused (Some e) number x y refusal h = let same : e ≡ refusal = cc in ap Err same
+
+-- what a merge is refused for where the names are right
+pub fault_named : (next : ℕ) (es : List EntryValue) (ids : List ℕ) → names_fault es ids ≡ None →
+    merge_fault next es ids ≡ first_of (size_fault (sum_by live_count (entries_at es ids))) (numbers_fault (next + 1))
+fault_named next es ids h = ap (λ f. first_of f (first_of (size_fault (sum_by live_count (entries_at es ids))) (numbers_fault (next + 1)))) h
+
+-- and where the size is right
+pub fault_sized : (next : ℕ) (es : List EntryValue) (ids : List ℕ) → names_fault es ids ≡ None → size_fault (sum_by live_count (entries_at es ids)) ≡ None →
+    merge_fault next es ids ≡ numbers_fault (next + 1)
+fault_sized next es ids h k = fault_named next es ids h ∙ ap (λ f. first_of f (numbers_fault (next + 1))) k
+
+pub numbers_some : (n : ℕ) → true ≡ nat_le (2 ^ 62) n → numbers_fault n ≡ Some StampsUsedUp
+numbers_some n e = ap (λ b. cond b (Some StampsUsedUp) None) (sym e)
+
+pub numbers_none : (n : ℕ) → false ≡ nat_le (2 ^ 62) n → numbers_fault n ≡ None
+numbers_none n e = ap (λ b. cond b (Some StampsUsedUp) None) (sym e)
+
+pub room_left : (n : ℕ) → false ≡ nat_le (2 ^ 62) n → n < 2 ^ 62
+room_left n e = grind (arith, nat_tests)
+
+pub first_none : {X : Type 0} (a b : Option X) → first_of a b ≡ None → (a ≡ None) × (b ≡ None)
+first_none None b h = (refl, h)
+first_none (Some x) b h = cc
+
+size_few : (n : ℕ) → size_fault n ≡ None → n ≤ 1048576
+size_few n h = ⊎_elim (λ (l : 1048576 < n). let e : nat_lt 1048576 n ≡ true = grind (arith, nat_tests) in let f : Some TooLarge ≡ None = ap (λ b. cond b (Some TooLarge) None) (sym e) ∙ h in cc) (λ (l : n ≤ 1048576). l) (cases_lt 1048576 n)
+
+pub numbers_room : (n : ℕ) → numbers_fault n ≡ None → n < 2 ^ 62
+numbers_room n h =
+    ⊎_elim (λ (l : n < 2 ^ 62). l)
+    (λ (l : 2 ^ 62 ≤ n). let e : nat_le (2 ^ 62) n ≡ true = grind (arith, nat_tests) in let f : Some StampsUsedUp ≡ None = ap (λ b. cond b (Some StampsUsedUp) None) (sym e) ∙ h in cc)
+    (cases_lt n (2 ^ 62))
+
+-- a merge that isn't refused: the names are right, there are few enough documents, and a number is left
+pub record CanMerge (next : ℕ) (es : List EntryValue) (ids : List ℕ) : Type 0 where
+  pub names : names_fault es ids ≡ None
+  pub few : sum_by live_count (entries_at es ids) ≤ 1048576
+  pub room : next + 1 < 2 ^ 62
+
+pub can_merge : (next : ℕ) (es : List EntryValue) (ids : List ℕ) → merge_fault next es ids ≡ None → CanMerge next es ids
+can_merge next es ids h =
+    let outer = first_none (names_fault es ids) (first_of (size_fault (sum_by live_count (entries_at es ids))) (numbers_fault (next + 1))) h in
+    let inner = first_none (size_fault (sum_by live_count (entries_at es ids))) (numbers_fault (next + 1)) outer.1 in
+    record { names = outer.0; few = size_few (sum_by live_count (entries_at es ids)) inner.0; room = numbers_room (next + 1) inner.1 }
+
+-- there is a segment where the names are right
+pub some_entries : (es : List EntryValue) (ids : List ℕ) → names_fault es ids ≡ None → 0 < length es
+some_entries [] [] h = cc
+some_entries [] (id ∷ ids) h = cc
+some_entries (e ∷ es) ids h = omega arith

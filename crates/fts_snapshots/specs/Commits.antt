@@ -1,0 +1,55 @@
+-- What a commit does to segments.
+use Rattle.std.specs.Prelude.{ℕ, ◌+◌, nat_le, ◌^◌, Option, Some, None, List, [], ◌∷◌, ◌++◌, length, map, filter, if◌then◌else◌}
+use Rattle.fts_model.specs.declared.schema.Field.{Field}
+use Rattle.fts_model.specs.declared.operation.Op.{Op}
+use Rattle.fts_model.specs.declared.operation.Stamped.{Stamped}
+use Rattle.fts_model.specs.declared.refusal.Refusal.{Refusal}
+use Rattle.fts_model.specs.declared.refusal.Refusal.TheVariants.{StampsUsedUp, OtherSchema}
+use Rattle.fts_model.specs.Documents.{DocumentValue}
+use Rattle.fts_model.specs.Operations.{op_fits, survives, added}
+use Rattle.fts_merge.specs.Strikes.{bits_after}
+use Rattle.fts_snapshots.specs.Entries.{EntryValue, has_live}
+use Rattle.fts_model.specs.declared.cut.Cut.{Cut}
+use Rattle.fts_snapshots.specs.Cuts.{groups_of}
+
+-- the first operation that doesn't fit the schema, if there is one
+abbrev pub misfit : List Field → List (Stamped Op) → Option Refusal
+misfit schema [] = None
+misfit schema (op ∷ ops) = if op_fits schema op.value then misfit schema ops else Some (OtherSchema op.stamp)
+
+-- a segment after operations
+abbrev pub struck : List (Stamped Op) → EntryValue → EntryValue
+struck ops entry = record {
+  id = entry.id;
+  segment = entry.segment;
+  live = bits_after entry.segment.schema ops entry.segment.documents entry.live;
+}
+
+-- a new segment of these documents after operations, which may strike some of them
+abbrev pub fresh : List Field → List (Stamped Op) → ℕ → List (Stamped DocumentValue) → EntryValue
+fresh schema ops id documents = record {
+  id = id;
+  segment = record { schema = schema; documents = documents };
+  live = map (survives schema ops) documents;
+}
+
+-- new segments, numbered from `id` on
+abbrev pub fresh_from : List Field → List (Stamped Op) → ℕ → List (List (Stamped DocumentValue)) → List EntryValue
+fresh_from schema ops id [] = []
+fresh_from schema ops id (documents ∷ groups) = fresh schema ops id documents ∷ fresh_from schema ops (id + 1) groups
+
+-- the segments after a batch, with those that have no live document: the old ones, and new ones of the adds
+abbrev pub all_after : Cut → List Field → List (Stamped Op) → ℕ → List EntryValue → List EntryValue
+all_after cut schema batch id entries = map (struck batch) entries ++ fresh_from schema batch id (groups_of cut (added batch))
+
+-- the segments that a commit leaves: those that have a live document
+abbrev pub committed : Cut → List Field → List (Stamped Op) → ℕ → List EntryValue → List EntryValue
+committed cut schema batch id entries = filter has_live (all_after cut schema batch id entries)
+
+-- how many new segments a batch makes, those counted that have no live document
+abbrev pub new_segments : Cut → List (Stamped Op) → ℕ
+new_segments cut batch = length (groups_of cut (added batch))
+
+-- why numbers can't be given, where the next one is to be `next`
+abbrev pub numbers_fault : ℕ → Option Refusal
+numbers_fault next = if nat_le (2 ^ 62) next then Some StampsUsedUp else None

@@ -1,0 +1,18 @@
+-- How large the segments of a snapshot are, and which are worth merging.
+use Rattle.std.specs.Prelude.{ℕ, List, length, map, slice_get}
+use Rattle.std.specs.Option.{option_map_or}
+use Rattle.fts_merge.specs.Levels.{candidates}
+use Rattle.fts_snapshots.specs.Entries.{EntryValue, live_count}
+use Rattle.fts_snapshots.specs.declared.entry.SegmentInfo.{SegmentInfo}
+
+-- the number of a segment, and how many documents and live documents it has
+abbrev pub info_of : EntryValue → SegmentInfo
+info_of entry = record { id = entry.id; docs = length entry.segment.documents; live = live_count entry }
+
+-- the number of the segment at an index
+abbrev pub id_at : List EntryValue → ℕ → ℕ
+id_at entries index = option_map_or (λ entry. entry.id) (slice_get entries index) 0
+
+-- the candidates for merges, by the numbers of segments: a size is a number of live documents
+abbrev pub candidate_ids : List EntryValue → List (List ℕ)
+candidate_ids entries = map (λ indexes. map (id_at entries) indexes) (candidates (map live_count entries))

@@ -1,0 +1,29 @@
+-- What the jobs of a commit make.
+use Rattle.std.specs.Prelude.{◌≡◌, ℕ, ◌<◌, List, length, Result, IfOk, IsOkUnless, slice_index_or}
+use Rattle.fts_model.specs.declared.operation.Op.{Op}
+use Rattle.fts_model.specs.declared.operation.Stamped.{Stamped}
+use Rattle.fts_model.specs.declared.refusal.Refusal.{Refusal}
+use Rattle.fts_model.specs.declared.refusal.Refusal.TheVariants.{Memory}
+use Rattle.fts_snapshots.specs.Entries.{EntryValue}
+use Rattle.fts_snapshots.specs.Commits.{struck, fresh}
+use Rattle.fts_snapshots.specs.declared.jobs.CommitJob.{CommitJob}
+use Rattle.fts_snapshots.specs.declared.jobs.Task.{Task}
+use Rattle.fts_snapshots.specs.declared.jobs.Task.TheVariants.{Strike, Build}
+
+-- the segment that a task leaves
+abbrev pub entry_of_task : List (Stamped Op) → Task → EntryValue
+entry_of_task ops (Strike entry) = struck ops entry.now
+entry_of_task ops (Build segment) = fresh segment.schema.now ops segment.id segment.group.now
+
+-- the segment that a job leaves
+abbrev pub entry_of : CommitJob → EntryValue
+entry_of job = entry_of_task job.ops.now job.task
+
+-- a job answers the segment that it leaves, or want of memory
+abbrev pub Answers : CommitJob → Result EntryValue Refusal → Type 0
+Answers job result = IfOk result (λ entry. entry ≡ entry_of job) × IsOkUnless result Memory
+
+-- there is one answer a job, in their order
+pub record AreAnswers (jobs : List CommitJob) (results : List (Result EntryValue Refusal)) : Type 0 where
+  pub count : length results ≡ length jobs
+  pub each : (i : ℕ) (job : CommitJob) (result : Result EntryValue Refusal) → i < length jobs → Answers (slice_index_or jobs i job) (slice_index_or results i result)

@@ -1,0 +1,17 @@
+-- The definitions that contracts cite.
+pub mod Rounds
+pub mod RoundsDrawn
+pub mod Shuffles
+pub mod Order
+pub mod Entries
+pub mod Infos
+pub mod Cuts
+pub mod Commits
+pub mod Jobs
+pub mod Sources
+pub mod Merges
+pub mod Snapshots
+pub mod MergedSegments
+pub mod Following
+pub mod Lookups
+pub mod LateMerges

@@ -1,0 +1,67 @@
+-- Snapshots, and what a commit and a merge make of them.
+use Rattle.std.specs.Prelude.{◌≡◌, ◌<◌, ◌≤◌, ℕ, ◌+◌, ◌^◌, true, Option, List, All, AllPairs}
+use Rattle.fts_model.specs.declared.schema.Field.{Field}
+use Rattle.fts_model.specs.declared.operation.Op.{Op}
+use Rattle.fts_model.specs.declared.operation.Stamped.{Stamped}
+use Rattle.fts_model.specs.declared.refusal.Refusal.{Refusal}
+use Rattle.fts_model.specs.Documents.{DocumentValue}
+use Rattle.fts_model.specs.Operations.{StampsRise}
+use Rattle.fts_snapshots.specs.Entries.{EntryValue, IsEntry, has_live, content}
+use Rattle.fts_model.specs.declared.cut.Cut.{Cut}
+use Rattle.fts_snapshots.specs.Commits.{committed, new_segments, numbers_fault}
+use Rattle.fts_snapshots.specs.Merges.{merged, merge_fault as fault_of_merge}
+
+-- a snapshot: its schema, its segments and the number of the next one
+pub record SnapshotValue : Type 0 where
+  pub schema : List Field
+  pub entries : List EntryValue
+  pub next_id : ℕ
+
+-- the documents that are found in a snapshot, in the order of their stamps
+abbrev pub content_of : SnapshotValue → List (Stamped DocumentValue)
+content_of s = content s.entries
+
+-- the segments stand by rising numbers
+abbrev pub IdsRise : List EntryValue → Type 0
+IdsRise entries = AllPairs (λ a b. a.id < b.id) entries
+
+-- what holds of every snapshot
+pub record IsSnapshot (s : SnapshotValue) : Type 0 where
+  pub ids : IdsRise s.entries
+  pub below : All (λ entry. entry.id < s.next_id) s.entries
+  pub room : s.next_id < 2 ^ 62
+  pub schemas : All (λ entry. entry.segment.schema ≡ s.schema) s.entries
+  pub each : All IsEntry s.entries
+  pub live : All (λ entry. has_live entry ≡ true) s.entries
+  pub stamps : StampsRise (content s.entries)
+
+-- operations come behind documents: their stamps rise, from one that is above those of the documents
+pub record IsBehind (documents : List (Stamped DocumentValue)) (ops : List (Stamped Op)) : Type 0 where
+  pub first : ℕ
+  pub rising : StampsRise ops
+  pub before : All (λ document. document.stamp < first) documents
+  pub behind : All (λ op. first ≤ op.stamp) ops
+
+-- the snapshot that a commit leaves
+abbrev pub after_commit : Cut → List (Stamped Op) → SnapshotValue → SnapshotValue
+after_commit cut batch s = record {
+  schema = s.schema;
+  entries = committed cut s.schema batch s.next_id s.entries;
+  next_id = s.next_id + new_segments cut batch;
+}
+
+-- why a batch can't be committed
+abbrev pub commit_fault : Cut → List (Stamped Op) → SnapshotValue → Option Refusal
+commit_fault cut batch s = numbers_fault (s.next_id + new_segments cut batch)
+
+-- the snapshot that a merge leaves
+abbrev pub after_merge : List ℕ → SnapshotValue → SnapshotValue
+after_merge ids s = record {
+  schema = s.schema;
+  entries = merged s.schema s.next_id ids s.entries;
+  next_id = s.next_id + 1;
+}
+
+-- why segments can't be merged
+abbrev pub merge_fault : List ℕ → SnapshotValue → Option Refusal
+merge_fault ids s = fault_of_merge s.next_id s.entries ids

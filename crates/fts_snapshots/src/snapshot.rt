@@ -1,0 +1,202 @@
+// What is seen of an index at one time, and what commits and merges make of it.
+ghost use Rattle.std.specs.Prelude.{◌≡◌, ◌≤◌, ◌++◌, [], None, map, length, IfOk, IsOkUnless};
+ghost use Rattle.fts_model.specs.Operations.{alive, adds};
+ghost use Rattle.fts_model.specs.Results.{Gives, ok_unless};
+ghost use Rattle.fts_snapshots.specs.Entries.{content};
+ghost use Rattle.fts_snapshots.specs.Infos.{info_of, candidate_ids};
+ghost use Rattle.fts_snapshots.specs.Cuts.{IsCut};
+ghost use Rattle.fts_snapshots.specs.Commits.{misfit};
+ghost use Rattle.fts_snapshots.specs.Merges.{entries_at, names_fault};
+ghost use Rattle.fts_snapshots.specs.MergedSegments.{merged_of};
+ghost use Rattle.fts_snapshots.specs.Following.{Fits};
+ghost use Rattle.fts_snapshots.specs.LateMerges.{end_fault, after_end};
+ghost use Rattle.fts_snapshots.specs.Snapshots.{IsBehind, IsSnapshot, after_commit, commit_fault, after_merge, merge_fault};
+
+use crate::beginning::begun;
+use crate::committing::{entries_of_jobs, jobs_of_batch};
+use crate::ending::end_entries;
+use crate::entry::{Entry, SegmentInfo};
+use crate::group::groups;
+use crate::merge_job::MergeJob;
+use crate::merged_segment::MergedSegment;
+use crate::merging::merge_entries;
+use crate::numbers::are_used_up;
+use crate::planning::candidates;
+use fts_model::{Cut, Op, Refusal, Schema, Stamped};
+use fts_pool::Gate;
+use std::alloc::{AllocError, Global};
+use std::marker::Model;
+use std::sync::Wait;
+use std::thread::Threads;
+
+/// The segments of an index at one time, by rising numbers. It never changes: a commit or a merge makes another one, and a
+/// refused one nothing.
+#[derive(Drop)]
+pub struct Snapshot {
+    schema: Schema,
+    entries: Vec<Entry>,
+    next_id: u64,
+}
+
+impl Model for Snapshot {
+    ghost use Rattle.fts_snapshots.specs.Snapshots.{SnapshotValue, IsSnapshot};
+
+    ghost Value = { SnapshotValue };
+
+    ghost view = { λ s. record { schema = s.schema; entries = s.entries.items; next_id = s.next_id } };
+
+    ghost invariant = { λ s. IsSnapshot (record { schema = s.schema; entries = s.entries.items; next_id = s.next_id }) };
+}
+
+impl Snapshot {
+    /// A snapshot without a segment, whose first one will have the number 0.
+    pub fn new(alloc: Global, schema: Schema) -> Snapshot
+        ensures { result ≡ record { schema = schema; entries = []; next_id = 0 } }
+    {
+        Snapshot {
+            schema,
+            entries: Vec::new(alloc),
+            next_id: 0,
+        }
+    }
+
+    /// The schema of all documents.
+    pub fn schema(&self) -> &Schema
+        ensures schema { result.now ≡ self.now.schema }
+        ensures snapshot { IsSnapshot self.now }
+    {
+        &self.schema
+    }
+
+    /// The segments, by rising numbers.
+    pub fn entries(&self) -> &[Entry]
+        ensures entries { result.now ≡ self.now.entries }
+        ensures snapshot { IsSnapshot self.now }
+    {
+        &self.entries
+    }
+
+    /// The snapshot after the operations of a batch, which fit the schema, and whose stamps rise above those of the documents that
+    /// are there. Its adds are cut into new segments, numbered in the order of their first adds. Segments without a live document are gone.
+    ///
+    /// `StampsUsedUp` where the next number would reach 2^62.
+    ///
+    /// The jobs, one for each segment that was there and then one for each new one, are run by up to so many threads, 1 to 64.
+    pub fn commit<R: Threads + Wait + Sync, G: Gate>(
+        &self,
+        rt: &R,
+        alloc: Global,
+        batch: &[Stamped<Op>],
+        cut: Cut,
+        workers: usize,
+        gate: &G,
+    ) -> Result<Snapshot, Refusal>
+        requires cut { IsCut cut }
+        requires workers { (1 ≤ workers) × (workers ≤ 64) }
+        requires behind { IsBehind (content self.now.entries) batch.now }
+        requires fits { misfit self.now.schema batch.now ≡ None }
+        ensures snapshot { Gives (λ new. new) result (ok_unless (commit_fault cut batch.now self.now) (after_commit cut batch.now self.now)) }
+        ensures content { IfOk result (λ new. content new.entries ≡ alive self.now.schema (adds (content self.now.entries) ++ batch.now)) }
+    {
+        let groups = groups(alloc, cut, batch)?;
+        if are_used_up(self.next_id, groups.len()) {
+            return Err(Refusal::StampsUsedUp);
+        }
+        let next_id = self.next_id + groups.len() as u64;
+        let jobs = jobs_of_batch(
+            alloc,
+            &self.schema,
+            &self.entries,
+            self.next_id,
+            batch,
+            &groups,
+        )?;
+        let entries = entries_of_jobs(rt, alloc, &jobs, workers, gate)?;
+        let schema = self.schema.clone()?;
+        Ok(Snapshot {
+            schema,
+            entries,
+            next_id,
+        })
+    }
+
+    /// The snapshot with one segment of the live documents of the segments of these numbers, in the order of the numbers, which
+    /// takes their place under the next number.
+    ///
+    /// `NoSegments` for an empty list; then at the first bad place `UnknownSegment`, or `SegmentTwice` where the number stands
+    /// before; then `TooLarge` for over 1,048,576 live documents, and `StampsUsedUp` where the next number would reach 2^62.
+    pub fn merge(&self, alloc: Global, ids: &[u64]) -> Result<Snapshot, Refusal>
+        ensures snapshot { Gives (λ new. new) result (ok_unless (merge_fault ids.now self.now) (after_merge ids.now self.now)) }
+        ensures content { IfOk result (λ new. content new.entries ≡ content self.now.entries) }
+    {
+        let entries = merge_entries(alloc, &self.entries, ids, self.next_id)?;
+        let schema = self.schema.clone()?;
+        Ok(Snapshot {
+            schema,
+            entries,
+            next_id: self.next_id + 1,
+        })
+    }
+
+    /// Begins a merge of the segments of these numbers, in their order, which keeps them with their live bits as they are.
+    ///
+    /// `NoSegments` for an empty list; then at the first bad place `UnknownSegment`, or `SegmentTwice` where the number stands
+    /// before.
+    pub fn begin_merge(&self, alloc: Global, ids: &[u64]) -> Result<MergeJob, Refusal>
+        ensures job { Gives (λ job. job) result (ok_unless (names_fault self.now.entries ids.now) (entries_at self.now.entries ids.now)) }
+        ensures fits { IfOk result (λ job. Fits (merged_of job) self.now) }
+    {
+        let entries = begun(alloc, &self.entries, ids)?;
+        Ok(MergeJob::new(entries))
+    }
+
+    /// The snapshot with a merged segment in place of its sources, under the next number. Its live bits are those that its
+    /// sources have here, and where none is left the segment isn't there.
+    ///
+    /// `SourceGone` with the first source that isn't here, where none is here, or where one that isn't here has a document that
+    /// is live in another segment; then `StampsUsedUp` where the next number would reach 2^62.
+    pub fn end_merge(&self, alloc: Global, merged: &MergedSegment) -> Result<Snapshot, Refusal>
+        requires { Fits merged.now self.now }
+        ensures snapshot { Gives (λ new. new) result (ok_unless (end_fault self.now.next_id merged.now self.now.entries) (after_end merged.now self.now)) }
+        ensures content { IfOk result (λ new. content new.entries ≡ content self.now.entries) }
+    {
+        let entries = match end_entries(alloc, &self.entries, merged, self.next_id) {
+            Ok(entries) => entries,
+            Err(refusal) => return Err(refusal),
+        };
+        let schema = self.schema.clone()?;
+        Ok(Snapshot {
+            schema,
+            entries,
+            next_id: self.next_id + 1,
+        })
+    }
+
+    /// How large the segments are, by rising numbers.
+    pub fn segments(&self, alloc: Global) -> Result<Vec<SegmentInfo>, Refusal>
+        ensures segments { IfOk result (λ infos. infos.items ≡ map info_of self.now.entries) }
+        ensures memory { IsOkUnless result Refusal.Memory }
+    {
+        Ok(infos(alloc, &self.entries)?)
+    }
+
+    /// The segments that are worth merging, by their numbers: each list is one merge, those of greater segments first. A segment
+    /// is as large as it has live documents.
+    pub fn plan(&self, alloc: Global) -> Result<Vec<Vec<u64>>, Refusal>
+        ensures candidates { IfOk result (λ found. map (λ c. c.items) found.items ≡ candidate_ids self.now.entries) }
+        ensures memory { IsOkUnless result Refusal.Memory }
+    {
+        candidates(alloc, &self.entries)
+    }
+}
+
+/// How large segments are.
+fn infos(alloc: Global, entries: &[Entry]) -> Result<Vec<SegmentInfo>, AllocError>
+    ensures { IfOk result (λ infos. infos.items ≡ map info_of entries.now) }
+{
+    let mut infos = Vec::with_capacity(alloc, entries.len())?;
+    for entry in entries {
+        infos.push(entry.info())?;
+    }
+    Ok(infos)
+}
