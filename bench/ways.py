@@ -4,8 +4,8 @@
     python3 bench/ways.py [SCRIPTS]
 
 1,000 random scripts, or so many, and those of examples/, each 36 ways: segments of runs of 1, 3 and 65,536 adds and dealt over
-1, 2 and 7, merged never and by the policy, with 1, 3 and 4 workers. Build the program first (README.md). The program over a list
-is the same but for the engine that main.rs names; this proves it in a scratch copy of the repository.
+1, 2 and 7, merged never and by the policy, with 1, 3 and 4 workers. Build both programs first: fts (README.md), and fts_list, which
+runs a script over a plain list of documents, by `rt run` in crates/fts_list.
 """
 import collections
 import concurrent.futures
@@ -13,13 +13,12 @@ import itertools
 import json
 import pathlib
 import random
-import shutil
 import subprocess
 import sys
-import tempfile
 
 ROOT = pathlib.Path(__file__).resolve().parent.parent
 PROGRAM = ROOT / "crates/fts/out/fts"
+PLAIN = ROOT / "crates/fts_list/out/fts_list"
 SCRIPTS = int(sys.argv[1]) if len(sys.argv) > 1 else 1_000
 CUTS = [["--runs", n] for n in ("1", "3", "65536")] + [["--deal", n] for n in ("1", "2", "7")]
 WAYS = [
@@ -109,25 +108,14 @@ def script(seed):
     return "\n".join(lines).encode()
 
 
-def replies(program, options, text):
-    return subprocess.run([program, "run", *options], input=text, stdout=subprocess.PIPE, check=True).stdout
+def replies(words, text):
+    return subprocess.run(words, input=text, stdout=subprocess.PIPE, check=True).stdout
 
 
-def over_a_list(scratch):
-    copy = pathlib.Path(scratch) / "copy"
-    shutil.copytree(ROOT, copy, ignore=shutil.ignore_patterns(".git"))
-    main = copy / "crates/fts/src/main.rt"
-    text = main.read_text()
-    assert text.count("IndexEngine") == 2 and text.count("index_engine") == 1
-    main.write_text(text.replace("IndexEngine", "ListEngine").replace("index_engine", "list_engine"))
-    subprocess.run(["rt", "run", "--", "run"], cwd=copy / "crates/fts", input=b"", stdout=subprocess.DEVNULL, check=True)
-    return copy / "crates/fts/out/fts"
-
-
-def compare(plain, name, text):
-    wanted = replies(plain, [], text)
+def compare(name, text):
+    wanted = replies([PLAIN], text)
     for way in WAYS:
-        assert replies(PROGRAM, way, text) == wanted, f"{name} differs from the list by {' '.join(way)}"
+        assert replies([PROGRAM, "run", *way], text) == wanted, f"{name} differs from the list by {' '.join(way)}"
     told = collections.Counter()
     for line in wanted.splitlines():
         reply = json.loads(line)
@@ -138,9 +126,8 @@ def compare(plain, name, text):
 def main():
     scripts = [(f"script {seed}", script(seed)) for seed in range(SCRIPTS)]
     scripts += [(path.name, path.read_bytes()) for path in sorted((ROOT / "examples").glob("*.jsonl")) if ".replies" not in path.name]
-    with tempfile.TemporaryDirectory() as scratch, concurrent.futures.ThreadPoolExecutor(4) as pool:
-        plain = over_a_list(scratch)
-        told = sum(pool.map(lambda named: compare(plain, *named), scripts), collections.Counter())
+    with concurrent.futures.ThreadPoolExecutor(4) as pool:
+        told = sum(pool.map(lambda named: compare(*named), scripts), collections.Counter())
     print(f"{len(scripts)} scripts, each {len(WAYS)} ways, answered as over a list: {dict(told)}")
 
 
