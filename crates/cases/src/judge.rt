@@ -14,8 +14,8 @@ fn bound(says: &Value) -> Option<u64> {
     }
 }
 
-/// Whether what was given is what the case says: the same JSON value, but that `{"at_most":n}`, also within a list or an
-/// object, stands for each number up to n.
+/// Whether what was given is what the case says: the same JSON value, but that `{"at_most":n}`, also within a list or
+/// an object, stands for each number up to n.
 pub fn fits(says: &Value, given: &Value) -> bool {
     if let Some(most) = bound(says) {
         return given.as_u64().is_some_and(|number| number <= most);
@@ -47,7 +47,7 @@ pub fn fits(says: &Value, given: &Value) -> bool {
     }
 }
 
-/// A refusal as a value: `{"error":"StaleBatch"}`, and with its number, if it has one, `{"error":"LaneMissing","number":1}`.
+/// A refusal as a value: `{"error":"StaleBatch"}`, and one that has a number `{"error":"LaneMissing","number":1}`.
 ///
 /// Up to which byte a query may still go on is not among them: a case that shows it says so by a word of its own.
 pub fn refused(alloc: Global, refusal: Refusal) -> Result<Value, AllocError> {

@@ -6,15 +6,15 @@
 //! {"case":"a sentence that says what it shows","do":"parse","query":"a OR","gives":{"error":"Syntax"}}
 //! ```
 //!
-//! A driver is a program whose `args` name its files. It hands a [`Driver`] to [`run`], which asks it what the public calls
-//! give at each case and compares that with what the case says under `gives`. A case more costs no proof.
+//! A driver is a program whose `args` name its files. It hands a [`Driver`] to [`run`], which asks it what the public
+//! calls give at each case and compares that with what the case says under `gives`. A case more costs no proof.
 //!
-//! - [`run`] prints `DIFFERS: FILE: sentence: what was given` for each case that differs, `FILE: N cases` at the end of each
-//!   file and `N cases` at the end of all. The exit status is 1 where a case failed, and a file without a case fails. Behind
-//!   the word `--wrong` each case of a file must differ: such a file shows that the driver sees faults.
-//! - [`text`], [`list`], [`number`] and their like read the members of a case. A member that is missing, of another kind or
-//!   empty where it may not be is a [`Trouble`], which fails this case alone. [`only`] refuses every member that the driver
-//!   doesn't know, and [`unknown`] is for a word that it doesn't know.
+//! - [`run`] prints `DIFFERS: FILE: sentence: what was given` for each case that differs, `FILE: N cases` at the end of
+//!   each file and `N cases` at the end of all. The exit status is 1 where a case failed, and a file without a case
+//!   fails. Behind the word `--wrong` each case of a file must differ: such a file shows that the driver sees faults.
+//! - [`text`], [`list`], [`number`] and their like read the members of a case. One that is missing, of another kind
+//!   or empty where it may not be is a [`Trouble`], which fails this case alone. [`only`] refuses every member that the
+//!   driver doesn't know, and [`unknown`] is for a word that it doesn't know.
 //! - [`fits`] compares: `{"at_most":8}` stands for each number up to 8, and nothing else is loose.
 //! - A [`Refusal`](fts_model::Refusal) is a value like others, as `{"error":"StaleBatch"}`: see [`refused`].
 #![tactic(auto)]

@@ -15,7 +15,8 @@ pub(crate) struct Script {
 }
 
 /// The fields `title` (text, default), `tag` (keyword, default), `price` (`u64`) and `temp` (`i64`).
-const SCHEMA: &str = r#"{"schema":[{"name":"title","kind":"text","default":true},{"name":"tag","kind":"keyword","default":true},{"name":"price","kind":"u64"},{"name":"temp","kind":"i64"}]}"#;
+const SCHEMA: &str =
+    r#"{"schema":[{"name":"title","kind":"text","default":true},{"name":"tag","kind":"keyword","default":true},{"name":"price","kind":"u64"},{"name":"temp","kind":"i64"}]}"#;
 
 /// The most that a line or a piece of it is repeated.
 const MOST: u64 = 10_000_000;
@@ -40,7 +41,12 @@ fn push_times(line: &mut String, text: &str, times: u64) -> Result<(), AllocErro
 }
 
 /// Puts a text behind others, so many times: many of them by stretches.
-fn push_repeated(alloc: Global, line: &mut String, text: &str, times: u64) -> Result<(), AllocError> {
+fn push_repeated(
+    alloc: Global,
+    line: &mut String,
+    text: &str,
+    times: u64,
+) -> Result<(), AllocError> {
     let mut stretch = String::new(alloc);
     push_times(&mut stretch, text, STRETCH)?;
     push_times(line, stretch.as_str(), times / STRETCH)?;
@@ -75,7 +81,9 @@ fn line_of(alloc: Global, json: &Value) -> Result<String, Trouble> {
             }
             Ok(line)
         }
-        _ => Err(Trouble::Impossible("a line that is neither a text, an object nor a list of pieces")),
+        _ => Err(Trouble::Impossible(
+            "a line that is neither a text, an object nor a list of pieces",
+        )),
     }
 }
 
@@ -96,7 +104,13 @@ fn reply_of(alloc: Global, json: &Value, i: u64) -> Result<String, Trouble> {
 
 impl Script {
     /// Puts a line behind others, so many times, and what it should be answered, if it should be.
-    fn push(&mut self, alloc: Global, line: &Value, reply: &Value, times: u64) -> Result<(), Trouble> {
+    fn push(
+        &mut self,
+        alloc: Global,
+        line: &Value,
+        reply: &Value,
+        times: u64,
+    ) -> Result<(), Trouble> {
         let line = line_of(alloc, line)?;
         for i in 0..times {
             push_line(&mut self.input, line.as_str())?;
@@ -115,7 +129,9 @@ impl Script {
         match members.as_slice() {
             [line, reply] => self.push(alloc, line, reply, 1),
             [line, reply, times] => self.push(alloc, line, reply, times_of(times)?),
-            _ => Err(Trouble::Impossible("a line that isn't [line, reply] or [line, reply, times]")),
+            _ => Err(Trouble::Impossible(
+                "a line that isn't [line, reply] or [line, reply, times]",
+            )),
         }
     }
 }
@@ -130,7 +146,11 @@ fn file_of<R: AllocGlobal + Files>(rt: &R, name: &str) -> Result<String, Trouble
 
 /// The script of a file, and the replies of another.
 fn of_files<R: AllocGlobal + Files>(rt: &R, case: &Value) -> Result<Script, Trouble> {
-    only(rt.alloc(), case, &["case", "do", "script", "replies", "gives"])?;
+    only(
+        rt.alloc(),
+        case,
+        &["case", "do", "script", "replies", "gives"],
+    )?;
     Ok(Script {
         over_segments: true,
         input: file_of(rt, text(case, "script")?)?,
@@ -139,7 +159,12 @@ fn of_files<R: AllocGlobal + Files>(rt: &R, case: &Value) -> Result<Script, Trou
 }
 
 /// The script of lines that stand beside their replies.
-fn of_lines(alloc: Global, case: &Value, before: &[(&str, &str)], over_segments: bool) -> Result<Script, Trouble> {
+fn of_lines(
+    alloc: Global,
+    case: &Value,
+    before: &[(&str, &str)],
+    over_segments: bool,
+) -> Result<Script, Trouble> {
     only(alloc, case, &["case", "do", "lines", "gives"])?;
     let mut script = Script {
         over_segments,

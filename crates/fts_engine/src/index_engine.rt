@@ -74,10 +74,11 @@ impl Model for IndexEngine {
     ghost Value = { EngineValue };
 
     ghost view = { λ e. record {
-        index = index_of e.writer e.waiting;
-        calls = e.calls;
-        segments = map info_of e.writer.front.snapshot.entries;
-        has_reader = is_some e.reader } };
+      index = index_of e.writer e.waiting;
+      calls = e.calls;
+      segments = map info_of e.writer.front.snapshot.entries;
+      has_reader = is_some e.reader;
+    } };
 
     ghost invariant = { λ e. IsIndexEngine e.writer e.reader e.waiting e.pending e.calls };
 }

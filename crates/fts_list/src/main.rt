@@ -5,7 +5,12 @@ use fts_script::{ListEngine, Options, run_std};
 use std::process::ExitCode;
 
 fn main(rt: HostRuntime) -> ExitCode {
-    let (outcome, _, _) = run_std::<ListEngine, _, _>(&rt, rt.stdin(), rt.stdout(), Options::default());
+    let (outcome, _, _) = run_std::<ListEngine, _, _>(
+        &rt,
+        rt.stdin(),
+        rt.stdout(),
+        Options::default(),
+    );
     match outcome {
         Ok(()) => ExitCode::SUCCESS,
         Err(_) => ExitCode::FAILURE,

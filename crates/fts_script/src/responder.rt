@@ -7,9 +7,9 @@ ghost use Rattle.fts_script.specs.Outputs.{start, output, reply_to, after_line};
 ghost use Rattle.fts_script.specs.Runs.{BeginsOutput, BeginsWith, Finishes, Holds, IsWritten, Advances, AdvancesToStop, RunState, StopsFirst};
 
 use crate::engine::Engine;
-use crate::options::Options;
 use crate::fault::Fault;
 use crate::lines::PartialLine;
+use crate::options::Options;
 use crate::session::Session;
 use crate::streams::ScriptOut;
 use memchr::memchr;

@@ -6,8 +6,8 @@ ghost use Rattle.fts_script.specs.Outputs.{output};
 ghost use Rattle.fts_script.specs.Runs.{AnswersEnded, AnswersFirst, BeginsOutputUnless, StopsFirst};
 
 use crate::engine::Engine;
-use crate::options::Options;
 use crate::fault::Fault;
+use crate::options::Options;
 use crate::responder::Responder;
 use crate::streams::{ScriptIn, ScriptOut};
 use std::alloc::{AllocError, Global};

@@ -20,11 +20,11 @@ ghost use Rattle.fts_script.specs.Replies.{replied, answer_search, execute, exec
 ghost use Rattle.fts_script.specs.Outputs.{start, after_line, reply_to};
 ghost use Rattle.fts_script.specs.Sessions.{Executes, ChangesAtMost, ChangesOnce};
 
-use crate::engine::Engine;
-use crate::options::Options;
 use crate::answer::answer_value;
 use crate::command::{Command, Search, command_of};
+use crate::engine::Engine;
 use crate::lines::is_blank;
+use crate::options::Options;
 use fts_model::{Document, Field, Op, Order, Query, Refusal, Request, Schema, Term};
 use fts_query::parse;
 use serde_json::{Value, json};

@@ -5,8 +5,8 @@ ghost use Rattle.fts_script.specs.Outputs.{output};
 ghost use Rattle.fts_script.specs.Runs.{AnswersEnded, BeginsOutputUnless, StopsFirst};
 
 use crate::engine::Engine;
-use crate::options::Options;
 use crate::fault::Fault;
+use crate::options::Options;
 use crate::run::run_script;
 use crate::std_streams::Plain;
 use std::io::{Read, Write};

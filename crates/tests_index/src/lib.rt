@@ -6,8 +6,6 @@ mod fixtures;
 #[cfg(test)]
 mod late;
 #[cfg(test)]
-mod pool;
-#[cfg(test)]
 mod readers;
 #[cfg(test)]
 mod rounds;

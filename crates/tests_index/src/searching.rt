@@ -2,13 +2,11 @@
 ghost use Rattle.std.specs.Prelude.{◌≤◌};
 ghost use Rattle.fts_snapshots.specs.Cuts.{IsCut};
 
-mod counts;
 mod held;
 mod openings;
 
 use crate::fixtures::{document, schema};
 use crate::writer::batch_of;
-use counts::{Counts, check_counts, zeros};
 use fts_index::{Cut, Found, Searcher, Writer};
 use fts_model::scan::{alive, answer};
 use fts_model::{
@@ -23,6 +21,7 @@ use std::process::Abort;
 use std::sync::Wait;
 use std::test::Fail;
 use std::thread::Threads;
+use test_gates::Counting;
 
 /// What a text finds, by one thread.
 pub(crate) fn found<R: Threads + Wait + Sync>(
@@ -177,12 +176,9 @@ fn check_workers<R: Threads + Wait + Sync + Abort>(
 ) -> Result<(), Fail>
     requires { (1 ≤ workers) × (workers ≤ 64) }
 {
-    let counts = Counts {
-        begun: zeros(),
-        ended: zeros(),
-    };
+    let counts = Counting::new();
     let found = search(rt, alloc, searcher, asked.0, asked.1, workers, &counts)?;
-    check_counts(rt, &counts, searcher.snapshot().entries().len());
+    assert!(rt; counts.ran_each_once(searcher.snapshot().entries().len()));
     assert_eq!(rt; found.answer.count, wanted.count);
     assert_eq!(rt; found.answer.groups, wanted.groups);
     assert_eq!(rt;

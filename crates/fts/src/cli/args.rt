@@ -5,8 +5,8 @@ ghost use Rattle.fts.specs.declared.cli.args.ArgFault.TheVariants.{Memory};
 
 use crate::cli::given::options;
 use crate::cli::parser::parse;
-use fts_script::Options;
 use clap::error::ErrorKind;
+use fts_script::Options;
 use std::alloc::{AllocError, Global};
 use thiserror::Error;
 

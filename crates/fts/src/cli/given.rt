@@ -5,8 +5,8 @@ ghost use Rattle.clap.specs.Walk.{first_of, one_of, rows_of};
 ghost use Rattle.fts.specs.RunOptions.{AreGiven, AreInRange, IsNumber, cut_asked, cut_given, given_in};
 ghost use Rattle.fts.specs.RunOptions.{merge_asked, number_given};
 
-use fts_script::{Cut, Merge, Options};
 use clap::ArgMatches;
+use fts_script::{Cut, Merge, Options};
 
 /// The number behind an option, if it is given.
 fn number(run: &ArgMatches, name: &str) -> Option<usize>

@@ -1,6 +1,5 @@
 // fts_index: where one of two jobs of a commit or of a search is held back, another worker runs the other.
 use crate::fixtures::schema;
-use crate::pool::{Holding, check_held, holding_back};
 use crate::writer::batch;
 use fts_index::{Cut, Searcher, Writer};
 use fts_model::{Query, Refusal, Request};
@@ -9,6 +8,7 @@ use std::process::Abort;
 use std::sync::Wait;
 use std::test::Fail;
 use std::thread::Threads;
+use test_gates::Holding;
 
 /// Commits two documents in segments of their own.
 fn committed<R: Threads + Wait + Sync>(
@@ -41,12 +41,12 @@ fn check_jobs<R: Threads + Wait + Sync + Abort>(
     writer: &mut Writer,
     held: usize,
 ) -> Result<(), Refusal> {
-    let gate = holding_back(held, 2);
+    let gate = Holding::back(held, 2);
     let searcher = committed(rt, alloc, writer, &gate)?;
-    check_held(rt, &gate);
-    let gate = holding_back(held, 2);
+    assert!(rt; gate.was_held());
+    let gate = Holding::back(held, 2);
     assert_eq!(rt; count(rt, alloc, &searcher, &gate)?, 2);
-    check_held(rt, &gate);
+    assert!(rt; gate.was_held());
     Ok(())
 }
 

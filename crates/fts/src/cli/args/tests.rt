@@ -1,8 +1,7 @@
 // Command lines, with what the program says of them.
 use super::{ArgFault, Asked, args};
 use crate::cli::status::{arg_status, status};
-use fts_script::{Cut, Merge, Options};
-use fts_script::Fault;
+use fts_script::{Cut, Fault, Merge, Options};
 use std::test::Fail;
 
 fn asked(rt: &impl AllocGlobal, words: &[&str]) -> Result<Result<Asked, ArgFault>, Fail> {

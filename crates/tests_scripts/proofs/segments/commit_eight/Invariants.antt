@@ -4,4 +4,3 @@ use Rattle.tests_scripts.proofs.segments.commit_eight.Given as goal
 
 abbrev pub invariant-loop : goal.invariant-loop
 invariant-loop g l = l.engine.calls ≤ l.counter
-

@@ -1,9 +1,8 @@
 // fts_pool: each job is run once, between the gate's two calls, and its result stands in its place, whatever the workers do.
-use fts_pool::{Gate, Job, Open, run_all};
-use std::process::Abort;
+use fts_pool::{Job, Open, run_all};
 use std::sync::atomic::{AtomicU64, Ordering};
 use std::test::Fail;
-use std::thread::yield_now;
+use test_gates::Holding;
 
 /// A number to be squared, and how often that was done.
 #[derive(Drop)]
@@ -32,82 +31,14 @@ impl Job for Square {
     }
 }
 
-/// Holds one of up to three jobs back until the others have passed, and counts its calls.
-#[derive(Drop)]
-pub(crate) struct Holding {
-    jobs: usize,
-    held: usize,
-    before: [AtomicU64; 3],
-    after: [AtomicU64; 3],
-    released: AtomicU64,
-}
-
-fn zeros() -> [AtomicU64; 3] {
-    [AtomicU64::new(0), AtomicU64::new(0), AtomicU64::new(0)]
-}
-
-pub(crate) fn holding_back(held: usize, jobs: usize) -> Holding {
-    Holding {
-        jobs,
-        held,
-        before: zeros(),
-        after: zeros(),
-        released: AtomicU64::new(0),
-    }
-}
-
-/// How many jobs have passed.
-fn passed(gate: &Holding) -> usize {
-    gate.after
-        .iter()
-        .filter(|count| count.load(Ordering::SeqCst) > 0)
-        .count()
-}
-
-fn count(counts: &[AtomicU64; 3], job: usize) {
-    if let Some(count) = counts.get(job) {
-        count.fetch_add(1, Ordering::SeqCst);
-    }
-}
-
-impl Gate for Holding {
-    fn before(&self, job: usize) {
-        count(&self.before, job);
-        if job != self.held {
-            return;
-        }
-        for _ in 0..1_000_000_000u64 {
-            if passed(self).saturating_add(1) == self.jobs {
-                self.released.fetch_add(1, Ordering::SeqCst);
-                return;
-            }
-            yield_now();
-        }
-    }
-
-    fn after(&self, job: usize) {
-        count(&self.after, job);
-    }
-}
-
-/// Whether the job was held until the others had passed, and each began and ended once.
-pub(crate) fn check_held(rt: &impl Abort, gate: &Holding) {
-    assert_eq!(rt; gate.released.load(Ordering::SeqCst), 1);
-    for job in 0..3usize {
-        let wanted = u64::from(job < gate.jobs);
-        assert_eq!(rt; gate.before[job].load(Ordering::SeqCst), wanted);
-        assert_eq!(rt; gate.after[job].load(Ordering::SeqCst), wanted);
-    }
-}
-
 #[test]
 fn a_held_job_waits_while_another_worker_runs_the_others(rt: HostRuntime) -> Result<(), Fail> {
     for held in 0..3usize {
         let jobs = [square_of(3), square_of(4), square_of(5)];
-        let gate = holding_back(held, 3);
+        let gate = Holding::back(held, 3);
         let squares = run_all(&rt, rt.alloc(), &jobs, 2, &gate)?;
         assert_eq!(rt; squares.as_slice(), [9, 16, 25].as_slice());
-        check_held(&rt, &gate);
+        assert!(rt; gate.was_held());
         for job in &jobs {
             assert_eq!(rt; job.runs.load(Ordering::SeqCst), 1);
         }

@@ -1,0 +1,8 @@
+//! Gates for tests of jobs: one holds a job back until the others have passed, one counts how often each job is begun and ended.
+#![tactic(auto)]
+
+mod counting;
+mod holding;
+
+pub use counting::Counting;
+pub use holding::Holding;
