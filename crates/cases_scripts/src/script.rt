@@ -103,6 +103,11 @@ fn reply_of(alloc: Global, json: &Value, i: u64) -> Result<String, Trouble> {
 }
 
 impl Script {
+    /// How many replies it should have.
+    pub(crate) fn replies(&self) -> u64 {
+        self.wanted.as_str().lines().count() as u64
+    }
+
     /// Puts a line behind others, so many times, and what it should be answered, if it should be.
     fn push(
         &mut self,
