@@ -1,6 +1,5 @@
 // Scripts over memory, by readers and writers that are slow or fail.
-use crate::engine::list_engine::ListEngine;
-use crate::script::run_std::run_std;
+use fts_script::{Fault, ListEngine, Options, run_std};
 use std::cell::Cell;
 use std::io;
 use std::io::{Read, Write};
