@@ -1,3 +1,4 @@
 // What the calls of `fts_model` do.
 mod document;
+mod scan;
 mod schema;

@@ -1,6 +1,6 @@
 use Rattle.std.specs.List.{All}
 use Rattle.fts_text.specs.Places.{places_left, IsPlaceIn}
-use Rattle.cases_segments.proofs.texts.listed.Given as goal
+use Rattle.tests_segments.proofs.text.listed.Given as goal
 
 abbrev pub invariant-loop-token : goal.invariant-loop-token
 invariant-loop-token l =

@@ -3,7 +3,7 @@ use Rattle.std.specs.List.{All}
 use Rattle.fts_text.specs.declared.tokenizer.Token.{Token}
 use Rattle.fts_text.specs.Places.{places, places_left, IsPlaceIn}
 use Rattle.fts_text.proofs.StretchLemmas.{All-IsPlaceIn, IsPlaceIn-first}
-use Rattle.cases_segments.proofs.texts.listed.Goals as goal
+use Rattle.tests_segments.proofs.text.listed.Goals as goal
 
 pub loop-token-init : goal.loop-token-init
 loop-token-init c =
