@@ -87,7 +87,7 @@ fn tried<R: AllocGlobal + Files + Print + Threads + Wait + Sync>(
 }
 
 /// Tries the cases of each file that the process's words name; those behind `--wrong` must differ. The exit status is 1 where
-/// a file isn't as wanted, and where it has no case.
+/// a file isn't as wanted or has no case, and where no file is named.
 fn all<R: AllocGlobal + Env + Files + Print + Threads + Wait + Sync>(
     rt: &R,
 ) -> io::Result<ExitCode> {
@@ -105,7 +105,7 @@ fn all<R: AllocGlobal + Env + Files + Print + Threads + Wait + Sync>(
         }
     }
     println!(rt; "{cases} cases")?;
-    Ok(status)
+    Ok(if cases > 0 { status } else { ExitCode::FAILURE })
 }
 
 fn main(rt: HostRuntime) -> io::Result<ExitCode> {
