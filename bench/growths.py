@@ -1,7 +1,7 @@
 """Refuses each growth of memory in turn while `fts run` reads a script, or in each test of a crate.
 
     python3 bench/growths.py examples/catalogue.jsonl
-    python3 bench/growths.py crates/tests_segments/out/tests_segments_tests merge::plans
+    python3 bench/growths.py crates/tests_late/out/tests_late_tests growths
     python3 bench/growths.py options
 
 Build the program first (README.md), or the tests with `rt test` in their crate; this takes gcc too. A run of the program

@@ -55,6 +55,15 @@ pub fn numbers(alloc: Global, case: &Value, name: &'static str) -> Result<Vec<u3
     Ok(numbers)
 }
 
+/// The list of numbers under a name, which may be empty.
+pub fn ids(alloc: Global, case: &Value, name: &'static str) -> Result<Vec<u64>, Trouble> {
+    let mut ids = Vec::new(alloc);
+    for item in list(case, name)? {
+        ids.push(item.as_u64().ok_or(Trouble::WrongKind(name))?)?;
+    }
+    Ok(ids)
+}
+
 /// The text under a name, if the name is there.
 pub fn optional_text<'a>(case: &'a Value, name: &'static str) -> Result<Option<&'a str>, Trouble> {
     match case.get(name) {

@@ -14,71 +14,125 @@ pub trait Driver {
     /// Forgets what the cases of an earlier file made.
     fn begin(&mut self);
 
-    /// What the public calls give at a case. The names `case`, `do` and `gives` are there.
+    /// What the public calls give at a case. The names `case` and `gives` are there.
     fn give(&mut self, alloc: Global, case: &Value) -> Result<Value, Trouble>;
-}
-
-/// How many cases were tried, and how many of them failed.
-#[derive(Clone, Copy)]
-struct Tally {
-    cases: u64,
-    failed: u64,
 }
 
 /// What is wanted of the cases of a file.
 #[derive(Clone, Copy, PartialEq)]
-enum Wanted {
+pub enum Wanted {
     /// Each gives what it says.
     Fit,
     /// None does.
     Differ,
 }
 
-/// What a case gives, a refusal too.
-fn given<D: Driver>(driver: &mut D, alloc: Global, case: &Value) -> Result<Value, Trouble> {
-    text(case, "do")?;
-    match driver.give(alloc, case) {
-        Err(Trouble::Refused(refusal)) => Ok(refused(alloc, refusal)?),
-        given => given,
+/// How many cases were tried, and how many of them failed.
+#[derive(Clone, Copy)]
+pub struct Tally {
+    cases: u64,
+    failed: u64,
+}
+
+impl Tally {
+    /// None was tried yet.
+    pub fn new() -> Tally {
+        Tally {
+            cases: 0,
+            failed: 0,
+        }
+    }
+
+    /// Counts a case.
+    pub fn count(&mut self, is_as_wanted: bool) {
+        self.cases = self.cases.saturating_add(1);
+        if !is_as_wanted {
+            self.failed = self.failed.saturating_add(1);
+        }
+    }
+
+    /// Counts the cases of a file, and prints how many it has. One that has none counts as one that failed.
+    pub fn count_file<R: Print>(
+        &mut self,
+        rt: &R,
+        name: &str,
+        wanted: Wanted,
+        file: Tally,
+    ) -> io::Result<()> {
+        let Tally { cases, failed } = file;
+        match wanted {
+            Wanted::Fit => println!(rt; "{name}: {cases} cases")?,
+            Wanted::Differ => println!(rt; "{name}: {cases} cases that differ")?,
+        }
+        if failed > 0 {
+            println!(rt; "{name}: {failed} of them failed")?;
+        }
+        let failed = if cases == 0 { 1 } else { failed };
+        self.cases = self.cases.saturating_add(cases);
+        self.failed = self.failed.saturating_add(failed);
+        Ok(())
+    }
+
+    /// Prints how many cases were tried. The exit status is 1 where one failed, and where there was none.
+    pub fn end<R: Print>(self, rt: &R) -> io::Result<ExitCode> {
+        println!(rt; "{} cases", self.cases)?;
+        Ok(if self.cases > 0 && self.failed == 0 {
+            ExitCode::SUCCESS
+        } else {
+            ExitCode::FAILURE
+        })
     }
 }
 
-/// Nothing where a case gives what it says, else what it gives or why it gives nothing.
-fn difference<D: Driver>(
-    driver: &mut D,
+/// The case of a line. Where it has none, that is printed.
+pub fn case_on<R: Print + AllocGlobal>(
+    rt: &R,
+    name: &str,
+    line: &str,
+) -> io::Result<Option<Value>> {
+    let Ok(case) = Value::from_str(rt.alloc(), line) else {
+        println!(rt; "DIFFERS: {name}: no JSON: {line}")?;
+        return Ok(None);
+    };
+    if text(&case, "case").is_err() {
+        println!(rt; "DIFFERS: {name}: no sentence: {line}")?;
+        return Ok(None);
+    }
+    Ok(Some(case))
+}
+
+/// Nothing where a case gave what it says, else what it gave or why it gave nothing.
+fn difference(
     alloc: Global,
     case: &Value,
+    given: Result<Value, Trouble>,
 ) -> Result<Option<String>, AllocError> {
     let says = match entry(case, "gives") {
         Ok(says) => says,
         Err(trouble) => return Ok(Some(format!(in alloc; "{trouble}")?)),
     };
-    match given(driver, alloc, case) {
-        Ok(given) if fits(says, &given) => Ok(None),
-        Ok(given) => Ok(Some(given.to_string(alloc)?)),
-        Err(trouble) => Ok(Some(format!(in alloc; "{trouble}")?)),
+    let given = match given {
+        Err(Trouble::Refused(refusal)) => refused(alloc, refusal)?,
+        Err(trouble) => return Ok(Some(format!(in alloc; "{trouble}")?)),
+        Ok(given) => given,
+    };
+    if fits(says, &given) {
+        return Ok(None);
     }
+    Ok(Some(given.to_string(alloc)?))
 }
 
-/// Tries the case of a line, and prints that it differs if it does. Whether it gives what it says.
-fn tried<R: Print + AllocGlobal, D: Driver>(
+/// Whether a case gave what it says. Where it didn't, what it gave is printed.
+pub fn judged<R: Print + AllocGlobal>(
     rt: &R,
-    driver: &mut D,
     name: &str,
-    line: &str,
+    case: &Value,
+    given: Result<Value, Trouble>,
 ) -> io::Result<bool> {
-    let alloc = rt.alloc();
-    let Ok(case) = Value::from_str(alloc, line) else {
-        println!(rt; "DIFFERS: {name}: no JSON: {line}")?;
-        return Ok(false);
-    };
-    let Ok(sentence) = text(&case, "case") else {
-        println!(rt; "DIFFERS: {name}: no sentence: {line}")?;
-        return Ok(false);
-    };
-    match difference(driver, alloc, &case)? {
+    match difference(rt.alloc(), case, given)? {
         None => Ok(true),
         Some(given) => {
+            let sentence = text(case, "case").unwrap_or("");
             println!(rt; "DIFFERS: {name}: {sentence}: {given}")?;
             Ok(false)
         }
@@ -93,36 +147,16 @@ fn file<R: Print + AllocGlobal + Files, D: Driver>(
     wanted: Wanted,
 ) -> io::Result<Tally> {
     let all = fs::read_to_string(rt, name)?;
-    let mut tally = Tally {
-        cases: 0,
-        failed: 0,
-    };
+    let mut tally = Tally::new();
     driver.begin();
     for line in all.as_str().lines() {
-        let fits = tried(rt, driver, name, line)?;
-        tally.cases = tally.cases.saturating_add(1);
-        if fits != (wanted == Wanted::Fit) {
-            tally.failed = tally.failed.saturating_add(1);
-        }
+        let fits = match case_on(rt, name, line)? {
+            Some(case) => judged(rt, name, &case, driver.give(rt.alloc(), &case))?,
+            None => false,
+        };
+        tally.count(fits == (wanted == Wanted::Fit));
     }
-    told(rt, name, wanted, tally)
-}
-
-/// Prints how many cases a file has. One that has none counts as one that failed.
-fn told<R: Print>(rt: &R, name: &str, wanted: Wanted, tally: Tally) -> io::Result<Tally> {
-    let cases = tally.cases;
-    match wanted {
-        Wanted::Fit => println!(rt; "{name}: {cases} cases")?,
-        Wanted::Differ => println!(rt; "{name}: {cases} cases that differ")?,
-    }
-    if tally.failed > 0 {
-        let failed = tally.failed;
-        println!(rt; "{name}: {failed} of them failed")?;
-    }
-    Ok(Tally {
-        cases,
-        failed: if cases == 0 { 1 } else { tally.failed },
-    })
+    Ok(tally)
 }
 
 /// Tries the cases of all files that the process's words name: those behind `--wrong` must differ. The exit status is 1
@@ -132,23 +166,14 @@ pub fn run<R: Print + AllocGlobal + Files + Env, D: Driver>(
     driver: &mut D,
 ) -> io::Result<ExitCode> {
     let mut wanted = Wanted::Fit;
-    let mut all = Tally {
-        cases: 0,
-        failed: 0,
-    };
+    let mut all = Tally::new();
     for word in env::args(rt)?.skip(1) {
         if word.as_str() == "--wrong" {
             wanted = Wanted::Differ;
             continue;
         }
         let tally = file(rt, driver, word.as_str(), wanted)?;
-        all.cases = all.cases.saturating_add(tally.cases);
-        all.failed = all.failed.saturating_add(tally.failed);
+        all.count_file(rt, word.as_str(), wanted, tally)?;
     }
-    println!(rt; "{} cases", all.cases)?;
-    Ok(if all.cases > 0 && all.failed == 0 {
-        ExitCode::SUCCESS
-    } else {
-        ExitCode::FAILURE
-    })
+    all.end(rt)
 }

@@ -147,7 +147,7 @@ impl Bits {
     }
 
     /// The words in which the bits lie.
-    pub(crate) fn words(&self) -> &[u64]
+    pub fn words(&self) -> &[u64]
         ensures { result.now ≡ words_of 64 1 (marks self.now) }
     {
         &self.words

@@ -63,14 +63,14 @@ impl Block {
     }
 
     /// How many bits each number takes.
-    pub(crate) fn width(&self) -> u32
+    pub fn width(&self) -> u32
         ensures { IsWidthOf self.now result }
     {
         self.width
     }
 
     /// The words in which the numbers lie.
-    pub(crate) fn words(&self) -> &[u32]
+    pub fn words(&self) -> &[u32]
         ensures { (width : ℕ) → IsWidthOf self.now width → result.now ≡ words_in_lanes width self.now }
     {
         &self.words

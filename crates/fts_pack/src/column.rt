@@ -151,14 +151,14 @@ impl Column {
     }
 
     /// How many bits each value takes.
-    pub(crate) fn width(&self) -> u32
+    pub fn width(&self) -> u32
         ensures { (range : Option (ℕ × ℕ)) → IsRangeOf self.now range → IsWidthOf (spread_of range ∷ []) result }
     {
         self.width
     }
 
     /// The words in which the values lie.
-    pub(crate) fn words(&self) -> &[u64]
+    pub fn words(&self) -> &[u64]
         ensures { (range : Option (ℕ × ℕ)) (width : ℕ) → IsRangeOf self.now range
             → IsWidthOf (spread_of range ∷ []) width
             → result.now ≡ words_of 64 width (offsets (least_of range) self.now) }

@@ -16,8 +16,6 @@ mod packing;
 mod signed;
 mod skip;
 mod sums;
-#[cfg(test)]
-mod tests;
 
 pub use bits::Bits;
 pub use block::{BLOCK, Block};

@@ -132,6 +132,3 @@ fn write_gaps(next: u64, documents: &[u32], out: &mut [u32; 128])
         next = document + 1;
     }
 }
-
-#[cfg(test)]
-mod tests;

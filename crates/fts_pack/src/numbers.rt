@@ -108,6 +108,3 @@ fn add_block(words: &mut Vec<u32>, numbers: &[u32]) -> Result<Packed, AllocError
     lanes::append(words, width, numbers)?;
     Ok(Packed { start, width })
 }
-
-#[cfg(test)]
-mod tests;

@@ -1,15 +1,9 @@
-//! What the public calls of an index of many segments do: each value is compared with one from outside.
+//! Readers beside a writer, searches by several threads, and growths that are refused to both.
 #![tactic(auto)]
 
 #[cfg(test)]
-mod fixtures;
-#[cfg(test)]
-mod late;
+mod growths;
 #[cfg(test)]
 mod readers;
 #[cfg(test)]
-mod rounds;
-#[cfg(test)]
 mod searching;
-#[cfg(test)]
-mod writer;

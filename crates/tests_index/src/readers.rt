@@ -1,10 +1,7 @@
-// fts_index: readers in threads beside a writer, and the places for them. The c-th commit adds one document, in a segment of
+// Readers in threads beside a writer, and the places for them. The c-th commit adds one document, in a segment of
 // its own, and has stamp 2c.
 ghost use Rattle.std.specs.Prelude.{◌≡◌, IfOk};
 
-use crate::fixtures::schema;
-use crate::searching::count;
-use crate::writer::batch;
 use fts_index::{CommitSeen, Cut, Reader, Writer};
 use fts_model::{Refusal, Stamp};
 use fts_pool::{Gate, Open};
@@ -14,6 +11,7 @@ use std::sync::Wait;
 use std::sync::atomic::{AtomicU64, Ordering};
 use std::test::Fail;
 use std::thread::{Threads, join, yield_now};
+use test_writers::{batch, count, schema};
 
 fn commit<R: Threads + Wait + Sync, G: Gate>(
     rt: &R,

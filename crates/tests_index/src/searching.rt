@@ -1,12 +1,9 @@
-// fts_index: a search of a commit answers as the plain scan does, whoever runs it, and a searcher keeps its commit.
+// A search of a commit answers as the plain scan does, whoever runs it, and a searcher keeps its commit.
 ghost use Rattle.std.specs.Prelude.{◌≤◌};
 ghost use Rattle.fts_snapshots.specs.Cuts.{IsCut};
 
 mod held;
-mod openings;
 
-use crate::fixtures::{document, schema};
-use crate::writer::batch_of;
 use fts_index::{Cut, Found, Searcher, Writer};
 use fts_model::scan::{alive, answer};
 use fts_model::{
@@ -22,29 +19,7 @@ use std::sync::Wait;
 use std::test::Fail;
 use std::thread::Threads;
 use test_gates::Counting;
-
-/// What a text finds, by one thread.
-pub(crate) fn found<R: Threads + Wait + Sync>(
-    rt: &R,
-    alloc: Global,
-    searcher: &Searcher,
-    text: &str,
-) -> Result<Found, Refusal> {
-    let schema = searcher.snapshot().schema();
-    let query = parse(alloc, schema, text)?;
-    let request = Request::new(schema, None, None)?;
-    searcher.search(rt, alloc, &query, &request, 1, &Open)
-}
-
-/// How many documents a text finds.
-pub(crate) fn count<R: Threads + Wait + Sync>(
-    rt: &R,
-    alloc: Global,
-    searcher: &Searcher,
-    text: &str,
-) -> Result<u64, Refusal> {
-    Ok(found(rt, alloc, searcher, text)?.answer.count)
-}
+use test_writers::{batch_of, document, schema};
 
 /// The stamps of the operations of two commits. The stamp between them is that of the first commit.
 const FIRST: (u64, u64) = (1, 120);
@@ -77,7 +52,7 @@ fn document_at(alloc: Global, schema: &Schema, stamp: u64) -> Result<Document, F
         _ => r#","temp":9223372036854775807"#,
     };
     let json = format!(in alloc; "{{\"title\":\"{title}\"{price}{temp}}}")?;
-    document(alloc, schema, json.as_str())
+    Ok(document(alloc, schema, json.as_str())?)
 }
 
 /// Adds a document, but for one delete of those whose title has a `c`.

@@ -14,8 +14,4 @@ mod model;
 #[cfg(test)]
 mod pack;
 #[cfg(test)]
-mod query;
-#[cfg(test)]
 mod segment;
-#[cfg(test)]
-mod text;

@@ -1,4 +1,3 @@
 // What the calls of `fts_model` do.
 mod document;
-mod scan;
 mod schema;

@@ -2,7 +2,7 @@
 ghost use Rattle.std.specs.Prelude.{◌≡◌, ◌+◌, ◌^◌, ◌<◌, ◌≤◌, length};
 
 use fts_model::Refusal;
-use fts_pack::{BLOCK, Bits, Block, Blocks, Column, List, Numbers, i64_to_u64, u64_to_i64};
+use fts_pack::{BLOCK, Bits, Block, Blocks, Column, List, Numbers};
 use std::alloc::{AllocError, Global};
 use std::process::Abort;
 use std::test::Fail;
@@ -242,23 +242,6 @@ fn a_refused_column_can_be_built_again(rt: HostRuntime) -> Result<(), Fail> {
 }
 
 #[test]
-fn one_bit_is_cleared_and_one_is_set(rt: HostRuntime) -> Result<(), Fail> {
-    let mut bits = Bits::all_clear(rt.alloc(), 130)?;
-    assert_eq!(rt; bits.count_ones(), 0);
-    bits.set(0);
-    bits.set(65);
-    bits.set(129);
-    bits.clear(0);
-    assert_eq!(rt;
-        (bits.word(0), bits.word(1), bits.word(2), bits.word(3)),
-        (0, 2, 2, 0)
-    );
-    assert!(rt; bits.get(65) && bits.get(129) && !bits.get(0) && !bits.get(64));
-    assert_eq!(rt; bits.count_ones(), 2);
-    Ok(())
-}
-
-#[test]
 fn a_copy_is_equal_and_apart(rt: HostRuntime) -> Result<(), Fail> {
     let bits = Bits::all_set(rt.alloc(), 3)?;
     let mut copy = bits.copied(rt.alloc())?;
@@ -290,18 +273,5 @@ fn refused_bits_can_be_made_again(rt: HostRuntime) -> Result<(), Fail> {
     };
     assert_eq!(rt; bits.len(), 65);
     assert!(rt; bits == copy && bits != clear);
-    Ok(())
-}
-
-#[test]
-fn the_least_signed_number_is_zero(rt: HostRuntime) -> Result<(), Fail> {
-    assert_eq!(rt; i64_to_u64(i64::MIN), 0);
-    assert_eq!(rt; i64_to_u64(-1), 9223372036854775807);
-    assert_eq!(rt; i64_to_u64(0), 9223372036854775808);
-    assert_eq!(rt; i64_to_u64(i64::MAX), u64::MAX);
-    assert_eq!(rt; u64_to_i64(0), i64::MIN);
-    assert_eq!(rt; u64_to_i64(9223372036854775807), -1);
-    assert_eq!(rt; u64_to_i64(9223372036854775808), 0);
-    assert_eq!(rt; u64_to_i64(u64::MAX), i64::MAX);
     Ok(())
 }

@@ -1,6 +1,4 @@
-// fts_index: where one of two jobs of a commit or of a search is held back, another worker runs the other.
-use crate::fixtures::schema;
-use crate::writer::batch;
+// Where one of two jobs of a commit or of a search is held back, another worker runs the other.
 use fts_index::{Cut, Searcher, Writer};
 use fts_model::{Query, Refusal, Request};
 use std::alloc::Global;
@@ -9,6 +7,7 @@ use std::sync::Wait;
 use std::test::Fail;
 use std::thread::Threads;
 use test_gates::Holding;
+use test_writers::{batch, schema};
 
 /// Commits two documents in segments of their own.
 fn committed<R: Threads + Wait + Sync>(

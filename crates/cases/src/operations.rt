@@ -1,0 +1,32 @@
+// The terms and operations of a case.
+use crate::member::{entry, only, text, unknown};
+use crate::trouble::Trouble;
+use fts_model::{Document, Op, Schema, Term};
+use serde_json::Value;
+use std::alloc::Global;
+
+/// The term of an object `{"field":NAME,"is":VALUE}`.
+pub fn term_of(alloc: Global, schema: &Schema, json: &Value) -> Result<Term, Trouble> {
+    only(alloc, json, &["field", "is"])?;
+    Ok(Term::new(alloc, schema, text(json, "field")?, entry(json, "is")?)?)
+}
+
+/// The operation of an object `{"add":DOCUMENT}` or `{"delete":TERM}`, or of the text `delete_all`.
+pub fn op_of(alloc: Global, schema: &Schema, json: &Value) -> Result<Op, Trouble> {
+    if let Some(word) = json.as_str() {
+        return match word {
+            "delete_all" => Ok(Op::DeleteAll),
+            _ => Err(unknown(alloc, word)),
+        };
+    }
+    match json.get("add") {
+        Some(document) => {
+            only(alloc, json, &["add"])?;
+            Ok(Op::Add(Document::from_json(alloc, schema, document)?))
+        }
+        None => {
+            only(alloc, json, &["delete"])?;
+            Ok(Op::Delete(term_of(alloc, schema, entry(json, "delete")?)?))
+        }
+    }
+}

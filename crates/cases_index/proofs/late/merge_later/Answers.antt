@@ -1,0 +1,12 @@
+-- What was merged fits, and so do the others.
+use Rattle.std.proofs.Common.{List, sym, subst}
+use Rattle.fts_snapshots.specs.MergedSegments.{MergedSegmentValue}
+use Rattle.cases_index.specs.Late.{AllFit}
+use Rattle.cases_index.proofs.LateLemmas.{all_with}
+use Rattle.cases_index.proofs.late.merge_later.Goals as goal
+
+pub returns : goal.returns
+returns c =
+    let snapshot = c.args.writer.now.front.snapshot in
+    subst (λ (ms : List MergedSegmentValue). AllFit snapshot ms) (sym c.in_ok-push.ensures.items)
+    (all_with snapshot c.args.late.now.items c.in_ok-merged.merged c.requires c.in_ok-merged.ensures)

@@ -1,0 +1,82 @@
+// Tries cases of an index of many segments: scripts, each over a list of documents and over segments under eight kinds of options,
+// and walks, which are steps over a new writer.
+#![tactic(auto)]
+
+mod asked;
+mod changed;
+mod late;
+mod script;
+mod shown;
+mod walk;
+mod ways;
+
+use cases::{Tally, Trouble, Wanted, case_on, judged, text};
+use script::script_of;
+use serde_json::Value;
+use std::process::ExitCode;
+use std::rt::{Env, Files};
+use std::sync::Wait;
+use std::thread::Threads;
+use std::{env, fs, io};
+use ways::difference;
+
+/// What the steps of a walk give; of a script how many replies it has, or else what some way of running it gave in place of one.
+fn given<R: AllocGlobal + Files + Threads + Wait + Sync>(
+    rt: &R,
+    case: &Value,
+) -> Result<Value, Trouble> {
+    if text(case, "do")? == "walk" {
+        return walk::walk(rt, case);
+    }
+    let script = script_of(rt, case)?;
+    match difference(rt, &script)? {
+        Some(difference) => Ok(Value::String(difference)),
+        None => Ok(Value::from(script.replies())),
+    }
+}
+
+/// Tries the case of a line, and answers whether it gives what it says.
+fn holds<R: AllocGlobal + Files + Print + Threads + Wait + Sync>(
+    rt: &R,
+    name: &str,
+    line: &str,
+) -> io::Result<bool> {
+    match case_on(rt, name, line)? {
+        Some(case) => judged(rt, name, &case, given(rt, &case)),
+        None => Ok(false),
+    }
+}
+
+/// Tries the cases of a file.
+fn tried<R: AllocGlobal + Files + Print + Threads + Wait + Sync>(
+    rt: &R,
+    name: &str,
+    wanted: Wanted,
+) -> io::Result<Tally> {
+    let lines = fs::read_to_string(rt, name)?;
+    let mut tally = Tally::new();
+    for line in lines.as_str().lines() {
+        tally.count(holds(rt, name, line)? == (wanted == Wanted::Fit));
+    }
+    Ok(tally)
+}
+
+/// Tries the cases of each file that the process's words name.
+fn all<R: AllocGlobal + Env + Files + Print + Threads + Wait + Sync>(
+    rt: &R,
+) -> io::Result<ExitCode> {
+    let (mut wanted, mut all) = (Wanted::Fit, Tally::new());
+    for name in env::args(rt)?.skip(1) {
+        if name.as_str() == "--wrong" {
+            wanted = Wanted::Differ;
+        } else {
+            let tally = tried(rt, name.as_str(), wanted)?;
+            all.count_file(rt, name.as_str(), wanted, tally)?;
+        }
+    }
+    all.end(rt)
+}
+
+fn main(rt: HostRuntime) -> io::Result<ExitCode> {
+    all(&rt)
+}

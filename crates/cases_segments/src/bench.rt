@@ -1,0 +1,156 @@
+// Makes a segment of the documents of a case.
+ghost use Rattle.std.specs.Prelude.{◌≡◌};
+
+use cases::{
+    Trouble, list, nonempty, number, numbers, only, optional_flag, optional_list, schema_of,
+};
+use fts_model::{Document, Schema};
+use fts_pack::Bits;
+use fts_segment::{Builder, Segment};
+use serde_json::{Value, json};
+use std::alloc::Global;
+
+/// A segment, and which of its documents are live.
+#[derive(Drop)]
+pub(crate) struct Bench {
+    pub(crate) segment: Segment,
+    pub(crate) live: Bits,
+}
+
+/// Adds a document, if it fits.
+fn add(
+    builder: &mut Builder,
+    schema: &Schema,
+    stamp: u64,
+    document: &Document,
+) -> Result<(), Trouble>
+    requires { builder.old.segment.schema ≡ schema.now }
+    ensures { builder.new.segment.schema ≡ schema.now }
+{
+    if !document.fits(schema) || builder.docs() >= 1_048_576 {
+        return Err(Trouble::Impossible("a document that can't be added"));
+    }
+    Ok(builder.add(stamp, document)?)
+}
+
+/// Adds each document of a list. Its stamp is that of its place in `stamps`, and its number and one without these.
+fn add_all(
+    alloc: Global,
+    builder: &mut Builder,
+    schema: &Schema,
+    stamps: &[u32],
+    documents: &[Value],
+) -> Result<(), Trouble>
+    requires { builder.old.segment.schema ≡ schema.now }
+    ensures { builder.new.segment.schema ≡ schema.now }
+{
+    for json in documents {
+        let document = Document::from_json(alloc, schema, json)?;
+        let docs = builder.docs();
+        let stamp = match stamps.get(docs) {
+            Some(stamp) => u64::from(*stamp),
+            None => (docs as u64).saturating_add(1),
+        };
+        add(builder, schema, stamp, &document)?;
+    }
+    Ok(())
+}
+
+/// Adds the documents of a run so often as it says.
+fn add_run(
+    alloc: Global,
+    builder: &mut Builder,
+    schema: &Schema,
+    run: &Value,
+) -> Result<(), Trouble>
+    requires { builder.old.segment.schema ≡ schema.now }
+    ensures { builder.new.segment.schema ≡ schema.now }
+{
+    only(alloc, run, &["times", "of"])?;
+    let documents = nonempty(run, "of")?;
+    for _ in 0..number(run, "times")? {
+        add_all(alloc, builder, schema, &[], documents)?;
+    }
+    Ok(())
+}
+
+fn add_runs(
+    alloc: Global,
+    builder: &mut Builder,
+    schema: &Schema,
+    runs: &[Value],
+) -> Result<(), Trouble>
+    requires { builder.old.segment.schema ≡ schema.now }
+    ensures { builder.new.segment.schema ≡ schema.now }
+{
+    for run in runs {
+        add_run(alloc, builder, schema, run)?;
+    }
+    Ok(())
+}
+
+/// Adds what a case has under `runs`, or else the list under `documents`, at the stamps of its `stamps`.
+fn fill(alloc: Global, builder: &mut Builder, schema: &Schema, case: &Value) -> Result<(), Trouble>
+    requires { builder.old.segment.schema ≡ schema.now }
+{
+    if let Some(runs) = optional_list(case, "runs")? {
+        only(
+            alloc,
+            case,
+            &["case", "do", "gives", "schema", "merging", "runs"],
+        )?;
+        return add_runs(alloc, builder, schema, runs);
+    }
+    only(
+        alloc,
+        case,
+        &[
+            "case",
+            "do",
+            "gives",
+            "schema",
+            "merging",
+            "documents",
+            "stamps",
+        ],
+    )?;
+    let documents = list(case, "documents")?;
+    let mut stamps = Vec::new(alloc);
+    if optional_list(case, "stamps")?.is_some() {
+        stamps = numbers(alloc, case, "stamps")?;
+        if stamps.len() != documents.len() {
+            return Err(Trouble::Impossible("not one stamp a document"));
+        }
+    }
+    add_all(alloc, builder, schema, &stamps, documents)
+}
+
+/// The segment of a case's documents, all of them live.
+pub(crate) fn made(alloc: Global, case: &Value) -> Result<Bench, Trouble> {
+    let schema = schema_of(alloc, case)?;
+    let mut builder = if optional_flag(case, "merging")? {
+        Builder::merging(alloc, &schema)?
+    } else {
+        Builder::new(alloc, &schema)?
+    };
+    fill(alloc, &mut builder, &schema, case)?;
+    let segment = match builder.finish(alloc) {
+        Ok(segment) => segment,
+        Err((_, refusal)) => return Err(Trouble::from(refusal)),
+    };
+    let live = Bits::all_set(alloc, segment.docs())?;
+    Ok(Bench { segment, live })
+}
+
+/// Clears the bits of the documents of a case, and gives how many are left.
+pub(crate) fn cleared(alloc: Global, live: &mut Bits, case: &Value) -> Result<Value, Trouble> {
+    only(alloc, case, &["case", "do", "gives", "docs"])?;
+    for doc in &numbers(alloc, case, "docs")? {
+        let doc = *doc as usize;
+        if doc >= live.len() {
+            return Err(Trouble::Impossible("no such document"));
+        }
+        live.clear(doc);
+    }
+    Ok(json!(in alloc; live.count_ones())?)
+}

@@ -1,0 +1,124 @@
+// Cases of what a segment holds: `postings`, `positions`, `column`, `stored` and `stamps`.
+use cases::{Trouble, documents, entry, only, size, some_number, stamps, text};
+use fts_model::{FieldValue, Number, Term, Text};
+use fts_pack::{Blocks, List};
+use fts_segment::Segment;
+use serde_json::{Value, json};
+use std::alloc::Global;
+
+/// The value of an object `{"text":..}`, `{"u64":..}` or `{"i64":..}`.
+fn value_of(alloc: Global, json: &Value) -> Result<FieldValue, Trouble> {
+    if json.get("text").is_some() {
+        return Ok(FieldValue::Text(Text::new(String::from_str(alloc, text(json, "text")?)?)));
+    }
+    if let Some(number) = json.get("u64").and_then(Value::as_u64) {
+        return Ok(FieldValue::Number(Number::U64(number)));
+    }
+    match json.get("i64").and_then(Value::as_i64) {
+        Some(number) => Ok(FieldValue::Number(Number::I64(number))),
+        None => Err(Trouble::WrongKind("term")),
+    }
+}
+
+/// The term of an object that has the number of a field beside a value, whether it fits the schema or not.
+fn term_of(alloc: Global, case: &Value) -> Result<Term, Trouble> {
+    let json = entry(case, "term")?;
+    only(alloc, json, &["field", "text", "u64", "i64"])?;
+    let field = size(json, "field")?;
+    let value = value_of(alloc, json)?;
+    Ok(Term { field, value })
+}
+
+/// The documents of all blocks of a list.
+fn listed(alloc: Global, list: &List) -> Result<Vec<u32>, Trouble> {
+    let mut found = Vec::new(alloc);
+    let mut source = list.source();
+    for block in 0..source.blocks() {
+        if block < source.blocks() {
+            let mut out = [0; 128];
+            let count = source.open(block, &mut out);
+            found.extend_from_slice(out.get(..count).unwrap_or(&[]))?;
+        }
+    }
+    Ok(found)
+}
+
+/// The documents that have a term, and none where there is no list.
+pub(crate) fn postings(alloc: Global, case: &Value, segment: &Segment) -> Result<Value, Trouble> {
+    match segment.find(&term_of(alloc, case)?) {
+        None => Ok(documents(alloc, &[])?),
+        Some(list) => Ok(documents(alloc, &listed(alloc, segment.postings(list))?)?),
+    }
+}
+
+/// Where a term stands in the document of a posting, or `null` where there is no list.
+fn positions(alloc: Global, case: &Value, segment: &Segment) -> Result<Value, Trouble> {
+    only(alloc, case, &["case", "do", "gives", "term", "posting"])?;
+    let posting = size(case, "posting")?;
+    let Some(list) = segment.find(&term_of(alloc, case)?) else {
+        return Ok(Value::Null);
+    };
+    let mut found = Vec::new(alloc);
+    for position in segment.positions(list).get(posting) {
+        found.push(position)?;
+    }
+    Ok(documents(alloc, &found)?)
+}
+
+/// The numbers of a field, as they are kept, or `null` where it is no number field.
+fn column(alloc: Global, case: &Value, segment: &Segment) -> Result<Value, Trouble> {
+    only(alloc, case, &["case", "do", "gives", "field"])?;
+    let field = size(case, "field")?;
+    let schema = segment.schema();
+    if field >= schema.fields().len() || !schema.kind(field).holds_numbers() {
+        return Ok(Value::Null);
+    }
+    let column = segment.column(field);
+    let mut values = Vec::new(alloc);
+    for doc in 0..segment.docs() {
+        values.push(some_number(column.get(doc)))?;
+    }
+    Ok(Value::Array(values))
+}
+
+/// A document and its stamp.
+fn stored(alloc: Global, case: &Value, segment: &Segment) -> Result<Value, Trouble> {
+    only(alloc, case, &["case", "do", "gives", "doc"])?;
+    let doc = size(case, "doc")?;
+    if doc >= segment.docs() {
+        return Err(Trouble::Impossible("no such document"));
+    }
+    let json = segment.document(doc).to_json(alloc)?;
+    Ok(json!(in alloc; {"stamp": (segment.stamp(doc)), "document": json})?)
+}
+
+/// The stamps of all documents of a copy.
+fn copied(alloc: Global, case: &Value, segment: &Segment) -> Result<Value, Trouble> {
+    only(alloc, case, &["case", "do", "gives"])?;
+    let copy = segment.clone()?;
+    let mut found = Vec::new(alloc);
+    for doc in 0..copy.docs() {
+        found.push(copy.stamp(doc))?;
+    }
+    Ok(stamps(alloc, &found)?)
+}
+
+/// What a word gives, if it is one of these.
+pub(crate) fn given(
+    alloc: Global,
+    word: &str,
+    case: &Value,
+    segment: &Segment,
+) -> Result<Option<Value>, Trouble> {
+    match word {
+        "postings" => {
+            only(alloc, case, &["case", "do", "gives", "term"])?;
+            Ok(Some(postings(alloc, case, segment)?))
+        }
+        "positions" => Ok(Some(positions(alloc, case, segment)?)),
+        "column" => Ok(Some(column(alloc, case, segment)?)),
+        "stored" => Ok(Some(stored(alloc, case, segment)?)),
+        "stamps" => Ok(Some(copied(alloc, case, segment)?)),
+        _ => Ok(None),
+    }
+}

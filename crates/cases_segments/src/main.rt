@@ -1,0 +1,115 @@
+// Tries cases of the public calls of the crates up to one segment: each case of the files that `args` names is compared
+// with what it says.
+#![tactic(auto)]
+
+mod bench;
+mod collecting;
+mod content;
+mod finding;
+mod indexed;
+mod merging;
+mod packing;
+mod queries;
+mod schemas;
+mod texts;
+mod walking;
+
+use bench::{Bench, cleared, made};
+use cases::{Driver, Trouble, run, text, unknown};
+use serde_json::{Value, json};
+use std::alloc::Global;
+use std::io;
+use std::process::ExitCode;
+
+/// The segments that earlier cases of the file made.
+#[derive(Drop)]
+struct Segments {
+    made: Vec<Bench>,
+}
+
+/// What a word gives that makes or changes no segment.
+fn looked_at(
+    alloc: Global,
+    word: &str,
+    case: &Value,
+    made: &[Bench],
+) -> Result<Option<Value>, Trouble> {
+    if let Some(given) = texts::given(alloc, word, case)? {
+        return Ok(Some(given));
+    }
+    if let Some(given) = schemas::given(alloc, word, case)? {
+        return Ok(Some(given));
+    }
+    if let Some(given) = content::given(alloc, word, case)? {
+        return Ok(Some(given));
+    }
+    if let Some(given) = queries::given(alloc, word, case)? {
+        return Ok(Some(given));
+    }
+    if let Some(given) = packing::given(alloc, word, case)? {
+        return Ok(Some(given));
+    }
+    in_segments(alloc, word, case, made)
+}
+
+/// What a word gives over the segments that were made.
+fn in_segments(
+    alloc: Global,
+    word: &str,
+    case: &Value,
+    made: &[Bench],
+) -> Result<Option<Value>, Trouble> {
+    if let Some(given) = collecting::given(alloc, word, case, made)? {
+        return Ok(Some(given));
+    }
+    if word == "plan" {
+        return Ok(Some(merging::planned(alloc, case)?));
+    }
+    let Some(bench) = made.first() else {
+        return Ok(None);
+    };
+    if let Some(given) = indexed::given(alloc, word, case, &bench.segment)? {
+        return Ok(Some(given));
+    }
+    if let Some(given) = finding::given(alloc, word, case, bench)? {
+        return Ok(Some(given));
+    }
+    if let Some(given) = walking::given(alloc, word, case, bench)? {
+        return Ok(Some(given));
+    }
+    merging::given(alloc, word, case, bench)
+}
+
+impl Driver for Segments {
+    fn begin(&mut self) {
+        self.made.clear();
+    }
+
+    fn give(&mut self, alloc: Global, case: &Value) -> Result<Value, Trouble> {
+        let word = text(case, "do")?;
+        if word == "make" || word == "and_make" {
+            let bench = made(alloc, case)?;
+            let docs = bench.segment.docs();
+            if word == "make" {
+                self.made.clear();
+            }
+            self.made.push(bench)?;
+            return Ok(json!(in alloc; docs)?);
+        }
+        if word == "clear" {
+            return match self.made.first_mut() {
+                Some(bench) => cleared(alloc, &mut bench.live, case),
+                None => Err(Trouble::Impossible("no documents were made")),
+            };
+        }
+        match looked_at(alloc, word, case, &self.made)? {
+            Some(given) => Ok(given),
+            None => Err(unknown(alloc, word)),
+        }
+    }
+}
+
+fn main(rt: HostRuntime) -> io::Result<ExitCode> {
+    let made = Vec::new(rt.alloc());
+    run(&rt, &mut Segments { made })
+}

@@ -1,0 +1,13 @@
+//! What the tests and cases of an index of many segments share: a schema of four fields, rounds of one lane, and what is seen
+//! of a writer.
+#![tactic(auto)]
+
+mod batches;
+mod fixtures;
+mod searches;
+mod shown;
+
+pub use batches::{add, batch, batch_of, delete};
+pub use fixtures::{document, schema};
+pub use searches::count;
+pub use shown::{seen, tag_of, text_of};

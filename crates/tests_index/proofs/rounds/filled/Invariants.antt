@@ -1,6 +1,0 @@
--- It stays the same lane.
-use Rattle.fts_snapshots.specs.Rounds.{SameLane}
-use Rattle.tests_index.proofs.rounds.filled.Given as goal
-
-abbrev pub invariant-loop : goal.invariant-loop
-invariant-loop l = SameLane l.fn.lane l.lane

@@ -1,0 +1,11 @@
+-- All is as before.
+use Rattle.std.proofs.Common.{sym, subst}
+use Rattle.fts_snapshots.specs.Following.{Fits}
+use Rattle.fts_snapshots.specs.MergedSegments.{MergedSegmentValue}
+use Rattle.fts_index.specs.Writers.{WriterValue}
+use Rattle.tests_late.proofs.growths.end.Goals as goal
+
+pub ended-requires : goal.ended-requires
+ended-requires g c =
+    subst (λ (m : MergedSegmentValue). Fits m c.end_merge.new.self.front.snapshot) (sym c.in-Err.ensures.handed_back)
+    (subst (λ (w : WriterValue). Fits c.args.merged w.front.snapshot) (sym c.in-Err.ensures.same) c.requires)

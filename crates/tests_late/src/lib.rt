@@ -1,0 +1,11 @@
+//! Merges that are run in other threads and ended later, and growths that are refused to them.
+#![tactic(auto)]
+
+#[cfg(test)]
+mod background;
+#[cfg(test)]
+mod growths;
+#[cfg(test)]
+mod steps;
+#[cfg(test)]
+mod threads;

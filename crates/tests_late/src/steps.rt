@@ -1,0 +1,42 @@
+// A commit, and the end of a merge, each followed by what is there then.
+ghost use Rattle.fts_snapshots.specs.Following.{Follows, Fits};
+
+use fts_index::{Cut, MergedSegment, Writer};
+use fts_model::Refusal;
+use fts_pool::Open;
+use std::alloc::Global;
+use std::sync::Wait;
+use std::thread::Threads;
+use test_writers::batch;
+
+/// Commits a round of one lane in segments of one add: a tag behind `+` is added, one behind `-` is deleted.
+pub(crate) fn commit<R: Threads + Wait + Sync>(
+    rt: &R,
+    alloc: Global,
+    writer: &mut Writer,
+    tags: &[&str],
+) -> Result<(), Refusal>
+    ensures { Follows writer.old.front.snapshot writer.new.front.snapshot }
+{
+    let batch = batch(alloc, writer, tags)?;
+    match writer.commit(rt, alloc, &batch, Cut::Runs(1), 2, &Open) {
+        Ok(_) => Ok(()),
+        Err(refusal) => Err(refusal),
+    }
+}
+
+/// Ends a merge, and answers why it was refused, if it was.
+pub(crate) fn end<R: Wait>(
+    rt: &R,
+    alloc: Global,
+    writer: &mut Writer,
+    merged: MergedSegment,
+) -> Option<Refusal>
+    requires { Fits merged writer.old.front.snapshot }
+    ensures { Follows writer.old.front.snapshot writer.new.front.snapshot }
+{
+    match writer.end_merge(rt, alloc, merged) {
+        Ok(_) => None,
+        Err((_, refusal)) => Some(refusal),
+    }
+}
