@@ -5,6 +5,7 @@ import os
 
 from case_model import GREATEST, HERE, Subject, answer, error, named
 from case_queries import LONG, t, write_cursors, write_queries
+from case_random import write_cuttings, write_generated, write_walks
 
 
 def write_tokens():
@@ -438,5 +439,5 @@ if __name__ == "__main__":
     os.makedirs(HERE, exist_ok=True)
     for write in [write_tokens, write_schemas, write_documents, write_scan, write_queries, write_segments,
                   write_cursors, write_collectors,
-                  write_merges, write_packing, write_wrong]:
+                  write_merges, write_packing, write_generated, write_walks, write_cuttings, write_wrong]:
         write()

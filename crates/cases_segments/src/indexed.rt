@@ -1,8 +1,8 @@
-// Cases of what a segment holds: `postings`, `positions`, `column`, `stored` and `stamps`.
+// Cases of what a segment holds: `postings`, `positions`, `all_positions`, `column`, `stored` and `stamps`.
 use cases::{Trouble, documents, entry, only, size, some_number, stamps, text};
 use fts_model::{FieldValue, Number, Term, Text};
 use fts_pack::{Blocks, List};
-use fts_segment::Segment;
+use fts_segment::{ListId, Segment};
 use serde_json::{Value, json};
 use std::alloc::Global;
 
@@ -51,6 +51,33 @@ pub(crate) fn postings(alloc: Global, case: &Value, segment: &Segment) -> Result
     }
 }
 
+/// Where the term of a list stands in the document of a posting.
+fn places(
+    alloc: Global,
+    segment: &Segment,
+    list: ListId,
+    posting: usize,
+) -> Result<Value, Trouble> {
+    let mut found = Vec::new(alloc);
+    for position in segment.positions(list).get(posting) {
+        found.push(position)?;
+    }
+    Ok(documents(alloc, &found)?)
+}
+
+/// Where a term stands in the document of each posting, or `null` where there is no list.
+fn all_positions(alloc: Global, case: &Value, segment: &Segment) -> Result<Value, Trouble> {
+    only(alloc, case, &["case", "do", "gives", "term"])?;
+    let Some(list) = segment.find(&term_of(alloc, case)?) else {
+        return Ok(Value::Null);
+    };
+    let mut all = Vec::new(alloc);
+    for posting in 0..segment.postings(list).len() {
+        all.push(places(alloc, segment, list, posting)?)?;
+    }
+    Ok(Value::Array(all))
+}
+
 /// Where a term stands in the document of a posting, or `null` where there is no list.
 fn positions(alloc: Global, case: &Value, segment: &Segment) -> Result<Value, Trouble> {
     only(alloc, case, &["case", "do", "gives", "term", "posting"])?;
@@ -58,11 +85,7 @@ fn positions(alloc: Global, case: &Value, segment: &Segment) -> Result<Value, Tr
     let Some(list) = segment.find(&term_of(alloc, case)?) else {
         return Ok(Value::Null);
     };
-    let mut found = Vec::new(alloc);
-    for position in segment.positions(list).get(posting) {
-        found.push(position)?;
-    }
-    Ok(documents(alloc, &found)?)
+    places(alloc, segment, list, posting)
 }
 
 /// The numbers of a field, as they are kept, or `null` where it is no number field.
@@ -116,6 +139,7 @@ pub(crate) fn given(
             Ok(Some(postings(alloc, case, segment)?))
         }
         "positions" => Ok(Some(positions(alloc, case, segment)?)),
+        "all_positions" => Ok(Some(all_positions(alloc, case, segment)?)),
         "column" => Ok(Some(column(alloc, case, segment)?)),
         "stored" => Ok(Some(stored(alloc, case, segment)?)),
         "stamps" => Ok(Some(copied(alloc, case, segment)?)),

@@ -97,7 +97,7 @@ impl Driver for Segments {
             return Ok(json!(in alloc; docs)?);
         }
         if word == "clear" {
-            return match self.made.first_mut() {
+            return match self.made.last_mut() {
                 Some(bench) => cleared(alloc, &mut bench.live, case),
                 None => Err(Trouble::Impossible("no documents were made")),
             };

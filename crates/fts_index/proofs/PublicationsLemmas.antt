@@ -1,14 +1,19 @@
 -- Lists of publications: beginnings of one list, and one publication more.
-use Rattle.std.proofs.Common.{◌≡◌, ℕ, ◌<◌, ◌≤◌, List, [], ◌∷◌, ◌++◌, length, slice_index_or, fold, take, refl, ap, sym, ◌∙◌, subst, arith, length-append, append-nil, ⊎_elim}
+use Rattle.std.proofs.Common.{◌≡◌, ℕ, ◌<◌, ◌≤◌, List, [], ◌∷◌, ◌++◌, length, slice_index_or, fold, Some, refl, ap, sym, ◌∙◌, subst, arith, length-append, append-nil, ⊎_elim}
 use Rattle.std.specs.Prelude.{AllPairs}
 use Rattle.std.proofs.Math.ListN.{get_or-append}
 use Rattle.std.proofs.Math.Nat.{eq-or-lt_of_le}
 use Rattle.std.proofs.lemmas.Bool.{cases_lt}
-use Rattle.std.proofs.lemmas.List.{append-nil, take_all}
+use Rattle.std.proofs.lemmas.List.{append-nil}
 use Rattle.std.proofs.lemmas.List.Quantifiers.{all_pairs_push}
 use mathlib.Core.List.{IsPrefix}
+use Rattle.fts_model.specs.declared.schema.Field.{Field}
+use Rattle.fts_model.specs.declared.query.Request.{Request}
+use Rattle.fts_model.specs.QueryValues.{QueryValue}
+use Rattle.fts_model.specs.Answers.{answer}
+use Rattle.fts_snapshots.specs.Snapshots.{content_of}
 use Rattle.fts_index.specs.declared.publications.publication.Publication.{Publication}
-use Rattle.fts_index.specs.Publications.{opening, Follows, ArePublications, newest, FrontValue, IsFront, IsOneCommit}
+use Rattle.fts_index.specs.Publications.{opening, Follows, ArePublications, newest, schema_of, FrontValue, IsFront, IsOneCommit}
 
 -- each list begins itself
 pub prefix_self : {A : Type 0} (xs : List A) → IsPrefix xs xs
@@ -41,13 +46,14 @@ newest_at p [] d = refl
 newest_at p (q ∷ qs) d = newest_at q qs d
 
 follows_self : (p : Publication) → Follows p p
-follows_self p = (omega arith, λ e. refl)
+follows_self p = record { schema = refl; stamp = omega arith; content = λ e. refl }
 
 follows_trans : (p q r : Publication) → Follows p q → Follows q r → Follows p r
-follows_trans p q r a b = (
-  omega (arith, a.0, b.0),
-  λ e. a.1 (omega (arith, a.0, b.0, e)) ∙ b.1 (omega (arith, a.0, b.0, e)),
-)
+follows_trans p q r a b = record {
+  schema = a.schema ∙ b.schema;
+  stamp = omega (arith, a.stamp, b.stamp);
+  content = λ e. a.content (omega (arith, a.stamp, b.stamp, e)) ∙ b.content (omega (arith, a.stamp, b.stamp, e));
+}
 
 -- the newest follows each member
 newest_after : (list : List Publication) (k : ℕ) (d : Publication) → AllPairs Follows list → k < length list → Follows (slice_index_or list k d) (newest list)
@@ -59,14 +65,19 @@ newest_after (p ∷ ps) k d pairs at =
     (eq-or-lt_of_le (omega arith))
 
 -- the opening may be published
-pub published_opening : ArePublications (opening ∷ [])
-published_opening = record { opens = refl; follow = λ i j d less at. absurd (omega arith) }
+pub published_opening : (schema : List Field) → ArePublications (opening schema ∷ [])
+published_opening schema = record { opens = refl; follow = λ i j d less at. absurd (omega arith) }
+
+-- there is an opening
+pub some_publications : (list : List Publication) → ArePublications list → 0 < length list
+some_publications [] are = absurd (cc (are.opens))
+some_publications (p ∷ ps) are = omega arith
 
 -- what follows the newest may be published
 pub published_snoc : (list : List Publication) (q : Publication) → ArePublications list → Follows (newest list) q → ArePublications (list ++ q ∷ [])
 published_snoc [] q are next = absurd (cc (are.opens))
 published_snoc (p ∷ ps) q are next = record {
-  opens = are.opens;
+  opens = are.opens ∙ ap (λ s. Some (opening s)) (next.schema ∙ sym (ap (λ (n : Publication). n.schema) (fold_last (opening []) (p ∷ ps) q)));
   follow = all_pairs_push Follows (p ∷ ps) q are.follow (λ k d at. follows_trans _ _ q (newest_after (p ∷ ps) k d are.follow at) next);
 }
 
@@ -76,32 +87,37 @@ rest_follows x xs rest are =
     subst (λ (q : Publication). Follows q (newest ((x ∷ xs) ++ rest))) here (newest_after ((x ∷ xs) ++ rest) (length xs) x are.follow (omega (arith, length-append xs rest)))
 
 -- of a beginning and the whole, the newest follow one another
-pub newest_follows : (known more : List Publication) → IsPrefix known more → ArePublications more → Follows (newest known) (newest more)
-newest_follows [] [] p are = absurd (cc (are.opens))
-newest_follows [] (y ∷ ys) p are =
-    let first : y ≡ opening = cc (are.opens) in
-    subst (λ (q : Publication). Follows q (newest (y ∷ ys))) first (newest_after (y ∷ ys) 0 y are.follow (omega arith))
-newest_follows (x ∷ xs) more p are =
+pub newest_follows : (known more : List Publication) → IsPrefix known more → ArePublications known → ArePublications more → Follows (newest known) (newest more)
+newest_follows [] more p begun are = absurd (cc (begun.opens))
+newest_follows (x ∷ xs) more p begun are =
     subst (λ (l : List Publication). Follows (newest (x ∷ xs)) (newest l)) p.1 (rest_follows x xs p.0 (subst ArePublications (sym p.1) are))
 
--- what two beginnings of one list tell last has equal contents where it has equal stamps
-pub newest-content : (xs ys both : List Publication) → IsPrefix xs both → IsPrefix ys both → ArePublications xs → ArePublications ys → (newest xs).stamp ≡ (newest ys).stamp → (newest xs).content ≡ (newest ys).content
-newest-content xs ys both p q are others same =
+-- two beginnings of one list tell last the same schema, and the same content where they tell the same stamp
+pub newest_alike : (xs ys both : List Publication) → IsPrefix xs both → IsPrefix ys both → ArePublications xs → ArePublications ys →
+    ((newest xs).schema ≡ (newest ys).schema) × ((newest xs).stamp ≡ (newest ys).stamp → (newest xs).content ≡ (newest ys).content)
+newest_alike xs ys both p q are others =
     ⊎_elim
-    (λ (less : length xs < length ys). (newest_follows xs ys (prefix_shorter xs ys both p q (omega arith)) others).1 same)
-    (λ (least : length ys ≤ length xs). sym ((newest_follows ys xs (prefix_shorter ys xs both q p least) are).1 (sym same)))
+    (λ (less : length xs < length ys). let f = newest_follows xs ys (prefix_shorter xs ys both p q (omega arith)) are others in (f.schema, f.content))
+    (λ (least : length ys ≤ length xs). let f = newest_follows ys xs (prefix_shorter ys xs both q p least) others are in (sym f.schema, λ same. sym (f.content (sym same))))
     (cases_lt (length xs) (length ys))
 
--- what two fronts of one list stand for is one commit where their stamps are equal, but for the schema
-pub one_commit : (a b : FrontValue) (both : List Publication) → IsPrefix a.seen.list both → IsPrefix b.seen.list both → IsFront a → IsFront b → a.stamp ≡ b.stamp → a.snapshot.schema ≡ b.snapshot.schema → IsOneCommit a b
-one_commit a b both p q mine other same schema =
-    let stamps : (newest a.seen.list).stamp ≡ (newest b.seen.list).stamp = ap (λ (n : Publication). n.stamp) mine.last ∙ same ∙ sym (ap (λ (n : Publication). n.stamp) other.last) in
+-- the last publication has the schema of the snapshot
+pub front_schema : (f : FrontValue) → IsFront f → f.snapshot.schema ≡ schema_of f.seen
+front_schema f is = sym (ap (λ (n : Publication). n.schema) is.last)
+
+-- two fronts of one list are of one commit where their stamps are equal
+pub one_commit : (a b : FrontValue) (both : List Publication) → IsPrefix a.seen.list both → IsPrefix b.seen.list both → IsFront a → IsFront b → a.stamp ≡ b.stamp → IsOneCommit a b
+one_commit a b both p q mine other same =
+    let alike = newest_alike a.seen.list b.seen.list both p q mine.legal other.legal in
     record {
       stamp = same;
-      schema = schema;
-      content = sym (ap (λ (n : Publication). n.content) mine.last) ∙ newest-content a.seen.list b.seen.list both p q mine.legal other.legal stamps ∙ ap (λ (n : Publication). n.content) other.last;
+      schema = sym (ap (λ (n : Publication). n.schema) mine.last) ∙ alike.0 ∙ ap (λ (n : Publication). n.schema) other.last;
+      content = sym (ap (λ (n : Publication). n.content) mine.last)
+          ∙ alike.1 (ap (λ (n : Publication). n.stamp) mine.last ∙ same ∙ sym (ap (λ (n : Publication). n.stamp) other.last))
+          ∙ ap (λ (n : Publication). n.content) other.last;
     }
 
--- lists whose beginnings of some length are one are one, where that is all of both
-pub same_whole : {A : Type 0} (xs ys : List A) (n : ℕ) → take n xs ≡ take n ys → length xs ≤ n → length ys ≤ n → xs ≡ ys
-same_whole xs ys n same all others = sym (take_all n xs all) ∙ same ∙ take_all n ys others
+-- one commit has one answer
+pub answers_alike : (a b : FrontValue) (query : QueryValue) (request : Request) → IsOneCommit a b →
+    answer a.snapshot.schema query request (content_of a.snapshot) ≡ answer b.snapshot.schema query request (content_of b.snapshot)
+answers_alike a b query request one = λ i. answer (one.schema i) query request (one.content i)

@@ -1,5 +1,5 @@
 -- The stamps of a batch and of what its commit leaves.
-use Rattle.std.proofs.Common.{◌≡◌, ◌<◌, ◌≤◌, ◌+◌, ◌^◌, ◌==◌, Option, Some, None, ℕ, zero, suc, true, false, cond, List, [], ◌∷◌, ◌++◌, length, subst, sym, ◌∙◌, arith, All}
+use Rattle.std.proofs.Common.{◌≡◌, ◌<◌, ◌≤◌, ◌+◌, ◌^◌, ◌==◌, Option, Some, None, ℕ, zero, suc, true, false, cond, List, [], ◌∷◌, ◌++◌, length, subst, sym, ap, ◌∙◌, arith, All}
 use Rattle.std.specs.List.{AllByRecursion, range_with_len}
 use Rattle.std.proofs.lemmas.Bool.{and_parts, eqb-true}
 use Rattle.std.proofs.lemmas.List.Elements.{All-from_recursion, recursion_from_All}
@@ -12,9 +12,9 @@ use Rattle.fts_model.specs.Operations.{alive, adds, is_struck, left_by, StampsRi
 use Rattle.fts_model.proofs.OperationsAlive.{alive-pairs}
 use Rattle.fts_snapshots.specs.Rounds.{Gathered, stamps_of}
 use Rattle.fts_snapshots.specs.declared.stamps.Terms.{Terms}
-use Rattle.fts_snapshots.specs.Snapshots.{IsBehind, content_of}
-use Rattle.fts_index.specs.Publications.{FrontValue}
-use Rattle.fts_index.specs.Writers.{IsOpen, IsWriter, is_of}
+use Rattle.fts_snapshots.specs.Snapshots.{SnapshotValue, IsBehind, content_of}
+use Rattle.fts_index.specs.Publications.{IsStamped}
+use Rattle.fts_index.specs.Writers.{IsOpen, is_of}
 use Rattle.fts_snapshots.proofs.OrderLemmas.{Rises, All-weaker_by, All-joined}
 use Rattle.fts_snapshots.proofs.CommitLemmas.{by_stamp, stamps_rise}
 use Rattle.fts_snapshots.proofs.SnapshotLemmas.{all_adds, rise_behind}
@@ -107,15 +107,13 @@ first_behind stamp rounds None batch h e = cc e
 first_behind stamp rounds (Some terms) batch h e =
     sym (eqb-true terms.first batch.first (and_parts (terms.round == batch.round) (terms.first == batch.first) e).1) ∙ h.0
 
--- the writer when a commit was published
-pub writer_behind : (front : FrontValue) (rounds : ℕ) (schema : List Field) (ds : List (Stamped DocumentValue)) (ops : List (Stamped Op)) (stamp first : ℕ) →
-    front.stamp ≡ first + length ops → content_of front.snapshot ≡ alive schema (adds ds ++ ops) → All (λ d. d.stamp < stamp) ds → stamp < first →
-    stamps_of ops ≡ range_with_len first (length ops) → first + length ops < 2 ^ 62 → rounds ≤ 2 ^ 62 →
-    IsWriter (record { front = front; rounds = rounds; round = None })
-writer_behind front rounds schema ds ops stamp first at holds below above run room few = record {
-  below = subst (λ n. All (λ (d : Stamped DocumentValue). d.stamp < n) (content_of front.snapshot)) (sym at)
+-- what a commit leaves is stamped by it
+pub left_stamped : (snapshot : SnapshotValue) (schema : List Field) (ds : List (Stamped DocumentValue)) (ops : List (Stamped Op)) (stamp first end : ℕ) →
+    content_of snapshot ≡ alive schema (adds ds ++ ops) → StampsRise ds → All (λ d. d.stamp < stamp) ds → stamp < first →
+    stamps_of ops ≡ range_with_len first (length ops) → end ≡ first + length ops → end < 2 ^ 62 → IsStamped end snapshot
+left_stamped snapshot schema ds ops stamp first end holds rise below above run at room = record {
+  small = room;
+  below = subst (λ n. All (λ (d : Stamped DocumentValue). d.stamp < n) (content_of snapshot)) (sym at)
       (subst (All (λ (d : Stamped DocumentValue). d.stamp < first + length ops)) (sym holds) (left_below schema ds ops stamp first below above run));
-  stamp = omega (arith, at, room);
-  rounds = few;
-  round = tt;
+  few = omega (arith, ap length holds, left_few schema ds ops stamp first rise below above run, at, room);
 }

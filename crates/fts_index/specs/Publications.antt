@@ -1,35 +1,41 @@
 -- What a writer publishes: which lists of publications there are, and what is known of one.
-use Rattle.std.specs.Prelude.{◌≡◌, ℕ, ◌<◌, ◌≤◌, ◌^◌, List, [], ◌∷◌, ◌++◌, Some, AllPairs, fold, length, slice_get}
+use Rattle.std.specs.Prelude.{◌≡◌, ℕ, ◌<◌, ◌≤◌, ◌^◌, List, [], ◌∷◌, ◌++◌, All, AllPairs, Some, fold, length, slice_get}
 use Rattle.logbook.specs.Pages.{Book}
-use Rattle.fts_snapshots.specs.Entries.{content}
+use Rattle.fts_model.specs.declared.schema.Field.{Field}
 use Rattle.fts_snapshots.specs.Snapshots.{SnapshotValue, content_of}
 use Rattle.fts_index.specs.declared.publications.publication.Publication.{Publication}
 
--- the publication that each writer begins with: stamp 0, and no document
-abbrev pub opening : Publication
-opening = record { stamp = 0; content = [] }
+-- the publication that a writer begins with: stamp 0, and no document
+abbrev pub opening : List Field → Publication
+opening schema = record { stamp = 0; schema = schema; content = [] }
 
 -- the publication of a snapshot at a commit stamp
 abbrev pub publication : ℕ → SnapshotValue → Publication
-publication stamp snapshot = record { stamp = stamp; content = content snapshot.entries }
+publication stamp snapshot = record { stamp = stamp; schema = snapshot.schema; content = content_of snapshot }
 
--- q may be published after p: stamps never fall, and equal stamps have equal contents
-abbrev pub Follows : Publication → Publication → Type 0
-Follows p q = (p.stamp ≤ q.stamp) × (p.stamp ≡ q.stamp → p.content ≡ q.content)
-
--- what one writer may have published: the opening, and then what follows all before
-pub record ArePublications (list : List Publication) : Type 0 where
-  pub opens : slice_get list 0 ≡ Some opening
-  pub follow : AllPairs Follows list
+-- q may be published after p: the schema stays, stamps never fall, and equal stamps have equal contents
+pub record Follows (p q : Publication) : Type 0 where
+  pub schema : p.schema ≡ q.schema
+  pub stamp : p.stamp ≤ q.stamp
+  pub content : p.stamp ≡ q.stamp → p.content ≡ q.content
 
 -- the last publication
 abbrev pub newest : List Publication → Publication
-newest list = fold (λ before p. p) opening list
+newest list = fold (λ before p. p) (opening []) list
+
+-- what one writer may have published: the opening, and then what follows all before
+pub record ArePublications (list : List Publication) : Type 0 where
+  pub opens : slice_get list 0 ≡ Some (opening (newest list).schema)
+  pub follow : AllPairs Follows list
 
 -- what is known of what a writer published: which writer, and a beginning of its one list of publications
 pub record Known : Type 0 where
   pub of : Book
   pub list : List Publication
+
+-- the schema of the writer, which all its publications have
+abbrev pub schema_of : Known → List Field
+schema_of known = (newest known.list).schema
 
 -- a snapshot at its commit stamp, with what was seen of the writer's publications when it was taken
 pub record FrontValue : Type 0 where
@@ -45,11 +51,17 @@ published stamp snapshot f = record {
   seen = record { of = f.seen.of; list = f.seen.list ++ publication stamp snapshot ∷ [] };
 }
 
--- what was seen are publications, of which the last has this stamp and this content, of fewer than 2^64 documents
+-- a commit stamp is below 2^62, and the stamps of the content are below it; the documents are fewer than 2^64
+pub record IsStamped (stamp : ℕ) (snapshot : SnapshotValue) : Type 0 where
+  pub small : stamp < 2 ^ 62
+  pub below : All (λ document. document.stamp < stamp) (content_of snapshot)
+  pub few : length (content_of snapshot) < 2 ^ 64
+
+-- what was seen are publications, of which the last has this stamp, schema and content
 pub record IsFront (f : FrontValue) : Type 0 where
   pub legal : ArePublications f.seen.list
   pub last : newest f.seen.list ≡ publication f.stamp f.snapshot
-  pub few : length (content_of f.snapshot) < 2 ^ 64
+  pub stamped : IsStamped f.stamp f.snapshot
 
 -- both are of one commit: the same stamp and schema, and the same content, however it lies in segments
 pub record IsOneCommit (a b : FrontValue) : Type 0 where

@@ -1,12 +1,14 @@
 -- The rule of the book that holds a writer's publications, and what its one step tells.
-use Rattle.std.specs.Prelude.{◌≡◌, ℕ, ◌==◌, true, List, [], ◌∷◌, ◌++◌, length, MatchBool}
+use Rattle.std.specs.Prelude.{◌≡◌, ℕ, ◌+◌, ◌==◌, true, List, [], ◌∷◌, ◌++◌, length, MatchBool}
 use Rattle.logbook.specs.Pages.{Cell, Step, View, Book, Named}
 use Rattle.fts_index.specs.Publications.{ArePublications}
 use Rattle.fts_index.specs.declared.publications.publication.Publication.{Publication}
 
--- the first word is the number of publications; a book has two words, of which this one leaves the second at 0
+-- the one word is the number of publications behind the opening
 pub record IsKept (cells : List Cell) (list : List Publication) : Type 0 where
-  pub words : cells ≡ (length list, true) ∷ (0, true) ∷ []
+  pub behind : ℕ
+  pub words : cells ≡ (behind, true) ∷ []
+  pub count : length list ≡ behind + 1
   pub legal : ArePublications list
 
 -- the word of a book

@@ -1,5 +1,5 @@
 -- What contracts see of a writer, and what its calls make of it.
-use Rattle.std.specs.Prelude.{◌≡◌, ℕ, ◌+◌, ◌*◌, ◌^◌, ◌<◌, ◌≤◌, ◌==◌, ◌&&◌, ◌||◌, nat_le, Bool, false, Option, Some, None, List, length, All, MatchOption, ◌⊎◌, Result, Ok, Err, if◌then◌else◌}
+use Rattle.std.specs.Prelude.{◌≡◌, ℕ, ◌+◌, ◌*◌, ◌^◌, ◌<◌, ◌≤◌, ◌==◌, ◌&&◌, ◌||◌, nat_le, Bool, false, Option, Some, None, List, length, MatchOption, ◌⊎◌, Result, Ok, Err, if◌then◌else◌}
 use Rattle.fts_model.specs.declared.refusal.Refusal.{Refusal}
 use Rattle.fts_model.specs.declared.refusal.Refusal.TheVariants.{Memory, RoundOpen, StampsUsedUp, StaleBatch}
 use Rattle.fts_model.specs.Results.{first_of}
@@ -7,7 +7,7 @@ use Rattle.fts_model.specs.declared.cut.Cut.{Cut}
 use Rattle.fts_snapshots.specs.declared.stamps.Terms.{Terms}
 use Rattle.fts_snapshots.specs.Rounds.{Gathered}
 use Rattle.fts_snapshots.specs.Commits.{misfit}
-use Rattle.fts_snapshots.specs.Snapshots.{content_of, after_commit, commit_fault, after_merge}
+use Rattle.fts_snapshots.specs.Snapshots.{after_commit, commit_fault, after_merge}
 use Rattle.fts_snapshots.specs.MergedSegments.{MergedSegmentValue}
 use Rattle.fts_snapshots.specs.LateMerges.{end_fault, after_end}
 use Rattle.fts_index.specs.Publications.{FrontValue, published}
@@ -29,8 +29,6 @@ IsOpen stamp rounds round = MatchOption round (Unit {0}) (λ terms. (terms.first
 
 -- what holds of every writer
 pub record IsWriter (w : WriterValue) : Type 0 where
-  pub below : All (λ document. document.stamp < w.front.stamp) (content_of w.front.snapshot)
-  pub stamp : w.front.stamp < 2 ^ 62
   pub rounds : w.rounds ≤ 2 ^ 62
   pub round : IsOpen w.front.stamp w.rounds w.round
 

@@ -31,7 +31,6 @@ mod name;
 mod publication;
 mod publisher;
 mod reader;
-mod schemas;
 mod searcher;
 mod shown;
 

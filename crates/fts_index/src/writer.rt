@@ -10,7 +10,7 @@ ghost use Rattle.fts_snapshots.specs.Snapshots.{content_of, merge_fault};
 ghost use Rattle.fts_snapshots.specs.Merges.{entries_at, names_fault};
 ghost use Rattle.fts_snapshots.specs.MergedSegments.{merged_of};
 ghost use Rattle.fts_snapshots.specs.Following.{Follows, Fits};
-ghost use Rattle.fts_index.specs.Publications.{opening, IsOneCommit};
+ghost use Rattle.fts_index.specs.Publications.{opening, schema_of, IsFront, IsOneCommit};
 ghost use Rattle.fts_index.specs.Writers.{IsRefusedFor, next_round, with_round, without_round, round_fault, is_of, batch_fault, stamp_behind, with_commit, with_merge, late_fault, with_end};
 
 use crate::publications::{CommitSeen, Publisher, Reader, Searcher};
@@ -84,7 +84,7 @@ impl Writer {
         ensures schema { IfOk result (λ w. w.front.snapshot.schema ≡ schema.now) }
         ensures segments { IfOk result (λ w. w.front.snapshot.entries ≡ []) }
         ensures numbers { IfOk result (λ w. w.front.snapshot.next_id ≡ 0) }
-        ensures publications { IfOk result (λ w. w.front.seen.list ≡ opening ∷ []) }
+        ensures publications { IfOk result (λ w. w.front.seen.list ≡ opening schema.now ∷ []) }
         ensures rounds { IfOk result (λ w. (w.rounds ≡ 0) × (w.round ≡ None)) }
         ensures memory { IsOkUnless result Refusal.Memory }
     {
@@ -114,6 +114,7 @@ impl Writer {
     /// The last commit, to search.
     pub fn searcher(&self) -> Result<Searcher, Refusal>
         ensures searcher { IfOk result (λ s. s ≡ self.now.front) }
+        ensures front { IfOk result IsFront }
         ensures memory { IsOkUnless result Refusal.Memory }
     {
         self.publisher.searcher()
@@ -302,6 +303,7 @@ impl Writer {
     pub fn reader(&mut self) -> Result<Reader, Refusal>
         ensures same { self.new ≡ self.old }
         ensures reader { IfOk result (λ r. r ≡ self.old.front.seen) }
+        ensures schema { IfOk result (λ r. schema_of r ≡ self.old.front.snapshot.schema) }
         ensures refused { IfErr result (λ e. (e ≡ Refusal.Memory) ⊎ (e ≡ Refusal.NoReader)) }
     {
         self.publisher.reader()

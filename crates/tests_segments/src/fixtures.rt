@@ -76,19 +76,18 @@ pub(crate) fn finished(alloc: Global, builder: Builder) -> Result<Segment, Fail>
     }
 }
 
-/// The documents `{"title":"a b a","price":4}`, `{"title":"b"}` and `{"tag":"a"}` at the stamps 3, 5 and 9.
-pub(crate) fn example(alloc: Global, merging: bool) -> Result<Segment, Fail> {
+/// The documents `{"title":"a b a","price":4}`, `{"title":"b"}` and `{"tag":"a"}` at the stamps 1, 2 and 3.
+pub(crate) fn example(alloc: Global) -> Result<Segment, Fail> {
     let schema = schema(alloc)?;
-    let mut builder = if merging {
-        Builder::merging(alloc, &schema)?
-    } else {
-        Builder::new(alloc, &schema)?
-    };
-    let first = document(alloc, &schema, r#"{"title":"a b a","price":4}"#)?;
-    add(&mut builder, &schema, 3, &first)?;
-    let second = document(alloc, &schema, r#"{"title":"b"}"#)?;
-    add(&mut builder, &schema, 5, &second)?;
-    let third = document(alloc, &schema, r#"{"tag":"a"}"#)?;
-    add(&mut builder, &schema, 9, &third)?;
+    let mut builder = Builder::new(alloc, &schema)?;
+    for json in [
+        r#"{"title":"a b a","price":4}"#,
+        r#"{"title":"b"}"#,
+        r#"{"tag":"a"}"#,
+    ] {
+        let document = document(alloc, &schema, json)?;
+        let stamp = builder.docs() as u64 + 1;
+        add(&mut builder, &schema, stamp, &document)?;
+    }
     finished(alloc, builder)
 }

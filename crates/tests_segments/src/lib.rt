@@ -1,17 +1,13 @@
-//! What the public calls of the crates up to one segment do: each value is compared with one from outside.
+//! What can't be a case of the crates up to one segment: growths that are refused, and blocks of every width.
 #![tactic(auto)]
 
 #[cfg(test)]
-mod collect;
-#[cfg(test)]
-mod cursor;
+mod document;
 #[cfg(test)]
 mod fixtures;
 #[cfg(test)]
-mod merge;
-#[cfg(test)]
-mod model;
+mod growths;
 #[cfg(test)]
 mod pack;
 #[cfg(test)]
-mod segment;
+mod schema;

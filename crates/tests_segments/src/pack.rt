@@ -164,27 +164,6 @@ fn a_refused_list_can_be_built_again(rt: HostRuntime) -> Result<(), Fail> {
     Ok(())
 }
 
-#[test]
-fn present_and_missing_values(rt: HostRuntime) -> Result<(), Fail> {
-    let column = Column::build(rt.alloc(), &[Some(7), None, Some(9)])?;
-    assert_eq!(rt; column.range(), Some((7, 9)));
-    assert_eq!(rt; column.get(0), Some(7));
-    assert_eq!(rt; column.get(1), None);
-    assert_eq!(rt; column.get(2), Some(9));
-    assert_eq!(rt; column.get(3), None);
-    assert_eq!(rt; column.len(), 3);
-    let mut out = [0; 128];
-    let stretch = column.values(0, &mut out);
-    assert_eq!(rt; stretch.len, 3);
-    assert_eq!(rt; stretch.present, 5);
-    assert_eq!(rt; (out[0], out[2]), (7, 9));
-    let none = Column::build(rt.alloc(), &[None, None])?;
-    assert_eq!(rt; none.range(), None);
-    assert_eq!(rt; none.values(0, &mut out).present, 0);
-    assert!(rt; Column::build(rt.alloc(), &[])?.is_empty());
-    Ok(())
-}
-
 // 131 values of at most so many bits, of which each fifth is missing.
 fn values_of(width: u32) -> [Option<u64>; 131] {
     let greatest = u64::MAX

@@ -1,25 +1,23 @@
 // A snapshot at its commit stamp, with the publications that were seen when it was taken: what publishers, readers and
 // searchers each hold.
-ghost use Rattle.std.specs.Prelude.{◌≡◌, ◌<◌, ◌≤◌, ◌^◌, ◌⊎◌, ◌↔◌, [], ◌∷◌, IsTrue, IfOk, IfSome, MatchOption, length};
+ghost use Rattle.std.specs.Prelude.{◌≡◌, ◌<◌, ◌≤◌, ◌⊎◌, ◌↔◌, [], ◌∷◌, IsTrue, IfOk, IfSome, MatchOption, length};
 ghost use Rattle.std.specs.Arc.{arc_value};
 ghost use mathlib.Core.List.{IsPrefix};
-ghost use Rattle.fts_snapshots.specs.Entries.{content};
 ghost use Rattle.fts_snapshots.specs.Snapshots.{content_of};
-ghost use Rattle.fts_index.specs.Publications.{opening, publication, published, Follows, IsFront, IsOneCommit};
+ghost use Rattle.fts_index.specs.Publications.{opening, publication, published, schema_of, Follows, IsFront, IsOneCommit, IsStamped};
 ghost use Rattle.fts_index.specs.PublicationsHistory.{head_of};
 
 use crate::publications::commit::Commit;
-use crate::publications::history::{Append, Head, History, Nothing, SeenList};
+use crate::publications::history::{Append, Head, History, Nothing, Opened, SeenList};
 use crate::publications::publication::Publication;
-use crate::publications::schemas::are_same;
-use fts_model::Stamp;
+use fts_model::{Schema, Stamp};
 use fts_snapshots::Snapshot;
 use logbook::{Offer, Seen, Start, Word};
 use std::alloc::{AllocError, Global};
 use std::marker::Model;
 use std::sync::Arc;
 
-/// The list has no bytes, but for the number of its publications.
+/// The list has no bytes, but for the number of its publications behind the opening.
 #[derive(Drop)]
 pub struct Front {
     commit: Arc<Commit>,
@@ -28,10 +26,9 @@ pub struct Front {
 }
 
 impl Model for Front {
-    ghost use Rattle.std.specs.Prelude.{◌≡◌, ◌<◌, ◌^◌, length};
+    ghost use Rattle.std.specs.Prelude.{◌≡◌, ◌+◌, length};
     ghost use Rattle.std.specs.Arc.{arc_value};
-    ghost use Rattle.fts_snapshots.specs.Snapshots.{content_of};
-    ghost use Rattle.fts_index.specs.Publications.{FrontValue, IsFront, ArePublications, newest, publication};
+    ghost use Rattle.fts_index.specs.Publications.{ArePublications, FrontValue, IsFront, IsStamped, newest, publication};
 
     ghost Value = { FrontValue };
 
@@ -41,26 +38,27 @@ impl Model for Front {
       seen = record { of = f.seen.book; list = f.seen.log };
     } };
 
-    ghost invariant = { λ f. (f.count ≡ length f.seen.log)
+    ghost invariant = { λ f. (length f.seen.log ≡ f.count + 1)
         × (newest f.seen.log ≡ publication (arc_value f.commit).stamp (arc_value f.commit).snapshot)
         × ArePublications f.seen.log
-        × (length (content_of (arc_value f.commit).snapshot) < 2 ^ 64) };
+        × IsStamped (arc_value f.commit).stamp (arc_value f.commit).snapshot };
 }
 
 impl Front {
     /// The front of a new writer, and the word that it alone changes.
     pub fn open(alloc: Global, snapshot: Snapshot) -> Result<(Front, Head), AllocError>
-        requires { content snapshot.entries ≡ [] }
+        requires { content_of snapshot ≡ [] }
         ensures front { IfOk result (λ r. (r.0.stamp ≡ 0) × (r.0.snapshot ≡ snapshot)) }
-        ensures list { IfOk result (λ r. r.0.seen.list ≡ opening ∷ []) }
+        ensures list { IfOk result (λ r. r.0.seen.list ≡ opening snapshot.schema ∷ []) }
         ensures head { IfOk result (λ r. r.1 ≡ head_of r.0.seen.of) }
     {
         let commit = Arc::new(alloc, Commit { stamp: 0, snapshot })?;
-        let (seen, mut first, _second) = Seen::open(Start::alone(), 1, 0);
-        let head = Word::tracked(1, &mut first);
+        let schema = commit.snapshot.schema();
+        let (seen, mut pens) = Seen::open_row::<Schema, Opened>(schema, Start::alone(), 1);
+        let head = Word::tracked(0, &mut pens.take());
         let front = Front {
             commit,
-            count: 1,
+            count: 0,
             seen,
         };
         Ok((front, head))
@@ -68,7 +66,8 @@ impl Front {
 
     /// A copy, by one counted growth.
     pub fn again(&self) -> Result<Front, AllocError>
-        ensures { IfOk result (λ f. f ≡ self.now) }
+        ensures copy { IfOk result (λ f. f ≡ self.now) }
+        ensures front { IfOk result IsFront }
     {
         let commit = Arc::try_clone(&self.commit)?;
         Ok(self.over(commit))
@@ -105,7 +104,7 @@ impl Front {
         requires head { head.now ≡ head_of self.now.seen.of }
         requires follows { Follows (publication self.now.stamp self.now.snapshot)
             (publication (arc_value commit).stamp (arc_value commit).snapshot) }
-        requires few { length (content_of (arc_value commit).snapshot) < 2 ^ 64 }
+        requires stamped { IsStamped (arc_value commit).stamp (arc_value commit).snapshot }
         ensures { IfSome result (λ f.
             f ≡ published (arc_value commit).stamp (arc_value commit).snapshot self.now) }
     {
@@ -139,6 +138,7 @@ impl Front {
     pub fn keep_newer(&mut self, other: Front)
         requires { other.seen.of ≡ self.old.seen.of }
         ensures of { self.new.seen.of ≡ self.old.seen.of }
+        ensures schema { schema_of self.new.seen ≡ schema_of self.old.seen }
         ensures mine { IsPrefix self.old.seen.list self.new.seen.list }
         ensures other { IsPrefix other.seen.list self.new.seen.list }
         ensures one { (self.new ≡ self.old) ⊎ (self.new ≡ other) }
@@ -150,17 +150,14 @@ impl Front {
         }
     }
 
-    /// Whether both are of one commit. One writer's stamps tell that, but for the schema.
+    /// Whether both are of one commit, which one writer's stamps tell.
     pub fn is_of_commit(&self, other: &Front) -> bool
         requires { other.now.seen.of ≡ self.now.seen.of }
         ensures { IsTrue result ↔ IsOneCommit self.now other.now }
     {
         let mut both = self.seen.again();
         both.learn(&other.seen);
-        if self.stamp() != other.stamp() {
-            return false;
-        }
-        are_same(self.snapshot().schema(), other.snapshot().schema())
+        self.stamp() == other.stamp()
     }
 
     /// The stamp of the commit.

@@ -1,10 +1,11 @@
-// The book that holds the list of publications. It exists in proofs alone but for one word, the length of the list, which
-// only the publisher has.
+// The book that holds the list of publications. It exists in proofs alone but for one word, the number of publications behind
+// the opening, which only the publisher has.
 ghost use Rattle.std.specs.Prelude.{◌≡◌};
 
 use crate::publications::commit::Commit;
 use crate::publications::publication::Publication;
-use logbook::{Gain, Plain, Play, Rule, Seen, Word};
+use fts_model::Schema;
+use logbook::{Gain, Opening, Plain, Play, Rule, Seen, Word};
 
 /// The rule of the book.
 pub struct History;
@@ -17,7 +18,8 @@ impl Rule<Publication, u64> for History {
 
     ghost holds = { λ cells list. IsKept cells list };
 
-    ghost first = { opening ∷ [] };
+    // No book is opened without a schema.
+    ghost first = { opening [] ∷ [] };
 
     ghost hinted = { λ n list. Unit {0} };
 
@@ -26,6 +28,16 @@ impl Rule<Publication, u64> for History {
     ghost keeps = { λ names list. ftrue };
 
     ghost moves = { λ ask before after answer. Unit {0} };
+}
+
+/// A book begins with the opening of a schema.
+pub struct Opened;
+
+impl Opening<Schema, Publication> for Opened {
+    ghost use Rattle.std.specs.Prelude.{[], ◌∷◌};
+    ghost use Rattle.fts_index.specs.Publications.{opening};
+
+    ghost log = { λ count schema. opening schema ∷ [] };
 }
 
 /// The publisher trades nothing.
@@ -55,7 +67,7 @@ impl Plain<Commit, Publication, u64> for Append {
     ghost state = { λ commit. None };
 }
 
-/// The word, which is the length of the list.
+/// The word, which is the number of publications behind the opening.
 pub type Head = Word<Publication, u64, History>;
 
 /// A beginning of the list that was seen. It has no bytes.

@@ -1,9 +1,8 @@
 // The part of a writer that publishes. It alone changes the list of publications.
 ghost use Rattle.std.specs.Prelude.{◌≡◌, ◌<◌, ◌^◌, ◌⊎◌, ◌↔◌, [], ◌∷◌, ◌++◌, Some, IsTrue, IfOk, IfErr, OnOk, OnErr, IsOkUnless, MatchResult, length};
 ghost use Rattle.std.specs.Arc.{arc_value};
-ghost use Rattle.fts_snapshots.specs.Entries.{content};
 ghost use Rattle.fts_snapshots.specs.Snapshots.{content_of};
-ghost use Rattle.fts_index.specs.Publications.{opening, newest, publication, published, Follows, IsFront, IsOneCommit};
+ghost use Rattle.fts_index.specs.Publications.{opening, newest, publication, published, schema_of, Follows, IsFront, IsOneCommit, IsStamped};
 ghost use Rattle.fts_index.specs.PublicationsShown.{name_of, told_name};
 
 use crate::publications::commit::Commit;
@@ -48,29 +47,18 @@ impl Model for Publisher {
 impl Publisher {
     /// A publisher that has published the opening: stamp 0, and a snapshot without a document.
     pub fn new<R: Wait>(rt: &R, alloc: Global, snapshot: Snapshot) -> Result<Publisher, Refusal>
-        requires { content snapshot.entries ≡ [] }
+        requires { content_of snapshot ≡ [] }
         ensures snapshot { IfOk result (λ p. p.snapshot ≡ snapshot) }
         ensures stamp { IfOk result (λ p. p.stamp ≡ 0) }
-        ensures list { IfOk result (λ p. p.seen.list ≡ opening ∷ []) }
+        ensures list { IfOk result (λ p. p.seen.list ≡ opening snapshot.schema ∷ []) }
         ensures memory { IsOkUnless result Refusal.Memory }
     {
         let (front, head) = Front::open(alloc, snapshot)?;
-        let first = front.again()?;
-        let second = front.again()?;
-        let again = front.again()?;
-        let twice = front.again()?;
-        let mut desk = Desk::new(alloc, first, second, PLACES)?;
-        // The first time tells the seat which writer it is of, the second makes the room that each commit needs.
-        let named = show(rt, &mut desk, again);
-        let roomy = show(rt, &mut desk, twice);
-        if named.is_err() || roomy.is_err() {
-            drop(desk.take(rt));
-            return Err(Refusal::Memory);
-        }
+        let desk = desk_of(rt, alloc, &front)?;
         Ok(Publisher { desk, head, front })
     }
 
-    /// Publishes what a commit left, at a stamp above all before. It has fewer than 2^64 documents. A refusal publishes
+    /// Publishes what a commit left, at a stamp above all before and above the stamps of its documents. A refusal publishes
     /// nothing, and the snapshot is let go.
     pub fn publish<R: Wait>(
         &mut self,
@@ -79,8 +67,9 @@ impl Publisher {
         snapshot: Snapshot,
         stamp: Stamp,
     ) -> Result<CommitSeen, Refusal>
+        requires schema { self.old.snapshot.schema ≡ snapshot.schema }
         requires later { self.old.stamp < stamp }
-        requires few { length (content_of snapshot) < 2 ^ 64 }
+        requires stamped { IsStamped stamp snapshot }
         ensures new { OnOk result (self.new ≡ published stamp snapshot self.old) }
         ensures seen { IfOk result (λ seen. seen ≡ self.new.seen) }
         ensures same { OnErr result (self.new ≡ self.old) }
@@ -97,7 +86,8 @@ impl Publisher {
         alloc: Global,
         snapshot: Snapshot,
     ) -> Result<CommitSeen, Refusal>
-        requires { content snapshot.entries ≡ content self.old.snapshot.entries }
+        requires schema { self.old.snapshot.schema ≡ snapshot.schema }
+        requires content { content_of self.old.snapshot ≡ content_of snapshot }
         ensures new { OnOk result (self.new ≡ published self.old.stamp snapshot self.old) }
         ensures again { OnOk result
             (self.new.seen.list ≡ self.old.seen.list ++ newest self.old.seen.list ∷ []) }
@@ -147,6 +137,7 @@ impl Publisher {
     pub fn reader(&mut self) -> Result<Reader, Refusal>
         ensures same { self.new ≡ self.old }
         ensures reader { IfOk result (λ r. r ≡ self.old.seen) }
+        ensures schema { IfOk result (λ r. schema_of r ≡ self.old.snapshot.schema) }
         ensures refused { IfErr result (λ e. (e ≡ Refusal.Memory) ⊎ (e ≡ Refusal.NoReader)) }
     {
         let front = self.front.again()?;
@@ -177,7 +168,7 @@ impl Publisher {
     ) -> Result<CommitSeen, Refusal>
         requires follows { Follows (publication self.old.stamp self.old.snapshot)
             (publication stamp snapshot) }
-        requires few { length (content_of snapshot) < 2 ^ 64 }
+        requires stamped { IsStamped stamp snapshot }
         ensures new { OnOk result (self.new ≡ published stamp snapshot self.old) }
         ensures seen { IfOk result (λ seen. seen ≡ self.new.seen) }
         ensures same { OnErr result (self.new ≡ self.old) }
@@ -198,6 +189,29 @@ impl Publisher {
         let _ = show(rt, &mut self.desk, next);
         Ok(seen)
     }
+}
+
+/// A desk that shows a front, and has the room that each publication needs.
+fn desk_of<R: Wait>(rt: &R, alloc: Global, front: &Front) -> Result<Desk, AllocError>
+    ensures shown { IfOk result (λ d. d.desk.shown.value.seen.of ≡ front.now.seen.of) }
+    ensures seat { IfOk result (λ d. told_name d.desk.place ≡ Some (name_of front.now.seen.of)) }
+{
+    let mut desk = Desk::new(alloc, front.again()?, front.again()?, PLACES)?;
+    if show_twice(rt, &mut desk, front).is_err() {
+        drop(desk.take(rt));
+        return Err(AllocError);
+    }
+    Ok(desk)
+}
+
+/// The first time tells the seat which writer it is of, the second makes the room.
+fn show_twice<R: Wait>(rt: &R, desk: &mut Desk, front: &Front) -> Result<(), AllocError>
+    requires { desk.old.desk.shown.value.seen.of ≡ front.now.seen.of }
+    ensures shown { desk.new.desk.shown.value.seen.of ≡ front.now.seen.of }
+    ensures seat { OnOk result (told_name desk.new.desk.place ≡ Some (name_of front.now.seen.of)) }
+{
+    show(rt, desk, front.again()?)?;
+    show(rt, desk, front.again()?)
 }
 
 /// Shows readers this front in place of the one before.

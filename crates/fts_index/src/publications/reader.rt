@@ -1,7 +1,7 @@
 // A reader of publications, which waits for nobody.
 ghost use Rattle.std.specs.Prelude.{◌≡◌, ◌⊎◌, Some, IfOk, OnOk, OnErr, IsOkUnless};
 ghost use mathlib.Core.List.{IsPrefix};
-ghost use Rattle.fts_index.specs.Publications.{IsFront};
+ghost use Rattle.fts_index.specs.Publications.{schema_of, IsFront};
 ghost use Rattle.fts_index.specs.PublicationsShown.{name_of, told_name, Finds};
 
 use crate::publications::front::Front;
@@ -48,6 +48,7 @@ impl Reader {
         ensures of { self.new.of ≡ self.old.of }
         ensures grows { IsPrefix self.old.list self.new.list }
         ensures seen { IfOk result (λ s. s.seen ≡ self.new) }
+        ensures schema { IfOk result (λ s. s.snapshot.schema ≡ schema_of self.old) }
         ensures newest { IfOk result IsFront }
         ensures memory { IsOkUnless result Refusal.Memory }
     {
@@ -63,6 +64,7 @@ impl Reader {
         ensures kept { OnOk result (IsPrefix self.old.list self.new.list) }
         ensures told { OnOk result (IsPrefix seen.now.list self.new.list) }
         ensures longer { OnOk result ((self.new ≡ self.old) ⊎ (self.new ≡ seen.now)) }
+        ensures schema { schema_of self.new ≡ schema_of self.old }
         ensures same { OnErr result (self.new ≡ self.old) }
         ensures memory { IsOkUnless result Refusal.Memory }
     {
@@ -77,6 +79,7 @@ fn refresh(place: &mut Place, front: &mut Front) -> Result<(), AllocError>
     requires { told_name place.old.place ≡ Some (name_of front.old.seen.of) }
     ensures seat { told_name place.new.place ≡ Some (name_of front.new.seen.of) }
     ensures of { front.new.seen.of ≡ front.old.seen.of }
+    ensures schema { schema_of front.new.seen ≡ schema_of front.old.seen }
     ensures grows { IsPrefix front.old.seen.list front.new.seen.list }
 {
     if let Some(found) = look(place, front)? {

@@ -1,7 +1,8 @@
-use Rattle.std.proofs.Common.{◌≤◌, ap, subst, arith, length, List}
+use Rattle.std.proofs.Common.{◌≤◌, ap, sym, subst, arith, length, List, ◌∙◌}
 use mathlib.Core.List.{IsPrefix}
 use Rattle.fts_index.specs.declared.publications.publication.Publication.{Publication}
-use Rattle.fts_index.proofs.PublicationsLemmas.{prefix_self, prefix_shorter}
+use Rattle.fts_index.specs.Publications.{schema_of}
+use Rattle.fts_index.proofs.PublicationsLemmas.{newest_alike, prefix_self, prefix_shorter}
 use Rattle.fts_index.proofs.publications.front.Front.keep_newer.Goals as goal
 
 pub returns-then-self-other-clause-mine : goal.returns-then-self-other-clause-mine
@@ -24,3 +25,9 @@ returns-else-self-other-clause-other c =
     let less : length c.other.inside.seen.log ≤ length c.self.inside.seen.log = omega (arith, c.self.invariant.0, c.other.invariant.0) in
     let short : IsPrefix c.other.inside.seen.log c.self.inside.seen.log = prefix_shorter c.other.inside.seen.log c.self.inside.seen.log both c.learn.ensures.3 mine less in
     rw (← c.self.view_is, ← c.other.view_is) short
+
+pub returns-then-self-other-clause-schema : goal.returns-then-self-other-clause-schema
+returns-then-self-other-clause-schema c =
+    let both = c.learn.new.self.log in
+    let mine : IsPrefix c.self.inside.seen.log both = subst (λ (l : List Publication). IsPrefix l both) (ap (λ s. s.log) c.again-both.ensures) c.learn.ensures.2 in
+    sym (newest_alike c.self.inside.seen.log c.other.inside.seen.log both mine c.learn.ensures.3 c.self.invariant.2 c.other.invariant.2).0 ∙ ap (λ f. schema_of f.seen) c.self.view_is

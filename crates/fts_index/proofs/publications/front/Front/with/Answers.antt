@@ -27,7 +27,7 @@ compare_exchange-found-requires c =
       book,
       pen.0 ∙ book,
       offer.0,
-      rw (ap (λ w. w.key) h, pen.1, offer.1, offer.3) (append_moves c.again-seen.result.log (pair c.deref-about.result.now) c.self.inside.count (c.self.inside.count + 1) refl (rw seen (sym c.self.invariant.0)) legal),
+      rw (ap (λ w. w.key) h, pen.1, offer.1, offer.3) (append_moves c.again-seen.result.log (pair c.deref-about.result.now) c.self.inside.count (c.self.inside.count + 1) refl (rw seen c.self.invariant.0) legal),
     )
 
 pub invariant_of-result : goal.invariant_of-result
@@ -46,5 +46,5 @@ invariant_of-result c =
       omega (arith, c.self.invariant.0, ap length full, length-append c.self.inside.seen.log (next ∷ [])),
       ap newest full ∙ fold_last _ c.self.inside.seen.log next,
       subst ArePublications (sym full) (published_snoc _ _ c.self.invariant.2 follows),
-      c.requires.few,
+      c.requires.stamped,
     )

@@ -1,8 +1,8 @@
-// Documents that are read back, fit by number, name and kind, and are made again where a growth was refused.
-use crate::fixtures::{field, schema};
-use fts_model::{Document, FieldValue, Kind, Number, Refusal, Schema};
+// Documents whose values are read, and that are made again where a growth was refused.
+use crate::fixtures::schema;
+use fts_model::{Document, FieldValue, Number, Refusal};
 use serde_json::Value;
-use std::alloc::{AllocError, Global};
+use std::alloc::AllocError;
 use std::test::Fail;
 
 #[test]
@@ -19,38 +19,10 @@ fn reads_back(rt: HostRuntime) -> Result<(), Fail> {
     }
     assert!(rt; again.value(0).is_some());
     assert!(rt; again.value(1).is_none());
+    assert!(rt; again.value(9).is_none());
     for (field, number) in [(2, Number::U64(u64::MAX)), (3, Number::I64(i64::MIN))] {
         assert_eq!(rt; again.value(field), Some(&FieldValue::Number(number)));
     }
-    Ok(())
-}
-
-#[test]
-fn fits_by_number_name_and_kind(rt: HostRuntime) -> Result<(), Fail> {
-    let alloc = rt.alloc();
-    let here = schema(alloc)?;
-    let mut fields = Vec::new(alloc);
-    for name in ["title", "tags"] {
-        fields.push(field(alloc, name, Kind::Keyword, false)?)?;
-    }
-    let there = Schema::new(alloc, fields).map_err(|e| e.1)?;
-    for (json, fits) in [
-        ("{}", true),
-        (r#"{"title":"a"}"#, true),
-        (r#"{"tag":"a"}"#, false),
-        (r#"{"price":1}"#, false),
-    ] {
-        let document = Document::from_json(alloc, &here, &Value::from_str(alloc, json)?)?;
-        assert!(rt; document.fits(&here));
-        assert_eq!(rt; document.fits(&there), fits, "{json}");
-    }
-    let document = Document::from_json(alloc, &here, &Value::from_str(alloc, r#"{"price":7}"#)?)?;
-    assert_eq!(rt;
-        document.value(2),
-        Some(&FieldValue::Number(Number::U64(7)))
-    );
-    assert!(rt; document.value(0).is_none());
-    assert!(rt; document.value(9).is_none());
     Ok(())
 }
 

@@ -1,0 +1,203 @@
+"""Cases of documents and queries that only look random: what is found in them is what a look at each document finds."""
+from case_model import Subject, answer, has, phrase, within
+from case_queries import mixed
+
+# Words as they are written, each with the term that finds it: none finds a word of 40 bytes, which keeps its place.
+WRITTEN = [("a", "a"), ("A", "a"), ("b", "b"), ("rust", "rust"), ("RUST", "rust"), ("ÄRGER", "ärger"), ("ärger", "ärger"),
+           ("Σίσυφος", "σίσυφοσ"), ("ſ", "s"), ("S", "s"), ("٣٤", "٣٤"), ("v2", "v2"), ("x" * 39, "x" * 39),
+           ("x" * 40, None)] + [(f"W{n}", f"w{n}") for n in range(14, 100)]
+BETWEEN = [" ", ", ", "-", " — "]
+
+
+class Chance:
+    """Numbers that only look random, the same on every machine."""
+
+    def __init__(self, state):
+        self.state = state
+
+    def below(self, count):
+        self.state = (self.state * 6364136223846793005 + 1442695040888963407) % 2**64
+        return (self.state >> 33) % count if count else 0
+
+    def one_of(self, choices):
+        return choices[self.below(len(choices))]
+
+    def some_below(self, count):
+        """A number below `count`, and nothing once in four times."""
+        return self.below(count) if self.below(4) else None
+
+
+def written(chance):
+    """A document, and the terms of its title in order. Low words come more often."""
+    document, terms, title = {}, [], ""
+    if chance.below(8):
+        for _ in range(chance.below(12)):
+            text, term = WRITTEN[chance.below(chance.below(len(WRITTEN)))]
+            title += text + chance.one_of(BETWEEN)
+            terms.append(term)
+        document["title"] = title
+    for field, count, value in [("tag", 50, lambda n: f"T {n}"), ("price", 100, lambda n: n), ("temp", 100, lambda n: n - 50)]:
+        number = chance.some_below(count)
+        if number is not None:
+            document[field] = value(number)
+    return document, terms
+
+
+def write_generated():
+    s, chance = Subject("generated"), Chance(11)
+    rows = [written(chance) for _ in range(2_000)]
+    s.case("2,000 documents are made of words from a few writings", "make", 2_000, documents=[d for d, _ in rows])
+    for term in sorted({term for _, term in WRITTEN if term}):
+        at = [(n, [k for k, other in enumerate(terms) if other == term]) for n, (_, terms) in enumerate(rows)]
+        at = [(n, places) for n, places in at if places]
+        sought = {"field": 0, "text": term}
+        s.case(f"{term} is in the documents that were written with it", "postings", [n for n, _ in at], term=sought)
+        s.case(f"{term} stands where it was written", "all_positions", [p for _, p in at] or None, term=sought)
+    for number in range(50):
+        s.case(f"The tag T {number} is in its documents", "postings",
+               [n for n, (d, _) in enumerate(rows) if d.get("tag") == f"T {number}"], term={"field": 1, "text": f"T {number}"})
+    for number in range(100):
+        for field, name, kind, value in [(2, "price", "u64", number), (3, "temp", "i64", number - 50)]:
+            s.case(f"The {name} {value} is in its documents", "postings",
+                   [n for n, (d, _) in enumerate(rows) if d.get(name) == value], term={"field": field, kind: value})
+    s.case("Each price is in its place of the column", "column", [d.get("price") for d, _ in rows], field=2)
+    s.case("Each temp is in its place, as the u64 in the same order", "column",
+           [d["temp"] + 2**63 if "temp" in d else None for d, _ in rows], field=3)
+    write_merged(s, chance)
+    s.write()
+
+
+def write_merged(s, chance):
+    """2,000 documents of odd stamps, of which deletes strike some, and the odd ones left merged before the even ones."""
+    words = [[chance.below(60), chance.below(chance.below(60)), chance.below(60)] for _ in range(2_000)]
+    s.case("2,000 documents of three words are made at odd stamps", "make", 2_000,
+           documents=[{"title": f"W{a} w{b}, w{c}"} for a, b, c in words], stamps=[2 * n + 1 for n in range(2_000)])
+    deletes = [(chance.below(60), 2 * chance.below(2_000)) for _ in range(24)]
+    stays = lambda n: 2 * n + 1 >= 600 and not any(2 * n + 1 < at and word in words[n] for word, at in deletes)
+    ops = [{"stamp": 600, "op": "delete_all"}, {"stamp": 7, "op": "delete_all"}]
+    ops[1:1] = [{"stamp": at, "op": {"delete": {"field": "title", "is": f"w{word}"}}} for word, at in deletes]
+    left = [n for n in range(2_000) if stays(n)]
+    s.case("Of many deletes each strikes the documents of lower stamps", "strike", left, ops=ops)
+    odd, even = [n for n in left if n % 2], [n for n in left if n % 2 == 0]
+    s.case("The odd documents that are left come before the even ones", "merge",
+           [[2 * n + 1, 0, n] for n in odd] + [[2 * n + 1, 1, n] for n in even], first=odd, second=even)
+    for word in range(0, 60, 10):
+        s.case(f"w{word} is found in the merged documents that have it", "merged_postings",
+               [place for place, n in enumerate(odd + even) if word in words[n]],
+               first=odd, second=even, term={"field": 0, "text": f"w{word}"})
+
+
+def title(text):
+    return lambda d: has(d, "title", text)
+
+
+def tag(text):
+    return lambda d: has(d, "tag", text)
+
+
+LEAVES = [("title:a", title("a")), ("title:b", title("b")), ("title:c", title("c")), ("title:none", title("none")),
+          ("tag:x", tag("x")), ("tag:y", tag("y")), ('"a b"', lambda d: phrase(d, ["a", "b"]) or has(d, "tag", "a b")),
+          ('title:"b a"', lambda d: phrase(d, ["b", "a"])), ('title:"a c b"', lambda d: phrase(d, ["a", "c", "b"])),
+          ("price:[3 TO 7}", lambda d: within(d, "price", 3, 6)), ("price:{2 TO *]", lambda d: within(d, "price", 3, 99)),
+          ("price:[* TO *]", lambda d: "price" in d), ("price:{10 TO *]", lambda d: within(d, "price", 11, 99)),
+          ("temp:[-3 TO 2}", lambda d: within(d, "temp", -3, 1)), ("temp:<0", lambda d: within(d, "temp", -99, -1)),
+          ("*", lambda d: True)]
+
+
+def query(chance, depth):
+    """A query of up to so many queries within one another, with what it finds. The first of several isn't a must-not."""
+    if depth == 0 or chance.below(4) == 0:
+        return chance.one_of(LEAVES)
+    sign = chance.one_of(["", "+"])
+    text, first = query(chance, depth - 1)
+    if chance.below(4) == 0:
+        return f"({sign}{text})", first
+    between = chance.one_of([" ", " +", " -"])
+    other, second = query(chance, depth - 1)
+    # A should beside a must strikes none.
+    found = {(" ", ""): lambda d: first(d) or second(d), (" ", "+"): first, (" +", ""): second,
+             (" +", "+"): lambda d: first(d) and second(d)}.get((between, sign), lambda d: first(d) and not second(d))
+    return f"({sign}{text}{between}{other})", found
+
+
+def write_walk(s, chance, sentence, asked, documents, live):
+    """A walk that mixes steps, searches forward and back, and stretches."""
+    text, match = asked
+    found = [n for n in live if match(documents[n])]
+    steps, gives, at = [], [], 0
+    for _ in range(40):
+        steps.append("doc")
+        gives.append(found[at] if at < len(found) else None)
+        move = chance.below(8)
+        if move == 0:
+            steps.append("fill")
+            gives.append(found[at:at + 128])
+            at += 128
+        elif move < 3:
+            target = chance.below(450)
+            steps.append({"seek": target})
+            at = next((k for k, n in enumerate(found) if k >= at and n >= target), len(found))
+        else:
+            steps.append("advance")
+            at += 1
+    s.case(sentence, "walk", gives, query=text, steps=steps)
+
+
+def document(chance):
+    """A document with a title, and with some of the other fields."""
+    made = {"title": "".join(chance.one_of(["a ", "b ", "c ", "d ", "A, ", "b-"]) for _ in range(chance.below(7)))}
+    if chance.below(3):
+        made["tag"] = chance.one_of(["x", "y", "z w"])
+    if chance.below(4):
+        made["price"] = chance.below(12)
+    if chance.below(2):
+        made["temp"] = chance.one_of([1, -1]) * (chance.below(7) + 1)
+    return made
+
+
+def write_walks():
+    s, chance = Subject("walks"), Chance(5)
+    documents = [mixed(n) for n in range(400)]
+    asked = [query(chance, 6) for _ in range(60)]
+    s.case("400 documents are made of which some lack a field", "make", 400, documents=documents)
+    for number, one in enumerate(asked):
+        write_walk(s, chance, f"Walk {number} goes over the hits of a query of queries", one, documents, range(400))
+    dead = [n for n in range(400) if chance.below(5) == 0]
+    live = [n for n in range(400) if n not in dead]
+    s.case("A fifth of the documents is struck", "clear", len(live), docs=dead)
+    for number, one in enumerate(asked):
+        write_walk(s, chance, f"Walk {number} goes over the live hits of its query", one, documents, live)
+    for segment in range(25):
+        documents = [document(chance) for _ in range(chance.below(400) + 1)]
+        s.case(f"Segment {segment} has {len(documents)} documents", "make", len(documents), documents=documents)
+        odds = chance.below(6)
+        dead = [n for n in range(len(documents)) if chance.below(odds) == 0]
+        live = [n for n in range(len(documents)) if n not in dead]
+        s.case(f"Segment {segment} loses some of them", "clear", len(live), docs=dead)
+        for number in range(3):
+            write_walk(s, chance, f"In segment {segment} walk {number} goes over the live hits", query(chance, 4), documents, live)
+    s.write()
+
+
+def write_cuttings():
+    """Documents that are cut into segments of which some documents are struck: together they answer as all that are left."""
+    s, chance = Subject("cuttings"), Chance(23)
+    for cutting in range(25):
+        asked, most = query(chance, 3), chance.below(400) + 1
+        groups, top = chance.one_of([(None, ("price", "falling")), ("price", ("temp", "rising")), ("temp", ("price", "rising")),
+                                     ("temp", ("temp", "falling")), ("price", None)])
+        documents = [document(chance) for _ in range(chance.below(400) + 1)]
+        parts = [[] for _ in range(chance.below(6) + 1)]
+        for n in range(len(documents)):
+            chance.one_of(parts).append(n)
+        live = [n for n in range(len(documents)) if chance.below(4)]
+        for place, part in enumerate(parts):
+            s.case(f"Cutting {cutting}: segment {place} has {len(part)} documents", "and_make" if place else "make", len(part),
+                   documents=[documents[n] for n in part], stamps=[n + 1 for n in part])
+            dead = [place for place, n in enumerate(part) if n not in live]
+            s.case(f"Cutting {cutting}: segment {place} loses {len(dead)} of them", "clear", len(part) - len(dead), docs=dead)
+        request = {**({"groups": groups} if groups else {}),
+                   **({"top": {"by": top[0], "k": most, "order": top[1]}} if top else {})}
+        s.case(f"Cutting {cutting}: {len(parts)} segments answer as all that are left", "answer",
+               answer([(n + 1, documents[n]) for n in live], asked[1], groups, request.get("top")), query=asked[0], **request)
+    s.write()

@@ -1,5 +1,0 @@
-use Rattle.std.proofs.Common.{◌≡◌}
-use Rattle.tests_segments.proofs.cursor.mixed_under.Given as goal
-
-abbrev pub invariant-loop-doc : goal.invariant-loop-doc
-invariant-loop-doc l = l.builder.segment.schema ≡ l.schema

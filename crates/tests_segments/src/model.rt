@@ -1,3 +1,0 @@
-// What the calls of `fts_model` do.
-mod document;
-mod schema;
