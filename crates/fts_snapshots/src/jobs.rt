@@ -100,7 +100,7 @@ pub(crate) fn commit_jobs<'a>(
     id: u64,
     groups: &'a [Group],
 ) -> Result<Vec<CommitJob<'a>>, AllocError>
-    requires room { id + length groups.now < 2 ^ 62 }
+    requires room { id + length groups.now ≤ 2 ^ 62 }
     requires fit { All (AllFit schema.now) groups.now }
     ensures { IfOk result (λ jobs. map entry_of jobs.items ≡ map (struck ops.now) entries.now ++ fresh_from schema.now ops.now id groups.now) }
 {
@@ -122,7 +122,7 @@ fn push_builds<'a>(
     first: u64,
     groups: &'a [Group],
 ) -> Result<(), AllocError>
-    requires room { first + length groups.now < 2 ^ 62 }
+    requires room { first + length groups.now ≤ 2 ^ 62 }
     requires fit { All (AllFit schema.now) groups.now }
     ensures { OnOk result (map entry_of jobs.new.items ≡ map entry_of jobs.old.items ++ fresh_from schema.now ops.now first groups.now) }
 {

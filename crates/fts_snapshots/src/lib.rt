@@ -31,22 +31,21 @@
 #![tactic(auto)]
 
 mod batch;
-mod beginning;
-mod committing;
+mod commit;
 mod cut;
-mod ending;
 mod entry;
 mod group;
 mod jobs;
 mod lane;
 pub mod laws;
 mod lookup;
+mod merge_end;
 mod merge_job;
+mod merge_plan;
+mod merge_sources;
 mod merged_segment;
-mod merging;
 mod new_segment;
 mod numbers;
-mod planning;
 mod round;
 mod snapshot;
 mod stamps;

@@ -9,19 +9,18 @@ ghost use Rattle.fts_snapshots.specs.Commits.{misfit};
 ghost use Rattle.fts_snapshots.specs.Merges.{entries_at, names_fault};
 ghost use Rattle.fts_snapshots.specs.MergedSegments.{merged_of};
 ghost use Rattle.fts_snapshots.specs.Following.{Fits};
-ghost use Rattle.fts_snapshots.specs.LateMerges.{end_fault, after_end};
-ghost use Rattle.fts_snapshots.specs.Snapshots.{IsBehind, IsSnapshot, after_commit, commit_fault, after_merge, merge_fault};
+ghost use Rattle.fts_snapshots.specs.LateMerges.{end_fault, after_end, after_merge};
+ghost use Rattle.fts_snapshots.specs.Snapshots.{IsBehind, IsSnapshot, after_commit, commit_fault, merge_fault};
 
-use crate::beginning::begun;
-use crate::committing::{entries_of_jobs, jobs_of_batch};
-use crate::ending::end_entries;
+use crate::commit::{entries_of_jobs, jobs_of_batch};
 use crate::entry::{Entry, SegmentInfo};
 use crate::group::groups;
+use crate::merge_end::end_entries;
 use crate::merge_job::MergeJob;
+use crate::merge_plan::candidates;
+use crate::merge_sources::named_entries;
 use crate::merged_segment::MergedSegment;
-use crate::merging::merge_entries;
 use crate::numbers::are_used_up;
-use crate::planning::candidates;
 use fts_model::{Cut, Op, Refusal, Schema, Stamped};
 use fts_pool::Gate;
 use std::alloc::{AllocError, Global};
@@ -129,13 +128,11 @@ impl Snapshot {
         ensures snapshot { Gives (λ new. new) result (ok_unless (merge_fault ids.now self.now) (after_merge ids.now self.now)) }
         ensures content { IfOk result (λ new. content new.entries ≡ content self.now.entries) }
     {
-        let entries = merge_entries(alloc, &self.entries, ids, self.next_id)?;
-        let schema = self.schema.clone()?;
-        Ok(Snapshot {
-            schema,
-            entries,
-            next_id: self.next_id + 1,
-        })
+        let job = self.begin_merge(alloc, ids)?;
+        match job.run(alloc) {
+            Ok(merged) => self.end_merge(alloc, &merged),
+            Err((_, refusal)) => Err(refusal),
+        }
     }
 
     /// Begins a merge of the segments of these numbers, in their order, which keeps them with their live bits as they are.
@@ -146,7 +143,7 @@ impl Snapshot {
         ensures job { Gives (λ job. job) result (ok_unless (names_fault self.now.entries ids.now) (entries_at self.now.entries ids.now)) }
         ensures fits { IfOk result (λ job. Fits (merged_of job) self.now) }
     {
-        let entries = begun(alloc, &self.entries, ids)?;
+        let entries = named_entries(alloc, &self.entries, ids)?;
         Ok(MergeJob::new(entries))
     }
 
