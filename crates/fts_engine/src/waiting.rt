@@ -72,7 +72,7 @@ fn draw(round: &Round, lane: &mut Lane, op: Op) -> Result<Stamp, Refusal>
     requires one_lane { HasOneLane round.now }
     requires lane { IsItsLane round.now lane.old }
     ensures lane { IsItsLane round.now lane.new }
-    ensures submits { Submits round.now.terms.first op lane.old.ops lane.new.ops result }
+    ensures submits { Submits round.now.limits.first op lane.old.ops lane.new.ops result }
 {
     match lane.submit(op) {
         Ok(stamp) => Ok(stamp),

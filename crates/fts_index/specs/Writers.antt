@@ -4,7 +4,7 @@ use Rattle.fts_model.specs.declared.refusal.Refusal.{Refusal}
 use Rattle.fts_model.specs.declared.refusal.Refusal.TheVariants.{Memory, RoundOpen, StampsUsedUp, StaleBatch}
 use Rattle.fts_model.specs.Results.{first_of}
 use Rattle.fts_model.specs.declared.cut.Cut.{Cut}
-use Rattle.fts_snapshots.specs.declared.stamps.Terms.{Terms}
+use Rattle.fts_snapshots.specs.declared.stamps.RoundLimits.{RoundLimits}
 use Rattle.fts_snapshots.specs.Rounds.{Gathered}
 use Rattle.fts_snapshots.specs.Commits.{misfit}
 use Rattle.fts_snapshots.specs.Snapshots.{content_of, after_commit, commit_fault, after_merge}
@@ -21,11 +21,11 @@ IsRefusedFor fault (Err refusal) = (refusal ≡ Memory) ⊎ (fault ≡ Some refu
 pub record WriterValue : Type 0 where
   pub front : FrontValue
   pub rounds : ℕ
-  pub round : Option Terms
+  pub round : Option RoundLimits
 
 -- the open round begins behind the last commit, and has a number that was given
-abbrev pub IsOpen : ℕ → ℕ → Option Terms → Type 0
-IsOpen stamp rounds round = MatchOption round (Unit {0}) (λ terms. (terms.first ≡ stamp + 1) × (terms.round < rounds))
+abbrev pub IsOpen : ℕ → ℕ → Option RoundLimits → Type 0
+IsOpen stamp rounds round = MatchOption round (Unit {0}) (λ limits. (limits.first ≡ stamp + 1) × (limits.round < rounds))
 
 -- what holds of every writer
 pub record IsWriter (w : WriterValue) : Type 0 where
@@ -35,7 +35,7 @@ pub record IsWriter (w : WriterValue) : Type 0 where
   pub round : IsOpen w.front.stamp w.rounds w.round
 
 -- a round of this writer, if it is opened next
-abbrev pub next_round : ℕ → ℕ → WriterValue → Terms
+abbrev pub next_round : ℕ → ℕ → WriterValue → RoundLimits
 next_round lanes cap w = record { round = w.rounds; first = w.front.stamp + 1; lanes = lanes; cap = cap }
 
 -- the writer when that round was opened
@@ -47,17 +47,17 @@ abbrev pub without_round : WriterValue → WriterValue
 without_round w = record { front = w.front; rounds = w.rounds; round = None }
 
 -- why no round can be opened, where `used_up` tells that its stamps or its number can't be given
-abbrev pub fault_beside : Option Terms → Bool → Option Refusal
-fault_beside (Some terms) used_up = Some RoundOpen
+abbrev pub fault_beside : Option RoundLimits → Bool → Option Refusal
+fault_beside (Some limits) used_up = Some RoundOpen
 fault_beside None used_up = if used_up then Some StampsUsedUp else None
 
 abbrev pub round_fault : ℕ → ℕ → WriterValue → Option Refusal
 round_fault lanes cap w = fault_beside w.round (nat_le (2 ^ 62) (w.front.stamp + 1 + lanes * cap) || nat_le (2 ^ 62) w.rounds)
 
 -- a batch is of the round
-abbrev pub is_of : Option Terms → Gathered → Bool
+abbrev pub is_of : Option RoundLimits → Gathered → Bool
 is_of None batch = false
-is_of (Some terms) batch = terms.round == batch.round && terms.first == batch.first
+is_of (Some limits) batch = limits.round == batch.round && limits.first == batch.first
 
 -- why a batch can't be committed
 abbrev pub batch_fault : Cut → Gathered → WriterValue → Option Refusal

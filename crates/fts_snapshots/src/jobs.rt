@@ -2,6 +2,7 @@
 ghost use Rattle.std.specs.Prelude.{◌≡◌, ◌≤◌, ◌+◌, ◌++◌, ◌<◌, ◌^◌, true, map, length, IfOk, OnOk, IsOkUnless, All};
 ghost use Rattle.fts_model.specs.Operations.{survives};
 ghost use Rattle.fts_segment.specs.Segments.{AllFit};
+ghost use Rattle.fts_snapshots.specs.Cuts.{most_built};
 ghost use Rattle.fts_snapshots.specs.Commits.{struck, fresh, fresh_from};
 ghost use Rattle.fts_snapshots.specs.Jobs.{entry_of, AreAnswers};
 
@@ -67,7 +68,7 @@ fn built(
     schema: &Schema,
     documents: &[Stamped<Document>],
 ) -> Result<Segment, Refusal>
-    requires few { length documents.now ≤ 65536 }
+    requires few { length documents.now ≤ most_built }
     requires fit { AllFit schema.now documents.now }
     ensures ok { IfOk result (λ segment. segment ≡ record { schema = schema.now; documents = documents.now }) }
     ensures memory { IsOkUnless result Refusal.Memory }

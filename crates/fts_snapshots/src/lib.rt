@@ -59,4 +59,4 @@ pub use merge_job::MergeJob;
 pub use merged_segment::MergedSegment;
 pub use round::{Round, open_round};
 pub use snapshot::Snapshot;
-pub use stamps::Terms;
+pub use stamps::RoundLimits;

@@ -75,12 +75,11 @@ impl Snapshot {
         &self.entries
     }
 
-    /// The snapshot after the operations of a batch, which fit the schema, and whose stamps rise above those of the documents that
-    /// are there. Its adds are cut into new segments, numbered in the order of their first adds. Segments without a live document are gone.
+    /// The snapshot after a batch that fits the schema and comes behind the documents that are there. Its adds are cut into new
+    /// segments; one without a live document is gone. The jobs, one for each segment that was there and then one for each new one,
+    /// are run by up to so many threads, 1 to 64.
     ///
-    /// `StampsUsedUp` where the next number would reach 2^62.
-    ///
-    /// The jobs, one for each segment that was there and then one for each new one, are run by up to so many threads, 1 to 64.
+    /// `StampsUsedUp` where the number of a new segment would be 2^62 or more.
     pub fn commit<R: Threads + Wait + Sync, G: Gate>(
         &self,
         rt: &R,
@@ -119,11 +118,7 @@ impl Snapshot {
         })
     }
 
-    /// The snapshot with one segment of the live documents of the segments of these numbers, in the order of the numbers, which
-    /// takes their place under the next number.
-    ///
-    /// `NoSegments` for an empty list; then at the first bad place `UnknownSegment`, or `SegmentTwice` where the number stands
-    /// before; then `TooLarge` for over 1,048,576 live documents, and `StampsUsedUp` where the next number would reach 2^62.
+    /// A merge that is begun, run and ended at once, with the refusals of these three.
     pub fn merge(&self, alloc: Global, ids: &[u64]) -> Result<Snapshot, Refusal>
         ensures snapshot { Gives (λ new. new) result (ok_unless (merge_fault ids.now self.now) (after_merge ids.now self.now)) }
         ensures content { IfOk result (λ new. content new.entries ≡ content self.now.entries) }
@@ -135,10 +130,9 @@ impl Snapshot {
         }
     }
 
-    /// Begins a merge of the segments of these numbers, in their order, which keeps them with their live bits as they are.
+    /// Begins a merge of the segments of these numbers, in their order, and keeps them with their live bits as they are.
     ///
-    /// `NoSegments` for an empty list; then at the first bad place `UnknownSegment`, or `SegmentTwice` where the number stands
-    /// before.
+    /// `NoSegments`, or at the first bad place `UnknownSegment` or `SegmentTwice`.
     pub fn begin_merge(&self, alloc: Global, ids: &[u64]) -> Result<MergeJob, Refusal>
         ensures job { Gives (λ job. job) result (ok_unless (names_fault self.now.entries ids.now) (entries_at self.now.entries ids.now)) }
         ensures fits { IfOk result (λ job. Fits (merged_of job) self.now) }
@@ -150,8 +144,7 @@ impl Snapshot {
     /// The snapshot with a merged segment in place of its sources, under the next number. Its live bits are those that its
     /// sources have here, and where none is left the segment isn't there.
     ///
-    /// `SourceGone` with the first source that isn't here, where none is here, or where one that isn't here has a document that
-    /// is live in another segment; then `StampsUsedUp` where the next number would reach 2^62.
+    /// `SourceGone` for want of a source; then `StampsUsedUp` where the number would be 2^62.
     pub fn end_merge(&self, alloc: Global, merged: &MergedSegment) -> Result<Snapshot, Refusal>
         requires { Fits merged.now self.now }
         ensures snapshot { Gives (λ new. new) result (ok_unless (end_fault self.now.next_id merged.now self.now.entries) (after_end merged.now self.now)) }
@@ -177,8 +170,7 @@ impl Snapshot {
         Ok(infos(alloc, &self.entries)?)
     }
 
-    /// The segments that are worth merging, by their numbers: each list is one merge, those of greater segments first. A segment
-    /// is as large as it has live documents.
+    /// The segments that are worth merging, by their numbers: each list is one merge.
     pub fn plan(&self, alloc: Global) -> Result<Vec<Vec<u64>>, Refusal>
         ensures candidates { IfOk result (λ found. map (λ c. c.items) found.items ≡ candidate_ids self.now.entries) }
         ensures memory { IsOkUnless result Refusal.Memory }
