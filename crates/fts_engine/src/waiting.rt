@@ -168,7 +168,7 @@ pub fn commit<R: Threads + Wait + Sync>(
     requires waits { WaitsFor writer.old waiting.old }
     requires stamps { writer.old.front.stamp ≤ 2 ^ 61 }
     requires rounds { writer.old.rounds ≤ 2 ^ 61 }
-    requires numbers { writer.old.front.snapshot.next_id + length (ops_of waiting.old) < 2 ^ 62 }
+    requires numbers { writer.old.front.snapshot.next_id + length (ops_of waiting.old) ≤ 2 ^ 62 }
     requires fit { misfit writer.old.front.snapshot.schema (ops_of waiting.old) ≡ None }
     ensures commits { OnOk result (Commits (ops_of waiting.old) writer.old writer.new) }
     ensures stamp { IfOk result (λ c. c.stamp ≡ writer.new.front.stamp) }

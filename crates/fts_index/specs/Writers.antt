@@ -7,8 +7,9 @@ use Rattle.fts_model.specs.declared.cut.Cut.{Cut}
 use Rattle.fts_snapshots.specs.declared.stamps.RoundLimits.{RoundLimits}
 use Rattle.fts_snapshots.specs.Rounds.{Gathered}
 use Rattle.fts_snapshots.specs.Commits.{misfit}
-use Rattle.fts_snapshots.specs.Snapshots.{content_of, after_commit, commit_fault, after_merge}
-use Rattle.fts_snapshots.specs.MergedSegments.{MergedSegmentValue}
+use Rattle.fts_snapshots.specs.Snapshots.{content_of, after_commit, commit_fault}
+use Rattle.fts_snapshots.specs.Merges.{entries_at}
+use Rattle.fts_snapshots.specs.MergedSegments.{MergedSegmentValue, merged_of}
 use Rattle.fts_snapshots.specs.LateMerges.{end_fault, after_end}
 use Rattle.fts_index.specs.Publications.{FrontValue, published}
 
@@ -77,14 +78,6 @@ with_commit cut batch w = record {
   round = None;
 }
 
--- the writer after a merge: the publication before is published again, with the merged snapshot
-abbrev pub with_merge : List ℕ → WriterValue → WriterValue
-with_merge ids w = record {
-  front = published w.front.stamp (after_merge ids w.front.snapshot) w.front;
-  rounds = w.rounds;
-  round = w.round;
-}
-
 -- why a merge can't end
 abbrev pub late_fault : MergedSegmentValue → WriterValue → Option Refusal
 late_fault m w = end_fault w.front.snapshot.next_id m w.front.snapshot.entries
@@ -96,3 +89,7 @@ with_end m w = record {
   rounds = w.rounds;
   round = w.round;
 }
+
+-- the writer after a merge that was begun, run and ended with nothing between
+abbrev pub with_merge : List ℕ → WriterValue → WriterValue
+with_merge ids w = with_end (merged_of (entries_at w.front.snapshot.entries ids)) w

@@ -33,7 +33,7 @@ fn strikers(batch: &[Stamped<Op>]) -> &[Stamped<Op>]
 }
 
 /// Puts a segment behind others, if it has a live document.
-fn push_live(entries: &mut Vec<Entry>, entry: Entry) -> Result<(), AllocError>
+pub(crate) fn push_live(entries: &mut Vec<Entry>, entry: Entry) -> Result<(), AllocError>
     ensures { OnOk result (entries.new.items ≡ entries.old.items ++ filter has_live (entry ∷ [])) }
 {
     if entry.has_live() {

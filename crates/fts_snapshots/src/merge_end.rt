@@ -11,6 +11,7 @@ ghost use Rattle.fts_snapshots.specs.MergedSegments.{IsMergedSegment};
 ghost use Rattle.fts_snapshots.specs.Lookups.{place_in, TellsOf};
 ghost use Rattle.fts_snapshots.specs.LateMerges.{ended, replaced, first_gone, stamps_left, is_gone, gone_fault, end_fault};
 
+use crate::commit::push_live;
 use crate::entry::Entry;
 use crate::lookup::{Lookup, places};
 use crate::merged_segment::MergedSegment;
@@ -204,8 +205,6 @@ pub(crate) fn end_entries(
         Err(refusal) => return Err(refusal),
     };
     let mut new = others(alloc, entries, segment.sources())?;
-    if entry.has_live() {
-        new.push(entry)?;
-    }
+    push_live(&mut new, entry)?;
     Ok(new)
 }
