@@ -1,5 +1,5 @@
 -- A commit of a writer, as an engine sees it.
-use Rattle.std.proofs.Common.{◌≡◌, ◌+◌, ◌*◌, ◌^◌, ◌<◌, ◌≤◌, ◌⊎◌, inl, inr, ℕ, zero, suc, Bool, true, false, cond, Option, None, Some, List, [], ◌∷◌, ◌++◌, length, map, filter, nat_le, refl, sym, ap, subst, ◌∙◌, arith}
+use Rattle.std.proofs.Common.{◌≡◌, ◌+◌, ◌*◌, ◌^◌, ◌<◌, ◌≤◌, ◌⊎◌, inl, inr, ℕ, zero, suc, Bool, true, false, cond, Option, None, Some, List, [], ◌∷◌, ◌++◌, length, map, filter, nat_lt, refl, sym, ap, subst, ◌∙◌, arith}
 use Rattle.std.proofs.lemmas.Bool.Decides.{nat_tests}
 use Rattle.std.proofs.lemmas.List.{length-append, length-map}
 use Rattle.fts_model.specs.declared.operation.Op.{Op}
@@ -34,7 +34,7 @@ length-dealt_from place j gs (x ∷ xs) = omega (arith, length-dealt_from place 
 pub new_segments-le : (cut : Cut) (ops : List (Stamped Op)) → new_segments cut ops ≤ length ops
 new_segments-le cut ops = omega (arith, length-dealt_from (place_of cut) 0 [] (added ops), length-added ops)
 
-length-filter_le : {X : Type 0} (p : X → Bool) (xs : List X) → length (filter p xs) ≤ length xs
+pub length-filter_le : {X : Type 0} (p : X → Bool) (xs : List X) → length (filter p xs) ≤ length xs
 length-filter_le p [] = omega arith
 length-filter_le p (x ∷ xs) = elim (p x) as (λ b. length (cond b (x ∷ filter p xs) (filter p xs)) ≤ length (x ∷ xs)) [ true ↦ omega (arith, length-filter_le p xs) | false ↦ omega (arith, length-filter_le p xs) ]
 
@@ -59,10 +59,10 @@ last_none None None c h = h
 last_none None (Some b) c h = cc
 last_none (Some a) b c h = cc
 
--- a number that could be given is below 2^62
-pub below_numbers : (n : ℕ) → numbers_fault n ≡ None → n < 2 ^ 62
+-- the number behind those that could be given is at most 2^62
+pub below_numbers : (n : ℕ) → numbers_fault n ≡ None → n ≤ 2 ^ 62
 below_numbers n h =
-    elim (nat_le (2 ^ 62) n) as (λ b. nat_le (2 ^ 62) n ≡ b → cond b (Some StampsUsedUp) None ≡ None → n < 2 ^ 62)
+    elim (nat_lt (2 ^ 62) n) as (λ b. nat_lt (2 ^ 62) n ≡ b → cond b (Some StampsUsedUp) None ≡ None → n ≤ 2 ^ 62)
     [ true ↦ λ _ k. cc | false ↦ λ e _. grind (arith, nat_tests) ] refl h
 
 -- the commit of a batch is one of its operations
@@ -72,7 +72,7 @@ pub commits_batch : (cut : Cut) (batch : Gathered) (ops : List (Stamped Op)) (ol
 commits_batch cut batch ops old mid new same is same_ops first fine content =
     let s = mid.front.snapshot in
     let none = last_none (cond (is_of mid.round batch) None (Some StaleBatch)) (misfit s.schema batch.ops) (commit_fault cut batch.ops s) fine in
-    let room : s.next_id + new_segments cut batch.ops < 2 ^ 62 = below_numbers (s.next_id + new_segments cut batch.ops) none in
+    let room : s.next_id + new_segments cut batch.ops ≤ 2 ^ 62 = below_numbers (s.next_id + new_segments cut batch.ops) none in
     let kept = length-committed cut s.schema batch.ops s.next_id s.entries in
     let few = new_segments-le cut batch.ops in
     let more : segments_of (with_commit cut batch mid) ≤ segments_of mid + 2 * length batch.ops = omega (arith, kept, few) in
@@ -82,7 +82,7 @@ commits_batch cut batch ops old mid new same is same_ops first fine content =
       stamp = ap (λ (w : WriterValue). w.front.stamp) is ∙ omega (arith, first);
       of = ap (λ (w : WriterValue). w.front.seen.of) is;
       segments = subst (λ (w : WriterValue). segments_of w ≤ segments_of mid + 2 * length batch.ops) (sym is) more;
-      room = subst (λ (w : WriterValue). w.front.snapshot.next_id < 2 ^ 62) (sym is) room;
+      room = subst (λ (w : WriterValue). w.front.snapshot.next_id ≤ 2 ^ 62) (sym is) room;
     } in
     let there : Commits ops mid new = subst (λ os. Commits os mid new) same_ops here in
     record {
@@ -96,13 +96,13 @@ commits_batch cut batch ops old mid new same is same_ops first fine content =
 
 -- there is no fault in a batch of the open round whose operations fit, where there are numbers left
 pub no_batch_fault : (cut : Cut) (batch : Gathered) (ops : List (Stamped Op)) (old mid : WriterValue) → mid.front ≡ old.front → batch.ops ≡ ops → is_of mid.round batch ≡ true →
-    misfit old.front.snapshot.schema ops ≡ None → old.front.snapshot.next_id + length ops < 2 ^ 62 → batch_fault cut batch mid ≡ None
+    misfit old.front.snapshot.schema ops ≡ None → old.front.snapshot.next_id + length ops ≤ 2 ^ 62 → batch_fault cut batch mid ≡ None
 no_batch_fault cut batch ops old mid same same_ops is fit room =
     let next = mid.front.snapshot.next_id in
     let few = new_segments-le cut batch.ops in
-    let counted : next + length batch.ops < 2 ^ 62 = subst (λ os. next + length os < 2 ^ 62) (sym same_ops) (subst (λ f. f.snapshot.next_id + length ops < 2 ^ 62) (sym same) room) in
-    let below : next + new_segments cut batch.ops < 2 ^ 62 = omega (arith, few, counted) in
-    let left : nat_le (2 ^ 62) (next + new_segments cut batch.ops) ≡ false = grind (arith, nat_tests) in
+    let counted : next + length batch.ops ≤ 2 ^ 62 = subst (λ os. next + length os ≤ 2 ^ 62) (sym same_ops) (subst (λ f. f.snapshot.next_id + length ops ≤ 2 ^ 62) (sym same) room) in
+    let below : next + new_segments cut batch.ops ≤ 2 ^ 62 = omega (arith, few, counted) in
+    let left : nat_lt (2 ^ 62) (next + new_segments cut batch.ops) ≡ false = grind (arith, nat_tests) in
     let fits : misfit mid.front.snapshot.schema batch.ops ≡ None = subst (λ os. misfit mid.front.snapshot.schema os ≡ None) (sym same_ops) (subst (λ f. misfit f.snapshot.schema ops ≡ None) (sym same) fit) in
     ap (λ b. first_of (cond b None (Some StaleBatch)) (first_of (misfit mid.front.snapshot.schema batch.ops) (commit_fault cut batch.ops mid.front.snapshot))) is
     ∙ ap (λ m. first_of m (commit_fault cut batch.ops mid.front.snapshot)) fits

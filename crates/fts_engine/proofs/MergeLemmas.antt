@@ -1,25 +1,26 @@
 -- A merge of a writer, as an engine sees it.
-use Rattle.std.proofs.Common.{◌≡◌, ◌+◌, ◌^◌, ◌<◌, ◌≤◌, ◌≢◌, ◌==◌, ◌||◌, ℕ, true, false, cond, not, Option, None, Some, List, [], ◌∷◌, ◌++◌, length, map, filter, sum_by, nat_le, nat_lt, refl, sym, ap, subst, ◌∙◌, arith}
+use Rattle.std.proofs.Common.{◌≡◌, ◌+◌, ◌^◌, ◌<◌, ◌≤◌, ◌≢◌, ◌==◌, ◌||◌, ℕ, true, false, cond, not, Option, None, Some, List, [], ◌∷◌, ◌++◌, length, map, filter, sum_by, nat_lt, refl, sym, ap, subst, ◌∙◌, arith}
 use Rattle.std.specs.List.{AllByRecursion, flat_map}
 use Rattle.std.proofs.lemmas.Bool.Decides.{nat_tests}
 use Rattle.std.proofs.lemmas.List.{length-append, length-map}
-use Rattle.std.proofs.lemmas.List.Elements.{recursion_from_All}
 use Rattle.std.proofs.lemmas.List.Sorted.{length_permutation}
 use Rattle.std.proofs.lemmas.List.Sums.{sum_by-cons}
 use Rattle.fts_model.specs.declared.refusal.Refusal.{Refusal}
 use Rattle.fts_model.specs.declared.refusal.Refusal.TheVariants.{TooLarge, StampsUsedUp, UnknownSegment, SegmentTwice}
 use Rattle.fts_model.specs.Results.{first_of}
 use Rattle.fts_snapshots.specs.Commits.{numbers_fault}
-use Rattle.fts_snapshots.specs.Entries.{EntryValue, IsEntry, live_in, live_count, content}
+use Rattle.fts_snapshots.specs.Entries.{EntryValue, live_in, live_count, has_live, content}
 use Rattle.fts_snapshots.specs.Infos.{info_of}
 use Rattle.fts_snapshots.specs.declared.entry.SegmentInfo.{SegmentInfo}
-use Rattle.fts_snapshots.specs.Merges.{is_among, is_there, entry_at, entries_at, without, fault_behind, names_fault, size_fault, merge_fault}
-use Rattle.fts_snapshots.specs.Snapshots.{SnapshotValue, IsSnapshot, content_of}
+use Rattle.fts_snapshots.specs.Merges.{is_among, is_there, entry_at, entries_at, without, fault_behind, names_fault, size_fault}
+use Rattle.fts_snapshots.specs.MergedSegments.{merged_of}
+use Rattle.fts_snapshots.specs.LateMerges.{ended}
+use Rattle.fts_snapshots.specs.Snapshots.{SnapshotValue, IsSnapshot, content_of, merge_fault}
 use Rattle.fts_index.specs.Writers.{WriterValue, with_merge}
 use Rattle.fts_snapshots.proofs.MergeLemmas.{AreDifferent, names_given}
 use Rattle.fts_snapshots.proofs.OrderLemmas.{Rises, rises_from_pairs, permutation_in_order}
-use Rattle.fts_snapshots.proofs.SnapshotLemmas.{length-live_in}
-use Rattle.fts_engine.proofs.CommitLemmas.{below_numbers}
+use Rattle.fts_snapshots.proofs.BeginLemmas.{length-live_in, ids_named}
+use Rattle.fts_engine.proofs.CommitLemmas.{below_numbers, length-filter_le}
 use Rattle.fts_engine.specs.WriterIndexes.{Merges, segments_of}
 
 -- the segments of other numbers than this one
@@ -76,15 +77,19 @@ all_after_none None (Some b) c h = cc
 all_after_none (Some a) b c h = cc
 
 -- how many segments and numbers a merge leaves
-pub merges_named : (more : ℕ) (ids : List ℕ) (old new : WriterValue) → new ≡ with_merge ids old → merge_fault old.front.snapshot.next_id old.front.snapshot.entries ids ≡ None →
+pub merges_named : (more : ℕ) (ids : List ℕ) (old new : WriterValue) → new ≡ with_merge ids old → merge_fault ids old.front.snapshot ≡ None →
     content_of new.front.snapshot ≡ content_of old.front.snapshot → 2 ≤ length ids + more → Merges more old new
 merges_named more ids old new is fine same enough =
     let s = old.front.snapshot in
     let faults = all_after_none (names_fault s.entries ids) (size_fault (sum_by live_count (entries_at s.entries ids))) (numbers_fault (s.next_id + 1)) fine in
     let given = (names_given s.entries ids faults.0).1 in
     let fewer = length-without ids s.entries given.there given.different in
-    let counted : segments_of (with_merge ids old) ≤ segments_of old + more = omega (arith, fewer, enough, length-append (without s.entries ids)) in
-    let room : s.next_id + 1 < 2 ^ 62 = below_numbers (s.next_id + 1) faults.1 in
+    let m = merged_of (entries_at s.entries ids) in
+    let one = ended s.next_id m s.entries ∷ [] in
+    let named = ap (λ ns. length (without s.entries ns)) (ids_named s.entries ids given.there) in
+    let counted : segments_of (with_merge ids old) ≤ segments_of old + more =
+    omega (arith, fewer, enough, named, length-filter_le has_live one, length-append (without s.entries m.ids) (filter has_live one)) in
+    let room : s.next_id + 1 ≤ 2 ^ 62 = below_numbers (s.next_id + 1) faults.1 in
     record {
       schema = ap (λ (w : WriterValue). w.front.snapshot.schema) is;
       documents = same;
@@ -93,11 +98,11 @@ merges_named more ids old new is fine same enough =
       rounds = ap (λ (w : WriterValue). w.rounds) is;
       round = ap (λ (w : WriterValue). w.round) is;
       segments = subst (λ (w : WriterValue). segments_of w ≤ segments_of old + more) (sym is) counted;
-      room = subst (λ (w : WriterValue). w.front.snapshot.next_id < 2 ^ 62) (sym is) room;
+      room = subst (λ (w : WriterValue). w.front.snapshot.next_id ≤ 2 ^ 62) (sym is) room;
     }
 
 -- a writer that stays as it is
-pub merges_nothing : (more : ℕ) (w : WriterValue) → w.front.snapshot.next_id < 2 ^ 62 → Merges more w w
+pub merges_nothing : (more : ℕ) (w : WriterValue) → w.front.snapshot.next_id ≤ 2 ^ 62 → Merges more w w
 merges_nothing more w room = record { schema = refl; documents = refl; stamp = refl; of = refl; rounds = refl; round = refl; segments = omega arith; room = room }
 
 -- merges one behind the other
@@ -179,12 +184,12 @@ ids_of_infos : (es : List EntryValue) → map (λ (info : SegmentInfo). info.id)
 ids_of_infos [] = refl
 ids_of_infos (e ∷ es) = ap (λ ids. e.id ∷ ids) (ids_of_infos es)
 
-no_fault_in : (s : SnapshotValue) → IsSnapshot s → 0 < length s.entries → sum_by live_count s.entries ≤ 1048576 → s.next_id + 1 < 2 ^ 62 → merge_fault s.next_id s.entries (map id_of s.entries) ≡ None
+no_fault_in : (s : SnapshotValue) → IsSnapshot s → 0 < length s.entries → sum_by live_count s.entries ≤ 1048576 → s.next_id + 1 ≤ 2 ^ 62 → merge_fault (map id_of s.entries) s ≡ None
 no_fault_in s i some few room =
     let rising = rises_from_pairs id_of s.entries i.ids in
     let sum = sum_by live_count s.entries in
     let small : nat_lt 1048576 sum ≡ false = grind (arith, nat_tests) in
-    let left : nat_le (2 ^ 62) (s.next_id + 1) ≡ false = grind (arith, nat_tests) in
+    let left : nat_lt (2 ^ 62) (s.next_id + 1) ≡ false = grind (arith, nat_tests) in
     ap (λ f. first_of f (first_of (size_fault (sum_by live_count (entries_at s.entries (map id_of s.entries)))) (numbers_fault (s.next_id + 1)))) (no_names_fault s.entries some rising)
     ∙ ap (λ es. first_of (size_fault (sum_by live_count es)) (numbers_fault (s.next_id + 1))) (entries_at-all s.entries rising)
     ∙ ap (λ b. first_of (cond b (Some TooLarge) None) (numbers_fault (s.next_id + 1))) small
@@ -192,10 +197,10 @@ no_fault_in s i some few room =
 
 -- there is no fault in all segments, where they have few live documents together and there is a number left
 pub no_fault_in_all : (s : SnapshotValue) (infos : List SegmentInfo) (ids : List ℕ) → IsSnapshot s → infos ≡ map info_of s.entries → ids ≡ map (λ (info : SegmentInfo). info.id) infos →
-    0 < length s.entries → sum_by (λ (info : SegmentInfo). info.live) infos ≤ 1048576 → s.next_id + 1 < 2 ^ 62 → merge_fault s.next_id s.entries ids ≡ None
+    0 < length s.entries → sum_by (λ (info : SegmentInfo). info.live) infos ≤ 1048576 → s.next_id + 1 ≤ 2 ^ 62 → merge_fault ids s ≡ None
 no_fault_in_all s infos ids i are e some few room =
     let live : sum_by live_count s.entries ≤ 1048576 = subst (λ n. n ≤ 1048576) (ap (sum_by (λ (info : SegmentInfo). info.live)) are ∙ sum_by-infos s.entries) few in
-    subst (λ ns. merge_fault s.next_id s.entries ns ≡ None) (sym (e ∙ ap (map (λ (info : SegmentInfo). info.id)) are ∙ ids_of_infos s.entries)) (no_fault_in s i some live room)
+    subst (λ ns. merge_fault ns s ≡ None) (sym (e ∙ ap (map (λ (info : SegmentInfo). info.id)) are ∙ ids_of_infos s.entries)) (no_fault_in s i some live room)
 
 -- there are as many numbers as segments
 pub ids_counted : (es : List EntryValue) (infos : List SegmentInfo) (ids : List ℕ) → infos ≡ map info_of es → ids ≡ map (λ (info : SegmentInfo). info.id) infos → length ids ≡ length es
@@ -204,5 +209,5 @@ ids_counted es infos ids are e = ap length e ∙ length-map infos (λ (info : Se
 -- the segments' live documents are what is found
 pub live_documents : (s : SnapshotValue) (infos : List SegmentInfo) → IsSnapshot s → infos ≡ map info_of s.entries → sum_by (λ (info : SegmentInfo). info.live) infos ≡ length (content_of s)
 live_documents s infos i are =
-    ap (sum_by (λ (info : SegmentInfo). info.live)) are ∙ sum_by-infos s.entries ∙ sym (length-live_in s.entries (recursion_from_All IsEntry s.entries i.each))
+    ap (sum_by (λ (info : SegmentInfo). info.live)) are ∙ sum_by-infos s.entries ∙ sym (length-live_in s.entries i.each)
     ∙ sym (length_permutation (flat_map live_in s.entries) (content s.entries) (permutation_in_order (flat_map live_in s.entries)))

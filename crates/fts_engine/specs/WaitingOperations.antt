@@ -24,13 +24,13 @@ ops_of (Gathered batch) = batch.ops
 
 -- the round has one lane, of up to 1,000,000 operations
 pub record HasOneLane (round : Opened) : Type 0 where
-  pub lanes : round.terms.lanes ≡ 1
-  pub cap : round.terms.cap ≡ 1000000
+  pub lanes : round.limits.lanes ≡ 1
+  pub cap : round.limits.cap ≡ 1000000
 
 -- the writer's open round is this one, and its first stamp comes behind the last commit's
 pub record IsOpen (w : WriterValue) (round : Opened) : Type 0 where
-  pub is_open : w.round ≡ Some round.terms
-  pub first : round.terms.first ≡ w.front.stamp + 1
+  pub is_open : w.round ≡ Some round.limits
+  pub first : round.limits.first ≡ w.front.stamp + 1
   pub one_lane : HasOneLane round
 
 -- the lane is the one of the round, and isn't over its limit
@@ -63,8 +63,8 @@ Submits first op old new (Err refusal) = (new ≡ old) × ((refusal ≡ Memory) 
 
 -- the batch has these operations of the round
 pub record IsBatchOf (round : Opened) (ops : List (Stamped Op)) (batch : rounds.Gathered) : Type 0 where
-  pub number : batch.round ≡ round.terms.round
-  pub first : batch.first ≡ round.terms.first
+  pub number : batch.round ≡ round.limits.round
+  pub first : batch.first ≡ round.limits.first
   pub ops_are : batch.ops ≡ ops
 
 -- these operations of the round go on waiting

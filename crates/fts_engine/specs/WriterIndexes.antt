@@ -32,7 +32,7 @@ pub record Commits (ops : List (Stamped Op)) (old new : WriterValue) : Type 0 wh
   pub stamp : new.front.stamp ≡ old.front.stamp + length ops + 1
   pub of : new.front.seen.of ≡ old.front.seen.of
   pub segments : segments_of new ≤ segments_of old + 2 * length ops
-  pub room : new.front.snapshot.next_id < 2 ^ 62
+  pub room : new.front.snapshot.next_id ≤ 2 ^ 62
 
 -- A writer merged segments, which changes nothing that is found.
 pub record Merges (more : ℕ) (old new : WriterValue) : Type 0 where
@@ -43,7 +43,7 @@ pub record Merges (more : ℕ) (old new : WriterValue) : Type 0 where
   pub rounds : new.rounds ≡ old.rounds
   pub round : new.round ≡ old.round
   pub segments : segments_of new ≤ segments_of old + more
-  pub room : new.front.snapshot.next_id < 2 ^ 62
+  pub room : new.front.snapshot.next_id ≤ 2 ^ 62
 
 -- a reader, if there is one, is of the writer of which this is known
 abbrev pub IsReaderOf : Known → Option Known → Type 0
@@ -59,7 +59,7 @@ pub record IsIndexEngine (w : WriterValue) (reader : Option Known) (waiting : Wa
   pub rounds : w.rounds ≤ calls
   pub segments : segments_of w + 2 * pending ≤ 2 * calls
   pub spare : 0 < length w.front.snapshot.entries → segments_of w + 2 * pending < 2 * calls
-  pub room : w.front.snapshot.next_id < 2 ^ 62
+  pub room : w.front.snapshot.next_id ≤ 2 ^ 62
 
 -- an engine: what it stands for, how many calls changed it, and what no reply shows: its segments, and whether it has a reader
 pub record EngineValue : Type 0 where

@@ -39,8 +39,8 @@ fn ids_of(alloc: Global, segments: &[SegmentInfo]) -> Result<Vec<u64>, AllocErro
 /// where there are over 1,048,576.
 pub fn merge_all<R: Wait>(rt: &R, alloc: Global, writer: &mut Writer) -> Result<u64, Refusal>
     requires number { 0 < length writer.old.front.snapshot.entries →
-        writer.old.front.snapshot.next_id + 1 < 2 ^ 62 }
-    requires room { writer.old.front.snapshot.next_id < 2 ^ 62 }
+        writer.old.front.snapshot.next_id + 1 ≤ 2 ^ 62 }
+    requires room { writer.old.front.snapshot.next_id ≤ 2 ^ 62 }
     ensures merges { OnOk result (Merges 1 writer.old writer.new) }
     ensures count { IfOk result (λ n. n ≡ length (content_of writer.old.front.snapshot)) }
     ensures few { IfOk result (λ n. n ≤ 1048576) }
@@ -67,7 +67,7 @@ pub fn merge_all<R: Wait>(rt: &R, alloc: Global, writer: &mut Writer) -> Result<
 
 /// Merges segments that are worth it. What is refused is left as it is, to be merged after a later commit.
 fn merge_some<R: Wait>(rt: &R, alloc: Global, writer: &mut Writer, ids: &[u64])
-    requires { writer.old.front.snapshot.next_id < 2 ^ 62 }
+    requires { writer.old.front.snapshot.next_id ≤ 2 ^ 62 }
     ensures { Merges 0 writer.old writer.new }
 {
     // A merge of one segment would make another number of it, and nothing less.
@@ -78,7 +78,7 @@ fn merge_some<R: Wait>(rt: &R, alloc: Global, writer: &mut Writer, ids: &[u64])
 
 /// Merges what the merge policy says, as far as there is memory.
 fn merge_planned<R: Wait>(rt: &R, alloc: Global, writer: &mut Writer)
-    requires { writer.old.front.snapshot.next_id < 2 ^ 62 }
+    requires { writer.old.front.snapshot.next_id ≤ 2 ^ 62 }
     ensures { Merges 0 writer.old writer.new }
 {
     if let Ok(candidates) = writer.plan(alloc) {
@@ -90,7 +90,7 @@ fn merge_planned<R: Wait>(rt: &R, alloc: Global, writer: &mut Writer)
 
 /// Merges behind a commit, where the option says so.
 pub fn merge_behind<R: Wait>(rt: &R, alloc: Global, writer: &mut Writer, merge: Merge)
-    requires { writer.old.front.snapshot.next_id < 2 ^ 62 }
+    requires { writer.old.front.snapshot.next_id ≤ 2 ^ 62 }
     ensures { Merges 0 writer.old writer.new }
 {
     match merge {

@@ -72,7 +72,7 @@ fn draw(round: &Round, lane: &mut Lane, op: Op) -> Result<Stamp, Refusal>
     requires one_lane { HasOneLane round.now }
     requires lane { IsItsLane round.now lane.old }
     ensures lane { IsItsLane round.now lane.new }
-    ensures submits { Submits round.now.terms.first op lane.old.ops lane.new.ops result }
+    ensures submits { Submits round.now.limits.first op lane.old.ops lane.new.ops result }
 {
     match lane.submit(op) {
         Ok(stamp) => Ok(stamp),
@@ -168,7 +168,7 @@ pub fn commit<R: Threads + Wait + Sync>(
     requires waits { WaitsFor writer.old waiting.old }
     requires stamps { writer.old.front.stamp ≤ 2 ^ 61 }
     requires rounds { writer.old.rounds ≤ 2 ^ 61 }
-    requires numbers { writer.old.front.snapshot.next_id + length (ops_of waiting.old) < 2 ^ 62 }
+    requires numbers { writer.old.front.snapshot.next_id + length (ops_of waiting.old) ≤ 2 ^ 62 }
     requires fit { misfit writer.old.front.snapshot.schema (ops_of waiting.old) ≡ None }
     ensures commits { OnOk result (Commits (ops_of waiting.old) writer.old writer.new) }
     ensures stamp { IfOk result (λ c. c.stamp ≡ writer.new.front.stamp) }

@@ -11,7 +11,7 @@ use Rattle.fts_model.specs.Documents.{DocumentValue}
 use Rattle.fts_model.specs.Operations.{alive, adds, is_struck, left_by, StampsRise}
 use Rattle.fts_model.proofs.OperationsAlive.{alive-pairs}
 use Rattle.fts_snapshots.specs.Rounds.{Gathered, stamps_of}
-use Rattle.fts_snapshots.specs.declared.stamps.Terms.{Terms}
+use Rattle.fts_snapshots.specs.declared.stamps.RoundLimits.{RoundLimits}
 use Rattle.fts_snapshots.specs.Snapshots.{SnapshotValue, IsBehind, content_of}
 use Rattle.fts_index.specs.Publications.{IsStamped}
 use Rattle.fts_index.specs.Writers.{IsOpen, is_of}
@@ -102,10 +102,10 @@ left_few schema ds ops stamp first rise below above run =
     (left_below schema ds ops stamp first below above run)
 
 -- the first stamp of a batch of the open round
-pub first_behind : (stamp rounds : ℕ) (round : Option Terms) (batch : Gathered) → IsOpen stamp rounds round → is_of round batch ≡ true → batch.first ≡ stamp + 1
+pub first_behind : (stamp rounds : ℕ) (round : Option RoundLimits) (batch : Gathered) → IsOpen stamp rounds round → is_of round batch ≡ true → batch.first ≡ stamp + 1
 first_behind stamp rounds None batch h e = cc e
-first_behind stamp rounds (Some terms) batch h e =
-    sym (eqb-true terms.first batch.first (and_parts (terms.round == batch.round) (terms.first == batch.first) e).1) ∙ h.0
+first_behind stamp rounds (Some limits) batch h e =
+    sym (eqb-true limits.first batch.first (and_parts (limits.round == batch.round) (limits.first == batch.first) e).1) ∙ h.0
 
 -- what a commit leaves is stamped by it
 pub left_stamped : (snapshot : SnapshotValue) (schema : List Field) (ds : List (Stamped DocumentValue)) (ops : List (Stamped Op)) (stamp first end : ℕ) →

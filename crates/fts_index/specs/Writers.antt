@@ -4,11 +4,12 @@ use Rattle.fts_model.specs.declared.refusal.Refusal.{Refusal}
 use Rattle.fts_model.specs.declared.refusal.Refusal.TheVariants.{Memory, RoundOpen, StampsUsedUp, StaleBatch}
 use Rattle.fts_model.specs.Results.{first_of}
 use Rattle.fts_model.specs.declared.cut.Cut.{Cut}
-use Rattle.fts_snapshots.specs.declared.stamps.Terms.{Terms}
+use Rattle.fts_snapshots.specs.declared.stamps.RoundLimits.{RoundLimits}
 use Rattle.fts_snapshots.specs.Rounds.{Gathered}
 use Rattle.fts_snapshots.specs.Commits.{misfit}
-use Rattle.fts_snapshots.specs.Snapshots.{after_commit, commit_fault, after_merge}
-use Rattle.fts_snapshots.specs.MergedSegments.{MergedSegmentValue}
+use Rattle.fts_snapshots.specs.Snapshots.{after_commit, commit_fault}
+use Rattle.fts_snapshots.specs.Merges.{entries_at}
+use Rattle.fts_snapshots.specs.MergedSegments.{MergedSegmentValue, merged_of}
 use Rattle.fts_snapshots.specs.LateMerges.{end_fault, after_end}
 use Rattle.fts_index.specs.Publications.{FrontValue, published}
 
@@ -21,11 +22,11 @@ IsRefusedFor fault (Err refusal) = (refusal ≡ Memory) ⊎ (fault ≡ Some refu
 pub record WriterValue : Type 0 where
   pub front : FrontValue
   pub rounds : ℕ
-  pub round : Option Terms
+  pub round : Option RoundLimits
 
 -- the open round begins behind the last commit, and has a number that was given
-abbrev pub IsOpen : ℕ → ℕ → Option Terms → Type 0
-IsOpen stamp rounds round = MatchOption round (Unit {0}) (λ terms. (terms.first ≡ stamp + 1) × (terms.round < rounds))
+abbrev pub IsOpen : ℕ → ℕ → Option RoundLimits → Type 0
+IsOpen stamp rounds round = MatchOption round (Unit {0}) (λ limits. (limits.first ≡ stamp + 1) × (limits.round < rounds))
 
 -- what holds of every writer
 pub record IsWriter (w : WriterValue) : Type 0 where
@@ -33,7 +34,7 @@ pub record IsWriter (w : WriterValue) : Type 0 where
   pub round : IsOpen w.front.stamp w.rounds w.round
 
 -- a round of this writer, if it is opened next
-abbrev pub next_round : ℕ → ℕ → WriterValue → Terms
+abbrev pub next_round : ℕ → ℕ → WriterValue → RoundLimits
 next_round lanes cap w = record { round = w.rounds; first = w.front.stamp + 1; lanes = lanes; cap = cap }
 
 -- the writer when that round was opened
@@ -45,17 +46,17 @@ abbrev pub without_round : WriterValue → WriterValue
 without_round w = record { front = w.front; rounds = w.rounds; round = None }
 
 -- why no round can be opened, where `used_up` tells that its stamps or its number can't be given
-abbrev pub fault_beside : Option Terms → Bool → Option Refusal
-fault_beside (Some terms) used_up = Some RoundOpen
+abbrev pub fault_beside : Option RoundLimits → Bool → Option Refusal
+fault_beside (Some limits) used_up = Some RoundOpen
 fault_beside None used_up = if used_up then Some StampsUsedUp else None
 
 abbrev pub round_fault : ℕ → ℕ → WriterValue → Option Refusal
 round_fault lanes cap w = fault_beside w.round (nat_le (2 ^ 62) (w.front.stamp + 1 + lanes * cap) || nat_le (2 ^ 62) w.rounds)
 
 -- a batch is of the round
-abbrev pub is_of : Option Terms → Gathered → Bool
+abbrev pub is_of : Option RoundLimits → Gathered → Bool
 is_of None batch = false
-is_of (Some terms) batch = terms.round == batch.round && terms.first == batch.first
+is_of (Some limits) batch = limits.round == batch.round && limits.first == batch.first
 
 -- why a batch can't be committed
 abbrev pub batch_fault : Cut → Gathered → WriterValue → Option Refusal
@@ -75,14 +76,6 @@ with_commit cut batch w = record {
   round = None;
 }
 
--- the writer after a merge: the publication before is published again, with the merged snapshot
-abbrev pub with_merge : List ℕ → WriterValue → WriterValue
-with_merge ids w = record {
-  front = published w.front.stamp (after_merge ids w.front.snapshot) w.front;
-  rounds = w.rounds;
-  round = w.round;
-}
-
 -- why a merge can't end
 abbrev pub late_fault : MergedSegmentValue → WriterValue → Option Refusal
 late_fault m w = end_fault w.front.snapshot.next_id m w.front.snapshot.entries
@@ -94,3 +87,7 @@ with_end m w = record {
   rounds = w.rounds;
   round = w.round;
 }
+
+-- the writer after a merge that was begun, run and ended with nothing between
+abbrev pub with_merge : List ℕ → WriterValue → WriterValue
+with_merge ids w = with_end (merged_of (entries_at w.front.snapshot.entries ids)) w

@@ -37,7 +37,7 @@ mod writer;
 pub use fts_model::Cut;
 pub use fts_snapshots::{
     Batch, CommitJob, Entry, Lane, LaneEnd, MergeJob, MergedSegment, Round, SegmentInfo, Snapshot,
-    Terms, open_round,
+    RoundLimits, open_round,
 };
 pub use publications::{CommitSeen, Publisher, Reader, Searcher};
 pub use searching::Found;

@@ -17,7 +17,7 @@ use crate::publications::{CommitSeen, Publisher, Reader, Searcher};
 use fts_model::{Cut, Op, Refusal, Schema, Stamp, Stamped};
 use fts_pool::Gate;
 use fts_snapshots::{
-    Batch, Lane, MergeJob, MergedSegment, Round, SegmentInfo, Snapshot, Terms, open_round,
+    Batch, Lane, MergeJob, MergedSegment, Round, SegmentInfo, Snapshot, RoundLimits, open_round,
 };
 use std::alloc::Global;
 use std::marker::Model;
@@ -33,7 +33,7 @@ const NUMBERS: u64 = 1 << 62;
 pub struct Writer {
     publisher: Publisher,
     rounds: u64,
-    round: Option<Terms>,
+    round: Option<RoundLimits>,
 }
 
 /// A commit that was made.
@@ -56,12 +56,12 @@ impl Model for Writer {
 }
 
 /// Whether a batch is of the open round.
-fn is_of(round: Option<Terms>, batch: &Batch) -> bool
+fn is_of(round: Option<RoundLimits>, batch: &Batch) -> bool
     ensures { result ≡ is_of round batch.now }
 {
     match round {
         None => false,
-        Some(terms) => terms.round == batch.round() && terms.first == batch.first(),
+        Some(limits) => limits.round == batch.round() && limits.first == batch.first(),
     }
 }
 
@@ -142,7 +142,7 @@ impl Writer {
         requires cap { (1 ≤ cap) × (cap ≤ 1000000) }
         ensures writer { OnOk result (self.new ≡ with_round lanes cap self.old) }
         ensures refused { IsRefusedFor (round_fault lanes cap self.old) result }
-        ensures round { IfOk result (λ r. r.0.terms ≡ next_round lanes cap self.old) }
+        ensures round { IfOk result (λ r. r.0.limits ≡ next_round lanes cap self.old) }
         ensures lanes { IfOk result (λ r. r.1.items ≡ map (fresh r.0) (range_with_len 0 lanes)) }
         ensures same { OnErr result (self.new ≡ self.old) }
     {
@@ -155,7 +155,7 @@ impl Writer {
             return Err(Refusal::StampsUsedUp);
         }
         let round = open_round(alloc, self.rounds, first, lanes, cap)?;
-        self.round = Some(Terms {
+        self.round = Some(RoundLimits {
             round: self.rounds,
             first,
             lanes,

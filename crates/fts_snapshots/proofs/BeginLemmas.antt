@@ -1,24 +1,30 @@
 -- What is begun is a job, what it makes is a merged segment, and that fits the snapshot.
-use Rattle.std.proofs.Common.{◌≡◌, ◌≢◌, ◌<◌, ◌≤◌, ◌==◌, ◌||◌, inl, inr, ℕ, zero, suc, Bool, true, false, cond, Some, None, List, [], ◌∷◌, ◌++◌, map, slice_get, sum_by, All, AllPairs, Contains, subst, refl, sym, ap, ◌∙◌, arith}
-use Rattle.std.specs.List.{AllByRecursion}
+use Rattle.std.proofs.Common.{◌≡◌, ◌≢◌, ◌<◌, ◌≤◌, ◌+◌, ◌==◌, ◌||◌, inl, inr, ℕ, zero, suc, Bool, true, false, cond, Option, Some, None, List, [], ◌∷◌, ◌++◌, length, map, slice_get, sum_by, All, AllPairs, Contains, subst, refl, sym, ap, ◌∙◌, arith}
+use Rattle.std.specs.List.{flat_map, AllByRecursion}
+use Rattle.std.specs.Option.{option_map}
 use Rattle.std.proofs.lemmas.Bool.Decides.{nat_tests}
 use Rattle.std.proofs.lemmas.List.{length-map, map-append}
 use Rattle.std.proofs.lemmas.List.Elements.{All-contains, All-from_recursion, recursion_from_All, All-map, All-weaker}
 use Rattle.std.proofs.lemmas.List.Kept.{AllPairs-cons}
 use Rattle.fts_model.proofs.Lists.{pairs_none, Contains-cases, Contains-first, Contains-behind, Contains-none}
+use Rattle.fts_model.specs.declared.refusal.Refusal.{Refusal}
+use Rattle.fts_model.specs.declared.refusal.Refusal.TheVariants.{SourceGone}
+use Rattle.fts_model.specs.Results.{first_of, ok_unless}
 use Rattle.fts_merge.specs.Merges.{HasBits}
 use Rattle.fts_merge.proofs.OriginsLemmas.{IsMerged-merge_of, length-contents_of}
 use Rattle.fts_merge.proofs.PlacesLemmas.{placed_from}
-use Rattle.fts_snapshots.specs.Entries.{EntryValue, IsEntry, live_count}
-use Rattle.fts_snapshots.specs.Merges.{is_there, entry_at, entries_at, names_fault}
-use Rattle.fts_snapshots.specs.MergedSegments.{IsJob, IsMergedSegment, ids_of, merged_of}
-use Rattle.fts_snapshots.specs.Snapshots.{SnapshotValue, IsSnapshot}
+use Rattle.fts_snapshots.specs.Entries.{EntryValue, IsEntry, live_in, live_count}
+use Rattle.fts_snapshots.specs.Merges.{is_there, entry_at, entries_at, names_fault, size_fault}
+use Rattle.fts_snapshots.specs.LateMerges.{first_gone, is_gone, gone_fault, end_fault, after_end, after_merge}
+use Rattle.fts_snapshots.specs.Commits.{numbers_fault}
+use Rattle.fts_snapshots.specs.MergedSegments.{MergedSegmentValue, IsJob, IsMergedSegment, ids_of, merged_of}
+use Rattle.fts_snapshots.specs.Snapshots.{SnapshotValue, IsSnapshot, merge_fault}
 use Rattle.fts_snapshots.specs.Sources.{source_of}
 use Rattle.fts_snapshots.specs.Following.{is_set, Fits}
 use Rattle.fts_snapshots.proofs.OrderLemmas.{rises_from_pairs}
 use Rattle.fts_snapshots.proofs.MergeLemmas.{ById, AreDifferent, names_given}
 use Rattle.fts_snapshots.proofs.SnapshotLemmas.{all_entries_at, some_sources}
-use Rattle.fts_snapshots.proofs.SourceLemmas.{live_count-sources, snapshot_schema, named_schema, schema_of-sources, some_entries}
+use Rattle.fts_snapshots.proofs.SourceLemmas.{contents-sources, live_count-sources, snapshot_schema, named_schema, schema_of-sources, some_entries}
 use Rattle.fts_snapshots.proofs.FollowLemmas.{contains_mapped}
 use Rattle.fts_snapshots.proofs.EndLemmas.{got_mapped}
 
@@ -55,6 +61,14 @@ job_begun s ids i h =
 bits_of : (es : List EntryValue) → All IsEntry es → All HasBits (map source_of es)
 bits_of es a = All-map HasBits source_of es (All-weaker IsEntry (λ e. HasBits (source_of e)) (λ e h. h.bits) es a)
 
+-- a merged segment has as many documents as its sources have live ones
+pub length-merged : (es : List EntryValue) → All IsEntry es → length (merged_of es).merged.segment.documents ≡ sum_by live_count es
+length-merged es each = length-contents_of (map source_of es) (bits_of es each) ∙ live_count-sources es
+
+-- segments contain as many documents as they have live ones
+pub length-live_in : (es : List EntryValue) → All IsEntry es → length (flat_map live_in es) ≡ sum_by live_count es
+length-live_in es each = ap length (sym (contents-sources es)) ∙ length-merged es each
+
 -- what a job makes is a merged segment
 pub merged_by_job : (es : List EntryValue) → IsJob es → sum_by live_count es ≤ 1048576 → IsMergedSegment (merged_of es)
 merged_by_job es job few =
@@ -65,7 +79,7 @@ merged_by_job es job few =
       sources = length-map es source_of ∙ sym many;
       some = omega (arith, many, job.some);
       different = job.different;
-      few = omega (arith, length-contents_of ss (bits_of es job.each), live_count-sources es, few);
+      few = omega (arith, length-merged es job.each, few);
     }
 
 got_from_map : {X Y : Type 0} (f : X → Y) (xs : List X) (k : ℕ) (y : Y) → slice_get (map f xs) k ≡ Some y → (x : X) × (slice_get xs k ≡ Some x) × (f x ≡ y)
@@ -130,3 +144,31 @@ fits_begun s ids i h =
           let placed = placed_from 0 ss source (source_of e) n (bits_of job (job_begun s ids i h).each) is (set_at e.live n live) in
           (placed.0, placed.1 ∙ ap (λ (k : ℕ). Some (record { source = k; document = n })) (omega arith), placed.2);
     }
+
+abbrev none_of : (X : Type 0) → Option X
+none_of X = None
+
+none_gone : (es : List EntryValue) (ids : List ℕ) → AllByRecursion (λ id. is_there es id ≡ true) ids → first_gone es ids ≡ None
+none_gone es [] a = refl
+none_gone es (id ∷ ids) a = ap (λ b. cond b (first_gone es ids) (Some id)) a.0 ∙ none_gone es ids a.1
+
+-- a merge that was begun on a snapshot can end there, as far as its sources go
+pub here_begun : (es : List EntryValue) (ids : List ℕ) → names_fault es ids ≡ None → gone_fault (merged_of (entries_at es ids)) es ≡ None
+here_begun es ids h =
+    let there = (names_given es ids h).1.there in
+    let m = merged_of (entries_at es ids) in
+    ap (λ gone. cond (is_gone m es) (option_map SourceGone gone) None) (ap (first_gone es) (ids_named es ids there) ∙ none_gone es ids there) ∙ neither_way (is_gone m es) where
+      neither_way : (b : Bool) → cond b (option_map SourceGone (none_of ℕ)) None ≡ none_of Refusal
+      neither_way true = refl
+      neither_way false = refl
+
+-- a merge that is begun, run and ended with nothing between
+pub merge_here : (s : SnapshotValue) (ids : List ℕ) (m : MergedSegmentValue) → names_fault s.entries ids ≡ None → size_fault (sum_by live_count (entries_at s.entries ids)) ≡ None →
+    m ≡ merged_of (entries_at s.entries ids) → ok_unless (end_fault s.next_id m s.entries) (after_end m s) ≡ ok_unless (merge_fault ids s) (after_merge ids s)
+merge_here s ids m names few is =
+    let last = numbers_fault (s.next_id + 1) in
+    let size = size_fault (sum_by live_count (entries_at s.entries ids)) in
+    let new = after_merge ids s in
+    ap (λ k. ok_unless (end_fault s.next_id k s.entries) (after_end k s)) is
+    ∙ ap (λ f. ok_unless (first_of f last) new) (here_begun s.entries ids names)
+    ∙ sym (ap (λ f. ok_unless (first_of f (first_of size last)) new) names ∙ ap (λ f. ok_unless (first_of f last) new) few)

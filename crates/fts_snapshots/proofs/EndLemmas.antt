@@ -390,7 +390,7 @@ content-ended m s w i f =
     (IsPermutation-trans (flat_map live_in es) (new ++ flat_map live_in kept) (flat_map live_in kept ++ new) moved (IsPermutation-append_comm new (flat_map live_in kept))))
 
 -- what the end of a merge leaves is a snapshot
-pub snapshot_after_end : (m : MergedSegmentValue) (s : SnapshotValue) → IsMergedSegment m → IsSnapshot s → Fits m s → m.merged.segment.schema ≡ s.schema → s.next_id + 1 < 2 ^ 62 → IsSnapshot (after_end m s)
+pub snapshot_after_end : (m : MergedSegmentValue) (s : SnapshotValue) → IsMergedSegment m → IsSnapshot s → Fits m s → m.merged.segment.schema ≡ s.schema → s.next_id + 1 ≤ 2 ^ 62 → IsSnapshot (after_end m s)
 snapshot_after_end m s w i f schema room =
     let kept = without s.entries m.ids in
     let test : EntryValue → Bool = λ e. not (is_among m.ids e.id) in

@@ -105,7 +105,7 @@ pub stamps_skipped : (ds : List (Stamped DocumentValue)) (bits : List Bool) (i :
     stamps_to ds bits (i + 1) ≡ stamps_to ds bits i
 stamps_skipped ds bits i d h k = stamps_next ds bits i d false h k ∙ append-nil (stamps_to ds bits i)
 
-added_key : (stamp q : ℕ) (old : Bool) → cond (stamp == q) true old ≡ (old || ((q == stamp) || false))
+pub added_key : (stamp q : ℕ) (old : Bool) → cond (stamp == q) true old ≡ (old || ((q == stamp) || false))
 added_key stamp q old =
     elim (stamp == q) as (λ b. (stamp == q) ≡ b → cond b true old ≡ (old || ((q == stamp) || false))) [
       | true ↦ λ t. let same : (q == stamp) ≡ true = grind (arith, nat_tests, t) in sym (ap (λ b. old || (b || false)) same ∙ or_true old)

@@ -10,9 +10,9 @@ use Rattle.fts_snapshots.specs.Entries.{EntryValue, has_live}
 use Rattle.fts_model.specs.declared.cut.Cut.{Cut}
 use Rattle.fts_snapshots.specs.Cuts.{groups_of}
 use Rattle.fts_snapshots.specs.Commits.{struck, fresh_from}
-use Rattle.fts_snapshots.specs.Merges.{is_among, without, whole, gathered}
+use Rattle.fts_snapshots.specs.Merges.{is_among, without}
 use Rattle.fts_snapshots.specs.MergedSegments.{MergedSegmentValue}
-use Rattle.fts_snapshots.specs.Snapshots.{SnapshotValue, after_commit, after_merge}
+use Rattle.fts_snapshots.specs.Snapshots.{SnapshotValue, after_commit}
 use Rattle.fts_snapshots.specs.Following.{is_set, IsLater, Follows, Fits}
 use Rattle.fts_snapshots.specs.LateMerges.{ended, after_end}
 use Rattle.fts_snapshots.proofs.SnapshotLemmas.{ids_from}
@@ -83,20 +83,6 @@ follows_commit s cut batch =
             | inr k ↦
                 let from = All-from_recursion (λ (f : EntryValue). s.next_id ≤ f.id) new (ids_from s.schema batch s.next_id s.next_id groups (omega arith)) in
                 let high = All-contains (λ (f : EntryValue). s.next_id ≤ f.id) new e from k in absurd (omega (arith, high, l))
-          ];
-    }
-
-pub follows_merge : (s : SnapshotValue) (ids : List ℕ) → Follows s (after_merge ids s)
-follows_merge s ids =
-    let test : EntryValue → Bool = λ e. not (is_among ids e.id) in
-    let one = whole s.schema s.next_id (gathered s.entries ids) in
-    record {
-      next = omega arith;
-      segments = λ e c l.
-          elim (Contains-append_cases (without s.entries ids) (one ∷ []) e c) as (λ _. (f : EntryValue) × Contains s.entries f × IsLater f e) [
-            | inl k ↦ (e, (Contains-from_filter test s.entries e k).0, later_itself e)
-            | inr k ↦ elim (Contains-cases one [] e k) as (λ _. (f : EntryValue) × Contains s.entries f × IsLater f e)
-                [ inl x ↦ let high : s.next_id ≡ e.id = ap (λ (f : EntryValue). f.id) x in absurd (omega (arith, high, l)) | inr n ↦ absurd (Contains-none e n) ]
           ];
     }
 

@@ -14,7 +14,6 @@ pub mod JobLemmas
 pub mod CommitLemmas
 pub mod MergeLemmas
 pub mod SnapshotLemmas
-pub mod PlaceLemmas
 pub mod SourceLemmas
 pub mod PlanLemmas
 pub mod FollowLemmas

@@ -1,6 +1,8 @@
 -- The places of segments, and what stands there.
 use Rattle.std.proofs.Common.{◌≡◌, ◌≢◌, ◌<◌, ◌≤◌, ◌==◌, ◌||◌, inl, inr, ℕ, zero, suc, true, false, cond, Option, Some, None, Result, Ok, Err, List, [], ◌∷◌, length, get_or, slice_get, subst, refl, sym, ap, ◌∙◌, arith}
-use Rattle.std.specs.Prelude.{MatchResult}
+use Rattle.std.specs.Prelude.{MatchResult, MatchOption}
+use Rattle.std.specs.Slice.{IsItemAt}
+use denote.Ref.{Bor}
 use Rattle.std.specs.List.{AllByRecursion}
 use Rattle.std.specs.List.Sorted.{IsBinarySearchResult}
 use Rattle.std.specs.Option.{is_some, option_map}
@@ -8,6 +10,7 @@ use Rattle.std.specs.Ordering.{nat_cmp}
 use Rattle.std.proofs.lemmas.Bool.{cases_order}
 use Rattle.std.proofs.lemmas.Bool.Decides.{nat_tests}
 use Rattle.std.proofs.lemmas.List.Sorted.{searched}
+use Rattle.std.proofs.lemmas.Option.{slice_get_within, get_or_from_slice_get}
 use Rattle.fts_snapshots.specs.Entries.{EntryValue}
 use Rattle.fts_snapshots.specs.Merges.{is_there, entry_at}
 use Rattle.fts_snapshots.specs.MergedSegments.{ids_of}
@@ -87,6 +90,17 @@ there_by_place (e ∷ es) id =
     elim (e.id == id) as (λ b. is_some (cond b (Some 0) (option_map suc (place_in es id))) ≡ (b || is_there es id))
     [ true ↦ refl | false ↦ some_mapped (place_in es id) ∙ there_by_place es id ]
 
+-- whether there is a segment of a number, by what there is
+pub there_none : (es : List EntryValue) (id : ℕ) → entry_at es id ≡ [] → is_there es id ≡ false
+there_none [] id h = refl
+there_none (e ∷ es) id h =
+    elim (e.id == id) as (λ b. cond b (e ∷ []) (entry_at es id) ≡ [] → (b || is_there es id) ≡ false) [ true ↦ λ k. cc | false ↦ λ k. there_none es id k ] h
+
+pub there_one : (es : List EntryValue) (id : ℕ) (entry : EntryValue) → entry_at es id ≡ entry ∷ [] → is_there es id ≡ true
+there_one [] id entry h = cc
+there_one (e ∷ es) id entry h =
+    elim (e.id == id) as (λ b. cond b (e ∷ []) (entry_at es id) ≡ entry ∷ [] → (b || is_there es id) ≡ true) [ true ↦ λ k. refl | false ↦ λ k. there_one es id entry k ] h
+
 pub entry_none : (es : List EntryValue) (id : ℕ) → place_in es id ≡ None → entry_at es id ≡ []
 entry_none [] id h = refl
 entry_none (e ∷ es) id h =
@@ -122,3 +136,13 @@ live_by_place [] id n = refl
 live_by_place (e ∷ es) id n =
     elim (e.id == id) as (λ b. is_live_there (e ∷ es) (cond b (Some 0) (option_map suc (place_in es id))) n ≡ cond b (is_set e.live n) (is_live_at es id n))
     [ true ↦ refl | false ↦ there_next e es (place_in es id) n ∙ live_by_place es id n ]
+
+-- what is read at the place of a number
+pub found_by_place : (es : List EntryValue) (id k : ℕ) (r : Option (Bor EntryValue)) → place_in es id ≡ Some k → IsItemAt es k r → MatchOption r (entry_at es id ≡ []) (λ e. entry_at es id ≡ e.now ∷ [])
+found_by_place es id k (Some e) h is =
+    let found = entry_some es id k h in
+    found.2 ∙ ap (λ f. f ∷ []) (sym (is.1 ∙ get_or_from_slice_get es k found.0 e.now found.1))
+found_by_place es id k None h is =
+    let found = entry_some es id k h in
+    let past : length es ≤ k = is.3 in
+    absurd (omega (arith, slice_get_within es k found.0 found.1, past))

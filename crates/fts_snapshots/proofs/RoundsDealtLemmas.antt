@@ -22,7 +22,7 @@ numbers_is (x ∷ xs) a (suc n) e f =
     let rest = numbers_is xs (a + 1) n (omega arith) (λ i d lt. f (suc i) d (omega arith) ∙ (let z : a + suc i ≡ (a + 1) + i = omega arith in z)) in
     λ i. head i ∷ rest i
 
-module _ (r : Opened) (lanes ends : List Held) (n : ℕ) (dealt : lanes ≡ map (fresh r) (range_with_len 0 n)) (whole : n ≡ r.terms.lanes) (len : length ends ≡ length lanes)
+module _ (r : Opened) (lanes ends : List Held) (n : ℕ) (dealt : lanes ≡ map (fresh r) (range_with_len 0 n)) (whole : n ≡ r.limits.lanes) (len : length ends ≡ length lanes)
     (same : (i : ℕ) (d : Held) → i < length lanes → SameLane (get_or lanes i d) (get_or ends i d)) where
   count : length lanes ≡ n
   count = ap length dealt ∙ length-map-range_with_len (fresh r) 0 n

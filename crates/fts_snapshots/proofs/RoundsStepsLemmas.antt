@@ -5,7 +5,7 @@ use lib.ListN.{get_elem?}
 use Rattle.std.proofs.Math.Nat.{add-mul}
 use Rattle.atomic_table.specs.Table.{State, Me, step, keeps, stepped, opening, Allows, Splits, Joins}
 use Rattle.atomic_table.proofs.Lists.{at_set, at_snoc, set_again, set_else}
-use Rattle.fts_snapshots.specs.declared.stamps.Terms.{Terms}
+use Rattle.fts_snapshots.specs.declared.stamps.RoundLimits.{RoundLimits}
 use Rattle.fts_snapshots.specs.declared.stamps.Drawn.{Drawn}
 use Rattle.std.specs.List.{range_with_len}
 use Rattle.fts_snapshots.specs.Rounds.{times}
@@ -14,29 +14,29 @@ use Rattle.fts_snapshots.proofs.RoundsNumbersLemmas.{times-append, range_with_le
 use Rattle.fts_snapshots.proofs.RoundsTotalsLemmas.{total-set, total-push, count_le, total-alone}
 
 -- a view after it drew the next stamp
-fits_drawn : (t : Terms) (n : ℕ) (v : Drawn) → Fits t n v → v.lanes ≡ 1 → length v.stamps < v.terms.cap → v.terms ≡ t → Fits t (n + 1) (drawn v.terms v.lanes (v.stamps ++ n ∷ []))
+fits_drawn : (t : RoundLimits) (n : ℕ) (v : Drawn) → Fits t n v → v.lanes ≡ 1 → length v.stamps < v.limits.cap → v.limits ≡ t → Fits t (n + 1) (drawn v.limits v.lanes (v.stamps ++ n ∷ []))
 fits_drawn t n v fit one room is = record {
-  terms = fit.terms;
-  most = (let l = length-append v.stamps (n ∷ []) in let cap : v.terms.cap ≡ t.cap = ap (λ (u : Terms). u.cap) is in let m : v.lanes * t.cap ≡ 1 * t.cap = ap (λ (k : ℕ). k * t.cap) one in omega arith);
+  limits = fit.limits;
+  most = (let l = length-append v.stamps (n ∷ []) in let cap : v.limits.cap ≡ t.cap = ap (λ (u : RoundLimits). u.cap) is in let m : v.lanes * t.cap ≡ 1 * t.cap = ap (λ (k : ℕ). k * t.cap) one in omega arith);
   below = AllBelow-append (n + 1) v.stamps (n ∷ []) (AllBelow-more n (n + 1) v.stamps (omega arith) fit.below) (omega arith, tt);
   rises = (λ _. Rises-push n v.stamps fit.below (fit.rises one));
 }
 
-fits_later : (t : Terms) (n : ℕ) (v : Drawn) → Fits t n v → Fits t (n + 1) v
-fits_later t n v fit = record { terms = fit.terms; most = fit.most; below = AllBelow-more n (n + 1) v.stamps (omega arith) fit.below; rises = fit.rises }
+fits_later : (t : RoundLimits) (n : ℕ) (v : Drawn) → Fits t n v → Fits t (n + 1) v
+fits_later t n v fit = record { limits = fit.limits; most = fit.most; below = AllBelow-more n (n + 1) v.stamps (omega arith) fit.below; rises = fit.rises }
 
-module _ (t : Terms) (s : State (Unit {0}) Drawn) (r : Kept t s) where
+module _ (t : RoundLimits) (s : State (Unit {0}) Drawn) (r : Kept t s) where
   -- the next stamp is not far from the first
   near : get_or s.words 0 0 < 2 ^ 62
   near = let most = count_le t (get_or s.words 0 0) s.views r.fit in let is = r.next in let small = r.small in let lanes : lane_count s.views * t.cap ≡ t.lanes * t.cap = ap (λ (k : ℕ). k * t.cap) r.lanes in omega arith
 
-  keeps_drawn : (id : ℕ) (c : List (ℕ × Unit {0})) (v : Drawn) → get_elem? s.views id ≡ some v → v.lanes ≡ 1 → length v.stamps < v.terms.cap → (m : ℕ) → m ≡ get_or s.words 0 0 + 1
-      → Kept t (stepped s 0 m id c (drawn v.terms v.lanes (v.stamps ++ get_or s.words 0 0 ∷ [])) keeps)
+  keeps_drawn : (id : ℕ) (c : List (ℕ × Unit {0})) (v : Drawn) → get_elem? s.views id ≡ some v → v.lanes ≡ 1 → length v.stamps < v.limits.cap → (m : ℕ) → m ≡ get_or s.words 0 0 + 1
+      → Kept t (stepped s 0 m id c (drawn v.limits v.lanes (v.stamps ++ get_or s.words 0 0 ∷ [])) keeps)
   keeps_drawn id c v at one room m is =
       let n : ℕ = get_or s.words 0 0 in
-      let w : Drawn = drawn v.terms v.lanes (v.stamps ++ n ∷ []) in
+      let w : Drawn = drawn v.limits v.lanes (v.stamps ++ n ∷ []) in
       let fit = r.fit id v at in
-      let mine : v.terms ≡ t = fit.terms (omega arith) in
+      let mine : v.limits ≡ t = fit.limits (omega arith) in
       let lanes = total-set (λ u. u.lanes) s.views id v w at in
       let counts = total-set (λ u. length u.stamps) s.views id v w at in
       let longer = length-append v.stamps (n ∷ []) in
@@ -72,44 +72,44 @@ module _ (t : Terms) (s : State (Unit {0}) Drawn) (r : Kept t s) where
       record { one_word = length-set s.words 0 (get_or s.words 0 0) ∙ r.one_word; small = r.small; lanes = r.lanes; next = word ∙ r.next; each_once = r.each_once; fit = (λ j u here. subst (λ (k : ℕ). Fits t k u) (sym word) (r.fit j u here)) }
 
   blank : Fits t (get_or s.words 0 0) spent
-  blank = record { terms = (λ h. absurd (omega arith)); most = omega arith; below = tt; rises = (λ _. tt) }
+  blank = record { limits = (λ h. absurd (omega arith)); most = omega arith; below = tt; rises = (λ _. tt) }
 
   empty_from : (u : Drawn) → Fits t (get_or s.words 0 0) u → u.lanes ≡ 0 → length u.stamps ≡ 0
   empty_from u f e = let most = f.most in let none : u.lanes * t.cap ≡ 0 * t.cap = ap (λ (k : ℕ). k * t.cap) e in omega arith
 
   -- a seat that stands for all lanes has as many stamps as there are
-  count_alone : (id : ℕ) (v : Drawn) → get_elem? s.views id ≡ some v → v.terms ≡ t → v.lanes ≡ v.terms.lanes → stamp_count s.views ≡ length v.stamps
+  count_alone : (id : ℕ) (v : Drawn) → get_elem? s.views id ≡ some v → v.limits ≡ t → v.lanes ≡ v.limits.lanes → stamp_count s.views ≡ length v.stamps
   count_alone id v at is all = total-alone (Fits t (get_or s.words 0 0)) (λ u. length u.stamps) (λ u f e. empty_from u f e) s.views id v r.fit blank at
-      (r.lanes ∙ (sym (ap (λ (u : Terms). u.lanes) is) ∙ sym all))
+      (r.lanes ∙ (sym (ap (λ (u : RoundLimits). u.lanes) is) ∙ sym all))
 
   -- and it has each of them
-  has_all : (id : ℕ) (v : Drawn) → get_elem? s.views id ≡ some v → 0 < v.lanes → v.lanes ≡ v.terms.lanes → (x : ℕ) → times x v.stamps ≡ times x (range_with_len v.terms.first (length v.stamps))
+  has_all : (id : ℕ) (v : Drawn) → get_elem? s.views id ≡ some v → 0 < v.lanes → v.lanes ≡ v.limits.lanes → (x : ℕ) → times x v.stamps ≡ times x (range_with_len v.limits.first (length v.stamps))
   has_all id v at some_lane all x =
       let fit = r.fit id v at in
-      let is : v.terms ≡ t = fit.terms some_lane in
+      let is : v.limits ≡ t = fit.limits some_lane in
       let sum = total-alone (Fits t (get_or s.words 0 0)) (λ u. times x u.stamps) (λ u f e. times-none x u.stamps (empty_from u f e)) s.views id v r.fit blank at
-      (r.lanes ∙ (sym (ap (λ (u : Terms). u.lanes) is) ∙ sym all)) in
-      sym sum ∙ (r.each_once x ∙ (ap (λ (k : ℕ). times x (range_with_len t.first k)) (count_alone id v at is all) ∙ ap (λ (u : Terms). times x (range_with_len u.first (length v.stamps))) (sym is)))
+      (r.lanes ∙ (sym (ap (λ (u : RoundLimits). u.lanes) is) ∙ sym all)) in
+      sym sum ∙ (r.each_once x ∙ (ap (λ (k : ℕ). times x (range_with_len t.first k)) (count_alone id v at is all) ∙ ap (λ (u : RoundLimits). times x (range_with_len u.first (length v.stamps))) (sym is)))
 
 -- the step of `submit`
-pub draws : (t : Terms) (slots id : ℕ) (me : Me (Unit {0}) Drawn) → me.0.lanes ≡ 1 → length me.0.stamps < me.0.terms.cap
+pub draws : (t : RoundLimits) (slots id : ℕ) (me : Me (Unit {0}) Drawn) → me.0.lanes ≡ 1 → length me.0.stamps < me.0.limits.cap
     → Allows (Kept t) slots id me 0 (λ n. (n + 1) % 2 ^ 64) (Draws (step slots 0 1 0 none) me)
 draws t slots id me one room s r _ at _ =
     let n : ℕ = get_or s.words 0 0 in
     let fit = r.fit id me.0 at in
-    let mine : me.0.terms ≡ t = fit.terms (omega arith) in
-    let low : me.0.terms.first ≡ t.first = ap (λ (u : Terms). u.first) mine in
+    let mine : me.0.limits ≡ t = fit.limits (omega arith) in
+    let low : me.0.limits.first ≡ t.first = ap (λ (u : RoundLimits). u.first) mine in
     let next = r.next in
     let near' = near t s r in
     let m : (n + 1) % 18446744073709551616 ≡ n + 1 = omega arith in
-    (drawn me.0.terms me.0.lanes (me.0.stamps ++ n ∷ []), keeps, tt, keeps_drawn t s r id me.1 me.0 at one room ((n + 1) % 18446744073709551616) m, (refl, omega arith, fit.below, near', λ all. (let count = count_alone t s r id me.0 at mine all in omega arith)))
+    (drawn me.0.limits me.0.lanes (me.0.stamps ++ n ∷ []), keeps, tt, keeps_drawn t s r id me.1 me.0 at one room ((n + 1) % 18446744073709551616) m, (refl, omega arith, fit.below, near', λ all. (let count = count_alone t s r id me.0 at mine all in omega arith)))
 
 -- the load of `gather`
-pub looks : (t : Terms) (slots id : ℕ) (me : Me (Unit {0}) Drawn) → 0 < me.0.lanes → Allows (Kept t) slots id me 0 (λ n. n) (Looks (step slots 0 0 0 none) me)
+pub looks : (t : RoundLimits) (slots id : ℕ) (me : Me (Unit {0}) Drawn) → 0 < me.0.lanes → Allows (Kept t) slots id me 0 (λ n. n) (Looks (step slots 0 0 0 none) me)
 looks t slots id me some_lane s r _ at _ =
     let fit = r.fit id me.0 at in
-    let mine : me.0.terms ≡ t = fit.terms some_lane in
-    let first : me.0.terms.first ≡ t.first = ap (λ (u : Terms). u.first) mine in
+    let mine : me.0.limits ≡ t = fit.limits some_lane in
+    let first : me.0.limits.first ≡ t.first = ap (λ (u : RoundLimits). u.first) mine in
     let near' = near t s r in
     let next = r.next in (
       me.0,
@@ -126,13 +126,13 @@ looks t slots id me some_lane s r _ at _ =
     )
 
 -- a seat with no stamp gives a lane to a new seat
-pub deals : (t : Terms) (id : ℕ) (v : Drawn) → 0 < v.lanes → v.stamps ≡ [] → Splits (Kept t) id v (one_less v) (one_lane v)
+pub deals : (t : RoundLimits) (id : ℕ) (v : Drawn) → 0 < v.lanes → v.stamps ≡ [] → Splits (Kept t) id v (one_less v) (one_lane v)
 deals t id v some_lane empty s r at =
     let n : ℕ = get_or s.words 0 0 in
     let l : Drawn = one_less v in
     let one : Drawn = one_lane v in
     let fit = r.fit id v at in
-    let mine : v.terms ≡ t = fit.terms some_lane in
+    let mine : v.limits ≡ t = fit.limits some_lane in
     let none_yet : length v.stamps ≡ 0 = ap length empty in
     let same_count : stamp_count (set s.views id l ++ one ∷ []) ≡ stamp_count s.views
     = (let a = total-set (λ u. length u.stamps) s.views id v l at in let b = total-push (λ u. length u.stamps) (set s.views id l) one in omega arith) in
@@ -150,22 +150,22 @@ deals t id v some_lane empty s r at =
           omega arith);
       fit = (λ j u here. ⊎_elim
           (λ old. ⊎_elim
-          (λ e. subst (Fits t n) e.1 (record { terms = (λ _. mine); most = omega arith; below = tt; rises = (λ _. tt) }))
+          (λ e. subst (Fits t n) e.1 (record { limits = (λ _. mine); most = omega arith; below = tt; rises = (λ _. tt) }))
           (λ e. r.fit j u e.1)
           (at_set s.views id j l u old))
-          (λ new. subst (Fits t n) new (record { terms = (λ _. mine); most = omega arith; below = tt; rises = (λ _. tt) }))
+          (λ new. subst (Fits t n) new (record { limits = (λ _. mine); most = omega arith; below = tt; rises = (λ _. tt) }))
           (at_snoc (set s.views id l) one u j here));
     }
 
 -- a seat takes in another
-pub collects : (t : Terms) (id : ℕ) (v : Drawn) (other : ℕ) (w : Drawn) → 0 < w.lanes → Joins (Kept t) id v other w (joined v w) spent
+pub collects : (t : RoundLimits) (id : ℕ) (v : Drawn) (other : ℕ) (w : Drawn) → 0 < w.lanes → Joins (Kept t) id v other w (joined v w) spent
 collects t id v other w some_lane s r at apart at' =
     let n : ℕ = get_or s.words 0 0 in
     let both : Drawn = joined v w in
     let there : get_elem? s.views other ≡ some w = sym (set_else s.views id other both apart) ∙ at' in
     let mine = r.fit id v at in
     let theirs = r.fit other w there in
-    let is : w.terms ≡ t = theirs.terms some_lane in
+    let is : w.limits ≡ t = theirs.limits some_lane in
     let longer = length-append v.stamps w.stamps in
     let same_count : stamp_count (set (set s.views id both) other spent) ≡ stamp_count s.views
     = (let a = total-set (λ u. length u.stamps) s.views id v both at in let b = total-set (λ u. length u.stamps) (set s.views id both) other w spent at' in omega arith) in
@@ -182,10 +182,10 @@ collects t id v other w some_lane s r at apart at' =
           let counts : times x (range_with_len t.first (stamp_count (set (set s.views id both) other spent))) ≡ times x (range_with_len t.first (stamp_count s.views)) = ap (λ (k : ℕ). times x (range_with_len t.first k)) same_count in
           omega arith);
       fit = (λ j u here. ⊎_elim
-          (λ e. subst (Fits t n) e.1 (record { terms = (λ h. absurd (omega arith)); most = omega arith; below = tt; rises = (λ _. tt) }))
+          (λ e. subst (Fits t n) e.1 (record { limits = (λ h. absurd (omega arith)); most = omega arith; below = tt; rises = (λ _. tt) }))
           (λ old. ⊎_elim
           (λ e. subst (Fits t n) e.1 (record {
-            terms = (λ _. is);
+            limits = (λ _. is);
             most = (let a = mine.most in let b = theirs.most in let m = add-mul v.lanes w.lanes t.cap in omega arith);
             below = AllBelow-append n v.stamps w.stamps mine.below theirs.below;
             rises = (λ one.
@@ -199,7 +199,7 @@ collects t id v other w some_lane s r at apart at' =
     }
 
 -- the table at the start
-pub opens : (t : Terms) → t.first + t.lanes * t.cap < 2 ^ 62 → Kept t (opening (t.first ∷ []) [] (begun t))
+pub opens : (t : RoundLimits) → t.first + t.lanes * t.cap < 2 ^ 62 → Kept t (opening (t.first ∷ []) [] (begun t))
 opens t small = record {
   one_word = refl;
   small = small;
@@ -210,5 +210,5 @@ opens t small = record {
 }
   where
     first_alone : (id : ℕ) (v : Drawn) → get_elem? (begun t ∷ []) id ≡ some v → Fits t t.first v
-    first_alone zero v at = subst (Fits t t.first) (some-injective (begun t) v at) (record { terms = (λ _. refl); most = omega arith; below = tt; rises = (λ _. tt) })
+    first_alone zero v at = subst (Fits t t.first) (some-injective (begun t) v at) (record { limits = (λ _. refl); most = omega arith; below = tt; rises = (λ _. tt) })
     first_alone (suc id) v at = absurd (some-ne-none v (sym at))

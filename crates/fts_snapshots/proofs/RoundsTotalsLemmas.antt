@@ -2,7 +2,7 @@
 use Rattle.std.proofs.Common.{◌≡◌, ℕ, zero, suc, ◌+◌, ◌*◌, ◌≤◌, List, [], ◌∷◌, ◌++◌, set, sym, refl, ap, subst, ⊎_elim, arith}
 use mathlib.Core.Option.{some, some-injective, some-ne-none}
 use lib.ListN.{get_elem?}
-use Rattle.fts_snapshots.specs.declared.stamps.Terms.{Terms}
+use Rattle.fts_snapshots.specs.declared.stamps.RoundLimits.{RoundLimits}
 use Rattle.fts_snapshots.specs.declared.stamps.Drawn.{Drawn}
 use Rattle.fts_snapshots.specs.RoundsDrawn.{total, lane_count, stamp_count, spent, Fits}
 use Rattle.std.proofs.Math.Nat.{add-mul}
@@ -23,7 +23,7 @@ abbrev pub Each : (Drawn → Type 0) → List Drawn → Type 0
 Each P views = (id : ℕ) (v : Drawn) → get_elem? views id ≡ some v → P v
 
 -- together they have at most cap stamps a lane
-pub count_le : (t : Terms) (next : ℕ) (views : List Drawn) → Each (Fits t next) views → stamp_count views ≤ lane_count views * t.cap
+pub count_le : (t : RoundLimits) (next : ℕ) (views : List Drawn) → Each (Fits t next) views → stamp_count views ≤ lane_count views * t.cap
 count_le t next [] fit = omega arith
 count_le t next (x ∷ xs) fit =
     let here = (fit 0 x refl).most in

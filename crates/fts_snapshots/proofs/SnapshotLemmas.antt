@@ -1,27 +1,25 @@
--- What holds of every snapshot holds after a commit and after a merge.
-use Rattle.std.proofs.Common.{◌≡◌, ◌<◌, ◌≤◌, ◌+◌, ◌^◌, ◌||◌, ◌==◌, ℕ, Bool, true, false, cond, not, None, List, [], ◌∷◌, ◌++◌, length, map, filter, sum_by, count_by, All, subst, refl, sym, ap, ◌∙◌, arith}
-use Rattle.std.specs.List.{flat_map, list_any, AllByRecursion}
-use Rattle.std.proofs.lemmas.List.{length-append, length-map}
-use Rattle.std.proofs.lemmas.List.Sums.{sum_by-cons}
-use Rattle.std.proofs.lemmas.List.Elements.{All-from_recursion, recursion_from_All, All-append, All-filter, All-map, All-weaker, All-cons, All-nil, filter_passes}
+-- What holds of every snapshot holds after a commit.
+use Rattle.std.proofs.Common.{◌≡◌, ◌<◌, ◌≤◌, ◌+◌, ◌^◌, ◌||◌, ◌==◌, ℕ, true, false, cond, None, List, [], ◌∷◌, ◌++◌, length, map, filter, All, subst, refl, sym, ap, ◌∙◌, arith}
+use Rattle.std.specs.List.{AllByRecursion}
+use Rattle.std.proofs.lemmas.List.{length-append}
+use Rattle.std.proofs.lemmas.List.Elements.{All-from_recursion, recursion_from_All, All-append, All-filter, All-map, All-weaker, filter_passes}
 use Rattle.fts_model.specs.declared.schema.Field.{Field}
 use Rattle.fts_model.specs.declared.operation.Op.{Op}
 use Rattle.fts_model.specs.declared.operation.Stamped.{Stamped}
 use Rattle.fts_model.specs.Documents.{DocumentValue}
 use Rattle.fts_model.specs.Operations.{adds, added, StampsRise}
 use Rattle.fts_model.proofs.OperationsAlive.{alive-pairs}
-use Rattle.fts_segment.specs.Contents.{where_set}
-use Rattle.fts_snapshots.specs.Entries.{EntryValue, IsEntry, live_in, live_count, has_live, content}
+use Rattle.fts_snapshots.specs.Entries.{EntryValue, IsEntry, has_live, content}
 use Rattle.fts_model.specs.declared.cut.Cut.{Cut}
 use Rattle.fts_snapshots.specs.Cuts.{IsCut, groups_of}
 use Rattle.fts_snapshots.specs.Commits.{struck, fresh, fresh_from, new_segments}
-use Rattle.fts_snapshots.specs.Merges.{is_there, is_among, entry_at, entries_at, without, gathered, whole, names_fault}
-use Rattle.fts_snapshots.specs.Snapshots.{SnapshotValue, IsSnapshot, IsBehind, after_commit, after_merge}
+use Rattle.fts_snapshots.specs.Merges.{is_there, entry_at, entries_at, names_fault}
+use Rattle.fts_snapshots.specs.Snapshots.{SnapshotValue, IsSnapshot, IsBehind, after_commit}
 use Rattle.fts_snapshots.proofs.OrderLemmas.{Rises, rises_from_pairs, pairs_from_rises, rises_filtered, rises_joined, All-weaker_by}
 use Rattle.fts_snapshots.proofs.EntryLemmas.{entry_struck, entry_fresh}
 use Rattle.fts_snapshots.proofs.CutLemmas.{IsWithin, groups_within}
 use Rattle.fts_snapshots.proofs.CommitLemmas.{by_stamp, stamps_rise, content-committed}
-use Rattle.fts_snapshots.proofs.MergeLemmas.{ById, names_given, content-merged}
+use Rattle.fts_snapshots.proofs.MergeLemmas.{ById, names_given}
 
 ids_struck : (ops : List (Stamped Op)) (es : List EntryValue) → ById es → ById (map (struck ops) es)
 ids_struck ops [] r = tt
@@ -53,7 +51,7 @@ all_fresh P schema ops id [] f w = tt
 all_fresh P schema ops id (ds ∷ groups) f w = (f id ds w.0, all_fresh P schema ops (id + 1) groups f w.1)
 
 pub snapshot_after_commit : (cut : Cut) (batch : List (Stamped Op)) (s : SnapshotValue) → IsCut cut → IsSnapshot s → StampsRise (adds (content s.entries) ++ batch) →
-    s.next_id + new_segments cut batch < 2 ^ 62 → IsSnapshot (after_commit cut batch s)
+    s.next_id + new_segments cut batch ≤ 2 ^ 62 → IsSnapshot (after_commit cut batch s)
 snapshot_after_commit cut batch s k i rise room =
     let groups = groups_of cut (added batch) in
     let within = groups_within cut (added batch) k in
@@ -82,13 +80,6 @@ snapshot_after_commit cut batch s k i rise room =
           (alive-pairs (λ m n. m < n) s.schema (adds (content s.entries) ++ batch) rise);
     }
 
-some_set : {X : Type 0} (xs : List X) (bits : List Bool) → length bits ≡ length xs → list_any (λ bit. bit) bits ≡ true → 0 < length (where_set xs bits)
-some_set [] [] e a = cc
-some_set [] (b ∷ bits) e a = absurd (omega (arith, e))
-some_set (x ∷ xs) [] e a = cc
-some_set (x ∷ xs) (true ∷ bits) e a = omega arith
-some_set (x ∷ xs) (false ∷ bits) e a = some_set xs bits (omega (arith, e)) a
-
 -- what holds of each segment holds of each of a number
 all_at : (P : EntryValue → Type 0) (es : List EntryValue) (id : ℕ) → AllByRecursion P es → AllByRecursion P (entry_at es id)
 all_at P [] id a = tt
@@ -115,58 +106,6 @@ some_sources es [] h = cc
 some_sources es (id ∷ ids) h =
     let given = (names_given es (id ∷ ids) h).1 in
     omega (arith, some_at es id given.there.0, length-append (entry_at es id) (entries_at es ids))
-
-length-where_set : {X : Type 0} (xs : List X) (bits : List Bool) → length bits ≡ length xs → length (where_set xs bits) ≡ count_by (λ bit. bit) bits
-length-where_set [] [] e = refl
-length-where_set [] (b ∷ bits) e = absurd (omega (arith, e))
-length-where_set (x ∷ xs) [] e = absurd (omega (arith, e))
-length-where_set (x ∷ xs) (true ∷ bits) e = omega (arith, length-where_set xs bits (omega (arith, e)), sum_by-cons (λ (bit : Bool). cond bit 1 0) true bits)
-length-where_set (x ∷ xs) (false ∷ bits) e = omega (arith, length-where_set xs bits (omega (arith, e)), sum_by-cons (λ (bit : Bool). cond bit 1 0) false bits)
-
--- segments contain as many documents as they have live ones
-pub length-live_in : (es : List EntryValue) → AllByRecursion IsEntry es → length (flat_map live_in es) ≡ sum_by live_count es
-length-live_in [] a = refl
-length-live_in (e ∷ es) a =
-    omega (arith, length-append (live_in e) (flat_map live_in es), length-where_set e.segment.documents e.live a.0.bits, length-live_in es a.1, sum_by-cons live_count e es)
-
-some_live : (es : List EntryValue) → AllByRecursion IsEntry es → AllByRecursion (λ e. has_live e ≡ true) es → 0 < length es → 0 < length (flat_map live_in es)
-some_live [] a b l = absurd (omega (arith, l))
-some_live (e ∷ es) a b l = omega (arith, some_set e.segment.documents e.live a.0.bits b.0, length-append (live_in e) (flat_map live_in es))
-
-some_all_set : {X : Type 0} (xs : List X) → 0 < length xs → list_any (λ bit. bit) (map (λ _. true) xs) ≡ true
-some_all_set [] l = absurd (omega (arith, l))
-some_all_set (x ∷ xs) l = refl
-
-pub entry_whole : (schema : List Field) (id : ℕ) (ds : List (Stamped DocumentValue)) → length ds ≤ 1048576 → IsEntry (whole schema id ds)
-entry_whole schema id ds l = record { bits = length-map ds (λ _. true); few = l }
-
-pub snapshot_after_merge : (ids : List ℕ) (s : SnapshotValue) → IsSnapshot s → names_fault s.entries ids ≡ None → sum_by live_count (entries_at s.entries ids) ≤ 1048576 →
-    s.next_id + 1 < 2 ^ 62 → IsSnapshot (after_merge ids s)
-snapshot_after_merge ids s i h few room =
-    let kept = without s.entries ids in
-    let test : EntryValue → Bool = λ e. not (is_among ids e.id) in
-    let sources = entries_at s.entries ids in
-    let entries = all_entries_at IsEntry s.entries ids (recursion_from_All IsEntry s.entries i.each) in
-    let lives = all_entries_at (λ e. has_live e ≡ true) s.entries ids (recursion_from_All (λ e. has_live e ≡ true) s.entries i.live) in
-    let documents = gathered s.entries ids in
-    let one = whole s.schema s.next_id documents in
-    let below = All-filter test (λ (e : EntryValue). e.id < s.next_id) s.entries i.below in
-    let rising = rises_from_pairs (λ (e : EntryValue). e.id) s.entries i.ids in
-    let Here : EntryValue → Type 0 = λ e. e.segment.schema ≡ s.schema in
-    let and_one : (P : EntryValue → Type 0) → All P s.entries → P one → All P (kept ++ one ∷ []) =
-    λ P a b. All-append P kept (one ∷ []) (All-filter test P s.entries a) (All-cons P one [] b (All-nil P)) in
-    record {
-      ids =
-          pairs_from_rises (λ (e : EntryValue). e.id) (kept ++ one ∷ [])
-          (rises_joined (λ (e : EntryValue). e.id) s.next_id kept (one ∷ []) (rises_filtered (λ (e : EntryValue). e.id) test s.entries rising)
-          (recursion_from_All (λ (e : EntryValue). e.id < s.next_id) kept below) (tt, tt) (omega arith, tt));
-      below = and_one (λ e. e.id < s.next_id + 1) (All-weaker (λ (e : EntryValue). e.id < s.next_id) (λ e. e.id < s.next_id + 1) (λ e h. omega (arith, h)) s.entries i.below) (omega arith);
-      room = room;
-      schemas = and_one Here i.schemas refl;
-      each = and_one IsEntry i.each (entry_whole s.schema s.next_id documents (omega (arith, length-live_in sources entries, few)));
-      live = and_one (λ e. has_live e ≡ true) i.live (some_all_set documents (some_live sources entries lives (some_sources s.entries ids h)));
-      stamps = subst StampsRise (sym (content-merged s.schema s.next_id ids s.entries rising (names_given s.entries ids h).1.different (by_stamp (content s.entries) i.stamps))) i.stamps;
-    }
 
 -- a snapshot by its parts
 abbrev pub snapshot_with : List Field → List EntryValue → ℕ → SnapshotValue

@@ -1,5 +1,5 @@
 -- The segments of a snapshot as the sources of a merge, and what a merge is refused for.
-use Rattle.std.proofs.Common.{◌≡◌, ◌<◌, ◌≤◌, ◌+◌, ◌^◌, ◌↔◌, ℕ, true, false, cond, nat_le, nat_lt, Option, Some, None, Result, Ok, Err, List, [], ◌∷◌, ◌++◌, length, map, sum_by, count_by, replicate, All, refl, sym, ap, ◌∙◌, ⊎_elim, arith}
+use Rattle.std.proofs.Common.{◌≡◌, ◌<◌, ◌≤◌, ◌+◌, ◌^◌, ◌↔◌, ℕ, true, false, cond, nat_lt, Option, Some, None, Result, Ok, Err, List, [], ◌∷◌, ◌++◌, length, map, sum_by, count_by, All, refl, sym, ap, ◌∙◌, ⊎_elim, arith}
 use Rattle.std.specs.List.{flat_map, AllByRecursion}
 use Rattle.std.proofs.lemmas.Bool.{cases_lt}
 use Rattle.std.proofs.lemmas.Bool.Decides.{nat_tests}
@@ -13,7 +13,7 @@ use Rattle.fts_merge.specs.Merges.{SourceValue, MergedValue, AreOfOneSchema, sch
 use Rattle.fts_merge.specs.Merges as sources
 use Rattle.fts_snapshots.specs.Entries.{EntryValue, live_in, live_count}
 use Rattle.fts_snapshots.specs.Commits.{numbers_fault}
-use Rattle.fts_snapshots.specs.Merges.{entries_at, names_fault, size_fault, merge_fault}
+use Rattle.fts_snapshots.specs.Merges.{entries_at, names_fault, size_fault}
 use Rattle.fts_snapshots.specs.Sources.{source_of}
 use Rattle.fts_snapshots.proofs.SnapshotLemmas.{all_entries_at, some_sources}
 
@@ -62,10 +62,6 @@ named_schema es ids a h =
     let at = all_entries_at (λ e. e.segment.schema ≡ schema) es ids each in
     (one_schema schema (entries_at es ids) at some, schema_of-sources schema (entries_at es ids) at some)
 
-pub all_set : {X : Type 0} (xs : List X) → replicate (length xs) true ≡ map (λ _. true) xs
-all_set [] = refl
-all_set (x ∷ xs) = ap (λ bits. true ∷ bits) (all_set xs)
-
 -- what was merged was not too large
 pub not_large : (result : Result MergedValue Refusal) (merged : MergedValue) (n : ℕ) → result ≡ Ok merged → (result ≡ Err TooLarge) ↔ (1048576 < n) → n ≤ 1048576
 not_large result merged n e h = ⊎_elim (λ (l : 1048576 < n). let f : Ok merged ≡ Err TooLarge = sym e ∙ h.1 l in cc) (λ (l : n ≤ 1048576). l) (cases_lt 1048576 n)
@@ -77,54 +73,18 @@ pub unless_ok : {X E : Type 0} (fault : Option E) (x y : X) → ok_unless fault 
 unless_ok None x y h = (refl, cc)
 unless_ok (Some e) x y h = cc
 
--- a refusal for the size is that of the merge
-pub size_refused : {X Y : Type 0} (size number : Option Refusal) (x : X) (y : Y) (refusal : Refusal) → ok_unless size x ≡ Err refusal → ok_unless (first_of size number) y ≡ Err refusal
-size_refused None number x y refusal h = cc
-size_refused (Some e) number x y refusal h = let same : e ≡ refusal = cc in ap Err same
-
--- what a merge is refused for where the names are right
-pub fault_named : (next : ℕ) (es : List EntryValue) (ids : List ℕ) → names_fault es ids ≡ None →
-    merge_fault next es ids ≡ first_of (size_fault (sum_by live_count (entries_at es ids))) (numbers_fault (next + 1))
-fault_named next es ids h = ap (λ f. first_of f (first_of (size_fault (sum_by live_count (entries_at es ids))) (numbers_fault (next + 1)))) h
-
--- and where the size is right
-pub fault_sized : (next : ℕ) (es : List EntryValue) (ids : List ℕ) → names_fault es ids ≡ None → size_fault (sum_by live_count (entries_at es ids)) ≡ None →
-    merge_fault next es ids ≡ numbers_fault (next + 1)
-fault_sized next es ids h k = fault_named next es ids h ∙ ap (λ f. first_of f (numbers_fault (next + 1))) k
-
-pub numbers_some : (n : ℕ) → true ≡ nat_le (2 ^ 62) n → numbers_fault n ≡ Some StampsUsedUp
-numbers_some n e = ap (λ b. cond b (Some StampsUsedUp) None) (sym e)
-
-pub numbers_none : (n : ℕ) → false ≡ nat_le (2 ^ 62) n → numbers_fault n ≡ None
-numbers_none n e = ap (λ b. cond b (Some StampsUsedUp) None) (sym e)
-
-pub room_left : (n : ℕ) → false ≡ nat_le (2 ^ 62) n → n < 2 ^ 62
+pub room_left : (n : ℕ) → false ≡ nat_lt (2 ^ 62) n → n ≤ 2 ^ 62
 room_left n e = grind (arith, nat_tests)
 
 pub first_none : {X : Type 0} (a b : Option X) → first_of a b ≡ None → (a ≡ None) × (b ≡ None)
 first_none None b h = (refl, h)
 first_none (Some x) b h = cc
 
-size_few : (n : ℕ) → size_fault n ≡ None → n ≤ 1048576
-size_few n h = ⊎_elim (λ (l : 1048576 < n). let e : nat_lt 1048576 n ≡ true = grind (arith, nat_tests) in let f : Some TooLarge ≡ None = ap (λ b. cond b (Some TooLarge) None) (sym e) ∙ h in cc) (λ (l : n ≤ 1048576). l) (cases_lt 1048576 n)
-
-pub numbers_room : (n : ℕ) → numbers_fault n ≡ None → n < 2 ^ 62
+pub numbers_room : (n : ℕ) → numbers_fault n ≡ None → n ≤ 2 ^ 62
 numbers_room n h =
-    ⊎_elim (λ (l : n < 2 ^ 62). l)
-    (λ (l : 2 ^ 62 ≤ n). let e : nat_le (2 ^ 62) n ≡ true = grind (arith, nat_tests) in let f : Some StampsUsedUp ≡ None = ap (λ b. cond b (Some StampsUsedUp) None) (sym e) ∙ h in cc)
-    (cases_lt n (2 ^ 62))
-
--- a merge that isn't refused: the names are right, there are few enough documents, and a number is left
-pub record CanMerge (next : ℕ) (es : List EntryValue) (ids : List ℕ) : Type 0 where
-  pub names : names_fault es ids ≡ None
-  pub few : sum_by live_count (entries_at es ids) ≤ 1048576
-  pub room : next + 1 < 2 ^ 62
-
-pub can_merge : (next : ℕ) (es : List EntryValue) (ids : List ℕ) → merge_fault next es ids ≡ None → CanMerge next es ids
-can_merge next es ids h =
-    let outer = first_none (names_fault es ids) (first_of (size_fault (sum_by live_count (entries_at es ids))) (numbers_fault (next + 1))) h in
-    let inner = first_none (size_fault (sum_by live_count (entries_at es ids))) (numbers_fault (next + 1)) outer.1 in
-    record { names = outer.0; few = size_few (sum_by live_count (entries_at es ids)) inner.0; room = numbers_room (next + 1) inner.1 }
+    ⊎_elim (λ (l : 2 ^ 62 < n). let e : nat_lt (2 ^ 62) n ≡ true = grind (arith, nat_tests) in let f : Some StampsUsedUp ≡ None = ap (λ b. cond b (Some StampsUsedUp) None) (sym e) ∙ h in cc)
+    (λ (l : n ≤ 2 ^ 62). l)
+    (cases_lt (2 ^ 62) n)
 
 -- there is a segment where the names are right
 pub some_entries : (es : List EntryValue) (ids : List ℕ) → names_fault es ids ≡ None → 0 < length es

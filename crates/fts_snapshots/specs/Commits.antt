@@ -1,5 +1,5 @@
 -- What a commit does to segments.
-use Rattle.std.specs.Prelude.{ℕ, ◌+◌, nat_le, ◌^◌, Option, Some, None, List, [], ◌∷◌, ◌++◌, length, map, filter, if◌then◌else◌}
+use Rattle.std.specs.Prelude.{ℕ, ◌+◌, nat_lt, ◌^◌, Option, Some, None, List, [], ◌∷◌, ◌++◌, length, map, filter, if◌then◌else◌}
 use Rattle.fts_model.specs.declared.schema.Field.{Field}
 use Rattle.fts_model.specs.declared.operation.Op.{Op}
 use Rattle.fts_model.specs.declared.operation.Stamped.{Stamped}
@@ -50,6 +50,6 @@ committed cut schema batch id entries = filter has_live (all_after cut schema ba
 abbrev pub new_segments : Cut → List (Stamped Op) → ℕ
 new_segments cut batch = length (groups_of cut (added batch))
 
--- why numbers can't be given, where the next one is to be `next`
+-- why numbers can't be given, where the one behind them is `next`: the last of them would be 2^62 or more
 abbrev pub numbers_fault : ℕ → Option Refusal
-numbers_fault next = if nat_le (2 ^ 62) next then Some StampsUsedUp else None
+numbers_fault next = if nat_lt (2 ^ 62) next then Some StampsUsedUp else None

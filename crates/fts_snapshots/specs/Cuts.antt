@@ -3,9 +3,13 @@ use Rattle.std.specs.Prelude.{ℕ, zero, suc, ◌+◌, ◌*◌, ◌/◌, ◌%◌
 use Rattle.fts_model.specs.declared.cut.Cut.{Cut}
 use Rattle.fts_model.specs.declared.cut.Cut.TheVariants.{Runs, Deal}
 
+-- the most documents of a segment that is built of adds
+abbrev pub most_built : ℕ
+most_built = 65536
+
 -- the limits of a cut
 abbrev pub IsCut : Cut → Type 0
-IsCut (Runs n) = (1 ≤ n) × (n ≤ 65536)
+IsCut (Runs n) = (1 ≤ n) × (n ≤ most_built)
 IsCut (Deal m) = (1 ≤ m) × (m ≤ 64)
 
 -- how many builders take adds in turn
@@ -16,7 +20,7 @@ builders (Deal m) = m
 -- how many adds fill a segment
 abbrev pub capacity : Cut → ℕ
 capacity (Runs n) = n
-capacity (Deal m) = 65536
+capacity (Deal m) = most_built
 
 -- The number of the segment that the j-th add goes to, both from 0 and new segments in the order of their first adds: the builders take the adds in turn, and
 -- together they begin others when all are full

@@ -13,10 +13,14 @@ pub record EntryValue : Type 0 where
   pub segment : SegmentValue
   pub live : List Bool
 
--- what holds of every segment of a snapshot: it has a bit a document, and at most 1,048,576 documents
+-- the most documents of a segment
+abbrev pub most_documents : ℕ
+most_documents = 1048576
+
+-- what holds of every segment of a snapshot: it has a bit a document, and not too many documents
 pub record IsEntry (entry : EntryValue) : Type 0 where
   pub bits : length entry.live ≡ length entry.segment.documents
-  pub few : length entry.segment.documents ≤ 1048576
+  pub few : length entry.segment.documents ≤ most_documents
 
 -- the live documents of a segment, by their numbers
 abbrev pub live_in : EntryValue → List (Stamped DocumentValue)

@@ -1,4 +1,4 @@
--- What the end of a merge makes of a snapshot.
+-- What a merge makes of the snapshot in which it ends.
 use Rattle.std.specs.Prelude.{ℕ, ◌+◌, ◌||◌, ◌==◌, Bool, false, not, Option, None, Some, List, [], ◌∷◌, ◌++◌, map, filter, flat_map, if◌then◌else◌}
 use Rattle.std.specs.List.{list_any}
 use Rattle.std.specs.Option.{option_map}
@@ -8,8 +8,8 @@ use Rattle.fts_model.specs.Results.{first_of}
 use Rattle.fts_segment.specs.Contents.{where_set}
 use Rattle.fts_snapshots.specs.Entries.{EntryValue, live_in, has_live}
 use Rattle.fts_snapshots.specs.Commits.{numbers_fault}
-use Rattle.fts_snapshots.specs.Merges.{is_among, is_there, without}
-use Rattle.fts_snapshots.specs.MergedSegments.{MergedSegmentValue, origins_of}
+use Rattle.fts_snapshots.specs.Merges.{is_among, is_there, entries_at, without}
+use Rattle.fts_snapshots.specs.MergedSegments.{MergedSegmentValue, merged_of, origins_of}
 use Rattle.fts_snapshots.specs.Snapshots.{SnapshotValue}
 use Rattle.fts_snapshots.specs.Following.{is_set}
 
@@ -37,6 +37,10 @@ after_end m s = record {
   entries = replaced s.next_id m s.entries;
   next_id = s.next_id + 1;
 }
+
+-- the snapshot when a merge of the segments of these numbers was begun, run and ended with nothing between
+abbrev pub after_merge : List ℕ → SnapshotValue → SnapshotValue
+after_merge ids s = after_end (merged_of (entries_at s.entries ids)) s
 
 -- the first of these numbers that no segment has
 abbrev pub first_gone : List EntryValue → List ℕ → Option ℕ

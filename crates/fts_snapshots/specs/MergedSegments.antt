@@ -1,7 +1,7 @@
 -- Merged segments that remember the segments that they were made of, and the jobs that make them.
 use Rattle.std.specs.Prelude.{◌≡◌, ◌≢◌, ◌<◌, ◌≤◌, ℕ, List, map, length, slice_index, All, AllPairs}
 use Rattle.fts_merge.specs.Merges.{MergedValue, IsMerged, AreOfOneSchema, merge_of}
-use Rattle.fts_snapshots.specs.Entries.{EntryValue, IsEntry}
+use Rattle.fts_snapshots.specs.Entries.{EntryValue, most_documents, IsEntry}
 use Rattle.fts_snapshots.specs.Sources.{source_of}
 
 -- the numbers of segments
@@ -24,13 +24,14 @@ pub record MergedSegmentValue : Type 0 where
 abbrev pub segment_of : MergedValue → List ℕ → MergedSegmentValue
 segment_of merged ids = record { merged = merged; ids = ids }
 
--- what holds of every merged segment: no two documents have one origin, each origin is one of the sources, and no two sources have one number
+-- what holds of every merged segment: no two documents have one origin, each origin is one of the sources, and no two sources
+-- have one number
 pub record IsMergedSegment (m : MergedSegmentValue) : Type 0 where
   pub merged : IsMerged m.merged
   pub sources : m.merged.sources ≡ length m.ids
   pub some : 0 < length m.ids
   pub different : AllPairs (λ a b. a ≢ b) m.ids
-  pub few : length m.merged.segment.documents ≤ 1048576
+  pub few : length m.merged.segment.documents ≤ most_documents
 
 -- what a job makes of its segments
 abbrev pub merged_of : List EntryValue → MergedSegmentValue

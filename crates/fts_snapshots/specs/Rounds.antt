@@ -3,17 +3,17 @@ use Rattle.std.specs.Prelude.{◌≡◌, ℕ, ◌+◌, ◌<◌, List, [], ◌∷
 use Rattle.atomic_table.specs.Seated.{TableId}
 use Rattle.fts_model.specs.declared.operation.Op.{Op}
 use Rattle.fts_model.specs.declared.operation.Stamped.{Stamped}
-use Rattle.fts_snapshots.specs.declared.stamps.Terms.{Terms}
+use Rattle.fts_snapshots.specs.declared.stamps.RoundLimits.{RoundLimits}
 
--- a round: its table, which no other round has, and its terms
+-- a round: its table, which no other round has, and its limits
 pub record Opened : Type 0 where
   pub table : TableId
-  pub terms : Terms
+  pub limits : RoundLimits
 
--- a lane or its end: its round's table and terms, which lane of the round it is, and what was submitted to it
+-- a lane or its end: its round's table and limits, which lane of the round it is, and what was submitted to it
 pub record Held : Type 0 where
   pub table : TableId
-  pub terms : Terms
+  pub limits : RoundLimits
   pub lane : ℕ
   pub ops : List (Stamped Op)
 
@@ -25,15 +25,15 @@ pub record Gathered : Type 0 where
 
 -- a lane of the round, before anything was submitted to it
 abbrev pub fresh : Opened → ℕ → Held
-fresh r lane = record { table = r.table; terms = r.terms; lane = lane; ops = [] }
+fresh r lane = record { table = r.table; limits = r.limits; lane = lane; ops = [] }
 
 -- the lane is the same, whatever was submitted to it
 abbrev pub SameLane : Held → Held → Type 0
-SameLane old new = (new.table ≡ old.table) × (new.terms ≡ old.terms) × (new.lane ≡ old.lane)
+SameLane old new = (new.table ≡ old.table) × (new.limits ≡ old.limits) × (new.lane ≡ old.lane)
 
 -- it is one of the round's lanes
 abbrev pub IsLaneOf : Opened → Held → Type 0
-IsLaneOf r h = (h.table ≡ r.table) × (h.terms ≡ r.terms) × (h.lane < r.terms.lanes)
+IsLaneOf r h = (h.table ≡ r.table) × (h.limits ≡ r.limits) × (h.lane < r.limits.lanes)
 
 abbrev pub lanes_of : List Held → List ℕ
 lanes_of ends = map (λ h. h.lane) ends

@@ -1,15 +1,16 @@
--- Snapshots, and what a commit and a merge make of them.
-use Rattle.std.specs.Prelude.{◌≡◌, ◌<◌, ◌≤◌, ℕ, ◌+◌, ◌^◌, true, Option, List, All, AllPairs}
+-- Snapshots, what a commit makes of them, and why a commit or a merge is refused.
+use Rattle.std.specs.Prelude.{◌≡◌, ◌<◌, ◌≤◌, ℕ, ◌+◌, ◌^◌, true, Option, List, sum_by, All, AllPairs}
 use Rattle.fts_model.specs.declared.schema.Field.{Field}
 use Rattle.fts_model.specs.declared.operation.Op.{Op}
 use Rattle.fts_model.specs.declared.operation.Stamped.{Stamped}
 use Rattle.fts_model.specs.declared.refusal.Refusal.{Refusal}
 use Rattle.fts_model.specs.Documents.{DocumentValue}
 use Rattle.fts_model.specs.Operations.{StampsRise}
-use Rattle.fts_snapshots.specs.Entries.{EntryValue, IsEntry, has_live, content}
+use Rattle.fts_model.specs.Results.{first_of}
+use Rattle.fts_snapshots.specs.Entries.{EntryValue, IsEntry, live_count, has_live, content}
 use Rattle.fts_model.specs.declared.cut.Cut.{Cut}
 use Rattle.fts_snapshots.specs.Commits.{committed, new_segments, numbers_fault}
-use Rattle.fts_snapshots.specs.Merges.{merged, merge_fault as fault_of_merge}
+use Rattle.fts_snapshots.specs.Merges.{entries_at, names_fault, size_fault}
 
 -- a snapshot: its schema, its segments and the number of the next one
 pub record SnapshotValue : Type 0 where
@@ -29,7 +30,7 @@ IdsRise entries = AllPairs (λ a b. a.id < b.id) entries
 pub record IsSnapshot (s : SnapshotValue) : Type 0 where
   pub ids : IdsRise s.entries
   pub below : All (λ entry. entry.id < s.next_id) s.entries
-  pub room : s.next_id < 2 ^ 62
+  pub room : s.next_id ≤ 2 ^ 62
   pub schemas : All (λ entry. entry.segment.schema ≡ s.schema) s.entries
   pub each : All IsEntry s.entries
   pub live : All (λ entry. has_live entry ≡ true) s.entries
@@ -54,14 +55,8 @@ after_commit cut batch s = record {
 abbrev pub commit_fault : Cut → List (Stamped Op) → SnapshotValue → Option Refusal
 commit_fault cut batch s = numbers_fault (s.next_id + new_segments cut batch)
 
--- the snapshot that a merge leaves
-abbrev pub after_merge : List ℕ → SnapshotValue → SnapshotValue
-after_merge ids s = record {
-  schema = s.schema;
-  entries = merged s.schema s.next_id ids s.entries;
-  next_id = s.next_id + 1;
-}
-
--- why segments can't be merged
+-- why the segments of these numbers can't be merged
 abbrev pub merge_fault : List ℕ → SnapshotValue → Option Refusal
-merge_fault ids s = fault_of_merge s.next_id s.entries ids
+merge_fault ids s =
+    first_of (names_fault s.entries ids)
+    (first_of (size_fault (sum_by live_count (entries_at s.entries ids))) (numbers_fault (s.next_id + 1)))

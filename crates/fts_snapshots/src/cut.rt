@@ -14,13 +14,16 @@ fn builders(cut: Cut) -> usize
     }
 }
 
+/// The most documents of a segment that is built of adds.
+const MOST_BUILT: usize = 65_536;
+
 /// How many adds fill a segment.
 fn capacity(cut: Cut) -> usize
     ensures { result ≡ capacity cut }
 {
     match cut {
         Cut::Runs(capacity) => capacity,
-        Cut::Deal(_) => 65_536,
+        Cut::Deal(_) => MOST_BUILT,
     }
 }
 

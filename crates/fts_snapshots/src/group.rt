@@ -1,7 +1,7 @@
 // The adds of a batch in groups, one for each new segment.
 ghost use Rattle.std.specs.Prelude.{◌≡◌, ◌<◌, ◌≤◌, ◌+◌, ◌^◌, ◌++◌, ◌∷◌, [], All, IfOk, OnOk, length};
 ghost use Rattle.fts_model.specs.Operations.{added_by, added};
-ghost use Rattle.fts_snapshots.specs.Cuts.{IsCut, place_of, put_into, dealt_from, groups_of};
+ghost use Rattle.fts_snapshots.specs.Cuts.{most_built, IsCut, place_of, put_into, dealt_from, groups_of};
 
 use crate::cut::place;
 use fts_model::{Cut, Document, Op, Stamp, Stamped};
@@ -16,6 +16,7 @@ pub(crate) struct Group {
 
 impl Model for Group {
     ghost use Rattle.std.specs.Prelude.{List, ◌≤◌, length};
+    ghost use Rattle.fts_snapshots.specs.Cuts.{most_built};
     ghost use Rattle.fts_model.specs.Documents.{DocumentValue};
     ghost use Rattle.fts_model.specs.declared.operation.Stamped.{Stamped};
 
@@ -23,7 +24,7 @@ impl Model for Group {
 
     ghost view = { λ g. g.documents.items };
 
-    ghost invariant = { λ g. length g.documents.items ≤ 65536 };
+    ghost invariant = { λ g. length g.documents.items ≤ most_built };
 }
 
 impl Group {
@@ -37,7 +38,7 @@ impl Group {
     }
 
     fn push(&mut self, document: Stamped<Document>) -> Result<(), AllocError>
-        requires { length self.old < 65536 }
+        requires { length self.old < most_built }
         ensures { OnOk result (self.new ≡ self.old ++ document ∷ []) }
     {
         self.documents.push(document)?;
@@ -47,7 +48,7 @@ impl Group {
     /// The documents, in the order of their stamps.
     pub(crate) fn documents(&self) -> &[Stamped<Document>]
         ensures documents { result.now ≡ self.now }
-        ensures few { length result.now ≤ 65536 }
+        ensures few { length result.now ≤ most_built }
     {
         &self.documents
     }
@@ -60,7 +61,7 @@ fn put(
     at: usize,
     document: Stamped<Document>,
 ) -> Result<(), AllocError>
-    requires { All (λ group. length group ≤ 65536) (put_into at document groups.old.items) }
+    requires { All (λ group. length group ≤ most_built) (put_into at document groups.old.items) }
     ensures { OnOk result (groups.new.items ≡ put_into at document groups.old.items) }
 {
     if at < groups.len() {
@@ -80,7 +81,7 @@ fn put_added(
 ) -> Result<usize, AllocError>
     requires cut { IsCut cut }
     requires small { count + 1 < 2 ^ 64 }
-    requires few { All (λ group. length group ≤ 65536) (dealt_from (place_of cut) count groups.old.items (added_by op.now.stamp op.now.value)) }
+    requires few { All (λ group. length group ≤ most_built) (dealt_from (place_of cut) count groups.old.items (added_by op.now.stamp op.now.value)) }
     ensures groups { OnOk result (groups.new.items ≡ dealt_from (place_of cut) count groups.old.items (added_by op.now.stamp op.now.value)) }
     ensures count { IfOk result (λ n. n ≡ count + length (added_by op.now.stamp op.now.value)) }
 {

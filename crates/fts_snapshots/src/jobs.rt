@@ -2,6 +2,7 @@
 ghost use Rattle.std.specs.Prelude.{◌≡◌, ◌≤◌, ◌+◌, ◌++◌, ◌<◌, ◌^◌, true, map, length, IfOk, OnOk, IsOkUnless, All};
 ghost use Rattle.fts_model.specs.Operations.{survives};
 ghost use Rattle.fts_segment.specs.Segments.{AllFit};
+ghost use Rattle.fts_snapshots.specs.Cuts.{most_built};
 ghost use Rattle.fts_snapshots.specs.Commits.{struck, fresh, fresh_from};
 ghost use Rattle.fts_snapshots.specs.Jobs.{entry_of, AreAnswers};
 
@@ -67,7 +68,7 @@ fn built(
     schema: &Schema,
     documents: &[Stamped<Document>],
 ) -> Result<Segment, Refusal>
-    requires few { length documents.now ≤ 65536 }
+    requires few { length documents.now ≤ most_built }
     requires fit { AllFit schema.now documents.now }
     ensures ok { IfOk result (λ segment. segment ≡ record { schema = schema.now; documents = documents.now }) }
     ensures memory { IsOkUnless result Refusal.Memory }
@@ -100,7 +101,7 @@ pub(crate) fn commit_jobs<'a>(
     id: u64,
     groups: &'a [Group],
 ) -> Result<Vec<CommitJob<'a>>, AllocError>
-    requires room { id + length groups.now < 2 ^ 62 }
+    requires room { id + length groups.now ≤ 2 ^ 62 }
     requires fit { All (AllFit schema.now) groups.now }
     ensures { IfOk result (λ jobs. map entry_of jobs.items ≡ map (struck ops.now) entries.now ++ fresh_from schema.now ops.now id groups.now) }
 {
@@ -122,7 +123,7 @@ fn push_builds<'a>(
     first: u64,
     groups: &'a [Group],
 ) -> Result<(), AllocError>
-    requires room { first + length groups.now < 2 ^ 62 }
+    requires room { first + length groups.now ≤ 2 ^ 62 }
     requires fit { All (AllFit schema.now) groups.now }
     ensures { OnOk result (map entry_of jobs.new.items ≡ map entry_of jobs.old.items ++ fresh_from schema.now ops.now first groups.now) }
 {

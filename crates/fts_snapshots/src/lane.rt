@@ -1,7 +1,7 @@
 // A lane of a round: it draws a stamp for each operation and keeps them to itself.
 ghost use Rattle.std.specs.Prelude.{◌≡◌, ◌+◌, ℕ, ◌<◌, ◌≤◌, ◌↔◌, ◌⊎◌, [], ◌∷◌, ◌++◌, length, All, IfOk, IfErr, IsErrAnd};
 
-use crate::stamps::{Draw, Drawn, Stamps, Terms};
+use crate::stamps::{Draw, Drawn, RoundLimits, Stamps};
 use atomic_table::{Seat, Table};
 use fts_model::{Op, Refusal, Stamp, Stamped};
 use std::alloc::Global;
@@ -9,15 +9,15 @@ use std::marker::Model;
 use std::sync::Arc;
 
 /// The table that a round and its lanes share.
-pub(crate) type StampTable = Table<(), Drawn, Terms, Stamps, Global>;
+pub(crate) type StampTable = Table<(), Drawn, RoundLimits, Stamps, Global>;
 
 /// A lane of a round. It may be moved to a thread of its own, and waits for nobody. Contracts see
-/// it as its round, the round's terms, its place among the round's lanes and what was submitted.
+/// it as its round, the round's limits, its place among the round's lanes and what was submitted.
 #[derive(Drop)]
 pub struct Lane {
     pub(crate) table: Arc<StampTable>,
     pub(crate) seat: Seat<(), Drawn>,
-    pub(crate) terms: Terms,
+    pub(crate) limits: RoundLimits,
     pub(crate) lane: usize,
     pub(crate) ops: Vec<Stamped<Op>>,
 }
@@ -30,13 +30,13 @@ impl Model for Lane {
 
     ghost Value = { Held };
 
-    ghost view = { λ l. record { table = l.seat.table_id; terms = l.terms; lane = l.lane; ops = l.ops.items } };
+    ghost view = { λ l. record { table = l.seat.table_id; limits = l.limits; lane = l.lane; ops = l.ops.items } };
 
     ghost invariant = { λ l. (l.seat.table_id ≡ (arc_value l.table).shared.table_id)
         × (l.seat.table_id.words ≡ 1)
-        × (l.seat.me ≡ (drawn l.terms 1 (stamps_of l.ops.items), []))
+        × (l.seat.me ≡ (drawn l.limits 1 (stamps_of l.ops.items), []))
         × Rises (stamps_of l.ops.items)
-        × (length l.ops.items ≤ l.terms.cap) };
+        × (length l.ops.items ≤ l.limits.cap) };
 }
 
 /// A lane that takes no more operations.
@@ -65,15 +65,15 @@ impl Lane {
         ensures ok { IfOk result (λ stamp.
             self.new ≡ record self.old { ops = self.old.ops ++ record { stamp = stamp; value = op } ∷ [] }) }
         ensures above { IfOk result (λ stamp. All (λ s. s.stamp < stamp) self.old.ops) }
-        ensures from_first { IfOk result (λ stamp. self.old.terms.first ≤ stamp) }
-        ensures alone { self.old.terms.lanes ≡ 1 →
-            IfOk result (λ stamp. stamp ≡ self.old.terms.first + length self.old.ops) }
+        ensures from_first { IfOk result (λ stamp. self.old.limits.first ≤ stamp) }
+        ensures alone { self.old.limits.lanes ≡ 1 →
+            IfOk result (λ stamp. stamp ≡ self.old.limits.first + length self.old.ops) }
         ensures full { IsErrAnd result (λ e. e.1 ≡ Refusal.LaneFull) ↔
-            (length self.old.ops ≡ self.old.terms.cap) }
+            (length self.old.ops ≡ self.old.limits.cap) }
         ensures refused { IfErr result (λ e. (e.1 ≡ Refusal.LaneFull) ⊎ (e.1 ≡ Refusal.Memory)) }
         ensures handed_back { IfErr result (λ e. (self.new ≡ self.old) × (e.0 ≡ op)) }
     {
-        if self.ops.len() >= self.terms.cap {
+        if self.ops.len() >= self.limits.cap {
             return Err((op, Refusal::LaneFull));
         }
         if self.ops.reserve(1).is_err() {
@@ -103,7 +103,7 @@ impl LaneEnd {
     /// How many operations were submitted.
     pub(crate) fn len(&self) -> usize
         ensures len { result ≡ length self.now.ops }
-        ensures most { result ≤ self.now.terms.cap }
+        ensures most { result ≤ self.now.limits.cap }
     {
         let ended = &self.ended;
         ended.ops.len()

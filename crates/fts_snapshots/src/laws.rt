@@ -5,10 +5,10 @@ ghost use Rattle.fts_model.specs.declared.operation.Stamped.{Stamped};
 ghost use Rattle.fts_model.specs.Documents.{DocumentValue};
 ghost use Rattle.fts_model.specs.Operations.{alive, adds, StampsRise};
 ghost use Rattle.fts_snapshots.specs.Entries.{IsEntry, EntryValue, content, live_count};
-ghost use Rattle.fts_snapshots.specs.Merges.{entries_at, gathered, names_fault};
+ghost use Rattle.fts_snapshots.specs.Merges.{entries_at, names_fault};
 ghost use Rattle.fts_model.specs.declared.cut.Cut.{Cut};
 ghost use Rattle.fts_snapshots.specs.MergedSegments.{MergedSegmentValue, IsMergedSegment, merged_of};
-ghost use Rattle.fts_snapshots.specs.Snapshots.{SnapshotValue, IsSnapshot, after_commit, after_merge};
+ghost use Rattle.fts_snapshots.specs.Snapshots.{SnapshotValue, IsSnapshot, after_commit};
 ghost use Rattle.fts_snapshots.specs.Following.{Follows, Fits};
 ghost use Rattle.fts_snapshots.specs.LateMerges.{after_end};
 
@@ -23,8 +23,8 @@ pub fn a_commit_continues_each_history()
 
 /// A merged segment has as many documents as its sources have live ones together.
 pub fn a_merge_counts_live_documents()
-    ensures { (entries : List EntryValue) (ids : List ℕ) → All IsEntry entries →
-        length (gathered entries ids) ≡ sum_by live_count (entries_at entries ids) }
+    ensures { (entries : List EntryValue) → All IsEntry entries →
+        length (merged_of entries).merged.segment.documents ≡ sum_by live_count entries }
 {}
 
 /// A snapshot follows itself, and what follows one that follows it.
@@ -33,10 +33,9 @@ pub fn following_is_transitive()
     ensures further { (a b c : SnapshotValue) → Follows a b → Follows b c → Follows a c }
 {}
 
-/// What a commit, a merge and the end of a merge leave follows what was.
+/// What a commit and the end of a merge leave follows what was. A merge at once is one that ends where it began.
 pub fn commits_and_merges_are_followed()
     ensures commit { (s : SnapshotValue) (cut : Cut) (batch : List (Stamped Op)) → Follows s (after_commit cut batch s) }
-    ensures merge { (s : SnapshotValue) (ids : List ℕ) → Follows s (after_merge ids s) }
     ensures end_merge { (s : SnapshotValue) (m : MergedSegmentValue) → Follows s (after_end m s) }
 {}
 

@@ -31,22 +31,21 @@
 #![tactic(auto)]
 
 mod batch;
-mod beginning;
-mod committing;
+mod commit;
 mod cut;
-mod ending;
 mod entry;
 mod group;
 mod jobs;
 mod lane;
 pub mod laws;
 mod lookup;
+mod merge_end;
 mod merge_job;
+mod merge_plan;
+mod merge_sources;
 mod merged_segment;
-mod merging;
 mod new_segment;
 mod numbers;
-mod planning;
 mod round;
 mod snapshot;
 mod stamps;
@@ -60,4 +59,4 @@ pub use merge_job::MergeJob;
 pub use merged_segment::MergedSegment;
 pub use round::{Round, open_round};
 pub use snapshot::Snapshot;
-pub use stamps::Terms;
+pub use stamps::RoundLimits;

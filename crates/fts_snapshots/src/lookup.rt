@@ -1,8 +1,8 @@
 // Looks up the segments of a snapshot by their numbers, by halving.
-ghost use Rattle.std.specs.Prelude.{◌≡◌, IfOk, map, option_copied, slice_get};
+ghost use Rattle.std.specs.Prelude.{◌≡◌, ◌∷◌, [], IfOk, MatchOption, map};
 ghost use Rattle.fts_snapshots.specs.Snapshots.{IdsRise};
 ghost use Rattle.fts_snapshots.specs.MergedSegments.{ids_of};
-ghost use Rattle.fts_snapshots.specs.Merges.{is_there};
+ghost use Rattle.fts_snapshots.specs.Merges.{is_there, entry_at};
 ghost use Rattle.fts_snapshots.specs.Lookups.{place_in, is_live_there};
 
 use crate::entry::Entry;
@@ -54,6 +54,17 @@ impl<'a> Lookup<'a> {
             Ok(place) => Some(place),
             Err(_) => None,
         }
+    }
+
+    /// The segment of this number, if there is one.
+    pub(crate) fn get(&self, id: u64) -> Option<&'a Entry>
+        ensures { MatchOption result (entry_at self.now id ≡ [])
+            (λ entry. entry_at self.now id ≡ entry.now ∷ []) }
+    {
+        let Some(place) = self.place_in(id) else {
+            return None;
+        };
+        self.entries.get(place)
     }
 
     /// Whether there is a segment of this number.

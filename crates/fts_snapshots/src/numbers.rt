@@ -1,13 +1,13 @@
 // The numbers of segments, which stay below 2^62.
-ghost use Rattle.std.specs.Prelude.{◌≡◌, ◌<◌, ◌+◌, ◌^◌, nat_le};
+ghost use Rattle.std.specs.Prelude.{◌≡◌, ◌≤◌, ◌+◌, ◌^◌, nat_lt};
 
 /// Segment numbers stay below this.
 const NUMBERS: u64 = 1 << 62;
 
-/// Whether the next number would reach the end, if so many more were given.
+/// Whether one of the next so many numbers would be past the end.
 pub(crate) fn are_used_up(next: u64, count: usize) -> bool
-    requires { next < 2 ^ 62 }
-    ensures { result ≡ nat_le (2 ^ 62) (next + count) }
+    requires { next ≤ 2 ^ 62 }
+    ensures { result ≡ nat_lt (2 ^ 62) (next + count) }
 {
-    count as u64 >= NUMBERS - next
+    count as u64 > NUMBERS - next
 }

@@ -7,7 +7,7 @@ ghost use Rattle.fts_snapshots.specs.Shuffles.{IsLeastMissing, IsShuffle, submis
 
 use crate::batch::Batch;
 use crate::lane::{Lane, LaneEnd, StampTable};
-use crate::stamps::{Collect, Deal, Drawn, Look, Terms};
+use crate::stamps::{Collect, Deal, Drawn, Look, RoundLimits};
 use atomic_table::{Seat, Table};
 use fts_model::{Op, Refusal, Stamp, Stamped};
 use std::alloc::Global;
@@ -15,12 +15,12 @@ use std::marker::Model;
 use std::sync::Arc;
 
 /// A round whose lanes are dealt out. Contracts see it as its table, which no other round has, and
-/// its terms.
+/// its limits.
 #[derive(Drop)]
 pub struct Round {
     table: Arc<StampTable>,
     seat: Seat<(), Drawn>,
-    terms: Terms,
+    limits: RoundLimits,
 }
 
 impl Model for Round {
@@ -31,13 +31,13 @@ impl Model for Round {
 
     ghost Value = { Opened };
 
-    ghost view = { λ r. record { table = r.seat.table_id; terms = r.terms } };
+    ghost view = { λ r. record { table = r.seat.table_id; limits = r.limits } };
 
     ghost invariant = { λ r. (r.seat.table_id ≡ (arc_value r.table).shared.table_id)
         × (r.seat.table_id.words ≡ 1)
-        × (r.seat.me ≡ (drawn r.terms 0 [], []))
-        × (0 < r.terms.lanes)
-        × (r.terms.lanes * r.terms.cap < 2 ^ 62) };
+        × (r.seat.me ≡ (drawn r.limits 0 [], []))
+        × (0 < r.limits.lanes)
+        × (r.limits.lanes * r.limits.cap < 2 ^ 62) };
 }
 
 /// Opens the round of this number, whose first stamp is `first`, with so many lanes, each of which
@@ -52,18 +52,18 @@ pub fn open_round(
     requires lanes { (1 ≤ lanes) × (lanes ≤ 64) }
     requires cap { (1 ≤ cap) × (cap ≤ 1000000) }
     requires stamps { first + lanes * cap < 2 ^ 62 }
-    ensures terms { IfOk result (λ r.
-        r.0.terms ≡ record { round = number; first = first; lanes = lanes; cap = cap }) }
+    ensures limits { IfOk result (λ r.
+        r.0.limits ≡ record { round = number; first = first; lanes = lanes; cap = cap }) }
     ensures lanes { IfOk result (λ r. r.1.items ≡ map (fresh r.0) (range_with_len 0 lanes)) }
     ensures memory { IsOkUnless result Refusal.Memory }
 {
-    let terms = Terms {
+    let limits = RoundLimits {
         round: number,
         first,
         lanes,
         cap,
     };
-    let (table, mut seat) = Table::of_words(alloc, &[first], &terms)?;
+    let (table, mut seat) = Table::of_words(alloc, &[first], &limits)?;
     let table = Arc::new(alloc, table)?;
     let mut dealt = Vec::with_capacity(alloc, lanes)?;
     for lane in 0..lanes {
@@ -72,12 +72,19 @@ pub fn open_round(
         dealt.push_reserved(Lane {
             table: shared,
             seat: lane_seat,
-            terms,
+            limits,
             lane,
             ops: Vec::new(alloc),
         });
     }
-    Ok((Round { table, seat, terms }, dealt))
+    Ok((
+        Round {
+            table,
+            seat,
+            limits,
+        },
+        dealt,
+    ))
 }
 
 fn has_lane(ends: &[LaneEnd], lane: usize) -> bool
@@ -105,9 +112,9 @@ fn least_missing(ends: &[LaneEnd], lanes: usize) -> Option<usize>
 }
 
 /// How many operations were submitted to all of them.
-fn submitted(ends: &[LaneEnd], terms: &Terms) -> usize
-    requires few { length ends.now * terms.now.cap < 2 ^ 62 }
-    requires terms { All (λ e. e.terms ≡ terms.now) ends.now }
+fn submitted(ends: &[LaneEnd], limits: &RoundLimits) -> usize
+    requires few { length ends.now * limits.now.cap < 2 ^ 62 }
+    requires limits { All (λ e. e.limits ≡ limits.now) ends.now }
     ensures { result ≡ length (submissions ends.now) }
 {
     let mut count = 0;
@@ -130,20 +137,20 @@ impl Round {
     ) -> Result<Batch, (Round, Vec<LaneEnd>, Refusal)>
         requires lanes { All (IsLaneOf self) ends.items }
         requires each_once { (n : ℕ) → times n (lanes_of ends.items) ≤ 1 }
-        ensures round { IfOk result (λ b. b.round ≡ self.terms.round) }
-        ensures first { IfOk result (λ b. b.first ≡ self.terms.first) }
-        ensures shuffle { IfOk result (λ b. IsShuffle self.terms.first b.ops ends.items) }
+        ensures round { IfOk result (λ b. b.round ≡ self.limits.round) }
+        ensures first { IfOk result (λ b. b.first ≡ self.limits.first) }
+        ensures shuffle { IfOk result (λ b. IsShuffle self.limits.first b.ops ends.items) }
         ensures alone { (end : _) → ends.items ≡ end ∷ [] → IfOk result (λ b. b.ops ≡ end.ops) }
         ensures missing { (n : ℕ) → IsErrAnd result (λ e. e.2 ≡ Refusal.LaneMissing n) ↔
-            IsLeastMissing self.terms.lanes (lanes_of ends.items) n }
+            IsLeastMissing self.limits.lanes (lanes_of ends.items) n }
         ensures refused { IfErr result (λ e.
             (e.2 ≡ Refusal.Memory) ⊎ ((n : ℕ) × (e.2 ≡ Refusal.LaneMissing n))) }
         ensures handed_back { IfErr result (λ e. (e.0 ≡ self) × (e.1 ≡ ends)) }
     {
-        if let Some(lane) = least_missing(&ends, self.terms.lanes) {
+        if let Some(lane) = least_missing(&ends, self.limits.lanes) {
             return Err((self, ends, Refusal::LaneMissing(lane)));
         }
-        let count = submitted(&ends, &self.terms);
+        let count = submitted(&ends, &self.limits);
         let Ok(room) = Vec::with_capacity(alloc, count) else {
             return Err((self, ends, Refusal::Memory));
         };
@@ -154,18 +161,18 @@ impl Round {
     /// nothing can be refused after the first end was taken apart.
     fn merge(self, mut ends: Vec<LaneEnd>, mut ops: Vec<Stamped<Op>>) -> Batch
         requires lanes { All (IsLaneOf self) ends.items }
-        requires all { vec_len ends ≡ self.terms.lanes }
+        requires all { vec_len ends ≡ self.limits.lanes }
         requires empty { ops.items ≡ [] }
         requires room { length (submissions ends.items) ≤ vec_capacity ops }
-        ensures round { result.round ≡ self.terms.round }
-        ensures first { result.first ≡ self.terms.first }
-        ensures shuffle { IsShuffle self.terms.first result.ops ends.items }
+        ensures round { result.round ≡ self.limits.round }
+        ensures first { result.first ≡ self.limits.first }
+        ensures shuffle { IsShuffle self.limits.first result.ops ends.items }
         ensures alone { (end : _) → ends.items ≡ end ∷ [] → result.ops ≡ end.ops }
     {
         let Round {
             table,
             mut seat,
-            terms,
+            limits,
         } = self;
         while let Some(end) = ends.pop() {
             let LaneEnd { ended } = end;
@@ -182,8 +189,8 @@ impl Round {
         table.shared.load::<Look>(&mut seat, 0);
         ops.sort_unstable_by_key(|s| s.stamp);
         Batch {
-            round: terms.round,
-            first: terms.first,
+            round: limits.round,
+            first: limits.first,
             ops,
         }
     }

@@ -9,19 +9,18 @@ ghost use Rattle.fts_snapshots.specs.Commits.{misfit};
 ghost use Rattle.fts_snapshots.specs.Merges.{entries_at, names_fault};
 ghost use Rattle.fts_snapshots.specs.MergedSegments.{merged_of};
 ghost use Rattle.fts_snapshots.specs.Following.{Fits};
-ghost use Rattle.fts_snapshots.specs.LateMerges.{end_fault, after_end};
-ghost use Rattle.fts_snapshots.specs.Snapshots.{IsBehind, IsSnapshot, after_commit, commit_fault, after_merge, merge_fault};
+ghost use Rattle.fts_snapshots.specs.LateMerges.{end_fault, after_end, after_merge};
+ghost use Rattle.fts_snapshots.specs.Snapshots.{IsBehind, IsSnapshot, after_commit, commit_fault, merge_fault};
 
-use crate::beginning::begun;
-use crate::committing::{entries_of_jobs, jobs_of_batch};
-use crate::ending::end_entries;
+use crate::commit::{entries_of_jobs, jobs_of_batch};
 use crate::entry::{Entry, SegmentInfo};
 use crate::group::groups;
+use crate::merge_end::end_entries;
 use crate::merge_job::MergeJob;
+use crate::merge_plan::candidates;
+use crate::merge_sources::named_entries;
 use crate::merged_segment::MergedSegment;
-use crate::merging::merge_entries;
 use crate::numbers::are_used_up;
-use crate::planning::candidates;
 use fts_model::{Cut, Op, Refusal, Schema, Stamped};
 use fts_pool::Gate;
 use std::alloc::{AllocError, Global};
@@ -76,12 +75,11 @@ impl Snapshot {
         &self.entries
     }
 
-    /// The snapshot after the operations of a batch, which fit the schema, and whose stamps rise above those of the documents that
-    /// are there. Its adds are cut into new segments, numbered in the order of their first adds. Segments without a live document are gone.
+    /// The snapshot after a batch that fits the schema and comes behind the documents that are there. Its adds are cut into new
+    /// segments; one without a live document is gone. The jobs, one for each segment that was there and then one for each new one,
+    /// are run by up to so many threads, 1 to 64.
     ///
-    /// `StampsUsedUp` where the next number would reach 2^62.
-    ///
-    /// The jobs, one for each segment that was there and then one for each new one, are run by up to so many threads, 1 to 64.
+    /// `StampsUsedUp` where the number of a new segment would be 2^62 or more.
     pub fn commit<R: Threads + Wait + Sync, G: Gate>(
         &self,
         rt: &R,
@@ -120,41 +118,33 @@ impl Snapshot {
         })
     }
 
-    /// The snapshot with one segment of the live documents of the segments of these numbers, in the order of the numbers, which
-    /// takes their place under the next number.
-    ///
-    /// `NoSegments` for an empty list; then at the first bad place `UnknownSegment`, or `SegmentTwice` where the number stands
-    /// before; then `TooLarge` for over 1,048,576 live documents, and `StampsUsedUp` where the next number would reach 2^62.
+    /// A merge that is begun, run and ended at once, with the refusals of these three.
     pub fn merge(&self, alloc: Global, ids: &[u64]) -> Result<Snapshot, Refusal>
         ensures snapshot { Gives (λ new. new) result (ok_unless (merge_fault ids.now self.now) (after_merge ids.now self.now)) }
         ensures content { IfOk result (λ new. content new.entries ≡ content self.now.entries) }
     {
-        let entries = merge_entries(alloc, &self.entries, ids, self.next_id)?;
-        let schema = self.schema.clone()?;
-        Ok(Snapshot {
-            schema,
-            entries,
-            next_id: self.next_id + 1,
-        })
+        let job = self.begin_merge(alloc, ids)?;
+        match job.run(alloc) {
+            Ok(merged) => self.end_merge(alloc, &merged),
+            Err((_, refusal)) => Err(refusal),
+        }
     }
 
-    /// Begins a merge of the segments of these numbers, in their order, which keeps them with their live bits as they are.
+    /// Begins a merge of the segments of these numbers, in their order, and keeps them with their live bits as they are.
     ///
-    /// `NoSegments` for an empty list; then at the first bad place `UnknownSegment`, or `SegmentTwice` where the number stands
-    /// before.
+    /// `NoSegments`, or at the first bad place `UnknownSegment` or `SegmentTwice`.
     pub fn begin_merge(&self, alloc: Global, ids: &[u64]) -> Result<MergeJob, Refusal>
         ensures job { Gives (λ job. job) result (ok_unless (names_fault self.now.entries ids.now) (entries_at self.now.entries ids.now)) }
         ensures fits { IfOk result (λ job. Fits (merged_of job) self.now) }
     {
-        let entries = begun(alloc, &self.entries, ids)?;
+        let entries = named_entries(alloc, &self.entries, ids)?;
         Ok(MergeJob::new(entries))
     }
 
     /// The snapshot with a merged segment in place of its sources, under the next number. Its live bits are those that its
     /// sources have here, and where none is left the segment isn't there.
     ///
-    /// `SourceGone` with the first source that isn't here, where none is here, or where one that isn't here has a document that
-    /// is live in another segment; then `StampsUsedUp` where the next number would reach 2^62.
+    /// `SourceGone` for want of a source; then `StampsUsedUp` where the number would be 2^62.
     pub fn end_merge(&self, alloc: Global, merged: &MergedSegment) -> Result<Snapshot, Refusal>
         requires { Fits merged.now self.now }
         ensures snapshot { Gives (λ new. new) result (ok_unless (end_fault self.now.next_id merged.now self.now.entries) (after_end merged.now self.now)) }
@@ -180,8 +170,7 @@ impl Snapshot {
         Ok(infos(alloc, &self.entries)?)
     }
 
-    /// The segments that are worth merging, by their numbers: each list is one merge, those of greater segments first. A segment
-    /// is as large as it has live documents.
+    /// The segments that are worth merging, by their numbers: each list is one merge.
     pub fn plan(&self, alloc: Global) -> Result<Vec<Vec<u64>>, Refusal>
         ensures candidates { IfOk result (λ found. map (λ c. c.items) found.items ≡ candidate_ids self.now.entries) }
         ensures memory { IsOkUnless result Refusal.Memory }

@@ -6,7 +6,7 @@ use std::collections::LinkedList;
 
 /// What a round was opened with.
 #[derive(Clone, Copy, Debug, PartialEq, Eq)]
-pub struct Terms {
+pub struct RoundLimits {
     /// The number of the round.
     pub round: u64,
     /// The stamp that is drawn first.
@@ -17,10 +17,10 @@ pub struct Terms {
     pub cap: usize,
 }
 
-/// What a seat knows: the round's terms, for how many lanes it stands, and the stamps that these
+/// What a seat knows: the round's limits, for how many lanes it stands, and the stamps that these
 /// drew. No value of it is ever made.
 pub struct Drawn {
-    pub terms: Terms,
+    pub limits: RoundLimits,
     pub lanes: usize,
     pub stamps: LinkedList<u64>,
 }
@@ -28,7 +28,7 @@ pub struct Drawn {
 /// The stamps of all seats are those from the first to the last one drawn, each once.
 pub struct Stamps;
 
-impl TableRule<(), Drawn, Terms> for Stamps {
+impl TableRule<(), Drawn, RoundLimits> for Stamps {
     ghost use Rattle.fts_snapshots.specs.RoundsDrawn.{Kept, begun};
 
     ghost holds = { Kept };

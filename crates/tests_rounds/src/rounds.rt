@@ -121,7 +121,7 @@ fn gathered<R: Threads + Sync>(
     lanes: Vec<Lane>,
     count: usize,
 ) -> Result<Batch, Refusal>
-    requires { lanes.items ≡ map (fresh round) (range_with_len 0 round.terms.lanes) }
+    requires { lanes.items ≡ map (fresh round) (range_with_len 0 round.limits.lanes) }
 {
     let ends = all_filled(rt, alloc, schema, lanes, count)?;
     gather(alloc, round, ends)

@@ -1,11 +1,13 @@
 -- A merge is followed.
 use Rattle.std.proofs.Common.{sym, subst}
+use Rattle.fts_snapshots.specs.Merges.{entries_at}
+use Rattle.fts_snapshots.specs.MergedSegments.{merged_of}
 use Rattle.fts_snapshots.specs.Following.{Follows}
-use Rattle.fts_snapshots.proofs.FollowLemmas.{follows_merge}
+use Rattle.fts_snapshots.proofs.FollowLemmas.{follows_end}
 use Rattle.fts_index.specs.Writers.{WriterValue}
 use Rattle.cases_index.proofs.changed.merge.Goals as goal
 
 pub returns-in-Ok : goal.returns-in-Ok
 returns-in-Ok g c =
     let old = c.args.writer.now.front.snapshot in
-    subst (λ (w : WriterValue). Follows old w.front.snapshot) (sym c.in-Ok.ensures.writer) (follows_merge old c.deref.result.now)
+    subst (λ (w : WriterValue). Follows old w.front.snapshot) (sym c.in-Ok.ensures.writer) (follows_end old (merged_of (entries_at old.entries c.deref.result.now)))

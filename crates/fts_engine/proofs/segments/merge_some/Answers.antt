@@ -8,7 +8,7 @@ use Rattle.fts_engine.proofs.segments.merge_some.Goals as goal
 
 -- a merge that is made, or refused
 merges : {X : Type 0} (ids : List ℕ) (old new : WriterValue) (r : Result X Refusal) → OnOk r (new ≡ with_merge ids old) → IsRefusedFor (merge_fault ids old.front.snapshot) r →
-    OnOk r (content_of new.front.snapshot ≡ content_of old.front.snapshot) → OnErr r (new ≡ old) → 2 ≤ length ids → old.front.snapshot.next_id < 2 ^ 62 → Merges 0 old new
+    OnOk r (content_of new.front.snapshot ≡ content_of old.front.snapshot) → OnErr r (new ≡ old) → 2 ≤ length ids → old.front.snapshot.next_id ≤ 2 ^ 62 → Merges 0 old new
 merges ids old new (Ok done) made fine content same enough room = merges_named 0 ids old new made fine content (omega (arith, enough))
 merges ids old new (Err e) made fine content same enough room = subst (λ w. Merges 0 old w) (sym same) (merges_nothing 0 old room)
 

@@ -23,5 +23,5 @@ memory lanes ends end e one alone its missing (inr h) = absurd (none_missing lan
 
 pub returns-in-Err-clause-memory : goal.returns-in-Err-clause-memory
 returns-in-Err-clause-memory c =
-    memory c.args.round.terms.lanes c.args.ends.items c.requires.end.end _ c.requires.one_lane.lanes c.requires.end.alone c.requires.end.its.2
+    memory c.args.round.limits.lanes c.args.ends.items c.requires.end.end _ c.requires.one_lane.lanes c.requires.end.alone c.requires.end.its.2
     (λ n. (c.in-Err.ensures.missing n).0) c.in-Err.ensures.refused

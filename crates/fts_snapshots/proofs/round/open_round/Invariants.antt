@@ -9,9 +9,9 @@ use Rattle.fts_snapshots.proofs.round.open_round.Given as goal
 
 abbrev pub invariant-loop-lane : goal.invariant-loop-lane
 invariant-loop-lane l = record {
-  me : l.seat.me ≡ (drawn l.terms (l.lanes - l.lane) [], []);
+  me : l.seat.me ≡ (drawn l.limits (l.lanes - l.lane) [], []);
   table : l.seat.table_id ≡ (arc_value l.table).shared.table_id;
   one_word : l.seat.table_id.words ≡ 1;
-  dealt : l.dealt.items ≡ map (fresh record { table = l.seat.table_id; terms = l.terms }) (range_with_len 0 l.lane);
+  dealt : l.dealt.items ≡ map (fresh record { table = l.seat.table_id; limits = l.limits }) (range_with_len 0 l.lane);
   room : vec_len l.dealt + (l.lanes - l.lane) ≤ vec_capacity l.dealt;
 }

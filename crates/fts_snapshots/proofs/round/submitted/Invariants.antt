@@ -6,5 +6,5 @@ use Rattle.fts_snapshots.proofs.round.submitted.Given as goal
 abbrev pub invariant-loop-end : goal.invariant-loop-end
 invariant-loop-end l = record {
   count : l.count ≡ length (submissions (take l.end-index l.ends));
-  few : l.count ≤ l.end-index * l.terms.cap;
+  few : l.count ≤ l.end-index * l.limits.cap;
 }

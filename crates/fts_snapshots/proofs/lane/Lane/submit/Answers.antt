@@ -11,7 +11,7 @@ pub fetch_add-stamp-requires : goal.fetch_add-stamp-requires
 fetch_add-stamp-requires c =
     let me = c.self.invariant.2 in
     let count : length c.self.inside.seat.me.0.stamps ≡ length c.self.inside.ops.items = ap (λ m. length m.0.stamps) me ∙ length-map c.self.inside.ops.items (λ s. s.stamp) in
-    let cap : c.self.inside.seat.me.0.terms.cap ≡ c.self.inside.terms.cap = ap (λ m. m.0.terms.cap) me in
+    let cap : c.self.inside.seat.me.0.limits.cap ≡ c.self.inside.limits.cap = ap (λ m. m.0.limits.cap) me in
     (search rules, search rules, draws _ _ _ _ (ap (λ m. m.0.lanes) me) (omega arith))
 
 pub invariant_of-self-2 : goal.invariant_of-self-2
@@ -24,14 +24,14 @@ invariant_of-self-2 c =
       search rules,
       search rules,
       c.fetch_add-stamp.ensures.2.0
-          ∙ (ap (λ m. (drawn m.0.terms m.0.lanes (m.0.stamps ++ found ∷ []), m.1)) me ∙ ap (λ l. (drawn c.self.inside.terms 1 l, [])) (sym stamps)),
+          ∙ (ap (λ m. (drawn m.0.limits m.0.lanes (m.0.stamps ++ found ∷ []), m.1)) me ∙ ap (λ l. (drawn c.self.inside.limits 1 l, [])) (sym stamps)),
       subst Rises (sym stamps) (Rises-push found (stamps_of c.self.inside.ops.items) below c.self.invariant.3),
       (let l = ap length items in let m = length-append c.self.inside.ops.items (record { stamp = found; value = c.args.op } ∷ []) in omega arith),
     )
 
 pub returns-clause-from_first : goal.returns-clause-from_first
 returns-clause-from_first c =
-    let first : c.self.inside.seat.me.0.terms.first ≡ c.args.self.now.terms.first = ap (λ m. m.0.terms.first) c.self.invariant.2 ∙ ap (λ h. h.terms.first) c.self.view_is in
+    let first : c.self.inside.seat.me.0.limits.first ≡ c.args.self.now.limits.first = ap (λ m. m.0.limits.first) c.self.invariant.2 ∙ ap (λ h. h.limits.first) c.self.view_is in
     let low = c.fetch_add-stamp.ensures.2.1 in
     omega arith
 
@@ -45,10 +45,10 @@ returns-clause-above c =
 pub returns-clause-alone : goal.returns-clause-alone
 returns-clause-alone c one =
     let me = c.self.invariant.2 in
-    let all : c.self.inside.seat.me.0.lanes ≡ c.self.inside.seat.me.0.terms.lanes
-    = ap (λ m. m.0.lanes) me ∙ (sym one ∙ (sym (ap (λ h. h.terms.lanes) c.self.view_is) ∙ sym (ap (λ m. m.0.terms.lanes) me))) in
+    let all : c.self.inside.seat.me.0.lanes ≡ c.self.inside.seat.me.0.limits.lanes
+    = ap (λ m. m.0.lanes) me ∙ (sym one ∙ (sym (ap (λ h. h.limits.lanes) c.self.view_is) ∙ sym (ap (λ m. m.0.limits.lanes) me))) in
     let found = c.fetch_add-stamp.ensures.2.4 all in
-    let first : c.self.inside.seat.me.0.terms.first ≡ c.args.self.now.terms.first = ap (λ m. m.0.terms.first) me ∙ ap (λ h. h.terms.first) c.self.view_is in
+    let first : c.self.inside.seat.me.0.limits.first ≡ c.args.self.now.limits.first = ap (λ m. m.0.limits.first) me ∙ ap (λ h. h.limits.first) c.self.view_is in
     let count : length c.self.inside.seat.me.0.stamps ≡ length c.args.self.now.ops
     = ap (λ m. length m.0.stamps) me ∙ (length-map c.self.inside.ops.items (λ s. s.stamp) ∙ ap (λ h. length h.ops) c.self.view_is) in
     omega arith

@@ -7,7 +7,7 @@ use Rattle.std.proofs.lemmas.List.{length-map}
 use Rattle.std.proofs.lemmas.List.Sorted.{IsNonDecreasingBy-from_sort_by_key, length_permutation}
 use Rattle.fts_model.specs.declared.operation.Op.{Op}
 use Rattle.fts_model.specs.declared.operation.Stamped.{Stamped}
-use Rattle.fts_snapshots.specs.declared.stamps.Terms.{Terms}
+use Rattle.fts_snapshots.specs.declared.stamps.RoundLimits.{RoundLimits}
 use Rattle.fts_snapshots.specs.RoundsDrawn.{drawn}
 use Rattle.std.specs.List.{range_with_len}
 use Rattle.fts_snapshots.specs.Rounds.{Held, IsLaneOf, Rises, stamps_of}
@@ -36,25 +36,25 @@ join_seat-requires c =
 pub loop-end-preserved : goal.loop-end-preserved
 loop-end-preserved c =
     let end : Held = c.in-Some.end in
-    let terms : Terms = c.self.inside.terms in
+    let limits : RoundLimits = c.self.inside.limits in
     let popped = All-pop (IsLaneOf c.args.self) c.loop-end.ends.items c.pop.new.self.items (Some end) c.in-Some.ensures.items c.loop-end.invariant.lanes in
     let view = c.ended.view_is ∙ c.end.view_is in
     let list = ap (λ h. h.ops) view in
-    let same_terms : c.ended.inside.terms ≡ terms = ap (λ h. h.terms) view ∙ (popped.1.1 ∙ sym (ap (λ r. r.terms) c.self.view_is)) in
+    let same_limits : c.ended.inside.limits ≡ limits = ap (λ h. h.limits) view ∙ (popped.1.1 ∙ sym (ap (λ r. r.limits) c.self.view_is)) in
     let more : c.append.new.self.items ≡ c.loop-end.ops.items ++ end.ops = c.in-Ok.ensures.items ∙ ap (λ l. c.loop-end.ops.items ++ l) list in
     record {
-      state = goes_in c.args.ends.items c.loop-end.ends.items c.pop.new.self.items end c.loop-end.ops.items c.append.new.self.items terms
+      state = goes_in c.args.ends.items c.loop-end.ends.items c.pop.new.self.items end c.loop-end.ops.items c.append.new.self.items limits
           c.loop-end.seat.me c.join_seat.new.seat.me c.ended.inside.seat.me
           c.loop-end.invariant.state
           c.in-Some.ensures.items
           (subst Rises (ap stamps_of list) c.ended.invariant.3)
           more
-          (c.ended.invariant.2 ∙ (ap (λ t. (drawn t 1 (stamps_of c.ended.inside.ops.items), [])) same_terms ∙ ap (λ l. (drawn terms 1 (stamps_of l), [])) list))
+          (c.ended.invariant.2 ∙ (ap (λ t. (drawn t 1 (stamps_of c.ended.inside.ops.items), [])) same_limits ∙ ap (λ l. (drawn limits 1 (stamps_of l), [])) list))
           c.join_seat.ensures.2;
       lanes = popped.0;
       table = search rules;
       round = search rules;
-      terms = search rules;
+      limits = search rules;
       some_lane = search rules;
       one_word = search rules;
       room = (
@@ -70,11 +70,11 @@ loop-end-preserved c =
 pub load-requires : goal.load-requires
 load-requires c =
     let none : length c.loop-end.ends.items ≡ 0 = sym c.loop-end.ends.ok.0 ∙ c.in_default.ensures.cases.0 in
-    let seat = done_seat c.args.ends.items c.loop-end.ends.items c.loop-end.ops.items c.self.inside.terms c.loop-end.seat.me c.loop-end.invariant.state none in
+    let seat = done_seat c.args.ends.items c.loop-end.ends.items c.loop-end.ops.items c.self.inside.limits c.loop-end.seat.me c.loop-end.invariant.state none in
     let lanes : c.loop-end.seat.me.0.lanes ≡ length c.args.ends.items = ap (λ m. m.0.lanes) seat in
     let all = c.requires.all in
     let some = c.loop-end.invariant.some_lane in
-    let terms : c.self.inside.terms.lanes ≡ c.args.self.terms.lanes = ap (λ r. r.terms.lanes) c.self.view_is in
+    let limits : c.self.inside.limits.lanes ≡ c.args.self.limits.lanes = ap (λ r. r.limits.lanes) c.self.view_is in
     let count : vec_len c.args.ends ≡ length c.args.ends.items = c.args.ends.ok.0 in
     (search rules, search rules, looks _ _ _ _ (omega arith))
 
@@ -82,32 +82,32 @@ pub returns-clause-shuffle : goal.returns-clause-shuffle
 returns-clause-shuffle c =
     let none : length c.loop-end.ends.items ≡ 0 = sym c.loop-end.ends.ok.0 ∙ c.in_default.ensures.cases.0 in
     let state = c.loop-end.invariant.state in
-    let seat = done_seat c.args.ends.items c.loop-end.ends.items c.loop-end.ops.items c.self.inside.terms c.loop-end.seat.me state none in
-    let terms = ap (λ r. r.terms) c.self.view_is in
-    let whole : length c.args.ends.items ≡ c.self.inside.terms.lanes = sym c.args.ends.ok.0 ∙ (c.requires.all ∙ sym (ap (λ r. r.terms.lanes) c.self.view_is)) in
-    let shuffle = shuffled c.self.inside.terms.first c.args.ends.items c.loop-end.ops.items c.sort_unstable_by_key.new.self.items
-    (done_rise c.args.ends.items c.loop-end.ends.items c.loop-end.ops.items c.self.inside.terms c.loop-end.seat.me state none)
-    (done_members c.args.ends.items c.loop-end.ends.items c.loop-end.ops.items c.self.inside.terms c.loop-end.seat.me state none)
-    (told c.self.inside.terms (length c.args.ends.items) (stamps_of c.loop-end.ops.items) c.loop-end.seat.me seat whole c.load.ensures.2.1).each_once
+    let seat = done_seat c.args.ends.items c.loop-end.ends.items c.loop-end.ops.items c.self.inside.limits c.loop-end.seat.me state none in
+    let limits = ap (λ r. r.limits) c.self.view_is in
+    let whole : length c.args.ends.items ≡ c.self.inside.limits.lanes = sym c.args.ends.ok.0 ∙ (c.requires.all ∙ sym (ap (λ r. r.limits.lanes) c.self.view_is)) in
+    let shuffle = shuffled c.self.inside.limits.first c.args.ends.items c.loop-end.ops.items c.sort_unstable_by_key.new.self.items
+    (done_rise c.args.ends.items c.loop-end.ends.items c.loop-end.ops.items c.self.inside.limits c.loop-end.seat.me state none)
+    (done_members c.args.ends.items c.loop-end.ends.items c.loop-end.ops.items c.self.inside.limits c.loop-end.seat.me state none)
+    (told c.self.inside.limits (length c.args.ends.items) (stamps_of c.loop-end.ops.items) c.loop-end.seat.me seat whole c.load.ensures.2.1).each_once
     c.sort_unstable_by_key.ensures.permutation
     (IsNonDecreasingBy-from_sort_by_key (λ s. s.stamp) c.sort_unstable_by_key.new.self.items c.sort_unstable_by_key.ensures.sorted (λ a r q k. search rules)) in
-    subst (λ (t : Terms). IsShuffle t.first c.sort_unstable_by_key.new.self.items c.args.ends.items) terms shuffle
+    subst (λ (t : RoundLimits). IsShuffle t.first c.sort_unstable_by_key.new.self.items c.args.ends.items) limits shuffle
 
 pub invariant_of-result : goal.invariant_of-result
 invariant_of-result c =
     let none : length c.loop-end.ends.items ≡ 0 = sym c.loop-end.ends.ok.0 ∙ c.in_default.ensures.cases.0 in
-    let seat = done_seat c.args.ends.items c.loop-end.ends.items c.loop-end.ops.items c.self.inside.terms c.loop-end.seat.me c.loop-end.invariant.state none in
-    let whole : length c.args.ends.items ≡ c.self.inside.terms.lanes = sym c.args.ends.ok.0 ∙ (c.requires.all ∙ sym (ap (λ r. r.terms.lanes) c.self.view_is)) in
-    let all = told c.self.inside.terms (length c.args.ends.items) (stamps_of c.loop-end.ops.items) c.loop-end.seat.me seat whole c.load.ensures.2.1 in
+    let seat = done_seat c.args.ends.items c.loop-end.ends.items c.loop-end.ops.items c.self.inside.limits c.loop-end.seat.me c.loop-end.invariant.state none in
+    let whole : length c.args.ends.items ≡ c.self.inside.limits.lanes = sym c.args.ends.ok.0 ∙ (c.requires.all ∙ sym (ap (λ r. r.limits.lanes) c.self.view_is)) in
+    let all = told c.self.inside.limits (length c.args.ends.items) (stamps_of c.loop-end.ops.items) c.loop-end.seat.me seat whole c.load.ensures.2.1 in
     let small = all.small in
     let count = length-map c.loop-end.ops.items (λ s. s.stamp) in
     let sorted = length_permutation c.loop-end.ops.items c.sort_unstable_by_key.new.self.items c.sort_unstable_by_key.ensures.permutation in (
-      subst (λ (t : Terms). stamps_of c.sort_unstable_by_key.new.self.items ≡ range_with_len t.first (length c.sort_unstable_by_key.new.self.items))
-          (sym (ap (λ r. r.terms) c.self.view_is)) (returns-clause-shuffle c).numbered,
+      subst (λ (t : RoundLimits). stamps_of c.sort_unstable_by_key.new.self.items ≡ range_with_len t.first (length c.sort_unstable_by_key.new.self.items))
+          (sym (ap (λ r. r.limits) c.self.view_is)) (returns-clause-shuffle c).numbered,
       omega arith,
     )
 
 pub returns-clause-alone : goal.returns-clause-alone
 returns-clause-alone c e is =
-    one_lane_is c.args.self.terms.first c.sort_unstable_by_key.new.self.items e
-    (subst (IsShuffle c.args.self.terms.first c.sort_unstable_by_key.new.self.items) is (returns-clause-shuffle c))
+    one_lane_is c.args.self.limits.first c.sort_unstable_by_key.new.self.items e
+    (subst (IsShuffle c.args.self.limits.first c.sort_unstable_by_key.new.self.items) is (returns-clause-shuffle c))

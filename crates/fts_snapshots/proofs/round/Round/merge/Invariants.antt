@@ -9,12 +9,12 @@ use Rattle.fts_snapshots.proofs.round.Round.merge.Given as goal
 
 abbrev pub invariant-loop-end : goal.invariant-loop-end
 invariant-loop-end l = record {
-  state : Merging l.fn.ends.items l.ends.items l.ops.items l.terms l.seat.me;
+  state : Merging l.fn.ends.items l.ends.items l.ops.items l.limits l.seat.me;
   lanes : All (IsLaneOf l.fn.self) l.ends.items;
   table : l.seat.table_id ≡ (arc_value l.table).shared.table_id;
   round : l.seat.table_id ≡ l.fn.self.table;
-  terms : l.terms ≡ l.fn.self.terms;
-  some_lane : 0 < l.terms.lanes;
+  limits : l.limits ≡ l.fn.self.limits;
+  some_lane : 0 < l.limits.lanes;
   one_word : l.seat.table_id.words ≡ 1;
   room : vec_len l.ops + length (submissions l.ends.items) ≤ vec_capacity l.ops;
 }

@@ -11,8 +11,8 @@ use Rattle.fts_snapshots.proofs.SnapshotLemmas.{snapshot_with}
 use Rattle.fts_snapshots.proofs.SourceLemmas.{unless_ok}
 use Rattle.fts_snapshots.proofs.snapshot.Snapshot.begin_merge.Goals as goal
 
-pub begun-requires : goal.begun-requires
-begun-requires c = subst IdsRise (sym c.deref.ensures.value) c.self.invariant.ids
+pub named_entries-requires : goal.named_entries-requires
+named_entries-requires c = subst IdsRise (sym c.deref.ensures.value) c.self.invariant.ids
 
 pub new-requires : goal.new-requires
 new-requires c =

@@ -1,5 +1,5 @@
 -- What is left of the proof of `snapshot::Snapshot::commit`.
-use Rattle.std.proofs.Common.{◌≡◌, ◌<◌, ◌+◌, ◌^◌, ◌++◌, length, map, filter, All, sym, ap, subst, ◌∙◌}
+use Rattle.std.proofs.Common.{◌≡◌, ◌≤◌, ◌+◌, ◌^◌, ◌++◌, length, map, filter, All, sym, ap, subst, ◌∙◌}
 use Rattle.std.proofs.lemmas.List.Elements.{recursion_from_All}
 use Rattle.fts_model.specs.Operations.{alive, adds, added}
 use Rattle.fts_snapshots.specs.Entries.{EntryValue, has_live, content}
@@ -32,7 +32,7 @@ invariant_of-result g c =
     (subst (λ (s : SnapshotValue). IsBehind (content s.entries) batch) (sym c.self.view_is) c.requires.behind) in
     let count : c.len.result ≡ length groups = c.len.ensures ∙ sym c.deref-2.ensures.len ∙ ap length (c.deref-2.ensures.value ∙ c.in_ok-groups.ensures) in
     let count-2 : c.len-2.result ≡ length groups = c.len-2.ensures ∙ sym c.deref-2.ensures.len ∙ ap length (c.deref-2.ensures.value ∙ c.in_ok-groups.ensures) in
-    let room = subst (λ n. inside.next_id + n < 2 ^ 62) count (room_left (inside.next_id + c.len.result) c.if-are_used_up.ensures) in
+    let room = subst (λ n. inside.next_id + n ≤ 2 ^ 62) count (room_left (inside.next_id + c.len.result) c.if-are_used_up.ensures) in
     let made =
     c.in_ok-entries.ensures.ok
     ∙ ap (λ js. filter has_live (map entry_of js)) c.deref-3.ensures.value

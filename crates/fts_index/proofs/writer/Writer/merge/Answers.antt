@@ -1,0 +1,19 @@
+-- What is left of the proof of `writer::Writer::merge`.
+use Rattle.std.proofs.Common.{◌∙◌, ap}
+use Rattle.fts_snapshots.specs.Snapshots.{merge_fault}
+use Rattle.fts_snapshots.specs.LateMerges.{after_merge}
+use Rattle.fts_snapshots.proofs.SourceLemmas.{unless_ok}
+use Rattle.fts_index.specs.Publications.{FrontValue, published}
+use Rattle.fts_index.specs.Writers.{WriterValue, with_merge}
+use Rattle.fts_index.proofs.writer.Writer.merge.Goals as goal
+
+pub returns-clause-writer : goal.returns-clause-writer
+returns-clause-writer g c =
+    let inside = c.self.inside in
+    let before = inside.publisher in
+    let ids = c.args.ids.now in
+    let s = c.snapshot.result.now in
+    let next = (unless_ok (merge_fault ids s) (after_merge ids s) c.in_ok-merged.merged c.in_ok-merged.ensures.snapshot).1 in
+    let writer : FrontValue → WriterValue = λ front. record { front = front; rounds = inside.rounds; round = inside.round } in
+    ap writer (c.in_ok-publish_again.ensures.new ∙ ap (λ n. published before.stamp n before) (next ∙ ap (after_merge ids) c.snapshot.ensures.snapshot))
+    ∙ ap (with_merge ids) c.self.view_is
