@@ -4,6 +4,7 @@ use Rattle.std.specs.List.{AllZip, filter, slice_get}
 use Rattle.std.specs.List.Sorted.{IsStrictlyIncreasing}
 use Rattle.std.proofs.lemmas.Bool.{cases_lt, le-leb, lt-leb, false≢true}
 use Rattle.fts_pack.specs.Documents.{Rises}
+use Rattle.fts_postings.specs.Bounds.{most_at}
 use Rattle.fts_postings.specs.Remaining.{at_least}
 use Rattle.fts_postings.specs.Meeting.{IsLeast, common, has, in_all, in_some, lacks, union, without}
 use Rattle.fts_cursor.specs.Standing.{Continues, Left, Narrowed, Standing, Walked, all_most, all_openings, beside, remains, together}
@@ -185,12 +186,12 @@ module _ (old now : Difference) (kept dropped after : Standing) (doc : ℕ) (sam
   pub difference-passed : (next : Standing) → Some doc ≡ slice_get after.remaining 0 → next.remaining ≡ drop 1 members → without next.remaining after.remaining ≡ differ old
   difference-passed next there is = passed (differ old) members (lacks now.dropped.value.remaining) (lacks after.remaining) doc same rises_kept first_kept differ_alike next.remaining (ap not (has-first after.remaining doc there)) is
 
-most-suc : (parts : List Standing) (index : ℕ) (d : Standing) → index < length parts → all_most (take (suc index) parts) ≡ all_most (take index parts) + (get_or parts index d).most
+most-suc : (parts : List Standing) (index : ℕ) (d : Standing) → index < length parts → all_most (take (suc index) parts) ≡ all_most (take index parts) + most_at (get_or parts index d).bound None
 most-suc [] index d inside = absurd (omega arith)
 most-suc (p ∷ ps) zero d inside = omega arith
 most-suc (p ∷ ps) (suc index) d inside = omega (arith, most-suc ps index d (omega (arith, inside)))
 
-pub all_most-more : (parts : List Standing) (index : ℕ) (d : Standing) → index < length parts → all_most (take (index + 1) parts) ≡ all_most (take index parts) + (get_or parts index d).most
+pub all_most-more : (parts : List Standing) (index : ℕ) (d : Standing) → index < length parts → all_most (take (index + 1) parts) ≡ all_most (take index parts) + most_at (get_or parts index d).bound None
 all_most-more parts index d inside = ap (λ n. all_most (take n parts)) (add-one index) ∙ most-suc parts index d inside
 
 pub Walked-same : (s : Standing) → Walked s s

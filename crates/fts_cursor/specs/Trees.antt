@@ -5,7 +5,7 @@ use Rattle.std.specs.List.Sorted.{IsStrictlyIncreasing}
 use Rattle.fts_postings.specs.Posting.{blocks_reached, remaining_of}
 use Rattle.fts_postings.specs.Conjoined.{common_of}
 use Rattle.fts_postings.specs.Meeting.{FirstPasses, common, has, in_all, in_some, lacks, union, without}
-use Rattle.fts_cursor.specs.Standing.{Standing, beside, remains, together}
+use Rattle.fts_cursor.specs.Standing.{Standing, at_most, beside, remains, together}
 use Rattle.fts_cursor.specs.Terms.{AreTied, IsTied, of_terms}
 use Rattle.fts_postings.specs.Windows.{marked}
 use Rattle.fts_cursor.specs.declared.tree.BufferedUnion.{BufferedUnion}
@@ -39,9 +39,9 @@ abbrev pub differ : Difference → List ℕ
 differ parts = without parts.kept.value.remaining parts.dropped.value.remaining
 
 abbrev pub standing : Node → Standing
-standing Nothing = record { remaining = []; openings = 0; most = 0; whole = true; height = 0 }
-standing (Scan documents) = record { remaining = documents; openings = 0; most = 0; whole = false; height = 0 }
-standing (Postings p) = record { remaining = remaining_of p; openings = p.count; most = length p.blocks; whole = p.opened == blocks_reached p; height = 0 }
+standing Nothing = record { remaining = []; openings = 0; bound = at_most 0; whole = true; height = 0 }
+standing (Scan documents) = record { remaining = documents; openings = 0; bound = at_most 0; whole = false; height = 0 }
+standing (Postings p) = record { remaining = remaining_of p; openings = p.count; bound = at_most (length p.blocks); whole = p.opened == blocks_reached p; height = 0 }
 standing (Terms c) = of_terms c (common_of c)
 standing (Phrase s) = record s { whole = false }
 standing (And parts) = beside parts.lead.value (together parts.others.items) (meet parts)

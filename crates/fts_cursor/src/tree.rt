@@ -2,11 +2,12 @@
 ghost use Rattle.std.specs.Prelude.{◌≡◌, ◌≢◌, ℕ, ◌+◌, ◌-◌, ◌^◌, ◌<◌, ◌≤◌, ◌∷◌, All, [], true, MatchBool, drop, length, min, slice_get, take};
 ghost use Rattle.std.specs.List.{AllZip};
 ghost use Rattle.std.specs.List.Sorted.{IsStrictlyIncreasing};
-ghost use Rattle.fts_postings.specs.Conjoined.{IsAhead, common_of, counts_of, most_of};
+ghost use Rattle.fts_postings.specs.Bounds.{most_at};
+ghost use Rattle.fts_postings.specs.Conjoined.{IsAhead, bound_of, common_of, counts_of};
 ghost use Rattle.fts_postings.specs.Meeting.{IsLeast, common, has, in_all, in_some, lacks, lesser_of, union, without};
 ghost use Rattle.fts_postings.specs.Posting.{Follows, blocks_reached, remaining_of};
 ghost use Rattle.fts_postings.specs.Remaining.{at_least};
-ghost use Rattle.fts_cursor.specs.Standing.{Continues, Left, Narrowed, Standing, Walked, all_most, all_openings, remains};
+ghost use Rattle.fts_cursor.specs.Standing.{Continues, Left, Narrowed, Standing, Walked, all_most, all_openings, at_most, remains};
 ghost use Rattle.fts_cursor.specs.Trees.{AreBeyond, AreMarked, IsNow, Met, StandsAt, differ, found, gathered, meet, standing};
 
 use crate::phrase::PhraseCursor;
@@ -82,7 +83,7 @@ impl<'a> Tree<'a> {
     /// Of no document.
     pub(crate) fn nothing() -> Tree<'a>
         ensures remaining { result.remaining ≡ [] }
-        ensures counts { (result.openings ≡ 0) × (result.most ≡ 0) × (result.whole ≡ true) }
+        ensures counts { (result.openings ≡ 0) × (result.bound ≡ at_most 0) × (result.whole ≡ true) }
     {
         Tree {
             doc: None,
@@ -93,7 +94,7 @@ impl<'a> Tree<'a> {
     /// Of what is found by the number alone.
     pub(crate) fn scan(scan: ScanCursor<'a>) -> Tree<'a>
         ensures remaining { result.remaining ≡ scan.entry }
-        ensures counts { (result.openings ≡ 0) × (result.most ≡ 0) }
+        ensures counts { (result.openings ≡ 0) × (result.bound ≡ at_most 0) }
     {
         let doc = scan.doc();
         Tree {
@@ -107,7 +108,7 @@ impl<'a> Tree<'a> {
         requires tied { postings.count ≡ postings.opened }
         ensures remaining { result.remaining ≡ remaining_of postings.entry }
         ensures openings { result.openings ≡ postings.entry.opened }
-        ensures most { result.most ≡ length postings.entry.blocks }
+        ensures bound { result.bound ≡ at_most (length postings.entry.blocks) }
         ensures whole { postings.entry.opened ≡ blocks_reached postings.entry
             → result.whole ≡ true }
     {
@@ -124,7 +125,7 @@ impl<'a> Tree<'a> {
         requires others { All (λ p. p.count ≡ p.opened) terms.others }
         ensures remaining { result.remaining ≡ common_of terms.entry }
         ensures openings { result.openings ≡ counts_of terms.entry }
-        ensures most { result.most ≡ most_of terms.entry }
+        ensures bound { result.bound ≡ bound_of terms.entry }
     {
         let doc = terms.doc();
         Tree {
@@ -173,7 +174,7 @@ impl<'a> Tree<'a> {
     pub(crate) fn any(parts: Vec<Tree<'a>>) -> Tree<'a>
         ensures remaining { result.remaining ≡ union (remains parts.entry.items) }
         ensures alone { (part : Standing) → parts.entry.items ≡ part ∷ [] → result ≡ part }
-        ensures none { parts.entry.items ≡ [] → result.most ≡ 0 }
+        ensures none { parts.entry.items ≡ [] → result.bound ≡ at_most 0 }
     {
         if parts.is_empty() {
             return Tree::nothing();
@@ -201,13 +202,15 @@ impl<'a> Tree<'a> {
         }
     }
 
-    /// How many blocks were opened since the cursors were made, the making included, or the greatest `u64`.
+    /// How many blocks were opened since the cursors were made, the making included, or the greatest `u64`: no more than the
+    /// bound where it stands.
     #[cycle(openings)]
     pub(crate) fn openings(&self) -> u64
         ensures sum { result ≡ min (2 ^ 64 - 1) self.now.openings }
-        ensures bound { self.now.openings ≤ self.now.most }
+        ensures bound { self.now.openings
+            ≤ most_at self.now.bound (slice_get self.now.remaining 0) }
         ensures end { self.now.whole ≡ true → self.now.remaining ≡ []
-            → self.now.openings ≡ self.now.most }
+            → self.now.openings ≡ most_at self.now.bound None }
     {
         match &self.node {
             Node::Nothing | Node::Scan(_) => 0,
@@ -227,23 +230,23 @@ impl<'a> Tree<'a> {
     }
 
     /// How many documents remain at most, or the greatest `usize`.
-    #[cycle(promise)]
-    pub(crate) fn promise(&self) -> usize
+    #[cycle(cost)]
+    pub(crate) fn cost(&self) -> usize
         ensures bound { min (2 ^ 64 - 1) (length self.now.remaining) ≤ result }
         ensures rises { IsStrictlyIncreasing self.now.remaining }
     {
         match &self.node {
             Node::Nothing => 0,
-            Node::Scan(scan) => scan.promise(),
-            Node::Postings(postings) => postings.promise(),
-            Node::Terms(terms) => terms.promise(),
-            Node::Phrase(phrase) => phrase.promise(),
-            Node::And(parts) => parts.lead.promise(),
+            Node::Scan(scan) => scan.cost(),
+            Node::Postings(postings) => postings.cost(),
+            Node::Terms(terms) => terms.cost(),
+            Node::Phrase(phrase) => phrase.cost(),
+            Node::And(parts) => parts.lead.cost(),
             Node::Or(buffered) => buffered
                 .window
-                .promise()
-                .saturating_add(promise_in(&buffered.parts)),
-            Node::Without(parts) => parts.kept.promise(),
+                .cost()
+                .saturating_add(cost_in(&buffered.parts)),
+            Node::Without(parts) => parts.kept.cost(),
         }
     }
 
@@ -308,13 +311,13 @@ fn openings_in(parts: &[Tree]) -> u64
 }
 
 // How many documents all of them have at most, or the greatest `usize`.
-#[cycle(promise)]
-fn promise_in(parts: &[Tree]) -> usize
+#[cycle(cost)]
+fn cost_in(parts: &[Tree]) -> usize
     ensures { min (2 ^ 64 - 1) (length (union (remains parts.now))) ≤ result }
 {
     let mut sum = 0usize;
     for part in parts {
-        sum = sum.saturating_add(part.promise());
+        sum = sum.saturating_add(part.cost());
     }
     sum
 }

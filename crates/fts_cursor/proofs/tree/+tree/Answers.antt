@@ -352,7 +352,7 @@ step-returns-in-Or-clause-now t c =
 pub step-returns-in-Or-clause-walked : goal.step-returns-in-Or-clause-walked
 step-returns-in-Or-clause-walked t c =
     let k = c.gather.ensures.continues in
-    rw c.in-Or.is (record { continues = record { most = k.most; more = k.more; height = k.height }; whole = λ h. h })
+    rw c.in-Or.is (record { continues = record { bound = k.bound; more = k.more; height = k.height }; whole = λ h. h })
 
 pub gather-refill-requires : goal.gather-refill-requires
 gather-refill-requires t c =
@@ -368,4 +368,4 @@ gather-returns-clause-now t c =
 pub gather-returns-clause-continues : goal.gather-returns-clause-continues
 gather-returns-clause-continues t c =
     let k = c.refill.ensures.continues in
-    record { most = k.most; more = k.more; height = k.height }
+    record { bound = k.bound; more = k.more; height = k.height }

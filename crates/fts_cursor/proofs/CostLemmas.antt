@@ -9,7 +9,7 @@ use Rattle.fts_cursor.specs.Standing.{Standing, remains}
 use Rattle.fts_cursor.proofs.HitsLemmas.{has-filter, same_members}
 use Rattle.fts_postings.proofs.MeetingLemmas.{Rises-filter}
 use Rattle.fts_postings.proofs.RemainingLemmas.{Rises-from_increasing}
-use Rattle.fts_postings.proofs.PromiseLemmas.{length-with_all}
+use Rattle.fts_postings.proofs.CostLemmas.{length-with_all}
 
 -- how many documents remain of all, each counted as often as it does
 abbrev pub all_remaining : List Standing → ℕ

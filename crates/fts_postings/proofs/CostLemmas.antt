@@ -20,8 +20,8 @@ behind (b ∷ bs) zero sized =
     omega (arith, behind bs zero (λ k d inside. sized (suc k) d (omega (arith, inside))), (sized 0 [] (omega arith)).1, length-append b (flat_map (λ block. block) bs))
 behind (b ∷ bs) (suc k) sized = omega (arith, behind bs k (λ i d inside. sized (suc i) d (omega (arith, inside))))
 
-pub posting_promise : (p : Posting) → All (λ block. (0 < length block) × (length block ≤ 128)) p.blocks → length (remaining_of p) ≤ (length p.blocks - p.block) * 128
-posting_promise p sized =
+pub posting_cost : (p : Posting) → All (λ block. (0 < length block) × (length block ≤ 128)) p.blocks → length (remaining_of p) ≤ (length p.blocks - p.block) * 128
+posting_cost p sized =
     let rest = flat_map (λ block. block) (drop (suc p.block) p.blocks) in
     omega (arith, behind p.blocks p.block sized, ap length (split_block p.blocks p.block), length-append (here p) rest, length-append (drop p.at (here p)) rest, length-drop p.at (here p))
 
@@ -29,8 +29,8 @@ length-range : (from n : ℕ) → length (range_with_len from n) ≡ n
 length-range from zero = refl
 length-range from (suc n) = omega (arith, length-range (from + 1) n)
 
-pub scan_promise : (p : ℕ → Bool) (from n at : ℕ) → length (drop at (passing p from n)) ≤ n
-scan_promise p from n at = omega (arith, length-drop at (passing p from n), length-filter-le p (range_with_len from n), length-range from n)
+pub scan_cost : (p : ℕ → Bool) (from n at : ℕ) → length (drop at (passing p from n)) ≤ n
+scan_cost p from n at = omega (arith, length-drop at (passing p from n), length-filter-le p (range_with_len from n), length-range from n)
 
 length-with_one : (d : ℕ) (xs : List ℕ) → length (with_one d xs) ≤ length xs + 1
 length-with_one d [] = omega arith
