@@ -8,9 +8,9 @@ use Rattle.fts_postings.specs.Meeting.{FirstPasses, common, has, in_all, in_some
 use Rattle.fts_cursor.specs.Standing.{Standing, at_most, beside, remains, together}
 use Rattle.fts_cursor.specs.Terms.{AreTied, IsTied, of_terms}
 use Rattle.fts_postings.specs.Windows.{marked}
-use Rattle.fts_cursor.specs.declared.tree.BufferedUnion.{BufferedUnion}
-use Rattle.fts_cursor.specs.declared.tree.Difference.{Difference}
-use Rattle.fts_cursor.specs.declared.tree.Meeting.{Meeting}
+use Rattle.fts_cursor.specs.declared.tree.buffered_union.BufferedUnion.{BufferedUnion}
+use Rattle.fts_cursor.specs.declared.tree.exclusion.Exclusion.{Exclusion}
+use Rattle.fts_cursor.specs.declared.tree.intersection.Intersection.{Intersection}
 use Rattle.fts_cursor.specs.declared.tree.Node.{Node}
 use Rattle.fts_cursor.specs.declared.tree.Node.TheVariants.{Nothing, Scan, Postings, Terms, Phrase, And, Or, Without}
 use Rattle.fts_postings.specs.declared.window.Window.{Window}
@@ -32,10 +32,10 @@ abbrev pub gathered : BufferedUnion → List ℕ
 gathered buffered = union (found buffered.window ∷ remains buffered.parts.items)
 
 -- what parts have in common, and what one has and the other doesn't
-abbrev pub meet : Meeting → List ℕ
+abbrev pub meet : Intersection → List ℕ
 meet parts = common parts.lead.value.remaining (remains parts.others.items)
 
-abbrev pub differ : Difference → List ℕ
+abbrev pub differ : Exclusion → List ℕ
 differ parts = without parts.kept.value.remaining parts.dropped.value.remaining
 
 abbrev pub standing : Node → Standing

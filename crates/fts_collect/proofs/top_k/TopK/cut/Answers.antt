@@ -1,12 +1,12 @@
 use Rattle.std.proofs.Common.{◌∙◌, sym, ap, length, ◌-◌, slice_get}
 use Rattle.fts_collect.specs.Internals.Keys.{first_keys}
-use Rattle.fts_collect.proofs.KeysLemmas.{least-last, first_keys-again}
-use Rattle.fts_collect.proofs.least.Least.cut.Goals as goal
+use Rattle.fts_collect.proofs.KeysLemmas.{top_k-last, first_keys-again}
+use Rattle.fts_collect.proofs.top_k.TopK.cut.Goals as goal
 
 pub invariant_of-self : goal.invariant_of-self
 invariant_of-self c =
     let kept = c.keep_least.new.keys in
-    least-last c.self.inside.k c.self.inside.held.items kept.items c.copied-self-inside.result c.keep_least.ensures (sym kept.ok.0 ∙ sym c.len.ensures ∙ c.if-len-self.true)
+    top_k-last c.self.inside.k c.self.inside.held.items kept.items c.copied-self-inside.result c.keep_least.ensures (sym kept.ok.0 ∙ sym c.len.ensures ∙ c.if-len-self.true)
     (c.copied-self-inside.ensures ∙ c.last.ensures.value ∙ ap (λ ks. slice_get ks (length ks - 1)) c.deref.ensures.value)
 
 pub returns-then-len-self : goal.returns-then-len-self

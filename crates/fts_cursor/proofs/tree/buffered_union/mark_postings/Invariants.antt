@@ -2,7 +2,7 @@
 use Rattle.std.proofs.Common.{length}
 use Rattle.fts_postings.specs.Posting.{Follows, remaining_of}
 use Rattle.fts_cursor.proofs.GatherLemmas.{IsMarking}
-use Rattle.fts_cursor.proofs.tree.mark_postings.Given as goal
+use Rattle.fts_cursor.proofs.tree.buffered_union.mark_postings.Given as goal
 
 abbrev pub invariant-loop-doc : goal.invariant-loop-doc
 invariant-loop-doc l = record {

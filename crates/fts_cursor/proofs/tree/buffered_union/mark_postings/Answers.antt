@@ -5,7 +5,7 @@ use Rattle.fts_postings.specs.Remaining.{at_least}
 use Rattle.fts_cursor.proofs.GatherLemmas.{IsMarking-next, IsMarking-none, marking_done, marking_ended, marking_left, marking_low, marking_past}
 use Rattle.fts_postings.proofs.MeetingLemmas.{fewer_behind}
 use Rattle.fts_postings.proofs.PostingLemmas.{Follows-same, Follows-trans}
-use Rattle.fts_cursor.proofs.tree.mark_postings.Goals as goal
+use Rattle.fts_cursor.proofs.tree.buffered_union.mark_postings.Goals as goal
 
 pub loop-doc-init : goal.loop-doc-init
 loop-doc-init c = record { follows = Follows-same c.args.postings.now; marking = IsMarking-none (remaining_of c.args.postings.now) c.args.window.now c.requires }

@@ -18,28 +18,28 @@ pub(crate) struct Key {
 /// Up to `2 * k` keys are held; when there is no room for one more, all but the least are dropped. From then on the
 /// greatest of those is a bound: what doesn't stand before it is dropped at once.
 #[derive(Drop)]
-pub(crate) struct Least {
+pub(crate) struct TopK {
     k: usize,
     held: Vec<Key>,
     bound: Option<Key>,
 }
 
-impl Model for Least {
-    ghost use Rattle.fts_collect.specs.Internals.Keys.{LeastValue, IsLeast, first_keys};
+impl Model for TopK {
+    ghost use Rattle.fts_collect.specs.Internals.Keys.{TopKValue, IsTopK, first_keys};
 
-    ghost Value = { LeastValue };
+    ghost Value = { TopKValue };
 
     ghost view = { λ l. record { k = l.k; keys = first_keys l.k l.held.items } };
 
-    ghost invariant = { λ l. IsLeast l.k l.held.items l.bound };
+    ghost invariant = { λ l. IsTopK l.k l.held.items l.bound };
 }
 
-impl Least {
+impl TopK {
     /// Without keys.
-    pub(crate) fn new(alloc: Global, k: usize) -> Least
+    pub(crate) fn new(alloc: Global, k: usize) -> TopK
         ensures { result ≡ record { k = k; keys = [] } }
     {
-        Least {
+        TopK {
             k,
             held: Vec::new(alloc),
             bound: None,
@@ -104,7 +104,7 @@ impl Least {
     pub(crate) fn into_keys(self) -> Vec<Key>
         ensures { result.items ≡ self.keys }
     {
-        let Least {
+        let TopK {
             k,
             mut held,
             bound: _,
