@@ -14,7 +14,7 @@ use Rattle.fts_model.specs.Queries.{is_number_field, is_limit, request_fits}
 use Rattle.fts_model.specs.Answers.{count_number, groups}
 use Rattle.fts_segment.specs.Segments.{SegmentValue, column}
 use Rattle.fts_collect.specs.declared.tally.Tally.{Tally}
-use Rattle.fts_collect.specs.Internals.Keys.{LeastValue, first_keys}
+use Rattle.fts_collect.specs.Internals.Keys.{TopKValue, first_keys}
 use Rattle.fts_collect.specs.Internals.Collecting.{IsTally, groups_of, present_at}
 use Rattle.fts_collect.specs.Internals.Ranking.{keep_keys, key_at, keys_at}
 use Rattle.fts_collect.specs.Internals.Collected.{HasCounted, HasNumbers, HasRanked, KeysWithin, hits_at}
@@ -36,13 +36,13 @@ counted-more segment asked field numbers docs old new is same more before =
     subst R (sym (filter_map-append (λ doc. slice_index_or (column segment field) doc None) before docs)) (taken kind (present_at (column segment field) before) (counted kind)))
 
 -- more keys were offered
-pub ranked-more : (segment : SegmentValue) (asked : Option Top) (top : Top) (numbers : List (Option ℕ)) (docs : List ℕ) (old new : LeastValue) → asked ≡ Some top → numbers ≡ column segment top.by →
+pub ranked-more : (segment : SegmentValue) (asked : Option Top) (top : Top) (numbers : List (Option ℕ)) (docs : List ℕ) (old new : TopKValue) → asked ≡ Some top → numbers ≡ column segment top.by →
     new ≡ record { k = old.k; keys = keep_keys old.k old.keys (keys_at top.order segment.documents numbers docs) } →
     (before : List ℕ) → HasRanked segment asked before old → HasRanked segment asked (before ++ docs) new
 ranked-more segment asked top numbers docs old new is same more before =
     let P : Option Top → Type 0 = λ o. HasRanked segment o before old → HasRanked segment o (before ++ docs) new in
     let h = key_at top.order segment.documents (column segment top.by) in
-    let later : LeastValue → LeastValue = λ l. record { k = l.k; keys = keep_keys l.k l.keys (keys_at top.order segment.documents (column segment top.by) docs) } in
+    let later : TopKValue → TopKValue = λ l. record { k = l.k; keys = keep_keys l.k l.keys (keys_at top.order segment.documents (column segment top.by) docs) } in
     subst P (sym is)
     (λ ranked.
     more
@@ -86,9 +86,9 @@ fits-top schema request fits =
     (may_be (λ (top : Top). is_number_field schema top.by && is_limit top.k) request.top (both (option_map_or (is_number_field schema) request.groups true) (option_map_or (λ top. is_number_field schema top.by && is_limit top.k) request.top true) fits).1)
 
 -- keys of hits are of documents
-pub ranked-within : (segment : SegmentValue) (wanted : Option Top) (docs : List ℕ) (least : LeastValue) → All (λ doc. doc < length segment.documents) docs →
-    HasRanked segment wanted docs least → KeysWithin segment wanted least
-ranked-within segment None docs least within ranked = tt
-ranked-within segment (Some top) docs least within ranked =
-    let P : LeastValue → Type 0 = λ l. All (λ key. key.doc < length segment.documents) l.keys in
+pub ranked-within : (segment : SegmentValue) (wanted : Option Top) (docs : List ℕ) (top_k : TopKValue) → All (λ doc. doc < length segment.documents) docs →
+    HasRanked segment wanted docs top_k → KeysWithin segment wanted top_k
+ranked-within segment None docs top_k within ranked = tt
+ranked-within segment (Some top) docs top_k within ranked =
+    let P : TopKValue → Type 0 = λ l. All (λ key. key.doc < length segment.documents) l.keys in
     subst P (sym ranked) (first_keys-within segment top.by top.k top.order docs within)

@@ -15,9 +15,9 @@ use Rattle.std.proofs.lemmas.List.Kept.{AllPairs-cons}
 use Rattle.std.proofs.lemmas.List.Sums.{fold_push, sum_by-cons}
 use Rattle.std.proofs.lemmas.List.Sorted.{sorted_far, ranks_by, sum_by-IsPermutation}
 use Rattle.fts_model.proofs.Lists.{pairs_none, pairs_front, pairs_behind}
-use Rattle.fts_collect.specs.declared.least.Key.{Key}
+use Rattle.fts_collect.specs.declared.top_k.Key.{Key}
 use Rattle.fts_collect.specs.Internals.Ranking.{keep_keys}
-use Rattle.fts_collect.specs.Internals.Keys.{key_cmp, key_lt, put_key, first_keys, IsBound, IsLeast}
+use Rattle.fts_collect.specs.Internals.Keys.{key_cmp, key_lt, put_key, first_keys, IsBound, IsTopK}
 
 -- keys stand in one order
 pub key_total : IsTotalOrder key_cmp
@@ -323,9 +323,9 @@ bound-push k keys bound key is =
     (cases_Bool (key_lt key bound))
 
 -- what holds of no bound, or of one, holds of it with one key more
-pub least-push : (k : ℕ) (held : List Key) (bound : Option Key) (key : Key) → IsLeast k held bound → IsLeast k (held ++ key ∷ []) bound
-least-push k held None key is = is
-least-push k held (Some bound) key is =
+pub top_k-push : (k : ℕ) (held : List Key) (bound : Option Key) (key : Key) → IsTopK k held bound → IsTopK k (held ++ key ∷ []) bound
+top_k-push k held None key is = is
+top_k-push k held (Some bound) key is =
     let P : List Key → Type 0 = λ ks. IsBound k ks bound in
     subst P (sym (first_keys-push k held key)) (bound-push k (first_keys k held) bound key is)
 
@@ -342,16 +342,16 @@ not_lt Equal h = refl
 not_lt Greater h = refl
 
 -- a bound is one of the first keys of what is kept of them
-pub least-again : (k : ℕ) (held kept : List Key) (bound : Option Key) → kept ≡ first_keys k held → IsLeast k held bound → IsLeast k kept bound
-least-again k held kept None is h = h
-least-again k held kept (Some bound) is h =
+pub top_k-again : (k : ℕ) (held kept : List Key) (bound : Option Key) → kept ≡ first_keys k held → IsTopK k held bound → IsTopK k kept bound
+top_k-again k held kept None is h = h
+top_k-again k held kept (Some bound) is h =
     let P : List Key → Type 0 = λ ks. IsBound k ks bound in
     subst P (sym (ap (first_keys k) is ∙ first_keys-again k held)) h
 
 -- the last key of a full list is a bound of it, or of none where the list is empty
-pub least-last : (k : ℕ) (held kept : List Key) (bound : Option Key) → kept ≡ first_keys k held → length kept ≡ k → bound ≡ slice_get kept (length kept - 1) → IsLeast k kept bound
-least-last k held kept None is full last = tt
-least-last k held kept (Some bound) is full last =
+pub top_k-last : (k : ℕ) (held kept : List Key) (bound : Option Key) → kept ≡ first_keys k held → length kept ≡ k → bound ≡ slice_get kept (length kept - 1) → IsTopK k kept bound
+top_k-last k held kept None is full last = tt
+top_k-last k held kept (Some bound) is full last =
     let n = length kept - 1 in
     let at : slice_get kept n ≡ Some bound = sym last in
     let inside : n < length kept = slice_get_within kept n bound at in

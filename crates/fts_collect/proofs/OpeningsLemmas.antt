@@ -1,5 +1,7 @@
 -- How many blocks were opened, and how many musts a query has.
-use Rattle.std.proofs.Common.{◌≡◌, ◌≢◌, ℕ, ◌-◌, ◌^◌, ◌<◌, ◌≤◌, List, [], ◌∷◌, length, map, min, refl, sym, ap, ◌∙◌, arith}
+use Rattle.std.proofs.Common.{◌≡◌, ◌≢◌, ℕ, ◌-◌, ◌^◌, ◌<◌, ◌≤◌, List, [], ◌∷◌, length, map, min, refl, sym, ap, ◌∙◌, inl, inr, nat_lt, arith}
+use Rattle.std.specs.Prelude.{if◌then◌else◌}
+use Rattle.std.proofs.lemmas.Bool.{cases_lt, le-ltb, lt-ltb}
 use Rattle.std.proofs.lemmas.List.{length-map}
 use Rattle.fts_model.specs.declared.operation.Term.{Term}
 use Rattle.fts_model.specs.declared.query.Query.TheOpen.{Query-F}
@@ -40,7 +42,7 @@ musts-length must must_not should terms has =
 pub walked-on : (a b c : Standing) → Walked a b → Walked b c → Walked a c
 walked-on a b c first second = record {
   continues = record {
-    most = second.continues.most ∙ first.continues.most;
+    bound = second.continues.bound ∙ first.continues.bound;
     more = omega (arith, first.continues.more, second.continues.more);
     height = second.continues.height ∙ first.continues.height;
   };
@@ -54,6 +56,13 @@ blocks-few segment t few = omega (arith, few, length-numbers_where (λ (d : Stam
 -- one number is at most another, and that at most a third
 pub at_most : (a b c : ℕ) → a ≤ b → b ≤ c → a ≤ c
 at_most a b c first second = omega arith
+
+-- what is so many where there are some
+pub where_some : (n m k : ℕ) → (0 < n → m ≤ k) → (if nat_lt 0 n then m else 0) ≤ k
+where_some n m k h = elim (cases_lt 0 n) [
+  | inl some ↦ rw (lt-ltb 0 n some) (h some)
+  | inr none ↦ rw (le-ltb 0 n none) (omega arith)
+]
 
 -- where hits are counted, there are hits
 pub some_hits : (segment : SegmentValue) (request : Request) (docs : List ℕ) (answer : AnswerValue) → answer ≡ answer_of request (hits_at segment docs) → 0 < answer.count → docs ≢ []

@@ -24,7 +24,7 @@ use Rattle.fts_model.specs.Operations.{kind_at}
 use Rattle.fts_model.specs.Answers.{cmp_by, comes_before, hit_in, hits_in, number_in_field, put_hit, top}
 use Rattle.fts_model.proofs.Lists.{pairs_none, pairs_front, pairs_behind}
 use Rattle.fts_segment.specs.Segments.{SegmentValue, column, number_of}
-use Rattle.fts_collect.specs.declared.least.Key.{Key}
+use Rattle.fts_collect.specs.declared.top_k.Key.{Key}
 use Rattle.fts_collect.specs.Internals.Collecting.{number_at}
 use Rattle.fts_collect.specs.Internals.Keys.{key_lt, put_key, first_keys}
 use Rattle.fts_collect.specs.Internals.Ranking.{rank_in, stamp_at, document_at, key_at, keys_at, hit_of, keep_keys}

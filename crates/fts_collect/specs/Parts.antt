@@ -1,16 +1,31 @@
 -- What one segment tells of its hits, and when parts are told of the hits of a whole.
-use Rattle.std.specs.Prelude.{◌≡◌, ℕ, List, map}
+use Rattle.std.specs.Prelude.{◌≡◌, ℕ, ◌≤◌, List, if◌then◌else◌, length, map, nat_lt}
 use Rattle.std.specs.List.{flat_map}
 use Rattle.std.specs.List.Sorted.{IsPermutation}
 use Rattle.fts_model.specs.declared.operation.Stamped.{Stamped}
+use Rattle.fts_model.specs.declared.operation.Term.{Term}
 use Rattle.fts_model.specs.declared.query.Request.{Request}
 use Rattle.fts_model.specs.Documents.{DocumentValue}
 use Rattle.fts_model.specs.Answers.{AnswerValue, answer_of}
+use Rattle.fts_model.specs.QueryValues.{QueryValue}
+use Rattle.fts_segment.specs.Segments.{SegmentValue}
+use Rattle.fts_cursor.specs.Openings.{HasMusts, IsOfOneTerm, blocks_with, most_for_musts}
 
 -- a part: what is told of its hits, and how many blocks were opened to find them
 pub record PartValue : Type 0 where
   pub answer : AnswerValue
   pub openings : ℕ
+
+-- how many blocks a search opens: so many for one term, and for a conjunction of terms so many at least and at most
+pub record AreOpenings (query : QueryValue) (blocks : Term → ℕ) (least most : List Term → ℕ) (openings : ℕ) : Type 0 where
+  pub one_term : (t : Term) → IsOfOneTerm query t → openings ≡ blocks t
+  pub opened : (terms : List Term) → HasMusts query terms → least terms ≤ openings
+  pub musts : (terms : List Term) → HasMusts query terms → openings ≤ most terms
+
+-- those of a segment: all of a term's list, and where a conjunction has a hit, one at least of each term's
+abbrev pub OpensIn : SegmentValue → QueryValue → PartValue → Type 0
+OpensIn segment query part =
+    AreOpenings query (blocks_with segment) (λ terms. if nat_lt 0 part.answer.count then length terms else 0) (most_for_musts segment) part.openings
 
 -- each list of hits behind the one before it
 abbrev pub joined : List (List (Stamped DocumentValue)) → List (Stamped DocumentValue)

@@ -6,10 +6,12 @@ ghost use Rattle.fts_model.specs.Queries.{is_number_field, query_fits, request_f
 ghost use Rattle.fts_model.specs.QueryValues.{query_value};
 ghost use Rattle.fts_model.specs.Answers.{answer, answer_of, groups, top};
 ghost use Rattle.fts_segment.specs.Contents.{content_of};
-ghost use Rattle.fts_cursor.specs.Openings.{IsOfOneTerm, HasMusts, blocks_with, most_for_musts};
+ghost use Rattle.fts_postings.specs.Bounds.{most_at};
+ghost use Rattle.fts_cursor.specs.Openings.{HasMusts};
+ghost use Rattle.fts_collect.specs.Parts.{OpensIn};
 ghost use Rattle.fts_collect.specs.Internals.Collected.{AreHits, HasCounted, HasNumbers, HasRanked, HasSeen, IsTallyOf, KeysWithin, hits_at};
 
-use crate::least::Least;
+use crate::top_k::TopK;
 use crate::part::Part;
 use crate::ranking::{hits_of, offer_hits};
 use crate::tally::Tally;
@@ -26,7 +28,7 @@ pub(crate) struct Seen {
     /// Of their numbers in the field of the groups.
     pub(crate) tally: Tally,
     /// By their numbers in the field of the top list.
-    pub(crate) least: Least,
+    pub(crate) top_k: TopK,
 }
 
 /// The tally of no hits, for the field of the groups.
@@ -89,16 +91,16 @@ fn rank_hits(
     segment: &Segment,
     wanted: Option<Top>,
     docs: &[u32],
-    least: &mut Least,
+    top_k: &mut TopK,
 ) -> Result<(), AllocError>
     requires fits { IfSome wanted (λ t. is_number_field segment.now.schema t.by ≡ true) }
     requires within { All (λ doc. doc < length segment.now.documents) docs.now }
-    ensures { OnOk result ((before : List ℕ) → HasRanked segment.now wanted before least.old →
-        HasRanked segment.now wanted (before ++ docs.now) least.new) }
+    ensures { OnOk result ((before : List ℕ) → HasRanked segment.now wanted before top_k.old →
+        HasRanked segment.now wanted (before ++ docs.now) top_k.new) }
 {
     match wanted {
         None => Ok(()),
-        Some(top) => offer_hits(segment, segment.column(top.by), top.order, docs, least),
+        Some(top) => offer_hits(segment, segment.column(top.by), top.order, docs, top_k),
     }
 }
 
@@ -107,12 +109,12 @@ fn top_told(
     alloc: Global,
     segment: &Segment,
     wanted: Option<Top>,
-    least: Least,
+    top_k: TopK,
 ) -> Result<Option<Vec<Hit>>, AllocError>
     requires fits { IfSome wanted (λ t. is_number_field segment.now.schema t.by ≡ true) }
     requires documents { HasNumbers segment.now }
-    requires within { KeysWithin segment.now wanted least }
-    ensures { (docs : List ℕ) → HasRanked segment.now wanted docs least → AreHits segment.now docs →
+    requires within { KeysWithin segment.now wanted top_k }
+    ensures { (docs : List ℕ) → HasRanked segment.now wanted docs top_k → AreHits segment.now docs →
         IfOk result (λ list. option_map (λ l. l.items) list
         ≡ option_map (λ t. top t.k t.order t.by (hits_at segment.now docs)) wanted) }
 {
@@ -120,7 +122,7 @@ fn top_told(
         None => Ok(None),
         Some(top) => {
             let kind = segment.schema().kind(top.by);
-            let keys = least.into_keys();
+            let keys = top_k.into_keys();
             Ok(Some(hits_of(alloc, segment, kind, top.order, &keys)?))
         }
     }
@@ -141,7 +143,7 @@ fn see(
 {
     seen.count = seen.count.saturating_add(docs.len() as u64);
     count_hits(segment, request.groups, docs, &mut seen.tally)?;
-    rank_hits(segment, request.top, docs, &mut seen.least)
+    rank_hits(segment, request.top, docs, &mut seen.top_k)
 }
 
 /// Takes all hits that remain of a cursor, 128 at a time.
@@ -180,7 +182,7 @@ fn nothing_seen(alloc: Global, segment: &Segment, request: &Request) -> Result<S
     Ok(Seen {
         count: 0,
         tally,
-        least: Least::new(alloc, k),
+        top_k: TopK::new(alloc, k),
     })
 }
 
@@ -194,7 +196,7 @@ fn told(
     requires fits { request_fits segment.now.schema request.now ≡ true }
     requires documents { HasNumbers segment.now }
     requires places { IsTallyOf segment.now request.now.groups seen.tally }
-    requires within { KeysWithin segment.now request.now.top seen.least }
+    requires within { KeysWithin segment.now request.now.top seen.top_k }
     ensures { (docs : List ℕ) →
         HasSeen segment.now request.now docs seen → AreHits segment.now docs →
         IfOk result (λ answer. answer ≡ answer_of request.now (hits_at segment.now docs)) }
@@ -202,10 +204,10 @@ fn told(
     let Seen {
         count,
         tally,
-        least,
+        top_k,
     } = seen;
     let groups = groups_told(alloc, segment, request.groups, tally)?;
-    let top = top_told(alloc, segment, request.top, least)?;
+    let top = top_told(alloc, segment, request.top, top_k)?;
     Ok(Answer { count, groups, top })
 }
 
@@ -221,10 +223,10 @@ fn part_of(
     requires hits { AreHits segment.now cursor.old.remaining }
     ensures answer { IfOk result (λ part. part.answer
         ≡ answer_of request.now (hits_at segment.now cursor.old.remaining)) }
-    ensures most { IfOk result (λ part. part.openings ≤ cursor.old.most) }
+    ensures most { IfOk result (λ part. part.openings ≤ most_at cursor.old.bound None) }
     ensures least { IfOk result (λ part. min (2 ^ 64 - 1) cursor.old.openings ≤ part.openings) }
     ensures whole { IfOk result (λ part. cursor.old.whole ≡ true →
-        part.openings ≡ min (2 ^ 64 - 1) cursor.old.most) }
+        part.openings ≡ min (2 ^ 64 - 1) (most_at cursor.old.bound None)) }
 {
     let mut seen = nothing_seen(alloc, segment, request)?;
     see_all(segment, request, cursor, &mut seen)?;
@@ -260,13 +262,7 @@ pub fn collect(
     requires request { request_fits segment.now.schema request.now ≡ true }
     ensures part { IfOk result (λ part. part.answer ≡ answer segment.now.schema
         (query_value query.now) request.now (content_of segment.now live.now)) }
-    ensures one_term { IfOk result (λ part. (t : Term) → IsOfOneTerm (query_value query.now) t →
-        part.openings ≡ blocks_with segment.now t) }
-    ensures musts { IfOk result (λ part. (terms : List Term) →
-        HasMusts (query_value query.now) terms → part.openings ≤ most_for_musts segment.now terms) }
-    ensures opened { IfOk result (λ part. (terms : List Term) →
-        HasMusts (query_value query.now) terms → 0 < part.answer.count →
-        length terms ≤ part.openings) }
+    ensures openings { IfOk result (OpensIn segment.now (query_value query.now)) }
     ensures memory { IsOkUnless result Refusal.Memory }
 {
     // A count of openings has 64 bits: neither the documents nor the musts are more.

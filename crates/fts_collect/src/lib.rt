@@ -11,12 +11,12 @@
 
 mod collecting;
 mod groups;
-mod least;
 mod order;
 mod part;
 mod ranking;
 mod tally;
 mod top;
+mod top_k;
 
 pub use collecting::collect;
 pub use part::Part;

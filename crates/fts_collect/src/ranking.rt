@@ -2,7 +2,7 @@
 ghost use Rattle.std.specs.Prelude.{◌≡◌, ◌<◌, ◌≤◌, ◌^◌, ◌++◌, ◌∷◌, [], All, IfOk, OnOk, length, map, option_to_list};
 ghost use Rattle.fts_collect.specs.Internals.Ranking.{hit_of, keep_keys, key_at, keys_at, rank_in};
 
-use crate::least::{Key, Least};
+use crate::top_k::{Key, TopK};
 use crate::tally::number_at;
 use fts_model::{Hit, Kind, Order};
 use fts_pack::Column;
@@ -25,12 +25,12 @@ fn offer_hit(
     column: &Column,
     order: Order,
     doc: u32,
-    least: &mut Least,
+    top_k: &mut TopK,
 ) -> Result<(), AllocError>
     requires { doc < length segment.now.documents }
-    ensures { OnOk result (least.new ≡ record least.old {
+    ensures { OnOk result (top_k.new ≡ record top_k.old {
       keys =
-          keep_keys least.old.k least.old.keys
+          keep_keys top_k.old.k top_k.old.keys
           (option_to_list (key_at order segment.now.documents column.now doc));
     }) }
 {
@@ -38,11 +38,11 @@ fn offer_hit(
         return Ok(());
     };
     let rank = rank_in(order, number);
-    if least.is_beyond(rank) {
+    if top_k.is_beyond(rank) {
         return Ok(());
     }
     let stamp = segment.stamp(doc as usize);
-    least.offer(Key { rank, stamp, doc })
+    top_k.offer(Key { rank, stamp, doc })
 }
 
 /// Offers the hits that have a number in a column, the last first: where ranks fall from document to document, each hit
@@ -52,17 +52,17 @@ pub(crate) fn offer_hits(
     column: &Column,
     order: Order,
     docs: &[u32],
-    least: &mut Least,
+    top_k: &mut TopK,
 ) -> Result<(), AllocError>
     requires { All (λ doc. doc < length segment.now.documents) docs.now }
-    ensures { OnOk result (least.new ≡ record least.old {
+    ensures { OnOk result (top_k.new ≡ record top_k.old {
       keys =
-          keep_keys least.old.k least.old.keys
+          keep_keys top_k.old.k top_k.old.keys
           (keys_at order segment.now.documents column.now docs.now);
     }) }
 {
     for i in (0..docs.len()).rev() {
-        offer_hit(segment, column, order, docs[i], least)?;
+        offer_hit(segment, column, order, docs[i], top_k)?;
     }
     Ok(())
 }

@@ -14,7 +14,7 @@ pub(crate) fn number_at(kind: Kind, number: u64) -> Number
 {
     match kind {
         Kind::I64 => Number::I64(u64_to_i64(number)),
-        _ => Number::U64(number),
+        Kind::Text | Kind::Keyword | Kind::U64 => Number::U64(number),
     }
 }
 

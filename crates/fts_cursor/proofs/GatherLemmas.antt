@@ -10,7 +10,7 @@ use Rattle.fts_postings.specs.Windows.{is_marked, passing}
 use Rattle.fts_postings.specs.Meeting.{IsLeast, has, in_some, union, with_all, with_one}
 use Rattle.fts_cursor.specs.Standing.{Continues, Left, Standing, beside, remains, together}
 use Rattle.fts_cursor.specs.Trees.{AreBeyond, AreMarked, IsBuffered, IsNow, found, gathered}
-use Rattle.fts_cursor.specs.declared.tree.BufferedUnion.{BufferedUnion}
+use Rattle.fts_cursor.specs.declared.tree.buffered_union.BufferedUnion.{BufferedUnion}
 use Rattle.fts_cursor.specs.declared.tree.Node.TheVariants.{Or}
 use Rattle.fts_postings.specs.declared.window.Window.{Window}
 use Rattle.fts_postings.proofs.RemainingLemmas.{Rises-from_increasing, at_least_all, first-at_least, increasing-from_Rises, nothing_first}

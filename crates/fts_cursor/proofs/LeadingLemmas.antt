@@ -1,5 +1,5 @@
 -- Lists of which the shortest leads: what a conjunction over them finds, and what it opens.
-use Rattle.std.proofs.Common.{◌≡◌, ◌≢◌, ℕ, zero, suc, ◌+◌, ◌-◌, ◌*◌, ◌<◌, ◌≤◌, min, Bool, true, false, cond, ◌&&◌, ◌||◌, nat_lt, List, [], ◌∷◌, ◌++◌, length, map, take, get_or, refl, sym, ap, ap₂, subst, ◌∙◌, inl, inr, arith}
+use Rattle.std.proofs.Common.{◌≡◌, ◌≢◌, ℕ, zero, suc, ◌+◌, ◌-◌, ◌<◌, ◌≤◌, Bool, true, false, cond, ◌&&◌, ◌||◌, nat_lt, List, [], ◌∷◌, ◌++◌, length, map, take, get_or, refl, sym, ap, ap₂, subst, ◌∙◌, inl, inr, arith}
 use Rattle.std.specs.Prelude.{if◌then◌else◌}
 use Rattle.std.specs.Borrow.{Bor}
 use Rattle.std.specs.List.{All, AllZip, list_all, slice_get, sum_by}
@@ -13,8 +13,10 @@ use Rattle.fts_model.proofs.QueriesBoolean.{matches_in}
 use Rattle.fts_pack.specs.Documents.{Rises, block_count, blocks_of}
 use Rattle.fts_pack.specs.SourceLaws.{blocks_joined, length-blocks_of}
 use Rattle.fts_segment.specs.Segments.{SegmentValue, numbers_where}
-use Rattle.fts_postings.specs.Conjoined.{AllFollow, Conjoined, common_of, counts_of, each_remaining, members_of, most_of}
-use Rattle.fts_cursor.specs.Leading.{IsLed, IsOver, fewest}
+use Rattle.fts_postings.specs.Conjoined.{AllFollow, Conjoined, bound_of, common_of, counts_of, each_remaining}
+use Rattle.fts_postings.specs.Bounds.{Bound}
+use Rattle.fts_cursor.specs.Openings.{bound_of_all, shortest_of}
+use Rattle.fts_cursor.specs.Leading.{IsLed, IsOver}
 use Rattle.fts_postings.specs.Meeting.{common, has, in_all}
 use Rattle.fts_postings.specs.Posting.{Posting, remaining_of}
 use Rattle.fts_cursor.specs.Terms.{AreTied, IsTied}
@@ -55,8 +57,9 @@ IsLed-more (y ∷ lists) shortest x shorter longer others h rises is other =
     let count : length ((y ∷ lists) ++ x ∷ []) ≡ suc (length (others ++ longer ∷ [])) = omega (arith, h.count, length-append (y ∷ lists) (x ∷ []), length-append others (longer ∷ [])) in
     let before : (d : ℕ) → in_all ((y ∷ lists) ++ x ∷ []) d ≡ ((has shortest d && in_all others d) && has x d) = λ d.
     list_all-append (λ documents. has documents d) (y ∷ lists) (x ∷ []) ∙ ap₂ (λ a b. a && b) (sym (h.same d)) (and_unit (has x d)) in
-    let least : fewest ((y ∷ lists) ++ x ∷ []) ≡ min (length shortest) (length x) =
-    fold-append (λ (n : ℕ) (zs : List ℕ). min n (length zs)) (length y) lists (x ∷ []) ∙ ap (λ n. min n (length x)) (sym h.least) in
+    let least : shortest_of ((y ∷ lists) ++ x ∷ []) ≡ shorter =
+    fold-append (λ (zs : List ℕ) (ys : List ℕ). if nat_lt (length ys) (length zs) then ys else zs) y lists (x ∷ [])
+    ∙ ap (λ zs. if nat_lt (length x) (length zs) then x else zs) h.least ∙ sym is in
     let rest : (zs : List ℕ) (d : ℕ) → in_all (others ++ zs ∷ []) d ≡ (in_all others d && (has zs d && true)) = λ zs d. list_all-append (λ documents. has documents d) others (zs ∷ []) in
     elim (cases_lt (length x) (length shortest)) [
       | inl less ↦
@@ -66,7 +69,7 @@ IsLed-more (y ∷ lists) shortest x shorter longer others h rises is other =
           record {
             count = count;
             same = λ d. ap₂ (λ a b. has a d && in_all (others ++ b ∷ []) d) first second ∙ ap (λ b. has x d && b) (rest shortest d) ∙ and_around (has shortest d) (in_all others d) (has x d) ∙ sym (before d);
-            least = omega (arith, ap length first, least, less);
+            least = least;
             rises = subst (Rises 0) (sym first) rises;
           }
       | inr high ↦
@@ -76,7 +79,7 @@ IsLed-more (y ∷ lists) shortest x shorter longer others h rises is other =
           record {
             count = count;
             same = λ d. ap₂ (λ a b. has a d && in_all (others ++ b ∷ []) d) first second ∙ ap (λ b. has shortest d && b) (rest x d) ∙ and_last (has shortest d) (in_all others d) (has x d) ∙ sym (before d);
-            least = omega (arith, ap length first, least, high);
+            least = least;
             rises = subst (Rises 0) (sym first) h.rises;
           }
     ]
@@ -144,7 +147,7 @@ pub record IsFresh (lists : List (List ℕ)) (shortest : List ℕ) (others : Lis
   pub fresh : All (λ p. p.opened ≤ 1) c.others
   pub tied : AreTied c
   pub remaining : common_of c ≡ common shortest others
-  pub most : most_of c ≡ block_count (fewest lists) + (length lists - 1) * (fewest lists + 1)
+  pub bound : bound_of c ≡ bound_of_all lists
   pub opened : common shortest others ≢ [] → length lists ≤ counts_of c
 
 pub length_zip : {A B : Type 0} (R : A → B → Type 0) (xs : List A) (ys : List B) → AllZip R xs ys → length xs ≡ length ys
@@ -162,13 +165,15 @@ pub is_fresh : (lists : List (List ℕ)) (shortest : List ℕ) (ls : List (Bor (
 is_fresh lists shortest ls lead ps led over zip =
     let rest = are_over ps ls zip in
     let many : length ps ≡ length lists - 1 = omega (arith, length_zip (λ (p : Posting) (l : Bor (List ℕ)). IsOver p l.now) ps ls zip, length_lists ls, led.count) in
-    let blocks : length lead.blocks ≡ block_count (fewest lists) = ap length over.blocks ∙ length-blocks_of shortest ∙ ap block_count led.least in
-    let members : length (members_of lead) ≡ fewest lists = ap (λ bs. length (members_of (record lead { blocks = bs }))) over.blocks ∙ ap length (blocks_joined shortest) ∙ led.least in
+    let bound : List ℕ → ℕ → Bound = λ xs n. record { blocks = block_count (length xs); lead = xs; others = n } in
+    let lead_is : bound_of (record { lead = lead; others = ps }) ≡ bound shortest (length ps) =
+    ap (λ (bs : List (List ℕ)). bound_of (record { lead = record lead { blocks = bs }; others = ps })) over.blocks
+    ∙ ap₂ (λ (n : ℕ) (xs : List ℕ). let b : Bound = record { blocks = n; lead = xs; others = length ps } in b) (length-blocks_of shortest) (blocks_joined shortest) in
     record {
       fresh = rest.opened;
       tied = (over.tied, rest.tied);
       remaining = ap₂ common over.remaining rest.remaining;
-      most = ap₂ (λ (m : ℕ) (n : ℕ). m + n) blocks (ap₂ (λ (m : ℕ) (n : ℕ). m * (n + 1)) many members);
+      bound = lead_is ∙ ap₂ bound (sym led.least) many;
       opened = λ some.
           let found = first_in (common shortest (lists_of ls)) some in
           let both = and_parts (has shortest found.0) (in_all (lists_of ls) found.0) (sym (has-filter (in_all (lists_of ls)) shortest found.0) ∙ found.1) in
@@ -206,7 +211,7 @@ none_in segment (w ∷ ws) (suc k) q inside is none d =
 pub record Conjoins (segment : SegmentValue) (queries : List Query) (c : Conjoined) : Type 0 where
   pub tied : AreTied c
   pub hits : common_of c ≡ all_hits segment queries
-  pub most : most_of c ≡ block_count (fewest (map (hits_of segment) queries)) + (length queries - 1) * (fewest (map (hits_of segment) queries) + 1)
+  pub bound : bound_of c ≡ bound_of_all (map (hits_of segment) queries)
   pub opened : common_of c ≢ [] → length queries ≤ counts_of c
 
 pub conjoins : (segment : SegmentValue) (queries : List Query) (shortest : List ℕ) (ls : List (Bor (List ℕ))) (lead : Posting) (ps : List Posting) (c : Conjoined) →
@@ -220,6 +225,6 @@ conjoins segment queries shortest ls lead ps c led over zip follows same =
     record {
       tied = on.1;
       hits = same ∙ fresh.remaining ∙ led_hits segment queries shortest (lists_of ls) led;
-      most = continues.most ∙ fresh.most ∙ ap (λ (n : ℕ). block_count (fewest (map (hits_of segment) queries)) + (n - 1) * (fewest (map (hits_of segment) queries) + 1)) many;
+      bound = continues.bound ∙ fresh.bound;
       opened = λ some. omega (arith, many, continues.more, fresh.opened (λ none. some (same ∙ fresh.remaining ∙ none)));
     }

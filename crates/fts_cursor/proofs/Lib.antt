@@ -12,4 +12,4 @@ pub mod OpensLemmas
 pub mod DepthLemmas
 pub mod PhraseHits
 pub mod RangeLemmas
-pub mod PromiseLemmas
+pub mod CostLemmas

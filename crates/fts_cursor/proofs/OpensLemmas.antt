@@ -1,6 +1,6 @@
 -- What the cursor of a query opens, by the queries in it.
-use Rattle.std.proofs.Common.{◌≡◌, ◌≢◌, ℕ, ◌+◌, ◌-◌, ◌*◌, ◌<◌, ◌≤◌, min, Bool, true, false, ◌&&◌, List, [], ◌∷◌, ◌++◌, length, map, take, get_or, refl, sym, ap, ap₂, subst, ◌∙◌, inl, inr, arith}
-use Rattle.std.specs.List.{AllZip, filter, fold, list_all}
+use Rattle.std.proofs.Common.{◌≡◌, ◌≢◌, ℕ, ◌+◌, ◌<◌, ◌≤◌, Bool, true, false, ◌&&◌, Option, None, List, [], ◌∷◌, ◌++◌, length, map, take, get_or, refl, sym, ap, ap₂, subst, ◌∙◌, inl, inr, arith}
+use Rattle.std.specs.List.{AllZip, filter, list_all}
 use Rattle.std.proofs.lemmas.Bool.{and_parts, false≢true}
 use Rattle.std.proofs.lemmas.List.{length-map, map-append, take_more}
 use Rattle.fts_model.specs.declared.operation.Term.{Term}
@@ -19,9 +19,9 @@ use Rattle.fts_segment.proofs.HoldingLemmas.{numbers_where-none}
 use Rattle.fts_segment.specs.Segments.{SegmentValue, numbers_where, postings}
 use Rattle.fts_cursor.specs.Builds.{Opens, is_term}
 use Rattle.fts_cursor.specs.Hits.{segment_hits}
-use Rattle.fts_cursor.specs.Leading.{fewest}
-use Rattle.fts_cursor.specs.Openings.{blocks_with, documents_with, least_documents}
-use Rattle.fts_cursor.specs.Standing.{Standing, Walked, remains}
+use Rattle.fts_cursor.specs.Openings.{blocks_with, bound_for_musts, bound_of_all}
+use Rattle.fts_cursor.specs.Standing.{Standing, Walked, at_most, remains}
+use Rattle.fts_postings.specs.Bounds.{Bound, most_at}
 use Rattle.fts_postings.specs.Meeting.{common, union}
 use Rattle.fts_cursor.proofs.BoolHits.{all_kept, kept_by, must_hits, should_hits}
 use Rattle.fts_cursor.proofs.HitsLemmas.{hits_of}
@@ -44,17 +44,17 @@ pub opens_plain : (segment : SegmentValue) (query : QueryValue) (s : Standing) �
 unfolding is_plain
 opens_plain segment query s plain = record {
   one_term = λ t h. elim h [ inl e ↦ absurd (false≢true (ap is_plain (sym e) ∙ plain)) | inr e ↦ absurd (false≢true (ap is_plain (sym e) ∙ plain)) ];
-  musts = λ terms e. absurd (false≢true (ap is_plain (sym e) ∙ plain));
+  musts = λ terms e doc. absurd (false≢true (ap is_plain (sym e) ∙ plain));
   opened = λ terms e some. absurd (false≢true (ap is_plain (sym e) ∙ plain));
 }
 
-pub opens_term : (segment : SegmentValue) (query : QueryValue) (t : Term) (s : Standing) → query ≡ term t → s.whole ≡ true → s.most ≡ block_count (length (postings segment t)) → Opens segment query s
+pub opens_term : (segment : SegmentValue) (query : QueryValue) (t : Term) (s : Standing) → query ≡ term t → s.whole ≡ true → most_at s.bound None ≡ block_count (length (postings segment t)) → Opens segment query s
 opens_term segment query t s is whole most = record {
   one_term = λ u h. elim h [
     | inl e ↦ let same : t ≡ u = cc in (whole, most ∙ ap (blocks_with segment) same)
     | inr e ↦ absurd (cc)
   ];
-  musts = λ terms e. absurd (cc);
+  musts = λ terms e doc. absurd (cc);
   opened = λ terms e some. absurd (cc);
 }
 
@@ -63,7 +63,7 @@ pub opens_without : (segment : SegmentValue) (query : QueryValue) (must should :
 opens_without segment query must should [] s is some = absurd (omega (arith, some))
 opens_without segment query must should (q ∷ qs) s is some = record {
   one_term = λ u h. elim h [ inl e ↦ absurd (cc) | inr e ↦ absurd (cc) ];
-  musts = λ terms e. absurd (cc);
+  musts = λ terms e doc. absurd (cc);
   opened = λ terms e more. absurd (cc);
 }
 
@@ -88,26 +88,15 @@ are_all (q ∷ qs) (t ∷ ts) e =
 as_many : (qs : List Query) (terms : List Term) → map query_value qs ≡ map term terms → length qs ≡ length terms
 as_many qs terms e = omega (arith, ap length e, length-map qs query_value, length-map terms term)
 
-least_from : (segment : SegmentValue) (least : ℕ) (qs : List Query) (terms : List Term) → map query_value qs ≡ map term terms →
-    fold (λ (n : ℕ) (zs : List ℕ). min n (length zs)) least (map (hits_of segment) qs) ≡ fold (λ (n : ℕ) (t : Term). min n (documents_with segment t)) least terms
-least_from segment least [] [] e = refl
-least_from segment least [] (t ∷ ts) e = absurd (cc)
-least_from segment least (q ∷ qs) [] e = absurd (cc)
-least_from segment least (q ∷ qs) (t ∷ ts) e =
+-- the documents that they find are those with the terms
+lists_are : (segment : SegmentValue) (qs : List Query) (terms : List Term) → map query_value qs ≡ map term terms → map (hits_of segment) qs ≡ map (postings segment) terms
+lists_are segment [] [] e = refl
+lists_are segment [] (t ∷ ts) e = absurd (cc)
+lists_are segment (q ∷ qs) [] e = absurd (cc)
+lists_are segment (q ∷ qs) (t ∷ ts) e =
     let first : query_value q ≡ term t = cc in
     let rest : map query_value qs ≡ map term ts = cc in
-    ap (λ v. fold (λ (n : ℕ) (zs : List ℕ). min n (length zs)) (min least (length (segment_hits segment v))) (map (hits_of segment) qs)) first
-    ∙ least_from segment (min least (documents_with segment t)) qs ts rest
-
-least_of : (segment : SegmentValue) (qs : List Query) (terms : List Term) → map query_value qs ≡ map term terms → fewest (map (hits_of segment) qs) ≡ least_documents segment terms
-least_of segment [] [] e = refl
-least_of segment [] (t ∷ ts) e = absurd (cc)
-least_of segment (q ∷ qs) [] e = absurd (cc)
-least_of segment (q ∷ qs) (t ∷ ts) e =
-    let first : query_value q ≡ term t = cc in
-    let rest : map query_value qs ≡ map term ts = cc in
-    ap (λ v. fold (λ (n : ℕ) (zs : List ℕ). min n (length zs)) (length (segment_hits segment v)) (map (hits_of segment) qs)) first
-    ∙ least_from segment (documents_with segment t) qs ts rest
+    ap₂ (λ x xs. x ∷ xs) (ap (segment_hits segment) first) (lists_are segment qs ts rest)
 
 -- a Boolean query without must-nots
 abbrev pub kept_value : List Query → List Query → QueryValue
@@ -115,11 +104,11 @@ kept_value must should = boolean (query_list (map query_value must)) no_queries 
 
 -- one of shoulds alone
 pub opens_shoulds : (segment : SegmentValue) (must should : List Query) (trees : List Standing) (s : Standing) → must ≡ [] → AllZip (λ t q. Opens segment (query_value q) t) trees should →
-    ((part : Standing) → trees ≡ part ∷ [] → s ≡ part) → (trees ≡ [] → s.most ≡ 0) → Opens segment (kept_value must should) s
+    ((part : Standing) → trees ≡ part ∷ [] → s ≡ part) → (trees ≡ [] → s.bound ≡ at_most 0) → Opens segment (kept_value must should) s
 opens_shoulds segment (m ∷ ms) should trees s empty zip alone none = absurd (cc)
 opens_shoulds segment [] [] [] s empty zip alone none = record {
   one_term = λ u h. elim h [ inl e ↦ absurd (cc) | inr e ↦ absurd (cc) ];
-  musts = λ terms e. omega (arith, none refl);
+  musts = λ terms e doc. subst (λ (b : Bound). most_at b doc ≤ most_at (bound_for_musts segment terms) doc) (sym (none refl)) (omega arith);
   opened = λ terms e some. omega (arith, as_many [] terms (terms_are [] terms (cc)));
 }
 opens_shoulds segment [] [] (p ∷ ps) s empty zip alone none = absurd zip
@@ -129,15 +118,15 @@ opens_shoulds segment [] (q ∷ []) (p ∷ []) s empty zip alone none = record {
     | inl e ↦ absurd (cc)
     | inr e ↦
         let first : query_value q ≡ term u = cc in
-        subst (λ (x : Standing). (x.whole ≡ true) × (x.most ≡ blocks_with segment u)) (sym (alone p refl)) (zip.0.one_term u (inl first))
+        subst (λ (x : Standing). (x.whole ≡ true) × (most_at x.bound None ≡ blocks_with segment u)) (sym (alone p refl)) (zip.0.one_term u (inl first))
   ];
-  musts = λ terms e. absurd (cc);
+  musts = λ terms e doc. absurd (cc);
   opened = λ terms e some. absurd (cc);
 }
 opens_shoulds segment [] (q ∷ []) (p ∷ (r ∷ ps)) s empty zip alone none = absurd zip.1
 opens_shoulds segment [] (q ∷ (w ∷ qs)) (p ∷ ps) s empty zip alone none = record {
   one_term = λ u h. elim h [ inl e ↦ absurd (cc) | inr e ↦ absurd (cc) ];
-  musts = λ terms e. absurd (cc);
+  musts = λ terms e doc. absurd (cc);
   opened = λ terms e some. absurd (cc);
 }
 
@@ -146,28 +135,25 @@ pub opens_mixed : (segment : SegmentValue) (must should : List Query) (s : Stand
 opens_mixed segment [] should s mixed = absurd (false≢true (sym mixed))
 opens_mixed segment (q ∷ qs) should s mixed = record {
   one_term = λ u h. elim h [ inl e ↦ absurd (cc) | inr e ↦ absurd (cc) ];
-  musts = λ terms e. absurd (false≢true (sym mixed ∙ are_all (q ∷ qs) terms (terms_are (q ∷ qs) terms (cc))));
+  musts = λ terms e doc. absurd (false≢true (sym mixed ∙ are_all (q ∷ qs) terms (terms_are (q ∷ qs) terms (cc))));
   opened = λ terms e some. absurd (false≢true (sym mixed ∙ are_all (q ∷ qs) terms (terms_are (q ∷ qs) terms (cc))));
 }
 
 -- one whose musts are terms
 pub opens_terms : (segment : SegmentValue) (must should : List Query) (s : Standing) → 0 < length must →
-    s.most ≤ block_count (fewest (map (hits_of segment) must)) + (length must - 1) * (fewest (map (hits_of segment) must) + 1) → (s.remaining ≢ [] → length must ≤ s.openings) → Opens segment (kept_value must should) s
+    ((doc : Option ℕ) → most_at s.bound doc ≤ most_at (bound_of_all (map (hits_of segment) must)) doc) → (s.remaining ≢ [] → length must ≤ s.openings) → Opens segment (kept_value must should) s
 opens_terms segment [] should s some most opened = absurd (omega (arith, some))
 opens_terms segment (q ∷ qs) should s some most opened = record {
   one_term = λ u h. elim h [ inl e ↦ absurd (cc) | inr e ↦ absurd (cc) ];
-  musts = λ terms e.
-      let same = terms_are (q ∷ qs) terms (cc) in
-      subst (λ (n : ℕ). s.most ≤ block_count n + (length terms - 1) * (n + 1)) (least_of segment (q ∷ qs) terms same)
-      (subst (λ (m : ℕ). s.most ≤ block_count (fewest (map (hits_of segment) (q ∷ qs))) + (m - 1) * (fewest (map (hits_of segment) (q ∷ qs)) + 1)) (as_many (q ∷ qs) terms same) most);
+  musts = λ terms e doc. subst (λ lists. most_at s.bound doc ≤ most_at (bound_of_all lists) doc) (lists_are segment (q ∷ qs) terms (terms_are (q ∷ qs) terms (cc))) (most doc);
   opened = λ terms e more. omega (arith, as_many (q ∷ qs) terms (terms_are (q ∷ qs) terms (cc)), opened more);
 }
 
 -- a cursor that walked on
 pub opens_walked : (segment : SegmentValue) (query : QueryValue) (p : ℕ → Bool) (s t : Standing) → Opens segment query s → Walked s t → t.remaining ≡ filter p s.remaining → Opens segment query t
 opens_walked segment query p s t h walked is = record {
-  one_term = λ u e. let o = h.one_term u e in (walked.whole o.0, walked.continues.most ∙ o.1);
-  musts = λ terms e. omega (arith, h.musts terms e, walked.continues.most);
+  one_term = λ u e. let o = h.one_term u e in (walked.whole o.0, ap (λ b. most_at b None) walked.continues.bound ∙ o.1);
+  musts = λ terms e doc. subst (λ (b : Bound). most_at b doc ≤ most_at (bound_for_musts segment terms) doc) (sym walked.continues.bound) (h.musts terms e doc);
   opened = λ terms e some. omega (arith, h.opened terms e (λ none. some (is ∙ ap (filter p) none)), walked.continues.more);
 }
 
@@ -177,14 +163,14 @@ pub record Keeps (segment : SegmentValue) (must should : List Query) (s : Standi
   pub opens : Opens segment (kept_value must should) s
 
 pub keeps_shoulds : (segment : SegmentValue) (must should : List Query) (trees : List Standing) (s : Standing) → must ≡ [] → remains trees ≡ map (hits_of segment) should → AllZip (λ t q. Opens segment (query_value q) t) trees should →
-    s.remaining ≡ union (remains trees) → ((part : Standing) → trees ≡ part ∷ [] → s ≡ part) → (trees ≡ [] → s.most ≡ 0) → Keeps segment must should s
+    s.remaining ≡ union (remains trees) → ((part : Standing) → trees ≡ part ∷ [] → s ≡ part) → (trees ≡ [] → s.bound ≡ at_most 0) → Keeps segment must should s
 keeps_shoulds segment must should trees s empty are zip is alone none = record {
   hits = is ∙ ap union are ∙ should_hits segment must should empty;
   opens = opens_shoulds segment must should trees s empty zip alone none;
 }
 
 pub keeps_terms : (segment : SegmentValue) (must should : List Query) (s : Standing) → 0 < length must → s.remaining ≡ all_hits segment must →
-    s.most ≤ block_count (fewest (map (hits_of segment) must)) + (length must - 1) * (fewest (map (hits_of segment) must) + 1) → (s.remaining ≢ [] → length must ≤ s.openings) → Keeps segment must should s
+    ((doc : Option ℕ) → most_at s.bound doc ≤ most_at (bound_of_all (map (hits_of segment) must)) doc) → (s.remaining ≢ [] → length must ≤ s.openings) → Keeps segment must should s
 keeps_terms segment must should s some is most opened = record {
   hits = is ∙ all_kept segment must should some;
   opens = opens_terms segment must should s some most opened;

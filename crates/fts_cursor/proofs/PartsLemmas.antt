@@ -4,10 +4,11 @@ use Rattle.std.specs.List.{AllZip, slice_get}
 use Rattle.std.specs.List.Sorted.{IsStrictlyIncreasing}
 use Rattle.std.proofs.lemmas.Bool.{cases_lt}
 use Rattle.std.proofs.lemmas.List.{get_or-set_same, get_or-set_other, length-set, length-map, get_or_default, map-append, take_more_set}
+use Rattle.fts_postings.specs.Bounds.{Bound, most_at}
 use Rattle.fts_postings.specs.Remaining.{at_least}
 use Rattle.fts_postings.specs.Meeting.{IsLeast, has, in_all, union, with_all}
 use Rattle.fts_postings.specs.Conjoined.{IsAhead}
-use Rattle.fts_cursor.specs.Standing.{Continues, Left, Narrowed, Standing, beside, heights, remains, together}
+use Rattle.fts_cursor.specs.Standing.{Continues, Left, Narrowed, Standing, at_most, beside, heights, remains, together}
 use Rattle.fts_postings.proofs.RemainingLemmas.{Rises-from_increasing, at_least-at_least, first-at_least}
 use Rattle.fts_postings.proofs.MeetingLemmas.{has-before_first, has-first, has-none, in_all-lacking, in_all-each, has-at_least}
 use Rattle.fts_postings.proofs.UnionLemmas.{at_least-with_all, with_all-nil}
@@ -68,13 +69,13 @@ height_ahead R initial now index d h inside =
     rw (h.rest index d (omega arith)) (height_within initial index d (omega (arith, inside, h.size)))
 
 pub Continues-same : (s : Standing) → Continues s s
-Continues-same s = record { most = refl; more = omega arith; height = refl }
+Continues-same s = record { bound = refl; more = omega arith; height = refl }
 
 pub Continues-trans : (s t u : Standing) → Continues s t → Continues t u → Continues s u
-Continues-trans s t u h k = record { most = k.most ∙ h.most; more = omega (arith, h.more, k.more); height = k.height ∙ h.height }
+Continues-trans s t u h k = record { bound = k.bound ∙ h.bound; more = omega (arith, h.more, k.more); height = k.height ∙ h.height }
 
 pub Continues-beside : (a b s t : Standing) (before after : List ℕ) → Continues a s → Continues b t → Continues (beside a b before) (beside s t after)
-Continues-beside a b s t before after h k = record { most = omega (arith, h.most, k.most); more = omega (arith, h.more, k.more); height = omega (arith, h.height, k.height) }
+Continues-beside a b s t before after h k = record { bound = ap₂ (λ (x : Bound) (y : Bound). at_most (most_at x None + most_at y None)) h.bound k.bound; more = omega (arith, h.more, k.more); height = omega (arith, h.height, k.height) }
 
 pub Continues-together : (R : Standing → Standing → Type 0) → ((s t : Standing) → R s t → Continues s t) → (xs ys : List Standing) → AllZip R xs ys → Continues (together xs) (together ys)
 Continues-together R at [] [] h = Continues-same (together [])
@@ -83,7 +84,7 @@ Continues-together R at (x ∷ xs) [] h = absurd h
 Continues-together R at (x ∷ xs) (y ∷ ys) h =
     let first = at x y h.0 in
     let rest = Continues-together R at xs ys h.1 in
-    record { most = omega (arith, first.most, rest.most); more = omega (arith, first.more, rest.more); height = omega (arith, first.height, rest.height) }
+    record { bound = ap₂ (λ (b : Bound) (n : ℕ). at_most (most_at b None + n)) first.bound (ap (λ (b : Bound). b.blocks) rest.bound); more = omega (arith, first.more, rest.more); height = omega (arith, first.height, rest.height) }
 
 -- one search of each: how far it came
 pub record NarrowedUpTo (doc : ℕ) (initial now : List Standing) (index : ℕ) : Type 0 where

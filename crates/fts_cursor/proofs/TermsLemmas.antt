@@ -1,9 +1,10 @@
 -- Cursors over lists, and what a conjunction of them stands for in a tree.
-use Rattle.std.proofs.Common.{◌≡◌, ℕ, ◌+◌, ◌*◌, ◌≤◌, List, [], ◌∷◌, length, refl, sym, ap, ap₂, ◌∙◌, arith}
+use Rattle.std.proofs.Common.{◌≡◌, ℕ, ◌+◌, ◌≤◌, List, [], ◌∷◌, length, refl, sym, ap, ap₂, ◌∙◌, arith}
 use Rattle.std.specs.List.{All, AllZip, flat_map, sum_by}
 use Rattle.std.proofs.lemmas.List.Elements.{All-cons, All-head, All-tail}
 use Rattle.std.proofs.lemmas.List.Sums.{sum_by-cons}
-use Rattle.fts_postings.specs.Conjoined.{AllFollow, Conjoined, counts_of, members_of, openings_of}
+use Rattle.fts_postings.specs.Bounds.{Bound}
+use Rattle.fts_postings.specs.Conjoined.{AllFollow, Conjoined, counts_of, openings_of}
 use Rattle.fts_postings.specs.Posting.{Follows, Posting}
 use Rattle.fts_cursor.specs.Standing.{Continues}
 use Rattle.fts_cursor.specs.Terms.{AreTied, IsTied, of_terms}
@@ -29,9 +30,9 @@ pub terms-continue : (c d : Conjoined) → AllFollow c d → AreTied c → ((bef
 terms-continue c d h tied =
     let lead = tied-follows c.lead d.lead h.lead tied.0 in
     let rest = counts-follow c.others d.others h.others tied.1 in
-    let whole : length (members_of d.lead) ≡ length (members_of c.lead) = ap (λ bs. length (flat_map (λ block. block) bs)) h.lead.blocks in (
+    let bound : List (List ℕ) → ℕ → Bound = λ bs n. record { blocks = length bs; lead = flat_map (λ block. block) bs; others = n } in (
       λ before after. record {
-        most = ap₂ (λ (n : ℕ) (m : ℕ). n + m) (ap length h.lead.blocks) (ap₂ (λ (n : ℕ) (m : ℕ). n * (m + 1)) rest.2 whole);
+        bound = ap₂ bound h.lead.blocks rest.2;
         more = omega (arith, rest.0, h.lead.more, lead, tied.0);
         height = refl;
       },

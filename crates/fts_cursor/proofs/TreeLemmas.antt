@@ -4,6 +4,7 @@ use Rattle.std.specs.List.{AllZip, filter, slice_get}
 use Rattle.std.specs.List.Sorted.{IsStrictlyIncreasing}
 use Rattle.std.proofs.lemmas.Bool.{cases_lt, le-leb, lt-leb, false≢true}
 use Rattle.fts_pack.specs.Documents.{Rises}
+use Rattle.fts_postings.specs.Bounds.{most_at}
 use Rattle.fts_postings.specs.Remaining.{at_least}
 use Rattle.fts_postings.specs.Meeting.{IsLeast, common, has, in_all, in_some, lacks, union, without}
 use Rattle.fts_cursor.specs.Standing.{Continues, Left, Narrowed, Standing, Walked, all_most, all_openings, beside, remains, together}
@@ -12,8 +13,8 @@ use Rattle.std.specs.Borrow.{Bor}
 use Rattle.fts_cursor.specs.Hits.{is_live}
 use Rattle.fts_cursor.specs.Live.{of_live}
 use Rattle.fts_cursor.specs.Trees.{IsNow, IsTiedNode, Met, PartsStand, differ, meet, standing}
-use Rattle.fts_cursor.specs.declared.tree.Difference.{Difference}
-use Rattle.fts_cursor.specs.declared.tree.Meeting.{Meeting}
+use Rattle.fts_cursor.specs.declared.tree.exclusion.Exclusion.{Exclusion}
+use Rattle.fts_cursor.specs.declared.tree.intersection.Intersection.{Intersection}
 use Rattle.fts_cursor.specs.declared.tree.Node.{Node}
 use Rattle.fts_cursor.specs.declared.tree.Node.TheVariants.{And}
 use Rattle.fts_postings.proofs.RemainingLemmas.{Rises-from_increasing, increasing-from_Rises, fewer-at_least, first-at_least, at_least_all, nothing_first}
@@ -132,8 +133,8 @@ openings-suc (p ∷ ps) (suc index) d inside = omega (arith, openings-suc ps ind
 pub all_openings-more : (parts : List Standing) (index : ℕ) (d : Standing) → index < length parts → all_openings (take (index + 1) parts) ≡ all_openings (take index parts) + (get_or parts index d).openings
 all_openings-more parts index d inside = ap (λ n. all_openings (take n parts)) (add-one index) ∙ openings-suc parts index d inside
 
--- a turn of a meeting: what leads stands at a document, which the others were sought for
-module _ (old now : Meeting) (lead : Standing) (others after : List Standing) (doc : ℕ) (same : meet now ≡ meet old) (lead_is : lead ≡ now.lead.value) (others_are : others ≡ now.others.items) (rises : IsStrictlyIncreasing lead.remaining) (first : Some doc ≡ slice_get lead.remaining 0) (each : AllZip (Narrowed doc) others after) where
+-- a turn of an intersection: what leads stands at a document, which the others were sought for
+module _ (old now : Intersection) (lead : Standing) (others after : List Standing) (doc : ℕ) (same : meet now ≡ meet old) (lead_is : lead ≡ now.lead.value) (others_are : others ≡ now.others.items) (rises : IsStrictlyIncreasing lead.remaining) (first : Some doc ≡ slice_get lead.remaining 0) (each : AllZip (Narrowed doc) others after) where
   abbrev documents : List ℕ
   documents = now.lead.value.remaining
 
@@ -146,27 +147,27 @@ module _ (old now : Meeting) (lead : Standing) (others after : List Standing) (d
   agree : (d : ℕ) → doc ≤ d → in_all (remains after) d ≡ in_all (remains now.others.items) d
   agree d high = in_all-narrowed doc others after each d high ∙ ap (λ ps. in_all (remains ps) d) others_are
 
-  pub meeting-here : (next : ℕ) → IsAhead doc (remains after) (Some next) → next ≡ doc → Met (Some doc) (meet old) (in_all (remains after)) documents
-  meeting-here next ahead is = Met-here (meet old) documents (in_all (remains now.others.items)) (in_all (remains after)) doc same rises_now first_now agree (ahead.1 is)
+  pub intersection-here : (next : ℕ) → IsAhead doc (remains after) (Some next) → next ≡ doc → Met (Some doc) (meet old) (in_all (remains after)) documents
+  intersection-here next ahead is = Met-here (meet old) documents (in_all (remains now.others.items)) (in_all (remains after)) doc same rises_now first_now agree (ahead.1 is)
 
-  pub meeting-none : IsAhead doc (remains after) None → Met None (meet old) (in_all (remains after)) documents
-  meeting-none none = Met-none (meet old) documents (in_all (remains now.others.items)) (in_all (remains after)) doc same rises_now first_now agree none
+  pub intersection-none : IsAhead doc (remains after) None → Met None (meet old) (in_all (remains after)) documents
+  intersection-none none = Met-none (meet old) documents (in_all (remains now.others.items)) (in_all (remains after)) doc same rises_now first_now agree none
 
-  pub meeting-continues : Continues (standing (And old)) (standing (And now)) → (s : Standing) (remaining : List ℕ) → Continues now.lead.value s → Continues (standing (And old)) (beside s (together after) remaining)
-  meeting-continues continues s remaining moved =
+  pub intersection-continues : Continues (standing (And old)) (standing (And now)) → (s : Standing) (remaining : List ℕ) → Continues now.lead.value s → Continues (standing (And old)) (beside s (together after) remaining)
+  intersection-continues continues s remaining moved =
       let rest = Continues-together (Narrowed doc) (λ p q h. h.continues) others after each in
       Continues-trans (standing (And old)) (standing (And now)) (beside s (together after) remaining) continues
       (Continues-beside now.lead.value (together now.others.items) s (together after) (meet now) remaining moved (subst (λ ps. Continues (together ps) (together after)) others_are rest))
 
   module _ (next : ℕ) (moved : Standing) (ahead : IsAhead doc (remains after) (Some next)) (is : moved.remaining ≡ at_least next documents) where
-    pub meeting-sought : common moved.remaining (remains after) ≡ meet old
-    meeting-sought = sought (meet old) documents (in_all (remains now.others.items)) (in_all (remains after)) doc same rises_now first_now agree next moved.remaining ahead.2 is
+    pub intersection-sought : common moved.remaining (remains after) ≡ meet old
+    intersection-sought = sought (meet old) documents (in_all (remains now.others.items)) (in_all (remains after)) doc same rises_now first_now agree next moved.remaining ahead.2 is
 
-    pub meeting-fewer : next ≢ doc → length moved.remaining < length documents
-    meeting-fewer other = rw is (fewer-at_least next documents doc first_now (omega (arith, ahead.0, other)))
+    pub intersection-fewer : next ≢ doc → length moved.remaining < length documents
+    intersection-fewer other = rw is (fewer-at_least next documents doc first_now (omega (arith, ahead.0, other)))
 
--- a turn of a difference: what is kept stands at a document, which the other was sought for
-module _ (old now : Difference) (kept dropped after : Standing) (doc : ℕ) (same : differ now ≡ differ old) (kept_is : kept ≡ now.kept.value) (dropped_is : dropped ≡ now.dropped.value) (rises : IsStrictlyIncreasing kept.remaining) (first : Some doc ≡ slice_get kept.remaining 0) (left : after.remaining ≡ at_least doc dropped.remaining) where
+-- a turn of an exclusion: what is kept stands at a document, which the other was sought for
+module _ (old now : Exclusion) (kept dropped after : Standing) (doc : ℕ) (same : differ now ≡ differ old) (kept_is : kept ≡ now.kept.value) (dropped_is : dropped ≡ now.dropped.value) (rises : IsStrictlyIncreasing kept.remaining) (first : Some doc ≡ slice_get kept.remaining 0) (left : after.remaining ≡ at_least doc dropped.remaining) where
   abbrev members : List ℕ
   members = now.kept.value.remaining
 
@@ -179,18 +180,18 @@ module _ (old now : Difference) (kept dropped after : Standing) (doc : ℕ) (sam
   differ_alike : (d : ℕ) → doc ≤ d → lacks after.remaining d ≡ lacks now.dropped.value.remaining d
   differ_alike d high = ap not (ap (λ xs. has xs d) left ∙ has-at_least doc dropped.remaining d high) ∙ ap (λ s. lacks s.remaining d) dropped_is
 
-  pub difference-here : (found : Option ℕ) → found ≡ slice_get after.remaining 0 → found ≢ Some doc → IsStrictlyIncreasing after.remaining → Met (Some doc) (differ old) (lacks after.remaining) members
-  difference-here found is other up = Met-here (differ old) members (lacks now.dropped.value.remaining) (lacks after.remaining) doc same rises_kept first_kept differ_alike (ap not (not_first after.remaining dropped.remaining doc found is other left up))
+  pub exclusion-here : (found : Option ℕ) → found ≡ slice_get after.remaining 0 → found ≢ Some doc → IsStrictlyIncreasing after.remaining → Met (Some doc) (differ old) (lacks after.remaining) members
+  exclusion-here found is other up = Met-here (differ old) members (lacks now.dropped.value.remaining) (lacks after.remaining) doc same rises_kept first_kept differ_alike (ap not (not_first after.remaining dropped.remaining doc found is other left up))
 
-  pub difference-passed : (next : Standing) → Some doc ≡ slice_get after.remaining 0 → next.remaining ≡ drop 1 members → without next.remaining after.remaining ≡ differ old
-  difference-passed next there is = passed (differ old) members (lacks now.dropped.value.remaining) (lacks after.remaining) doc same rises_kept first_kept differ_alike next.remaining (ap not (has-first after.remaining doc there)) is
+  pub exclusion-passed : (next : Standing) → Some doc ≡ slice_get after.remaining 0 → next.remaining ≡ drop 1 members → without next.remaining after.remaining ≡ differ old
+  exclusion-passed next there is = passed (differ old) members (lacks now.dropped.value.remaining) (lacks after.remaining) doc same rises_kept first_kept differ_alike next.remaining (ap not (has-first after.remaining doc there)) is
 
-most-suc : (parts : List Standing) (index : ℕ) (d : Standing) → index < length parts → all_most (take (suc index) parts) ≡ all_most (take index parts) + (get_or parts index d).most
+most-suc : (parts : List Standing) (index : ℕ) (d : Standing) → index < length parts → all_most (take (suc index) parts) ≡ all_most (take index parts) + most_at (get_or parts index d).bound None
 most-suc [] index d inside = absurd (omega arith)
 most-suc (p ∷ ps) zero d inside = omega arith
 most-suc (p ∷ ps) (suc index) d inside = omega (arith, most-suc ps index d (omega (arith, inside)))
 
-pub all_most-more : (parts : List Standing) (index : ℕ) (d : Standing) → index < length parts → all_most (take (index + 1) parts) ≡ all_most (take index parts) + (get_or parts index d).most
+pub all_most-more : (parts : List Standing) (index : ℕ) (d : Standing) → index < length parts → all_most (take (index + 1) parts) ≡ all_most (take index parts) + most_at (get_or parts index d).bound None
 all_most-more parts index d inside = ap (λ n. all_most (take n parts)) (add-one index) ∙ most-suc parts index d inside
 
 pub Walked-same : (s : Standing) → Walked s s

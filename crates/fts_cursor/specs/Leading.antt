@@ -1,20 +1,16 @@
 -- Rising lists of documents of which the shortest leads.
-use Rattle.std.specs.Prelude.{◌≡◌, ℕ, suc, ◌<◌, ◌≤◌, min, List, [], ◌∷◌, fold, length}
+use Rattle.std.specs.Prelude.{◌≡◌, ℕ, suc, ◌<◌, ◌≤◌, List, ◌∷◌, length}
 use Rattle.fts_pack.specs.Documents.{Rises, blocks_of}
 use Rattle.fts_postings.specs.Meeting.{in_all}
 use Rattle.fts_postings.specs.Posting.{Posting, remaining_of}
+use Rattle.fts_cursor.specs.Openings.{shortest_of}
 use Rattle.fts_cursor.specs.Terms.{IsTied}
-
--- the length of the shortest of some lists
-abbrev pub fewest : List (List ℕ) → ℕ
-fewest [] = 0
-fewest (xs ∷ lists) = fold (λ least other. min least (length other)) (length xs) lists
 
 -- a list leads others: it is the shortest of some lists, and the others are what is left of them
 pub record IsLed (lists : List (List ℕ)) (shortest : List ℕ) (others : List (List ℕ)) : Type 0 where
   pub count : length lists ≡ suc (length others)
   pub same : (d : ℕ) → in_all (shortest ∷ others) d ≡ in_all lists d
-  pub least : length shortest ≡ fewest lists
+  pub least : shortest_of lists ≡ shortest
   pub rises : Rises 0 shortest
 
 -- a cursor over a list, as it was made

@@ -1,5 +1,6 @@
 pub mod Standing
 pub mod Terms
+pub mod Openings
 pub mod Phrases
 pub mod Leading
 pub mod Builds
@@ -8,5 +9,4 @@ pub mod Trees
 pub mod Falls
 pub mod Ranges
 pub mod Hits
-pub mod Openings
 pub mod Live

@@ -5,12 +5,12 @@ use Rattle.std.specs.List.Sorted.{IsStrictlyIncreasing}
 use Rattle.fts_postings.specs.Posting.{blocks_reached, remaining_of}
 use Rattle.fts_postings.specs.Conjoined.{common_of}
 use Rattle.fts_postings.specs.Meeting.{FirstPasses, common, has, in_all, in_some, lacks, union, without}
-use Rattle.fts_cursor.specs.Standing.{Standing, beside, remains, together}
+use Rattle.fts_cursor.specs.Standing.{Standing, at_most, beside, remains, together}
 use Rattle.fts_cursor.specs.Terms.{AreTied, IsTied, of_terms}
 use Rattle.fts_postings.specs.Windows.{marked}
-use Rattle.fts_cursor.specs.declared.tree.BufferedUnion.{BufferedUnion}
-use Rattle.fts_cursor.specs.declared.tree.Difference.{Difference}
-use Rattle.fts_cursor.specs.declared.tree.Meeting.{Meeting}
+use Rattle.fts_cursor.specs.declared.tree.buffered_union.BufferedUnion.{BufferedUnion}
+use Rattle.fts_cursor.specs.declared.tree.exclusion.Exclusion.{Exclusion}
+use Rattle.fts_cursor.specs.declared.tree.intersection.Intersection.{Intersection}
 use Rattle.fts_cursor.specs.declared.tree.Node.{Node}
 use Rattle.fts_cursor.specs.declared.tree.Node.TheVariants.{Nothing, Scan, Postings, Terms, Phrase, And, Or, Without}
 use Rattle.fts_postings.specs.declared.window.Window.{Window}
@@ -32,16 +32,16 @@ abbrev pub gathered : BufferedUnion → List ℕ
 gathered buffered = union (found buffered.window ∷ remains buffered.parts.items)
 
 -- what parts have in common, and what one has and the other doesn't
-abbrev pub meet : Meeting → List ℕ
+abbrev pub meet : Intersection → List ℕ
 meet parts = common parts.lead.value.remaining (remains parts.others.items)
 
-abbrev pub differ : Difference → List ℕ
+abbrev pub differ : Exclusion → List ℕ
 differ parts = without parts.kept.value.remaining parts.dropped.value.remaining
 
 abbrev pub standing : Node → Standing
-standing Nothing = record { remaining = []; openings = 0; most = 0; whole = true; height = 0 }
-standing (Scan documents) = record { remaining = documents; openings = 0; most = 0; whole = false; height = 0 }
-standing (Postings p) = record { remaining = remaining_of p; openings = p.count; most = length p.blocks; whole = p.opened == blocks_reached p; height = 0 }
+standing Nothing = record { remaining = []; openings = 0; bound = at_most 0; whole = true; height = 0 }
+standing (Scan documents) = record { remaining = documents; openings = 0; bound = at_most 0; whole = false; height = 0 }
+standing (Postings p) = record { remaining = remaining_of p; openings = p.count; bound = at_most (length p.blocks); whole = p.opened == blocks_reached p; height = 0 }
 standing (Terms c) = of_terms c (common_of c)
 standing (Phrase s) = record s { whole = false }
 standing (And parts) = beside parts.lead.value (together parts.others.items) (meet parts)

@@ -1,8 +1,7 @@
 // The cursor of a query: a tree of cursors, one for each query within it.
-ghost use Rattle.std.specs.Prelude.{◌≡◌, ◌≢◌, ◌-◌, ◌^◌, ◌≤◌, ◌<◌, ◌∷◌, All, EachIndex, [], true, List, IfOk, IsOkUnless, MatchOption, length, map, min, slice_index};
+ghost use Rattle.std.specs.Prelude.{◌≡◌, ◌-◌, ◌^◌, ◌≤◌, ◌<◌, ◌∷◌, All, EachIndex, [], true, List, IfOk, IsOkUnless, MatchOption, length, map, min, slice_index};
 ghost use Rattle.std.specs.List.{AllZip, list_all};
 ghost use Rattle.std.specs.List.Sorted.{IsStrictlyIncreasing};
-ghost use Rattle.fts_model.specs.declared.operation.Term.{Term};
 ghost use Rattle.fts_model.specs.Queries.{query_fits};
 ghost use Rattle.fts_model.specs.QueryValues.{every, phrase, query_value};
 ghost use Rattle.fts_pack.specs.Documents.{block_count};
@@ -11,8 +10,7 @@ ghost use Rattle.fts_cursor.specs.Hits.{live_hits, segment_hits};
 ghost use Rattle.fts_postings.specs.Meeting.{common};
 ghost use Rattle.fts_cursor.specs.Builds.{IsCursorOf, IsMemberFor, LacksTerm, Opens, text_term};
 ghost use Rattle.fts_segment.specs.ListIds.{documents_in, positions_in};
-ghost use Rattle.fts_cursor.specs.Openings.{HasMusts, IsOfOneTerm, blocks_with, most_for_musts};
-ghost use Rattle.fts_cursor.specs.Standing.{Standing, remains};
+ghost use Rattle.fts_cursor.specs.Standing.{Standing, at_most, remains};
 
 use crate::cursor::Cursor;
 use crate::kept::Kept;
@@ -40,12 +38,7 @@ pub fn cursor_of<'a>(
     requires fits { query_fits segment.now.schema (query_value query.now) ≡ true }
     ensures hits { IfOk result
         (λ c. c.remaining ≡ live_hits segment.now live.now (query_value query.now)) }
-    ensures one_term { IfOk result (λ c. (t : Term) → IsOfOneTerm (query_value query.now) t →
-        (c.whole ≡ true) × (c.most ≡ blocks_with segment.now t)) }
-    ensures musts { IfOk result (λ c. (terms : List Term) → HasMusts (query_value query.now) terms →
-        c.most ≤ most_for_musts segment.now terms) }
-    ensures opened { IfOk result (λ c. (terms : List Term) →
-        HasMusts (query_value query.now) terms → c.remaining ≢ [] → length terms ≤ c.openings) }
+    ensures opens { IfOk result (λ c. Opens segment.now (query_value query.now) c) }
     ensures memory { IsOkUnless result Refusal.Memory }
 {
     match tree_of(alloc, segment, query) {
@@ -123,7 +116,7 @@ fn trees_of<'a>(
     Ok(trees)
 }
 
-// What all have in common. The part that promises the fewest documents leads.
+// What all have in common. The part of the least cost leads.
 fn all<'a>(alloc: Global, parts: Vec<Tree<'a>>) -> Result<Tree<'a>, AllocError>
     requires { 0 < length parts.items }
     ensures { IfOk result (λ t. (first : Standing) (rest : List Standing) →
@@ -131,25 +124,25 @@ fn all<'a>(alloc: Global, parts: Vec<Tree<'a>>) -> Result<Tree<'a>, AllocError>
         → t.remaining ≡ common first.remaining (remains rest)) }
 {
     let mut parts = parts;
-    let promises = promises_of(alloc, &parts)?;
-    let lead = parts.remove(place_of_least(&promises));
+    let costs = costs_of(alloc, &parts)?;
+    let lead = parts.remove(place_of_least(&costs));
     let lead = Box::new(alloc, lead)?;
     Ok(Tree::and(lead, parts))
 }
 
 // How many documents remain of each part at most, or the greatest `usize`.
-fn promises_of(alloc: Global, parts: &[Tree]) -> Result<Vec<usize>, AllocError>
-    ensures bounds { IfOk result (λ promises. AllZip
-        (λ promise part. min (2 ^ 64 - 1) (length part.remaining) ≤ promise)
-        promises.items parts.now) }
-    ensures rise { IfOk result (λ promises.
+fn costs_of(alloc: Global, parts: &[Tree]) -> Result<Vec<usize>, AllocError>
+    ensures bounds { IfOk result (λ costs. AllZip
+        (λ cost part. min (2 ^ 64 - 1) (length part.remaining) ≤ cost)
+        costs.items parts.now) }
+    ensures rise { IfOk result (λ costs.
         All (λ part. IsStrictlyIncreasing part.remaining) parts.now) }
 {
-    let mut promises = Vec::with_capacity(alloc, parts.len())?;
+    let mut costs = Vec::with_capacity(alloc, parts.len())?;
     for part in parts {
-        promises.push(part.promise())?;
+        costs.push(part.cost())?;
     }
-    Ok(promises)
+    Ok(costs)
 }
 
 // The place of the least number.
@@ -178,7 +171,7 @@ fn of_all(segment: &Segment) -> Tree<'_>
 // The documents that have a term.
 fn of_term<'a>(segment: &'a Segment, term: &Term) -> Tree<'a>
     ensures remaining { result.remaining ≡ postings segment.now term.now }
-    ensures most { result.most ≡ block_count (length (postings segment.now term.now)) }
+    ensures bound { result.bound ≡ at_most (block_count (length (postings segment.now term.now))) }
     ensures whole { result.whole ≡ true }
 {
     match segment.find(term) {

@@ -1,6 +1,7 @@
 // The cursor of a query: of the documents that match, those that are live remain.
-ghost use Rattle.std.specs.Prelude.{◌≡◌, ◌-◌, ◌^◌, ◌≤◌, true, [], drop, filter, length, min, take};
+ghost use Rattle.std.specs.Prelude.{◌≡◌, ◌-◌, ◌^◌, ◌≤◌, true, [], drop, filter, length, min, slice_get, take};
 ghost use Rattle.fts_cursor.specs.Hits.{is_live};
+ghost use Rattle.fts_postings.specs.Bounds.{most_at};
 ghost use Rattle.fts_postings.specs.Meeting.{FirstPasses};
 ghost use Rattle.fts_postings.specs.Remaining.{at_least};
 ghost use Rattle.fts_cursor.specs.Standing.{Continues, Walked};
@@ -12,8 +13,8 @@ use std::marker::Model;
 
 /// The live documents of a segment that match a query, from the first on. It borrows the segment and its bits.
 ///
-/// Contracts see what remains, how often its sources opened a block, how many blocks it opens at most whatever is sought,
-/// and whether it goes over one list of which it has opened each block up to where it stands.
+/// Contracts see what remains, how often its sources opened a block, how many blocks it opens at most by where it stands,
+/// whatever is sought, and whether it goes over one list of which it has opened each block up to there.
 #[derive(Drop)]
 pub struct Cursor<'a> {
     tree: Tree<'a>,
@@ -52,12 +53,14 @@ impl<'a> Cursor<'a> {
         }
     }
 
-    /// How many blocks were opened since the cursor was made, the making included, or the greatest `u64`.
+    /// How many blocks were opened since the cursor was made, the making included, or the greatest `u64`: at every moment no
+    /// more than the bound at the document where it stands.
     pub fn openings(&self) -> u64
         ensures sum { result ≡ min (2 ^ 64 - 1) self.now.openings }
-        ensures bound { self.now.openings ≤ self.now.most }
+        ensures bound { self.now.openings
+            ≤ most_at self.now.bound (slice_get self.now.remaining 0) }
         ensures end { self.now.whole ≡ true → self.now.remaining ≡ []
-            → self.now.openings ≡ self.now.most }
+            → self.now.openings ≡ most_at self.now.bound None }
     {
         self.tree.openings()
     }

@@ -5,6 +5,7 @@ ghost use Rattle.fts_model.specs.Queries.{query_fits};
 ghost use Rattle.fts_model.specs.QueryValues.{phrase};
 ghost use Rattle.fts_segment.specs.PositionsLeft.{positions_left};
 ghost use Rattle.fts_cursor.specs.declared.phrase.Member.{Member};
+ghost use Rattle.fts_postings.specs.Bounds.{most_at};
 ghost use Rattle.fts_postings.specs.Conjoined.{AllFollow, common_of};
 ghost use Rattle.fts_postings.specs.Meeting.{FirstPasses};
 ghost use Rattle.fts_cursor.specs.Phrases.{AreMembersOf, is_behind, phrase_at};
@@ -40,7 +41,8 @@ impl<'a> Model for PhraseCursor<'a> {
 
     ghost Value = { Standing };
 
-    ghost use Rattle.fts_postings.specs.Conjoined.{common_of};
+    ghost use Rattle.fts_postings.specs.Bounds.{most_at};
+ghost use Rattle.fts_postings.specs.Conjoined.{common_of};
     ghost use Rattle.fts_cursor.specs.Phrases.{IsPhrase, phrase_at};
     ghost use Rattle.fts_cursor.specs.Terms.{of_terms};
 
@@ -73,16 +75,17 @@ impl<'a> PhraseCursor<'a> {
     }
 
     /// How many documents remain at most, or the greatest `usize`.
-    pub(crate) fn promise(&self) -> usize
+    pub(crate) fn cost(&self) -> usize
         ensures { min (2 ^ 64 - 1) (length self.now.remaining) ≤ result }
     {
-        self.terms.promise()
+        self.terms.cost()
     }
 
     /// How many blocks were opened since the cursors were made, or the greatest `u64`.
     pub(crate) fn openings(&self) -> u64
         ensures sum { result ≡ min (2 ^ 64 - 1) self.now.openings }
-        ensures bound { self.now.openings ≤ self.now.most }
+        ensures bound { self.now.openings
+            ≤ most_at self.now.bound (slice_get self.now.remaining 0) }
     {
         self.terms.openings()
     }

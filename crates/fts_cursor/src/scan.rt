@@ -51,7 +51,7 @@ impl<'a> ScanCursor<'a> {
     }
 
     /// How many documents remain at most: as many as were not looked at.
-    pub(crate) fn promise(&self) -> usize
+    pub(crate) fn cost(&self) -> usize
         ensures { length self.now ≤ result }
     {
         self.docs.saturating_sub(self.from)

@@ -1,13 +1,14 @@
 // The cursor of queries that are terms and must all match: one conjunction, led by the shortest list.
-ghost use Rattle.std.specs.Prelude.{◌≡◌, ◌≢◌, ℕ, ◌+◌, ◌-◌, ◌*◌, ◌≤◌, ◌<◌, ◌∷◌, [], false, true, IfOk, MatchOption, length, map, nat_lt, if◌then◌else◌};
+ghost use Rattle.std.specs.Prelude.{◌≡◌, ◌≢◌, ℕ, ◌≤◌, ◌<◌, ◌∷◌, [], false, true, IfOk, MatchOption, Option, length, map, nat_lt, if◌then◌else◌};
 ghost use Rattle.std.specs.List.{AllZip, list_all};
 ghost use Rattle.fts_model.specs.Queries.{matches};
 ghost use Rattle.fts_model.specs.QueryValues.{query_value};
-ghost use Rattle.fts_pack.specs.Documents.{block_count};
 ghost use Rattle.fts_segment.specs.Segments.{numbers_where};
 ghost use Rattle.fts_cursor.specs.Builds.{is_term};
 ghost use Rattle.fts_cursor.specs.Hits.{segment_hits};
-ghost use Rattle.fts_cursor.specs.Leading.{IsLed, IsOver, fewest};
+ghost use Rattle.fts_cursor.specs.Leading.{IsLed, IsOver};
+ghost use Rattle.fts_cursor.specs.Openings.{bound_of_all};
+ghost use Rattle.fts_postings.specs.Bounds.{most_at};
 ghost use Rattle.fts_postings.specs.Meeting.{in_all};
 
 use crate::tree::Tree;
@@ -40,9 +41,8 @@ pub(crate) fn of_terms<'a>(
     ensures remaining { IfOk result (λ t. t.remaining ≡ numbers_where
         (λ d. list_all (λ q. matches segment.now.schema d.value (query_value q)) queries.now)
         0 segment.now.documents) }
-    ensures most { IfOk result (λ t.
-        let least = fewest (map (λ q. segment_hits segment.now (query_value q)) queries.now) in
-        t.most ≤ block_count least + (length queries.now - 1) * (least + 1)) }
+    ensures bound { IfOk result (λ t. (doc : Option ℕ) → most_at t.bound doc ≤ most_at
+        (bound_of_all (map (λ q. segment_hits segment.now (query_value q)) queries.now)) doc) }
     ensures opened { IfOk result (λ t. t.remaining ≢ [] → length queries.now ≤ t.openings) }
 {
     let Some(lists) = lists_of(alloc, segment, queries)? else {

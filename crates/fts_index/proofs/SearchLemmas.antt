@@ -1,10 +1,11 @@
 -- What the parts of a search tell together.
-use Rattle.std.proofs.Common.{◌≡◌, ◌<◌, ◌≤◌, ◌+◌, ◌*◌, ◌||◌, ℕ, true, false, cond, List, [], ◌∷◌, ◌++◌, length, map, sum_by, Result, Ok, Err, subst, refl, sym, ap, ◌∙◌, ⊎_elim, arith}
+use Rattle.std.proofs.Common.{◌≡◌, ◌<◌, ◌≤◌, ◌+◌, ◌-◌, ◌*◌, ◌^◌, ◌||◌, ℕ, true, false, cond, List, [], ◌∷◌, ◌++◌, length, map, min, sum_by, Result, Ok, Err, subst, refl, sym, ap, ◌∙◌, ⊎_elim, arith}
 use Rattle.std.specs.List.{AllZip, AllByRecursion, Contains, flat_map, list_any}
 use Rattle.std.specs.List.Sorted.{IsPermutation}
 use Rattle.std.proofs.lemmas.List.Sums.{sum_by-cons}
-use Rattle.std.proofs.lemmas.List.Elements.{filter-append}
+use Rattle.std.proofs.lemmas.List.Elements.{filter-append, recursion_from_All}
 use Rattle.std.proofs.lemmas.List.Kept.{AllPairs-filter}
+use Rattle.std.proofs.lemmas.Bool.{lt-ltb}
 use Rattle.fts_model.specs.declared.schema.Field.{Field}
 use Rattle.fts_model.specs.declared.operation.Stamped.{Stamped}
 use Rattle.fts_model.specs.declared.operation.Term.{Term}
@@ -20,7 +21,8 @@ use Rattle.fts_model.proofs.Lists.{Contains-cases, Contains-none}
 use Rattle.fts_cursor.specs.Openings.{IsOfOneTerm, HasMusts, blocks_with, most_for_musts}
 use Rattle.fts_collect.specs.Parts.{PartValue, ArePartsOf, joined}
 use Rattle.fts_snapshots.specs.Entries.{EntryValue, live_in, content}
-use Rattle.fts_index.specs.Searches.{IsPartOf, blocks_in, most_in, has_hit, least_in}
+use Rattle.fts_snapshots.specs.Snapshots.{IsSnapshot, SnapshotValue, content_of}
+use Rattle.fts_index.specs.Searches.{IsPartOf, OpensInAll, blocks_in, most_in, has_hit, least_in}
 use Rattle.fts_index.specs.SearchJobs.{Asked, asks, asked_of, Tells, AnswersSearch}
 use Rattle.fts_index.specs.declared.searching.job.SearchJob.{SearchJob}
 use Rattle.fts_snapshots.proofs.OrderLemmas.{permutation_in_order, filter-in_stamp_order}
@@ -114,7 +116,7 @@ openings-one_term query request t [] (part ∷ parts) is z = absurd z
 openings-one_term query request t (entry ∷ entries) [] is z = absurd z
 openings-one_term query request t (entry ∷ entries) (part ∷ parts) is z =
     sum_by-cons opened_by part parts
-    ∙ ap (λ n. n + sum_by opened_by parts) (z.0.one_term t is)
+    ∙ ap (λ n. n + sum_by opened_by parts) (z.0.openings.one_term t is)
     ∙ ap (λ n. blocks_with entry.segment t + n) (openings-one_term query request t entries parts is z.1)
     ∙ sym (sum_by-cons (λ e. blocks_with e.segment t) entry entries)
 
@@ -125,7 +127,7 @@ openings-most query request terms [] [] is z = omega arith
 openings-most query request terms [] (part ∷ parts) is z = absurd z
 openings-most query request terms (entry ∷ entries) [] is z = absurd z
 openings-most query request terms (entry ∷ entries) (part ∷ parts) is z =
-    omega (arith, sum_by-cons opened_by part parts, sum_by-cons (λ (e : EntryValue). most_for_musts e.segment terms) entry entries, z.0.musts terms is, openings-most query request terms entries parts is z.1)
+    omega (arith, sum_by-cons opened_by part parts, sum_by-cons (λ (e : EntryValue). most_for_musts e.segment terms) entry entries, z.0.openings.musts terms is, openings-most query request terms entries parts is z.1)
 
 has-hits : (schema : List Field) (query : QueryValue) (documents : List (Stamped DocumentValue)) → list_any (λ d. matches schema d.value query) documents ≡ true → 0 < length (hits schema query documents)
 has-hits schema query [] h = cc
@@ -142,7 +144,8 @@ opened-part schema query request terms entry part is s z =
       | true ↦ λ e.
           let count : part.answer.count ≡ length (hits schema query (live_in entry)) = ap (λ a. a.count) z.answer ∙ ap (λ f. length (hits f query (live_in entry))) s in
           let some : 0 < part.answer.count = subst (λ n. 0 < n) (sym count) (has-hits schema query (live_in entry) e) in
-          omega (arith, z.opened terms is some)
+          let each : length terms ≤ part.openings = rw (lt-ltb 0 part.answer.count some) at (z.openings.opened terms is) in
+          omega (arith, each)
     ] refl
 
 -- and at least these
@@ -157,3 +160,21 @@ openings-least schema query request terms (entry ∷ entries) (part ∷ parts) i
     let one : EntryValue → ℕ = λ e. cond (has_hit schema query e) 1 0 in
     let n = length terms in
     omega (arith, first, rest, sum_by-cons opened_by part parts, ap (λ m. n * m) (sum_by-cons one entry entries))
+
+-- a search of a snapshot, by the parts that its segments told
+module _ (s : SnapshotValue) (query : QueryValue) (request : Request) (entries : List EntryValue) (parts : List PartValue) (whole : IsSnapshot s) (is : entries ≡ s.entries) (told : AllZip (IsPartOf query request) entries parts) where
+  told_of : AllZip (IsPartOf query request) s.entries parts
+  told_of = subst (λ (es : List EntryValue). AllZip (IsPartOf query request) es parts) is told
+
+  schemas_of : AllByRecursion (λ entry. entry.segment.schema ≡ s.schema) s.entries
+  schemas_of = recursion_from_All (λ (e : EntryValue). e.segment.schema ≡ s.schema) s.entries whole.schemas
+
+  pub parts_of_snapshot : ArePartsOf request (hits s.schema query (content_of s)) parts
+  parts_of_snapshot = parts_of_content s.schema query request s.entries parts schemas_of told_of
+
+  pub opens_in_all : (openings : ℕ) → openings ≡ min (2 ^ 64 - 1) (sum_by (λ part. part.openings) parts) → OpensInAll s query openings
+  opens_in_all openings sum = record {
+    one_term = λ t one. sum ∙ ap (λ n. min (2 ^ 64 - 1) n) (openings-one_term query request t s.entries parts one told_of);
+    opened = λ terms musts. omega (arith, sum, openings-least s.schema query request terms s.entries parts musts schemas_of told_of);
+    musts = λ terms musts. omega (arith, sum, openings-most query request terms s.entries parts musts told_of);
+  }

@@ -1,13 +1,9 @@
-// A search of a snapshot: each segment is searched by a job of its own, and what they tell is joined.
-ghost use Rattle.std.specs.Prelude.{◌≡◌, ◌<◌, ◌≤◌, ◌-◌, ◌^◌, ◌⊎◌, List, true, Ok, Err, All, Contains, IfOk, IfErr, IsOkUnless, length, map, min, sum_by};
+// What a search asks each segment, by a job of its own, and how many blocks are opened for all.
+ghost use Rattle.std.specs.Prelude.{◌≡◌, ◌≤◌, ◌-◌, ◌^◌, ◌⊎◌, true, Ok, Err, All, Contains, IfOk, IfErr, IsOkUnless, map, min, sum_by};
 ghost use Rattle.std.specs.List.{AllZip};
-ghost use Rattle.fts_model.specs.declared.operation.Term.{Term};
 ghost use Rattle.fts_model.specs.Queries.{query_fits, request_fits};
 ghost use Rattle.fts_model.specs.QueryValues.{query_value};
-ghost use Rattle.fts_model.specs.Answers.{answer};
-ghost use Rattle.fts_cursor.specs.Openings.{IsOfOneTerm, HasMusts};
-ghost use Rattle.fts_snapshots.specs.Snapshots.{content_of};
-ghost use Rattle.fts_index.specs.Searches.{IsPartOf, blocks_in, most_in, least_in};
+ghost use Rattle.fts_index.specs.Searches.{IsPartOf};
 ghost use Rattle.fts_index.specs.SearchJobs.{asks, asked_of};
 
 mod found;
@@ -17,7 +13,7 @@ pub use found::Found;
 use fts_collect::Part;
 use fts_model::{Query, Refusal, Request};
 use fts_pool::{Gate, run_all};
-use fts_snapshots::{Entry, Snapshot};
+use fts_snapshots::Entry;
 use job::SearchJob;
 use std::alloc::{AllocError, Global};
 use std::sync::Wait;
@@ -60,7 +56,7 @@ fn parts_of(alloc: Global, answers: Vec<Result<Part, Refusal>>) -> Result<Vec<Pa
 }
 
 /// How many blocks were opened for all parts.
-fn openings_of(parts: &[Part]) -> u64
+pub(crate) fn openings_of(parts: &[Part]) -> u64
     ensures { result ≡ min (2 ^ 64 - 1) (sum_by (λ part. part.openings) parts.now) }
 {
     let mut openings = 0u64;
@@ -71,7 +67,7 @@ fn openings_of(parts: &[Part]) -> u64
 }
 
 /// What each segment tells of its live hits, in the order of the segments.
-fn segment_parts<R: Threads + Wait + Sync, G: Gate>(
+pub(crate) fn segment_parts<R: Threads + Wait + Sync, G: Gate>(
     rt: &R,
     alloc: Global,
     entries: &[Entry],
@@ -92,39 +88,4 @@ fn segment_parts<R: Threads + Wait + Sync, G: Gate>(
     let jobs = search_jobs(alloc, entries, query, request)?;
     let answers = run_all(rt, alloc, &jobs, workers, gate)?;
     parts_of(alloc, answers)
-}
-
-/// What a query finds in a snapshot of fewer than 2^64 documents. The jobs are run by up to so many threads.
-pub(crate) fn search_snapshot<R: Threads + Wait + Sync, G: Gate>(
-    rt: &R,
-    alloc: Global,
-    snapshot: &Snapshot,
-    query: &Query,
-    request: &Request,
-    workers: usize,
-    gate: &G,
-) -> Result<Found, Refusal>
-    requires few { length (content_of snapshot.now) < 2 ^ 64 }
-    requires query { query_fits snapshot.now.schema (query_value query.now) ≡ true }
-    requires request { request_fits snapshot.now.schema request.now ≡ true }
-    requires workers { (1 ≤ workers) × (workers ≤ 64) }
-    ensures answer { IfOk result (λ found. found.answer ≡ answer snapshot.now.schema
-        (query_value query.now) request.now (content_of snapshot.now)) }
-    ensures one_term { IfOk result (λ found. (t : Term) → IsOfOneTerm (query_value query.now) t →
-        found.openings ≡ min (2 ^ 64 - 1) (blocks_in snapshot.now.entries t)) }
-    ensures musts { IfOk result (λ found. (terms : List Term) →
-        HasMusts (query_value query.now) terms →
-        found.openings ≤ most_in snapshot.now.entries terms) }
-    ensures opened { IfOk result (λ found. (terms : List Term) →
-        HasMusts (query_value query.now) terms → min (2 ^ 64 - 1)
-        (least_in snapshot.now.schema (query_value query.now) snapshot.now.entries terms)
-        ≤ found.openings) }
-    ensures memory { IsOkUnless result Refusal.Memory }
-{
-    let parts = segment_parts(rt, alloc, snapshot.entries(), query, request, workers, gate)?;
-    let openings = openings_of(&parts);
-    match Part::join(alloc, parts, request) {
-        Ok(answer) => Ok(Found { answer, openings }),
-        Err((_, refusal)) => Err(refusal),
-    }
 }

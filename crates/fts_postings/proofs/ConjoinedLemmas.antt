@@ -1,19 +1,21 @@
 -- The cursors of a conjunction, step by step.
-use Rattle.std.proofs.Common.{◌≡◌, ◌≢◌, ℕ, zero, suc, ◌+◌, ◌*◌, ◌<◌, ◌≤◌, true, false, ◌&&◌, Some, None, List, [], ◌∷◌, length, get_or, set, drop, refl, sym, ap, ap₂, ◌∙◌, inl, inr, arith}
-use Rattle.std.specs.List.{All, AllZip, flat_map, slice_get}
+use Rattle.std.proofs.Common.{◌≡◌, ◌≢◌, ℕ, zero, suc, ◌+◌, ◌-◌, ◌*◌, ◌<◌, ◌≤◌, nat_le, cond, true, false, ◌&&◌, Option, Some, None, List, [], ◌∷◌, ◌++◌, length, get_or, set, drop, refl, sym, ap, ap₂, subst, ◌∙◌, inl, inr, arith}
+use Rattle.std.specs.List.{All, AllZip, filter, flat_map, slice_get}
 use Rattle.std.specs.List.Sorted.{IsStrictlyIncreasing}
-use Rattle.std.proofs.lemmas.Bool.{cases_lt}
-use Rattle.std.proofs.lemmas.List.{get_or-set_same, get_or-set_other, length-set, length-map, get_or_default, length-drop}
-use Rattle.std.proofs.lemmas.List.Sums.{sum_by-le}
+use Rattle.std.proofs.lemmas.Bool.{cases_lt, le-leb, lt-leb}
+use Rattle.std.proofs.lemmas.List.{get_or-set_same, get_or-set_other, length-set, length-map, get_or_default, length-append, length-drop}
+use Rattle.std.proofs.lemmas.List.Sums.{count_by-le-length, length-filter, sum_by-le}
+use Rattle.std.proofs.lemmas.Nat.{mul-le}
 use Rattle.std.proofs.lemmas.List.Elements.{All-head, All-tail, AllZip-get_or, length_all_zip}
 use Rattle.fts_pack.specs.Documents.{Rises}
-use Rattle.fts_postings.specs.Posting.{Follows, Posting, remaining_of}
+use Rattle.fts_postings.specs.Bounds.{Bound, most_at, reached}
+use Rattle.fts_postings.specs.Posting.{Follows, Posting, members_of, remaining_of}
 use Rattle.fts_postings.specs.Remaining.{at_least}
 use Rattle.fts_postings.specs.Meeting.{FirstPasses, has, in_all, common}
-use Rattle.fts_postings.specs.Conjoined.{AllFollow, Conjoined, Sought, StandAt, StandTogether, Brought, IsAhead, MayBeBrought, AreFew, common_of, each_remaining, members_of, openings_of, reached}
-use Rattle.fts_postings.proofs.RemainingLemmas.{at_least-at_least, first-at_least, fewer-at_least}
+use Rattle.fts_postings.specs.Conjoined.{AllFollow, Conjoined, Sought, StandAt, StandTogether, Brought, IsAhead, MayBeBrought, AreFew, common_of, bound_of, each_remaining, members_reached, openings_of}
+use Rattle.fts_postings.proofs.RemainingLemmas.{Rises-from_increasing, at_least-at_least, first-at_least, fewer-at_least}
 use Rattle.fts_postings.proofs.MeetingLemmas.{has-before_first, has-first, has-none, in_all-lacking, in_all-each, has-at_least, filter-first, filter-same, filter-ahead, filter-none, Rises-from_first}
-use Rattle.fts_postings.proofs.PostingLemmas.{Follows-same, Follows-trans, remaining_within}
+use Rattle.fts_postings.proofs.PostingLemmas.{Follows-same, Follows-trans, members-split, remaining_within}
 
 -- the first cursors were brought to the document, and have it
 pub record BroughtUpTo (doc : ℕ) (initial now : List Posting) (index : ℕ) : Type 0 where
@@ -141,7 +143,7 @@ in_all-brought doc (p ∷ ps) [] h d high = absurd h
 in_all-brought doc (p ∷ ps) (q ∷ qs) h d high =
     ap₂ (λ a b. a && b) (sym (has-at_least doc (remaining_of q) d high) ∙ ap (λ xs. has xs d) h.0.same ∙ has-at_least doc (remaining_of p) d high) (in_all-brought doc ps qs h.1 d high)
 
-few-brought : (doc : ℕ) (lead : Posting) (ps qs : List Posting) → All (λ p. p.opened ≤ reached lead) ps → Brought doc ps qs → AreFew lead qs
+few-brought : (doc : ℕ) (lead : Posting) (ps qs : List Posting) → All (λ p. p.opened ≤ members_reached lead) ps → Brought doc ps qs → AreFew lead qs
 few-brought doc lead ps qs few h k d inside =
     let same = length_all_zip (Sought doc) ps qs h in
     let at = AllZip-get_or (Sought doc) ps qs k d d h (omega (arith, inside, same)) in
@@ -228,14 +230,6 @@ pub MayBeBrought-sought : (lead moved : Posting) (others : List Posting) (first 
 MayBeBrought-sought lead moved others first target few follows is first_is low =
     MayBeBrought-moved lead moved others follows.blocks (rw is (fewer-at_least target (remaining_of lead) first first_is low)) few
 
--- the bound on the openings of all
-pub openings_bound : (lead : Posting) (others : List Posting) → AreFew lead others → lead.opened ≤ length lead.blocks → openings_of (record { lead = lead; others = others }) ≤ length lead.blocks + length others * (reached lead + 1)
-openings_bound lead others few within = omega (arith, within, sum_by-le (λ p. p.opened) (reached lead + 1) others few)
-
-pub openings_life : (lead : Posting) (others : List Posting) → AreFew lead others → lead.opened ≤ length lead.blocks → openings_of (record { lead = lead; others = others }) ≤ length lead.blocks + length others * (length (members_of lead) + 1)
-openings_life lead others few within =
-    omega (arith, within, sum_by-le (λ p. p.opened) (length (members_of lead) + 1) others (λ k d inside. omega (arith, few k d inside)))
-
 pub AllFollow-same : (c : Conjoined) → AllFollow c c
 AllFollow-same c = record { lead = Follows-same c.lead; others = all_follow-same c.others }
 
@@ -264,3 +258,42 @@ stand_at lead others h some = standing_at others (remaining_of lead) h some
 
 pub AllFollow-trans : (c d e : Conjoined) → AllFollow c d → AllFollow d e → AllFollow c e
 AllFollow-trans c d e h k = record { lead = Follows-trans c.lead d.lead e.lead h.lead k.lead; others = all_follow-trans c.others d.others e.others h.others k.others }
+
+-- the members up to the first that remains
+reached_front : (next : ℕ) (front : List ℕ) (r : ℕ) (rest : List ℕ) → Rises next (front ++ r ∷ rest) → (next ≤ r) × (reached (front ++ r ∷ rest) (Some r) ≡ length front + 1)
+reached_front next [] r rest h =
+    let none : filter (λ d. nat_le d r) rest ≡ [] = filter-none (suc r) (λ d. nat_le d r) rest h.1 (λ d high. lt-leb d r high) in
+    (h.0, ap (λ b. length (cond b (r ∷ filter (λ d. nat_le d r) rest) (filter (λ d. nat_le d r) rest))) (le-leb r r (omega arith)) ∙ omega (arith, ap length none))
+reached_front next (f ∷ front) r rest h =
+    let below = filter (λ d. nat_le d r) (front ++ r ∷ rest) in
+    let later = reached_front (suc f) front r rest h.1 in
+    (omega (arith, h.0, later.0), ap (λ b. length (cond b (f ∷ below) below)) (le-leb f r (omega (arith, later.0))) ∙ omega (arith, later.1))
+
+reached_split : (front rest : List ℕ) → Rises 0 (front ++ rest) → length (front ++ rest) - (length rest - 1) ≡ reached (front ++ rest) (slice_get rest 0)
+reached_split front [] h = omega arith
+reached_split front (r ∷ rest) h = omega (arith, (reached_front 0 front r rest h).1, length-append front (r ∷ rest))
+
+-- the leading cursor reached the members up to the first document of all
+reached_first : (lead : Posting) (others : List Posting) → IsStrictlyIncreasing (members_of lead) → StandTogether lead others →
+    members_reached lead ≡ reached (members_of lead) (slice_get (common_of (record { lead = lead; others = others })) 0)
+reached_first lead others rises together =
+    let split = members-split lead in
+    let first = filter-first (in_all (each_remaining others)) (remaining_of lead) (together-passes lead others together) in
+    ap (λ xs. length xs - (length (remaining_of lead) - 1)) split.1
+    ∙ reached_split split.0 (remaining_of lead) (subst (Rises 0) split.1 (Rises-from_increasing (members_of lead) rises))
+    ∙ ap₂ reached (sym split.1) first
+
+-- the bound on the openings of all
+pub openings_bound : (lead : Posting) (others : List Posting) → IsStrictlyIncreasing (members_of lead) → StandTogether lead others → AreFew lead others → lead.opened ≤ length lead.blocks →
+    openings_of (record { lead = lead; others = others }) ≤ most_at (bound_of (record { lead = lead; others = others })) (slice_get (common_of (record { lead = lead; others = others })) 0)
+openings_bound lead others rises together few within =
+    let all : openings_of (record { lead = lead; others = others }) ≤ length lead.blocks + length others * (members_reached lead + 1) = omega (arith, within, sum_by-le (λ p. p.opened) (members_reached lead + 1) others few) in
+    subst (λ n. openings_of (record { lead = lead; others = others }) ≤ length lead.blocks + length others * (n + 1)) (reached_first lead others rises together) all
+
+-- no more are reached anywhere than at the end
+pub most-at_end : (b : Bound) (doc : Option ℕ) → most_at b doc ≤ most_at b None
+most-at_end b None = omega arith
+most-at_end b (Some doc) =
+    let le : reached b.lead (Some doc) + 1 ≤ length b.lead + 1 = omega (arith, length-filter (λ d. nat_le d doc) b.lead, count_by-le-length (λ d. nat_le d doc) b.lead) in
+    let times = mul-le b.others (reached b.lead (Some doc) + 1) b.others (length b.lead + 1) (omega arith) le in
+    omega (arith, times)

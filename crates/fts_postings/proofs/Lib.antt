@@ -3,7 +3,7 @@ pub mod FillLemmas
 pub mod PostingLemmas
 pub mod MeetingLemmas
 pub mod PassingLemmas
-pub mod PromiseLemmas
+pub mod CostLemmas
 pub mod ConjoinedLemmas
 pub mod UnionLemmas
 pub mod WindowLemmas

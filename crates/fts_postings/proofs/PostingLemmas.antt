@@ -8,7 +8,7 @@ use Rattle.std.proofs.lemmas.List.{take-append-drop, drop-drop, drop-append-le, 
 use Rattle.fts_pack.specs.Documents.{Rises, block_count, blocks_of, last_of}
 use Rattle.fts_pack.specs.SourceLaws.{blocks_joined, get_or-blocks_of, length-blocks_of}
 use Rattle.fts_postings.specs.Remaining.{at_least, IsPlaceOf}
-use Rattle.fts_postings.specs.Posting.{Follows, IsPosting, Posting, Walks, blocks_reached, here, remaining_of}
+use Rattle.fts_postings.specs.Posting.{Follows, IsPosting, Posting, Walks, blocks_reached, here, members_of, remaining_of}
 use Rattle.fts_postings.proofs.RemainingLemmas.{Rises-from_increasing, Rises-tail, Rises-front, increasing-from_Rises, at_least_place, at_least-append}
 
 abbrev flat : List (List ℕ) → List ℕ
@@ -193,12 +193,20 @@ pub found_near : (p : Posting) (len place target : ℕ) (numbers : List ℕ) →
 found_near p len place target numbers h rises reaches at =
     found p.blocks p.block p.at len place target numbers rises h.size h.numbers_are h.stands reaches at
 
+-- what remains is the end of the list
+pub members-split : (p : Posting) → (front : List ℕ) × (members_of p ≡ front ++ remaining_of p)
+members-split p =
+    let before = flat (take p.block p.blocks) in
+    let rest = flat (drop (suc p.block) p.blocks) in (
+      before ++ take p.at (here p),
+      split_at p.blocks p.block
+          ∙ ap (λ xs. before ++ xs) (split_block p.blocks p.block ∙ ap (λ xs. xs ++ rest) (sym (take-append-drop p.at (here p))) ∙ append_assoc (take p.at (here p)) (drop p.at (here p)) rest)
+          ∙ sym (append_assoc before (take p.at (here p)) (remaining_of p)),
+    )
+
 -- no more remains than there is
 pub remaining_within : (p : Posting) → length (remaining_of p) ≤ length (flat p.blocks)
-remaining_within p =
-    let here = get_or p.blocks p.block [] in
-    let rest = flat (drop (suc p.block) p.blocks) in
-    omega (arith, ap length (split_at p.blocks p.block), ap length (split_block p.blocks p.block), length-append (flat (take p.block p.blocks)) (flat (drop p.block p.blocks)), length-append here rest, length-append (drop p.at here) rest, length-drop p.at here)
+remaining_within p = let split = members-split p in omega (arith, ap length split.1, length-append split.0 (remaining_of p))
 
 pub Follows-same : (p : Posting) → Follows p p
 Follows-same p = record { blocks = refl; more = omega arith; counted = omega arith }

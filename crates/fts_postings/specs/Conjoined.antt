@@ -1,8 +1,9 @@
 -- What contracts see of a conjunction of posting cursors, and the bound on its openings.
-use Rattle.std.specs.Prelude.{◌≡◌, ℕ, ◌+◌, ◌-◌, ◌*◌, ◌<◌, ◌≤◌, All, List, Option, None, Some, true, false, length, map, slice_get}
-use Rattle.std.specs.List.{AllZip, flat_map, sum_by}
+use Rattle.std.specs.Prelude.{◌≡◌, ℕ, ◌+◌, ◌-◌, ◌<◌, ◌≤◌, All, List, Option, None, Some, true, false, length, map, slice_get}
+use Rattle.std.specs.List.{AllZip, sum_by}
+use Rattle.fts_postings.specs.Bounds.{Bound}
 use Rattle.fts_postings.specs.Meeting.{common, in_all}
-use Rattle.fts_postings.specs.Posting.{Follows, Posting, remaining_of}
+use Rattle.fts_postings.specs.Posting.{Follows, Posting, members_of, remaining_of}
 use Rattle.fts_postings.specs.Remaining.{at_least}
 
 -- the cursor that leads, and the others
@@ -18,13 +19,9 @@ each_remaining others = map remaining_of others
 abbrev pub common_of : Conjoined → List ℕ
 common_of c = common (remaining_of c.lead) (each_remaining c.others)
 
--- all members of a cursor's list
-abbrev pub members_of : Posting → List ℕ
-members_of p = flat_map (λ block. block) p.blocks
-
 -- how many members there are up to the one at which the cursor stands, that one counted: all of them at the end
-abbrev pub reached : Posting → ℕ
-reached p = length (members_of p) - (length (remaining_of p) - 1)
+abbrev pub members_reached : Posting → ℕ
+members_reached p = length (members_of p) - (length (remaining_of p) - 1)
 
 -- how many blocks all of them opened, and how many openings their sources counted
 abbrev pub openings_of : Conjoined → ℕ
@@ -33,9 +30,9 @@ openings_of c = c.lead.opened + sum_by (λ p. p.opened) c.others
 abbrev pub counts_of : Conjoined → ℕ
 counts_of c = c.lead.count + sum_by (λ p. p.count) c.others
 
--- how many blocks they open at most, whatever is sought
-abbrev pub most_of : Conjoined → ℕ
-most_of c = length c.lead.blocks + length c.others * (length (members_of c.lead) + 1)
+-- how many blocks they open at most: those of the leading list, and those that its members are sought in
+abbrev pub bound_of : Conjoined → Bound
+bound_of c = record { blocks = length c.lead.blocks; lead = members_of c.lead; others = length c.others }
 
 -- the same lists later on
 pub record AllFollow (old new : Conjoined) : Type 0 where
@@ -44,12 +41,12 @@ pub record AllFollow (old new : Conjoined) : Type 0 where
 
 -- each of the others opened one block for each member that the leading cursor reached, and one when it was made
 abbrev pub AreFew : Posting → List Posting → Type 0
-AreFew lead others = All (λ p. p.opened ≤ reached lead + 1) others
+AreFew lead others = All (λ p. p.opened ≤ members_reached lead + 1) others
 
 -- so few that each may open another block where the leading cursor stands
 pub record MayBeBrought (lead : Posting) (others : List Posting) : Type 0 where
   pub few : AreFew lead others
-  pub fewer : 0 < length (remaining_of lead) → All (λ p. p.opened ≤ reached lead) others
+  pub fewer : 0 < length (remaining_of lead) → All (λ p. p.opened ≤ members_reached lead) others
 
 -- cursors stand at a document
 abbrev pub StandAt : ℕ → List Posting → Type 0

@@ -1,6 +1,7 @@
 pub mod Remaining
 pub mod Fills
 pub mod Posting
+pub mod Bounds
 pub mod Meeting
 pub mod Conjoined
 pub mod Windows

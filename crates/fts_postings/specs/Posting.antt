@@ -19,6 +19,10 @@ here p = slice_index_or p.blocks p.block []
 abbrev pub remaining_of : Posting → List ℕ
 remaining_of p = drop p.at (here p) ++ flat_map (λ block. block) (drop (suc p.block) p.blocks)
 
+-- all members of its list
+abbrev pub members_of : Posting → List ℕ
+members_of p = flat_map (λ block. block) p.blocks
+
 -- the blocks up to the one in which it stands: all of them at the end
 abbrev pub blocks_reached : Posting → ℕ
 blocks_reached p = min (suc p.block) (length p.blocks)

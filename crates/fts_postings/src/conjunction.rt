@@ -1,7 +1,8 @@
 // A conjunction of posting cursors: one of them leads, and the others are sought for its documents alone.
-ghost use Rattle.std.specs.Prelude.{◌≡◌, ℕ, ◌+◌, ◌-◌, ◌*◌, ◌^◌, ◌<◌, ◌≤◌, All, List, drop, length, min, slice_get, slice_index_or, take};
+ghost use Rattle.std.specs.Prelude.{◌≡◌, ℕ, ◌-◌, ◌^◌, ◌<◌, ◌≤◌, All, List, drop, length, min, slice_get, slice_index_or, take};
 ghost use Rattle.std.specs.List.{AllZip};
-ghost use Rattle.fts_postings.specs.Conjoined.{AllFollow, AreFew, Brought, IsAhead, MayBeBrought, StandAt, StandTogether, common_of, each_remaining, members_of, most_of, openings_of, reached};
+ghost use Rattle.fts_postings.specs.Conjoined.{AllFollow, AreFew, Brought, IsAhead, MayBeBrought, StandAt, StandTogether, bound_of, common_of, each_remaining, openings_of};
+ghost use Rattle.fts_postings.specs.Bounds.{most_at};
 ghost use Rattle.fts_postings.specs.Meeting.{common};
 ghost use Rattle.fts_pack.specs.Documents.{blocks_of};
 ghost use Rattle.fts_postings.specs.Posting.{Follows, Posting, remaining_of};
@@ -44,10 +45,10 @@ impl<B: Blocks + Drop> Conjunction<B> {
     }
 
     /// How many documents remain at most, or the greatest `usize`.
-    pub fn promise(&self) -> usize
+    pub fn cost(&self) -> usize
         ensures { min (2 ^ 64 - 1) (length (common_of self.now)) ≤ result }
     {
-        self.lead.promise()
+        self.lead.cost()
     }
 
     /// The place in the leading list of the document at which all stand.
@@ -74,13 +75,12 @@ impl<B: Blocks + Drop> Conjunction<B> {
 
     /// How many blocks were opened since the cursors were made, or the greatest `u64`.
     ///
-    /// They are no more than the blocks of the leading list, and for each other cursor one when it was made and one for
-    /// each document that the leading cursor reached.
+    /// Wherever it stands, they are no more than the blocks of the leading list, and for each other list one when its
+    /// cursor was made and one for each document of the leading list up to that at which all stand.
     pub fn openings(&self) -> u64
         ensures sum { result ≡ min (2 ^ 64 - 1) (openings_of self.now) }
         ensures bound { openings_of self.now
-            ≤ length self.now.lead.blocks + length self.now.others * (reached self.now.lead + 1) }
-        ensures most { openings_of self.now ≤ most_of self.now }
+            ≤ most_at (bound_of self.now) (slice_get (common_of self.now) 0) }
     {
         let mut sum = self.lead.openings();
         for other in &self.others {

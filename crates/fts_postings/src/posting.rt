@@ -1,8 +1,9 @@
 // A cursor over the blocks of one list, of which one is open at a time.
 ghost use Rattle.std.specs.Prelude.{◌≡◌, ℕ, ◌+◌, ◌-◌, ◌^◌, ◌<◌, ◌≤◌, List, [], drop, length, min, slice_index_or, take, if◌then◌else◌, nat_lt};
+ghost use Rattle.std.specs.List.Sorted.{IsStrictlyIncreasing};
 ghost use Rattle.fts_pack.specs.Documents.{blocks_of, last_of};
 ghost use Rattle.fts_postings.specs.Fills.{IsStretch};
-ghost use Rattle.fts_postings.specs.Posting.{Follows, Walks, blocks_reached, here, opened_by_step, remaining_of};
+ghost use Rattle.fts_postings.specs.Posting.{Follows, Walks, blocks_reached, here, members_of, opened_by_step, remaining_of};
 ghost use Rattle.fts_postings.specs.Remaining.{at_least, IsPlaceOf};
 
 use crate::doc_set::DocSet;
@@ -61,18 +62,19 @@ impl<B: Blocks> PostingCursor<B> {
         self.block * 128 + self.at
     }
 
-    /// How many blocks were opened since it was made, the making included.
+    /// How many blocks were opened since it was made, the making included. Contracts learn here that its members rise.
     pub fn openings(&self) -> u64
         ensures opened { result ≡ self.now.opened }
         ensures bound { result ≤ blocks_reached self.now }
         ensures end { remaining_of self.now ≡ [] → blocks_reached self.now
             ≡ length self.now.blocks }
+        ensures rises { IsStrictlyIncreasing (members_of self.now) }
     {
         self.opened
     }
 
     /// How many documents remain at most, or the greatest `usize`: as if each block that is left were full.
-    pub fn promise(&self) -> usize
+    pub fn cost(&self) -> usize
         ensures { min (2 ^ 64 - 1) (length (remaining_of self.now)) ≤ result }
     {
         (self.source.blocks() - self.block).saturating_mul(128)

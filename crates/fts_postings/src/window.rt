@@ -91,7 +91,7 @@ impl Window {
     }
 
     /// At least as many as are marked.
-    pub fn promise(&self) -> usize
+    pub fn cost(&self) -> usize
         ensures { length (marked self.now.from self.now.last self.now.marks) ≤ result }
     {
         (self.last - self.from) as usize + 1

@@ -12,7 +12,7 @@ use Rattle.fts_segment.specs.Segments.{SegmentValue, column}
 use Rattle.fts_collect.specs.declared.collecting.Seen.{Seen}
 use Rattle.fts_collect.specs.declared.tally.Tally.{Tally}
 use Rattle.fts_collect.specs.Internals.Collecting.{IsTally, IsTallyFor, present_at}
-use Rattle.fts_collect.specs.Internals.Keys.{LeastValue, first_keys}
+use Rattle.fts_collect.specs.Internals.Keys.{TopKValue, first_keys}
 use Rattle.fts_collect.specs.Internals.Ranking.{keys_at}
 
 -- what each document has in a number field is a value that the field can have
@@ -36,15 +36,15 @@ HasCounted segment None docs tally = Unit {0}
 HasCounted segment (Some field) docs tally = (kind : Kind) → IsTally kind (present_at (column segment field) docs) tally
 
 -- the first keys of these documents were kept, if a top list is asked for
-abbrev pub HasRanked : SegmentValue → Option Top → List ℕ → LeastValue → Type 0
-HasRanked segment None docs least = Unit {0}
-HasRanked segment (Some top) docs least =
-    least ≡ record { k = top.k; keys = first_keys top.k (keys_at top.order segment.documents (column segment top.by) docs) }
+abbrev pub HasRanked : SegmentValue → Option Top → List ℕ → TopKValue → Type 0
+HasRanked segment None docs top_k = Unit {0}
+HasRanked segment (Some top) docs top_k =
+    top_k ≡ record { k = top.k; keys = first_keys top.k (keys_at top.order segment.documents (column segment top.by) docs) }
 
 -- each key that is kept is of a document, if a top list is asked for
-abbrev pub KeysWithin : SegmentValue → Option Top → LeastValue → Type 0
-KeysWithin segment None least = Unit {0}
-KeysWithin segment (Some top) least = All (λ key. key.doc < length segment.documents) least.keys
+abbrev pub KeysWithin : SegmentValue → Option Top → TopKValue → Type 0
+KeysWithin segment None top_k = Unit {0}
+KeysWithin segment (Some top) top_k = All (λ key. key.doc < length segment.documents) top_k.keys
 
 -- these are numbers of documents, rising, and a number of 64 bits counts them
 pub record AreHits (segment : SegmentValue) (docs : List ℕ) : Type 0 where
@@ -57,7 +57,7 @@ pub record HasSeen (segment : SegmentValue) (request : Request) (docs : List ℕ
   pub count : seen.count ≡ min (length docs) (2 ^ 64 - 1)
   pub places : IsTallyOf segment request.groups seen.tally
   pub groups : HasCounted segment request.groups docs seen.tally
-  pub top : HasRanked segment request.top docs seen.least
+  pub top : HasRanked segment request.top docs seen.top_k
 
 -- of all these documents some were seen, some are at hand and the others remain
 pub record IsUnderWay (segment : SegmentValue) (request : Request) (all docs remaining : List ℕ) (seen : Seen) : Type 0 where

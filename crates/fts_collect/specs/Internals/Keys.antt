@@ -2,7 +2,7 @@
 use Rattle.std.specs.Prelude.{◌≡◌, ℕ, Bool, false, List, [], ◌∷◌, Option, if◌then◌else◌, length, take, fold, All, IfSome}
 use Rattle.std.specs.Ordering.{nat_cmp, ordering_then, is_lt}
 use Rattle.std.specs.declared.cmp.Ordering.{Ordering}
-use Rattle.fts_collect.specs.declared.least.Key.{Key}
+use Rattle.fts_collect.specs.declared.top_k.Key.{Key}
 
 -- how two keys stand: by rank, then by stamp, then by document
 abbrev pub key_cmp : Key → Key → Ordering
@@ -22,7 +22,7 @@ abbrev pub first_keys : ℕ → List Key → List Key
 first_keys k keys = take k (fold put_key [] keys)
 
 -- the most that is kept, and the first of the keys that were given, so many at most
-pub record LeastValue : Type 0 where
+pub record TopKValue : Type 0 where
   pub k : ℕ
   pub keys : List Key
 
@@ -32,5 +32,5 @@ pub record IsBound (k : ℕ) (keys : List Key) (bound : Key) : Type 0 where
   pub within : All (λ key. key_lt bound key ≡ false) keys
 
 -- a bound, if there is one, is one of the first keys
-abbrev pub IsLeast : ℕ → List Key → Option Key → Type 0
-IsLeast k held bound = IfSome bound (IsBound k (first_keys k held))
+abbrev pub IsTopK : ℕ → List Key → Option Key → Type 0
+IsTopK k held bound = IfSome bound (IsBound k (first_keys k held))

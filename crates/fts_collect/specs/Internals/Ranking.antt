@@ -8,7 +8,7 @@ use Rattle.fts_model.specs.declared.query.Order.TheVariants.{Rising, Falling}
 use Rattle.fts_model.specs.declared.answer.Hit.{Hit}
 use Rattle.fts_model.specs.declared.operation.Stamped.{Stamped}
 use Rattle.fts_model.specs.Documents.{DocumentValue}
-use Rattle.fts_collect.specs.declared.least.Key.{Key}
+use Rattle.fts_collect.specs.declared.top_k.Key.{Key}
 use Rattle.fts_collect.specs.Internals.Collecting.{number_at}
 use Rattle.fts_collect.specs.Internals.Keys.{put_key}
 

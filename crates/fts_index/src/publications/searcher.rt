@@ -1,16 +1,15 @@
 // What is handed out: a snapshot to search, and what a commit was seen to publish.
-ghost use Rattle.std.specs.Prelude.{◌≡◌, ◌≤◌, ◌-◌, ◌^◌, List, true, IfOk, IsOkUnless, min};
-ghost use Rattle.fts_model.specs.declared.operation.Term.{Term};
+ghost use Rattle.std.specs.Prelude.{◌≡◌, ◌≤◌, true, IfOk, IsOkUnless};
 ghost use Rattle.fts_model.specs.Queries.{query_fits, request_fits};
 ghost use Rattle.fts_model.specs.QueryValues.{query_value};
 ghost use Rattle.fts_model.specs.Answers.{answer};
-ghost use Rattle.fts_cursor.specs.Openings.{IsOfOneTerm, HasMusts};
 ghost use Rattle.fts_snapshots.specs.Snapshots.{content_of};
-ghost use Rattle.fts_index.specs.Searches.{blocks_in, most_in, least_in};
+ghost use Rattle.fts_index.specs.Searches.{OpensInAll};
 ghost use Rattle.fts_index.specs.Publications.{IsFront};
 
 use crate::publications::front::Front;
-use crate::searching::{Found, search_snapshot};
+use crate::searching::{Found, openings_of, segment_parts};
+use fts_collect::Part;
 use fts_model::{Query, Refusal, Request, Stamp};
 use fts_pool::Gate;
 use fts_snapshots::Snapshot;
@@ -71,19 +70,17 @@ impl Searcher {
         requires workers { (1 ≤ workers) × (workers ≤ 64) }
         ensures answer { IfOk result (λ found. found.answer ≡ answer self.now.snapshot.schema
             (query_value query.now) request.now (content_of self.now.snapshot)) }
-        ensures one_term { IfOk result (λ found. (t : Term) →
-            IsOfOneTerm (query_value query.now) t →
-            found.openings ≡ min (2 ^ 64 - 1) (blocks_in self.now.snapshot.entries t)) }
-        ensures musts { IfOk result (λ found. (terms : List Term) →
-            HasMusts (query_value query.now) terms →
-            found.openings ≤ most_in self.now.snapshot.entries terms) }
-        ensures opened { IfOk result (λ found. (terms : List Term) →
-            HasMusts (query_value query.now) terms → min (2 ^ 64 - 1)
-            (least_in self.now.snapshot.schema (query_value query.now)
-            self.now.snapshot.entries terms) ≤ found.openings) }
+        ensures openings { IfOk result (λ found.
+            OpensInAll self.now.snapshot (query_value query.now) found.openings) }
         ensures memory { IsOkUnless result Refusal.Memory }
     {
-        search_snapshot(rt, alloc, self.snapshot(), query, request, workers, gate)
+        let snapshot = self.snapshot();
+        let parts = segment_parts(rt, alloc, snapshot.entries(), query, request, workers, gate)?;
+        let openings = openings_of(&parts);
+        match Part::join(alloc, parts, request) {
+            Ok(answer) => Ok(Found { answer, openings }),
+            Err((_, refusal)) => Err(refusal),
+        }
     }
 }
 

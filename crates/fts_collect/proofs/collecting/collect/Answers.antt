@@ -1,4 +1,4 @@
-use Rattle.std.proofs.Common.{◌∙◌, ◌-◌, ◌^◌, ℕ, List, sym, ap, subst, min, arith}
+use Rattle.std.proofs.Common.{◌∙◌, ◌-◌, ◌^◌, ℕ, List, None, sym, ap, subst, min, arith}
 use Rattle.fts_model.specs.declared.operation.Stamped.{Stamped}
 use Rattle.fts_model.specs.Documents.{DocumentValue}
 use Rattle.fts_model.specs.QueryValues.{query_value}
@@ -7,7 +7,7 @@ use Rattle.fts_model.specs.Answers.{answer_of}
 use Rattle.fts_collect.specs.Internals.Collected.{AreHits, hits_at}
 use Rattle.fts_collect.proofs.FitLemmas.{has_numbers}
 use Rattle.fts_collect.proofs.LiveLemmas.{live_hits-at, hits_are}
-use Rattle.fts_collect.proofs.OpeningsLemmas.{at_most, blocks-few, some_hits}
+use Rattle.fts_collect.proofs.OpeningsLemmas.{at_most, blocks-few, some_hits, where_some}
 use Rattle.fts_collect.proofs.collecting.collect.Goals as goal
 
 pub part_of-requires-clause-documents : goal.part_of-requires-clause-documents
@@ -28,16 +28,13 @@ returns-clause-part c =
     c.in_ok-part.ensures.answer
     ∙ ap (answer_of request) (ap (hits_at segment) c.in_ok-cursor.ensures.hits ∙ sym (live_hits-at p segment.documents c.args.live.now c.requires.bits))
 
-pub returns-clause-one_term : goal.returns-clause-one_term
-returns-clause-one_term c = λ t is.
-    let whole = c.in_ok-cursor.ensures.one_term t is in
-    c.in_ok-part.ensures.whole whole.0 ∙ ap (min (2 ^ 64 - 1)) whole.1 ∙ blocks-few c.args.segment.now t (omega arith)
-
-pub returns-clause-musts : goal.returns-clause-musts
-returns-clause-musts c = λ terms has. at_most _ _ _ c.in_ok-part.ensures.most (c.in_ok-cursor.ensures.musts terms has)
-
-pub returns-clause-opened : goal.returns-clause-opened
-returns-clause-opened c = λ terms has some.
-    let ne = some_hits c.args.segment.now c.args.request.now _ _ c.in_ok-part.ensures.answer some in
-    let opened = c.in_ok-cursor.ensures.opened terms has ne in
-    omega (arith, opened, c.in_ok-part.ensures.least, c.musts_of-musts.ensures terms has)
+pub returns-clause-openings : goal.returns-clause-openings
+returns-clause-openings c = record {
+  one_term = λ t is.
+      let whole = c.in_ok-cursor.ensures.opens.one_term t is in
+      c.in_ok-part.ensures.whole whole.0 ∙ ap (min (2 ^ 64 - 1)) whole.1 ∙ blocks-few c.args.segment.now t (omega arith);
+  opened = λ terms has. where_some _ _ _ (λ some.
+      let ne = some_hits c.args.segment.now c.args.request.now _ _ c.in_ok-part.ensures.answer some in
+      omega (arith, c.in_ok-cursor.ensures.opens.opened terms has ne, c.in_ok-part.ensures.least, c.musts_of-musts.ensures terms has));
+  musts = λ terms has. at_most _ _ _ c.in_ok-part.ensures.most (c.in_ok-cursor.ensures.opens.musts terms has None);
+}

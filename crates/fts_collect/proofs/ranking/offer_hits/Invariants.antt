@@ -4,4 +4,4 @@ use Rattle.fts_collect.proofs.ranking.offer_hits.Given as goal
 
 abbrev pub invariant-loop-i : goal.invariant-loop-i
 invariant-loop-i l =
-    l.least ≡ record { k = l.fn.least.k; keys = keep_keys l.fn.least.k l.fn.least.keys (keys_at l.order l.segment.documents l.column (drop l.i l.docs)) }
+    l.top_k ≡ record { k = l.fn.top_k.k; keys = keep_keys l.fn.top_k.k l.fn.top_k.keys (keys_at l.order l.segment.documents l.column (drop l.i l.docs)) }

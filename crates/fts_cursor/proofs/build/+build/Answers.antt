@@ -53,7 +53,7 @@ keeps t c =
       | tree_of-else-is_empty+then-are_terms+in_ok-kept-in-Bool w ↦
           let some : 0 < length must = omega (arith, some_from c.in-Bool.must.len (sym c.is_empty.ensures ∙ w.if-is_empty.false)) in
           let made = rw w.deref-then-are_terms.ensures.value at w.in_ok-kept-in-Bool.ensures in
-          subst (Keeps segment must should) (sym w.kept-is) (keeps_terms segment must should w.in_ok-kept-in-Bool.kept some made.remaining made.most made.opened)
+          subst (Keeps segment must should) (sym w.kept-is) (keeps_terms segment must should w.in_ok-kept-in-Bool.kept some made.remaining made.bound made.opened)
       | tree_of-else-is_empty+else-are_terms+in_ok-trees_of-in-Bool-2+in_ok-kept-in-Bool-2 w ↦
           let some : 0 < length must = omega (arith, some_from c.in-Bool.must.len (sym c.is_empty.ensures ∙ w.if-is_empty.false)) in
           let trees = rw w.deref-else-are_terms.ensures.value at w.in_ok-trees_of-in-Bool-2.ensures in
@@ -102,7 +102,7 @@ keeps_before t c =
       | tree_of-else-is_empty+then-are_terms+in_ok-kept-in-Bool w ↦
           let some : 0 < length must = omega (arith, some_from c.in-Bool.must.len (sym c.is_empty.ensures ∙ w.if-is_empty.false)) in
           let made = rw w.deref-then-are_terms.ensures.value at w.in_ok-kept-in-Bool.ensures in
-          subst (Keeps segment must should) (sym w.kept-is) (keeps_terms segment must should w.in_ok-kept-in-Bool.kept some made.remaining made.most made.opened)
+          subst (Keeps segment must should) (sym w.kept-is) (keeps_terms segment must should w.in_ok-kept-in-Bool.kept some made.remaining made.bound made.opened)
       | tree_of-else-is_empty+else-are_terms+in_ok-trees_of-in-Bool-2+in_ok-kept-in-Bool-2 w ↦
           let some : 0 < length must = omega (arith, some_from c.in-Bool.must.len (sym c.is_empty.ensures ∙ w.if-is_empty.false)) in
           let trees = rw w.deref-else-are_terms.ensures.value at w.in_ok-trees_of-in-Bool-2.ensures in

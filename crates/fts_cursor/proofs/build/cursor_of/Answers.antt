@@ -11,20 +11,8 @@ use Rattle.fts_cursor.proofs.build.cursor_of.Goals as goal
 pub returns-then-count_ones-len-clause-hits : goal.returns-then-count_ones-len-clause-hits
 returns-then-count_ones-len-clause-hits c = ap (λ (s : Standing). s.remaining) c.all.ensures ∙ c.in-Ok.ensures.hits ∙ all_live c.args.segment.now c.args.live.now (query_value c.args.query.now) c.requires.bits (sym c.count_ones.ensures ∙ c.if-count_ones-len.true ∙ c.len.ensures)
 
-pub returns-then-count_ones-len-clause-one_term : goal.returns-then-count_ones-len-clause-one_term
-returns-then-count_ones-len-clause-one_term c = (subst (Opens c.args.segment.now (query_value c.args.query.now)) (sym c.all.ensures) c.in-Ok.ensures.opens).one_term
+pub returns-then-count_ones-len-clause-opens : goal.returns-then-count_ones-len-clause-opens
+returns-then-count_ones-len-clause-opens c = subst (Opens c.args.segment.now (query_value c.args.query.now)) (sym c.all.ensures) c.in-Ok.ensures.opens
 
-pub returns-then-count_ones-len-clause-musts : goal.returns-then-count_ones-len-clause-musts
-returns-then-count_ones-len-clause-musts c = (subst (Opens c.args.segment.now (query_value c.args.query.now)) (sym c.all.ensures) c.in-Ok.ensures.opens).musts
-
-pub returns-then-count_ones-len-clause-opened : goal.returns-then-count_ones-len-clause-opened
-returns-then-count_ones-len-clause-opened c = (subst (Opens c.args.segment.now (query_value c.args.query.now)) (sym c.all.ensures) c.in-Ok.ensures.opens).opened
-
-pub returns-else-count_ones-len-clause-one_term : goal.returns-else-count_ones-len-clause-one_term
-returns-else-count_ones-len-clause-one_term c = (opens_walked c.args.segment.now (query_value c.args.query.now) (is_live c.args.live.now) c.in-Ok.tree c.live.result c.in-Ok.ensures.opens c.live.ensures.walked c.live.ensures.remaining).one_term
-
-pub returns-else-count_ones-len-clause-musts : goal.returns-else-count_ones-len-clause-musts
-returns-else-count_ones-len-clause-musts c = (opens_walked c.args.segment.now (query_value c.args.query.now) (is_live c.args.live.now) c.in-Ok.tree c.live.result c.in-Ok.ensures.opens c.live.ensures.walked c.live.ensures.remaining).musts
-
-pub returns-else-count_ones-len-clause-opened : goal.returns-else-count_ones-len-clause-opened
-returns-else-count_ones-len-clause-opened c = (opens_walked c.args.segment.now (query_value c.args.query.now) (is_live c.args.live.now) c.in-Ok.tree c.live.result c.in-Ok.ensures.opens c.live.ensures.walked c.live.ensures.remaining).opened
+pub returns-else-count_ones-len-clause-opens : goal.returns-else-count_ones-len-clause-opens
+returns-else-count_ones-len-clause-opens c = opens_walked c.args.segment.now (query_value c.args.query.now) (is_live c.args.live.now) c.in-Ok.tree c.live.result c.in-Ok.ensures.opens c.live.ensures.walked c.live.ensures.remaining

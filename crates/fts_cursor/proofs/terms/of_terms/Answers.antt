@@ -1,5 +1,7 @@
 -- A conjunction over lists of which the shortest leads.
-use Rattle.std.proofs.Common.{map, ◌∙◌, arith}
+use Rattle.std.proofs.Common.{◌≤◌, map, subst, sym, ◌∙◌, arith}
+use Rattle.fts_postings.specs.Bounds.{Bound, most_at}
+use Rattle.fts_cursor.specs.Openings.{bound_of_all}
 use Rattle.fts_cursor.proofs.HitsLemmas.{hits_of}
 use Rattle.fts_cursor.proofs.LeadingLemmas.{Conjoins, conjoins, is_fresh, no_hits}
 use Rattle.fts_cursor.proofs.terms.of_terms.Goals as goal
@@ -33,8 +35,13 @@ made c =
 pub returns-clause-remaining : goal.returns-clause-remaining
 returns-clause-remaining c = c.terms.ensures.remaining ∙ (made c).hits
 
-pub returns-clause-most : goal.returns-clause-most
-returns-clause-most c = omega (arith, c.terms.ensures.most, (made c).most)
+pub returns-clause-bound : goal.returns-clause-bound
+returns-clause-bound c = λ doc.
+    let all = bound_of_all (map (hits_of c.args.segment.now) c.args.queries.now) in
+    subst (λ (b : Bound). most_at b doc ≤ most_at all doc) (sym (c.terms.ensures.bound ∙ (made c).bound)) (omega arith)
+
+pub returns-in_default-clause-bound : goal.returns-in_default-clause-bound
+returns-in_default-clause-bound c = λ doc. rw c.nothing.ensures.counts.1 (omega arith)
 
 pub returns-clause-opened : goal.returns-clause-opened
 returns-clause-opened c = λ some. omega (arith, c.terms.ensures.openings, (made c).opened (λ none. some (c.terms.ensures.remaining ∙ none)))

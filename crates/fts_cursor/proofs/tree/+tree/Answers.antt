@@ -15,10 +15,10 @@ use Rattle.fts_postings.specs.Remaining.{at_least}
 use Rattle.fts_cursor.proofs.PartsLemmas.{Continues-beside, Continues-same, Continues-trans, Narrowed-same, Narrowed-seek, NarrowedUpTo-next, UpTo-all, UpTo-exit, ahead-later, ahead-none, all_stand, height_ahead, union-left}
 use Rattle.fts_postings.proofs.RemainingLemmas.{nothing_first}
 use Rattle.fts_postings.proofs.UnionLemmas.{IsLeast-none, IsLeast-some}
-use Rattle.fts_cursor.proofs.TreeLemmas.{IsNow-first, IsNow-met, Left-seek, LeftUpTo-next, Met-end, difference-here, difference-passed, meeting-continues, meeting-fewer, meeting-here, meeting-none, meeting-sought, stays_from_first}
+use Rattle.fts_cursor.proofs.TreeLemmas.{IsNow-first, IsNow-met, Left-seek, LeftUpTo-next, Met-end, exclusion-here, exclusion-passed, intersection-continues, intersection-fewer, intersection-here, intersection-none, intersection-sought, stays_from_first}
 use Rattle.fts_cursor.proofs.TermsLemmas.{terms-continue}
 use Rattle.fts_cursor.proofs.tree.+tree.Goals as goal
-use Rattle.fts_cursor.proofs.tree.+tree.Goals.{seek_each-in-Some, seek_each-in_default}
+use Rattle.fts_cursor.proofs.tree.+tree.Goals.{buffered_union::seek_each-in-Some, buffered_union::seek_each-in_default}
 
 pub Tree::seek-returns-else-doc-target-clause-remaining : goal.Tree::seek-returns-else-doc-target-clause-remaining
 Tree::seek-returns-else-doc-target-clause-remaining t c =
@@ -31,124 +31,124 @@ Tree::seek-returns-in_default-clause-remaining t c =
     let none = nothing_first c.args.self.now.remaining (sym c.in_default.is ∙ c.self.invariant.first ∙ ap (λ s. slice_get s.remaining 0) c.self.view_is) in
     none ∙ sym (ap (at_least c.args.target) none)
 
-pub align_parts-returns-in-Some-bring_parts-clause-met : goal.align_parts-returns-in-Some-bring_parts-clause-met
-align_parts-returns-in-Some-bring_parts-clause-met t c =
+pub intersection::align-returns-in-Some-bring-clause-met : goal.intersection::align-returns-in-Some-bring-clause-met
+intersection::align-returns-in-Some-bring-clause-met t c =
     let first = sym c.in-Some.is ∙ c.doc.ensures.first in
-    let items = with_items_is c.loop-doc.parts.others c.bring_parts.new.others (omega arith) in
-    let ahead = rw c.in-Some-bring_parts.is at c.bring_parts.ensures.next in
-    rw items (meeting-here c.args.parts.now c.loop-doc.parts c.deref.result.now c.deref_mut.result.now c.bring_parts.new.others c.in-Some.doc c.loop-doc.invariant.same c.deref.ensures c.deref_mut.ensures.value c.doc.ensures.rises first c.bring_parts.ensures.each c.in-Some-bring_parts.next ahead c.if-next-doc.true)
+    let items = with_items_is c.loop-doc.parts.others c.bring.new.others (omega arith) in
+    let ahead = rw c.in-Some-bring.is at c.bring.ensures.next in
+    rw items (intersection-here c.args.parts.now c.loop-doc.parts c.deref.result.now c.deref_mut.result.now c.bring.new.others c.in-Some.doc c.loop-doc.invariant.same c.deref.ensures c.deref_mut.ensures.value c.doc.ensures.rises first c.bring.ensures.each c.in-Some-bring.next ahead c.if-next-doc.true)
 
-pub align_parts-returns-in-Some-bring_parts-clause-continues : goal.align_parts-returns-in-Some-bring_parts-clause-continues
-align_parts-returns-in-Some-bring_parts-clause-continues t c =
+pub intersection::align-returns-in-Some-bring-clause-continues : goal.intersection::align-returns-in-Some-bring-clause-continues
+intersection::align-returns-in-Some-bring-clause-continues t c =
     let first = sym c.in-Some.is ∙ c.doc.ensures.first in
-    let items = with_items_is c.loop-doc.parts.others c.bring_parts.new.others (omega arith) in
-    rw items (meeting-continues c.args.parts.now c.loop-doc.parts c.deref.result.now c.deref_mut.result.now c.bring_parts.new.others c.in-Some.doc c.loop-doc.invariant.same c.deref.ensures c.deref_mut.ensures.value c.doc.ensures.rises first c.bring_parts.ensures.each c.loop-doc.invariant.continues c.loop-doc.parts.lead.value _ (Continues-same c.loop-doc.parts.lead.value))
+    let items = with_items_is c.loop-doc.parts.others c.bring.new.others (omega arith) in
+    rw items (intersection-continues c.args.parts.now c.loop-doc.parts c.deref.result.now c.deref_mut.result.now c.bring.new.others c.in-Some.doc c.loop-doc.invariant.same c.deref.ensures c.deref_mut.ensures.value c.doc.ensures.rises first c.bring.ensures.each c.loop-doc.invariant.continues c.loop-doc.parts.lead.value _ (Continues-same c.loop-doc.parts.lead.value))
 
-pub align_parts-loop-doc-smaller : goal.align_parts-loop-doc-smaller
-align_parts-loop-doc-smaller t c =
+pub intersection::align-loop-doc-smaller : goal.intersection::align-loop-doc-smaller
+intersection::align-loop-doc-smaller t c =
     let first = sym c.in-Some.is ∙ c.doc.ensures.first in
-    let items = with_items_is c.loop-doc.parts.others c.bring_parts.new.others (omega arith) in
-    let ahead = rw c.in-Some-bring_parts.is at c.bring_parts.ensures.next in
-    meeting-fewer c.args.parts.now c.loop-doc.parts c.deref.result.now c.deref_mut.result.now c.bring_parts.new.others c.in-Some.doc c.loop-doc.invariant.same c.deref.ensures c.deref_mut.ensures.value c.doc.ensures.rises first c.bring_parts.ensures.each c.in-Some-bring_parts.next c.seek.new.self ahead (c.seek.ensures.remaining ∙ ap (λ s. at_least c.in-Some-bring_parts.next s.remaining) c.deref_mut-in-Some-2.ensures.value) c.if-next-doc.false
+    let items = with_items_is c.loop-doc.parts.others c.bring.new.others (omega arith) in
+    let ahead = rw c.in-Some-bring.is at c.bring.ensures.next in
+    intersection-fewer c.args.parts.now c.loop-doc.parts c.deref.result.now c.deref_mut.result.now c.bring.new.others c.in-Some.doc c.loop-doc.invariant.same c.deref.ensures c.deref_mut.ensures.value c.doc.ensures.rises first c.bring.ensures.each c.in-Some-bring.next c.seek.new.self ahead (c.seek.ensures.remaining ∙ ap (λ s. at_least c.in-Some-bring.next s.remaining) c.deref_mut-in-Some-2.ensures.value) c.if-next-doc.false
 
-pub align_parts-loop-doc-preserved : goal.align_parts-loop-doc-preserved
-align_parts-loop-doc-preserved t c =
+pub intersection::align-loop-doc-preserved : goal.intersection::align-loop-doc-preserved
+intersection::align-loop-doc-preserved t c =
     let first = sym c.in-Some.is ∙ c.doc.ensures.first in
-    let items = with_items_is c.loop-doc.parts.others c.bring_parts.new.others (omega arith) in
-    let ahead = rw c.in-Some-bring_parts.is at c.bring_parts.ensures.next in
+    let items = with_items_is c.loop-doc.parts.others c.bring.new.others (omega arith) in
+    let ahead = rw c.in-Some-bring.is at c.bring.ensures.next in
     let moved : Continues c.loop-doc.parts.lead.value c.seek.new.self = rw c.deref_mut-in-Some-2.ensures.value at c.seek.ensures.continues in
     record {
-      same = ap (λ os. common c.seek.new.self.remaining (remains os)) items ∙ meeting-sought c.args.parts.now c.loop-doc.parts c.deref.result.now c.deref_mut.result.now c.bring_parts.new.others c.in-Some.doc c.loop-doc.invariant.same c.deref.ensures c.deref_mut.ensures.value c.doc.ensures.rises first c.bring_parts.ensures.each c.in-Some-bring_parts.next c.seek.new.self ahead (c.seek.ensures.remaining ∙ ap (λ s. at_least c.in-Some-bring_parts.next s.remaining) c.deref_mut-in-Some-2.ensures.value);
-      continues = rw items (meeting-continues c.args.parts.now c.loop-doc.parts c.deref.result.now c.deref_mut.result.now c.bring_parts.new.others c.in-Some.doc c.loop-doc.invariant.same c.deref.ensures c.deref_mut.ensures.value c.doc.ensures.rises first c.bring_parts.ensures.each c.loop-doc.invariant.continues c.seek.new.self _ moved);
+      same = ap (λ os. common c.seek.new.self.remaining (remains os)) items ∙ intersection-sought c.args.parts.now c.loop-doc.parts c.deref.result.now c.deref_mut.result.now c.bring.new.others c.in-Some.doc c.loop-doc.invariant.same c.deref.ensures c.deref_mut.ensures.value c.doc.ensures.rises first c.bring.ensures.each c.in-Some-bring.next c.seek.new.self ahead (c.seek.ensures.remaining ∙ ap (λ s. at_least c.in-Some-bring.next s.remaining) c.deref_mut-in-Some-2.ensures.value);
+      continues = rw items (intersection-continues c.args.parts.now c.loop-doc.parts c.deref.result.now c.deref_mut.result.now c.bring.new.others c.in-Some.doc c.loop-doc.invariant.same c.deref.ensures c.deref_mut.ensures.value c.doc.ensures.rises first c.bring.ensures.each c.loop-doc.invariant.continues c.seek.new.self _ moved);
     }
 
-pub align_parts-returns-in-None-clause-met : goal.align_parts-returns-in-None-clause-met
-align_parts-returns-in-None-clause-met t c =
+pub intersection::align-returns-in-None-clause-met : goal.intersection::align-returns-in-None-clause-met
+intersection::align-returns-in-None-clause-met t c =
     let first = sym c.in-Some.is ∙ c.doc.ensures.first in
-    let items = with_items_is c.loop-doc.parts.others c.bring_parts.new.others (omega arith) in
-    let none = rw c.in-None.is at c.bring_parts.ensures.next in
-    rw items (meeting-none c.args.parts.now c.loop-doc.parts c.deref.result.now c.deref_mut.result.now c.bring_parts.new.others c.in-Some.doc c.loop-doc.invariant.same c.deref.ensures c.deref_mut.ensures.value c.doc.ensures.rises first c.bring_parts.ensures.each none)
+    let items = with_items_is c.loop-doc.parts.others c.bring.new.others (omega arith) in
+    let none = rw c.in-None.is at c.bring.ensures.next in
+    rw items (intersection-none c.args.parts.now c.loop-doc.parts c.deref.result.now c.deref_mut.result.now c.bring.new.others c.in-Some.doc c.loop-doc.invariant.same c.deref.ensures c.deref_mut.ensures.value c.doc.ensures.rises first c.bring.ensures.each none)
 
-pub align_parts-returns-in-None-clause-continues : goal.align_parts-returns-in-None-clause-continues
-align_parts-returns-in-None-clause-continues t c =
+pub intersection::align-returns-in-None-clause-continues : goal.intersection::align-returns-in-None-clause-continues
+intersection::align-returns-in-None-clause-continues t c =
     let first = sym c.in-Some.is ∙ c.doc.ensures.first in
-    let items = with_items_is c.loop-doc.parts.others c.bring_parts.new.others (omega arith) in
-    rw items (meeting-continues c.args.parts.now c.loop-doc.parts c.deref.result.now c.deref_mut.result.now c.bring_parts.new.others c.in-Some.doc c.loop-doc.invariant.same c.deref.ensures c.deref_mut.ensures.value c.doc.ensures.rises first c.bring_parts.ensures.each c.loop-doc.invariant.continues c.loop-doc.parts.lead.value _ (Continues-same c.loop-doc.parts.lead.value))
+    let items = with_items_is c.loop-doc.parts.others c.bring.new.others (omega arith) in
+    rw items (intersection-continues c.args.parts.now c.loop-doc.parts c.deref.result.now c.deref_mut.result.now c.bring.new.others c.in-Some.doc c.loop-doc.invariant.same c.deref.ensures c.deref_mut.ensures.value c.doc.ensures.rises first c.bring.ensures.each c.loop-doc.invariant.continues c.loop-doc.parts.lead.value _ (Continues-same c.loop-doc.parts.lead.value))
 
-pub align_parts-returns-clause-met : goal.align_parts-returns-clause-met
-align_parts-returns-clause-met t c =
+pub intersection::align-returns-clause-met : goal.intersection::align-returns-clause-met
+intersection::align-returns-clause-met t c =
     Met-end _ c.loop-doc.parts.lead.value.remaining (in_all (remains c.loop-doc.parts.others.items)) c.loop-doc.invariant.same (sym c.in_default.is ∙ c.doc.ensures.first ∙ ap (λ s. slice_get s.remaining 0) c.deref.ensures)
 
-pub bring_parts-seek-requires : goal.bring_parts-seek-requires
-bring_parts-seek-requires t c =
+pub intersection::bring-seek-requires : goal.intersection::bring-seek-requires
+intersection::bring-seek-requires t c =
     let ahead = height_ahead (Narrowed c.args.doc) c.args.others.now c.loop-other.others c.loop-other.other-index c.other-item.result c.loop-other.invariant.up_to (omega (arith, c.loop-other.invariant.up_to.size)) in
     let less : 8 * (get_or c.loop-other.others c.loop-other.other-index c.other-item.result).height + 2 < t = omega (arith, ahead, c.decreases) in
     (less, tt)
 
-pub bring_parts-returns-in_err-next-clause-each : goal.bring_parts-returns-in_err-next-clause-each
-bring_parts-returns-in_err-next-clause-each t c =
+pub intersection::bring-returns-in_err-next-clause-each : goal.intersection::bring-returns-in_err-next-clause-each
+intersection::bring-returns-in_err-next-clause-each t c =
     UpTo-exit (Narrowed c.args.doc) c.args.others.now c.loop-other.others c.loop-other.other-index c.loop-other.invariant.up_to _ c.seek.new.self (omega (arith, c.loop-other.invariant.up_to.size)) (Narrowed-seek c.args.doc _ c.seek.new.self c.seek.ensures.remaining c.seek.ensures.continues) (Narrowed-same c.args.doc)
 
-pub bring_parts-returns-in_err-next-clause-next : goal.bring_parts-returns-in_err-next-clause-next
-bring_parts-returns-in_err-next-clause-next t c =
+pub intersection::bring-returns-in_err-next-clause-next : goal.intersection::bring-returns-in_err-next-clause-next
+intersection::bring-returns-in_err-next-clause-next t c =
     rw c.from_residual.ensures (ahead-none c.loop-other.others c.loop-other.other-index c.seek.new.self (omega (arith, c.loop-other.invariant.up_to.size)) c.args.doc (sym c.in_err-next.was ∙ c.doc.ensures.first))
 
-pub bring_parts-returns-then-next-doc-clause-each : goal.bring_parts-returns-then-next-doc-clause-each
-bring_parts-returns-then-next-doc-clause-each t c =
+pub intersection::bring-returns-then-next-doc-clause-each : goal.intersection::bring-returns-then-next-doc-clause-each
+intersection::bring-returns-then-next-doc-clause-each t c =
     UpTo-exit (Narrowed c.args.doc) c.args.others.now c.loop-other.others c.loop-other.other-index c.loop-other.invariant.up_to _ c.seek.new.self (omega (arith, c.loop-other.invariant.up_to.size)) (Narrowed-seek c.args.doc _ c.seek.new.self c.seek.ensures.remaining c.seek.ensures.continues) (Narrowed-same c.args.doc)
 
-pub bring_parts-returns-then-next-doc-clause-next : goal.bring_parts-returns-then-next-doc-clause-next
-bring_parts-returns-then-next-doc-clause-next t c =
+pub intersection::bring-returns-then-next-doc-clause-next : goal.intersection::bring-returns-then-next-doc-clause-next
+intersection::bring-returns-then-next-doc-clause-next t c =
     ahead-later c.loop-other.others c.loop-other.other-index c.seek.new.self (omega (arith, c.loop-other.invariant.up_to.size)) c.args.doc c.in_ok-next.next _ c.seek.ensures.remaining c.doc.ensures.rises (sym c.in_ok-next.was ∙ c.doc.ensures.first) c.if-next-doc.true
 
-pub bring_parts-loop-other-preserved : goal.bring_parts-loop-other-preserved
-bring_parts-loop-other-preserved t c =
+pub intersection::bring-loop-other-preserved : goal.intersection::bring-loop-other-preserved
+intersection::bring-loop-other-preserved t c =
     let first = sym c.in_ok-next.was ∙ c.doc.ensures.first in
     NarrowedUpTo-next c.args.doc c.args.others.now c.loop-other.others c.loop-other.other-index c.loop-other.invariant _ c.seek.new.self (omega (arith, c.loop-other.invariant.up_to.size)) (Narrowed-seek c.args.doc _ c.seek.new.self c.seek.ensures.remaining c.seek.ensures.continues) (rw c.if-next-doc.false at first)
 
-pub bring_parts-returns-clause-each : goal.bring_parts-returns-clause-each
-bring_parts-returns-clause-each t c = UpTo-all (Narrowed c.args.doc) c.args.others.now c.loop-other.others c.loop-other.other-index c.loop-other.invariant.up_to (omega (arith, c.loop-other.invariant.up_to.size))
+pub intersection::bring-returns-clause-each : goal.intersection::bring-returns-clause-each
+intersection::bring-returns-clause-each t c = UpTo-all (Narrowed c.args.doc) c.args.others.now c.loop-other.others c.loop-other.other-index c.loop-other.invariant.up_to (omega (arith, c.loop-other.invariant.up_to.size))
 
-pub bring_parts-returns-clause-next : goal.bring_parts-returns-clause-next
-bring_parts-returns-clause-next t c = (
+pub intersection::bring-returns-clause-next : goal.intersection::bring-returns-clause-next
+intersection::bring-returns-clause-next t c = (
   omega arith,
   λ _. all_stand c.args.doc c.args.others.now c.loop-other.others c.loop-other.other-index c.loop-other.invariant (omega (arith, c.loop-other.invariant.up_to.size)),
   λ d high low. absurd (omega (arith, high, low)),
 )
 
-pub seek_each-seek-requires : goal.seek_each-seek-requires
-seek_each-seek-requires t c =
+pub buffered_union::seek_each-seek-requires : goal.buffered_union::seek_each-seek-requires
+buffered_union::seek_each-seek-requires t c =
     let ahead = height_ahead (Left c.args.target) c.args.parts.now c.loop-part.parts c.loop-part.part-index c.part-item.result c.loop-part.invariant.up_to (omega (arith, c.loop-part.invariant.up_to.size)) in
     let less : 8 * (get_or c.loop-part.parts c.loop-part.part-index c.part-item.result).height + 2 < t = omega (arith, ahead, c.decreases) in
     (less, tt)
 
-pub seek_each-loop-part-preserved : goal.seek_each-loop-part-preserved
-seek_each-loop-part-preserved t c =
+pub buffered_union::seek_each-loop-part-preserved : goal.buffered_union::seek_each-loop-part-preserved
+buffered_union::seek_each-loop-part-preserved t c =
     let inside : c.loop-part.part-index < length c.loop-part.parts = omega (arith, c.loop-part.invariant.up_to.size) in
     LeftUpTo-next c.args.target c.args.parts.now c.loop-part.parts c.loop-part.least c.match-doc.least c.loop-part.part-index c.loop-part.invariant c.part-item.result c.seek.new.self inside (Left-seek c.args.target _ c.seek.new.self c.seek.ensures.remaining c.seek.ensures.continues) (elim c.match-doc.branch [
-      | seek_each-in-Some w ↦ rw (w.least-is, w.lesser-least.ensures) (IsLeast-some c.loop-part.least _ c.seek.new.self.remaining _ c.loop-part.invariant.least_is c.doc.ensures.rises (sym w.in-Some.is ∙ c.doc.ensures.first))
-      | seek_each-in_default w ↦ rw w.least-is (IsLeast-none c.loop-part.least _ c.seek.new.self.remaining c.loop-part.invariant.least_is (sym w.in_default.is ∙ c.doc.ensures.first))
+      | buffered_union::seek_each-in-Some w ↦ rw (w.least-is, w.lesser-least.ensures) (IsLeast-some c.loop-part.least _ c.seek.new.self.remaining _ c.loop-part.invariant.least_is c.doc.ensures.rises (sym w.in-Some.is ∙ c.doc.ensures.first))
+      | buffered_union::seek_each-in_default w ↦ rw w.least-is (IsLeast-none c.loop-part.least _ c.seek.new.self.remaining c.loop-part.invariant.least_is (sym w.in_default.is ∙ c.doc.ensures.first))
     ])
 
-pub seek_each-returns-clause-each : goal.seek_each-returns-clause-each
-seek_each-returns-clause-each t c = UpTo-all (Left c.args.target) c.args.parts.now c.loop-part.parts c.loop-part.part-index c.loop-part.invariant.up_to (omega (arith, c.loop-part.invariant.up_to.size))
+pub buffered_union::seek_each-returns-clause-each : goal.buffered_union::seek_each-returns-clause-each
+buffered_union::seek_each-returns-clause-each t c = UpTo-all (Left c.args.target) c.args.parts.now c.loop-part.parts c.loop-part.part-index c.loop-part.invariant.up_to (omega (arith, c.loop-part.invariant.up_to.size))
 
-pub settle-returns-then-not-is_at-clause-met : goal.settle-returns-then-not-is_at-clause-met
-settle-returns-then-not-is_at-clause-met t c =
-    difference-here c.args.parts.now c.loop-doc.parts c.deref.result.now c.deref_mut.result.now c.seek.new.self c.in-Some.doc c.loop-doc.invariant.same c.deref.ensures c.deref_mut.ensures.value c.doc.ensures.rises (sym c.in-Some.is ∙ c.doc.ensures.first) c.seek.ensures.remaining c.doc-found.result (c.doc-found.ensures.first ∙ ap (λ s. slice_get s.remaining 0) c.deref-in-Some.ensures) c.if-not-is_at.ensures (subst (λ (s : Standing). IsStrictlyIncreasing s.remaining) c.deref-in-Some.ensures c.doc-found.ensures.rises)
+pub exclusion::settle-returns-then-not-is_at-clause-met : goal.exclusion::settle-returns-then-not-is_at-clause-met
+exclusion::settle-returns-then-not-is_at-clause-met t c =
+    exclusion-here c.args.parts.now c.loop-doc.parts c.deref.result.now c.deref_mut.result.now c.seek.new.self c.in-Some.doc c.loop-doc.invariant.same c.deref.ensures c.deref_mut.ensures.value c.doc.ensures.rises (sym c.in-Some.is ∙ c.doc.ensures.first) c.seek.ensures.remaining c.doc-found.result (c.doc-found.ensures.first ∙ ap (λ s. slice_get s.remaining 0) c.deref-in-Some.ensures) c.if-not-is_at.ensures (subst (λ (s : Standing). IsStrictlyIncreasing s.remaining) c.deref-in-Some.ensures c.doc-found.ensures.rises)
 
-pub settle-loop-doc-preserved : goal.settle-loop-doc-preserved
-settle-loop-doc-preserved t c =
+pub exclusion::settle-loop-doc-preserved : goal.exclusion::settle-loop-doc-preserved
+exclusion::settle-loop-doc-preserved t c =
     let there = sym c.if-not-is_at.ensures ∙ c.doc-found.ensures.first ∙ ap (λ s. slice_get s.remaining 0) c.deref-in-Some.ensures in
     let kept : Continues c.loop-doc.parts.kept.value c.advance.new.self = rw c.deref_mut-in-Some.ensures.value at c.advance.ensures.walked.continues in
     let dropped : Continues c.loop-doc.parts.dropped.value c.seek.new.self = rw c.deref_mut.ensures.value at c.seek.ensures.continues in
     record {
-      same = difference-passed c.args.parts.now c.loop-doc.parts c.deref.result.now c.deref_mut.result.now c.seek.new.self c.in-Some.doc c.loop-doc.invariant.same c.deref.ensures c.deref_mut.ensures.value c.doc.ensures.rises (sym c.in-Some.is ∙ c.doc.ensures.first) c.seek.ensures.remaining c.advance.new.self there (c.advance.ensures.remaining ∙ ap (λ s. drop 1 s.remaining) c.deref_mut-in-Some.ensures.value);
+      same = exclusion-passed c.args.parts.now c.loop-doc.parts c.deref.result.now c.deref_mut.result.now c.seek.new.self c.in-Some.doc c.loop-doc.invariant.same c.deref.ensures c.deref_mut.ensures.value c.doc.ensures.rises (sym c.in-Some.is ∙ c.doc.ensures.first) c.seek.ensures.remaining c.advance.new.self there (c.advance.ensures.remaining ∙ ap (λ s. drop 1 s.remaining) c.deref_mut-in-Some.ensures.value);
       continues = Continues-trans _ _ _ c.loop-doc.invariant.continues (Continues-beside c.loop-doc.parts.kept.value c.loop-doc.parts.dropped.value c.advance.new.self c.seek.new.self _ _ kept dropped);
     }
 
-pub settle-returns-clause-met : goal.settle-returns-clause-met
-settle-returns-clause-met t c =
+pub exclusion::settle-returns-clause-met : goal.exclusion::settle-returns-clause-met
+exclusion::settle-returns-clause-met t c =
     Met-end _ c.loop-doc.parts.kept.value.remaining (lacks c.loop-doc.parts.dropped.value.remaining) c.loop-doc.invariant.same (sym c.in_default.is ∙ c.doc.ensures.first ∙ ap (λ s. slice_get s.remaining 0) c.deref.ensures)
 
 pub skip-returns-in-Terms-clause-now : goal.skip-returns-in-Terms-clause-now
@@ -164,7 +164,7 @@ skip-returns-in-Terms-clause-continues t c =
 pub skip-returns-in-And-clause-now : goal.skip-returns-in-And-clause-now
 skip-returns-in-And-clause-now t c =
     let test = in_all (remains c.in-And.parts.others.items) in
-    IsNow-met c.align_parts.result _ _ _ (in_all (remains c.align_parts.new.parts.others.items)) c.align_parts.new.parts.lead.value.remaining c.align_parts.ensures.met refl c.align_parts.ensures.met.passes tt
+    IsNow-met c.align.result _ _ _ (in_all (remains c.align.new.parts.others.items)) c.align.new.parts.lead.value.remaining c.align.ensures.met refl c.align.ensures.met.passes tt
     (ap (filter test) (c.seek-in-And.ensures.remaining ∙ ap (λ s. at_least c.args.target s.remaining) c.deref_mut.ensures.value)
     ∙ filter-at_least c.args.target test c.in-And.parts.lead.value.remaining
     ∙ ap (λ n. at_least c.args.target (standing n).remaining) (sym c.in-And.is))
@@ -187,8 +187,8 @@ step-returns-in-Terms-clause-walked t c =
     let tied : AreTied c.in-Terms.terms = rw c.in-Terms.is at c.requires.1.tied in
     rw c.in-Terms.is (record { continues = (terms-continue c.in-Terms.terms c.advance-in-Terms.new.self c.advance-in-Terms.ensures.follows tied).0 _ _; whole = λ h. h })
 
-pub gather-returns-in-Some-clause-now : goal.gather-returns-in-Some-clause-now
-gather-returns-in-Some-clause-now t c =
+pub buffered_union::gather-returns-in-Some-clause-now : goal.buffered_union::gather-returns-in-Some-clause-now
+buffered_union::gather-returns-in-Some-clause-now t c =
     let b = c.args.buffered.now in
     let w = c.seek.new.self in
     let first : Some c.in-Some.doc ≡ slice_get (found w) 0 = sym c.in-Some.is ∙ c.first.ensures in
@@ -198,8 +198,8 @@ gather-returns-in-Some-clause-now t c =
     c.in-Some.doc
     (record { first = first; beyond = λ d within. beyond d (omega (arith, within, c.seek.ensures.place.1)) })
 
-pub refill-returns-in_err-least-clause-now : goal.refill-returns-in_err-least-clause-now
-refill-returns-in_err-least-clause-now t c =
+pub buffered_union::refill-returns-in_err-least-clause-now : goal.buffered_union::refill-returns-in_err-least-clause-now
+buffered_union::refill-returns-in_err-least-clause-now t c =
     let b = c.args.buffered.now in
     let w = b.window in
     let after = c.seek_each.new.parts in
@@ -213,16 +213,16 @@ refill-returns-in_err-least-clause-now t c =
     none
     (subst (λ ps. IsLeast None (remains ps)) (sym items) c.in_err-least.ensures.least))
 
-pub refill-returns-in_err-least-clause-continues : goal.refill-returns-in_err-least-clause-continues
-refill-returns-in_err-least-clause-continues t c =
+pub buffered_union::refill-returns-in_err-least-clause-continues : goal.buffered_union::refill-returns-in_err-least-clause-continues
+buffered_union::refill-returns-in_err-least-clause-continues t c =
     let b = c.args.buffered.now in
     let after = c.seek_each.new.parts in
     let items = with_items_is b.parts after (omega arith) in
     let each : AllZip (Left c.args.target) b.parts.items after = rw c.deref_mut.ensures.value at c.seek_each.ensures.each in
     rw items (Continues-parts c.args.target b.parts.items after _ _ each)
 
-pub refill-mark_each-requires : goal.refill-mark_each-requires
-refill-mark_each-requires t c =
+pub buffered_union::refill-mark_each-requires : goal.buffered_union::refill-mark_each-requires
+buffered_union::refill-mark_each-requires t c =
     let b = c.args.buffered.now in
     let after = c.seek_each.new.parts in
     let items = with_items_is b.parts after (omega arith) in
@@ -232,8 +232,8 @@ refill-mark_each-requires t c =
     let less : 8 * heights c.deref_mut-2.result.now + 6 < t = omega (arith, c.decreases, ap heights now, same.height) in
     (less, rw (now, c.at-buffered.ensures.from) (fill_ahead after c.in_ok-least.least c.in_ok-least.ensures.least))
 
-pub refill-returns-clause-now : goal.refill-returns-clause-now
-refill-returns-clause-now t c =
+pub buffered_union::refill-returns-clause-now : goal.buffered_union::refill-returns-clause-now
+buffered_union::refill-returns-clause-now t c =
     let b = c.args.buffered.now in
     let after = c.seek_each.new.parts in
     let last = c.mark_each.new.parts in
@@ -253,8 +253,8 @@ refill-returns-clause-now t c =
     (subst (λ ps. IsBuffered (Some c.in_ok-least.least) w (remains ps)) (sym all)
     (filled_buffered after c.in_ok-least.least least last c.at-buffered.result w c.at-buffered.ensures.from c.at-buffered.ensures.nothing c.mark_each.ensures.place.1 marks marked))
 
-pub refill-returns-clause-continues : goal.refill-returns-clause-continues
-refill-returns-clause-continues t c =
+pub buffered_union::refill-returns-clause-continues : goal.buffered_union::refill-returns-clause-continues
+buffered_union::refill-returns-clause-continues t c =
     let b = c.args.buffered.now in
     let after = c.seek_each.new.parts in
     let last = c.mark_each.new.parts in
@@ -266,8 +266,8 @@ refill-returns-clause-continues t c =
     let sought = Continues-parts c.args.target b.parts.items after (gathered b) [] each in
     rw all (Continues-trans _ _ _ sought (Continues-parts (c.at-buffered.result.last + 1) after last [] _ marks))
 
-pub mark_each-mark_part-requires : goal.mark_each-mark_part-requires
-mark_each-mark_part-requires t c =
+pub buffered_union::mark_each-mark_part-requires : goal.buffered_union::mark_each-mark_part-requires
+buffered_union::mark_each-mark_part-requires t c =
     let h = c.loop-part.invariant in
     let place = c.loop-part.part-index in
     let part = get_or c.loop-part.parts place c.part-item.result in
@@ -276,51 +276,51 @@ mark_each-mark_part-requires t c =
     let less : 8 * part.height + 5 < t = omega (arith, deep, c.decreases) in
     (less, rw (h.up_to.rest place c.part-item.result (omega arith), h.place.0) (c.requires place c.part-item.result inside))
 
-pub mark_each-returns-clause-each : goal.mark_each-returns-clause-each
-mark_each-returns-clause-each t c = UpTo-all (Left (c.args.window.now.last + 1)) c.args.parts.now c.loop-part.parts c.loop-part.part-index c.loop-part.invariant.up_to (omega (arith, c.loop-part.invariant.up_to.size))
+pub buffered_union::mark_each-returns-clause-each : goal.buffered_union::mark_each-returns-clause-each
+buffered_union::mark_each-returns-clause-each t c = UpTo-all (Left (c.args.window.now.last + 1)) c.args.parts.now c.loop-part.parts c.loop-part.part-index c.loop-part.invariant.up_to (omega (arith, c.loop-part.invariant.up_to.size))
 
-pub mark_each-loop-part-preserved : goal.mark_each-loop-part-preserved
-mark_each-loop-part-preserved t c =
+pub buffered_union::mark_each-loop-part-preserved : goal.buffered_union::mark_each-loop-part-preserved
+buffered_union::mark_each-loop-part-preserved t c =
     let h = c.loop-part.invariant in
     let inside : c.loop-part.part-index < length c.loop-part.parts = omega (arith, h.up_to.size) in
     MarkedUpTo-next c.args.parts.now c.loop-part.parts c.args.window.now c.loop-part.window c.loop-part.part-index h c.part-item.result c.mark_part.new.part c.mark_part.new.window inside c.mark_part.ensures.left c.mark_part.ensures.place c.mark_part.ensures.marked
 
-pub mark_each-loop-part-init : goal.mark_each-loop-part-init
-mark_each-loop-part-init t c = MarkedUpTo-none c.args.parts.now c.args.window.now
+pub buffered_union::mark_each-loop-part-init : goal.buffered_union::mark_each-loop-part-init
+buffered_union::mark_each-loop-part-init t c = MarkedUpTo-none c.args.parts.now c.args.window.now
 
-pub mark_any-loop-doc-init : goal.mark_any-loop-doc-init
-mark_any-loop-doc-init t c = record { continues = Continues-same c.args.part.now; marking = IsMarking-none c.args.part.now.remaining c.args.window.now c.requires }
+pub buffered_union::mark_any-loop-doc-init : goal.buffered_union::mark_any-loop-doc-init
+buffered_union::mark_any-loop-doc-init t c = record { continues = Continues-same c.args.part.now; marking = IsMarking-none c.args.part.now.remaining c.args.window.now c.requires }
 
-pub mark_any-mark-requires-clause-low : goal.mark_any-mark-requires-clause-low
-mark_any-mark-requires-clause-low t c =
+pub buffered_union::mark_any-mark-requires-clause-low : goal.buffered_union::mark_any-mark-requires-clause-low
+buffered_union::mark_any-mark-requires-clause-low t c =
     marking_low c.args.part.now.remaining c.loop-doc.part.remaining c.args.window.now c.loop-doc.window c.loop-doc.invariant.marking c.doc.ensures.rises c.in-Some.doc (sym c.in-Some.is ∙ c.doc.ensures.first)
 
-pub mark_any-loop-doc-preserved : goal.mark_any-loop-doc-preserved
-mark_any-loop-doc-preserved t c =
+pub buffered_union::mark_any-loop-doc-preserved : goal.buffered_union::mark_any-loop-doc-preserved
+buffered_union::mark_any-loop-doc-preserved t c =
     record {
       continues = Continues-trans _ _ _ c.loop-doc.invariant.continues c.advance.ensures.walked.continues;
       marking = IsMarking-next c.args.part.now.remaining c.loop-doc.part.remaining c.args.window.now c.loop-doc.window c.loop-doc.invariant.marking c.doc.ensures.rises c.in-Some.doc (sym c.in-Some.is ∙ c.doc.ensures.first) c.if-not-covers.ensures c.advance.new.self.remaining c.mark.new.self c.advance.ensures.remaining c.mark.ensures.place c.mark.ensures.marked;
     }
 
-past : (t : ℕ) (c : goal.mark_any-Then-not-covers t) → c.loop-doc.part.remaining ≡ at_least (c.args.window.now.last + 1) c.loop-doc.part.remaining
+past : (t : ℕ) (c : goal.buffered_union::mark_any-Then-not-covers t) → c.loop-doc.part.remaining ≡ at_least (c.args.window.now.last + 1) c.loop-doc.part.remaining
 past t c = marking_past c.args.part.now.remaining c.loop-doc.part.remaining c.args.window.now c.loop-doc.window c.loop-doc.invariant.marking c.doc.ensures.rises c.in-Some.doc (sym c.in-Some.is ∙ c.doc.ensures.first) c.if-not-covers.ensures
 
-pub mark_any-returns-then-not-covers-clause-left : goal.mark_any-returns-then-not-covers-clause-left
-mark_any-returns-then-not-covers-clause-left t c =
+pub buffered_union::mark_any-returns-then-not-covers-clause-left : goal.buffered_union::mark_any-returns-then-not-covers-clause-left
+buffered_union::mark_any-returns-then-not-covers-clause-left t c =
     record { remaining = marking_left c.args.part.now.remaining c.loop-doc.part.remaining c.args.window.now c.loop-doc.window c.loop-doc.invariant.marking c.doc.ensures.rises (past t c); continues = c.loop-doc.invariant.continues }
 
-pub mark_any-returns-then-not-covers-clause-marked : goal.mark_any-returns-then-not-covers-clause-marked
-mark_any-returns-then-not-covers-clause-marked t c = marking_done c.args.part.now.remaining c.loop-doc.part.remaining c.args.window.now c.loop-doc.window c.loop-doc.invariant.marking c.doc.ensures.rises (past t c)
+pub buffered_union::mark_any-returns-then-not-covers-clause-marked : goal.buffered_union::mark_any-returns-then-not-covers-clause-marked
+buffered_union::mark_any-returns-then-not-covers-clause-marked t c = marking_done c.args.part.now.remaining c.loop-doc.part.remaining c.args.window.now c.loop-doc.window c.loop-doc.invariant.marking c.doc.ensures.rises (past t c)
 
-ended : (t : ℕ) (c : goal.mark_any-In_default t) → c.loop-doc.part.remaining ≡ at_least (c.args.window.now.last + 1) c.loop-doc.part.remaining
+ended : (t : ℕ) (c : goal.buffered_union::mark_any-In_default t) → c.loop-doc.part.remaining ≡ at_least (c.args.window.now.last + 1) c.loop-doc.part.remaining
 ended t c = marking_ended c.loop-doc.part.remaining (c.args.window.now.last + 1) (sym c.in_default.is ∙ c.doc.ensures.first)
 
-pub mark_any-returns-clause-left : goal.mark_any-returns-clause-left
-mark_any-returns-clause-left t c =
+pub buffered_union::mark_any-returns-clause-left : goal.buffered_union::mark_any-returns-clause-left
+buffered_union::mark_any-returns-clause-left t c =
     record { remaining = marking_left c.args.part.now.remaining c.loop-doc.part.remaining c.args.window.now c.loop-doc.window c.loop-doc.invariant.marking c.doc.ensures.rises (ended t c); continues = c.loop-doc.invariant.continues }
 
-pub mark_any-returns-clause-marked : goal.mark_any-returns-clause-marked
-mark_any-returns-clause-marked t c = marking_done c.args.part.now.remaining c.loop-doc.part.remaining c.args.window.now c.loop-doc.window c.loop-doc.invariant.marking c.doc.ensures.rises (ended t c)
+pub buffered_union::mark_any-returns-clause-marked : goal.buffered_union::mark_any-returns-clause-marked
+buffered_union::mark_any-returns-clause-marked t c = marking_done c.args.part.now.remaining c.loop-doc.part.remaining c.args.window.now c.loop-doc.window c.loop-doc.invariant.marking c.doc.ensures.rises (ended t c)
 
 pub skip-gather-requires : goal.skip-gather-requires
 skip-gather-requires t c =
@@ -352,20 +352,20 @@ step-returns-in-Or-clause-now t c =
 pub step-returns-in-Or-clause-walked : goal.step-returns-in-Or-clause-walked
 step-returns-in-Or-clause-walked t c =
     let k = c.gather.ensures.continues in
-    rw c.in-Or.is (record { continues = record { most = k.most; more = k.more; height = k.height }; whole = λ h. h })
+    rw c.in-Or.is (record { continues = record { bound = k.bound; more = k.more; height = k.height }; whole = λ h. h })
 
-pub gather-refill-requires : goal.gather-refill-requires
-gather-refill-requires t c =
+pub buffered_union::gather-refill-requires : goal.buffered_union::gather-refill-requires
+buffered_union::gather-refill-requires t c =
     let less : 8 * heights c.args.buffered.now.parts.items + 7 < t = omega arith in
     (less, nothing_first (found c.seek.new.self) (sym c.in_default.is ∙ c.first.ensures))
 
-pub gather-returns-clause-now : goal.gather-returns-clause-now
-gather-returns-clause-now t c =
+pub buffered_union::gather-returns-clause-now : goal.buffered_union::gather-returns-clause-now
+buffered_union::gather-returns-clause-now t c =
     let b = c.args.buffered.now in
     let none = nothing_first (found c.seek.new.self) (sym c.in_default.is ∙ c.first.ensures) in
     subst (IsNow c.refill.result (Or c.refill.new.buffered)) (gathered_from c.args.target b.window c.seek.new.self (remains b.parts.items) c.seek.ensures.marked none) c.refill.ensures.now
 
-pub gather-returns-clause-continues : goal.gather-returns-clause-continues
-gather-returns-clause-continues t c =
+pub buffered_union::gather-returns-clause-continues : goal.buffered_union::gather-returns-clause-continues
+buffered_union::gather-returns-clause-continues t c =
     let k = c.refill.ensures.continues in
-    record { most = k.most; more = k.more; height = k.height }
+    record { bound = k.bound; more = k.more; height = k.height }

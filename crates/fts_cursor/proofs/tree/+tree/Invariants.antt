@@ -19,65 +19,65 @@ decreases-step l = 8 * (standing l.node.now).height + 1
 abbrev pub decreases-skip : goal.decreases-skip
 decreases-skip l = 8 * (standing l.node.now).height + 1
 
-abbrev pub decreases-align_parts : goal.decreases-align_parts
-decreases-align_parts l = 8 * max l.parts.now.lead.value.height (heights l.parts.now.others.items) + 5
+abbrev pub decreases-intersection::align : goal.decreases-intersection::align
+decreases-intersection::align l = 8 * max l.parts.now.lead.value.height (heights l.parts.now.others.items) + 5
 
-abbrev pub decreases-settle : goal.decreases-settle
-decreases-settle l = 8 * max l.parts.now.kept.value.height l.parts.now.dropped.value.height + 5
+abbrev pub decreases-exclusion::settle : goal.decreases-exclusion::settle
+decreases-exclusion::settle l = 8 * max l.parts.now.kept.value.height l.parts.now.dropped.value.height + 5
 
-abbrev pub decreases-bring_parts : goal.decreases-bring_parts
-decreases-bring_parts l = 8 * heights l.others.now + 3
+abbrev pub decreases-intersection::bring : goal.decreases-intersection::bring
+decreases-intersection::bring l = 8 * heights l.others.now + 3
 
-abbrev pub decreases-seek_each : goal.decreases-seek_each
-decreases-seek_each l = 8 * heights l.parts.now + 3
+abbrev pub decreases-buffered_union::seek_each : goal.decreases-buffered_union::seek_each
+decreases-buffered_union::seek_each l = 8 * heights l.parts.now + 3
 
-abbrev pub invariant-align_parts-loop-doc : goal.invariant-align_parts-loop-doc
-invariant-align_parts-loop-doc l = record {
+abbrev pub invariant-intersection::align-loop-doc : goal.invariant-intersection::align-loop-doc
+invariant-intersection::align-loop-doc l = record {
   same : meet l.parts ≡ meet l.initial.parts;
   continues : Continues (standing (And l.initial.parts)) (standing (And l.parts));
 }
 
-abbrev pub decreases-align_parts-loop-doc : goal.decreases-align_parts-loop-doc
-decreases-align_parts-loop-doc l = length l.parts.lead.value.remaining
+abbrev pub decreases-intersection::align-loop-doc : goal.decreases-intersection::align-loop-doc
+decreases-intersection::align-loop-doc l = length l.parts.lead.value.remaining
 
-abbrev pub invariant-settle-loop-doc : goal.invariant-settle-loop-doc
-invariant-settle-loop-doc l = record {
+abbrev pub invariant-exclusion::settle-loop-doc : goal.invariant-exclusion::settle-loop-doc
+invariant-exclusion::settle-loop-doc l = record {
   same : differ l.parts ≡ differ l.initial.parts;
   continues : Continues (standing (Without l.initial.parts)) (standing (Without l.parts));
 }
 
-abbrev pub decreases-settle-loop-doc : goal.decreases-settle-loop-doc
-decreases-settle-loop-doc l = length l.parts.kept.value.remaining
+abbrev pub decreases-exclusion::settle-loop-doc : goal.decreases-exclusion::settle-loop-doc
+decreases-exclusion::settle-loop-doc l = length l.parts.kept.value.remaining
 
-abbrev pub invariant-bring_parts-loop-other : goal.invariant-bring_parts-loop-other
-invariant-bring_parts-loop-other l = NarrowedUpTo l.doc l.initial.others l.others l.other-index
+abbrev pub invariant-intersection::bring-loop-other : goal.invariant-intersection::bring-loop-other
+invariant-intersection::bring-loop-other l = NarrowedUpTo l.doc l.initial.others l.others l.other-index
 
-abbrev pub invariant-seek_each-loop-part : goal.invariant-seek_each-loop-part
-invariant-seek_each-loop-part l = LeftUpTo l.target l.initial.parts l.parts l.least l.part-index
+abbrev pub invariant-buffered_union::seek_each-loop-part : goal.invariant-buffered_union::seek_each-loop-part
+invariant-buffered_union::seek_each-loop-part l = LeftUpTo l.target l.initial.parts l.parts l.least l.part-index
 
-abbrev pub decreases-gather : goal.decreases-gather
-decreases-gather l = 8 * heights l.buffered.now.parts.items + 8
+abbrev pub decreases-buffered_union::gather : goal.decreases-buffered_union::gather
+decreases-buffered_union::gather l = 8 * heights l.buffered.now.parts.items + 8
 
-abbrev pub decreases-refill : goal.decreases-refill
-decreases-refill l = 8 * heights l.buffered.now.parts.items + 7
+abbrev pub decreases-buffered_union::refill : goal.decreases-buffered_union::refill
+decreases-buffered_union::refill l = 8 * heights l.buffered.now.parts.items + 7
 
-abbrev pub decreases-mark_each : goal.decreases-mark_each
-decreases-mark_each l = 8 * heights l.parts.now + 6
+abbrev pub decreases-buffered_union::mark_each : goal.decreases-buffered_union::mark_each
+decreases-buffered_union::mark_each l = 8 * heights l.parts.now + 6
 
-abbrev pub decreases-mark_part : goal.decreases-mark_part
-decreases-mark_part l = 8 * l.part.now.height + 5
+abbrev pub decreases-buffered_union::mark_part : goal.decreases-buffered_union::mark_part
+decreases-buffered_union::mark_part l = 8 * l.part.now.height + 5
 
-abbrev pub decreases-mark_any : goal.decreases-mark_any
-decreases-mark_any l = 8 * l.part.now.height + 4
+abbrev pub decreases-buffered_union::mark_any : goal.decreases-buffered_union::mark_any
+decreases-buffered_union::mark_any l = 8 * l.part.now.height + 4
 
-abbrev pub invariant-mark_each-loop-part : goal.invariant-mark_each-loop-part
-invariant-mark_each-loop-part l = MarkedUpTo l.initial.parts l.parts l.initial.window l.window l.part-index
+abbrev pub invariant-buffered_union::mark_each-loop-part : goal.invariant-buffered_union::mark_each-loop-part
+invariant-buffered_union::mark_each-loop-part l = MarkedUpTo l.initial.parts l.parts l.initial.window l.window l.part-index
 
-abbrev pub invariant-mark_any-loop-doc : goal.invariant-mark_any-loop-doc
-invariant-mark_any-loop-doc l = record {
+abbrev pub invariant-buffered_union::mark_any-loop-doc : goal.invariant-buffered_union::mark_any-loop-doc
+invariant-buffered_union::mark_any-loop-doc l = record {
   continues : Continues l.initial.part l.part;
   marking : IsMarking l.initial.part.remaining l.part.remaining l.initial.window l.window;
 }
 
-abbrev pub decreases-mark_any-loop-doc : goal.decreases-mark_any-loop-doc
-decreases-mark_any-loop-doc l = length l.part.remaining
+abbrev pub decreases-buffered_union::mark_any-loop-doc : goal.decreases-buffered_union::mark_any-loop-doc
+decreases-buffered_union::mark_any-loop-doc l = length l.part.remaining

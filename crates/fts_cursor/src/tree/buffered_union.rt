@@ -1,0 +1,147 @@
+// What one of several cursors has: the next documents of all are marked in a window, which steps read off.
+ghost use Rattle.std.specs.Prelude.{◌≡◌, ◌+◌, [], All, slice_get};
+ghost use Rattle.std.specs.List.{AllZip};
+ghost use Rattle.std.specs.List.Sorted.{IsStrictlyIncreasing};
+ghost use Rattle.fts_postings.specs.Meeting.{IsLeast, has, in_some, lesser_of, union};
+ghost use Rattle.fts_postings.specs.Posting.{Follows, remaining_of};
+ghost use Rattle.fts_postings.specs.Remaining.{at_least};
+ghost use Rattle.fts_cursor.specs.Standing.{Continues, Left, remains};
+ghost use Rattle.fts_cursor.specs.Trees.{AreBeyond, AreMarked, IsNow, found, gathered, standing};
+
+use crate::tree::{Node, Tree};
+use fts_pack::ListSource;
+use fts_postings::{DocSet, PostingCursor, Window};
+
+// What one of the parts has. The first documents are found already, and all parts stand behind the window of these.
+#[cycle(tree)]
+#[derive(Drop)]
+pub(crate) struct BufferedUnion<'a> {
+    pub(crate) parts: Vec<Tree<'a>>,
+    pub(crate) window: Window,
+}
+
+// Leaves behind what lies before the target, and gives the first document from there on.
+#[cycle(tree)]
+#[inline]
+pub(crate) fn gather(buffered: &mut BufferedUnion, target: u32) -> Option<u32>
+    requires { AreBeyond buffered.old.window (remains buffered.old.parts.items) }
+    ensures now { IsNow result (Node.Or buffered.new) (at_least target (gathered buffered.old)) }
+    ensures continues { Continues (standing (Node.Or buffered.old)) (standing (Node.Or buffered.new)) }
+{
+    buffered.window.seek(target);
+    if let Some(doc) = buffered.window.first() {
+        return Some(doc);
+    }
+    refill(buffered, target)
+}
+
+// Moves a window that has nothing left to the first document from the target on, and fills it.
+#[cycle(tree)]
+pub(crate) fn refill(buffered: &mut BufferedUnion, target: u32) -> Option<u32>
+    requires { found buffered.old.window ≡ [] }
+    ensures now { IsNow result (Node.Or buffered.new)
+        (at_least target (union (remains buffered.old.parts.items))) }
+    ensures continues { Continues (standing (Node.Or buffered.old)) (standing (Node.Or buffered.new)) }
+{
+    // The next search after one that goes far may go as far again, so that takes the one document that it asks for.
+    let reach = if buffered.window.is_near(target) {
+        127
+    } else {
+        0
+    };
+    let least = seek_each(&mut buffered.parts, target)?;
+    buffered.window = Window::at(least, reach);
+    mark_each(&mut buffered.parts, &mut buffered.window);
+    Some(least)
+}
+
+// Leaves behind what lies before the target in each, and gives the first document of all.
+#[cycle(tree)]
+fn seek_each(parts: &mut [Tree], target: u32) -> Option<u32>
+    ensures each { AllZip (Left target) parts.old parts.new }
+    ensures least { IsLeast result (remains parts.new) }
+{
+    let mut least = None;
+    for part in parts.iter_mut() {
+        part.seek(target);
+        if let Some(first) = part.doc() {
+            least = lesser(least, first);
+        }
+    }
+    least
+}
+
+// The lesser of two documents, if there is one.
+fn lesser(a: Option<u32>, b: u32) -> Option<u32>
+    ensures { result ≡ lesser_of a b }
+{
+    match a {
+        Some(a) if a < b => Some(a),
+        _ => Some(b),
+    }
+}
+
+// Marks the documents of each part that lie in the window, and leaves them behind.
+#[cycle(tree)]
+fn mark_each(parts: &mut [Tree], window: &mut Window)
+    requires { All (λ part. part.remaining ≡ at_least window.old.from part.remaining) parts.old }
+    ensures each { AllZip (Left (window.old.last + 1)) parts.old parts.new }
+    ensures place { (window.new.from ≡ window.old.from) × (window.new.last ≡ window.old.last) }
+    ensures marked { AreMarked (in_some (remains parts.old)) window.old window.new }
+{
+    for part in parts.iter_mut() {
+        mark_part(part, window);
+    }
+}
+
+// Marks the documents of a part that lie in the window, and leaves them behind.
+#[cycle(tree)]
+fn mark_part(part: &mut Tree, window: &mut Window)
+    requires { part.old.remaining ≡ at_least window.old.from part.old.remaining }
+    ensures left { Left (window.old.last + 1) part.old part.new }
+    ensures place { (window.new.from ≡ window.old.from) × (window.new.last ≡ window.old.last) }
+    ensures marked { AreMarked (has part.old.remaining) window.old window.new }
+{
+    match &mut part.node {
+        Node::Postings(postings) => part.doc = mark_postings(postings, window),
+        _ => mark_any(part, window),
+    }
+}
+
+// The same, document by document.
+#[cycle(tree)]
+fn mark_any(part: &mut Tree, window: &mut Window)
+    requires { part.old.remaining ≡ at_least window.old.from part.old.remaining }
+    ensures left { Left (window.old.last + 1) part.old part.new }
+    ensures place { (window.new.from ≡ window.old.from) × (window.new.last ≡ window.old.last) }
+    ensures marked { AreMarked (has part.old.remaining) window.old window.new }
+{
+    while let Some(doc) = part.doc() {
+        if !window.covers(doc) {
+            return;
+        }
+        window.mark(doc);
+        part.advance();
+    }
+}
+
+// The same for a list, with no choice between cursors a document. Gives the first document behind the window.
+fn mark_postings(postings: &mut PostingCursor<ListSource>, window: &mut Window) -> Option<u32>
+    requires { remaining_of postings.old ≡ at_least window.old.from (remaining_of postings.old) }
+    ensures remaining { remaining_of postings.new
+        ≡ at_least (window.old.last + 1) (remaining_of postings.old) }
+    ensures follows { Follows postings.old postings.new }
+    ensures first { result ≡ slice_get (remaining_of postings.new) 0 }
+    ensures rises { IsStrictlyIncreasing (remaining_of postings.new) }
+    ensures place { (window.new.from ≡ window.old.from) × (window.new.last ≡ window.old.last) }
+    ensures marked { AreMarked (has (remaining_of postings.old)) window.old window.new }
+{
+    while let Some(doc) = postings.doc() {
+        if !window.covers(doc) {
+            return Some(doc);
+        }
+        window.mark(doc);
+        postings.advance();
+    }
+    None
+}
