@@ -1,2 +1,1 @@
-pub mod ParseLemmas
-pub mod RangeLemmas
+pub mod StatusLemmas
