@@ -2,7 +2,7 @@
 use crate::script::Script;
 use cases::Trouble;
 use fts_engine::IndexEngine;
-use fts_script::{Cut, Engine, ListEngine, Merge, Options, run_std};
+use fts_script::{Cut, Engine, ListEngine, Merge, Options, Plain, Streams, run_script};
 use std::alloc::Global;
 use std::sync::Wait;
 use std::thread::Threads;
@@ -38,11 +38,15 @@ fn run<E: Engine>(
     options: Options,
 ) -> Result<Option<String>, Trouble> {
     let alloc = rt.alloc();
-    let (outcome, _, written) = run_std::<E, _, _>(rt, input.as_bytes(), Vec::new(alloc), options);
+    let mut streams = Streams {
+        reader: Plain::new(input.as_bytes()),
+        writer: Plain::new(Vec::new(alloc)),
+    };
+    let outcome = run_script::<E, _, _>(rt, &mut streams, options);
     if outcome.is_err() {
         return Ok(Some(format!(in alloc; "ended by {outcome:?} at {options:?}")?));
     }
-    let given = written.into_inner();
+    let given = streams.writer.into_inner();
     if given.as_slice() == wanted.as_bytes() {
         return Ok(None);
     }

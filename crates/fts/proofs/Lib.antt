@@ -1,2 +1,3 @@
 pub mod ParseLemmas
 pub mod RangeLemmas
+pub mod StatusLemmas

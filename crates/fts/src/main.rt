@@ -1,9 +1,10 @@
 // Runs a script of an index over standard input and standard output.
 #![tactic(auto)]
 
-ghost use Rattle.std.specs.Prelude.{◌≡◌, ◌≢◌, ◌<◌};
-ghost use Rattle.fts_script.specs.Outputs.{output};
-ghost use Rattle.fts_script.specs.Runs.{BeginsOutputUnless};
+ghost use Rattle.std.specs.Prelude.{◌≡◌, ◌≢◌, ◌⊎◌};
+ghost use Rattle.fts_script.specs.Runs.{FailsRead, FailsWrite, Flushes, ReadsTooMuch, StopsInLastRead, TellsEnd};
+ghost use Rattle.fts_script.specs.Runs.{WritesBeginning, WritesEnded, WritesOutput};
+ghost use Rattle.fts.specs.Arguments.{run_status_of};
 
 mod cli;
 mod laws;
@@ -11,7 +12,7 @@ mod laws;
 use cli::args::{ArgFault, Asked, args};
 use cli::status::{arg_status, run_status, status};
 use fts_engine::IndexEngine;
-use fts_script::{Fault, Options, Plain, run_std};
+use fts_script::{Fault, Options, Plain, Streams, run_script};
 use std::env::Env;
 use std::io::{Eprint, Stdin, Stdout};
 use std::process::ExitCode;
@@ -33,32 +34,41 @@ fn asked(rt: &(impl Env + AllocGlobal)) -> Result<Asked, ArgFault> {
 
 /// Runs the script over the standard streams, which buffer nothing: the run reads and writes in blocks.
 ///
-/// The exit status, and the streams with the bytes that were read and written.
+/// The exit status, and the outcome that it stands for.
 fn run_standard(
     rt: &(impl AllocGlobal + Threads + Wait + Sync + Eprint),
-    stdin: Stdin,
-    stdout: Stdout,
+    streams: &mut Streams<Plain<Stdin>, Plain<Stdout>>,
     options: Options,
-) -> (u8, Plain<Stdin>, Plain<Stdout>)
-    // At status 0, what was written is the output of all that was read, and it was flushed.
-    ensures ok { result.0 ≡ 0 → result.2.moved.bytes ≡ output result.1.moved.bytes }
-    ensures end { result.0 ≡ 0 → 0 < result.1.ends }
-    ensures flushed { result.0 ≡ 0 → 0 < result.2.flushes }
+) -> (u8, Result<(), Fault>)
+    // 0 where the run came to its end, 3 for want of memory, 4 for a stream that failed, 5 for stamps that are used up
+    ensures status { result.0 ≡ run_status_of result.1 }
 
-    // At any other, it is a beginning of the output, however the input goes on, if it goes on.
-    ensures stopped { result.0 ≢ 0 →
-        BeginsOutputUnless (0 < result.1.ends) result.1.moved.bytes result.2.moved.bytes }
+    ensures ok { result.0 ≡ 0 → WritesOutput streams.old streams.new }
+    ensures end { result.0 ≡ 0 → TellsEnd streams.old streams.new }
+    ensures flushed { result.0 ≡ 0 → Flushes streams.old streams.new }
+
+    ensures stopped { result.0 ≢ 0 → WritesBeginning streams.old streams.new }
+    ensures memory { result.0 ≡ 3 → StopsInLastRead streams.old streams.new }
+    ensures failed { result.0 ≡ 4 → FailsWrite streams.old streams.new
+        ⊎ (FailsRead streams.old streams.new × WritesEnded streams.old streams.new) }
+    ensures used_up { result.0 ≡ 5 → ReadsTooMuch streams.old streams.new }
 {
-    let (outcome, reader, writer) = run_std::<IndexEngine, _, _>(rt, stdin, stdout, options);
+    let outcome = run_script::<IndexEngine, _, _>(rt, streams, options);
     if let Err(fault) = &outcome {
         let _ = rt.eprintln(format_args!("fts: {fault}"));
     }
-    (run_status(&outcome), reader, writer)
+    (run_status(&outcome), outcome)
 }
 
 fn main(rt: HostRuntime) -> ExitCode {
     ExitCode::from(match asked(&rt) {
-        Ok(Asked::Run(options)) => run_standard(&rt, rt.stdin(), rt.stdout(), options).0,
+        Ok(Asked::Run(options)) => {
+            let mut streams = Streams {
+                reader: Plain::new(rt.stdin()),
+                writer: Plain::new(rt.stdout()),
+            };
+            run_standard(&rt, &mut streams, options).0
+        }
         Ok(Asked::Help(text)) => match rt.print(text) {
             Ok(()) => 0,
             Err(_) => status(&Fault::Write),

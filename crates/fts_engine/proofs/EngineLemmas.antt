@@ -9,9 +9,9 @@ use Rattle.fts_model.specs.Operations.{op_fits}
 use Rattle.fts_snapshots.specs.Commits.{misfit}
 use Rattle.fts_index.specs.Publications.{Known}
 use Rattle.fts_index.specs.Writers.{WriterValue}
-use Rattle.fts_engine.specs.declared.waiting.Waiting.{Waiting}
-use Rattle.fts_engine.specs.declared.waiting.Waiting.TheVariants.{Nothing}
-use Rattle.fts_engine.specs.WaitingOperations.{ops_of, WaitsFor, Submits}
+use Rattle.fts_engine.specs.declared.uncommitted.Uncommitted.{Uncommitted}
+use Rattle.fts_engine.specs.declared.uncommitted.Uncommitted.TheVariants.{Nothing}
+use Rattle.fts_engine.specs.UncommittedOperations.{ops_of, IsUncommittedIn, Submits}
 use Rattle.fts_engine.specs.WriterIndexes.{Commits, Merges, IsReaderOf, IsIndexEngine, segments_of}
 
 misfit-push : (schema : List Field) (ops : List (Stamped Op)) (op : Stamped Op) → misfit schema ops ≡ None → op_fits schema op.value ≡ true → misfit schema (ops ++ op ∷ []) ≡ None
@@ -25,7 +25,7 @@ pub opened : (w : WriterValue) (reader : Option Known) → IsReaderOf w.front.se
 opened w reader reads stamp entries next rounds round =
     let none : length w.front.snapshot.entries ≡ 0 = ap length entries in
     record {
-      waits = round;
+      its = round;
       reads = reads;
       counted = refl;
       fit = refl;
@@ -36,10 +36,10 @@ opened w reader reads stamp entries next rounds round =
       room = omega arith;
     }
 
--- one more operation waits
-pub submitted : (old new : WriterValue) (reader : Option Known) (before after : Waiting) (pending calls stamp : ℕ) (op : Op) → IsIndexEngine old reader before pending calls → new.front ≡ old.front → new.rounds ≤ old.rounds + 1 →
-    WaitsFor new after → Submits (old.front.stamp + 1) op (ops_of before) (ops_of after) (Ok stamp) → op_fits old.front.snapshot.schema op ≡ true → IsIndexEngine new reader after (pending + 1) (calls + 1)
-submitted old new reader before after pending calls stamp op i front rounds waits submits fits =
+-- one more uncommitted operation
+pub submitted : (old new : WriterValue) (reader : Option Known) (before after : Uncommitted) (pending calls stamp : ℕ) (op : Op) → IsIndexEngine old reader before pending calls → new.front ≡ old.front → new.rounds ≤ old.rounds + 1 →
+    IsUncommittedIn new after → Submits (old.front.stamp + 1) op (ops_of before) (ops_of after) (Ok stamp) → op_fits old.front.snapshot.schema op ≡ true → IsIndexEngine new reader after (pending + 1) (calls + 1)
+submitted old new reader before after pending calls stamp op i front rounds uncommitted submits fits =
     let one : Stamped Op = record { stamp = stamp; value = op } in
     let more : length (ops_of after) ≡ length (ops_of before) + 1 = ap length submits.1 ∙ length-append (ops_of before) (one ∷ []) in
     let same_stamp : new.front.stamp ≡ old.front.stamp = ap (λ f. f.stamp) front in
@@ -47,7 +47,7 @@ submitted old new reader before after pending calls stamp op i front rounds wait
     let same_entries : length new.front.snapshot.entries ≡ length old.front.snapshot.entries = ap (λ f. length f.snapshot.entries) front in
     let same_next : new.front.snapshot.next_id ≡ old.front.snapshot.next_id = ap (λ f. f.snapshot.next_id) front in
     record {
-      waits = waits;
+      its = uncommitted;
       reads = λ known is. i.reads known is ∙ ap (λ f. f.seen.of) (sym front);
       counted = omega (arith, more, i.counted);
       fit = subst (λ f. misfit f.snapshot.schema (ops_of after) ≡ None) (sym front)

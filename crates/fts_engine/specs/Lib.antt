@@ -1,2 +1,2 @@
-pub mod WaitingOperations
+pub mod UncommittedOperations
 pub mod WriterIndexes

@@ -1,4 +1,4 @@
--- An index over a writer of segments, and the operations that wait for its next commit.
+-- An index over a writer of segments and uncommitted operations.
 use Rattle.std.specs.Prelude.{◌≡◌, Bool, ℕ, ◌+◌, ◌*◌, ◌^◌, ◌<◌, ◌≤◌, Option, Some, None, List, ◌++◌, length}
 use Rattle.fts_model.specs.declared.operation.Op.{Op}
 use Rattle.fts_model.specs.declared.operation.Stamped.{Stamped}
@@ -9,16 +9,16 @@ use Rattle.fts_snapshots.specs.declared.entry.SegmentInfo.{SegmentInfo}
 use Rattle.fts_index.specs.Publications.{Known}
 use Rattle.fts_index.specs.Writers.{WriterValue}
 use Rattle.fts_script.specs.Indexes.{Index}
-use Rattle.fts_engine.specs.declared.waiting.Waiting.{Waiting}
-use Rattle.fts_engine.specs.WaitingOperations.{ops_of, WaitsFor}
+use Rattle.fts_engine.specs.declared.uncommitted.Uncommitted.{Uncommitted}
+use Rattle.fts_engine.specs.UncommittedOperations.{ops_of, IsUncommittedIn}
 
--- what a writer stands for, with the operations that wait
-abbrev pub index_of : WriterValue → Waiting → Index
-index_of w waiting = record {
+-- what a writer stands for, with the uncommitted operations
+abbrev pub index_of : WriterValue → Uncommitted → Index
+index_of w uncommitted = record {
   schema = w.front.snapshot.schema;
   documents = content_of w.front.snapshot;
   commit_stamp = w.front.stamp;
-  pending = ops_of waiting;
+  pending = ops_of uncommitted;
 }
 
 -- how many segments there are, and how many numbers were given to segments, together
@@ -28,7 +28,8 @@ segments_of w = w.front.snapshot.next_id + length w.front.snapshot.entries
 -- A writer committed these operations. Each of them made one segment at most.
 pub record Commits (ops : List (Stamped Op)) (old new : WriterValue) : Type 0 where
   pub schema : new.front.snapshot.schema ≡ old.front.snapshot.schema
-  pub documents : content_of new.front.snapshot ≡ alive old.front.snapshot.schema (adds (content_of old.front.snapshot) ++ ops)
+  pub documents : content_of new.front.snapshot
+      ≡ alive old.front.snapshot.schema (adds (content_of old.front.snapshot) ++ ops)
   pub stamp : new.front.stamp ≡ old.front.stamp + length ops + 1
   pub of : new.front.seen.of ≡ old.front.seen.of
   pub segments : segments_of new ≤ segments_of old + 2 * length ops
@@ -49,19 +50,22 @@ pub record Merges (more : ℕ) (old new : WriterValue) : Type 0 where
 abbrev pub IsReaderOf : Known → Option Known → Type 0
 IsReaderOf seen reader = (known : Known) → reader ≡ Some known → known.of ≡ seen.of
 
--- What holds of an engine after so many calls that changed it. A call takes one stamp, opens one round and gives two numbers of segments at most.
-pub record IsIndexEngine (w : WriterValue) (reader : Option Known) (waiting : Waiting) (pending calls : ℕ) : Type 0 where
-  pub waits : WaitsFor w waiting
+-- What holds of an engine after so many calls that changed it. A call takes one stamp, opens one round and gives two
+-- numbers of segments at most.
+pub record IsIndexEngine (w : WriterValue) (reader : Option Known) (uncommitted : Uncommitted) (pending calls : ℕ)
+    : Type 0 where
+  pub its : IsUncommittedIn w uncommitted
   pub reads : IsReaderOf w.front.seen reader
-  pub counted : pending ≡ length (ops_of waiting)
-  pub fit : misfit w.front.snapshot.schema (ops_of waiting) ≡ None
+  pub counted : pending ≡ length (ops_of uncommitted)
+  pub fit : misfit w.front.snapshot.schema (ops_of uncommitted) ≡ None
   pub stamps : w.front.stamp + pending ≤ calls
   pub rounds : w.rounds ≤ calls
   pub segments : segments_of w + 2 * pending ≤ 2 * calls
   pub spare : 0 < length w.front.snapshot.entries → segments_of w + 2 * pending < 2 * calls
   pub room : w.front.snapshot.next_id ≤ 2 ^ 62
 
--- an engine: what it stands for, how many calls changed it, and what no reply shows: its segments, and whether it has a reader
+-- an engine: what it stands for, how many calls changed it, and what no reply shows: its segments, and whether it has
+-- a reader
 pub record EngineValue : Type 0 where
   pub index : Index
   pub calls : ℕ

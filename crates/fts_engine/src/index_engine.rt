@@ -4,8 +4,8 @@ ghost use Rattle.fts_index.specs.Publications.{IsOneCommit};
 ghost use Rattle.fts_engine.specs.WriterIndexes.{IsReaderOf};
 
 use crate::segments::merge_all;
-use crate::waiting;
-use crate::waiting::Waiting;
+use crate::uncommitted;
+use crate::uncommitted::Uncommitted;
 use fts_index::{CommitSeen, Reader, Searcher, SegmentInfo, Writer};
 use fts_model::{Answer, Op, Query, Refusal, Request, Schema, Stamp};
 use fts_pool::Open;
@@ -59,8 +59,8 @@ pub struct IndexEngine {
     writer: Writer,
     /// Finds the commit that is searched.
     reader: Option<Reader>,
-    waiting: Waiting,
-    /// How many operations wait.
+    uncommitted: Uncommitted,
+    /// How many operations are uncommitted.
     pending: u64,
     /// How many calls changed something.
     calls: u64,
@@ -74,13 +74,13 @@ impl Model for IndexEngine {
     ghost Value = { EngineValue };
 
     ghost view = { λ e. record {
-      index = index_of e.writer e.waiting;
+      index = index_of e.writer e.uncommitted;
       calls = e.calls;
       segments = map info_of e.writer.front.snapshot.entries;
       has_reader = is_some e.reader;
     } };
 
-    ghost invariant = { λ e. IsIndexEngine e.writer e.reader e.waiting e.pending e.calls };
+    ghost invariant = { λ e. IsIndexEngine e.writer e.reader e.uncommitted e.pending e.calls };
 }
 
 impl IndexEngine {
@@ -118,7 +118,7 @@ impl Engine for IndexEngine {
             options,
             writer,
             reader,
-            waiting: Waiting::Nothing,
+            uncommitted: Uncommitted::Nothing,
             pending: 0,
             calls: 0,
         })
@@ -138,7 +138,7 @@ impl Engine for IndexEngine {
 
     fn submit(&mut self, op: Op) -> Result<Stamp, Refusal> {
         self.calls += 1;
-        let stamp = waiting::submit(self.alloc, &mut self.writer, &mut self.waiting, op)?;
+        let stamp = uncommitted::submit(self.alloc, &mut self.writer, &mut self.uncommitted, op)?;
         self.pending += 1;
         Ok(stamp)
     }
@@ -147,7 +147,13 @@ impl Engine for IndexEngine {
         self.calls += 1;
         let alloc = self.alloc;
         let options = self.options;
-        let committed = waiting::commit(rt, alloc, &mut self.writer, &mut self.waiting, options)?;
+        let committed = uncommitted::commit_and_merge(
+            rt,
+            alloc,
+            &mut self.writer,
+            &mut self.uncommitted,
+            options,
+        )?;
         self.pending = 0;
         tell(&mut self.reader, &committed.seen);
         Ok(committed.stamp)
@@ -158,7 +164,7 @@ impl Engine for IndexEngine {
         _rt: &(impl AllocGlobal + Threads + Wait + Sync),
     ) -> Result<Stamp, Refusal> {
         self.calls += 1;
-        self.waiting = Waiting::Nothing;
+        self.uncommitted = Uncommitted::Nothing;
         self.pending = 0;
         Ok(self.writer.abandon())
     }
@@ -186,7 +192,7 @@ impl Engine for IndexEngine {
             options: _,
             writer,
             reader,
-            waiting: _,
+            uncommitted: _,
             pending: _,
             calls: _,
         } = self;

@@ -1,5 +1,6 @@
 // Merges of the segments of a writer.
-ghost use Rattle.std.specs.Prelude.{◌≡◌, ◌+◌, ◌^◌, ◌<◌, ◌≤◌, ◌⊎◌, length, map, sum_by, MatchOption, IfOk, IfErr, OnOk, OnErr};
+ghost use Rattle.std.specs.Prelude.{◌≡◌, ◌+◌, ◌^◌, ◌<◌, ◌≤◌, ◌⊎◌, length};
+ghost use Rattle.std.specs.Prelude.{map, sum_by, MatchOption, IfOk, IfErr, OnOk, OnErr};
 ghost use Rattle.fts_snapshots.specs.Entries.{live_count};
 ghost use Rattle.fts_snapshots.specs.Snapshots.{content_of};
 ghost use Rattle.fts_engine.specs.WriterIndexes.{Merges};

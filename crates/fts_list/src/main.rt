@@ -1,17 +1,15 @@
 // Runs a script over standard input and standard output and a plain list of documents: what the index is compared with.
 #![tactic(auto)]
 
-use fts_script::{ListEngine, Options, run_std};
+use fts_script::{ListEngine, Options, Plain, Streams, run_script};
 use std::process::ExitCode;
 
 fn main(rt: HostRuntime) -> ExitCode {
-    let (outcome, _, _) = run_std::<ListEngine, _, _>(
-        &rt,
-        rt.stdin(),
-        rt.stdout(),
-        Options::default(),
-    );
-    match outcome {
+    let mut streams = Streams {
+        reader: Plain::new(rt.stdin()),
+        writer: Plain::new(rt.stdout()),
+    };
+    match run_script::<ListEngine, _, _>(&rt, &mut streams, Options::default()) {
         Ok(()) => ExitCode::SUCCESS,
         Err(_) => ExitCode::FAILURE,
     }

@@ -16,7 +16,8 @@ use Rattle.fts_script.specs.Replies.{execute, execute_line, reply_on, carried_ov
 use Rattle.fts_model.specs.Results.{result_and_then}
 use Rattle.fts_script.specs.Outputs.{SessionValue, after_line, reply_to}
 use Rattle.fts_script.specs.Indexes.{Index, indexes}
-use Rattle.fts_script.specs.Runs.{Holds, Indented, IsWritten}
+use Rattle.fts_script.specs.Stops.{IsWritten}
+use Rattle.fts_script.specs.Responders.{Holds, Indented}
 use Rattle.fts_script.proofs.LineLemmas.{not_lf}
 
 -- what holds of each white byte

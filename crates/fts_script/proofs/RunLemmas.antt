@@ -3,10 +3,12 @@ use Rattle.std.proofs.Common.{inl, ltb, lt-ltb, IfOk, Result, Ok, Err, OnErr, On
 use Rattle.std.proofs.lemmas.List.{take_all, length-drop, length-append, length-take-le, nil_from_length}
 use Rattle.std.proofs.Math.Seq.{take-add}
 use Rattle.fts_script.specs.declared.lines.PartialLine.{PartialLine}
-use Rattle.fts_script.specs.Streams.{Transferred, Wrote}
+use Rattle.fts_script.specs.Streams.{StreamsValue, Wrote}
+use Rattle.fts_script.specs.Runs.{StopsInLastRead}
 use Rattle.fts_script.specs.Text.{is_blank, lines_of, IsWhole, HasNoEnd}
 use Rattle.fts_script.specs.Outputs.{SessionValue, start, after_line, reply_to, replies, after_lines, output}
-use Rattle.fts_script.specs.Runs.{Holds, Answered, AnswersFirst, AnswersEnded, BeginsOutput, BeginsOutputUnless, BeginsWith, Finishes, IsWritten, Advances, AdvancesFirst, AdvancesToStop, RunState, StopsFirst}
+use Rattle.fts_script.specs.Stops.{AnswersFirst, AnswersEnded, BeginsOutput, BeginsOutputUnless, BeginsWith, IsWritten, StopsFirst}
+use Rattle.fts_script.specs.Responders.{Holds, Answered, Finishes, Advances, AdvancesFirst, AdvancesToStop, RunState}
 use Rattle.fts_script.proofs.BlankLemmas.{Holds-length, Holds-nothing-short, IsWritten-front}
 use Rattle.fts_script.proofs.StreamLemmas.{append_more}
 use Rattle.fts_script.proofs.LineLemmas.{lines_of-append, lines_of-ended, lines_of-unended, HasNoEnd-append, HasNoEnd-late, HasNoEnd-shorter, IsWhole-ended}
@@ -231,15 +233,22 @@ pub Wrote-latest : (P : ℕ → List ℕ → List ℕ → Type 0) (before now in
 Wrote-latest P before now input bytes latest e w = subst (λ v. Wrote before now (P (length v) input)) (sym e) w
 
 -- before the first read
-pub Transferred-none : (given taken : List ℕ) (n : ℕ) → Transferred given given taken taken (StopsFirst n)
-Transferred-none given taken n = record {
+pub StopsInLastRead-none : (streams : StreamsValue) → StopsInLastRead streams streams
+StopsInLastRead-none streams = record {
   input = [];
-  read = sym (append-nil given);
+  read = sym (append-nil streams.given);
   wrote = record {
     bytes = [];
-    taken = sym (append-nil taken);
+    taken = sym (append-nil streams.taken);
     so = (
-      record { done = []; rest = []; split = refl; whole = inl refl; replied = refl; late = HasNoEnd-late [] [] n (omega arith) tt },
+      record {
+        done = [];
+        rest = [];
+        split = refl;
+        whole = inl refl;
+        replied = refl;
+        late = HasNoEnd-late [] [] (length streams.latest) (omega arith) tt;
+      },
       λ some. absurd (some refl),
     );
   };
@@ -427,14 +436,3 @@ counted_end e h n m z room k =
 -- so many bytes were read
 pub length_more : (input buffer : List ℕ) (n m : ℕ) → n ≤ length buffer → m ≡ length input → m + n ≡ length (input ++ take n buffer)
 length_more input buffer n m h e = omega (arith, length-append input (take n buffer), length-take-le n buffer h)
-
--- the streams of a run that has just begun
-pub from_none : (P : List ℕ → List ℕ → Type 0) (a b c d : List ℕ) → a ≡ [] → c ≡ [] → Transferred a b c d P → P b d
-from_none P a b c d unread unwritten t =
-    subst (λ v. P v d) (sym (t.read ∙ ap (λ v. v ++ t.input) unread))
-    (subst (P t.input) (sym (t.wrote.taken ∙ ap (λ v. v ++ t.wrote.bytes) unwritten)) t.wrote.so)
-
-pub begins_from_none : (a b c d : List ℕ) (m n : ℕ) → a ≡ [] → c ≡ [] → m ≡ 0 →
-    Transferred a b c d (BeginsOutputUnless (m < n)) → BeginsOutputUnless (0 < n) b d
-begins_from_none a b c d m n unread unwritten none t = λ more only.
-    from_none (BeginsOutputUnless (m < n)) a b c d unread unwritten t more (λ told. only (omega (arith, none, told)))

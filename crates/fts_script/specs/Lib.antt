@@ -9,8 +9,10 @@ pub mod ListIndexes
 pub mod Lists
 pub mod Outputs
 pub mod Replies
+pub mod Responders
 pub mod Runs
 pub mod Sessions
 pub mod Steps
+pub mod Stops
 pub mod Streams
 pub mod Text

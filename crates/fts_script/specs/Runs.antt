@@ -1,91 +1,55 @@
--- How far a run has come.
-use Rattle.std.specs.Prelude.{ℕ, ◌≡◌, ◌≢◌, ◌<◌, ◌-◌, Bool, true, false, List, [], ◌∷◌, ◌++◌, length, take, None, Some}
-use Rattle.fts_script.specs.Text.{lines_of, is_blank, IsWhole, HasNoEnd}
-use Rattle.fts_script.specs.Commands.{longest}
-use Rattle.fts_script.specs.Outputs.{SessionValue, start, after_lines, output}
-use Rattle.fts_script.specs.declared.lines.PartialLine.{PartialLine}
+-- What a run did to its streams: each tells one thing of the streams before it and after it.
+use Rattle.std.specs.Prelude.{ℕ, ◌≡◌, ◌<◌, ◌^◌, List, ◌++◌, length}
+use Rattle.fts_script.specs.Streams.{StreamsValue, Wrote, LosesGiven, GainsTaken}
+use Rattle.fts_script.specs.Outputs.{output}
+use Rattle.fts_script.specs.Stops.{AnswersEnded, AnswersFirst, BeginsOutputUnless, StopsFirst}
 
--- xs begins with front
-abbrev pub BeginsWith : List ℕ → List ℕ → Type 0
-BeginsWith xs front = (rest : List ℕ) × (xs ≡ front ++ rest)
+-- What the run read, and what it wrote, are so.
+pub record Moves (old new : StreamsValue) (P : List ℕ → List ℕ → Type 0) : Type 0 where
+  pub input : List ℕ
+  pub read : new.given ≡ old.given ++ input
+  pub wrote : Wrote old.taken new.taken (P input)
 
--- a beginning of the output, however the input goes on
-abbrev pub BeginsOutput : List ℕ → List ℕ → Type 0
-BeginsOutput input out = (more : List ℕ) → BeginsWith (output (input ++ more)) out
+-- A read told the end of the input.
+abbrev pub TellsEnd : StreamsValue → StreamsValue → Type 0
+TellsEnd old new = old.ends < new.ends
 
--- the same; if the input has ended, it doesn't go on
-abbrev pub BeginsOutputUnless : Type 0 → List ℕ → List ℕ → Type 0
-BeginsOutputUnless ended input out = (more : List ℕ) → (ended → more ≡ []) → BeginsWith (output (input ++ more)) out
+-- The writer was flushed.
+abbrev pub Flushes : StreamsValue → StreamsValue → Type 0
+Flushes old new = old.flushes < new.flushes
 
--- the replies to the first lines of the input, to each at least that ended before the last n bytes
-pub record AnswersFirst (n : ℕ) (input out : List ℕ) : Type 0 where
-  pub done : List ℕ
-  pub rest : List ℕ
-  pub split : input ≡ done ++ rest
-  pub whole : IsWhole done
-  pub replied : out ≡ output done
-  pub late : HasNoEnd (take (length rest - n) rest)
+-- A read failed.
+abbrev pub FailsRead : StreamsValue → StreamsValue → Type 0
+FailsRead old new = old.failed_reads < new.failed_reads
 
--- there is a first line, and it isn't blank
-abbrev pub IsWritten : List (List ℕ) → Type 0
-IsWritten [] = ⊥
-IsWritten (line ∷ lines) = is_blank line ≡ false
+-- A write or a flush failed.
+abbrev pub FailsWrite : StreamsValue → StreamsValue → Type 0
+FailsWrite old new = old.failed_writes < new.failed_writes
 
--- the same, and what isn't answered begins with a line that isn't blank, unless there was no input
-abbrev pub StopsFirst : ℕ → List ℕ → List ℕ → Type 0
-StopsFirst n input out = (first : AnswersFirst n input out) × (input ≢ [] → IsWritten (lines_of first.rest))
+-- What was read is what the reader lost of the bytes that it tells.
+abbrev pub LosesRead : StreamsValue → StreamsValue → Type 0
+LosesRead old new = LosesGiven old.given new.given old.remaining new.remaining
 
--- the replies to all lines that have ended
-pub record AnswersEnded (input out : List ℕ) : Type 0 where
-  pub done : List ℕ
-  pub line : List ℕ
-  pub split : input ≡ done ++ line
-  pub whole : IsWhole done
-  pub unended : HasNoEnd line
-  pub replied : out ≡ output done
+-- What was written is what the writer gained of the bytes that it tells.
+abbrev pub GainsWritten : StreamsValue → StreamsValue → Type 0
+GainsWritten old new = GainsTaken old.taken new.taken old.held new.held
 
--- a line of so many spaces, tabs and CRs, and then these bytes
-pub record Indented (count : ℕ) (bytes line : List ℕ) : Type 0 where
-  pub white : List ℕ
-  pub blank : is_blank white ≡ true
-  pub counted : length white ≡ count
-  pub split : line ≡ white ++ bytes
+-- What was written is the output of what was read.
+abbrev pub WritesOutput : StreamsValue → StreamsValue → Type 0
+WritesOutput old new = Moves old new (λ input out. out ≡ output input)
 
--- the beginning of a line is held: how much white space it begins with and the bytes behind it, or of one that is too
--- long whether it is blank
-pub record Holds (p : PartialLine) (line : List ℕ) : Type 0 where
-  pub kept : p.too_long ≡ None → Indented p.white p.bytes.items line
-  pub too_long : (blank : Bool) → p.too_long ≡ Some blank → (longest < length line) × (blank ≡ is_blank line)
+-- It is a beginning of the output, however the input goes on, if it goes on.
+abbrev pub WritesBeginning : StreamsValue → StreamsValue → Type 0
+WritesBeginning old new = Moves old new (BeginsOutputUnless (TellsEnd old new))
 
--- After this input the lines that have ended were answered by `out`, and the rest of it is the line in hand.
-pub record Answered (s : SessionValue) (p : PartialLine) (input out : List ℕ) : Type 0 where
-  pub done : List ℕ
-  pub line : List ℕ
-  pub split : input ≡ done ++ line
-  pub whole : IsWhole done
-  pub unended : HasNoEnd line
-  pub script : s ≡ after_lines start (lines_of done)
-  pub holds : Holds p line
-  pub replied : out ≡ output done
+-- It is the replies to first lines, to all at least that ended before the last read, and the next line isn't blank.
+abbrev pub StopsInLastRead : StreamsValue → StreamsValue → Type 0
+StopsInLastRead old new = Moves old new (StopsFirst (length new.latest))
 
--- These bytes lead from one state to another, while the replies that wait grow from `a` to `b`.
-pub record Advances (s t : SessionValue) (p q : PartialLine) (bytes a b : List ℕ) : Type 0 where
-  pub leads : (input out : List ℕ) → Answered s p input (out ++ a) → Answered t q (input ++ bytes) (out ++ b)
+-- It is the replies to all lines that ended.
+abbrev pub WritesEnded : StreamsValue → StreamsValue → Type 0
+WritesEnded old new = Moves old new AnswersEnded
 
--- The lines that had ended before these bytes are answered, and some first lines that end in them.
-pub record AdvancesFirst (s : SessionValue) (p : PartialLine) (bytes a b : List ℕ) : Type 0 where
-  pub leads : (input out : List ℕ) → Answered s p input (out ++ a) → AnswersFirst (length bytes) (input ++ bytes) (out ++ b)
-
--- The same, and memory ran out at a line that isn't blank.
-pub record AdvancesToStop (s : SessionValue) (p : PartialLine) (bytes a b : List ℕ) : Type 0 where
-  pub leads : (input out : List ℕ) → Answered s p input (out ++ a) → StopsFirst (length bytes) (input ++ bytes) (out ++ b)
-
--- With these replies all of the input is answered, if it ends here.
-pub record Finishes (s : SessionValue) (p : PartialLine) (replies : List ℕ) : Type 0 where
-  pub ends : (input out : List ℕ) → Answered s p input out → out ++ replies ≡ output input
-
--- The same of what is written: no reply waits.
-pub record RunState (before now : List ℕ) (s : SessionValue) (p : PartialLine) (input : List ℕ) : Type 0 where
-  pub out : List ℕ
-  pub taken : now ≡ before ++ out
-  pub answered : Answered s p input out
+-- Over 2^61 bytes were read; what was written is the replies to first lines, to all at least that ended before the last read.
+abbrev pub ReadsTooMuch : StreamsValue → StreamsValue → Type 0
+ReadsTooMuch old new = Moves old new (λ input out. AnswersFirst (length new.latest) input out × (2 ^ 61 < length input))

@@ -1,4 +1,4 @@
--- What the result of a call says of a stream, and what a run read and wrote.
+-- What a script reads from and writes to, and what the result of a call says of it.
 use Rattle.std.specs.Prelude.{ℕ, ◌≡◌, ◌&&◌, ◌==◌, Bool, true, false, nat_lt, Result, Ok, Err, List, [], ◌++◌, take, Option}
 use Rattle.std.specs.Io.KnownBytes.{Consumes, Appends}
 
@@ -17,17 +17,31 @@ abbrev pub takes_none : {E : Type 0} → Result ℕ E → ℕ → Bool
 takes_none (Ok n) given = n == 0 && nat_lt 0 given
 takes_none (Err e) given = true
 
+-- what the calls of a script's streams gave and took so far
+pub record StreamsValue : Type 0 where
+  -- the bytes that reads gave
+  pub given : List ℕ
+  -- those that the latest read gave
+  pub latest : List ℕ
+  -- those that are left to read, where the reader tells
+  pub remaining : Option (List ℕ)
+  -- how many reads told the end
+  pub ends : ℕ
+  pub failed_reads : ℕ
+  -- the bytes that writes took
+  pub taken : List ℕ
+  -- those that the writer holds, where it tells
+  pub held : Option (List ℕ)
+  -- how many writes and flushes failed
+  pub failed_writes : ℕ
+  -- how many flushes succeeded
+  pub flushes : ℕ
+
 -- A writer had taken `before` and has now taken `now`: what came behind is so.
 pub record Wrote (before now : List ℕ) (P : List ℕ → Type 0) : Type 0 where
   pub bytes : List ℕ
   pub taken : now ≡ before ++ bytes
   pub so : P bytes
-
--- The same, and the input is what a reader gave meanwhile.
-pub record Transferred (given given_now taken taken_now : List ℕ) (P : List ℕ → List ℕ → Type 0) : Type 0 where
-  pub input : List ℕ
-  pub read : given_now ≡ given ++ input
-  pub wrote : Wrote taken taken_now (P input)
 
 -- What a reader gave is what it lost of the bytes that it tells.
 pub record LosesGiven (before now : List ℕ) (unread left : Option (List ℕ)) : Type 0 where

@@ -1,17 +1,18 @@
 //! Scripts: lines of JSON in, lines of replies out, over any engine that keeps an index.
 //!
-//! [`run_script`] reads blocks of bytes, finds the lines in them, executes the command of each line over an [`Engine`], and writes
-//! the replies behind one another. What it writes is one stated function of what it read (`specs/Outputs`): no block, buffer,
-//! option or engine occurs in it.
+//! [`run_script`] reads blocks of bytes, finds the lines in them, executes the command of each line over an [`Engine`],
+//! and writes the replies behind one another. What it writes is one stated function of what it read (`specs/Outputs`): no
+//! block, buffer, option or engine occurs in it.
 //!
-//! - An [`Engine`] is what a script needs of an index; each of its methods is one step of the definitions. [`ListEngine`] keeps a
-//!   plain list of documents. The engine over segments stands in a crate above, so that this one is proved beside the index.
-//! - A script's streams are a [`ScriptIn`] and a [`ScriptOut`]; [`Plain`] makes one of a reader or writer of std, and
-//!   [`run_std`] runs over such.
+//! - An [`Engine`] is what a script needs of an index; each of its methods is one step of the definitions. [`ListEngine`]
+//!   keeps a plain list of documents. The engine over segments stands in a crate above, so that this one is proved beside
+//!   the index.
+//! - A script's [`Streams`] are a [`ScriptIn`] and a [`ScriptOut`]; [`Plain`] makes one of a reader or writer of std.
 //!
 //! ```text
-//! let (outcome, reader, writer) = run_std::<ListEngine, _, _>(rt, bytes, Vec::new(alloc), Options::default());
-//! // At Ok, writer has the replies to the lines of the bytes.
+//! let mut streams = Streams { reader: Plain::new(bytes), writer: Plain::new(Vec::new(alloc)) };
+//! run_script::<ListEngine, _, _>(rt, &mut streams, Options::default())?;
+//! // The writer has the replies to the lines of the bytes.
 //! ```
 #![tactic(auto)]
 
@@ -26,7 +27,6 @@ mod options;
 mod responder;
 mod run;
 mod session;
-mod std_run;
 mod std_streams;
 mod streams;
 
@@ -35,6 +35,5 @@ pub use fault::Fault;
 pub use list_engine::ListEngine;
 pub use options::{Cut, Merge, Options};
 pub use run::run_script;
-pub use std_run::run_std;
 pub use std_streams::Plain;
-pub use streams::{ScriptIn, ScriptOut};
+pub use streams::{ScriptIn, ScriptOut, Streams};

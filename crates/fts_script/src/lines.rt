@@ -51,7 +51,7 @@ pub struct PartialLine {
 }
 
 impl PartialLine {
-    ghost use Rattle.fts_script.specs.Runs.{Holds};
+    ghost use Rattle.fts_script.specs.Responders.{Holds};
 
     pub fn new(alloc: Global) -> PartialLine
         ensures { Holds result [] }

@@ -4,7 +4,8 @@ ghost use Rattle.fts_script.specs.Streams.{GainsTaken, Wrote};
 ghost use Rattle.fts_script.specs.Text.{is_blank, lines_of, HasNoEnd};
 ghost use Rattle.fts_script.specs.Commands.{longest};
 ghost use Rattle.fts_script.specs.Outputs.{start, output, reply_to, after_line};
-ghost use Rattle.fts_script.specs.Runs.{BeginsOutput, BeginsWith, Finishes, Holds, IsWritten, Advances, AdvancesToStop, RunState, StopsFirst};
+ghost use Rattle.fts_script.specs.Stops.{BeginsOutput, BeginsWith, IsWritten, StopsFirst};
+ghost use Rattle.fts_script.specs.Responders.{Finishes, Holds, Advances, AdvancesToStop, RunState};
 
 use crate::engine::Engine;
 use crate::fault::Fault;

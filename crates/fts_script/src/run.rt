@@ -1,15 +1,14 @@
 // A run of a script: blocks of the input, until it ends.
-ghost use Rattle.std.specs.Prelude.{◌≡◌, ◌^◌, ◌<◌, length, vec_len, IfOk, OnOk, OnErr, IsErrOf};
+ghost use Rattle.std.specs.Prelude.{◌≡◌, vec_len, IfOk, OnOk, OnErr, IsErrOf};
 ghost use Rattle.std.specs.Io.KnownBytes.{IsAtEnd};
-ghost use Rattle.fts_script.specs.Streams.{GainsTaken, LosesGiven, Transferred};
-ghost use Rattle.fts_script.specs.Outputs.{output};
-ghost use Rattle.fts_script.specs.Runs.{AnswersEnded, AnswersFirst, BeginsOutputUnless, StopsFirst};
+ghost use Rattle.fts_script.specs.Runs.{FailsRead, FailsWrite, Flushes, GainsWritten, LosesRead, ReadsTooMuch};
+ghost use Rattle.fts_script.specs.Runs.{StopsInLastRead, TellsEnd, WritesBeginning, WritesEnded, WritesOutput};
 
 use crate::engine::Engine;
 use crate::fault::Fault;
 use crate::options::Options;
 use crate::responder::Responder;
-use crate::streams::{ScriptIn, ScriptOut};
+use crate::streams::{ScriptIn, ScriptOut, Streams};
 use std::alloc::{AllocError, Global};
 use std::sync::Wait;
 use std::thread::Threads;
@@ -30,43 +29,25 @@ fn zeros(alloc: Global, count: usize) -> Result<Vec<u8>, AllocError>
 /// Reads a script to its end, and writes its replies, whatever the options and whatever the engine.
 pub fn run_script<E: Engine, R: ScriptIn, W: ScriptOut>(
     rt: &(impl AllocGlobal + Threads + Wait + Sync),
-    reader: &mut R,
-    writer: &mut W,
+    streams: &mut Streams<R, W>,
     options: Options,
 ) -> Result<(), Fault>
-    // What was written is the output of what was read, the reader told its end, and the writer was flushed.
-    ensures ok { OnOk result (Transferred (R.given reader.old) (R.given reader.new)
-        (W.taken writer.old) (W.taken writer.new) (λ input out. out ≡ output input)) }
-    ensures end { OnOk result (R.ends reader.old < R.ends reader.new) }
-    ensures flushed { OnOk result (W.flushes writer.old < W.flushes writer.new) }
+    ensures ok { OnOk result (WritesOutput streams.old streams.new) }
+    ensures end { OnOk result (TellsEnd streams.old streams.new) }
+    ensures flushed { OnOk result (Flushes streams.old streams.new) }
 
-    // The same bytes are lost by a reader that tells what it has left, and gained by a writer that tells what it holds.
-    ensures left { LosesGiven (R.given reader.old) (R.given reader.new) (R.remaining reader.old)
-        (R.remaining reader.new) }
-    ensures held { GainsTaken (W.taken writer.old) (W.taken writer.new) (W.held writer.old)
-        (W.held writer.new) }
-    ensures nothing_left { R.ends reader.old < R.ends reader.new →
-        IsAtEnd (R.remaining reader.new) }
+    // Where the reader tells what it has left, and the writer what it holds, it is the same bytes.
+    ensures left { LosesRead streams.old streams.new }
+    ensures held { GainsWritten streams.old streams.new }
+    ensures nothing_left { TellsEnd streams.old streams.new → IsAtEnd streams.new.remaining }
 
-    // After any fault, what was written is a beginning of the output, however the input goes on, if it goes on.
-    ensures err { OnErr result (Transferred (R.given reader.old) (R.given reader.new)
-        (W.taken writer.old) (W.taken writer.new)
-        (BeginsOutputUnless (R.ends reader.old < R.ends reader.new))) }
+    ensures err { OnErr result (WritesBeginning streams.old streams.new) }
+    ensures memory { IsErrOf result Fault.Memory → StopsInLastRead streams.old streams.new }
+    ensures read { IsErrOf result Fault.Read → WritesEnded streams.old streams.new }
 
-    // After want of memory, it is the replies to first lines, to all at least that ended before the last read, and
-    // the next line isn't blank; after a failed read, to all lines that ended.
-    ensures memory { IsErrOf result Fault.Memory →
-        Transferred (R.given reader.old) (R.given reader.new)
-        (W.taken writer.old) (W.taken writer.new) (StopsFirst (length (R.latest reader.new))) }
-    ensures read { IsErrOf result Fault.Read → Transferred (R.given reader.old) (R.given reader.new)
-        (W.taken writer.old) (W.taken writer.new) AnswersEnded }
-
-    ensures read_failed { IsErrOf result Fault.Read → R.failed reader.old < R.failed reader.new }
-    ensures write_failed { IsErrOf result Fault.Write → W.failed writer.old < W.failed writer.new }
-    ensures used_up { IsErrOf result Fault.StampsUsedUp →
-        Transferred (R.given reader.old) (R.given reader.new)
-        (W.taken writer.old) (W.taken writer.new)
-        (λ input out. AnswersFirst (length (R.latest reader.new)) input out × (2 ^ 61 < length input)) }
+    ensures read_failed { IsErrOf result Fault.Read → FailsRead streams.old streams.new }
+    ensures write_failed { IsErrOf result Fault.Write → FailsWrite streams.old streams.new }
+    ensures used_up { IsErrOf result Fault.StampsUsedUp → ReadsTooMuch streams.old streams.new }
 {
     let alloc = rt.alloc();
     let mut block = zeros(alloc, BLOCK)?;
@@ -74,15 +55,15 @@ pub fn run_script<E: Engine, R: ScriptIn, W: ScriptOut>(
     let mut responder = Responder::<E>::new(alloc, options);
     let mut count = 0;
     'reads: loop {
-        match reader.read(block) {
-            Ok(0) => return responder.end(rt, writer),
+        match streams.reader.read(block) {
+            Ok(0) => return responder.end(rt, &mut streams.writer),
             Ok(n) => {
                 if n as u64 > MOST - count {
                     responder.close(rt);
                     return Err(Fault::StampsUsedUp);
                 }
                 count += n as u64;
-                responder = responder.feed(rt, &block[..n], writer)?;
+                responder = responder.feed(rt, &block[..n], &mut streams.writer)?;
             }
             Err(_) => {
                 responder.close(rt);

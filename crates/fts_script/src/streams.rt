@@ -3,9 +3,36 @@ ghost use Rattle.std.specs.Prelude.{◌≡◌, ◌+◌, ◌≤◌, ◌++◌, ℕ
 ghost use Rattle.std.specs.Io.KnownBytes.{ReadConsumes, WriteAppends, Keeps};
 ghost use Rattle.fts_script.specs.Streams.{bytes_moved, tells_end, takes_none};
 
+use std::marker::Model;
+
 /// A call of a stream failed; an interrupted call has failed like any other.
 #[derive(Clone, Copy, Debug, Drop, PartialEq, Eq)]
 pub struct StreamError;
+
+/// What a script reads from, and what it writes to.
+#[derive(Drop)]
+pub struct Streams<R: ScriptIn, W: ScriptOut> {
+    pub reader: R,
+    pub writer: W,
+}
+
+impl<R: ScriptIn, W: ScriptOut> Model for Streams<R, W> {
+    ghost use Rattle.fts_script.specs.Streams.{StreamsValue};
+
+    ghost Value = { StreamsValue };
+
+    ghost view = { λ s. record {
+      given = R.given s.reader;
+      latest = R.latest s.reader;
+      remaining = R.remaining s.reader;
+      ends = R.ends s.reader;
+      failed_reads = R.failed s.reader;
+      taken = W.taken s.writer;
+      held = W.held s.writer;
+      failed_writes = W.failed s.writer;
+      flushes = W.flushes s.writer;
+    } };
+}
 
 /// What a script reads from, in the manner of `std::io::Read`.
 pub trait ScriptIn {

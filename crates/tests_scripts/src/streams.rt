@@ -1,5 +1,5 @@
 // Scripts over memory, by readers and writers that are slow or fail.
-use fts_script::{Fault, ListEngine, Options, run_std};
+use fts_script::{Fault, ListEngine, Options, Plain, Streams, run_script};
 use std::cell::Cell;
 use std::io;
 use std::io::{Read, Write};
@@ -62,7 +62,12 @@ fn run_over<R: Read, W: Write>(
     writer: W,
     options: Options,
 ) -> (Result<(), Fault>, R, W) {
-    let (outcome, reader, writer) = run_std::<ListEngine, _, _>(rt, reader, writer, options);
+    let mut streams = Streams {
+        reader: Plain::new(reader),
+        writer: Plain::new(writer),
+    };
+    let outcome = run_script::<ListEngine, _, _>(rt, &mut streams, options);
+    let Streams { reader, writer } = streams;
     (outcome, reader.into_inner(), writer.into_inner())
 }
 

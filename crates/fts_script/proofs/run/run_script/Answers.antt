@@ -1,33 +1,15 @@
-use Rattle.std.proofs.Common.{arith, ◌<◌, ◌++◌, [], length, take, ◌∙◌, ◌≡◌, ap, refl, sym, append-nil}
+use Rattle.std.proofs.Common.{arith, ◌<◌, ◌++◌, length, take, ◌∙◌, append-nil}
 use Rattle.std.proofs.lemmas.Result.{on_ok_weaker, on_err_weaker, err_from_is_err_and}
 use Rattle.std.proofs.lemmas.List.{length-take-le}
-use Rattle.fts_script.specs.Outputs.{SessionValue}
-use Rattle.fts_script.specs.Runs.{AnswersFirst, StopsFirst}
-use Rattle.fts_script.proofs.RunLemmas.{RunState-start, Wrote-ended, Wrote-begins, Wrote-late, Wrote-latest, Wrote-more, Wrote-reached, Wrote-same, Wrote-unless, counted_end, given_none, length_more, not_counted, on_err, on_ok}
-use Rattle.fts_script.proofs.StreamLemmas.{append_more, GainsTaken-none, GainsTaken-trans, LosesGiven-none, LosesGiven-read}
+use Rattle.fts_script.specs.Stops.{AnswersFirst, StopsFirst}
+use Rattle.fts_script.proofs.RunLemmas.{Wrote-ended, Wrote-begins, Wrote-late, Wrote-latest, Wrote-more, Wrote-reached, Wrote-same, Wrote-unless, counted_end, given_none, length_more, not_counted, on_err}
+use Rattle.fts_script.proofs.StreamLemmas.{append_more, GainsTaken-trans, LosesGiven-read}
 use Rattle.fts_script.proofs.run.run_script.Goals as goal
-
-pub reads-init : goal.reads-init
-reads-init g c = record {
-  input = [];
-  given = sym (append-nil (g.R.ScriptIn.given c.args.reader.now));
-  left = LosesGiven-none _ _;
-  held = GainsTaken-none _ _;
-  reached = RunState-start (g.W.ScriptOut.taken c.args.writer.now) c.new-responder.result.session c.new-responder.result.line c.new-responder.ensures.session c.new-responder.ensures.line;
-  none_wait = c.new-responder.ensures.none_wait;
-  ends = refl;
-  failed = refl;
-  counted = refl;
-  most = omega arith;
-  number = let none : c.new-responder.result.session.number ≡ 0 = ap (λ (s : SessionValue). s.number) c.new-responder.ensures.session in omega arith;
-  write_failed = omega arith;
-  flushes = refl;
-}
 
 pub reads-preserved : goal.reads-preserved
 reads-preserved g c = record {
   input = c.reads.invariant.input ++ take c.in-Ok.n c.read.new.buffer;
-  given = append_more (g.R.ScriptIn.given c.args.reader.now) _ _ c.reads.invariant.input (take c.in-Ok.n c.read.new.buffer) c.reads.invariant.given c.in-Ok.ensures.given;
+  given = append_more c.args.streams.now.given _ _ c.reads.invariant.input (take c.in-Ok.n c.read.new.buffer) c.reads.invariant.given c.in-Ok.ensures.given;
   left = LosesGiven-read c.read.result c.read.new.buffer _ _ _ _ _ (g.R.ScriptIn.remaining c.read.new.self) c.reads.invariant.left c.read.ensures.given c.read.ensures.left;
   held = GainsTaken-trans _ _ _ _ _ (g.W.ScriptOut.held c.feed.new.writer) c.reads.invariant.held c.feed.ensures.held;
   reached = c.in_ok-responder-in-Ok.ensures.ok _ _ c.reads.invariant.reached;
@@ -46,34 +28,21 @@ returns-in-Ok-eq0-clause-ok g c =
     on_ok_weaker c.end.result
     (λ h. record {
       input = c.reads.invariant.input;
-      read = given_none (g.R.ScriptIn.given c.args.reader.now) _ _ c.reads.invariant.input c.read.new.buffer _ c.in-Ok-eq0.field-0-test c.reads.invariant.given c.in-Ok-eq0.ensures.given;
+      read = given_none c.args.streams.now.given _ _ c.reads.invariant.input c.read.new.buffer _ c.in-Ok-eq0.field-0-test c.reads.invariant.given c.in-Ok-eq0.ensures.given;
       wrote = h _ _ c.reads.invariant.reached;
     })
     c.end.ensures.ok
 
-pub returns-in-Ok-eq0-clause-end : goal.returns-in-Ok-eq0-clause-end
-returns-in-Ok-eq0-clause-end g c =
-    let room : 0 < length c.read.new.buffer = omega (arith, c.in_ok-block.ensures) in
-    let told = counted_end (g.R.ScriptIn.ends c.reads.reader) (g.R.ScriptIn.ends c.read.new.self) c.in-Ok-eq0.field-0 (length c.read.new.buffer)
-    c.in-Ok-eq0.field-0-test room c.in-Ok-eq0.ensures.end in
-    let ended : g.R.ScriptIn.ends c.args.reader.now < g.R.ScriptIn.ends c.read.new.self = omega (arith, c.reads.invariant.ends, told) in
-    on_ok c.end.result _ ended
-
-pub returns-in-Ok-eq0-clause-nothing_left : goal.returns-in-Ok-eq0-clause-nothing_left
-returns-in-Ok-eq0-clause-nothing_left g c = λ _.
-    let room : 0 < length c.read.new.buffer = omega (arith, c.in_ok-block.ensures) in
-    c.in-Ok-eq0.ensures.left.1 c.in-Ok-eq0.field-0-test room
-
 pub returns-in-Ok-eq0-clause-err : goal.returns-in-Ok-eq0-clause-err
 returns-in-Ok-eq0-clause-err g c =
     let room : 0 < length c.read.new.buffer = omega (arith, c.in_ok-block.ensures) in
-    let told = counted_end (g.R.ScriptIn.ends c.reads.reader) (g.R.ScriptIn.ends c.read.new.self) c.in-Ok-eq0.field-0 (length c.read.new.buffer)
+    let told = counted_end (g.R.ScriptIn.ends c.reads.streams-inside.reader) (g.R.ScriptIn.ends c.read.new.self) c.in-Ok-eq0.field-0 (length c.read.new.buffer)
     c.in-Ok-eq0.field-0-test room c.in-Ok-eq0.ensures.end in
-    let ended : g.R.ScriptIn.ends c.args.reader.now < g.R.ScriptIn.ends c.read.new.self = omega (arith, c.reads.invariant.ends, told) in
+    let ended : c.args.streams.now.ends < g.R.ScriptIn.ends c.read.new.self = omega (arith, c.reads.invariant.ends, told) in
     on_err_weaker c.end.result
     (λ h. record {
       input = c.reads.invariant.input;
-      read = given_none (g.R.ScriptIn.given c.args.reader.now) _ _ c.reads.invariant.input c.read.new.buffer _ c.in-Ok-eq0.field-0-test c.reads.invariant.given c.in-Ok-eq0.ensures.given;
+      read = given_none c.args.streams.now.given _ _ c.reads.invariant.input c.read.new.buffer _ c.in-Ok-eq0.field-0-test c.reads.invariant.given c.in-Ok-eq0.ensures.given;
       wrote = Wrote-ended _ _ c.reads.invariant.input _ ended (h _ _ c.reads.invariant.reached);
     })
     c.end.ensures.err
@@ -81,18 +50,14 @@ returns-in-Ok-eq0-clause-err g c =
 pub returns-in-Ok-eq0-clause-memory : goal.returns-in-Ok-eq0-clause-memory
 returns-in-Ok-eq0-clause-memory g c = λ e. record {
   input = c.reads.invariant.input;
-  read = given_none (g.R.ScriptIn.given c.args.reader.now) _ _ c.reads.invariant.input c.read.new.buffer _ c.in-Ok-eq0.field-0-test c.reads.invariant.given c.in-Ok-eq0.ensures.given;
+  read = given_none c.args.streams.now.given _ _ c.reads.invariant.input c.read.new.buffer _ c.in-Ok-eq0.field-0-test c.reads.invariant.given c.in-Ok-eq0.ensures.given;
   wrote = Wrote-late _ _ c.reads.invariant.input 0 (length (g.R.ScriptIn.latest c.read.new.self)) (omega arith) (c.end.ensures.memory e _ _ c.reads.invariant.reached);
 }
-
-pub returns-then-n-count-clause-nothing_left : goal.returns-then-n-count-clause-nothing_left
-returns-then-n-count-clause-nothing_left g c = λ told.
-    let same = not_counted c.in-Ok.n _ _ _ c.in-Ok.n-test.1 c.in-Ok.ensures.end ∙ c.reads.invariant.ends in absurd (omega arith)
 
 pub returns-then-n-count-clause-err : goal.returns-then-n-count-clause-err
 returns-then-n-count-clause-err g c = record {
   input = c.reads.invariant.input ++ take c.in-Ok.n c.read.new.buffer;
-  read = append_more (g.R.ScriptIn.given c.args.reader.now) _ _ c.reads.invariant.input (take c.in-Ok.n c.read.new.buffer) c.reads.invariant.given c.in-Ok.ensures.given;
+  read = append_more c.args.streams.now.given _ _ c.reads.invariant.input (take c.in-Ok.n c.read.new.buffer) c.reads.invariant.given c.in-Ok.ensures.given;
   wrote = Wrote-unless _ _ (c.reads.invariant.input ++ take c.in-Ok.n c.read.new.buffer) _ (Wrote-begins _ _ _ _
       (Wrote-more _ _ _ _ c.reads.invariant.input (take c.in-Ok.n c.read.new.buffer) c.reads.invariant.reached));
 }
@@ -102,7 +67,7 @@ returns-then-n-count-clause-used_up g c = λ _.
     let wrote = Wrote-latest AnswersFirst _ _ _ (take c.in-Ok.n c.read.new.buffer) (g.R.ScriptIn.latest c.read.new.self) c.in-Ok.ensures.latest
     (Wrote-more _ _ _ _ c.reads.invariant.input (take c.in-Ok.n c.read.new.buffer) c.reads.invariant.reached) in record {
       input = c.reads.invariant.input ++ take c.in-Ok.n c.read.new.buffer;
-      read = append_more (g.R.ScriptIn.given c.args.reader.now) _ _ c.reads.invariant.input (take c.in-Ok.n c.read.new.buffer) c.reads.invariant.given c.in-Ok.ensures.given;
+      read = append_more c.args.streams.now.given _ _ c.reads.invariant.input (take c.in-Ok.n c.read.new.buffer) c.reads.invariant.given c.in-Ok.ensures.given;
       wrote = record {
         bytes = wrote.bytes;
         taken = wrote.taken;
@@ -118,14 +83,10 @@ returns-then-n-count-clause-used_up g c = λ _.
       };
     }
 
-pub returns-in_err-responder-in-Ok-clause-nothing_left : goal.returns-in_err-responder-in-Ok-clause-nothing_left
-returns-in_err-responder-in-Ok-clause-nothing_left g c = λ told.
-    let same = not_counted c.in-Ok.n _ _ _ c.in-Ok.n-test.1 c.in-Ok.ensures.end ∙ c.reads.invariant.ends in absurd (omega arith)
-
 pub returns-in_err-responder-in-Ok-clause-err : goal.returns-in_err-responder-in-Ok-clause-err
 returns-in_err-responder-in-Ok-clause-err g c = on_err c.from_residual-in_err-responder-in-Ok.result _ (record {
   input = c.reads.invariant.input ++ take c.in-Ok.n c.read.new.buffer;
-  read = append_more (g.R.ScriptIn.given c.args.reader.now) _ _ c.reads.invariant.input (take c.in-Ok.n c.read.new.buffer) c.reads.invariant.given c.in-Ok.ensures.given;
+  read = append_more c.args.streams.now.given _ _ c.reads.invariant.input (take c.in-Ok.n c.read.new.buffer) c.reads.invariant.given c.in-Ok.ensures.given;
   wrote = Wrote-unless _ _ (c.reads.invariant.input ++ take c.in-Ok.n c.read.new.buffer) _ (c.in_err-responder-in-Ok.ensures.err _ _ c.reads.invariant.reached);
 })
 
@@ -133,7 +94,7 @@ pub returns-in_err-responder-in-Ok-clause-memory : goal.returns-in_err-responder
 returns-in_err-responder-in-Ok-clause-memory g c = λ e.
     let p = err_from_is_err_and c.from_residual-in_err-responder-in-Ok.result c.from_residual-in_err-responder-in-Ok.ensures.1 in record {
       input = c.reads.invariant.input ++ take c.in-Ok.n c.read.new.buffer;
-      read = append_more (g.R.ScriptIn.given c.args.reader.now) _ _ c.reads.invariant.input (take c.in-Ok.n c.read.new.buffer) c.reads.invariant.given c.in-Ok.ensures.given;
+      read = append_more c.args.streams.now.given _ _ c.reads.invariant.input (take c.in-Ok.n c.read.new.buffer) c.reads.invariant.given c.in-Ok.ensures.given;
       wrote = Wrote-latest StopsFirst _ _ _ (take c.in-Ok.n c.read.new.buffer) (g.R.ScriptIn.latest c.read.new.self) c.in-Ok.ensures.latest
           (c.in_err-responder-in-Ok.ensures.memory (cc (p.1, p.2, e)) _ _ c.reads.invariant.reached);
     }
@@ -141,20 +102,16 @@ returns-in_err-responder-in-Ok-clause-memory g c = λ e.
 pub returns-in-Err-clause-err : goal.returns-in-Err-clause-err
 returns-in-Err-clause-err g c = record {
   input = c.reads.invariant.input;
-  read = c.in-Err.ensures.given ∙ append-nil (g.R.ScriptIn.given c.reads.reader) ∙ c.reads.invariant.given;
+  read = c.in-Err.ensures.given ∙ append-nil (g.R.ScriptIn.given c.reads.streams-inside.reader) ∙ c.reads.invariant.given;
   wrote = Wrote-unless _ _ c.reads.invariant.input _ (Wrote-begins _ _ _ 0 (Wrote-same _ _ _ _ _ c.reads.invariant.reached));
 }
 
 pub returns-in-Err-clause-read : goal.returns-in-Err-clause-read
 returns-in-Err-clause-read g c = λ _. record {
   input = c.reads.invariant.input;
-  read = c.in-Err.ensures.given ∙ append-nil (g.R.ScriptIn.given c.reads.reader) ∙ c.reads.invariant.given;
+  read = c.in-Err.ensures.given ∙ append-nil (g.R.ScriptIn.given c.reads.streams-inside.reader) ∙ c.reads.invariant.given;
   wrote = Wrote-reached _ _ _ _ _ c.reads.invariant.reached;
 }
-
-pub returns-in-Ok-eq0-clause-left : goal.returns-in-Ok-eq0-clause-left
-returns-in-Ok-eq0-clause-left g c =
-    LosesGiven-read c.read.result c.read.new.buffer _ _ _ _ _ (g.R.ScriptIn.remaining c.read.new.self) c.reads.invariant.left c.read.ensures.given c.read.ensures.left
 
 pub returns-then-n-count-clause-left : goal.returns-then-n-count-clause-left
 returns-then-n-count-clause-left g c =
@@ -162,10 +119,6 @@ returns-then-n-count-clause-left g c =
 
 pub returns-in_err-responder-in-Ok-clause-left : goal.returns-in_err-responder-in-Ok-clause-left
 returns-in_err-responder-in-Ok-clause-left g c =
-    LosesGiven-read c.read.result c.read.new.buffer _ _ _ _ _ (g.R.ScriptIn.remaining c.read.new.self) c.reads.invariant.left c.read.ensures.given c.read.ensures.left
-
-pub returns-in-Err-clause-left : goal.returns-in-Err-clause-left
-returns-in-Err-clause-left g c =
     LosesGiven-read c.read.result c.read.new.buffer _ _ _ _ _ (g.R.ScriptIn.remaining c.read.new.self) c.reads.invariant.left c.read.ensures.given c.read.ensures.left
 
 pub returns-in-Ok-eq0-clause-held : goal.returns-in-Ok-eq0-clause-held

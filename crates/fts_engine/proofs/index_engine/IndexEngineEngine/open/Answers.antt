@@ -1,6 +1,6 @@
 use Rattle.std.proofs.Common.{sym, subst}
 use Rattle.fts_index.specs.Writers.{WriterValue}
-use Rattle.fts_engine.specs.declared.waiting.Waiting.TheVariants.{Nothing}
+use Rattle.fts_engine.specs.declared.uncommitted.Uncommitted.TheVariants.{Nothing}
 use Rattle.fts_engine.specs.WriterIndexes.{IsReaderOf, IsIndexEngine}
 use Rattle.fts_engine.proofs.EngineLemmas.{opened}
 use Rattle.fts_engine.proofs.index_engine.IndexEngineEngine.open.Goals as goal

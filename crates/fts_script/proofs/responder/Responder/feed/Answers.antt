@@ -1,6 +1,7 @@
 use Rattle.std.proofs.Common.{◌++◌, length, take, subst, arith, ◌∙◌, string_bytes}
 use Rattle.fts_script.specs.Streams.{Wrote}
-use Rattle.fts_script.specs.Runs.{BeginsOutput, RunState}
+use Rattle.fts_script.specs.Stops.{BeginsOutput}
+use Rattle.fts_script.specs.Responders.{RunState}
 use Rattle.fts_script.proofs.RunLemmas.{AdvancesFirst-either, RunState-sent, Wrote-begins, Wrote-block, Wrote-cut, Wrote-first, Wrote-stopped, part_is, whole_is, within_more}
 use Rattle.fts_script.proofs.StreamLemmas.{GainsTaken-trans}
 use Rattle.fts_script.proofs.responder.Responder.feed.Goals as goal

@@ -1,6 +1,6 @@
 use Rattle.std.proofs.Common.{length, ◌-◌, ◌+◌, ◌≤◌, ◌≡◌, ◌++◌, take, [], List, ℕ, string_bytes}
 use Rattle.fts_script.specs.Streams.{GainsTaken}
-use Rattle.fts_script.specs.Runs.{RunState}
+use Rattle.fts_script.specs.Responders.{RunState}
 use Rattle.fts_script.proofs.responder.Responder.feed.Given as goal
 
 abbrev pub invariant-loop-at : goal.invariant-loop-at

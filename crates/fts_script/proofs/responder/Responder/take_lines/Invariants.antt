@@ -1,5 +1,5 @@
 use Rattle.std.proofs.Common.{length, ◌-◌, ◌+◌, ◌≤◌, ◌≡◌, take, [], string_bytes}
-use Rattle.fts_script.specs.Runs.{Advances}
+use Rattle.fts_script.specs.Responders.{Advances}
 use Rattle.fts_script.proofs.responder.Responder.take_lines.Given as goal
 
 abbrev pub invariant-loop-at : goal.invariant-loop-at

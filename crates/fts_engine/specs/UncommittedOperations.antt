@@ -1,5 +1,6 @@
--- The operations that wait for a commit in a round of one lane.
-use Rattle.std.specs.Prelude.{◌≡◌, ℕ, ◌+◌, ◌<◌, ◌≤◌, ◌⊎◌, true, Some, None, Result, Ok, Err, List, [], ◌∷◌, ◌++◌, length}
+-- The uncommitted operations, in a round of one lane.
+use Rattle.std.specs.Prelude.{◌≡◌, ℕ, ◌+◌, ◌<◌, ◌≤◌, ◌⊎◌, true, Some, None, Result, Ok, Err}
+use Rattle.std.specs.Prelude.{List, [], ◌∷◌, ◌++◌, length}
 use Rattle.fts_model.specs.declared.refusal.Refusal.{Refusal}
 use Rattle.fts_model.specs.declared.refusal.Refusal.TheVariants.{Memory, LaneFull}
 use Rattle.fts_model.specs.declared.operation.Op.{Op}
@@ -7,16 +8,16 @@ use Rattle.fts_model.specs.declared.operation.Stamped.{Stamped}
 use Rattle.fts_snapshots.specs.Rounds.{Opened, Held, IsLaneOf}
 use Rattle.fts_snapshots.specs.Rounds as rounds
 use Rattle.fts_index.specs.Writers.{WriterValue, is_of}
-use Rattle.fts_engine.specs.declared.waiting.Waiting.{Waiting}
-use Rattle.fts_engine.specs.declared.waiting.Waiting.TheVariants.{Nothing, Open, Ended, Gathered}
+use Rattle.fts_engine.specs.declared.uncommitted.Uncommitted.{Uncommitted}
+use Rattle.fts_engine.specs.declared.uncommitted.Uncommitted.TheVariants.{Nothing, Open, Ended, Gathered}
 
 -- the operations of the first lane
 abbrev pub first_ops : List Held → List (Stamped Op)
 first_ops [] = []
 first_ops (end ∷ ends) = end.ops
 
--- the operations that wait
-abbrev pub ops_of : Waiting → List (Stamped Op)
+-- the operations
+abbrev pub ops_of : Uncommitted → List (Stamped Op)
 ops_of Nothing = []
 ops_of (Open round lane) = lane.ops
 ops_of (Ended round ends) = first_ops ends.items
@@ -49,17 +50,20 @@ pub record IsItsBatch (w : WriterValue) (batch : rounds.Gathered) : Type 0 where
   pub its : is_of w.round batch ≡ true
   pub first : batch.first ≡ w.front.stamp + 1
 
--- what waits belongs to the writer's open round, or nothing waits and no round is open
-abbrev pub WaitsFor : WriterValue → Waiting → Type 0
-WaitsFor w Nothing = w.round ≡ None
-WaitsFor w (Open round lane) = IsOpen w round × IsItsLane round lane
-WaitsFor w (Ended round ends) = IsOpen w round × IsItsEnd round ends.items
-WaitsFor w (Gathered batch) = IsItsBatch w batch
+-- they are those of the writer's open round, or there are none and no round is open
+abbrev pub IsUncommittedIn : WriterValue → Uncommitted → Type 0
+IsUncommittedIn w Nothing = w.round ≡ None
+IsUncommittedIn w (Open round lane) = IsOpen w round × IsItsLane round lane
+IsUncommittedIn w (Ended round ends) = IsOpen w round × IsItsEnd round ends.items
+IsUncommittedIn w (Gathered batch) = IsItsBatch w batch
 
--- An operation was taken behind others, and its stamp counts from the first one; at a refusal they are as they were, and memory ran out or there were 1,000,000.
+-- An operation was taken behind others, and its stamp counts from the first one; at a refusal they are as they were,
+-- and memory ran out or there were 1,000,000.
 abbrev pub Submits : ℕ → Op → List (Stamped Op) → List (Stamped Op) → Result ℕ Refusal → Type 0
-Submits first op old new (Ok stamp) = (stamp ≡ first + length old) × (new ≡ old ++ record { stamp = stamp; value = op } ∷ []) × (length old < 1000000)
-Submits first op old new (Err refusal) = (new ≡ old) × ((refusal ≡ Memory) ⊎ ((refusal ≡ LaneFull) × (1000000 ≤ length old)))
+Submits first op old new (Ok stamp) = (stamp ≡ first + length old)
+    × (new ≡ old ++ record { stamp = stamp; value = op } ∷ []) × (length old < 1000000)
+Submits first op old new (Err refusal) =
+    (new ≡ old) × ((refusal ≡ Memory) ⊎ ((refusal ≡ LaneFull) × (1000000 ≤ length old)))
 
 -- the batch has these operations of the round
 pub record IsBatchOf (round : Opened) (ops : List (Stamped Op)) (batch : rounds.Gathered) : Type 0 where
@@ -67,7 +71,7 @@ pub record IsBatchOf (round : Opened) (ops : List (Stamped Op)) (batch : rounds.
   pub first : batch.first ≡ round.limits.first
   pub ops_are : batch.ops ≡ ops
 
--- these operations of the round go on waiting
-pub record GoOnWaiting (round : Opened) (ops : List (Stamped Op)) (waiting : Waiting) : Type 0 where
-  pub same : ops_of waiting ≡ ops
-  pub waits : (w : WriterValue) → IsOpen w round → WaitsFor w waiting
+-- these operations of the round stay uncommitted
+pub record StayUncommitted (round : Opened) (ops : List (Stamped Op)) (uncommitted : Uncommitted) : Type 0 where
+  pub same : ops_of uncommitted ≡ ops
+  pub its : (w : WriterValue) → IsOpen w round → IsUncommittedIn w uncommitted

@@ -4,7 +4,7 @@ use Rattle.fts_snapshots.specs.Rounds.{Held, lanes_of, times}
 use Rattle.fts_snapshots.specs.Shuffles.{IsLeastMissing}
 use Rattle.fts_model.specs.declared.refusal.Refusal.{Refusal}
 use Rattle.fts_model.specs.declared.refusal.Refusal.TheVariants.{Memory, LaneMissing}
-use Rattle.fts_engine.proofs.waiting.gather_end.Goals as goal
+use Rattle.fts_engine.proofs.uncommitted.gather_end.Goals as goal
 
 -- the one lane isn't missing
 none_missing : (lanes n : ℕ) (ends : List Held) (end : Held) → lanes ≡ 1 → ends ≡ end ∷ [] → end.lane < lanes → IsLeastMissing lanes (lanes_of ends) n → ⊥

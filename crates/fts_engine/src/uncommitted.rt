@@ -1,8 +1,10 @@
-// What waits for a commit: the operations of a round of one lane, which is opened when the first one is submitted.
-ghost use Rattle.std.specs.Prelude.{◌≡◌, ◌≢◌, ◌+◌, ◌*◌, ◌^◌, ◌<◌, ◌≤◌, ◌⊎◌, ◌++◌, [], ◌∷◌, None, Some, length, IfOk, IfErr, OnOk, OnErr, IsOkUnless};
+// The uncommitted operations: those of a round of one lane, which is opened when the first one is submitted.
+ghost use Rattle.std.specs.Prelude.{◌≡◌, ◌≢◌, ◌+◌, ◌*◌, ◌^◌, ◌<◌, ◌≤◌, ◌⊎◌, ◌++◌, [], ◌∷◌, None};
+ghost use Rattle.std.specs.Prelude.{Some, length, IfOk, IfErr, OnOk, OnErr, IsOkUnless};
 ghost use Rattle.fts_snapshots.specs.Rounds.{fresh};
 ghost use Rattle.fts_snapshots.specs.Commits.{misfit};
-ghost use Rattle.fts_engine.specs.WaitingOperations.{ops_of, first_ops, HasOneLane, IsItsLane, IsItsEnd, IsItsBatch, IsBatchOf, GoOnWaiting, IsOpen, WaitsFor, Submits};
+ghost use Rattle.fts_engine.specs.UncommittedOperations.{HasOneLane, IsBatchOf, IsItsBatch, IsItsEnd, IsItsLane};
+ghost use Rattle.fts_engine.specs.UncommittedOperations.{IsOpen, IsUncommittedIn, StayUncommitted, Submits, first_ops, ops_of};
 ghost use Rattle.fts_engine.specs.WriterIndexes.{Commits};
 
 use crate::segments::merge_behind;
@@ -14,12 +16,14 @@ use std::mem;
 use std::sync::Wait;
 use std::thread::Threads;
 
-/// The most operations that wait for a commit.
-const MOST_WAITING: usize = 1_000_000;
+/// The most operations that are uncommitted.
+const MOST_UNCOMMITTED: usize = 1_000_000;
 
-/// The operations that wait for a commit, however far it has come with them.
+/// The uncommitted operations, however far a commit has come with them.
+///
+/// A refused commit leaves them, and neither the end of a lane nor a batch can be undone: so they are kept as these.
 #[derive(Drop)]
-pub enum Waiting {
+pub enum Uncommitted {
     /// None, and no round is open.
     Nothing,
     /// Those that were submitted to the lane of the open round.
@@ -42,7 +46,7 @@ fn open(alloc: Global, writer: &mut Writer) -> Result<(Round, Lane), Refusal>
     ensures same { OnErr result (writer.new ≡ writer.old) }
     ensures memory { IsOkUnless result Refusal.Memory }
 {
-    let (round, mut lanes) = writer.open_round(alloc, 1, MOST_WAITING)?;
+    let (round, mut lanes) = writer.open_round(alloc, 1, MOST_UNCOMMITTED)?;
     let Some(lane) = lanes.pop() else {
         unreachable!()
     };
@@ -50,19 +54,23 @@ fn open(alloc: Global, writer: &mut Writer) -> Result<(Round, Lane), Refusal>
 }
 
 /// Opens a round where none is open.
-fn make_open(alloc: Global, writer: &mut Writer, waiting: &mut Waiting) -> Result<(), Refusal>
-    requires waits { WaitsFor writer.old waiting.old }
+fn make_open(
+    alloc: Global,
+    writer: &mut Writer,
+    uncommitted: &mut Uncommitted,
+) -> Result<(), Refusal>
+    requires uncommitted { IsUncommittedIn writer.old uncommitted.old }
     requires stamps { writer.old.front.stamp ≤ 2 ^ 61 }
     requires rounds { writer.old.rounds ≤ 2 ^ 61 }
-    ensures waits { WaitsFor writer.new waiting.new }
-    ensures same { ops_of waiting.new ≡ ops_of waiting.old }
+    ensures uncommitted { IsUncommittedIn writer.new uncommitted.new }
+    ensures same { ops_of uncommitted.new ≡ ops_of uncommitted.old }
     ensures front { writer.new.front ≡ writer.old.front }
     ensures counted { writer.new.rounds ≤ writer.old.rounds + 1 }
     ensures memory { IsOkUnless result Refusal.Memory }
 {
-    if let Waiting::Nothing = waiting {
+    if let Uncommitted::Nothing = uncommitted {
         let (round, lane) = open(alloc, writer)?;
-        *waiting = Waiting::Open(round, lane);
+        *uncommitted = Uncommitted::Open(round, lane);
     }
     Ok(())
 }
@@ -80,110 +88,122 @@ fn draw(round: &Round, lane: &mut Lane, op: Op) -> Result<Stamp, Refusal>
     }
 }
 
-/// Submits an operation. It is refused as `LaneFull` where 1,000,000 wait for a commit.
+/// Submits an operation. It is refused as `LaneFull` where 1,000,000 are uncommitted.
 pub fn submit(
     alloc: Global,
     writer: &mut Writer,
-    waiting: &mut Waiting,
+    uncommitted: &mut Uncommitted,
     op: Op,
 ) -> Result<Stamp, Refusal>
-    requires waits { WaitsFor writer.old waiting.old }
+    requires uncommitted { IsUncommittedIn writer.old uncommitted.old }
     requires stamps { writer.old.front.stamp ≤ 2 ^ 61 }
     requires rounds { writer.old.rounds ≤ 2 ^ 61 }
-    ensures waits { WaitsFor writer.new waiting.new }
-    ensures submits { Submits (writer.old.front.stamp + 1) op (ops_of waiting.old)
-        (ops_of waiting.new) result }
+    ensures uncommitted { IsUncommittedIn writer.new uncommitted.new }
+    ensures submits { Submits (writer.old.front.stamp + 1) op (ops_of uncommitted.old)
+        (ops_of uncommitted.new) result }
     ensures front { writer.new.front ≡ writer.old.front }
     ensures counted { writer.new.rounds ≤ writer.old.rounds + 1 }
 {
-    make_open(alloc, writer, waiting)?;
-    match waiting {
-        Waiting::Open(round, lane) => draw(round, lane, op),
+    make_open(alloc, writer, uncommitted)?;
+    match uncommitted {
+        Uncommitted::Open(round, lane) => draw(round, lane, op),
         // A commit was refused for its memory, and can be tried again or given up.
         _ => Err(Refusal::Memory),
     }
 }
 
 /// Gathers the end of the one lane of a round.
-fn gather_end(alloc: Global, round: Round, ends: Vec<LaneEnd>) -> Result<Batch, (Waiting, Refusal)>
+fn gather_end(
+    alloc: Global,
+    round: Round,
+    ends: Vec<LaneEnd>,
+) -> Result<Batch, (Uncommitted, Refusal)>
     requires one_lane { HasOneLane round }
     requires end { IsItsEnd round ends.items }
     ensures batch { IfOk result (IsBatchOf round (first_ops ends.items)) }
-    ensures kept { IfErr result (λ e. GoOnWaiting round (first_ops ends.items) e.0) }
+    ensures kept { IfErr result (λ e. StayUncommitted round (first_ops ends.items) e.0) }
     ensures memory { IfErr result (λ e. e.1 ≡ Refusal.Memory) }
 {
     match round.gather(alloc, ends) {
         Ok(batch) => Ok(batch),
-        Err((round, ends, refusal)) => Err((Waiting::Ended(round, ends), refusal)),
+        Err((round, ends, refusal)) => Err((Uncommitted::Ended(round, ends), refusal)),
     }
 }
 
 /// Ends the one lane of a round, and gathers it.
-fn gather_lane(alloc: Global, round: Round, lane: Lane) -> Result<Batch, (Waiting, Refusal)>
+fn gather_lane(alloc: Global, round: Round, lane: Lane) -> Result<Batch, (Uncommitted, Refusal)>
     requires one_lane { HasOneLane round }
     requires lane { IsItsLane round lane }
     ensures batch { IfOk result (IsBatchOf round lane.ops) }
-    ensures kept { IfErr result (λ e. GoOnWaiting round lane.ops e.0) }
+    ensures kept { IfErr result (λ e. StayUncommitted round lane.ops e.0) }
     ensures memory { IfErr result (λ e. e.1 ≡ Refusal.Memory) }
 {
     let Ok(mut ends) = Vec::with_capacity(alloc, 1) else {
-        return Err((Waiting::Open(round, lane), Refusal::Memory));
+        return Err((Uncommitted::Open(round, lane), Refusal::Memory));
     };
     ends.push_reserved(lane.end());
     gather_end(alloc, round, ends)
 }
 
-/// Gathers what waits; where none does, a round without an operation.
-fn gather(alloc: Global, writer: &mut Writer, waiting: Waiting) -> Result<Batch, (Waiting, Refusal)>
-    requires waits { WaitsFor writer.old waiting }
+/// Gathers the uncommitted operations; where there are none, a round without one.
+fn gather(
+    alloc: Global,
+    writer: &mut Writer,
+    uncommitted: Uncommitted,
+) -> Result<Batch, (Uncommitted, Refusal)>
+    requires uncommitted { IsUncommittedIn writer.old uncommitted }
     requires stamps { writer.old.front.stamp ≤ 2 ^ 61 }
     requires rounds { writer.old.rounds ≤ 2 ^ 61 }
     ensures batch { IfOk result (IsItsBatch writer.new) }
-    ensures ops { IfOk result (λ batch. batch.ops ≡ ops_of waiting) }
-    ensures kept { IfErr result (λ e. ops_of e.0 ≡ ops_of waiting) }
-    ensures waits { IfErr result (λ e. WaitsFor writer.new e.0) }
+    ensures ops { IfOk result (λ batch. batch.ops ≡ ops_of uncommitted) }
+    ensures kept { IfErr result (λ e. ops_of e.0 ≡ ops_of uncommitted) }
+    ensures uncommitted { IfErr result (λ e. IsUncommittedIn writer.new e.0) }
     ensures memory { IfErr result (λ e. e.1 ≡ Refusal.Memory) }
     ensures front { writer.new.front ≡ writer.old.front }
     ensures counted { writer.new.rounds ≤ writer.old.rounds + 1 }
 {
-    match waiting {
-        Waiting::Nothing => match open(alloc, writer) {
+    match uncommitted {
+        Uncommitted::Nothing => match open(alloc, writer) {
             Ok((round, lane)) => gather_lane(alloc, round, lane),
-            Err(refusal) => Err((Waiting::Nothing, refusal)),
+            Err(refusal) => Err((Uncommitted::Nothing, refusal)),
         },
-        Waiting::Open(round, lane) => gather_lane(alloc, round, lane),
-        Waiting::Ended(round, ends) => gather_end(alloc, round, ends),
-        Waiting::Gathered(batch) => Ok(batch),
+        Uncommitted::Open(round, lane) => gather_lane(alloc, round, lane),
+        Uncommitted::Ended(round, ends) => gather_end(alloc, round, ends),
+        Uncommitted::Gathered(batch) => Ok(batch),
     }
 }
 
-/// Commits what waits, and then merges segments, where the options say so. At a refusal it goes on waiting.
-pub fn commit<R: Threads + Wait + Sync>(
+/// Commits the operations, and then merges segments, where the options say so. At a refusal they stay uncommitted.
+pub fn commit_and_merge<R: Threads + Wait + Sync>(
     rt: &R,
     alloc: Global,
     writer: &mut Writer,
-    waiting: &mut Waiting,
+    uncommitted: &mut Uncommitted,
     options: Options,
 ) -> Result<Committed, Refusal>
-    requires waits { WaitsFor writer.old waiting.old }
+    requires uncommitted { IsUncommittedIn writer.old uncommitted.old }
     requires stamps { writer.old.front.stamp ≤ 2 ^ 61 }
     requires rounds { writer.old.rounds ≤ 2 ^ 61 }
-    requires numbers { writer.old.front.snapshot.next_id + length (ops_of waiting.old) ≤ 2 ^ 62 }
-    requires fit { misfit writer.old.front.snapshot.schema (ops_of waiting.old) ≡ None }
-    ensures commits { OnOk result (Commits (ops_of waiting.old) writer.old writer.new) }
+    requires numbers { writer.old.front.snapshot.next_id + length (ops_of uncommitted.old) ≤ 2 ^ 62 }
+    requires fit { misfit writer.old.front.snapshot.schema (ops_of uncommitted.old) ≡ None }
+    ensures commits { OnOk result (Commits (ops_of uncommitted.old) writer.old writer.new) }
     ensures stamp { IfOk result (λ c. c.stamp ≡ writer.new.front.stamp) }
     ensures seen { IfOk result (λ c. c.seen.of ≡ writer.new.front.seen.of) }
-    ensures done { OnOk result (waiting.new ≡ Waiting.Nothing) }
+    ensures done { OnOk result (uncommitted.new ≡ Uncommitted.Nothing) }
     ensures front { OnErr result (writer.new.front ≡ writer.old.front) }
-    ensures kept { OnErr result (ops_of waiting.new ≡ ops_of waiting.old) }
-    ensures waits { WaitsFor writer.new waiting.new }
+    ensures kept { OnErr result (ops_of uncommitted.new ≡ ops_of uncommitted.old) }
+    ensures uncommitted { IsUncommittedIn writer.new uncommitted.new }
     ensures counted { writer.new.rounds ≤ writer.old.rounds + 1 }
     ensures memory { IsOkUnless result Refusal.Memory }
 {
-    let batch = match gather(alloc, writer, mem::replace(waiting, Waiting::Nothing)) {
+    let batch = match gather(
+        alloc,
+        writer,
+        mem::replace(uncommitted, Uncommitted::Nothing),
+    ) {
         Ok(batch) => batch,
         Err((kept, refusal)) => {
-            *waiting = kept;
+            *uncommitted = kept;
             return Err(refusal);
         }
     };
@@ -200,7 +220,7 @@ pub fn commit<R: Threads + Wait + Sync>(
             Ok(committed)
         }
         Err(refusal) => {
-            *waiting = Waiting::Gathered(batch);
+            *uncommitted = Uncommitted::Gathered(batch);
             Err(refusal)
         }
     }
