@@ -34,8 +34,8 @@ pub use answers::{answer_value, request_of};
 pub use fields::{fields_of, schema_of};
 pub use judge::{fits, refused};
 pub use member::{
-    entry, flag, ids, list, nonempty, number, numbers, only, optional_flag, optional_list,
-    optional_number, optional_text, size, text, unknown,
+    entry, flag, ids, list, nonempty, number, numbers, only, only_in_case, optional_flag,
+    optional_list, optional_number, optional_text, size, text, unknown,
 };
 pub use operations::{op_of, term_of};
 pub use trouble::Trouble;

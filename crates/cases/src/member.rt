@@ -101,12 +101,22 @@ pub fn optional_list<'a>(
 
 /// Refuses each member of an object that isn't of these names.
 pub fn only(alloc: Global, object: &Value, names: &[&str]) -> Result<(), Trouble> {
+    only_of(alloc, object, &[], names)
+}
+
+/// Refuses each member of a case that isn't of these names, or its sentence, its word or what it gives.
+pub fn only_in_case(alloc: Global, case: &Value, names: &[&str]) -> Result<(), Trouble> {
+    only_of(alloc, case, &["case", "do", "gives"], names)
+}
+
+fn only_of(alloc: Global, object: &Value, names: &[&str], more: &[&str]) -> Result<(), Trouble> {
     let Value::Object(members) = object else {
         return Err(Trouble::NoObject);
     };
     for (name, _) in members.iter() {
-        if !names.contains(&name.as_str()) {
-            return Err(Trouble::UnknownMember(String::from_str(alloc, name.as_str())?));
+        let name = name.as_str();
+        if !names.contains(&name) && !more.contains(&name) {
+            return Err(Trouble::UnknownMember(String::from_str(alloc, name)?));
         }
     }
     Ok(())

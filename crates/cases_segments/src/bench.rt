@@ -2,7 +2,8 @@
 ghost use Rattle.std.specs.Prelude.{◌≡◌};
 
 use cases::{
-    Trouble, list, nonempty, number, numbers, only, optional_flag, optional_list, schema_of,
+    Trouble, list, nonempty, number, numbers, only, only_in_case, optional_flag, optional_list,
+    schema_of,
 };
 use fts_model::{Document, Schema};
 use fts_pack::Bits;
@@ -56,6 +57,12 @@ fn add_all(
     Ok(())
 }
 
+/// How often a run has its documents, and these.
+fn run_of(alloc: Global, run: &Value) -> Result<(u64, &[Value]), Trouble> {
+    only(alloc, run, &["times", "of"])?;
+    Ok((number(run, "times")?, nonempty(run, "of")?))
+}
+
 /// Adds the documents of a run so often as it says.
 fn add_run(
     alloc: Global,
@@ -66,9 +73,8 @@ fn add_run(
     requires { builder.old.segment.schema ≡ schema.now }
     ensures { builder.new.segment.schema ≡ schema.now }
 {
-    only(alloc, run, &["times", "of"])?;
-    let documents = nonempty(run, "of")?;
-    for _ in 0..number(run, "times")? {
+    let (times, documents) = run_of(alloc, run)?;
+    for _ in 0..times {
         add_all(alloc, builder, schema, &[], documents)?;
     }
     Ok(())
@@ -94,26 +100,9 @@ fn fill(alloc: Global, builder: &mut Builder, schema: &Schema, case: &Value) -> 
     requires { builder.old.segment.schema ≡ schema.now }
 {
     if let Some(runs) = optional_list(case, "runs")? {
-        only(
-            alloc,
-            case,
-            &["case", "do", "gives", "schema", "merging", "runs"],
-        )?;
+        only_in_case(alloc, case, &["schema", "merging", "runs"])?;
         return add_runs(alloc, builder, schema, runs);
     }
-    only(
-        alloc,
-        case,
-        &[
-            "case",
-            "do",
-            "gives",
-            "schema",
-            "merging",
-            "documents",
-            "stamps",
-        ],
-    )?;
     let documents = list(case, "documents")?;
     let mut stamps = Vec::new(alloc);
     if optional_list(case, "stamps")?.is_some() {
@@ -142,15 +131,20 @@ pub(crate) fn made(alloc: Global, case: &Value) -> Result<Bench, Trouble> {
     Ok(Bench { segment, live })
 }
 
-/// Clears the bits of the documents of a case, and gives how many are left.
-pub(crate) fn cleared(alloc: Global, live: &mut Bits, case: &Value) -> Result<Value, Trouble> {
-    only(alloc, case, &["case", "do", "gives", "docs"])?;
-    for doc in &numbers(alloc, case, "docs")? {
+/// Clears the bits of documents.
+fn clear_all(live: &mut Bits, docs: &[u32]) -> Result<(), Trouble> {
+    for doc in docs {
         let doc = *doc as usize;
         if doc >= live.len() {
             return Err(Trouble::Impossible("no such document"));
         }
         live.clear(doc);
     }
+    Ok(())
+}
+
+/// Clears the bits of the documents of a case, and gives how many are left.
+pub(crate) fn cleared(alloc: Global, live: &mut Bits, case: &Value) -> Result<Value, Trouble> {
+    clear_all(live, &numbers(alloc, case, "docs")?)?;
     Ok(json!(in alloc; live.count_ones())?)
 }

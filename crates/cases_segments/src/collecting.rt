@@ -1,7 +1,7 @@
 // Cases of what all segments that were made tell together: `answer` and `answer_openings`.
 use crate::bench::Bench;
 use crate::texts::text_of;
-use cases::{Trouble, answer_value, only, request_of};
+use cases::{Trouble, answer_value, request_of};
 use fts_collect::{Part, collect};
 use fts_model::Request;
 use fts_query::parse;
@@ -27,11 +27,6 @@ fn part_of(
 
 /// What all segments tell together.
 fn answered(alloc: Global, case: &Value, made: &[Bench]) -> Result<Value, Trouble> {
-    only(
-        alloc,
-        case,
-        &["case", "do", "gives", "query", "groups", "top"],
-    )?;
     let query = text_of(alloc, case, "query")?;
     let mut parts = Vec::new(alloc);
     let mut asked = None;
@@ -51,7 +46,6 @@ fn answered(alloc: Global, case: &Value, made: &[Bench]) -> Result<Value, Troubl
 
 /// How many blocks are opened for an answer.
 fn openings(alloc: Global, case: &Value, made: &[Bench]) -> Result<Value, Trouble> {
-    only(alloc, case, &["case", "do", "gives", "query"])?;
     let query = text_of(alloc, case, "query")?;
     let mut openings = 0u64;
     for bench in made {

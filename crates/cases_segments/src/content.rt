@@ -1,7 +1,6 @@
 // Cases of documents and of what is alive: `document`, `long_document`, `fits`, `has`, `term` and `alive`.
 use cases::{
-    Trouble, entry, fields_of, list, nonempty, number, only, op_of, schema_of, stamps, term_of,
-    text,
+    Trouble, entry, fields_of, list, nonempty, number, op_of, schema_of, stamps, term_of, text,
 };
 use fts_model::scan::{alive, has};
 use fts_model::{Document, Op, Schema, Stamped};
@@ -19,17 +18,11 @@ fn printed(alloc: Global, schema: &Schema, json: &Value) -> Result<Value, Troubl
 }
 
 fn document(alloc: Global, case: &Value) -> Result<Value, Trouble> {
-    only(alloc, case, &["case", "do", "gives", "schema", "document"])?;
     printed(alloc, &schema_of(alloc, case)?, entry(case, "document")?)
 }
 
 /// How many bytes the value has of a document with so many times `x` in a field.
 fn long_document(alloc: Global, case: &Value) -> Result<Value, Trouble> {
-    only(
-        alloc,
-        case,
-        &["case", "do", "gives", "schema", "field", "times"],
-    )?;
     let mut long = String::new(alloc);
     for _ in 0..number(case, "times")? {
         long.push('x')?;
@@ -43,7 +36,6 @@ fn long_document(alloc: Global, case: &Value) -> Result<Value, Trouble> {
 
 /// Whether a document of the four fields fits another schema, when it fits its own.
 fn fits(alloc: Global, case: &Value) -> Result<Value, Trouble> {
-    only(alloc, case, &["case", "do", "gives", "document", "fields"])?;
     let here = schema_of(alloc, &json!(in alloc; {})?)?;
     let document = Document::from_json(alloc, &here, entry(case, "document")?)?;
     if !document.fits(&here) {
@@ -57,7 +49,6 @@ fn fits(alloc: Global, case: &Value) -> Result<Value, Trouble> {
 
 /// Whether a term fits the schema that it was made under.
 fn term(alloc: Global, case: &Value) -> Result<Value, Trouble> {
-    only(alloc, case, &["case", "do", "gives", "schema", "term"])?;
     let schema = schema_of(alloc, case)?;
     let term = term_of(alloc, &schema, entry(case, "term")?)?;
     let fits = term.fits(&schema) && Op::Delete(term).fits(&schema);
@@ -66,11 +57,6 @@ fn term(alloc: Global, case: &Value) -> Result<Value, Trouble> {
 
 /// Whether a document has a term.
 fn has_term(alloc: Global, case: &Value) -> Result<Value, Trouble> {
-    only(
-        alloc,
-        case,
-        &["case", "do", "gives", "schema", "document", "term"],
-    )?;
     let schema = schema_of(alloc, case)?;
     let document = Document::from_json(alloc, &schema, entry(case, "document")?)?;
     let term = term_of(alloc, &schema, entry(case, "term")?)?;
@@ -79,7 +65,6 @@ fn has_term(alloc: Global, case: &Value) -> Result<Value, Trouble> {
 
 /// The stamps of what is alive after the operations of a list, whose stamps are 1, 2, 3 and so on.
 fn alive_stamps(alloc: Global, case: &Value) -> Result<Value, Trouble> {
-    only(alloc, case, &["case", "do", "gives", "schema", "ops"])?;
     let schema = schema_of(alloc, case)?;
     let mut ops = Vec::new(alloc);
     let mut stamp = 0u64;

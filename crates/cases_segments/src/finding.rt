@@ -1,7 +1,7 @@
 // Cases of what a query finds in the first segment that was made: `found` and `count`.
 use crate::bench::Bench;
 use crate::texts::text_of;
-use cases::{Trouble, documents, only};
+use cases::{Trouble, documents};
 use fts_cursor::{Cursor, DocSet, cursor_of};
 use fts_model::{Query, scan};
 use fts_query::parse;
@@ -104,7 +104,6 @@ fn found_of(alloc: Global, bench: &Bench, text: &str) -> Result<Value, Trouble> 
 
 /// The documents that the query of a case finds.
 fn found(alloc: Global, case: &Value, bench: &Bench) -> Result<Value, Trouble> {
-    only(alloc, case, &["case", "do", "gives", "query"])?;
     let text = text_of(alloc, case, "query")?;
     found_of(alloc, bench, text.as_str())
 }

@@ -67,7 +67,6 @@ fn places(
 
 /// Where a term stands in the document of each posting, or `null` where there is no list.
 fn all_positions(alloc: Global, case: &Value, segment: &Segment) -> Result<Value, Trouble> {
-    only(alloc, case, &["case", "do", "gives", "term"])?;
     let Some(list) = segment.find(&term_of(alloc, case)?) else {
         return Ok(Value::Null);
     };
@@ -80,7 +79,6 @@ fn all_positions(alloc: Global, case: &Value, segment: &Segment) -> Result<Value
 
 /// Where a term stands in the document of a posting, or `null` where there is no list.
 fn positions(alloc: Global, case: &Value, segment: &Segment) -> Result<Value, Trouble> {
-    only(alloc, case, &["case", "do", "gives", "term", "posting"])?;
     let posting = size(case, "posting")?;
     let Some(list) = segment.find(&term_of(alloc, case)?) else {
         return Ok(Value::Null);
@@ -90,7 +88,6 @@ fn positions(alloc: Global, case: &Value, segment: &Segment) -> Result<Value, Tr
 
 /// The numbers of a field, as they are kept, or `null` where it is no number field.
 fn column(alloc: Global, case: &Value, segment: &Segment) -> Result<Value, Trouble> {
-    only(alloc, case, &["case", "do", "gives", "field"])?;
     let field = size(case, "field")?;
     let schema = segment.schema();
     if field >= schema.fields().len() || !schema.kind(field).holds_numbers() {
@@ -106,7 +103,6 @@ fn column(alloc: Global, case: &Value, segment: &Segment) -> Result<Value, Troub
 
 /// A document and its stamp.
 fn stored(alloc: Global, case: &Value, segment: &Segment) -> Result<Value, Trouble> {
-    only(alloc, case, &["case", "do", "gives", "doc"])?;
     let doc = size(case, "doc")?;
     if doc >= segment.docs() {
         return Err(Trouble::Impossible("no such document"));
@@ -115,15 +111,19 @@ fn stored(alloc: Global, case: &Value, segment: &Segment) -> Result<Value, Troub
     Ok(json!(in alloc; {"stamp": (segment.stamp(doc)), "document": json})?)
 }
 
-/// The stamps of all documents of a copy.
-fn copied(alloc: Global, case: &Value, segment: &Segment) -> Result<Value, Trouble> {
-    only(alloc, case, &["case", "do", "gives"])?;
-    let copy = segment.clone()?;
+/// The stamps of all documents.
+fn stamps_of(alloc: Global, segment: &Segment) -> Result<Value, Trouble> {
     let mut found = Vec::new(alloc);
-    for doc in 0..copy.docs() {
-        found.push(copy.stamp(doc))?;
+    for doc in 0..segment.docs() {
+        found.push(segment.stamp(doc))?;
     }
     Ok(stamps(alloc, &found)?)
+}
+
+/// The stamps of all documents of a copy.
+fn copied(alloc: Global, segment: &Segment) -> Result<Value, Trouble> {
+    let copy = segment.clone()?;
+    stamps_of(alloc, &copy)
 }
 
 /// What a word gives, if it is one of these.
@@ -134,15 +134,12 @@ pub(crate) fn given(
     segment: &Segment,
 ) -> Result<Option<Value>, Trouble> {
     match word {
-        "postings" => {
-            only(alloc, case, &["case", "do", "gives", "term"])?;
-            Ok(Some(postings(alloc, case, segment)?))
-        }
+        "postings" => Ok(Some(postings(alloc, case, segment)?)),
         "positions" => Ok(Some(positions(alloc, case, segment)?)),
         "all_positions" => Ok(Some(all_positions(alloc, case, segment)?)),
         "column" => Ok(Some(column(alloc, case, segment)?)),
         "stored" => Ok(Some(stored(alloc, case, segment)?)),
-        "stamps" => Ok(Some(copied(alloc, case, segment)?)),
+        "stamps" => Ok(Some(copied(alloc, segment)?)),
         _ => Ok(None),
     }
 }

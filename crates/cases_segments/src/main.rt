@@ -15,11 +15,72 @@ mod texts;
 mod walking;
 
 use bench::{Bench, cleared, made};
-use cases::{Driver, Trouble, run, text, unknown};
+use cases::{Driver, Trouble, only_in_case, run, text, unknown};
 use serde_json::{Value, json};
 use std::alloc::Global;
 use std::io;
 use std::process::ExitCode;
+
+/// What a case of each word may have beside its sentence, its word and what it gives.
+const MEMBERS: [(&str, &[&str]); 41] = [
+    ("tokens", &["text"]),
+    ("places", &["text"]),
+    ("fold", &["text", "behind"]),
+    ("schema", &["fields"]),
+    ("field", &["schema", "name"]),
+    ("document", &["schema", "document"]),
+    ("long_document", &["schema", "field", "times"]),
+    ("fits", &["document", "fields"]),
+    ("term", &["schema", "term"]),
+    ("has", &["schema", "document", "term"]),
+    ("alive", &["schema", "ops"]),
+    ("parse", &["schema", "query"]),
+    ("syntax_byte", &["schema", "query"]),
+    ("scan", &["schema", "documents", "query", "groups", "top"]),
+    ("pattern", &["schema", "documents", "pattern"]),
+    ("request", &["schema", "groups", "top"]),
+    ("block", &["numbers"]),
+    ("block_words", &["numbers"]),
+    ("numbers", &["numbers"]),
+    ("column_of", &["values"]),
+    ("column_words", &["values"]),
+    ("bits", &["len", "all", "set", "clear"]),
+    ("signed", &["number"]),
+    (
+        "make",
+        &["schema", "merging", "documents", "stamps", "runs"],
+    ),
+    (
+        "and_make",
+        &["schema", "merging", "documents", "stamps", "runs"],
+    ),
+    ("clear", &["docs"]),
+    ("answer", &["query", "groups", "top"]),
+    ("answer_openings", &["query"]),
+    ("plan", &["sizes"]),
+    ("postings", &["term"]),
+    ("positions", &["term", "posting"]),
+    ("all_positions", &["term"]),
+    ("column", &["field"]),
+    ("stored", &["doc"]),
+    ("stamps", &[]),
+    ("found", &["query"]),
+    ("count", &["query"]),
+    ("walk", &["query", "steps"]),
+    ("strike", &["ops"]),
+    ("merge", &["first", "second"]),
+    ("merged_postings", &["first", "second", "term"]),
+];
+
+/// Refuses a word that isn't there, and a member that its cases don't have.
+fn check_members(alloc: Global, word: &str, case: &Value) -> Result<(), Trouble> {
+    for (name, members) in &MEMBERS {
+        if *name == word {
+            return only_in_case(alloc, case, members);
+        }
+    }
+    Err(unknown(alloc, word))
+}
 
 /// The segments that earlier cases of the file made.
 #[derive(Drop)]
@@ -87,6 +148,7 @@ impl Driver for Segments {
 
     fn give(&mut self, alloc: Global, case: &Value) -> Result<Value, Trouble> {
         let word = text(case, "do")?;
+        check_members(alloc, word, case)?;
         if word == "make" || word == "and_make" {
             let bench = made(alloc, case)?;
             let docs = bench.segment.docs();

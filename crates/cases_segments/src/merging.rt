@@ -9,14 +9,19 @@ use fts_segment::Segment;
 use serde_json::{Value, json};
 use std::alloc::Global;
 
-/// The operations of a list of objects `{"stamp":STAMP,"op":OPERATION}`.
+/// The operation of an object `{"stamp":STAMP,"op":OPERATION}`.
+fn stamped_op(alloc: Global, schema: &Schema, item: &Value) -> Result<Stamped<Op>, Trouble> {
+    only(alloc, item, &["stamp", "op"])?;
+    let stamp = number(item, "stamp")?;
+    let value = op_of(alloc, schema, entry(item, "op")?)?;
+    Ok(Stamped { stamp, value })
+}
+
+/// The operations of a list of such objects.
 fn ops_of(alloc: Global, schema: &Schema, items: &[Value]) -> Result<Vec<Stamped<Op>>, Trouble> {
     let mut ops = Vec::new(alloc);
     for item in items {
-        only(alloc, item, &["stamp", "op"])?;
-        let stamp = number(item, "stamp")?;
-        let value = op_of(alloc, schema, entry(item, "op")?)?;
-        ops.push(Stamped { stamp, value })?;
+        ops.push(stamped_op(alloc, schema, item)?)?;
     }
     Ok(ops)
 }
@@ -34,7 +39,6 @@ fn live_documents(alloc: Global, live: &Bits) -> Result<Value, Trouble> {
 
 /// The documents that are live behind operations. The segment's own bits stay.
 fn struck(alloc: Global, case: &Value, bench: &Bench) -> Result<Value, Trouble> {
-    only(alloc, case, &["case", "do", "gives", "ops"])?;
     let ops = ops_of(alloc, bench.segment.schema(), list(case, "ops")?)?;
     if bench.live.len() != bench.segment.docs() {
         return Err(Trouble::Impossible("not one bit a document"));
@@ -79,7 +83,6 @@ fn merged_of(alloc: Global, case: &Value, bench: &Bench) -> Result<Merged, Troub
 
 /// Each merged document as its stamp, its source and its number there.
 fn merged_documents(alloc: Global, case: &Value, bench: &Bench) -> Result<Value, Trouble> {
-    only(alloc, case, &["case", "do", "gives", "first", "second"])?;
     let merged = merged_of(alloc, case, bench)?;
     let segment = merged.segment();
     let mut list = Vec::new(alloc);
@@ -95,18 +98,12 @@ fn merged_documents(alloc: Global, case: &Value, bench: &Bench) -> Result<Value,
 
 /// The merged documents that have a term.
 fn merged_postings(alloc: Global, case: &Value, bench: &Bench) -> Result<Value, Trouble> {
-    only(
-        alloc,
-        case,
-        &["case", "do", "gives", "first", "second", "term"],
-    )?;
     let merged = merged_of(alloc, case, bench)?;
     postings(alloc, case, merged.segment())
 }
 
 /// What is to be merged of segments of these sizes: their places, by candidates.
 pub(crate) fn planned(alloc: Global, case: &Value) -> Result<Value, Trouble> {
-    only(alloc, case, &["case", "do", "gives", "sizes"])?;
     let sizes = numbers(alloc, case, "sizes")?;
     let mut candidates = Vec::new(alloc);
     for candidate in &plan(alloc, &sizes)? {

@@ -1,38 +1,39 @@
 // Cases of packed numbers: `block`, `block_words`, `numbers`, `column_of`, `column_words`, `bits` and `signed`.
-use cases::{Trouble, documents, entry, list, numbers, only, size, some_number, stamps};
+use cases::{Trouble, documents, entry, list, numbers, size, some_number, stamps};
 use fts_pack::{Bits, Block, Column, Numbers, i64_to_u64, u64_to_i64};
 use serde_json::{Value, json};
 use std::alloc::{AllocError, Global};
 
-/// What comes back of a block of up to 128 numbers.
-fn block(alloc: Global, case: &Value) -> Result<Value, Trouble> {
-    only(alloc, case, &["case", "do", "gives", "numbers"])?;
+/// A block of up to 128 numbers.
+fn packed(alloc: Global, case: &Value) -> Result<Block, Trouble> {
     let numbers = numbers(alloc, case, "numbers")?;
     if numbers.len() > 128 {
         return Err(Trouble::Impossible("more than a block"));
     }
+    Ok(Block::pack(alloc, &numbers)?)
+}
+
+/// What comes back of a block.
+fn block(alloc: Global, case: &Value) -> Result<Value, Trouble> {
     let mut out = [7; 128];
-    let count = Block::pack(alloc, &numbers)?.unpack(&mut out);
+    let count = packed(alloc, case)?.unpack(&mut out);
     Ok(documents(alloc, out.get(..count).unwrap_or(&[]))?)
 }
 
-/// The width of a block of up to 128 numbers, and the words in which they lie.
+/// The width of a block, and the words in which its numbers lie.
 fn block_words(alloc: Global, case: &Value) -> Result<Value, Trouble> {
-    only(alloc, case, &["case", "do", "gives", "numbers"])?;
-    let numbers = numbers(alloc, case, "numbers")?;
-    if numbers.len() > 128 {
-        return Err(Trouble::Impossible("more than a block"));
-    }
-    let block = Block::pack(alloc, &numbers)?;
+    let block = packed(alloc, case)?;
     let words = documents(alloc, block.words())?;
     Ok(json!(in alloc; {"width": (block.width()), "words": words})?)
 }
 
 /// What comes back of any number of numbers, each asked by itself.
 fn each_number(alloc: Global, case: &Value) -> Result<Value, Trouble> {
-    only(alloc, case, &["case", "do", "gives", "numbers"])?;
     let numbers = numbers(alloc, case, "numbers")?;
-    let packed = Numbers::build(alloc, &numbers)?;
+    unpacked(alloc, &Numbers::build(alloc, &numbers)?)
+}
+
+fn unpacked(alloc: Global, packed: &Numbers) -> Result<Value, Trouble> {
     let mut found = Vec::new(alloc);
     for index in 0..packed.len() {
         found.push(packed.get(index))?;
@@ -55,7 +56,6 @@ fn values_of(alloc: Global, items: &[Value]) -> Result<Vec<Option<u64>>, Trouble
 
 /// The column of the values of a case.
 fn built(alloc: Global, case: &Value) -> Result<Column, Trouble> {
-    only(alloc, case, &["case", "do", "gives", "values"])?;
     let values = values_of(alloc, list(case, "values")?)?;
     if values.len() > 1_048_576 {
         return Err(Trouble::Impossible("more than a segment's values"));
@@ -93,47 +93,45 @@ fn column(alloc: Global, case: &Value) -> Result<Value, Trouble> {
 
 /// The words of so many bits, all set or all clear, of which some are then set and some cleared.
 fn bits(alloc: Global, case: &Value) -> Result<Value, Trouble> {
-    only(
-        alloc,
-        case,
-        &["case", "do", "gives", "len", "all", "set", "clear"],
-    )?;
     let len = size(case, "len")?;
     let mut bits = match entry(case, "all")?.as_bool() {
         Some(true) => Bits::all_set(alloc, len)?,
         Some(false) => Bits::all_clear(alloc, len)?,
         None => return Err(Trouble::WrongKind("all")),
     };
-    for bit in &numbers(alloc, case, "set")? {
-        turn(&mut bits, *bit as usize, true)?;
-    }
-    for bit in &numbers(alloc, case, "clear")? {
-        turn(&mut bits, *bit as usize, false)?;
-    }
+    turn(&mut bits, &numbers(alloc, case, "set")?, true)?;
+    turn(&mut bits, &numbers(alloc, case, "clear")?, false)?;
+    let words = words_of(alloc, &bits)?;
+    Ok(json!(in alloc; {"ones": (bits.count_ones()), "words": words})?)
+}
+
+/// The words of bits, and one behind the last.
+fn words_of(alloc: Global, bits: &Bits) -> Result<Value, AllocError> {
     let mut words = Vec::new(alloc);
     for word in 0..bits.len().div_ceil(64).saturating_add(1) {
         words.push(bits.word(word))?;
     }
-    let words = stamps(alloc, &words)?;
-    Ok(json!(in alloc; {"ones": (bits.count_ones()), "words": words})?)
+    stamps(alloc, &words)
 }
 
-/// Sets or clears a bit.
-fn turn(bits: &mut Bits, bit: usize, on: bool) -> Result<(), Trouble> {
-    if bit >= bits.len() {
-        return Err(Trouble::Impossible("no such bit"));
-    }
-    if on {
-        bits.set(bit);
-    } else {
-        bits.clear(bit);
+/// Sets or clears bits.
+fn turn(bits: &mut Bits, places: &[u32], on: bool) -> Result<(), Trouble> {
+    for place in places {
+        let bit = *place as usize;
+        if bit >= bits.len() {
+            return Err(Trouble::Impossible("no such bit"));
+        }
+        if on {
+            bits.set(bit);
+        } else {
+            bits.clear(bit);
+        }
     }
     Ok(())
 }
 
 /// The place of a signed number among the numbers from 0 on, and what stands at that place.
 fn signed(alloc: Global, case: &Value) -> Result<Value, Trouble> {
-    only(alloc, case, &["case", "do", "gives", "number"])?;
     let number = entry(case, "number")?
         .as_i64()
         .ok_or(Trouble::WrongKind("number"))?;

@@ -1,6 +1,6 @@
 // Cases of queries without a segment: `parse`, `syntax_byte`, `scan`, `pattern` and `request`.
 use crate::texts::text_of;
-use cases::{Trouble, answer_value, nonempty, only, request_of, schema_of};
+use cases::{Trouble, answer_value, nonempty, request_of, schema_of};
 use fts_model::scan::answer;
 use fts_model::{Document, Query, Refusal, Schema, Stamped, Text};
 use fts_query::parse;
@@ -9,7 +9,6 @@ use std::alloc::Global;
 
 /// Whether a query is one.
 fn parsed(alloc: Global, case: &Value) -> Result<Value, Trouble> {
-    only(alloc, case, &["case", "do", "gives", "schema", "query"])?;
     let schema = schema_of(alloc, case)?;
     let text = text_of(alloc, case, "query")?;
     let query = parse(alloc, &schema, text.as_str())?;
@@ -18,7 +17,6 @@ fn parsed(alloc: Global, case: &Value) -> Result<Value, Trouble> {
 
 /// The byte up to which a text is the beginning of a query.
 fn syntax_byte(alloc: Global, case: &Value) -> Result<Value, Trouble> {
-    only(alloc, case, &["case", "do", "gives", "schema", "query"])?;
     let schema = schema_of(alloc, case)?;
     let text = text_of(alloc, case, "query")?;
     match parse(alloc, &schema, text.as_str()) {
@@ -46,20 +44,6 @@ fn stamped(
 
 /// What a look at each document answers.
 fn scanned(alloc: Global, case: &Value) -> Result<Value, Trouble> {
-    only(
-        alloc,
-        case,
-        &[
-            "case",
-            "do",
-            "gives",
-            "schema",
-            "documents",
-            "query",
-            "groups",
-            "top",
-        ],
-    )?;
     let schema = schema_of(alloc, case)?;
     let documents = stamped(alloc, &schema, nonempty(case, "documents")?)?;
     let query = parse(alloc, &schema, text_of(alloc, case, "query")?.as_str())?;
@@ -70,31 +54,27 @@ fn scanned(alloc: Global, case: &Value) -> Result<Value, Trouble> {
     )
 }
 
+/// An offset and a token of a pair.
+fn member_of(alloc: Global, pair: &Value) -> Result<(u32, Text), Trouble> {
+    let offset = pair.get(0usize).and_then(Value::as_u64);
+    let token = pair.get(1usize).and_then(Value::as_str);
+    match (offset.and_then(|offset| u32::try_from(offset).ok()), token) {
+        (Some(offset), Some(token)) => Ok((offset, Text::new(String::from_str(alloc, token)?))),
+        _ => Err(Trouble::WrongKind("pattern")),
+    }
+}
+
 /// The tokens of a list of pairs, each an offset and a token.
 fn pattern_of(alloc: Global, items: &[Value]) -> Result<Vec<(u32, Text)>, Trouble> {
     let mut pattern = Vec::new(alloc);
     for item in items {
-        let offset = item
-            .get(0usize)
-            .and_then(Value::as_u64)
-            .ok_or(Trouble::WrongKind("pattern"))?;
-        let token = item
-            .get(1usize)
-            .and_then(Value::as_str)
-            .ok_or(Trouble::WrongKind("pattern"))?;
-        let offset = u32::try_from(offset).map_err(|_| Trouble::WrongKind("pattern"))?;
-        pattern.push((offset, Text::new(String::from_str(alloc, token)?)))?;
+        pattern.push(member_of(alloc, item)?)?;
     }
     Ok(pattern)
 }
 
 /// How many documents have tokens at offsets from some one place of their first field.
 fn with_pattern(alloc: Global, case: &Value) -> Result<Value, Trouble> {
-    only(
-        alloc,
-        case,
-        &["case", "do", "gives", "schema", "documents", "pattern"],
-    )?;
     let schema = schema_of(alloc, case)?;
     let documents = stamped(alloc, &schema, nonempty(case, "documents")?)?;
     let pattern = pattern_of(alloc, nonempty(case, "pattern")?)?;
@@ -109,11 +89,6 @@ fn with_pattern(alloc: Global, case: &Value) -> Result<Value, Trouble> {
 
 /// Whether what is asked by values fits the schema.
 fn request(alloc: Global, case: &Value) -> Result<Value, Trouble> {
-    only(
-        alloc,
-        case,
-        &["case", "do", "gives", "schema", "groups", "top"],
-    )?;
     let schema = schema_of(alloc, case)?;
     let request = request_of(alloc, &schema, case)?;
     Ok(json!(in alloc; (request.fits(&schema)))?)

@@ -1,5 +1,5 @@
 // Cases of schemas: `schema` and `field`.
-use cases::{Trouble, fields_of, list, only, schema_of, text};
+use cases::{Trouble, fields_of, list, schema_of, text};
 use fts_model::{Kind, Schema};
 use serde_json::{Value, json};
 use std::alloc::Global;
@@ -26,7 +26,6 @@ fn shown(alloc: Global, schema: &Schema) -> Result<Value, Trouble> {
 
 /// The fields of the schema of a list of fields. Where it is refused, how many fields come back.
 fn schema(alloc: Global, case: &Value) -> Result<Value, Trouble> {
-    only(alloc, case, &["case", "do", "gives", "fields"])?;
     let fields = fields_of(alloc, list(case, "fields")?)?;
     match Schema::new(alloc, fields) {
         Ok(schema) => shown(alloc, &schema),
@@ -39,7 +38,6 @@ fn schema(alloc: Global, case: &Value) -> Result<Value, Trouble> {
 
 /// The number and the kind of the field of a name, or `null`.
 fn field(alloc: Global, case: &Value) -> Result<Value, Trouble> {
-    only(alloc, case, &["case", "do", "gives", "schema", "name"])?;
     let schema = schema_of(alloc, case)?;
     match schema.field(text(case, "name")?) {
         Some(field) if field < schema.fields().len() => {

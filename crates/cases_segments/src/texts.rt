@@ -43,14 +43,12 @@ fn listed(alloc: Global, text: &str) -> Result<Vec<Value>, Trouble> {
 
 /// The tokens of the text of a case.
 fn tokens(alloc: Global, case: &Value) -> Result<Value, Trouble> {
-    only(alloc, case, &["case", "do", "gives", "text"])?;
     let text = text_of(alloc, case, "text")?;
     Ok(Value::Array(listed(alloc, text.as_str())?))
 }
 
 /// Each token as its position and the bytes where its run begins and ends.
 fn places(alloc: Global, case: &Value) -> Result<Value, Trouble> {
-    only(alloc, case, &["case", "do", "gives", "text"])?;
     let text = text_of(alloc, case, "text")?;
     let mut list = Vec::new(alloc);
     for token in Tokens::new(text.as_str()) {
@@ -61,7 +59,6 @@ fn places(alloc: Global, case: &Value) -> Result<Value, Trouble> {
 
 /// A text folded behind another.
 fn folded(alloc: Global, case: &Value) -> Result<Value, Trouble> {
-    only(alloc, case, &["case", "do", "gives", "text", "behind"])?;
     let mut out = String::from_str(alloc, text(case, "behind")?)?;
     fold_into(text(case, "text")?, &mut out)?;
     Ok(json!(in alloc; out.as_str())?)

@@ -51,7 +51,6 @@ fn moved(alloc: Global, cursor: &mut Cursor, step: &Value) -> Result<Option<Valu
 
 /// What the steps of a walk give, each that gives something.
 fn walked(alloc: Global, case: &Value, bench: &Bench) -> Result<Value, Trouble> {
-    only(alloc, case, &["case", "do", "gives", "query", "steps"])?;
     let mut cursor = cursor(alloc, bench, text_of(alloc, case, "query")?.as_str())?;
     let mut list = Vec::new(alloc);
     for step in nonempty(case, "steps")? {

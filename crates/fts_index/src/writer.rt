@@ -17,7 +17,7 @@ use crate::publications::{CommitSeen, Publisher, Reader, Searcher};
 use fts_model::{Cut, Op, Refusal, Schema, Stamp, Stamped};
 use fts_pool::Gate;
 use fts_snapshots::{
-    Batch, Lane, MergeJob, MergedSegment, Round, SegmentInfo, Snapshot, RoundLimits, open_round,
+    Batch, Lane, MergeJob, MergedSegment, Round, RoundLimits, SegmentInfo, Snapshot, open_round,
 };
 use std::alloc::Global;
 use std::marker::Model;
