@@ -1,12 +1,13 @@
 // What follows from the definitions alone.
 ghost use Rattle.std.specs.Prelude.{◌≡◌, ℕ, List, [], ◌∷◌, Some, codes};
 ghost use Rattle.clap.specs.declared.error.kind.ErrorKind.TheVariants.{DisplayHelp, DisplayVersion};
-ghost use Rattle.clap.specs.declared.error.kind.ErrorKind.TheVariants.{InvalidValue, MissingSubcommand, ValueValidation};
+ghost use Rattle.clap.specs.declared.error.kind.ErrorKind.TheVariants.{InvalidValue, MissingSubcommand};
+ghost use Rattle.clap.specs.declared.error.kind.ErrorKind.TheVariants.{ValueValidation};
 ghost use Rattle.fts.specs.Arguments.{faults_of};
 ghost use Rattle.fts.specs.RunOptions.{Places, given_to_run, number_given};
 
-/// Behind the program's name, `run` alone asks for a run, `--help` for help, `--version` for the version, and no word for
-/// nothing. A number of workers is read, and refused beyond 64; so is a time of merges that there isn't.
+/// Behind the program's name, `run` alone asks for a run, `--help` for help, `--version` for the version, and no word
+/// for nothing. A number of workers is read, and refused beyond 64; so is a time of merges that there isn't.
 pub fn command_line()
     ensures run { (places : Places) (name : List ℕ) →
         faults_of places (name ∷ codes "run" ∷ []) ≡ [] }

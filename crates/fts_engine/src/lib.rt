@@ -1,8 +1,8 @@
 //! An index of segments under a script.
 //!
-//! [`IndexEngine`] is an engine of scripts over a writer of segments: it submits to rounds of one lane, commits them cut
-//! as its options say, merges as they say, and searches the last commit through a reader. For every cutting, merging
-//! and number of workers it takes the same steps as a plain list of documents, so no option changes a reply.
+//! [`IndexEngine`] is an engine of scripts over a writer of segments: it submits to rounds of one lane, commits them
+//! cut as its options say, merges as they say, and searches the last commit through a reader. For every cutting,
+//! merging and number of workers it takes the same steps as a plain list of documents, so no option changes a reply.
 //!
 //! ```text
 //! run_script::<IndexEngine, _, _>(rt, &mut streams, options)?;

@@ -3,8 +3,9 @@ ghost use Rattle.std.specs.Prelude.{◌≡◌, ◌≢◌, ◌+◌, ◌*◌, ◌^
 ghost use Rattle.std.specs.Prelude.{Some, length, IfOk, IfErr, OnOk, OnErr, IsOkUnless};
 ghost use Rattle.fts_snapshots.specs.Rounds.{fresh};
 ghost use Rattle.fts_snapshots.specs.Commits.{misfit};
-ghost use Rattle.fts_engine.specs.UncommittedOperations.{HasOneLane, IsBatchOf, IsItsBatch, IsItsEnd, IsItsLane};
-ghost use Rattle.fts_engine.specs.UncommittedOperations.{IsOpen, IsUncommittedIn, StayUncommitted, Submits, first_ops, ops_of};
+ghost use Rattle.fts_engine.specs.UncommittedOperations.{HasOneLane, IsBatchOf, IsItsBatch, IsItsEnd};
+ghost use Rattle.fts_engine.specs.UncommittedOperations.{IsItsLane, IsOpen, IsUncommittedIn, StayUncommitted, Submits};
+ghost use Rattle.fts_engine.specs.UncommittedOperations.{first_ops, ops_of};
 ghost use Rattle.fts_engine.specs.WriterIndexes.{Commits};
 
 use crate::segments::merge_behind;

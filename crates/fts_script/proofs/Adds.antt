@@ -7,8 +7,8 @@ use Rattle.fts_model.specs.declared.operation.Op.{Op}
 use Rattle.fts_model.specs.declared.operation.Op.TheVariants.{Add, Delete, DeleteAll}
 use Rattle.fts_model.specs.declared.operation.Stamped.{Stamped}
 use Rattle.fts_model.specs.Documents.{DocumentValue}
-use Rattle.fts_model.specs.Operations.{strikes, is_struck, left_by, alive, adds}
-use Rattle.fts_script.specs.Lists.{is_add, added_by, added}
+use Rattle.fts_model.specs.Operations.{strikes, is_struck, left_by, alive, added, added_by, adds}
+use Rattle.fts_script.specs.Operations.{is_add}
 
 abbrev all_add : List (Stamped Op) → Bool
 all_add ops = list_all (λ op. is_add op.value) ops

@@ -1,14 +1,13 @@
 -- White space before a line changes no reply.
-use Rattle.std.proofs.Common.{◌≡◌, ◌<◌, ◌≤◌, ◌+◌, ◌-◌, ℕ, suc, Bool, true, false, cond, eqb, ltb, List, [], ◌∷◌, ◌++◌, length, take, drop, refl, sym, ap, subst, ◌∙◌, append_assoc, append-nil, take-append-drop, arith, Option, Some, None, ◌&&◌, ◌||◌}
+use Rattle.std.proofs.Common.{◌≡◌, ◌<◌, ◌≤◌, ◌+◌, ◌-◌, ℕ, suc, Bool, true, false, cond, eqb, ltb, List, [], ◌∷◌, ◌++◌, length, take, drop, refl, sym, ap, subst, ◌∙◌, take-append-drop, arith, Option, ◌&&◌, ◌||◌}
 use Rattle.std.specs.Str.{is_utf8, chars}
 use Rattle.std.specs.Char.{encode_utf8}
 use Rattle.std.specs.List.{prefix_len}
 use Rattle.std.proofs.lemmas.Bool.{eqb-true}
 use Rattle.std.proofs.lemmas.Bool.Decides.{nat_tests}
-use Rattle.std.proofs.lemmas.List.{length-append, length-drop, nil_from_length, take_all}
-use Rattle.std.proofs.lemmas.List.Folds.{list_all-append, length-prefix_len}
+use Rattle.std.proofs.lemmas.List.{length-append, length-drop, take_all}
+use Rattle.std.proofs.lemmas.List.Folds.{list_all-append}
 use Rattle.json.specs.Lex.{lex}
-use Rattle.fts_script.specs.declared.lines.PartialLine.{PartialLine}
 use Rattle.std.specs.List.{onto_first}
 use Rattle.fts_script.specs.Text.{is_white, is_blank, lines_of, HasNoEnd}
 use Rattle.fts_script.specs.Commands.{json_in, longest, command}
@@ -17,7 +16,6 @@ use Rattle.fts_model.specs.Results.{result_and_then}
 use Rattle.fts_script.specs.Outputs.{SessionValue, after_line, reply_to}
 use Rattle.fts_script.specs.Indexes.{Index, indexes}
 use Rattle.fts_script.specs.Stops.{IsWritten}
-use Rattle.fts_script.specs.Responders.{Holds, Indented}
 use Rattle.fts_script.proofs.LineLemmas.{not_lf}
 
 -- what holds of each white byte
@@ -36,7 +34,7 @@ unfolding json_in is_utf8 chars encode_utf8 lex
 json_in-white b [] h = of_white (λ v. json_in (v ∷ []) ≡ json_in []) refl refl refl b h
 json_in-white b (c ∷ line) h = of_white (λ v. json_in (v ∷ c ∷ line) ≡ json_in (c ∷ line)) refl refl refl b h
 
-both : (s t : Bool) → (s && t) ≡ true → (s ≡ true) × (t ≡ true)
+pub both : (s t : Bool) → (s && t) ≡ true → (s ≡ true) × (t ≡ true)
 both true t h = (refl, h)
 both false t h = cc
 
@@ -61,50 +59,17 @@ execute_line-blank : (index : Option Index) (white line : List ℕ) → is_blank
     execute_line indexes index (white ++ line) ≡ execute_line indexes index line
 execute_line-blank index white line h short = ap (result_and_then (execute indexes index)) (command-blank white line h short)
 
-reply_to-blank : (s : SessionValue) (white line : List ℕ) → is_blank white ≡ true → length (white ++ line) ≤ longest →
+pub reply_to-blank : (s : SessionValue) (white line : List ℕ) → is_blank white ≡ true → length (white ++ line) ≤ longest →
     reply_to s (white ++ line) ≡ reply_to s line
 unfolding reply_on
 reply_to-blank s white line h short = rw (is_blank-blank white line h, execute_line-blank s.index white line h short) refl
 
-after_line-blank : (s : SessionValue) (white line : List ℕ) → is_blank white ≡ true → length (white ++ line) ≤ longest →
+pub after_line-blank : (s : SessionValue) (white line : List ℕ) → is_blank white ≡ true → length (white ++ line) ≤ longest →
     after_line s (white ++ line) ≡ after_line s line
 unfolding carried_over
 after_line-blank s white line h short = rw (is_blank-blank white line h, execute_line-blank s.index white line h short) refl
 
--- ---- what is held
-
-pub Holds-length : (p : PartialLine) (line : List ℕ) → p.too_long ≡ None → Holds p line → length line ≡ p.white + length p.bytes.items
-Holds-length p line e held =
-    let r = held.kept e in ap length r.split ∙ length-append r.white p.bytes.items ∙ ap (λ n. n + length p.bytes.items) r.counted
-
-pub Holds-kept : (p : PartialLine) (line : List ℕ) → p.too_long ≡ None → Indented p.white p.bytes.items line → Holds p line
-Holds-kept p line e r = record { kept = λ _. r; too_long = λ blank is. cc }
-
-pub Holds-reply : (s : SessionValue) (p : PartialLine) (line : List ℕ) → p.too_long ≡ None → Holds p line → reply_to s p.bytes.items ≡ reply_to s line
-Holds-reply s p line e held =
-    let r = held.kept e in
-    let long : length (r.white ++ p.bytes.items) ≤ longest = omega (arith, p.short, r.counted, length-append r.white p.bytes.items) in
-    sym (ap (reply_to s) r.split ∙ reply_to-blank s r.white p.bytes.items r.blank long)
-
-pub Holds-script : (s : SessionValue) (p : PartialLine) (line : List ℕ) → p.too_long ≡ None → Holds p line → after_line s p.bytes.items ≡ after_line s line
-Holds-script s p line e held =
-    let r = held.kept e in
-    let long : length (r.white ++ p.bytes.items) ≤ longest = omega (arith, p.short, r.counted, length-append r.white p.bytes.items) in
-    sym (ap (after_line s) r.split ∙ after_line-blank s r.white p.bytes.items r.blank long)
-
--- nothing is held of it
-pub Holds-nothing-kept : (p : PartialLine) → Holds p [] → p.too_long ≡ None → (p.white ≡ 0) × (length p.bytes.items ≡ 0)
-Holds-nothing-kept p none e =
-    let long : 0 ≡ p.white + length p.bytes.items = Holds-length p [] e none in (omega arith, omega arith)
-
-pub Holds-nothing-short : (p : PartialLine) → Holds p [] → p.too_long ≡ None
-Holds-nothing-short p none = by p.too_long refl
-  where
-    by : (t : Option Bool) → p.too_long ≡ t → t ≡ None
-    by None e = refl
-    by (Some blank) e = absurd (omega (arith, (none.too_long blank e).0))
-
--- ---- a line that grows
+-- ---- the white space that a line begins with
 
 step : (b : ℕ) (xs : List ℕ) (t : Bool) → is_white b ≡ t → is_blank (take (prefix_len is_white xs) xs) ≡ true →
     is_blank (take (cond t (1 + prefix_len is_white xs) 0) (b ∷ xs)) ≡ true
@@ -114,21 +79,9 @@ step b xs true e h =
 step b xs false e h = refl
 
 -- the white space that bytes begin with
-is_blank-front : (xs : List ℕ) → is_blank (take (prefix_len is_white xs) xs) ≡ true
+pub is_blank-front : (xs : List ℕ) → is_blank (take (prefix_len is_white xs) xs) ≡ true
 is_blank-front [] = refl
 is_blank-front (b ∷ xs) = step b xs (is_white b) refl (is_blank-front xs)
-
-Indented-white : (count : ℕ) (line piece : List ℕ) → Indented count [] line →
-    Indented (count + prefix_len is_white piece) (drop (prefix_len is_white piece) piece) (line ++ piece)
-Indented-white count line piece r =
-    let k = prefix_len is_white piece in record {
-      white = r.white ++ take k piece;
-      blank = list_all-append is_white r.white (take k piece) ∙ rw (r.blank, is_blank-front piece) refl;
-      counted = omega (arith, length-append r.white (take k piece), r.counted, length-prefix_len is_white piece);
-      split = ap (λ v. v ++ piece) (r.split ∙ append-nil r.white)
-          ∙ ap (λ v. r.white ++ v) (sym (take-append-drop k piece))
-          ∙ sym (append_assoc r.white (take k piece) (drop k piece));
-    }
 
 bare_step : (b : ℕ) (xs : List ℕ) (t : Bool) → is_white b ≡ t → (is_blank (drop (prefix_len is_white xs) xs) ≡ true → drop (prefix_len is_white xs) xs ≡ []) →
     is_blank (drop (cond t (1 + prefix_len is_white xs) 0) (b ∷ xs)) ≡ true → drop (cond t (1 + prefix_len is_white xs) 0) (b ∷ xs) ≡ []
@@ -140,28 +93,6 @@ bare_step b xs false e h = λ blank. let parts = both (is_white b) (is_blank xs)
 bare-drop : (xs : List ℕ) → is_blank (drop (prefix_len is_white xs) xs) ≡ true → drop (prefix_len is_white xs) xs ≡ []
 bare-drop [] = λ _. refl
 bare-drop (b ∷ xs) = bare_step b xs (is_white b) refl (bare-drop xs)
-
--- what is kept of a piece, where nothing was kept before
-kept_is : (bytes kept piece : List ℕ) (k : ℕ) → length bytes ≡ 0 → k ≡ prefix_len is_white piece →
-    kept ≡ bytes ++ take (length piece - k) (drop k piece) → kept ≡ drop (prefix_len is_white piece) piece
-kept_is bytes kept piece k none k-is e =
-    e ∙ ap (λ v. v ++ take (length piece - k) (drop k piece)) (nil_from_length bytes none)
-    ∙ take_all (length piece - k) (drop k piece) (omega (arith, length-drop k piece))
-    ∙ ap (λ n. drop n piece) k-is
-
-pub bare-grown : (bytes kept piece : List ℕ) (k : ℕ) → length bytes ≡ 0 → k ≡ prefix_len is_white piece →
-    kept ≡ bytes ++ take (length piece - k) (drop k piece) → is_blank kept ≡ true → length kept ≡ 0
-bare-grown bytes kept piece k none k-is e blank =
-    let same = kept_is bytes kept piece k none k-is e in
-    ap length (same ∙ bare-drop piece (ap is_blank (sym same) ∙ blank))
-
-pub Indented-grown : (count k : ℕ) (bytes kept line piece : List ℕ) → length bytes ≡ 0 → k ≡ prefix_len is_white piece →
-    kept ≡ bytes ++ take (length piece - k) (drop k piece) → Indented count bytes line → Indented (count + k) kept (line ++ piece)
-Indented-grown count k bytes kept line piece none k-is e r =
-    let nothing : Indented count [] line = subst (λ v. Indented count v line) (nil_from_length bytes none) r in
-    subst (λ n. Indented (count + n) kept (line ++ piece)) (sym k-is)
-    (subst (λ v. Indented (count + prefix_len is_white piece) v (line ++ piece)) (sym (kept_is bytes kept piece k none k-is e))
-    (Indented-white count line piece nothing))
 
 -- ---- a line that isn't blank
 

@@ -4,6 +4,7 @@ pub mod BlankLemmas
 pub mod CarrierLemmas
 pub mod FitLemmas
 pub mod HistoryLemmas
+pub mod KeptLemmas
 pub mod LineLemmas
 pub mod RunLemmas
 pub mod StreamLemmas

@@ -1,15 +1,16 @@
 -- What a step of a run keeps.
 use Rattle.std.proofs.Common.{inl, ltb, lt-ltb, IfOk, Result, Ok, Err, OnErr, OnOk, ◌≡◌, ◌<◌, ◌≤◌, ◌-◌, Bool, true, false, cond, eqb, ◌&&◌, ℕ, ◌+◌, List, [], ◌∷◌, ◌++◌, length, take, drop, refl, ap, sym, ◌∙◌, append_assoc, append-nil, take-append-drop, subst, arith, rules, tests}
-use Rattle.std.proofs.lemmas.List.{take_all, length-drop, length-append, length-take-le, nil_from_length}
+use Rattle.std.proofs.lemmas.List.{take_all, length-drop, length-append, length-take-le}
 use Rattle.std.proofs.Math.Seq.{take-add}
-use Rattle.fts_script.specs.declared.lines.PartialLine.{PartialLine}
+use Rattle.fts_script.specs.KeptLines.{KeptLine, kept_line, grown, is_blank_kept, reply_to_kept, after_kept}
+use Rattle.fts_script.proofs.KeptLemmas.{grown-kept_line, is_blank_kept-indented, reply_to_kept-kept_line, after_kept-kept_line, kept_line-nothing}
 use Rattle.fts_script.specs.Streams.{StreamsValue, Wrote}
 use Rattle.fts_script.specs.Runs.{StopsInLastRead}
-use Rattle.fts_script.specs.Text.{is_blank, lines_of, IsWhole, HasNoEnd}
+use Rattle.fts_script.specs.Text.{lines_of, IsWhole, HasNoEnd}
 use Rattle.fts_script.specs.Outputs.{SessionValue, start, after_line, reply_to, replies, after_lines, output}
 use Rattle.fts_script.specs.Stops.{AnswersFirst, AnswersEnded, BeginsOutput, BeginsOutputUnless, BeginsWith, IsWritten, StopsFirst}
-use Rattle.fts_script.specs.Responders.{Holds, Answered, Finishes, Advances, AdvancesFirst, AdvancesToStop, RunState}
-use Rattle.fts_script.proofs.BlankLemmas.{Holds-length, Holds-nothing-short, IsWritten-front}
+use Rattle.fts_script.specs.Responders.{Answered, Finishes, Advances, AdvancesFirst, AdvancesToStop, RunState}
+use Rattle.fts_script.proofs.BlankLemmas.{IsWritten-front}
 use Rattle.fts_script.proofs.StreamLemmas.{append_more}
 use Rattle.fts_script.proofs.LineLemmas.{lines_of-append, lines_of-ended, lines_of-unended, HasNoEnd-append, HasNoEnd-late, HasNoEnd-shorter, IsWhole-ended}
 
@@ -39,8 +40,8 @@ output-line done more line w is =
     ∙ ap (λ r. output done ++ r) (append-nil (reply_to s line))
 
 -- no line ends
-pub Advances-unended : (s : SessionValue) (p q : PartialLine) (bytes a : List ℕ) → HasNoEnd bytes →
-    ((line : List ℕ) → Holds p line → Holds q (line ++ bytes)) → Advances s s p q bytes a a
+pub Advances-unended : (s : SessionValue) (p q : KeptLine) (bytes a : List ℕ) → HasNoEnd bytes →
+    q ≡ grown p bytes → Advances s s p q bytes a a
 Advances-unended s p q bytes a none grows = record {
   leads = λ input out r. record {
     done = r.done;
@@ -49,19 +50,18 @@ Advances-unended s p q bytes a none grows = record {
     whole = r.whole;
     unended = HasNoEnd-append r.line bytes r.unended none;
     script = r.script;
-    holds = grows r.line r.holds;
+    held = grows ∙ ap (λ v. grown v bytes) r.held ∙ grown-kept_line r.line bytes;
     replied = r.replied;
   };
 }
 
 -- the line ends
-pub Advances-ended : (s t : SessionValue) (p q : PartialLine) (piece a b : List ℕ) → HasNoEnd piece →
-    ((line : List ℕ) → Holds p line → b ≡ a ++ reply_to s (line ++ piece)) →
-    ((line : List ℕ) → Holds p line → t ≡ after_line s (line ++ piece)) →
-    Holds q [] → Advances s t p q (piece ++ 10 ∷ []) a b
+pub Advances-ended : (s t : SessionValue) (p q : KeptLine) (piece a b : List ℕ) → HasNoEnd piece →
+    b ≡ a ++ reply_to_kept s (grown p piece) → t ≡ after_kept s (grown p piece) → q ≡ kept_line [] → Advances s t p q (piece ++ 10 ∷ []) a b
 Advances-ended s t p q piece a b none replies_to goes_on next = record {
   leads = λ input out r.
       let line = r.line ++ piece in
+      let grows_to : grown p piece ≡ kept_line line = ap (λ v. grown v piece) r.held ∙ grown-kept_line r.line piece in
       let is : lines_of (line ++ 10 ∷ []) ≡ line ∷ [] = lines_of-ended line (HasNoEnd-append r.line piece r.unended none) in
       record {
         done = r.done ++ (line ++ 10 ∷ []);
@@ -69,11 +69,11 @@ Advances-ended s t p q piece a b none replies_to goes_on next = record {
         split = ap (λ v. v ++ (piece ++ 10 ∷ [])) r.split ∙ simp (append_assoc, append-nil);
         whole = subst IsWhole (append_assoc r.done line (10 ∷ [])) (IsWhole-ended (r.done ++ line));
         unended = tt;
-        script = goes_on r.line r.holds ∙ ap (λ v. after_line v line) r.script
+        script = goes_on ∙ ap (after_kept s) grows_to ∙ after_kept-kept_line s line ∙ ap (λ v. after_line v line) r.script
             ∙ sym (after_lines-append start (lines_of r.done) (line ∷ []))
             ∙ ap (after_lines start) (ap (λ ls. lines_of r.done ++ ls) (sym is) ∙ sym (lines_of-append r.done (line ++ 10 ∷ []) r.whole));
-        holds = next;
-        replied = ap (λ v. out ++ v) (replies_to r.line r.holds)
+        held = next;
+        replied = ap (λ v. out ++ v) (replies_to ∙ ap (λ v. a ++ reply_to_kept s v) grows_to ∙ ap (λ v. a ++ v) (reply_to_kept-kept_line s line))
             ∙ sym (append_assoc out a (reply_to s line))
             ∙ ap (λ v. v ++ reply_to s line) r.replied
             ∙ ap (λ v. output r.done ++ reply_to v line) r.script
@@ -81,12 +81,12 @@ Advances-ended s t p q piece a b none replies_to goes_on next = record {
       };
 }
 
-pub Advances-none : (s : SessionValue) (p : PartialLine) (a : List ℕ) → Advances s s p p [] a a
+pub Advances-none : (s : SessionValue) (p : KeptLine) (a : List ℕ) → Advances s s p p [] a a
 Advances-none s p a = record {
   leads = λ input out r. subst (λ v. Answered s p v (out ++ a)) (sym (append-nil input)) r;
 }
 
-pub Advances-then : (s t u : SessionValue) (p q r : PartialLine) (xs ys a b c : List ℕ) →
+pub Advances-then : (s t u : SessionValue) (p q r : KeptLine) (xs ys a b c : List ℕ) →
     Advances s t p q xs a b → Advances t u q r ys b c → Advances s u p r (xs ++ ys) a c
 Advances-then s t u p q r xs ys a b c first second = record {
   leads = λ input out from.
@@ -94,7 +94,7 @@ Advances-then s t u p q r xs ys a b c first second = record {
 }
 
 -- whatever comes behind them
-abbrev answers_first : (t : SessionValue) (q : PartialLine) (input xs more out : List ℕ) → Answered t q (input ++ xs) out → AnswersFirst (length (xs ++ more)) (input ++ (xs ++ more)) out
+abbrev answers_first : (t : SessionValue) (q : KeptLine) (input xs more out : List ℕ) → Answered t q (input ++ xs) out → AnswersFirst (length (xs ++ more)) (input ++ (xs ++ more)) out
 answers_first t q input xs more out r = record {
   done = r.done;
   rest = r.line ++ more;
@@ -104,23 +104,23 @@ answers_first t q input xs more out r = record {
   late = HasNoEnd-late r.line more (length (xs ++ more)) (omega (arith, length-append xs more)) r.unended;
 }
 
-pub AdvancesFirst-leads : (s t : SessionValue) (p q : PartialLine) (xs more a b : List ℕ) →
+pub AdvancesFirst-leads : (s t : SessionValue) (p q : KeptLine) (xs more a b : List ℕ) →
     Advances s t p q xs a b → AdvancesFirst s p (xs ++ more) a b
 AdvancesFirst-leads s t p q xs more a b first = record {
   leads = λ input out from. answers_first t q input xs more (out ++ b) (first.leads input out from);
 }
 
 -- and memory runs out there
-pub AdvancesToStop-leads : (s t : SessionValue) (p q : PartialLine) (xs more a b : List ℕ) → Advances s t p q xs a b →
-    ((line : List ℕ) → Holds q line → HasNoEnd line → IsWritten (lines_of (line ++ more))) → AdvancesToStop s p (xs ++ more) a b
+pub AdvancesToStop-leads : (s t : SessionValue) (p q : KeptLine) (xs more a b : List ℕ) → Advances s t p q xs a b →
+    ((line : List ℕ) → q ≡ kept_line line → HasNoEnd line → IsWritten (lines_of (line ++ more))) → AdvancesToStop s p (xs ++ more) a b
 AdvancesToStop-leads s t p q xs more a b first written = record {
   leads = λ input out from.
       let r = first.leads input out from in
-      (answers_first t q input xs more (out ++ b) r, λ some. written r.line r.holds r.unended);
+      (answers_first t q input xs more (out ++ b) r, λ some. written r.line r.held r.unended);
 }
 
 -- the replies of some lines went out
-pub RunState-sent : (before now after : List ℕ) (s t : SessionValue) (p q : PartialLine) (input bytes gathered : List ℕ) →
+pub RunState-sent : (before now after : List ℕ) (s t : SessionValue) (p q : KeptLine) (input bytes gathered : List ℕ) →
     Advances s t p q bytes [] gathered → after ≡ now ++ gathered →
     RunState before now s p input → RunState before after t q (input ++ bytes)
 RunState-sent before now after s t p q input bytes gathered step sent r = record {
@@ -130,7 +130,7 @@ RunState-sent before now after s t p q input bytes gathered step sent r = record
 }
 
 -- memory ran out, and the replies of the lines before went out
-pub Wrote-first : (before now after : List ℕ) (s : SessionValue) (p : PartialLine) (input bytes gathered : List ℕ) →
+pub Wrote-first : (before now after : List ℕ) (s : SessionValue) (p : KeptLine) (input bytes gathered : List ℕ) →
     AdvancesToStop s p bytes [] gathered → after ≡ now ++ gathered →
     RunState before now s p input → Wrote before after (StopsFirst (length bytes) (input ++ bytes))
 Wrote-first before now after s p input bytes gathered step sent r = record {
@@ -155,7 +155,7 @@ BeginsWith-take xs out gathered n h = (
 )
 
 -- a write failed among the replies of some lines
-pub Wrote-cut : (before now after : List ℕ) (s : SessionValue) (p : PartialLine) (input bytes gathered : List ℕ) (n : ℕ) →
+pub Wrote-cut : (before now after : List ℕ) (s : SessionValue) (p : KeptLine) (input bytes gathered : List ℕ) (n : ℕ) →
     AdvancesFirst s p bytes [] gathered → after ≡ now ++ take n gathered →
     RunState before now s p input → Wrote before after (BeginsOutput (input ++ bytes))
 Wrote-cut before now after s p input bytes gathered n step sent r = record {
@@ -208,7 +208,7 @@ pub Wrote-stopped : (before now input : List ℕ) (n : ℕ) → Wrote before now
 Wrote-stopped before now input n w = record { bytes = w.bytes; taken = w.taken; so = w.so.0 }
 
 -- memory ran out at the end of the input
-pub Wrote-stop : (before now : List ℕ) (s : SessionValue) (p : PartialLine) (input : List ℕ) → ((line : List ℕ) → Holds p line → is_blank line ≡ false) →
+pub Wrote-stop : (before now : List ℕ) (s : SessionValue) (p : KeptLine) (input : List ℕ) → is_blank_kept p ≡ false →
     RunState before now s p input → Wrote before now (StopsFirst 0 input)
 Wrote-stop before now s p input written r =
     let a = r.answered in record {
@@ -223,7 +223,7 @@ Wrote-stop before now s p input written r =
           replied = a.replied;
           late = HasNoEnd-late a.line [] 0 (omega arith) a.unended;
         },
-        λ some. IsWritten-front a.line [] a.unended (written a.line a.holds),
+        λ some. IsWritten-front a.line [] a.unended (sym (is_blank_kept-indented 0 a.line) ∙ ap is_blank_kept (sym a.held) ∙ written),
       );
     }
 
@@ -255,7 +255,7 @@ StopsInLastRead-none streams = record {
 }
 
 -- the lines that ended were answered
-pub Wrote-reached : (before now : List ℕ) (s : SessionValue) (p : PartialLine) (input : List ℕ) →
+pub Wrote-reached : (before now : List ℕ) (s : SessionValue) (p : KeptLine) (input : List ℕ) →
     RunState before now s p input → Wrote before now (AnswersEnded input)
 Wrote-reached before now s p input r = record {
   bytes = r.out;
@@ -271,7 +271,7 @@ Wrote-reached before now s p input r = record {
 }
 
 -- whatever comes behind the input
-pub Wrote-more : (before now : List ℕ) (s : SessionValue) (p : PartialLine) (input more : List ℕ) →
+pub Wrote-more : (before now : List ℕ) (s : SessionValue) (p : KeptLine) (input more : List ℕ) →
     RunState before now s p input → Wrote before now (AnswersFirst (length more) (input ++ more))
 Wrote-more before now s p input more r = record {
   bytes = r.out;
@@ -286,37 +286,31 @@ Wrote-more before now s p input more r = record {
   };
 }
 
-pub Wrote-same : (before now : List ℕ) (s : SessionValue) (p : PartialLine) (input : List ℕ) →
+pub Wrote-same : (before now : List ℕ) (s : SessionValue) (p : KeptLine) (input : List ℕ) →
     RunState before now s p input → Wrote before now (AnswersFirst 0 input)
 Wrote-same before now s p input r =
     subst (λ v. Wrote before now (AnswersFirst 0 v)) (append-nil input) (Wrote-more before now s p input [] r)
 
-pub Holds-nothing : (p : PartialLine) (line : List ℕ) → Holds p [] → Holds p line → line ≡ []
-Holds-nothing p line none some =
-    let short = Holds-nothing-short p none in
-    nil_from_length line (Holds-length p line short some ∙ sym (Holds-length p [] short none))
-
 -- the input ended behind an LF
-pub Finishes-nothing : (s : SessionValue) (p : PartialLine) → Holds p [] → Finishes s p []
+pub Finishes-nothing : (s : SessionValue) (p : KeptLine) → p ≡ kept_line [] → Finishes s p []
 Finishes-nothing s p none = record {
   ends = λ input out r.
       append-nil out ∙ r.replied
-      ∙ ap output (sym (r.split ∙ ap (λ v. r.done ++ v) (Holds-nothing p r.line none r.holds) ∙ append-nil r.done));
+      ∙ ap output (sym (r.split ∙ ap (λ v. r.done ++ v) (kept_line-nothing r.line (sym r.held ∙ none)) ∙ append-nil r.done));
 }
 
 -- the end of the input ended a line
-pub Finishes-line : (s : SessionValue) (p : PartialLine) (reply : List ℕ) → (Holds p [] → ⊥) →
-    ((line : List ℕ) → Holds p line → reply ≡ reply_to s line) → Finishes s p reply
+pub Finishes-line : (s : SessionValue) (p : KeptLine) (reply : List ℕ) → (p ≡ kept_line [] → ⊥) → reply ≡ reply_to_kept s p → Finishes s p reply
 Finishes-line s p reply some replies_to = record {
   ends = λ input out r.
-      ap (λ v. out ++ v) (replies_to r.line r.holds)
+      ap (λ v. out ++ v) (replies_to ∙ ap (reply_to_kept s) r.held ∙ reply_to_kept-kept_line s r.line)
       ∙ ap (λ v. v ++ reply_to s r.line) r.replied
       ∙ ap (λ v. output r.done ++ reply_to v r.line) r.script
-      ∙ sym (output-line r.done r.line r.line r.whole (lines_of-unended r.line r.unended (λ e. some (subst (Holds p) e r.holds))))
+      ∙ sym (output-line r.done r.line r.line r.whole (lines_of-unended r.line r.unended (λ e. some (r.held ∙ ap kept_line e))))
       ∙ ap output (sym r.split);
 }
 
-pub Wrote-output : (before now after : List ℕ) (s : SessionValue) (p : PartialLine) (input gathered : List ℕ) →
+pub Wrote-output : (before now after : List ℕ) (s : SessionValue) (p : KeptLine) (input gathered : List ℕ) →
     Finishes s p gathered → after ≡ now ++ gathered →
     RunState before now s p input → Wrote before after (λ out. out ≡ output input)
 Wrote-output before now after s p input gathered last sent r = record {
@@ -326,7 +320,7 @@ Wrote-output before now after s p input gathered last sent r = record {
 }
 
 -- a write failed in the last reply
-pub Wrote-part : (before now after : List ℕ) (s : SessionValue) (p : PartialLine) (input gathered : List ℕ) (n : ℕ) →
+pub Wrote-part : (before now after : List ℕ) (s : SessionValue) (p : KeptLine) (input gathered : List ℕ) (n : ℕ) →
     Finishes s p gathered → after ≡ now ++ take n gathered →
     RunState before now s p input → Wrote before after (BeginsWith (output input))
 Wrote-part before now after s p input gathered n last sent r = record {
@@ -342,7 +336,7 @@ Wrote-whole before now input w = record {
   so = ([], sym w.so ∙ sym (append-nil w.bytes));
 }
 
-pub Wrote-start : (before now : List ℕ) (s : SessionValue) (p : PartialLine) (input : List ℕ) →
+pub Wrote-start : (before now : List ℕ) (s : SessionValue) (p : KeptLine) (input : List ℕ) →
     RunState before now s p input → Wrote before now (BeginsWith (output input))
 Wrote-start before now s p input r =
     let first = Wrote-same before now s p input r in
@@ -378,7 +372,7 @@ on_ok (Ok v) Q h = h
 on_ok (Err e) Q h = tt
 
 -- whether lines were taken or memory ran out
-pub AdvancesFirst-either : {E : Type 0} (result : Result ℕ E) (s t : SessionValue) (p q : PartialLine) (bytes a b : List ℕ) →
+pub AdvancesFirst-either : {E : Type 0} (result : Result ℕ E) (s t : SessionValue) (p q : KeptLine) (bytes a b : List ℕ) →
     IfOk result (λ n. Advances s t p q (take n bytes) a b) → OnErr result (AdvancesToStop s p bytes a b) → AdvancesFirst s p bytes a b
 AdvancesFirst-either (Ok n) s t p q bytes a b ok err =
     subst (λ v. AdvancesFirst s p v a b) (take-append-drop n bytes) (AdvancesFirst-leads s t p q (take n bytes) (drop n bytes) a b ok)
@@ -409,11 +403,11 @@ Wrote-block before now input bytes i w =
     (subst (λ v. Wrote before now (StopsFirst (length rest) v)) (whole_is input bytes i) w)
 
 -- before the first byte
-pub RunState-start : (a : List ℕ) (s : SessionValue) (p : PartialLine) → s ≡ start → Holds p [] → RunState a a s p []
+pub RunState-start : (a : List ℕ) (s : SessionValue) (p : KeptLine) → s ≡ start → p ≡ kept_line [] → RunState a a s p []
 RunState-start a s p e none = record {
   out = [];
   taken = sym (append-nil a);
-  answered = record { done = []; line = []; split = refl; whole = inl refl; unended = tt; script = e; holds = none; replied = refl };
+  answered = record { done = []; line = []; split = refl; whole = inl refl; unended = tt; script = e; held = none; replied = refl };
 }
 
 -- a read that gave nothing

@@ -1,5 +1,6 @@
 -- The command that a line of a script is, by the JSON tree that it reads as.
-use Rattle.std.specs.Prelude.{ℕ, ◌+◌, ◌==◌, nat_lt, Bool, true, false, List, [], ◌∷◌, length, codes, Option, Some, None, Result, Err, if◌then◌else◌, option_map, option_and_then}
+use Rattle.std.specs.Prelude.{ℕ, ◌+◌, ◌==◌, nat_lt, Bool, true, false, List, [], ◌∷◌, length, codes, Option}
+use Rattle.std.specs.Prelude.{Some, None, Result, Err, if◌then◌else◌, option_map, option_and_then}
 use Rattle.std.specs.Option.{ok_or}
 use Rattle.std.specs.Str.{is_utf8, bytes_eq}
 use Rattle.serde_json.specs.Data.{Data, object, Items, no_items, item, Members, no_members, member}
@@ -73,12 +74,14 @@ field_of_parts false name kind default = None
 field_of_parts true None kind default = None
 field_of_parts true (Some name) None default = None
 field_of_parts true (Some name) (Some kind) None = None
-field_of_parts true (Some name) (Some kind) (Some default) = Some (record { name = name; kind = kind; default = default })
+field_of_parts true (Some name) (Some kind) (Some default) =
+    Some (record { name = name; kind = kind; default = default })
 
 -- the field that an object is: `name`, `kind` and, if wanted, `default`
 abbrev pub field_in : Data → Option Field
 field_in d = field_of_parts (count_of d == field_members (get (codes "default") d))
-    (text_at (codes "name") d) (option_and_then kind_named (text_at (codes "kind") d)) (flag_or_false (get (codes "default") d))
+    (text_at (codes "name") d) (option_and_then kind_named (text_at (codes "kind") d))
+    (flag_or_false (get (codes "default") d))
 
 -- the fields that objects are, where each is one
 abbrev pub fields_in : Items → Option (List Field)
@@ -120,11 +123,14 @@ top_of_parts (Some by) (Some k) (Some order) = Some (by, k, order)
 -- the top list that an object asks for: `by`, `k` and `order`, and nothing else
 abbrev pub top_in : Data → Option (List ℕ × ℕ × Order)
 top_in d =
-    if count_of d == 3 then top_of_parts (text_at (codes "by") d) (option_and_then whole_number (get (codes "k") d)) (option_and_then order_named (text_at (codes "order") d))
+    if count_of d == 3
+    then top_of_parts (text_at (codes "by") d) (option_and_then whole_number (get (codes "k") d))
+    (option_and_then order_named (text_at (codes "order") d))
     else None
 
 -- a search of its parts, where each is there
-abbrev pub search_of_parts : Option (List ℕ) → Option (Option (List ℕ)) → Option (Option (List ℕ × ℕ × Order)) → Option Search
+abbrev pub search_of_parts : Option (List ℕ) → Option (Option (List ℕ)) → Option (Option (List ℕ × ℕ × Order)) →
+    Option Search
 search_of_parts None groups top = None
 search_of_parts (Some query) None top = None
 search_of_parts (Some query) (Some groups) None = None
@@ -134,7 +140,8 @@ search_of_parts (Some query) (Some groups) (Some top) = Some (record { query = q
 abbrev pub search_in : Data → Option Search
 search_in d =
     if count_of d == 1 + one_if_there (get (codes "groups") d) + one_if_there (get (codes "top") d)
-    then search_of_parts (text_at (codes "query") d) (if_there as_str (get (codes "groups") d)) (if_there top_in (get (codes "top") d))
+    then search_of_parts (text_at (codes "query") d) (if_there as_str (get (codes "groups") d))
+    (if_there top_in (get (codes "top") d))
     else None
 
 -- a schema of the fields that are listed

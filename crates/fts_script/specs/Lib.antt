@@ -4,9 +4,10 @@ pub mod Commands
 pub mod DefaultOptions
 pub mod Histories
 pub mod Indexes
+pub mod KeptLines
 pub mod Limits
 pub mod ListIndexes
-pub mod Lists
+pub mod Operations
 pub mod Outputs
 pub mod Replies
 pub mod Responders

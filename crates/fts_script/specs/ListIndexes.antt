@@ -3,4 +3,9 @@ use Rattle.fts_script.specs.declared.list_engine.ListEngine.{ListEngine}
 use Rattle.fts_script.specs.Indexes.{Index}
 
 abbrev pub index_of : ListEngine → Index
-index_of e = record { schema = e.schema; documents = e.documents.items; commit_stamp = e.commit_stamp; pending = e.pending.items }
+index_of e = record {
+  schema = e.schema;
+  documents = e.documents.items;
+  commit_stamp = e.commit_stamp;
+  pending = e.pending.items;
+}

@@ -33,6 +33,7 @@ after_lines s (line ∷ lines) = after_lines (after_line s line) lines
 abbrev pub output : List ℕ → List ℕ
 output = output_on indexes
 
--- The same by the commands that were accepted: a stamp is the place of a command among those that were kept, and a search sees the documents that are alive after the operations before the last commit.
+-- The same by the commands that were accepted: a stamp is the place of a command among those that were kept, and a
+-- search sees the documents that are alive after the operations before the last commit.
 abbrev pub output_by_commands : List ℕ → List ℕ
 output_by_commands = output_on histories

@@ -1,6 +1,8 @@
 -- What a script replies: its lines, the command that each is, a step for each command, and the reply that prints it.
-use Rattle.std.specs.Prelude.{ℕ, ◌+◌, List, [], ◌∷◌, ◌++◌, length, codes, Result, Ok, Err, Option, Some, None, if◌then◌else◌, option_map}
-use Rattle.serde_json.specs.Data.{Data, number, unsigned, string, array, Items, item, no_items, object, Members, member, no_members}
+use Rattle.std.specs.Prelude.{ℕ, ◌+◌, List, [], ◌∷◌, ◌++◌, length, codes, Result, Ok, Err, Option, Some, None}
+use Rattle.std.specs.Prelude.{if◌then◌else◌, option_map}
+use Rattle.serde_json.specs.Data.{Data, number, unsigned, string, array, Items, item, no_items, object, Members}
+use Rattle.serde_json.specs.Data.{member, no_members}
 use Rattle.serde_json.specs.Written.{compact_text}
 use Rattle.fts_model.specs.declared.refusal.Refusal.{Refusal}
 use Rattle.fts_model.specs.declared.refusal.Refusal.TheVariants.{NoSchema, SchemaTwice}
@@ -17,7 +19,8 @@ use Rattle.fts_model.specs.Queries.{request_of}
 use Rattle.fts_model.specs.Answers.{AnswerValue}
 use Rattle.fts_query.specs.Answers.{answer as query_of}
 use Rattle.fts_script.specs.Text.{lines_of, is_blank}
-use Rattle.fts_script.specs.Commands.{Command, Schema, Add, Delete, DeleteAll, Commit, Rollback, Merge, Find, Search, command}
+use Rattle.fts_script.specs.Commands.{Command, Schema, Add, Delete, DeleteAll, Commit, Rollback, Merge, Find}
+use Rattle.fts_script.specs.Commands.{Search, command}
 use Rattle.fts_script.specs.Carriers.{Carrier}
 use Rattle.fts_script.specs.Steps.{submit, commit, rollback, merge, search_commit}
 
@@ -27,7 +30,9 @@ number_reply name n = object (member name (number (unsigned n)) no_members)
 
 -- a refusal in the line of this number
 abbrev pub refusal_reply : Refusal → ℕ → Data
-refusal_reply refusal line = object (member (codes "error") (string (name_of refusal)) (member (codes "line") (number (unsigned line)) no_members))
+refusal_reply refusal line =
+    object (member (codes "error") (string (name_of refusal))
+    (member (codes "line") (number (unsigned line)) no_members))
 
 -- a number as JSON
 abbrev pub number_data : Number → Data
@@ -43,7 +48,9 @@ groups_data (group ∷ groups) = item (group_data group) (groups_data groups)
 
 -- a hit of a top list as JSON
 abbrev pub hit_data : Hit → Data
-hit_data hit = object (member (codes "doc") (json_of hit.document) (member (codes "stamp") (number (unsigned hit.stamp)) (member (codes "value") (number_data hit.value) no_members)))
+hit_data hit =
+    object (member (codes "doc") (json_of hit.document) (member (codes "stamp") (number (unsigned hit.stamp))
+    (member (codes "value") (number_data hit.value) no_members)))
 
 abbrev pub hits_data : List Hit → Items
 hits_data [] = no_items
@@ -58,7 +65,8 @@ list_member name (Some items) ms = member name (array items) ms
 abbrev pub answer_data : AnswerValue → Data
 answer_data a =
     object (member (codes "count") (number (unsigned a.count))
-    (list_member (codes "groups") (option_map groups_data a.groups) (list_member (codes "top") (option_map hits_data a.top) no_members)))
+    (list_member (codes "groups") (option_map groups_data a.groups)
+    (list_member (codes "top") (option_map hits_data a.top) no_members)))
 
 -- what a command leaves, and its reply
 pub record Outcome (S : Type 0) : Type 0 where
@@ -78,7 +86,8 @@ answer_search on asked s =
 -- what a command does to an index, if there is one, or its refusal
 abbrev pub execute : {S : Type 0} → Carrier S → Option S → Command → Result (Outcome S) Refusal
 execute on None (Schema fields) =
-    ok_unless (schema_fault fields) (record { index = Some (on.opened fields); reply = number_reply (codes "fields") (length fields) })
+    ok_unless (schema_fault fields)
+    (record { index = Some (on.opened fields); reply = number_reply (codes "fields") (length fields) })
 execute on None (Add value) = Err NoSchema
 execute on None (Delete name value) = Err NoSchema
 execute on None DeleteAll = Err NoSchema
@@ -88,9 +97,11 @@ execute on None Merge = Err NoSchema
 execute on None (Find asked) = Err NoSchema
 execute on (Some s) (Schema fields) = Err SchemaTwice
 execute on (Some s) (Add value) =
-    result_and_then (λ document. replied (number_reply (codes "stamp")) (submit on (ops.Add document) s)) (document_of (on.schema s) value)
+    result_and_then (λ document. replied (number_reply (codes "stamp")) (submit on (ops.Add document) s))
+    (document_of (on.schema s) value)
 execute on (Some s) (Delete name value) =
-    result_and_then (λ term. replied (number_reply (codes "stamp")) (submit on (ops.Delete term) s)) (term_of (on.schema s) name value)
+    result_and_then (λ term. replied (number_reply (codes "stamp")) (submit on (ops.Delete term) s))
+    (term_of (on.schema s) name value)
 execute on (Some s) DeleteAll = replied (number_reply (codes "stamp")) (submit on ops.DeleteAll s)
 execute on (Some s) Commit = replied (number_reply (codes "commit")) (commit on s)
 execute on (Some s) Rollback = replied (number_reply (codes "rollback")) (rollback on s)

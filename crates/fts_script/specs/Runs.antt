@@ -50,6 +50,7 @@ StopsInLastRead old new = Moves old new (StopsFirst (length new.latest))
 abbrev pub WritesEnded : StreamsValue → StreamsValue → Type 0
 WritesEnded old new = Moves old new AnswersEnded
 
--- Over 2^61 bytes were read; what was written is the replies to first lines, to all at least that ended before the last read.
+-- Over 2^61 bytes were read; what was written is the replies to first lines, to all at least that ended before the
+-- last read.
 abbrev pub ReadsTooMuch : StreamsValue → StreamsValue → Type 0
 ReadsTooMuch old new = Moves old new (λ input out. AnswersFirst (length new.latest) input out × (2 ^ 61 < length input))

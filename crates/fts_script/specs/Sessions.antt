@@ -8,9 +8,11 @@ use Rattle.fts_model.specs.declared.refusal.Refusal.TheVariants.{Memory}
 use Rattle.fts_script.specs.Indexes.{Index}
 use Rattle.fts_script.specs.Replies.{Outcome}
 
--- What was answered, and what an index came to, is the outcome that was wanted; at a refusal the index is as it was, and the refusal is the one wanted, or memory ran out.
+-- What was answered, and what an index came to, is the outcome that was wanted; at a refusal the index is as it was,
+-- and the refusal is the one wanted, or memory ran out.
 abbrev pub Executes : Result (Outcome Index) Refusal → Option Index → Option Index → Result Value Refusal → Type 0
-Executes wanted old new (Ok reply) = (wanted ≡ Ok (record { index = new; reply = view reply })) × (has_float (view reply) ≡ false)
+Executes wanted old new (Ok reply) =
+    (wanted ≡ Ok (record { index = new; reply = view reply })) × (has_float (view reply) ≡ false)
 Executes wanted old new (Err refusal) = (new ≡ old) × ((refusal ≡ Memory) ⊎ (wanted ≡ Err refusal))
 
 -- a bound on what an engine counts, if there is one

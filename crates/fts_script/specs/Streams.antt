@@ -1,5 +1,6 @@
 -- What a script reads from and writes to, and what the result of a call says of it.
-use Rattle.std.specs.Prelude.{ℕ, ◌≡◌, ◌&&◌, ◌==◌, Bool, true, false, nat_lt, Result, Ok, Err, List, [], ◌++◌, take, Option}
+use Rattle.std.specs.Prelude.{ℕ, ◌≡◌, ◌&&◌, ◌==◌, Bool, true, false, nat_lt, Result, Ok, Err, List, [], ◌++◌}
+use Rattle.std.specs.Prelude.{take, Option}
 use Rattle.std.specs.Io.KnownBytes.{Consumes, Appends}
 
 -- the bytes of the buffer that a call gave or took: the first n

@@ -84,8 +84,5 @@ pub fn answer_value(alloc: Global, answer: &Answer) -> Result<Value, AllocError>
     ensures value { IfOk result (λ value. view value ≡ answer_data answer.now) }
     ensures plain { IfOk result (λ value. has_float (view value) ≡ false) }
 {
-    match object_of(alloc, answer) {
-        Ok(value) => Ok(value),
-        Err(error) => Err(error),
-    }
+    object_of(alloc, answer)
 }

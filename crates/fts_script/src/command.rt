@@ -1,7 +1,10 @@
 // The commands of a script, as they stand in JSON.
 ghost use Rattle.std.specs.Prelude.{◌≡◌, ℕ, List, Option, Some, None, IfOk, IfErr, option_map, OnErr};
 ghost use Rattle.serde_json.specs.View.{view};
-ghost use Rattle.fts_script.specs.Commands.{count_of, text_at, kind_named, flag_or_false, field_in, fields_in, only_member, if_there, order_named, whole_number, top_in, search_in, schema_in, command_if, command_named, command_in, json_in};
+ghost use Rattle.fts_script.specs.Commands.{count_of, text_at, kind_named, flag_or_false, field_in, fields_in};
+ghost use Rattle.fts_script.specs.Commands.{only_member, if_there, order_named, whole_number, top_in};
+ghost use Rattle.fts_script.specs.Commands.{search_in, schema_in, command_if, command_named, command_in};
+ghost use Rattle.fts_script.specs.Commands.{json_in};
 ghost use Rattle.fts_script.specs.CommandViews.{command_value, search_value};
 ghost use Rattle.serde_json.specs.Find.{as_str, as_bool};
 ghost use Rattle.serde_json.specs.View.{items_view};

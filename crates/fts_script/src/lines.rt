@@ -1,15 +1,12 @@
 // The line in hand, where a block of the input has cut it.
-ghost use Rattle.std.specs.Prelude.{ℕ, ◌≡◌, ◌+◌, ◌^◌, ◌<◌, ◌≤◌, ◌↔◌, ◌++◌, false, List, [], length, IsTrue, OnOk, OnErr, string_bytes, vec_len};
+ghost use Rattle.std.specs.Prelude.{◌≡◌, ◌≤◌, ◌&&◌, ◌↔◌, false, None, [], length, IsTrue, OnOk, OnErr};
 ghost use Rattle.std.specs.List.{prefix_len};
 ghost use Rattle.fts_script.specs.Text.{is_white, is_blank};
 ghost use Rattle.fts_script.specs.Commands.{longest};
-ghost use Rattle.fts_script.specs.Outputs.{reply_to, after_line};
+ghost use Rattle.fts_script.specs.KeptLines.{bytes_in, grown, is_blank_kept, kept_line, too_long_in};
 
-use crate::engine::Engine;
-use crate::session::Session;
 use std::alloc::{AllocError, Global};
-use std::sync::Wait;
-use std::thread::Threads;
+use std::marker::Model;
 
 /// The most bytes of a line, before its LF.
 pub const LONGEST: usize = 4_194_304;
@@ -36,7 +33,14 @@ fn count_white(line: &[u8]) -> usize
     line.iter().take_while(|byte| is_white(**byte)).count()
 }
 
-/// The beginning of a line, without its LF. One buffer serves all lines.
+/// Whether a line that was blank so far is blank with a piece behind it.
+fn stays_blank(blank: bool, piece: &[u8]) -> bool
+    ensures { result ≡ (blank && is_blank piece.now) }
+{
+    blank && is_blank(piece)
+}
+
+/// The beginning of a line, without its LF: what is kept of it. One buffer serves all lines.
 #[derive(Drop)]
 pub struct PartialLine {
     /// How many spaces, tabs and CRs it begins with. They change no reply, and are not kept.
@@ -45,16 +49,25 @@ pub struct PartialLine {
     bytes: Vec<u8>,
     /// Once it is longer than a line may be: whether it is blank so far.
     too_long: Option<bool>,
-    ghost short: { white + vec_len bytes ≤ longest },
-    // Of a blank line nothing is kept.
-    ghost bare: { IsTrue (is_blank bytes.items) → vec_len bytes ≡ 0 },
+}
+
+impl Model for PartialLine {
+    ghost use Rattle.std.specs.Prelude.{◌≡◌, ◌+◌, ◌≤◌, vec_len};
+    ghost use Rattle.std.specs.List.{prefix_len};
+    ghost use Rattle.fts_script.specs.Text.{is_white};
+    ghost use Rattle.fts_script.specs.Commands.{longest};
+    ghost use Rattle.fts_script.specs.KeptLines.{KeptLine, kept_in};
+
+    ghost Value = { KeptLine };
+
+    ghost view = { λ p. kept_in p.too_long p.white p.bytes.items };
+
+    ghost invariant = { λ p. (p.white + vec_len p.bytes ≤ longest) × (prefix_len is_white p.bytes.items ≡ 0) };
 }
 
 impl PartialLine {
-    ghost use Rattle.fts_script.specs.Responders.{Holds};
-
     pub fn new(alloc: Global) -> PartialLine
-        ensures { Holds result [] }
+        ensures { result ≡ kept_line [] }
     {
         PartialLine {
             white: 0,
@@ -64,20 +77,18 @@ impl PartialLine {
     }
 
     pub fn is_empty(&self) -> bool
-        ensures { IsTrue result ↔ Holds self.now [] }
+        ensures { IsTrue result ↔ (self.now ≡ kept_line []) }
     {
         self.too_long.is_none() && self.white == 0 && self.bytes.is_empty()
     }
 
     /// Takes more of the line.
     pub fn grow(&mut self, piece: &[u8]) -> Result<(), AllocError>
-        ensures ok { OnOk result
-            ((line : List ℕ) → Holds self.old line → Holds self.new (line ++ piece.now)) }
-        ensures not_blank { OnErr result
-            ((line : List ℕ) → Holds self.old line → is_blank (line ++ piece.now) ≡ false) }
+        ensures ok { OnOk result (self.new ≡ grown self.old piece.now) }
+        ensures not_blank { OnErr result (is_blank_kept (grown self.old piece.now) ≡ false) }
     {
         match self.too_long {
-            Some(blank) => self.too_long = Some(blank && is_blank(piece)),
+            Some(blank) => self.too_long = Some(stays_blank(blank, piece)),
             None => {
                 if self.white + self.bytes.len() + piece.len() <= LONGEST {
                     if self.bytes.is_empty() {
@@ -88,7 +99,7 @@ impl PartialLine {
                         self.bytes.extend_from_slice(piece)?;
                     }
                 } else {
-                    self.too_long = Some(self.bytes.is_empty() && is_blank(piece));
+                    self.too_long = Some(stays_blank(is_blank(&self.bytes), piece));
                     self.bytes.clear();
                 }
             }
@@ -96,31 +107,28 @@ impl PartialLine {
         Ok(())
     }
 
-    /// Replies to the line, which is whole now, and begins the next.
-    pub fn answer<E: Engine>(
-        &mut self,
-        rt: &(impl AllocGlobal + Threads + Wait + Sync),
-        session: &mut Session<E>,
-        replies: &mut String,
-    ) -> Result<(), AllocError>
-        requires line_number_fits { session.old.number ≤ 2 ^ 61 }
-        ensures reply { OnOk result ((line : List ℕ) → Holds self.old line →
-            string_bytes replies.new ≡ string_bytes replies.old ++ reply_to session.old line) }
-        ensures script { OnOk result ((line : List ℕ) → Holds self.old line →
-            session.new ≡ after_line session.old line) }
-        ensures next { OnOk result (Holds self.new []) }
-        ensures err { OnErr result (string_bytes replies.new ≡ string_bytes replies.old) }
-        ensures not_blank { OnErr result ((line : List ℕ) → Holds self.old line →
-            is_blank line ≡ false) }
-        ensures lines_counted { session.new.number ≤ session.old.number + 1 }
+    /// Whether the line is blank, once it is longer than a line may be.
+    pub fn too_long(&self) -> Option<bool>
+        ensures { result ≡ too_long_in self.now }
     {
-        match self.too_long {
-            Some(blank) => session.answer_too_long(rt.alloc(), blank, replies)?,
-            None => session.answer(rt, self.bytes.as_slice(), replies)?,
-        }
+        self.too_long
+    }
+
+    /// What follows the white space that the line begins with.
+    pub fn bytes(&self) -> &[u8]
+        requires { too_long_in self.now ≡ None }
+        ensures value { result.now ≡ bytes_in self.now }
+        ensures fits_line { length result.now ≤ longest }
+    {
+        self.bytes.as_slice()
+    }
+
+    /// Begins the next line.
+    pub fn clear(&mut self)
+        ensures { self.new ≡ kept_line [] }
+    {
         self.white = 0;
         self.bytes.clear();
         self.too_long = None;
-        Ok(())
     }
 }

@@ -1,9 +1,9 @@
 // An index as a plain list of documents: the first engine of scripts, and the comparison for every later one.
 ghost use Rattle.std.specs.Prelude.{◌≡◌, ◌++◌, Ok, IfOk, IfErr, OnOk, OnErr};
 ghost use Rattle.std.specs.List.{list_all};
-ghost use Rattle.fts_model.specs.Operations.{alive, adds};
+ghost use Rattle.fts_model.specs.Operations.{added, added_by, adds, alive};
 ghost use Rattle.fts_model.specs.Results.{Gives};
-ghost use Rattle.fts_script.specs.Lists.{is_add, added_by, added};
+ghost use Rattle.fts_script.specs.Operations.{is_add};
 
 use crate::engine::Engine;
 use crate::options::Options;

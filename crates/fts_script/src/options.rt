@@ -27,10 +27,12 @@ pub enum Merge {
 }
 
 impl Options {
-    /// The options of these parts, if there are 1 to 64 workers, and a segment takes 1 to 65,536 documents in a row or 1
+    /// The options of these parts, if there are 1 to 64 workers, and a segment takes 1 to 65,536 documents in a row or
+    /// 1
     /// to 64 segments take documents in turn.
     pub fn new(workers: usize, cut: Cut, merge: Merge) -> Option<Options>
-        ensures some { IfSome result (λ options. (options.workers ≡ workers) × (options.cut ≡ cut) × (options.merge ≡ merge)) }
+        ensures some { IfSome result (λ options.
+            (options.workers ≡ workers) × (options.cut ≡ cut) × (options.merge ≡ merge)) }
         ensures none { IsNone result → IsTrue (is_cut cut) → 1 ≤ workers → workers ≤ 64 → ⊥ }
     {
         let cut_in_range = match cut {

@@ -1,11 +1,13 @@
 // A script on its way: the line in hand, the commands so far, and the replies that wait.
-ghost use Rattle.std.specs.Prelude.{ℕ, ◌≡◌, ◌+◌, ◌^◌, ◌<◌, ◌≤◌, ◌++◌, false, List, [], length, take, string_bytes, IfOk, IfErr, OnOk, OnErr, IsErrOf};
+ghost use Rattle.std.specs.Prelude.{ℕ, ◌≡◌, ◌+◌, ◌^◌, ◌<◌, ◌≤◌, ◌++◌, false, List, [], length, take, string_bytes};
+ghost use Rattle.std.specs.Prelude.{IfOk, OnOk, OnErr, IsErrOf};
 ghost use Rattle.fts_script.specs.Streams.{GainsTaken, Wrote};
-ghost use Rattle.fts_script.specs.Text.{is_blank, lines_of, HasNoEnd};
+ghost use Rattle.fts_script.specs.Text.{lines_of, HasNoEnd};
 ghost use Rattle.fts_script.specs.Commands.{longest};
-ghost use Rattle.fts_script.specs.Outputs.{start, output, reply_to, after_line};
+ghost use Rattle.fts_script.specs.KeptLines.{after_kept, grown, is_blank_kept, kept_line, reply_to_kept};
+ghost use Rattle.fts_script.specs.Outputs.{start, output};
 ghost use Rattle.fts_script.specs.Stops.{BeginsOutput, BeginsWith, IsWritten, StopsFirst};
-ghost use Rattle.fts_script.specs.Responders.{Finishes, Holds, Advances, AdvancesToStop, RunState};
+ghost use Rattle.fts_script.specs.Responders.{Finishes, Advances, AdvancesToStop, RunState};
 
 use crate::engine::Engine;
 use crate::fault::Fault;
@@ -60,7 +62,7 @@ impl<E: Engine> Responder<E> {
     /// Before the first piece.
     pub fn new(alloc: Global, options: Options) -> Responder<E>
         ensures session { result.session ≡ start }
-        ensures line { Holds result.line [] }
+        ensures line { result.line ≡ kept_line [] }
         ensures none_wait { string_bytes result.replies ≡ [] }
     {
         Responder {
@@ -68,6 +70,31 @@ impl<E: Engine> Responder<E> {
             line: PartialLine::new(alloc),
             replies: String::new(alloc),
         }
+    }
+
+    /// Replies to the line in hand, which is whole now, and begins the next.
+    fn answer(&mut self, rt: &(impl AllocGlobal + Threads + Wait + Sync)) -> Result<(), AllocError>
+        requires line_number_fits { self.old.session.number ≤ 2 ^ 61 }
+        ensures reply { OnOk result (string_bytes self.new.replies
+            ≡ string_bytes self.old.replies ++ reply_to_kept self.old.session self.old.line) }
+        ensures script { OnOk result (self.new.session
+            ≡ after_kept self.old.session self.old.line) }
+        ensures next { OnOk result (self.new.line ≡ kept_line []) }
+        ensures err { OnErr result (string_bytes self.new.replies ≡ string_bytes self.old.replies) }
+        ensures not_blank { OnErr result (is_blank_kept self.old.line ≡ false) }
+        ensures lines_counted { self.new.session.number ≤ self.old.session.number + 1 }
+    {
+        match self.line.too_long() {
+            Some(blank) => {
+                self.session
+                    .answer_too_long(rt.alloc(), blank, &mut self.replies)?;
+            }
+            None => self
+                .session
+                .answer(rt, self.line.bytes(), &mut self.replies)?,
+        }
+        self.line.clear();
+        Ok(())
     }
 
     /// Replies to the line that ends with `piece`.
@@ -78,15 +105,13 @@ impl<E: Engine> Responder<E> {
     ) -> Result<(), AllocError>
         requires line_number_fits { self.old.session.number ≤ 2 ^ 61 }
         requires fits_line { length piece.now ≤ longest }
-        ensures reply { OnOk result ((start : List ℕ) → Holds self.old.line start →
-            string_bytes self.new.replies
-            ≡ string_bytes self.old.replies ++ reply_to self.old.session (start ++ piece.now)) }
-        ensures script { OnOk result ((start : List ℕ) → Holds self.old.line start →
-            self.new.session ≡ after_line self.old.session (start ++ piece.now)) }
-        ensures next { OnOk result (Holds self.new.line []) }
+        ensures reply { OnOk result (string_bytes self.new.replies ≡ string_bytes self.old.replies
+            ++ reply_to_kept self.old.session (grown self.old.line piece.now)) }
+        ensures script { OnOk result (self.new.session
+            ≡ after_kept self.old.session (grown self.old.line piece.now)) }
+        ensures next { OnOk result (self.new.line ≡ kept_line []) }
         ensures err { OnErr result (string_bytes self.new.replies ≡ string_bytes self.old.replies) }
-        ensures not_blank { OnErr result ((start : List ℕ) → Holds self.old.line start →
-            is_blank (start ++ piece.now) ≡ false) }
+        ensures not_blank { OnErr result (is_blank_kept (grown self.old.line piece.now) ≡ false) }
         ensures lines_counted { self.new.session.number ≤ self.old.session.number + 1 }
     {
         if self.line.is_empty() {
@@ -94,7 +119,7 @@ impl<E: Engine> Responder<E> {
             return self.session.answer(rt, piece, &mut self.replies);
         }
         self.line.grow(piece)?;
-        self.line.answer(rt, &mut self.session, &mut self.replies)
+        self.answer(rt)
     }
 
     /// Takes the bytes up to the end of a line, or all where none ends, and says how many.
@@ -112,7 +137,7 @@ impl<E: Engine> Responder<E> {
             Advances self.old.session self.new.session self.old.line self.new.line
             (take n bytes.now) (string_bytes self.old.replies) (string_bytes self.new.replies)) }
         ensures err { OnErr result (string_bytes self.new.replies ≡ string_bytes self.old.replies) }
-        ensures not_blank { OnErr result ((start : List ℕ) → Holds self.old.line start →
+        ensures not_blank { OnErr result ((start : List ℕ) → self.old.line ≡ kept_line start →
             HasNoEnd start → IsWritten (lines_of (start ++ bytes.now))) }
         ensures lines_counted { self.new.session.number ≤ self.old.session.number + 1 }
     {
@@ -216,13 +241,12 @@ impl<E: Engine> Responder<E> {
         requires none_wait { string_bytes self.old.replies ≡ [] }
         ensures ok { OnOk result
             (Finishes self.old.session self.old.line (string_bytes self.new.replies)) }
-        ensures not_blank { OnErr result ((start : List ℕ) → Holds self.old.line start →
-            is_blank start ≡ false) }
+        ensures not_blank { OnErr result (is_blank_kept self.old.line ≡ false) }
     {
         if self.line.is_empty() {
             return Ok(());
         }
-        self.line.answer(rt, &mut self.session, &mut self.replies)
+        self.answer(rt)
     }
 
     /// Replies to the last line, closes, and writes and flushes all.

@@ -1,5 +1,7 @@
 // A script line by line: what it has come to, and its replies.
-ghost use Rattle.std.specs.Prelude.{◌≡◌, ◌+◌, ◌^◌, ◌<◌, ◌≤◌, ◌++◌, List, ℕ, Option, Some, None, Ok, Err, true, false, IfOk, OnOk, OnErr, MatchOption, ⊤, length, string_bytes, option_map, codes};
+ghost use Rattle.std.specs.Prelude.{◌≡◌, ◌+◌, ◌^◌, ◌<◌, ◌≤◌, ◌++◌, List, ℕ, Option, Some, None, Ok, Err, true};
+ghost use Rattle.std.specs.Prelude.{false, IfOk, OnOk, OnErr, MatchOption, ⊤, length, string_bytes, option_map};
+ghost use Rattle.std.specs.Prelude.{codes};
 ghost use Rattle.serde_json.specs.View.{view};
 ghost use Rattle.std.specs.Option.{ok_or};
 ghost use Rattle.fts_model.specs.Results.{Gives};
@@ -16,8 +18,10 @@ ghost use Rattle.fts_script.specs.Commands.{longest, Add, Delete, Commit, Rollba
 ghost use Rattle.fts_script.specs.CommandViews.{command_value, search_value};
 ghost use Rattle.fts_script.specs.Indexes.{indexes};
 ghost use Rattle.fts_script.specs.Steps.{submit};
-ghost use Rattle.fts_script.specs.Replies.{replied, answer_search, execute, execute_line, number_reply, refusal_reply, line_of, text_of, index_after};
+ghost use Rattle.fts_script.specs.Replies.{replied, answer_search, execute, execute_line, number_reply};
+ghost use Rattle.fts_script.specs.Replies.{refusal_reply, line_of, text_of, index_after};
 ghost use Rattle.fts_script.specs.Outputs.{start, after_line, reply_to};
+ghost use Rattle.fts_script.specs.KeptLines.{TooLong, after_kept, reply_to_kept};
 ghost use Rattle.fts_script.specs.Sessions.{Executes, ChangesAtMost, ChangesOnce};
 
 use crate::answer::answer_value;
@@ -376,7 +380,6 @@ impl<E: Engine> Session<E> {
     }
 
     /// Replies to a line that is longer than a line may be, of which it is known whether it is blank.
-    #[tactic(auto, unfolding(crate::specs::Replies::reply_on, crate::specs::Replies::carried_over))]
     pub fn answer_too_long(
         &mut self,
         alloc: Global,
@@ -384,12 +387,9 @@ impl<E: Engine> Session<E> {
         out: &mut String,
     ) -> Result<(), AllocError>
         requires line_number_fits { self.old.number ≤ 2 ^ 61 }
-        ensures reply { OnOk result ((line : List ℕ) → longest < length line →
-            is_blank line ≡ blank →
-            string_bytes out.new ≡ string_bytes out.old ++ reply_to self.old line) }
-        ensures script { OnOk result ((line : List ℕ) → longest < length line →
-            is_blank line ≡ blank →
-            self.new ≡ after_line self.old line) }
+        ensures reply { OnOk result (string_bytes out.new
+            ≡ string_bytes out.old ++ reply_to_kept self.old (TooLong blank)) }
+        ensures script { OnOk result (self.new ≡ after_kept self.old (TooLong blank)) }
         ensures err { OnErr result (string_bytes out.new ≡ string_bytes out.old) }
         ensures not_blank { OnErr result (blank ≡ false) }
         ensures lines_counted { self.new.number ≤ self.old.number + 1 }

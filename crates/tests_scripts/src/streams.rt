@@ -41,7 +41,8 @@ fn input(rt: &impl AllocGlobal) -> Result<Vec<u8>, Fail> {
     Ok(bytes)
 }
 
-/// The replies to the lines that end within the first `count` bytes; at the end of the input the last line has ended too.
+/// The replies to the lines that end within the first `count` bytes; at the end of the input the last line has ended
+/// too.
 fn replies(rt: &impl AllocGlobal, count: usize, ended: bool) -> Result<Vec<u8>, Fail> {
     let mut bytes = Vec::new(rt.alloc());
     let mut left = count;
@@ -95,7 +96,8 @@ impl Read for Source<'_> {
     }
 }
 
-/// Takes at most `step` bytes a call; once, at the call numbered `fails`, it fails, or takes none where no kind is given.
+/// Takes at most `step` bytes a call; once, at the call numbered `fails`, it fails, or takes none where no kind is
+/// given.
 #[derive(Drop)]
 struct Sink {
     bytes: Vec<u8>,

@@ -3,7 +3,7 @@ ghost use Rattle.std.specs.Prelude.{◌≡◌, IfOk, IfErr, map, string_bytes};
 ghost use Rattle.fts.specs.Arguments.{Asks, Refuses};
 ghost use Rattle.fts.specs.declared.cli.args.ArgFault.TheVariants.{Memory};
 
-use crate::cli::given::options;
+use crate::cli::options::options;
 use crate::cli::parser::parse;
 use clap::error::ErrorKind;
 use fts_script::Options;

@@ -1,6 +1,6 @@
 use Rattle.std.proofs.Common.{◌++◌, ◌∷◌, [], take, sym, ap, ◌∙◌, append_assoc}
 use Rattle.std.proofs.lemmas.List.{take_more}
-use Rattle.fts_script.specs.Lists.{added, added_by}
+use Rattle.fts_model.specs.Operations.{added, added_by}
 use Rattle.fts_script.proofs.Adds.{added-push}
 use Rattle.fts_script.proofs.list_engine.append.Goals as goal
 

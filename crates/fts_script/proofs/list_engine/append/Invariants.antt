@@ -1,5 +1,5 @@
 use Rattle.std.proofs.Common.{◌≡◌, ◌++◌, take}
-use Rattle.fts_script.specs.Lists.{added}
+use Rattle.fts_model.specs.Operations.{added}
 use Rattle.fts_script.proofs.list_engine.append.Given as goal
 
 abbrev pub invariant-loop-op : goal.invariant-loop-op

@@ -4,6 +4,7 @@ use Rattle.fts_script.specs.Text.{lines_of}
 use Rattle.fts_script.specs.Stops.{IsWritten}
 use Rattle.fts_script.specs.Responders.{Advances}
 use Rattle.fts_script.proofs.BlankLemmas.{IsWritten-front}
+use Rattle.fts_script.proofs.KeptLemmas.{not_blank-kept}
 use Rattle.fts_script.proofs.LineLemmas.{HasNoEnd-append, HasNoEnd-before, HasNoEnd-none, take-ended}
 use Rattle.fts_script.proofs.RunLemmas.{Advances-ended, Advances-unended, on_err}
 use Rattle.fts_script.proofs.responder.Responder.take_line.Goals as goal
@@ -38,7 +39,7 @@ returns-in_err-end_line-in-Some-clause-not_blank g c =
     on_err c.from_residual.result _ (λ start held none.
     subst (λ v. IsWritten (lines_of v)) (append_assoc start (take k bytes) (drop k bytes) ∙ ap (λ v. start ++ v) (take-append-drop k bytes))
     (IsWritten-front (start ++ take k bytes) (drop k bytes) (HasNoEnd-append start (take k bytes) none (HasNoEnd-before bytes k c.in-Some.ensures))
-    (c.in_err-end_line-in-Some.ensures.not_blank start held)))
+    (not_blank-kept c.args.self.now.line start (take k bytes) held c.in_err-end_line-in-Some.ensures.not_blank)))
 
 pub returns-in_err-grow-in-None-clause-not_blank : goal.returns-in_err-grow-in-None-clause-not_blank
 returns-in_err-grow-in-None-clause-not_blank g c =
@@ -46,4 +47,4 @@ returns-in_err-grow-in-None-clause-not_blank g c =
     on_err c.from_residual-in_err-grow-in-None.result _ (λ start held none.
     subst (λ v. IsWritten (lines_of v)) (append-nil (start ++ bytes))
     (IsWritten-front (start ++ bytes) [] (HasNoEnd-append start bytes none (HasNoEnd-none bytes c.in-None.ensures))
-    (c.in_err-grow-in-None.ensures.not_blank start held)))
+    (not_blank-kept c.args.self.now.line start bytes held c.in_err-grow-in-None.ensures.not_blank)))

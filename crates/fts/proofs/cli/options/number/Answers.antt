@@ -5,7 +5,7 @@ use Rattle.clap.specs.Matches.{ReadsOne, found_of, one_text}
 use Rattle.clap.specs.Walk.{Text, one_of, rows_of}
 use Rattle.clap.proofs.WalkLemmas.{one_text-rows}
 use Rattle.fts.specs.RunOptions.{IsNumber}
-use Rattle.fts.proofs.cli.given.number.Goals as goal
+use Rattle.fts.proofs.cli.options.number.Goals as goal
 
 reads : {E : Type 0} (G : Text → Result ℕ E → Type 0) → ((u : Text) (x : Result ℕ E) → G u x → ParsesUnsigned 64 10 u x)
     → (t : Text) → IsNumber t → (r : Option ℕ) → ReadsOne G t r → r ≡ Some (digits_value 10 (without_leading_plus t))

@@ -4,7 +4,7 @@ use Rattle.clap.specs.Walk.{first_of, one_of, rows_of}
 use Rattle.clap.proofs.WalkLemmas.{first_value-rows}
 use Rattle.std.proofs.Common.{◌≡◌, ◌∙◌, ap, ap₂, codes, rules, Some, unwrap_or}
 use Rattle.fts.specs.RunOptions.{cut_asked, cut_given, merge_asked, number_given}
-use Rattle.fts.proofs.cli.given.options_of.Goals as goal
+use Rattle.fts.proofs.cli.options.options_of.Goals as goal
 
 pub number-workers-requires : goal.number-workers-requires
 number-workers-requires c = IfSome_then (one_of (codes "workers") (rows_of (found_of c.args.run.now))) c.requires.0 (λ t p. (p.0, p.1))
