@@ -11,10 +11,10 @@ ghost use Rattle.fts_cursor.specs.Openings.{HasMusts};
 ghost use Rattle.fts_collect.specs.Parts.{OpensIn};
 ghost use Rattle.fts_collect.specs.Internals.Collected.{AreHits, HasCounted, HasNumbers, HasRanked, HasSeen, IsTallyOf, KeysWithin, hits_at};
 
-use crate::top_k::TopK;
 use crate::part::Part;
 use crate::ranking::{hits_of, offer_hits};
 use crate::tally::Tally;
+use crate::top_k::TopK;
 use fts_cursor::{Cursor, DocSet, cursor_of};
 use fts_model::{Answer, Hit, Number, Query, Refusal, Request, Top};
 use fts_pack::Bits;

@@ -2,8 +2,8 @@
 ghost use Rattle.std.specs.Prelude.{◌≡◌, ◌<◌, ◌≤◌, ◌^◌, ◌++◌, ◌∷◌, [], All, IfOk, OnOk, length, map, option_to_list};
 ghost use Rattle.fts_collect.specs.Internals.Ranking.{hit_of, keep_keys, key_at, keys_at, rank_in};
 
-use crate::top_k::{Key, TopK};
 use crate::tally::number_at;
+use crate::top_k::{Key, TopK};
 use fts_model::{Hit, Kind, Order};
 use fts_pack::Column;
 use fts_segment::Segment;

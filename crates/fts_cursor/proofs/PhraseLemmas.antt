@@ -1,5 +1,5 @@
 -- Where a phrase stands.
-use Rattle.std.proofs.Common.{◌≡◌, ℕ, zero, suc, ◌+◌, ◌^◌, ◌<◌, ◌≤◌, nat_lt, cond, Bool, ◌&&◌, Some, None, List, [], ◌∷◌, All, length, get_or, set, drop, refl, sym, subst, ap, ◌∙◌, arith}
+use Rattle.std.proofs.Common.{◌≡◌, ℕ, zero, suc, ◌+◌, ◌^◌, ◌<◌, ◌≤◌, nat_lt, cond, Bool, ◌&&◌, Some, None, List, [], ◌∷◌, All, length, get_or, set, drop, refl, sym, subst, ap, ap₂, ◌∙◌, arith}
 use Rattle.std.specs.List.{AllZip, filter, list_all, slice_get}
 use Rattle.std.specs.List.Sorted.{IsStrictlyIncreasing}
 use Rattle.std.proofs.lemmas.Bool.{le-ltb, lt-ltb}
@@ -14,8 +14,10 @@ use Rattle.fts_postings.specs.Conjoined.{AllFollow, Conjoined, common_of}
 use Rattle.fts_postings.specs.Meeting.{FirstPasses}
 use Rattle.fts_cursor.specs.Phrases.{AreMembersOf, IsPhrase, phrase_at, positions_at, rank}
 use Rattle.fts_postings.specs.Posting.{Follows, Posting}
-use Rattle.fts_cursor.specs.Terms.{AreTied}
+use Rattle.fts_cursor.specs.Standing.{Continues}
+use Rattle.fts_cursor.specs.Terms.{AreTied, of_terms}
 use Rattle.fts_postings.proofs.RemainingLemmas.{Rises-from_increasing, Rises-get_or}
+use Rattle.fts_postings.proofs.ConjoinedLemmas.{AllFollow-trans}
 use Rattle.fts_cursor.proofs.TermsLemmas.{terms-continue}
 
 pub none_below : (doc next : ℕ) (xs : List ℕ) → Rises next xs → doc ≤ next → filter (λ d. nat_lt d doc) xs ≡ []
@@ -60,20 +62,31 @@ members-follow c d ms h are = record {
   few = are.few;
 }
 
--- members that stay where the terms go on
-module _ (old new : Conjoined) (members at after : List Member) (here : at ≡ members) (same : after ≡ at) where
-  pub phrase-settled : AllFollow old new → AreMembersOf old members → AreTied old → FirstPasses (phrase_at at) (common_of new) → IsPhrase new after
-  phrase-settled follows are tied passes =
-      let P : List Member → Type 0 = IsPhrase new in
-      subst P (sym (same ∙ here)) (record {
-        members_are = members-follow old new members follows are;
-        settled = subst (λ (ms : List Member). FirstPasses (phrase_at ms) (common_of new)) here passes;
-        tied = (terms-continue old new follows tied).1;
-      })
+-- the terms of a phrase went on to a document where it stands
+pub record PhraseMoved (old between new : Conjoined) (members after : List Member) : Type 0 where
+  pub is : IsPhrase new after
+  pub same : filter (phrase_at after) (common_of new) ≡ filter (phrase_at members) (common_of between)
+  pub continues : (before now : List ℕ) → Continues (of_terms old before) (of_terms new now)
 
-  pub phrase-same : (between : Conjoined) → filter (phrase_at at) (common_of new) ≡ filter (phrase_at at) (common_of between) → filter (phrase_at after) (common_of new) ≡ filter (phrase_at members) (common_of between)
-  phrase-same between is =
-      ap (λ (ms : List Member). filter (phrase_at ms) (common_of new)) same ∙ is ∙ ap (λ (ms : List Member). filter (phrase_at ms) (common_of between)) here
+-- its members are lent, and come back as they were
+pub phrase-moved : (old between new : Conjoined) (first lent back : Member) (others lent_others back_others : List Member) → lent ≡ first → lent_others ≡ others → back ≡ lent → back_others ≡ lent_others →
+    AllFollow old between → AllFollow between new → AreMembersOf old (first ∷ others) → AreTied old → FirstPasses (phrase_at (lent ∷ lent_others)) (common_of new) →
+    filter (phrase_at (lent ∷ lent_others)) (common_of new) ≡ filter (phrase_at (lent ∷ lent_others)) (common_of between) → PhraseMoved old between new (first ∷ others) (back ∷ back_others)
+phrase-moved old between new first lent back others lent_others back_others lent_is lent_are back_is back_are follows on are tied passes is =
+    let P : List Member → Type 0 = IsPhrase new in
+    let here = ap₂ (λ (m : Member) (ms : List Member). m ∷ ms) lent_is lent_are in
+    let after = ap₂ (λ (m : Member) (ms : List Member). m ∷ ms) back_is back_are in
+    let all = AllFollow-trans old between new follows on in
+    let moved = terms-continue old new all tied in
+    record {
+      is = subst P (sym (after ∙ here)) (record {
+        members_are = members-follow old new (first ∷ others) all are;
+        settled = subst (λ (ms : List Member). FirstPasses (phrase_at ms) (common_of new)) here passes;
+        tied = moved.1;
+      });
+      same = ap (λ (ms : List Member). filter (phrase_at ms) (common_of new)) after ∙ is ∙ ap (λ (ms : List Member). filter (phrase_at ms) (common_of between)) here;
+      continues = moved.0;
+    }
 
 -- a member that is put back as it was
 pub put_back : (ms : List Member) (k : ℕ) (d : Member) (positions : List (List ℕ)) → positions ≡ (get_or ms k d).positions →

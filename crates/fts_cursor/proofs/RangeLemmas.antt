@@ -14,17 +14,17 @@ use Rattle.fts_model.specs.declared.schema.Kind.TheVariants as kinds
 use Rattle.fts_model.specs.declared.value.FieldValue.{FieldValue}
 use Rattle.fts_model.specs.declared.value.FieldValue.TheVariants as values
 use Rattle.fts_model.specs.declared.value.Number.TheVariants as numbers
-use Rattle.fts_model.specs.Documents.{DocumentValue, fits_i64, value_in_field}
+use Rattle.fts_model.specs.Documents.{DocumentValue, fits_i64, is_of_kind, value_in_field}
 use Rattle.fts_model.specs.Operations.{kind_at}
 use Rattle.fts_model.specs.Schemas.{holds_numbers}
-use Rattle.fts_model.specs.Queries.{admits_from, admits_to, is_bound_of, is_range_of}
+use Rattle.fts_model.specs.Queries.{admits_from, admits_to, is_bound_of, is_range_of, value_le, value_lt}
 use Rattle.fts_pack.specs.Signed.{u64_of}
 use Rattle.fts_segment.specs.Numbers.{Fits64}
 use Rattle.fts_pack.specs.Column.{IsRangeOf}
 use Rattle.fts_segment.specs.FieldIndexes.{NumbersFit}
 use Rattle.fts_segment.specs.Occurrences.{values_in}
 use Rattle.fts_segment.specs.Segments.{SegmentValue, column, number_in, number_of, numbers_where}
-use Rattle.fts_cursor.specs.Ranges.{IsGreatestOf, IsLeastOf, IsWholeBound, is_bounded, key_from, key_to}
+use Rattle.fts_cursor.specs.Ranges.{IsGreatestOf, IsLeastOf, IsWhole, IsWholeBound, is_bounded, key_from, key_of, key_to}
 use Rattle.fts_cursor.specs.Scans.{has_value, has_within, within}
 use Rattle.fts_postings.specs.Windows.{passing}
 use Rattle.fts_cursor.proofs.HitsLemmas.{numbers_are, passing_are, test_at}
@@ -52,42 +52,34 @@ not_lt a b = elim (cases_lt a b) [
 pub int_order_le : (x y : ℤ) → fits_i64 x ≡ true → fits_i64 y ≡ true → not (int_lt y x) ≡ nat_le (u64_of x) (u64_of y)
 int_order_le x y p q = ap not (int_order y x q p) ∙ not_lt (u64_of y) (u64_of x)
 
+-- how a value of a bound stands to one that a column keeps as this number
+record IsPlaced (b v : FieldValue) (x : ℕ) : Type 0 where
+  le : value_le b v ≡ nat_le (key_of b) x
+  lt : value_lt b v ≡ nat_lt (key_of b) x
+  ge : value_le v b ≡ nat_le x (key_of b)
+  gt : value_lt v b ≡ nat_lt x (key_of b)
+
+placed_u64 : (b : FieldValue) (n : ℕ) → is_of_kind kinds.U64 b ≡ true → IsPlaced b (values.Number (numbers.U64 n)) n
+placed_u64 (values.Number (numbers.U64 b)) n ok = record { le = refl; lt = refl; ge = refl; gt = refl }
+placed_u64 (values.Number (numbers.I64 b)) n ok = absurd (false≢true ok)
+placed_u64 (values.Text t) n ok = absurd (false≢true ok)
+
+placed_i64 : (b : FieldValue) (z : ℤ) → is_of_kind kinds.I64 b ≡ true → IsWhole b → fits_i64 z ≡ true → IsPlaced b (values.Number (numbers.I64 z)) (u64_of z)
+placed_i64 (values.Number (numbers.I64 b)) z ok whole fits = record { le = int_order_le b z whole fits; lt = int_order b z whole fits; ge = int_order_le z b fits whole; gt = int_order z b fits whole }
+placed_i64 (values.Number (numbers.U64 b)) z ok whole fits = absurd (false≢true ok)
+placed_i64 (values.Text t) z ok whole fits = absurd (false≢true ok)
+
 -- bounds of a kind admit a number of that kind by its place
-from_u64 : (bound : Bound FieldValue) (n : ℕ) → is_bound_of kinds.U64 bound ≡ true → admits_from bound (values.Number (numbers.U64 n)) ≡ key_from bound n
-from_u64 (Included (values.Number (numbers.U64 b))) n ok = refl
-from_u64 (Included (values.Number (numbers.I64 b))) n ok = absurd (false≢true ok)
-from_u64 (Included (values.Text t)) n ok = absurd (false≢true ok)
-from_u64 (Excluded (values.Number (numbers.U64 b))) n ok = refl
-from_u64 (Excluded (values.Number (numbers.I64 b))) n ok = absurd (false≢true ok)
-from_u64 (Excluded (values.Text t)) n ok = absurd (false≢true ok)
-from_u64 Unbounded n ok = refl
+by_u64 : (bound : Bound FieldValue) (n : ℕ) → is_bound_of kinds.U64 bound ≡ true → (admits_from bound (values.Number (numbers.U64 n)) ≡ key_from bound n) × (admits_to bound (values.Number (numbers.U64 n)) ≡ key_to bound n)
+by_u64 (Included b) n ok = let h = placed_u64 b n ok in (h.le, h.ge)
+by_u64 (Excluded b) n ok = let h = placed_u64 b n ok in (h.lt, h.gt)
+by_u64 Unbounded n ok = (refl, refl)
 
-to_u64 : (bound : Bound FieldValue) (n : ℕ) → is_bound_of kinds.U64 bound ≡ true → admits_to bound (values.Number (numbers.U64 n)) ≡ key_to bound n
-to_u64 (Included (values.Number (numbers.U64 b))) n ok = refl
-to_u64 (Included (values.Number (numbers.I64 b))) n ok = absurd (false≢true ok)
-to_u64 (Included (values.Text t)) n ok = absurd (false≢true ok)
-to_u64 (Excluded (values.Number (numbers.U64 b))) n ok = refl
-to_u64 (Excluded (values.Number (numbers.I64 b))) n ok = absurd (false≢true ok)
-to_u64 (Excluded (values.Text t)) n ok = absurd (false≢true ok)
-to_u64 Unbounded n ok = refl
-
-from_i64 : (bound : Bound FieldValue) (z : ℤ) → is_bound_of kinds.I64 bound ≡ true → IsWholeBound bound → fits_i64 z ≡ true → admits_from bound (values.Number (numbers.I64 z)) ≡ key_from bound (u64_of z)
-from_i64 (Included (values.Number (numbers.I64 b))) z ok whole fits = int_order_le b z whole fits
-from_i64 (Included (values.Number (numbers.U64 b))) z ok whole fits = absurd (false≢true ok)
-from_i64 (Included (values.Text t)) z ok whole fits = absurd (false≢true ok)
-from_i64 (Excluded (values.Number (numbers.I64 b))) z ok whole fits = int_order b z whole fits
-from_i64 (Excluded (values.Number (numbers.U64 b))) z ok whole fits = absurd (false≢true ok)
-from_i64 (Excluded (values.Text t)) z ok whole fits = absurd (false≢true ok)
-from_i64 Unbounded z ok whole fits = refl
-
-to_i64 : (bound : Bound FieldValue) (z : ℤ) → is_bound_of kinds.I64 bound ≡ true → IsWholeBound bound → fits_i64 z ≡ true → admits_to bound (values.Number (numbers.I64 z)) ≡ key_to bound (u64_of z)
-to_i64 (Included (values.Number (numbers.I64 b))) z ok whole fits = int_order_le z b fits whole
-to_i64 (Included (values.Number (numbers.U64 b))) z ok whole fits = absurd (false≢true ok)
-to_i64 (Included (values.Text t)) z ok whole fits = absurd (false≢true ok)
-to_i64 (Excluded (values.Number (numbers.I64 b))) z ok whole fits = int_order z b fits whole
-to_i64 (Excluded (values.Number (numbers.U64 b))) z ok whole fits = absurd (false≢true ok)
-to_i64 (Excluded (values.Text t)) z ok whole fits = absurd (false≢true ok)
-to_i64 Unbounded z ok whole fits = refl
+by_i64 : (bound : Bound FieldValue) (z : ℤ) → is_bound_of kinds.I64 bound ≡ true → IsWholeBound bound → fits_i64 z ≡ true →
+    (admits_from bound (values.Number (numbers.I64 z)) ≡ key_from bound (u64_of z)) × (admits_to bound (values.Number (numbers.I64 z)) ≡ key_to bound (u64_of z))
+by_i64 (Included b) z ok whole fits = let h = placed_i64 b z ok whole fits in (h.le, h.ge)
+by_i64 (Excluded b) z ok whole fits = let h = placed_i64 b z ok whole fits in (h.lt, h.gt)
+by_i64 Unbounded z ok whole fits = (refl, refl)
 
 -- bounds admit a value, and a number that a column keeps
 abbrev pub admits : Bound FieldValue → Bound FieldValue → FieldValue → Bool
@@ -96,56 +88,32 @@ admits lower upper v = admits_from lower v && admits_to upper v
 abbrev pub key_admits : Bound FieldValue → Bound FieldValue → ℕ → Bool
 key_admits lower upper x = key_from lower x && key_to upper x
 
--- a bound of a kind admits nothing of another
-other_from : (kind : Kind) (bound : Bound FieldValue) (v : FieldValue) → is_bound_of kind bound ≡ true → holds_numbers kind ≡ true → number_in kind v ≡ None → is_bounded bound ≡ true → admits_from bound v ≡ false
-other_from kinds.U64 (Included (values.Number (numbers.U64 b))) (values.Number (numbers.U64 n)) ok holds none some = absurd (let e : Some n ≡ None = none in cc)
-other_from kinds.U64 (Included (values.Number (numbers.U64 b))) (values.Number (numbers.I64 z)) ok holds none some = refl
-other_from kinds.U64 (Included (values.Number (numbers.U64 b))) (values.Text t) ok holds none some = refl
-other_from kinds.U64 (Included (values.Number (numbers.I64 b))) v ok holds none some = absurd (false≢true ok)
-other_from kinds.U64 (Included (values.Text b)) v ok holds none some = absurd (false≢true ok)
-other_from kinds.U64 (Excluded (values.Number (numbers.U64 b))) (values.Number (numbers.U64 n)) ok holds none some = absurd (let e : Some n ≡ None = none in cc)
-other_from kinds.U64 (Excluded (values.Number (numbers.U64 b))) (values.Number (numbers.I64 z)) ok holds none some = refl
-other_from kinds.U64 (Excluded (values.Number (numbers.U64 b))) (values.Text t) ok holds none some = refl
-other_from kinds.U64 (Excluded (values.Number (numbers.I64 b))) v ok holds none some = absurd (false≢true ok)
-other_from kinds.U64 (Excluded (values.Text b)) v ok holds none some = absurd (false≢true ok)
-other_from kinds.I64 (Included (values.Number (numbers.I64 b))) (values.Number (numbers.I64 z)) ok holds none some = absurd (let e : Some (u64_of z) ≡ None = none in cc)
-other_from kinds.I64 (Included (values.Number (numbers.I64 b))) (values.Number (numbers.U64 n)) ok holds none some = refl
-other_from kinds.I64 (Included (values.Number (numbers.I64 b))) (values.Text t) ok holds none some = refl
-other_from kinds.I64 (Included (values.Number (numbers.U64 b))) v ok holds none some = absurd (false≢true ok)
-other_from kinds.I64 (Included (values.Text b)) v ok holds none some = absurd (false≢true ok)
-other_from kinds.I64 (Excluded (values.Number (numbers.I64 b))) (values.Number (numbers.I64 z)) ok holds none some = absurd (let e : Some (u64_of z) ≡ None = none in cc)
-other_from kinds.I64 (Excluded (values.Number (numbers.I64 b))) (values.Number (numbers.U64 n)) ok holds none some = refl
-other_from kinds.I64 (Excluded (values.Number (numbers.I64 b))) (values.Text t) ok holds none some = refl
-other_from kinds.I64 (Excluded (values.Number (numbers.U64 b))) v ok holds none some = absurd (false≢true ok)
-other_from kinds.I64 (Excluded (values.Text b)) v ok holds none some = absurd (false≢true ok)
-other_from kind Unbounded v ok holds none some = absurd (false≢true some)
-other_from kinds.Text bound v ok holds none some = absurd (false≢true holds)
-other_from kinds.Keyword bound v ok holds none some = absurd (false≢true holds)
+-- a value of a kind is neither below nor above one of another
+record IsApart (b v : FieldValue) : Type 0 where
+  le : value_le b v ≡ false
+  lt : value_lt b v ≡ false
+  ge : value_le v b ≡ false
+  gt : value_lt v b ≡ false
 
-other_to : (kind : Kind) (bound : Bound FieldValue) (v : FieldValue) → is_bound_of kind bound ≡ true → holds_numbers kind ≡ true → number_in kind v ≡ None → is_bounded bound ≡ true → admits_to bound v ≡ false
-other_to kinds.U64 (Included (values.Number (numbers.U64 b))) (values.Number (numbers.U64 n)) ok holds none some = absurd (let e : Some n ≡ None = none in cc)
-other_to kinds.U64 (Included (values.Number (numbers.U64 b))) (values.Number (numbers.I64 z)) ok holds none some = refl
-other_to kinds.U64 (Included (values.Number (numbers.U64 b))) (values.Text t) ok holds none some = refl
-other_to kinds.U64 (Included (values.Number (numbers.I64 b))) v ok holds none some = absurd (false≢true ok)
-other_to kinds.U64 (Included (values.Text b)) v ok holds none some = absurd (false≢true ok)
-other_to kinds.U64 (Excluded (values.Number (numbers.U64 b))) (values.Number (numbers.U64 n)) ok holds none some = absurd (let e : Some n ≡ None = none in cc)
-other_to kinds.U64 (Excluded (values.Number (numbers.U64 b))) (values.Number (numbers.I64 z)) ok holds none some = refl
-other_to kinds.U64 (Excluded (values.Number (numbers.U64 b))) (values.Text t) ok holds none some = refl
-other_to kinds.U64 (Excluded (values.Number (numbers.I64 b))) v ok holds none some = absurd (false≢true ok)
-other_to kinds.U64 (Excluded (values.Text b)) v ok holds none some = absurd (false≢true ok)
-other_to kinds.I64 (Included (values.Number (numbers.I64 b))) (values.Number (numbers.I64 z)) ok holds none some = absurd (let e : Some (u64_of z) ≡ None = none in cc)
-other_to kinds.I64 (Included (values.Number (numbers.I64 b))) (values.Number (numbers.U64 n)) ok holds none some = refl
-other_to kinds.I64 (Included (values.Number (numbers.I64 b))) (values.Text t) ok holds none some = refl
-other_to kinds.I64 (Included (values.Number (numbers.U64 b))) v ok holds none some = absurd (false≢true ok)
-other_to kinds.I64 (Included (values.Text b)) v ok holds none some = absurd (false≢true ok)
-other_to kinds.I64 (Excluded (values.Number (numbers.I64 b))) (values.Number (numbers.I64 z)) ok holds none some = absurd (let e : Some (u64_of z) ≡ None = none in cc)
-other_to kinds.I64 (Excluded (values.Number (numbers.I64 b))) (values.Number (numbers.U64 n)) ok holds none some = refl
-other_to kinds.I64 (Excluded (values.Number (numbers.I64 b))) (values.Text t) ok holds none some = refl
-other_to kinds.I64 (Excluded (values.Number (numbers.U64 b))) v ok holds none some = absurd (false≢true ok)
-other_to kinds.I64 (Excluded (values.Text b)) v ok holds none some = absurd (false≢true ok)
-other_to kind Unbounded v ok holds none some = absurd (false≢true some)
-other_to kinds.Text bound v ok holds none some = absurd (false≢true holds)
-other_to kinds.Keyword bound v ok holds none some = absurd (false≢true holds)
+apart : (kind : Kind) (b v : FieldValue) → is_of_kind kind b ≡ true → holds_numbers kind ≡ true → number_in kind v ≡ None → IsApart b v
+apart kinds.U64 (values.Number (numbers.U64 b)) (values.Number (numbers.U64 n)) ok holds none = absurd (let e : Some n ≡ None = none in cc)
+apart kinds.U64 (values.Number (numbers.U64 b)) (values.Number (numbers.I64 z)) ok holds none = record { le = refl; lt = refl; ge = refl; gt = refl }
+apart kinds.U64 (values.Number (numbers.U64 b)) (values.Text t) ok holds none = record { le = refl; lt = refl; ge = refl; gt = refl }
+apart kinds.U64 (values.Number (numbers.I64 b)) v ok holds none = absurd (false≢true ok)
+apart kinds.U64 (values.Text b) v ok holds none = absurd (false≢true ok)
+apart kinds.I64 (values.Number (numbers.I64 b)) (values.Number (numbers.I64 z)) ok holds none = absurd (let e : Some (u64_of z) ≡ None = none in cc)
+apart kinds.I64 (values.Number (numbers.I64 b)) (values.Number (numbers.U64 n)) ok holds none = record { le = refl; lt = refl; ge = refl; gt = refl }
+apart kinds.I64 (values.Number (numbers.I64 b)) (values.Text t) ok holds none = record { le = refl; lt = refl; ge = refl; gt = refl }
+apart kinds.I64 (values.Number (numbers.U64 b)) v ok holds none = absurd (false≢true ok)
+apart kinds.I64 (values.Text b) v ok holds none = absurd (false≢true ok)
+apart kinds.Text b v ok holds none = absurd (false≢true holds)
+apart kinds.Keyword b v ok holds none = absurd (false≢true holds)
+
+-- a bound of a kind admits nothing of another
+none_of : (kind : Kind) (bound : Bound FieldValue) (v : FieldValue) → is_bound_of kind bound ≡ true → holds_numbers kind ≡ true → number_in kind v ≡ None → is_bounded bound ≡ true → (admits_from bound v ≡ false) × (admits_to bound v ≡ false)
+none_of kind (Included b) v ok holds none some = let h = apart kind b v ok holds none in (h.le, h.ge)
+none_of kind (Excluded b) v ok holds none some = let h = apart kind b v ok holds none in (h.lt, h.gt)
+none_of kind Unbounded v ok holds none some = absurd (false≢true some)
 
 and_false : (b : Bool) → (b && false) ≡ false
 and_false true = refl
@@ -154,19 +122,19 @@ and_false false = refl
 -- bounds, of which one is one, admit nothing of another kind
 other : (kind : Kind) (lower upper : Bound FieldValue) (v : FieldValue) → is_bound_of kind lower ≡ true → is_bound_of kind upper ≡ true → holds_numbers kind ≡ true → number_in kind v ≡ None → (is_bounded lower || is_bounded upper) ≡ true → admits lower upper v ≡ false
 other kind lower upper v low high holds none some = elim (cases_Bool (is_bounded lower)) [
-  | inl bounded ↦ ap (λ b. b && admits_to upper v) (other_from kind lower v low holds none bounded)
+  | inl bounded ↦ ap (λ b. b && admits_to upper v) (none_of kind lower v low holds none bounded).0
   | inr open_below ↦
       let bounded : is_bounded upper ≡ true = ap (λ b. b || is_bounded upper) (sym open_below) ∙ some in
-      ap (λ b. admits_from lower v && b) (other_to kind upper v high holds none bounded) ∙ and_false (admits_from lower v)
+      ap (λ b. admits_from lower v && b) (none_of kind upper v high holds none bounded).1 ∙ and_false (admits_from lower v)
 ]
 
 -- what bounds say of a value is what they say of its number
 pub admits_by_key : (kind : Kind) (lower upper : Bound FieldValue) (v : FieldValue) → is_bound_of kind lower ≡ true → is_bound_of kind upper ≡ true → holds_numbers kind ≡ true → IsWholeBound lower → IsWholeBound upper → Fits64 kind v → (is_bounded lower || is_bounded upper) ≡ true →
     admits lower upper v ≡ option_map_or (key_admits lower upper) (number_in kind v) false
-admits_by_key kinds.U64 lower upper (values.Number (numbers.U64 n)) low high holds whole below fits some = ap₂ (λ a b. a && b) (from_u64 lower n low) (to_u64 upper n high)
+admits_by_key kinds.U64 lower upper (values.Number (numbers.U64 n)) low high holds whole below fits some = ap₂ (λ a b. a && b) (by_u64 lower n low).0 (by_u64 upper n high).1
 admits_by_key kinds.U64 lower upper (values.Number (numbers.I64 z)) low high holds whole below fits some = other kinds.U64 lower upper (values.Number (numbers.I64 z)) low high holds refl some
 admits_by_key kinds.U64 lower upper (values.Text t) low high holds whole below fits some = other kinds.U64 lower upper (values.Text t) low high holds refl some
-admits_by_key kinds.I64 lower upper (values.Number (numbers.I64 z)) low high holds whole below fits some = ap₂ (λ a b. a && b) (from_i64 lower z low whole fits) (to_i64 upper z high below fits)
+admits_by_key kinds.I64 lower upper (values.Number (numbers.I64 z)) low high holds whole below fits some = ap₂ (λ a b. a && b) (by_i64 lower z low whole fits).0 (by_i64 upper z high below fits).1
 admits_by_key kinds.I64 lower upper (values.Number (numbers.U64 n)) low high holds whole below fits some = other kinds.I64 lower upper (values.Number (numbers.U64 n)) low high holds refl some
 admits_by_key kinds.I64 lower upper (values.Text t) low high holds whole below fits some = other kinds.I64 lower upper (values.Text t) low high holds refl some
 admits_by_key kinds.Text lower upper v low high holds whole below fits some = absurd (false≢true holds)
@@ -240,19 +208,14 @@ pub small_at : (column : List (Option ℕ)) → ((d x : ℕ) → get_or column d
 small_at column small d = small_of (get_or column d None) (small d)
 
 -- open bounds admit all
-open_from : (bound : Bound FieldValue) (v : FieldValue) → is_bounded bound ≡ false → admits_from bound v ≡ true
-open_from Unbounded v is = refl
-open_from (Included b) v is = absurd (false≢true (sym is))
-open_from (Excluded b) v is = absurd (false≢true (sym is))
-
-open_to : (bound : Bound FieldValue) (v : FieldValue) → is_bounded bound ≡ false → admits_to bound v ≡ true
-open_to Unbounded v is = refl
-open_to (Included b) v is = absurd (false≢true (sym is))
-open_to (Excluded b) v is = absurd (false≢true (sym is))
+open_all : (bound : Bound FieldValue) (v : FieldValue) → is_bounded bound ≡ false → (admits_from bound v ≡ true) × (admits_to bound v ≡ true)
+open_all Unbounded v is = (refl, refl)
+open_all (Included b) v is = absurd (false≢true (sym is))
+open_all (Excluded b) v is = absurd (false≢true (sym is))
 
 valued : (lower upper : Bound FieldValue) → is_bounded lower ≡ false → is_bounded upper ≡ false → (o : Option FieldValue) → is_some o ≡ option_map_or (admits lower upper) o false
 valued lower upper low high None = refl
-valued lower upper low high (Some v) = sym (ap₂ (λ a b. a && b) (open_from lower v low) (open_to upper v high))
+valued lower upper low high (Some v) = sym (ap₂ (λ a b. a && b) (open_all lower v low).0 (open_all upper v high).1)
 
 valued_at : (lower upper : Bound FieldValue) (field : ℕ) → is_bounded lower ≡ false → is_bounded upper ≡ false → (s : Option (Stamped DocumentValue)) →
     option_map_or (λ e. is_some (value_in_field e.value field)) s false ≡ option_map_or (Hit lower upper field) s false

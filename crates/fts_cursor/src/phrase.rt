@@ -42,7 +42,7 @@ impl<'a> Model for PhraseCursor<'a> {
     ghost Value = { Standing };
 
     ghost use Rattle.fts_postings.specs.Bounds.{most_at};
-ghost use Rattle.fts_postings.specs.Conjoined.{common_of};
+    ghost use Rattle.fts_postings.specs.Conjoined.{common_of};
     ghost use Rattle.fts_cursor.specs.Phrases.{IsPhrase, phrase_at};
     ghost use Rattle.fts_cursor.specs.Terms.{of_terms};
 

@@ -17,9 +17,9 @@ use crate::phrase::PhraseCursor;
 use crate::scan::ScanCursor;
 use buffered_union::{BufferedUnion, gather, refill};
 use exclusion::{Exclusion, settle};
-use intersection::{Intersection, align};
 use fts_pack::ListSource;
 use fts_postings::{Conjunction, DocSet, PostingCursor, Window};
+use intersection::{Intersection, align};
 use std::marker::Model;
 
 /// The documents that match a query.
@@ -430,4 +430,3 @@ fn fill_by_steps(node: &mut Node, doc: Option<u32>, out: &mut [u32; 128]) -> (us
     }
     (128, next)
 }
-
