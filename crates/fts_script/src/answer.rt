@@ -1,6 +1,6 @@
 // The answer to a search, as JSON.
-ghost use Rattle.std.specs.Prelude.{◌≡◌, IfOk, option_map, false};
-ghost use Rattle.serde_json.specs.Data.{array};
+ghost use Rattle.std.specs.Prelude.{◌≡◌, IfOk, codes, option_map, false};
+ghost use Rattle.serde_json.specs.Data.{array, object, member, no_members, number, unsigned};
 ghost use Rattle.serde_json.specs.View.{view};
 ghost use Rattle.serde_json.specs.Written.{has_float};
 ghost use Rattle.fts_script.specs.Replies.{number_data, group_data, groups_data, hit_data, hits_data, answer_data};
@@ -57,6 +57,40 @@ fn hits_value(alloc: Global, hits: &[Hit]) -> Result<Value, AllocError>
     Ok(Value::Array(list))
 }
 
+fn counted(alloc: Global, count: u64) -> Result<Value, AllocError>
+    ensures { IfOk result (λ value.
+        view value ≡ object (member (codes "count") (number (unsigned count)) no_members)) }
+{
+    json!(in alloc; {"count": count})
+}
+
+fn grouped(alloc: Global, count: u64, groups: Value) -> Result<Value, AllocError>
+    ensures { IfOk result (λ value. view value ≡ object (member (codes "count")
+        (number (unsigned count)) (member (codes "groups") (view groups) no_members))) }
+{
+    json!(in alloc; {"count": count, "groups": groups})
+}
+
+fn ranked(alloc: Global, count: u64, top: Value) -> Result<Value, AllocError>
+    ensures { IfOk result (λ value. view value ≡ object (member (codes "count")
+        (number (unsigned count)) (member (codes "top") (view top) no_members))) }
+{
+    json!(in alloc; {"count": count, "top": top})
+}
+
+fn grouped_and_ranked(
+    alloc: Global,
+    count: u64,
+    groups: Value,
+    top: Value,
+) -> Result<Value, AllocError>
+    ensures { IfOk result (λ value. view value ≡ object (member (codes "count")
+        (number (unsigned count)) (member (codes "groups") (view groups)
+        (member (codes "top") (view top) no_members)))) }
+{
+    json!(in alloc; {"count": count, "groups": groups, "top": top})
+}
+
 fn object_of(alloc: Global, answer: &Answer) -> Result<Value, AllocError>
     ensures { IfOk result (λ value. view value ≡ answer_data answer.now) }
 {
@@ -70,12 +104,10 @@ fn object_of(alloc: Global, answer: &Answer) -> Result<Value, AllocError>
         Some(hits) => Some(hits_value(alloc, hits)?),
     };
     match (groups, top) {
-        (None, None) => json!(in alloc; {"count": count}),
-        (Some(groups), None) => json!(in alloc; {"count": count, "groups": groups}),
-        (None, Some(top)) => json!(in alloc; {"count": count, "top": top}),
-        (Some(groups), Some(top)) => {
-            json!(in alloc; {"count": count, "groups": groups, "top": top})
-        }
+        (None, None) => counted(alloc, count),
+        (Some(groups), None) => grouped(alloc, count, groups),
+        (None, Some(top)) => ranked(alloc, count, top),
+        (Some(groups), Some(top)) => grouped_and_ranked(alloc, count, groups, top),
     }
 }
 

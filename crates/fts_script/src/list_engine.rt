@@ -78,20 +78,33 @@ fn history(
 {
     let mut all = Vec::with_capacity(alloc, documents.len())?;
     for document in documents {
-        let value = Op::Add(document.value.clone()?);
-        all.push(Stamped {
-            stamp: document.stamp,
-            value,
-        })?;
+        all.push(add_of(document)?)?;
     }
     for op in ops {
-        let value = op.value.clone()?;
-        all.push(Stamped {
-            stamp: op.stamp,
-            value,
-        })?;
+        all.push(copy_of(op)?)?;
     }
     Ok(all)
+}
+
+fn copy_of(op: &Stamped<Op>) -> Result<Stamped<Op>, AllocError>
+    ensures { IfOk result (λ copy. copy ≡ op.now) }
+{
+    let value = op.value.clone()?;
+    Ok(Stamped {
+        stamp: op.stamp,
+        value,
+    })
+}
+
+/// The operation that adds a document.
+fn add_of(document: &Stamped<Document>) -> Result<Stamped<Op>, AllocError>
+    ensures { IfOk result (λ op. op ≡ record { stamp = document.now.stamp; value = Op.Add document.now.value }) }
+{
+    let value = Op::Add(document.value.clone()?);
+    Ok(Stamped {
+        stamp: document.stamp,
+        value,
+    })
 }
 
 /// The documents alive after operations behind those that are there.
