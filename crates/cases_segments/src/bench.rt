@@ -1,5 +1,5 @@
 // Makes a segment of the documents of a case.
-ghost use Rattle.std.specs.Prelude.{◌≡◌};
+ghost use Rattle.std.specs.Prelude.{◌≡◌, IfOk};
 
 use cases::{
     Trouble, list, nonempty, number, numbers, only, only_in_case, optional_flag, optional_list,
@@ -8,7 +8,7 @@ use cases::{
 use fts_model::{Document, Schema};
 use fts_pack::Bits;
 use fts_segment::{Builder, Segment};
-use serde_json::{Value, json};
+use serde_json::Value;
 use std::alloc::Global;
 
 /// A segment, and which of its documents are live.
@@ -104,29 +104,46 @@ fn fill(alloc: Global, builder: &mut Builder, schema: &Schema, case: &Value) -> 
         return add_runs(alloc, builder, schema, runs);
     }
     let documents = list(case, "documents")?;
-    let mut stamps = Vec::new(alloc);
-    if optional_list(case, "stamps")?.is_some() {
-        stamps = numbers(alloc, case, "stamps")?;
-        if stamps.len() != documents.len() {
-            return Err(Trouble::Impossible("not one stamp a document"));
-        }
-    }
+    let stamps = stamps_of(alloc, case, documents.len())?;
     add_all(alloc, builder, schema, &stamps, documents)
+}
+
+/// The stamps of so many documents of a case, and none where it has no `stamps`.
+fn stamps_of(alloc: Global, case: &Value, documents: usize) -> Result<Vec<u32>, Trouble> {
+    if optional_list(case, "stamps")?.is_none() {
+        return Ok(Vec::new(alloc));
+    }
+    let stamps = numbers(alloc, case, "stamps")?;
+    if stamps.len() != documents {
+        return Err(Trouble::Impossible("not one stamp a document"));
+    }
+    Ok(stamps)
+}
+
+/// A builder for a case, of a merge where the case says so.
+fn builder_of(alloc: Global, case: &Value, schema: &Schema) -> Result<Builder, Trouble>
+    ensures { IfOk result (λ builder. builder.segment.schema ≡ schema.now) }
+{
+    if optional_flag(case, "merging")? {
+        return Ok(Builder::merging(alloc, schema)?);
+    }
+    Ok(Builder::new(alloc, schema)?)
+}
+
+/// The segment of a case's documents.
+fn segment_of(alloc: Global, case: &Value) -> Result<Segment, Trouble> {
+    let schema = schema_of(alloc, case)?;
+    let mut builder = builder_of(alloc, case, &schema)?;
+    fill(alloc, &mut builder, &schema, case)?;
+    match builder.finish(alloc) {
+        Ok(segment) => Ok(segment),
+        Err((_, refusal)) => Err(Trouble::from(refusal)),
+    }
 }
 
 /// The segment of a case's documents, all of them live.
 pub(crate) fn made(alloc: Global, case: &Value) -> Result<Bench, Trouble> {
-    let schema = schema_of(alloc, case)?;
-    let mut builder = if optional_flag(case, "merging")? {
-        Builder::merging(alloc, &schema)?
-    } else {
-        Builder::new(alloc, &schema)?
-    };
-    fill(alloc, &mut builder, &schema, case)?;
-    let segment = match builder.finish(alloc) {
-        Ok(segment) => segment,
-        Err((_, refusal)) => return Err(Trouble::from(refusal)),
-    };
+    let segment = segment_of(alloc, case)?;
     let live = Bits::all_set(alloc, segment.docs())?;
     Ok(Bench { segment, live })
 }
@@ -146,5 +163,5 @@ fn clear_all(live: &mut Bits, docs: &[u32]) -> Result<(), Trouble> {
 /// Clears the bits of the documents of a case, and gives how many are left.
 pub(crate) fn cleared(alloc: Global, live: &mut Bits, case: &Value) -> Result<Value, Trouble> {
     clear_all(live, &numbers(alloc, case, "docs")?)?;
-    Ok(json!(in alloc; live.count_ones())?)
+    Ok(Value::from(live.count_ones() as u64))
 }

@@ -5,39 +5,50 @@ use cases::{Trouble, answer_value, request_of};
 use fts_collect::{Part, collect};
 use fts_model::Request;
 use fts_query::parse;
-use serde_json::{Value, json};
+use serde_json::Value;
 use std::alloc::Global;
 
 /// What one segment tells.
-fn part_of(
-    alloc: Global,
-    bench: &Bench,
-    query: &str,
-    case: &Value,
-) -> Result<(Part, Request), Trouble> {
+fn part_of(alloc: Global, bench: &Bench, query: &str, request: &Request) -> Result<Part, Trouble> {
     let schema = bench.segment.schema();
-    let request = request_of(alloc, schema, case)?;
     let query = parse(alloc, schema, query)?;
     if bench.live.len() != bench.segment.docs() || !request.fits(schema) {
         return Err(Trouble::Impossible("the segment can't be asked"));
     }
-    let part = collect(alloc, &bench.segment, &bench.live, &query, &request)?;
-    Ok((part, request))
+    Ok(collect(alloc, &bench.segment, &bench.live, &query, request)?)
+}
+
+/// What each segment tells.
+fn parts_of(
+    alloc: Global,
+    made: &[Bench],
+    query: &str,
+    request: &Request,
+) -> Result<Vec<Part>, Trouble> {
+    let mut parts = Vec::new(alloc);
+    for bench in made {
+        parts.push(part_of(alloc, bench, query, request)?)?;
+    }
+    Ok(parts)
+}
+
+/// What is asked for beside the count, under the schema of the first segment.
+fn asked(alloc: Global, case: &Value, made: &[Bench]) -> Result<Request, Trouble> {
+    match made.first() {
+        Some(bench) => request_of(alloc, bench.segment.schema(), case),
+        None => Err(Trouble::Impossible("no documents were made")),
+    }
 }
 
 /// What all segments tell together.
 fn answered(alloc: Global, case: &Value, made: &[Bench]) -> Result<Value, Trouble> {
-    let query = text_of(alloc, case, "query")?;
-    let mut parts = Vec::new(alloc);
-    let mut asked = None;
-    for bench in made {
-        let (part, request) = part_of(alloc, bench, query.as_str(), case)?;
-        parts.push(part)?;
-        asked = Some(request);
-    }
-    let Some(request) = asked else {
-        return Err(Trouble::Impossible("no documents were made"));
-    };
+    let request = asked(alloc, case, made)?;
+    let parts = parts_of(
+        alloc,
+        made,
+        text_of(alloc, case, "query")?.as_str(),
+        &request,
+    )?;
     match Part::join(alloc, parts, &request) {
         Ok(answer) => answer_value(alloc, &answer),
         Err((_, refusal)) => Err(Trouble::from(refusal)),
@@ -46,13 +57,22 @@ fn answered(alloc: Global, case: &Value, made: &[Bench]) -> Result<Value, Troubl
 
 /// How many blocks are opened for an answer.
 fn openings(alloc: Global, case: &Value, made: &[Bench]) -> Result<Value, Trouble> {
-    let query = text_of(alloc, case, "query")?;
+    let request = asked(alloc, case, made)?;
+    let parts = parts_of(
+        alloc,
+        made,
+        text_of(alloc, case, "query")?.as_str(),
+        &request,
+    )?;
+    Ok(Value::from(openings_of(&parts)))
+}
+
+fn openings_of(parts: &[Part]) -> u64 {
     let mut openings = 0u64;
-    for bench in made {
-        let (part, _) = part_of(alloc, bench, query.as_str(), case)?;
+    for part in parts {
         openings = openings.saturating_add(part.openings());
     }
-    Ok(json!(in alloc; openings)?)
+    openings
 }
 
 /// What a word gives, if it is one of these.

@@ -31,7 +31,7 @@ fn long_document(alloc: Global, case: &Value) -> Result<Value, Trouble> {
     let json = json!(in alloc; {name: long.as_str()})?;
     let printed = printed(alloc, &schema_of(alloc, case)?, &json)?;
     let kept = printed.get(name).and_then(Value::as_str).unwrap_or("");
-    Ok(json!(in alloc; kept.len())?)
+    Ok(Value::from(kept.len() as u64))
 }
 
 /// Whether a document of the four fields fits another schema, when it fits its own.
@@ -42,7 +42,7 @@ fn fits(alloc: Global, case: &Value) -> Result<Value, Trouble> {
         return Err(Trouble::Impossible("a document that doesn't fit its own schema"));
     }
     match Schema::new(alloc, fields_of(alloc, nonempty(case, "fields")?)?) {
-        Ok(there) => Ok(json!(in alloc; (document.fits(&there)))?),
+        Ok(there) => Ok(Value::Bool(document.fits(&there))),
         Err((_, refusal)) => Err(Trouble::from(refusal)),
     }
 }
@@ -52,7 +52,7 @@ fn term(alloc: Global, case: &Value) -> Result<Value, Trouble> {
     let schema = schema_of(alloc, case)?;
     let term = term_of(alloc, &schema, entry(case, "term")?)?;
     let fits = term.fits(&schema) && Op::Delete(term).fits(&schema);
-    Ok(json!(in alloc; fits)?)
+    Ok(Value::Bool(fits))
 }
 
 /// Whether a document has a term.
@@ -60,19 +60,24 @@ fn has_term(alloc: Global, case: &Value) -> Result<Value, Trouble> {
     let schema = schema_of(alloc, case)?;
     let document = Document::from_json(alloc, &schema, entry(case, "document")?)?;
     let term = term_of(alloc, &schema, entry(case, "term")?)?;
-    Ok(json!(in alloc; (has(alloc, &schema, &document, &term)?))?)
+    Ok(Value::Bool(has(alloc, &schema, &document, &term)?))
+}
+
+/// The operations of a list, at the stamps 1, 2, 3 and so on.
+fn ops_of(alloc: Global, schema: &Schema, items: &[Value]) -> Result<Vec<Stamped<Op>>, Trouble> {
+    let mut ops = Vec::new(alloc);
+    for json in items {
+        let stamp = ops.len() as u64 + 1;
+        let value = op_of(alloc, schema, json)?;
+        ops.push(Stamped { stamp, value })?;
+    }
+    Ok(ops)
 }
 
 /// The stamps of what is alive after the operations of a list, whose stamps are 1, 2, 3 and so on.
 fn alive_stamps(alloc: Global, case: &Value) -> Result<Value, Trouble> {
     let schema = schema_of(alloc, case)?;
-    let mut ops = Vec::new(alloc);
-    let mut stamp = 0u64;
-    for json in list(case, "ops")? {
-        stamp = stamp.saturating_add(1);
-        let value = op_of(alloc, &schema, json)?;
-        ops.push(Stamped { stamp, value })?;
-    }
+    let ops = ops_of(alloc, &schema, list(case, "ops")?)?;
     let mut left = Vec::new(alloc);
     for document in &alive(alloc, &schema, &ops)? {
         left.push(document.stamp)?;

@@ -35,7 +35,7 @@ fn by_scan(alloc: Global, bench: &Bench, query: &Query) -> Result<Vec<u32>, Trou
 }
 
 /// The documents that a cursor goes over one by one.
-fn by_steps(alloc: Global, cursor: &mut Cursor, most: usize) -> Result<Vec<u32>, AllocError> {
+fn by_steps(alloc: Global, cursor: &mut Cursor, most: usize) -> Result<Vec<u32>, Trouble> {
     let mut found = Vec::new(alloc);
     for _ in 0..most {
         match cursor.doc() {
@@ -48,7 +48,7 @@ fn by_steps(alloc: Global, cursor: &mut Cursor, most: usize) -> Result<Vec<u32>,
 }
 
 /// The documents that a cursor goes over by stretches.
-fn by_stretches(alloc: Global, cursor: &mut Cursor, most: usize) -> Result<Vec<u32>, AllocError> {
+fn by_stretches(alloc: Global, cursor: &mut Cursor, most: usize) -> Result<Vec<u32>, Trouble> {
     let mut found = Vec::new(alloc);
     for _ in 0..most {
         let mut out = [0; 128];
@@ -68,14 +68,14 @@ fn scanned(alloc: Global, bench: &Bench, text: &str) -> Result<Vec<u32>, Trouble
 fn stepped(alloc: Global, bench: &Bench, text: &str) -> Result<Vec<u32>, Trouble> {
     let most = bench.segment.docs().saturating_add(1);
     let mut walked = cursor(alloc, bench, text)?;
-    Ok(by_steps(alloc, &mut walked, most)?)
+    by_steps(alloc, &mut walked, most)
 }
 
 /// The documents that a cursor's stretches find.
 fn stretched(alloc: Global, bench: &Bench, text: &str) -> Result<Vec<u32>, Trouble> {
     let most = bench.segment.docs() / 128 + 1;
     let mut walked = cursor(alloc, bench, text)?;
-    Ok(by_stretches(alloc, &mut walked, most)?)
+    by_stretches(alloc, &mut walked, most)
 }
 
 /// Documents that should be the same, and aren't.
@@ -111,7 +111,7 @@ fn found(alloc: Global, case: &Value, bench: &Bench) -> Result<Value, Trouble> {
 /// How many documents a query finds.
 fn count(alloc: Global, case: &Value, bench: &Bench) -> Result<Value, Trouble> {
     match found(alloc, case, bench)? {
-        Value::Array(documents) => Ok(json!(in alloc; (documents.len()))?),
+        Value::Array(documents) => Ok(Value::from(documents.len() as u64)),
         other => Ok(other),
     }
 }

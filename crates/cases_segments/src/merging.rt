@@ -1,13 +1,13 @@
 // Cases of deletes and merges of the first segment that was made: `strike`, `merge` and `merged_postings`; and `plan`.
 use crate::bench::Bench;
 use crate::indexed::postings;
-use cases::{Trouble, documents, entry, list, number, numbers, only, op_of};
+use cases::{Trouble, documents, entry, list, number, numbers, only, op_of, stamps};
 use fts_merge::{Merged, Source, merge, plan, strike};
 use fts_model::{Op, Schema, Stamped};
 use fts_pack::Bits;
 use fts_segment::Segment;
-use serde_json::{Value, json};
-use std::alloc::Global;
+use serde_json::Value;
+use std::alloc::{AllocError, Global};
 
 /// The operation of an object `{"stamp":STAMP,"op":OPERATION}`.
 fn stamped_op(alloc: Global, schema: &Schema, item: &Value) -> Result<Stamped<Op>, Trouble> {
@@ -88,9 +88,12 @@ fn merged_documents(alloc: Global, case: &Value, bench: &Bench) -> Result<Value,
     let mut list = Vec::new(alloc);
     for (doc, origin) in merged.origins().iter().enumerate() {
         if doc < segment.docs() {
-            list.push(
-                json!(in alloc; [(segment.stamp(doc)), (origin.source), (origin.document)])?,
-            )?;
+            let from = [
+                segment.stamp(doc),
+                origin.source as u64,
+                origin.document as u64,
+            ];
+            list.push(stamps(alloc, &from)?)?;
         }
     }
     Ok(Value::Array(list))
@@ -107,13 +110,17 @@ pub(crate) fn planned(alloc: Global, case: &Value) -> Result<Value, Trouble> {
     let sizes = numbers(alloc, case, "sizes")?;
     let mut candidates = Vec::new(alloc);
     for candidate in &plan(alloc, &sizes)? {
-        let mut places = Vec::new(alloc);
-        for place in candidate {
-            places.push(u32::try_from(*place).unwrap_or(u32::MAX))?;
-        }
-        candidates.push(documents(alloc, &places)?)?;
+        candidates.push(places_value(alloc, candidate)?)?;
     }
     Ok(Value::Array(candidates))
+}
+
+fn places_value(alloc: Global, candidate: &[usize]) -> Result<Value, AllocError> {
+    let mut places = Vec::new(alloc);
+    for place in candidate {
+        places.push(Value::from(*place as u64))?;
+    }
+    Ok(Value::Array(places))
 }
 
 /// What a word gives, if it is one of these.

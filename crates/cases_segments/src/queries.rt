@@ -4,7 +4,7 @@ use cases::{Trouble, answer_value, nonempty, request_of, schema_of};
 use fts_model::scan::answer;
 use fts_model::{Document, Query, Refusal, Schema, Stamped, Text};
 use fts_query::parse;
-use serde_json::{Value, json};
+use serde_json::Value;
 use std::alloc::Global;
 
 /// Whether a query is one.
@@ -12,7 +12,7 @@ fn parsed(alloc: Global, case: &Value) -> Result<Value, Trouble> {
     let schema = schema_of(alloc, case)?;
     let text = text_of(alloc, case, "query")?;
     let query = parse(alloc, &schema, text.as_str())?;
-    Ok(json!(in alloc; (query.fits(&schema)))?)
+    Ok(Value::Bool(query.fits(&schema)))
 }
 
 /// The byte up to which a text is the beginning of a query.
@@ -20,7 +20,7 @@ fn syntax_byte(alloc: Global, case: &Value) -> Result<Value, Trouble> {
     let schema = schema_of(alloc, case)?;
     let text = text_of(alloc, case, "query")?;
     match parse(alloc, &schema, text.as_str()) {
-        Err(Refusal::Syntax(byte)) => Ok(json!(in alloc; byte)?),
+        Err(Refusal::Syntax(byte)) => Ok(Value::from(byte)),
         Err(refusal) => Err(Trouble::from(refusal)),
         Ok(_) => Ok(Value::Null),
     }
@@ -84,14 +84,14 @@ fn with_pattern(alloc: Global, case: &Value) -> Result<Value, Trouble> {
         return Err(Trouble::Impossible("a phrase of another schema"));
     }
     let answer = answer(alloc, &schema, &query, &request, &documents)?;
-    Ok(json!(in alloc; (answer.count))?)
+    Ok(Value::from(answer.count))
 }
 
 /// Whether what is asked by values fits the schema.
 fn request(alloc: Global, case: &Value) -> Result<Value, Trouble> {
     let schema = schema_of(alloc, case)?;
     let request = request_of(alloc, &schema, case)?;
-    Ok(json!(in alloc; (request.fits(&schema)))?)
+    Ok(Value::Bool(request.fits(&schema)))
 }
 
 /// What a word gives, if it is one of these.

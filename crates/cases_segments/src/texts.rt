@@ -1,5 +1,5 @@
 // Cases of tokens: `tokens`, `places` and `fold`.
-use cases::{Trouble, nonempty, number, only, text};
+use cases::{Trouble, nonempty, number, only, stamps, text};
 use fts_text::{Tokens, fold_into};
 use serde_json::{Value, json};
 use std::alloc::Global;
@@ -34,11 +34,16 @@ pub(crate) fn text_of(alloc: Global, case: &Value, name: &'static str) -> Result
 fn listed(alloc: Global, text: &str) -> Result<Vec<Value>, Trouble> {
     let mut list = Vec::new(alloc);
     for token in Tokens::new(text) {
-        let mut folded = String::new(alloc);
-        fold_into(token.run(text), &mut folded)?;
-        list.push(json!(in alloc; [token.position, folded.as_str()])?)?;
+        list.push(shown(alloc, token.position, token.run(text))?)?;
     }
     Ok(list)
+}
+
+/// The position of a run and its folded text.
+fn shown(alloc: Global, position: usize, run: &str) -> Result<Value, Trouble> {
+    let mut folded = String::new(alloc);
+    fold_into(run, &mut folded)?;
+    Ok(json!(in alloc; [position, folded.as_str()])?)
 }
 
 /// The tokens of the text of a case.
@@ -49,10 +54,14 @@ fn tokens(alloc: Global, case: &Value) -> Result<Value, Trouble> {
 
 /// Each token as its position and the bytes where its run begins and ends.
 fn places(alloc: Global, case: &Value) -> Result<Value, Trouble> {
-    let text = text_of(alloc, case, "text")?;
+    placed(alloc, text_of(alloc, case, "text")?.as_str())
+}
+
+fn placed(alloc: Global, text: &str) -> Result<Value, Trouble> {
     let mut list = Vec::new(alloc);
-    for token in Tokens::new(text.as_str()) {
-        list.push(json!(in alloc; [token.position, token.start, token.end])?)?;
+    for token in Tokens::new(text) {
+        let place = [token.position as u64, token.start as u64, token.end as u64];
+        list.push(stamps(alloc, &place)?)?;
     }
     Ok(Value::Array(list))
 }
