@@ -1,4 +1,4 @@
-use Rattle.std.proofs.Common.{◌∙◌, ◌-◌, ◌^◌, ℕ, List, None, sym, ap, subst, min, arith}
+use Rattle.std.proofs.Common.{◌≢◌, [], ◌∙◌, ◌-◌, ◌^◌, ℕ, List, None, sym, ap, subst, min, arith}
 use Rattle.fts_model.specs.declared.operation.Stamped.{Stamped}
 use Rattle.fts_model.specs.Documents.{DocumentValue}
 use Rattle.fts_model.specs.QueryValues.{query_value}
@@ -34,7 +34,7 @@ returns-clause-openings c = record {
       let whole = c.in_ok-cursor.ensures.opens.one_term t is in
       c.in_ok-part.ensures.whole whole.0 ∙ ap (min (2 ^ 64 - 1)) whole.1 ∙ blocks-few c.args.segment.now t (omega arith);
   opened = λ terms has. where_some _ _ _ (λ some.
-      let ne = some_hits c.args.segment.now c.args.request.now _ _ c.in_ok-part.ensures.answer some in
+      let ne : c.in_ok-cursor.cursor.remaining ≢ [] = some_hits c.args.segment.now c.args.request.now _ _ c.in_ok-part.ensures.answer some in
       omega (arith, c.in_ok-cursor.ensures.opens.opened terms has ne, c.in_ok-part.ensures.least, c.musts_of-musts.ensures terms has));
   musts = λ terms has. at_most _ _ _ c.in_ok-part.ensures.most (c.in_ok-cursor.ensures.opens.musts terms has None);
 }
