@@ -36,8 +36,8 @@ mod writer;
 
 pub use fts_model::Cut;
 pub use fts_snapshots::{
-    Batch, CommitJob, Entry, Lane, LaneEnd, MergeJob, MergedSegment, Round, SegmentInfo, Snapshot,
-    RoundLimits, open_round,
+    Batch, CommitJob, Entry, Lane, LaneEnd, MergeJob, MergedSegment, Round, RoundLimits,
+    SegmentInfo, Snapshot, open_round,
 };
 pub use publications::{CommitSeen, Publisher, Reader, Searcher};
 pub use searching::Found;
