@@ -80,7 +80,8 @@ with_commit cut batch w = record {
 abbrev pub late_fault : MergedSegmentValue → WriterValue → Option Refusal
 late_fault m w = end_fault w.front.snapshot.next_id m w.front.snapshot.entries
 
--- the writer after the end of a merge: the publication before is published again, with the merged segment in place of its sources
+-- the writer after the end of a merge: the publication before is published again, with the merged segment in place of
+-- its sources
 abbrev pub with_end : MergedSegmentValue → WriterValue → WriterValue
 with_end m w = record {
   front = published w.front.stamp (after_end m w.front.snapshot) w.front;

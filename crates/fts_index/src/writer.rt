@@ -128,8 +128,8 @@ impl Writer {
         self.publisher.is_last(searcher)
     }
 
-    /// Opens a round of so many lanes, 1 to 64, each of which takes up to `cap` operations, 1 to 1,000,000. Its first stamp is the
-    /// commit stamp plus 1.
+    /// Opens a round of so many lanes, 1 to 64, each of which takes up to `cap` operations, 1 to 1,000,000. Its first
+    /// stamp is the commit stamp plus 1.
     ///
     /// `RoundOpen` where one is open; `StampsUsedUp` where a stamp of the round, or its number, could be 2^62 or more.
     pub fn open_round(
@@ -165,13 +165,14 @@ impl Writer {
         Ok(round)
     }
 
-    /// Commits a batch: its adds are cut into new segments, and the documents that it strikes are struck. The work is done by up
-    /// to so many threads, 1 to 64, the calling one among them: one job for each segment that was there, in their order, and then
-    /// one for each new segment, in the order of their first adds. The gate is called around each.
+    /// Commits a batch: its adds are cut into new segments, and the documents that it strikes are struck. The work is
+    /// done by up to so many threads, 1 to 64, the calling one among them: one job for each segment that was there, in
+    /// their order, and then one for each new segment, in the order of their first adds. The gate is called around
+    /// each.
     ///
-    /// `StaleBatch` where no round is open, or the batch isn't of the open one; then `OtherSchema` with the stamp of the first
-    /// operation that doesn't fit the schema; then `StampsUsedUp` where a segment's number would reach 2^62. A refusal leaves
-    /// everything as it was, and the batch can be tried again.
+    /// `StaleBatch` where no round is open, or the batch isn't of the open one; then `OtherSchema` with the stamp of
+    /// the first operation that doesn't fit the schema; then `StampsUsedUp` where a segment's number would reach 2^62.
+    /// A refusal leaves everything as it was, and the batch can be tried again.
     pub fn commit<R: Threads + Wait + Sync, G: Gate>(
         &mut self,
         rt: &R,
@@ -224,8 +225,8 @@ impl Writer {
         self.publisher.snapshot().segments(alloc)
     }
 
-    /// The segments that are worth merging, by their numbers: each list is one merge, those of greater segments first. A segment is
-    /// as large as it has live documents.
+    /// The segments that are worth merging, by their numbers: each list is one merge, those of greater segments first.
+    /// A segment is as large as it has live documents.
     pub fn plan(&self, alloc: Global) -> Result<Vec<Vec<u64>>, Refusal>
         ensures candidates { IfOk result (λ found.
             map (λ c. c.items) found.items ≡ candidate_ids self.now.front.snapshot.entries) }
@@ -234,11 +235,12 @@ impl Writer {
         self.publisher.snapshot().plan(alloc)
     }
 
-    /// Makes one segment of the live documents of the segments of these numbers, in their order. What is found stays as it was.
+    /// Makes one segment of the live documents of the segments of these numbers, in their order. What is found stays as
+    /// it was.
     ///
-    /// `NoSegments` for an empty list; then at the first bad place `UnknownSegment`, or `SegmentTwice` where the number stands
-    /// before; then `TooLarge` for over 1,048,576 live documents, and `StampsUsedUp` where the new segment's number would reach
-    /// 2^62. A refusal leaves everything as it was.
+    /// `NoSegments` for an empty list; then at the first bad place `UnknownSegment`, or `SegmentTwice` where the number
+    /// stands before; then `TooLarge` for over 1,048,576 live documents, and `StampsUsedUp` where the new segment's
+    /// number would reach 2^62. A refusal leaves everything as it was.
     pub fn merge<R: Wait>(&mut self, rt: &R, alloc: Global, ids: &[u64]) -> Result<(), Refusal>
         ensures writer { OnOk result (self.new ≡ with_merge ids.now self.old) }
         ensures refused { IsRefusedFor (merge_fault ids.now self.old.front.snapshot) result }
@@ -251,10 +253,11 @@ impl Writer {
         Ok(())
     }
 
-    /// Begins a merge of the segments of these numbers, in their order, which may be run in another thread and ended here later.
+    /// Begins a merge of the segments of these numbers, in their order, which may be run in another thread and ended
+    /// here later.
     ///
-    /// `NoSegments` for an empty list; then at the first bad place `UnknownSegment`, or `SegmentTwice` where the number stands
-    /// before.
+    /// `NoSegments` for an empty list; then at the first bad place `UnknownSegment`, or `SegmentTwice` where the number
+    /// stands before.
     pub fn begin_merge(&self, alloc: Global, ids: &[u64]) -> Result<MergeJob, Refusal>
         ensures job { IfOk result (λ job.
             job ≡ entries_at self.now.front.snapshot.entries ids.now) }
@@ -265,12 +268,12 @@ impl Writer {
         self.publisher.snapshot().begin_merge(alloc, ids)
     }
 
-    /// Ends a merge that was begun on this writer: the merged segment takes the place of its sources under the next number. What
-    /// was struck since the merge was begun is struck in it, and what is found stays as it was.
+    /// Ends a merge that was begun on this writer: the merged segment takes the place of its sources under the next
+    /// number. What was struck since the merge was begun is struck in it, and what is found stays as it was.
     ///
-    /// `SourceGone` with the first source that isn't in the last commit, where none is, or where one that isn't there has a
-    /// document that is live in another segment; then `StampsUsedUp` where the new segment's number would reach 2^62. A refusal
-    /// leaves everything as it was, and hands the merged segment back.
+    /// `SourceGone` with the first source that isn't in the last commit, where none is, or where one that isn't there
+    /// has a document that is live in another segment; then `StampsUsedUp` where the new segment's number would reach
+    /// 2^62. A refusal leaves everything as it was, and hands the merged segment back.
     pub fn end_merge<R: Wait>(
         &mut self,
         rt: &R,
@@ -309,8 +312,8 @@ impl Writer {
         self.publisher.reader()
     }
 
-    /// Ends the writer, and gives up an open round. Searchers keep their snapshots, and readers go on with the newest that they
-    /// know.
+    /// Ends the writer, and gives up an open round. Searchers keep their snapshots, and readers go on with the newest
+    /// that they know.
     pub fn close<R: Wait>(self, rt: &R) {
         let Writer {
             publisher,

@@ -22,8 +22,8 @@ abbrev pub capacity : Cut → ℕ
 capacity (Runs n) = n
 capacity (Deal m) = most_built
 
--- The number of the segment that the j-th add goes to, both from 0 and new segments in the order of their first adds: the builders take the adds in turn, and
--- together they begin others when all are full
+-- The number of the segment that the j-th add goes to, both from 0 and new segments in the order of their first adds:
+-- the builders take the adds in turn, and together they begin others when all are full
 abbrev pub place_of : Cut → ℕ → ℕ
 place_of cut j = j / (builders cut * capacity cut) * builders cut + j % builders cut
 

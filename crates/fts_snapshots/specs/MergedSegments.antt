@@ -24,8 +24,8 @@ pub record MergedSegmentValue : Type 0 where
 abbrev pub segment_of : MergedValue → List ℕ → MergedSegmentValue
 segment_of merged ids = record { merged = merged; ids = ids }
 
--- what holds of every merged segment: no two documents have one origin, each origin is one of the sources, and no two sources
--- have one number
+-- what holds of every merged segment: no two documents have one origin, each origin is one of the sources, and no two
+-- sources have one number
 pub record IsMergedSegment (m : MergedSegmentValue) : Type 0 where
   pub merged : IsMerged m.merged
   pub sources : m.merged.sources ≡ length m.ids

@@ -26,7 +26,8 @@ entries_at entries ids = flat_map (entry_at entries) ids
 abbrev pub without : List EntryValue → List ℕ → List EntryValue
 without entries ids = filter (λ entry. not (is_among ids entry.id)) entries
 
--- what is wrong with these numbers, where others stand before them: the first that no segment has, or that stands before it
+-- what is wrong with these numbers, where others stand before them: the first that no segment has, or that stands
+-- before it
 abbrev pub fault_behind : List EntryValue → List ℕ → List ℕ → Option Refusal
 fault_behind entries before [] = None
 fault_behind entries before (id ∷ ids) =

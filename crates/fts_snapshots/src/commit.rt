@@ -57,8 +57,8 @@ fn assemble(alloc: Global, answers: Vec<Result<Entry, Refusal>>) -> Result<Vec<E
     Ok(entries)
 }
 
-/// The jobs of a batch, whose adds stand in these groups: one for each old segment, and then one for each group, whose segments
-/// are numbered from `next` on.
+/// The jobs of a batch, whose adds stand in these groups: one for each old segment, and then one for each group, whose
+/// segments are numbered from `next` on.
 pub(crate) fn jobs_of_batch<'a>(
     alloc: Global,
     schema: &'a Schema,

@@ -7,7 +7,8 @@ use std::alloc::{AllocError, Global};
 use std::marker::Model;
 use std::sync::Arc;
 
-/// A segment with its number and a bit for each of its documents, which is set where the document is live. A copy shares both.
+/// A segment with its number and a bit for each of its documents, which is set where the document is live. A copy
+/// shares both.
 #[derive(Drop)]
 pub struct Entry {
     id: u64,

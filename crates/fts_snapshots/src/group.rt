@@ -71,7 +71,8 @@ fn put(
     Ok(())
 }
 
-/// Puts the document that an operation adds into its group, where so many were added before. Answers how many were added.
+/// Puts the document that an operation adds into its group, where so many were added before. Answers how many were
+/// added.
 fn put_added(
     alloc: Global,
     cut: Cut,

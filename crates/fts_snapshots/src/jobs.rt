@@ -91,8 +91,8 @@ fn fresh(alloc: Global, ops: &[Stamped<Op>], new: &NewSegment<'_>) -> Result<Ent
     Ok(Entry::new(alloc, new.id, segment, live)?)
 }
 
-/// The jobs of a commit: one for each old segment, and then one for each group of adds, whose segments are numbered from
-/// `id` on.
+/// The jobs of a commit: one for each old segment, and then one for each group of adds, whose segments are numbered
+/// from `id` on.
 pub(crate) fn commit_jobs<'a>(
     alloc: Global,
     schema: &'a Schema,

@@ -1,17 +1,17 @@
 //! What is found in an index at one time, and the operations that lead from one such state to the next.
 //!
-//! - A *round* takes operations from several threads at once. [`open_round`] deals out its lanes: each [`Lane`] draws the next
-//!   stamp by one atomic step and keeps its operations to itself, so lanes never wait for each other. Ended lanes are gathered
-//!   by their [`Round`] into one [`Batch`], in the order of the stamps: that is the order in which the operations count,
-//!   whatever the threads did.
-//! - A [`Snapshot`] is what is found at one time: segments, each an [`Entry`] with its number and its live bits. It never
-//!   changes: a commit or a merge makes another one, which shares all that stays, so a refusal leaves everything as it was,
-//!   and who holds a snapshot keeps it.
-//! - A commit cuts the adds of a batch into new segments as a [`Cut`] says. What it does to each segment is a job of its own
-//!   ([`CommitJob`]), which any thread may run.
+//! - A *round* takes operations from several threads at once. [`open_round`] deals out its lanes: each [`Lane`] draws
+//!   the next stamp by one atomic step and keeps its operations to itself, so lanes never wait for each other. Ended
+//!   lanes are gathered by their [`Round`] into one [`Batch`], in the order of the stamps: that is the order in which
+//!   the operations count, whatever the threads did.
+//! - A [`Snapshot`] is what is found at one time: segments, each an [`Entry`] with its number and its live bits. It
+//!   never changes: a commit or a merge makes another one, which shares all that stays, so a refusal leaves everything
+//!   as it was, and who holds a snapshot keeps it.
+//! - A commit cuts the adds of a batch into new segments as a [`Cut`] says. What it does to each segment is a job of
+//!   its own ([`CommitJob`]), which any thread may run.
 //! - A merge can end later: [`Snapshot::begin_merge`] gives a [`MergeJob`], which any thread may run, and
-//!   [`Snapshot::end_merge`] puts the [`MergedSegment`] in place of its sources, with the live bits that these have in the
-//!   snapshot where it ends. It may end in every snapshot that follows the one where it began ([`laws`]).
+//!   [`Snapshot::end_merge`] puts the [`MergedSegment`] in place of its sources, with the live bits that these have in
+//!   the snapshot where it ends. It may end in every snapshot that follows the one where it began ([`laws`]).
 //!
 //! It searches nothing and publishes nothing: that is for the crate above.
 //!

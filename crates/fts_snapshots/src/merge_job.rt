@@ -14,8 +14,8 @@ use fts_model::Refusal;
 use std::alloc::{AllocError, Global};
 use std::marker::Model;
 
-/// The segments of a merge with their live bits as they were when it was begun. Contracts see it as these segments, in the order
-/// of the merge.
+/// The segments of a merge with their live bits as they were when it was begun. Contracts see it as these segments, in
+/// the order of the merge.
 #[derive(Drop)]
 pub struct MergeJob {
     entries: Vec<Entry>,

@@ -12,8 +12,8 @@ use fts_model::Refusal;
 use std::alloc::{AllocError, Global};
 use std::collections::HashSet;
 
-/// The segment of this number, which is put among those that were named. Or why it can't be named: no segment has the number, or
-/// it was named before.
+/// The segment of this number, which is put among those that were named. Or why it can't be named: no segment has the
+/// number, or it was named before.
 fn named(lookup: &Lookup<'_>, names: &mut HashSet<u64>, id: u64) -> Result<Entry, Refusal>
     ensures names { (before : List ℕ) → TellsOf (contains nat_eq names.old) before →
         OnOk result (TellsOf (contains nat_eq names.new) (before ++ id ∷ [])) }
@@ -32,8 +32,8 @@ fn named(lookup: &Lookup<'_>, names: &mut HashSet<u64>, id: u64) -> Result<Entry
     Ok(entry.clone()?)
 }
 
-/// The segments of these numbers, in the order of the numbers; or what is wrong with the numbers: there is none, or the first that
-/// no segment has or that stands before.
+/// The segments of these numbers, in the order of the numbers; or what is wrong with the numbers: there is none, or the
+/// first that no segment has or that stands before.
 pub(crate) fn named_entries(
     alloc: Global,
     entries: &[Entry],

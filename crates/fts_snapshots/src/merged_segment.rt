@@ -5,8 +5,8 @@ ghost use Rattle.fts_snapshots.specs.MergedSegments.{MergedSegmentValue, IsMerge
 use fts_merge::Merged;
 use std::marker::Model;
 
-/// A segment of the live documents of others, with the numbers of these: what a [`MergeJob`](crate::MergeJob) makes. It tells
-/// where each document comes from, and no two documents come from one place.
+/// A segment of the live documents of others, with the numbers of these: what a [`MergeJob`](crate::MergeJob) makes. It
+/// tells where each document comes from, and no two documents come from one place.
 #[derive(Drop)]
 pub struct MergedSegment {
     merged: Merged,
@@ -32,8 +32,8 @@ impl MergedSegment {
         MergedSegment { merged, ids }
     }
 
-    /// The segment, and for each of its documents the index of its source in [`sources`](MergedSegment::sources) and its number
-    /// there.
+    /// The segment, and for each of its documents the index of its source in [`sources`](MergedSegment::sources) and
+    /// its number there.
     pub fn merged(&self) -> &Merged
         ensures merged { result.now ≡ self.now.merged }
         ensures each { IsMergedSegment self.now }

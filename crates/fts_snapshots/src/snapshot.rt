@@ -28,8 +28,8 @@ use std::marker::Model;
 use std::sync::Wait;
 use std::thread::Threads;
 
-/// The segments of an index at one time, by rising numbers. It never changes: a commit or a merge makes another one, and a
-/// refused one nothing.
+/// The segments of an index at one time, by rising numbers. It never changes: a commit or a merge makes another one,
+/// and a refused one nothing.
 #[derive(Drop)]
 pub struct Snapshot {
     schema: Schema,
@@ -75,9 +75,9 @@ impl Snapshot {
         &self.entries
     }
 
-    /// The snapshot after a batch that fits the schema and comes behind the documents that are there. Its adds are cut into new
-    /// segments; one without a live document is gone. The jobs, one for each segment that was there and then one for each new one,
-    /// are run by up to so many threads, 1 to 64.
+    /// The snapshot after a batch that fits the schema and comes behind the documents that are there. Its adds are cut
+    /// into new segments; one without a live document is gone. The jobs, one for each segment that was there and then
+    /// one for each new one, are run by up to so many threads, 1 to 64.
     ///
     /// `StampsUsedUp` where the number of a new segment would be 2^62 or more.
     pub fn commit<R: Threads + Wait + Sync, G: Gate>(
@@ -93,8 +93,10 @@ impl Snapshot {
         requires workers { (1 ≤ workers) × (workers ≤ 64) }
         requires behind { IsBehind (content self.now.entries) batch.now }
         requires fits { misfit self.now.schema batch.now ≡ None }
-        ensures snapshot { Gives (λ new. new) result (ok_unless (commit_fault cut batch.now self.now) (after_commit cut batch.now self.now)) }
-        ensures content { IfOk result (λ new. content new.entries ≡ alive self.now.schema (adds (content self.now.entries) ++ batch.now)) }
+        ensures snapshot { Gives (λ new. new) result
+            (ok_unless (commit_fault cut batch.now self.now) (after_commit cut batch.now self.now)) }
+        ensures content { IfOk result (λ new.
+            content new.entries ≡ alive self.now.schema (adds (content self.now.entries) ++ batch.now)) }
     {
         let groups = groups(alloc, cut, batch)?;
         if are_used_up(self.next_id, groups.len()) {
@@ -120,7 +122,8 @@ impl Snapshot {
 
     /// A merge that is begun, run and ended at once, with the refusals of these three.
     pub fn merge(&self, alloc: Global, ids: &[u64]) -> Result<Snapshot, Refusal>
-        ensures snapshot { Gives (λ new. new) result (ok_unless (merge_fault ids.now self.now) (after_merge ids.now self.now)) }
+        ensures snapshot { Gives (λ new. new) result
+            (ok_unless (merge_fault ids.now self.now) (after_merge ids.now self.now)) }
         ensures content { IfOk result (λ new. content new.entries ≡ content self.now.entries) }
     {
         let job = self.begin_merge(alloc, ids)?;
@@ -130,24 +133,27 @@ impl Snapshot {
         }
     }
 
-    /// Begins a merge of the segments of these numbers, in their order, and keeps them with their live bits as they are.
+    /// Begins a merge of the segments of these numbers, in their order, and keeps them with their live bits as they
+    /// are.
     ///
     /// `NoSegments`, or at the first bad place `UnknownSegment` or `SegmentTwice`.
     pub fn begin_merge(&self, alloc: Global, ids: &[u64]) -> Result<MergeJob, Refusal>
-        ensures job { Gives (λ job. job) result (ok_unless (names_fault self.now.entries ids.now) (entries_at self.now.entries ids.now)) }
+        ensures job { Gives (λ job. job) result
+            (ok_unless (names_fault self.now.entries ids.now) (entries_at self.now.entries ids.now)) }
         ensures fits { IfOk result (λ job. Fits (merged_of job) self.now) }
     {
         let entries = named_entries(alloc, &self.entries, ids)?;
         Ok(MergeJob::new(entries))
     }
 
-    /// The snapshot with a merged segment in place of its sources, under the next number. Its live bits are those that its
-    /// sources have here, and where none is left the segment isn't there.
+    /// The snapshot with a merged segment in place of its sources, under the next number. Its live bits are those that
+    /// its sources have here, and where none is left the segment isn't there.
     ///
     /// `SourceGone` for want of a source; then `StampsUsedUp` where the number would be 2^62.
     pub fn end_merge(&self, alloc: Global, merged: &MergedSegment) -> Result<Snapshot, Refusal>
         requires { Fits merged.now self.now }
-        ensures snapshot { Gives (λ new. new) result (ok_unless (end_fault self.now.next_id merged.now self.now.entries) (after_end merged.now self.now)) }
+        ensures snapshot { Gives (λ new. new) result
+            (ok_unless (end_fault self.now.next_id merged.now self.now.entries) (after_end merged.now self.now)) }
         ensures content { IfOk result (λ new. content new.entries ≡ content self.now.entries) }
     {
         let entries = match end_entries(alloc, &self.entries, merged, self.next_id) {
