@@ -2,7 +2,7 @@
 use Rattle.std.proofs.Common.{◌≡◌, ◌≢◌, refl, arith, Result, Ok, Err, OnOk, OnErr, IsErrOf, ◌⊎◌, inl, inr}
 use Rattle.fts_script.specs.declared.fault.Fault.{Fault}
 use Rattle.fts_script.specs.declared.fault.Fault.TheVariants.{Memory, Read, Write, StampsUsedUp}
-use Rattle.fts.specs.Arguments.{run_status_of, status_of}
+use Rattle.fts.specs.Arguments.{run_status_of}
 
 pub of_end : {T : Type 0} (r : Result T Fault) (P : Type 0) → run_status_of r ≡ 0 → OnOk r P → P
 of_end (Ok v) P e h = h
