@@ -16,7 +16,7 @@ returns-in-Ok-clause-answer g c =
     c.in-Ok.ensures.joined (hits s.schema query (content_of s))
     (parts_of_snapshot s query c.args.request.now c.entries.result.now c.in_ok-parts.parts.items whole entries c.in_ok-parts.ensures.parts)
     (once_among_hits s.schema query (content_of s) whole.stamps)
-    (omega (arith, c.snapshot-snapshot.ensures.front.few, length-hits s.schema query (content_of s)))
+    (omega (arith, c.snapshot-snapshot.ensures.front.stamped.few, length-hits s.schema query (content_of s)))
 
 pub returns-in-Ok-clause-openings : goal.returns-in-Ok-clause-openings
 returns-in-Ok-clause-openings g c =
