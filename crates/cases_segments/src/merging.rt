@@ -130,10 +130,11 @@ pub(crate) fn given(
     case: &Value,
     bench: &Bench,
 ) -> Result<Option<Value>, Trouble> {
-    match word {
-        "strike" => Ok(Some(struck(alloc, case, bench)?)),
-        "merge" => Ok(Some(merged_documents(alloc, case, bench)?)),
-        "merged_postings" => Ok(Some(merged_postings(alloc, case, bench)?)),
-        _ => Ok(None),
-    }
+    let given = match word {
+        "strike" => struck(alloc, case, bench)?,
+        "merge" => merged_documents(alloc, case, bench)?,
+        "merged_postings" => merged_postings(alloc, case, bench)?,
+        _ => return Ok(None),
+    };
+    Ok(Some(given))
 }
