@@ -66,7 +66,10 @@ impl Part {
             return Err((parts, Refusal::Memory));
         };
         let count = joined_count(&parts);
-        let top = asked_top(parts, request, room);
+        let top = match request.top {
+            None => None,
+            Some(wanted) => Some(joined_top(wanted, parts, room)),
+        };
         Ok(Answer { count, groups, top })
     }
 }
@@ -96,19 +99,5 @@ fn asked_groups(
     match request.groups {
         None => Ok(None),
         Some(_) => Ok(Some(joined_groups(alloc, parts)?)),
-    }
-}
-
-/// The top list that is asked for, in the room that was made for it.
-fn asked_top(parts: Vec<Part>, request: &Request, room: Vec<Hit>) -> Option<Vec<Hit>>
-    requires none { room.items ≡ [] }
-    requires room { length (all_hits parts.items) ≤ vec_capacity room }
-    ensures { (hits : List (Stamped DocumentValue)) → ArePartsOf request.now hits parts.items →
-        HasEachStampOnce hits → option_map (λ list. list.items) result
-        ≡ option_map (λ t. top t.k t.order t.by hits) request.now.top }
-{
-    match request.top {
-        None => None,
-        Some(wanted) => Some(joined_top(wanted, parts, room)),
     }
 }
