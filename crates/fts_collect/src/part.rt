@@ -59,8 +59,12 @@ impl Part {
         ensures parts { IfErr result (λ e. e.0 ≡ parts) }
         ensures memory { IfErr result (λ e. e.1 ≡ Memory) }
     {
-        let Ok(groups) = asked_groups(alloc, &parts, request) else {
-            return Err((parts, Refusal::Memory));
+        let groups = match request.groups {
+            None => None,
+            Some(_) => match joined_groups(alloc, &parts) {
+                Ok(groups) => Some(groups),
+                Err(AllocError) => return Err((parts, Refusal::Memory)),
+            },
         };
         let Ok(room) = room_for_hits(alloc, &parts) else {
             return Err((parts, Refusal::Memory));
@@ -84,20 +88,4 @@ fn joined_count(parts: &[Part]) -> u64
         count = count.saturating_add(part.answer.count);
     }
     count
-}
-
-/// The groups that are asked for.
-fn asked_groups(
-    alloc: Global,
-    parts: &[Part],
-    request: &Request,
-) -> Result<Option<Vec<(Number, u64)>>, AllocError>
-    ensures { (hits : List (Stamped DocumentValue)) → ArePartsOf request.now hits parts.now →
-        length hits < 2 ^ 64 → IfOk result (λ found. option_map (λ g. g.items) found
-        ≡ option_map (λ field. groups field hits) request.now.groups) }
-{
-    match request.groups {
-        None => Ok(None),
-        Some(_) => Ok(Some(joined_groups(alloc, parts)?)),
-    }
 }
