@@ -59,14 +59,21 @@ impl Part {
         ensures parts { IfErr result (λ e. e.0 ≡ parts) }
         ensures memory { IfErr result (λ e. e.1 ≡ Memory) }
     {
-        let Ok(groups) = asked_groups(alloc, &parts, request) else {
-            return Err((parts, Refusal::Memory));
+        let groups = match request.groups {
+            None => None,
+            Some(_) => match joined_groups(alloc, &parts) {
+                Ok(groups) => Some(groups),
+                Err(AllocError) => return Err((parts, Refusal::Memory)),
+            },
         };
         let Ok(room) = room_for_hits(alloc, &parts) else {
             return Err((parts, Refusal::Memory));
         };
         let count = joined_count(&parts);
-        let top = asked_top(parts, request, room);
+        let top = match request.top {
+            None => None,
+            Some(wanted) => Some(joined_top(wanted, parts, room)),
+        };
         Ok(Answer { count, groups, top })
     }
 }
@@ -81,34 +88,4 @@ fn joined_count(parts: &[Part]) -> u64
         count = count.saturating_add(part.answer.count);
     }
     count
-}
-
-/// The groups that are asked for.
-fn asked_groups(
-    alloc: Global,
-    parts: &[Part],
-    request: &Request,
-) -> Result<Option<Vec<(Number, u64)>>, AllocError>
-    ensures { (hits : List (Stamped DocumentValue)) → ArePartsOf request.now hits parts.now →
-        length hits < 2 ^ 64 → IfOk result (λ found. option_map (λ g. g.items) found
-        ≡ option_map (λ field. groups field hits) request.now.groups) }
-{
-    match request.groups {
-        None => Ok(None),
-        Some(_) => Ok(Some(joined_groups(alloc, parts)?)),
-    }
-}
-
-/// The top list that is asked for, in the room that was made for it.
-fn asked_top(parts: Vec<Part>, request: &Request, room: Vec<Hit>) -> Option<Vec<Hit>>
-    requires none { room.items ≡ [] }
-    requires room { length (all_hits parts.items) ≤ vec_capacity room }
-    ensures { (hits : List (Stamped DocumentValue)) → ArePartsOf request.now hits parts.items →
-        HasEachStampOnce hits → option_map (λ list. list.items) result
-        ≡ option_map (λ t. top t.k t.order t.by hits) request.now.top }
-{
-    match request.top {
-        None => None,
-        Some(wanted) => Some(joined_top(wanted, parts, room)),
-    }
 }
