@@ -78,16 +78,19 @@ pub(crate) fn finished(alloc: Global, builder: Builder) -> Result<Segment, Fail>
 
 /// The documents `{"title":"a b a","price":4}`, `{"title":"b"}` and `{"tag":"a"}` at the stamps 1, 2 and 3.
 pub(crate) fn example(alloc: Global) -> Result<Segment, Fail> {
-    let schema = schema(alloc)?;
-    let mut builder = Builder::new(alloc, &schema)?;
+    example_under(alloc, &schema(alloc)?)
+}
+
+fn example_under(alloc: Global, schema: &Schema) -> Result<Segment, Fail> {
+    let mut builder = Builder::new(alloc, schema)?;
     for json in [
         r#"{"title":"a b a","price":4}"#,
         r#"{"title":"b"}"#,
         r#"{"tag":"a"}"#,
     ] {
-        let document = document(alloc, &schema, json)?;
+        let document = document(alloc, schema, json)?;
         let stamp = builder.docs() as u64 + 1;
-        add(&mut builder, &schema, stamp, &document)?;
+        add(&mut builder, schema, stamp, &document)?;
     }
     finished(alloc, builder)
 }
