@@ -3,7 +3,7 @@ use crate::bench::Bench;
 use crate::texts::text_of;
 use cases::{Trouble, documents};
 use fts_cursor::{Cursor, DocSet, cursor_of};
-use fts_model::{Query, scan};
+use fts_model::Query;
 use fts_query::parse;
 use serde_json::{Value, json};
 use std::alloc::{AllocError, Global};
@@ -27,7 +27,7 @@ fn by_scan(alloc: Global, bench: &Bench, query: &Query) -> Result<Vec<u32>, Trou
     let segment = &bench.segment;
     for doc in 0..segment.docs().min(bench.live.len()) {
         let document = segment.document(doc);
-        if bench.live.get(doc) && scan::matches(alloc, segment.schema(), query, document)? {
+        if bench.live.get(doc) && fts_scan::matches(alloc, segment.schema(), query, document)? {
             found.push(u32::try_from(doc).unwrap_or(u32::MAX))?;
         }
     }

@@ -1,7 +1,7 @@
 // Cases of queries without a segment: `parse`, `syntax_byte`, `scan`, `pattern` and `request`.
 use crate::texts::text_of;
 use cases::{Trouble, answer_value, nonempty, request_of, schema_of};
-use fts_model::scan::answer;
+use fts_scan::answer;
 use fts_model::{Document, Query, Refusal, Schema, Stamped, Text};
 use fts_query::parse;
 use serde_json::Value;

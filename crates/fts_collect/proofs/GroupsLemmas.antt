@@ -13,11 +13,11 @@ use Rattle.fts_model.specs.declared.value.Number.{Number}
 use Rattle.fts_model.specs.declared.operation.Stamped.{Stamped}
 use Rattle.fts_model.specs.Documents.{DocumentValue}
 use Rattle.fts_model.specs.Answers.{number_cmp, numbers_in, groups, has_number}
-use Rattle.fts_model.specs.Internals.Scans.{hits_counted}
+use Rattle.fts_scan.specs.Scans.{hits_counted}
 use Rattle.fts_model.proofs.Lists.{pairs_none, pairs_front, pairs_behind, one_order}
-use Rattle.fts_model.proofs.AnswersNumbers.{number_total, number_same, number_above, number_below}
-use Rattle.fts_model.proofs.AnswersSteps.{hits_counted-groups}
-use Rattle.fts_model.proofs.AnswersGroups.{count_in, Below, Below-one_way, count_in-groups, count_in-at, count_in-there, rising-fold, positive-fold}
+use Rattle.fts_scan.proofs.AnswersNumbers.{number_total, number_same, number_above, number_below}
+use Rattle.fts_scan.proofs.AnswersSteps.{hits_counted-groups}
+use Rattle.fts_scan.proofs.AnswersGroups.{count_in, Below, Below-one_way, count_in-groups, count_in-at, count_in-there, rising-fold, positive-fold}
 use Rattle.fts_collect.specs.Parts.{PartValue, joined}
 use Rattle.fts_collect.specs.Internals.Joining.{counts_added, add_group, NumbersRise, AreGroupsOf}
 

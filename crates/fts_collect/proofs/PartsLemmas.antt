@@ -18,8 +18,8 @@ use Rattle.fts_model.specs.Operations.{HasEachStampOnce}
 use Rattle.fts_model.specs.Answers.{AnswerValue, answer_of, groups, has_number, hits_with, hit_in, top}
 use Rattle.fts_model.specs.Answers as answers
 use Rattle.fts_model.proofs.Lists.{Contains-cases, Contains-first, Contains-behind, Contains-none}
-use Rattle.fts_model.proofs.AnswersGroups.{count_in-groups}
-use Rattle.fts_model.proofs.AnswersTop.{once-hits_in}
+use Rattle.fts_scan.proofs.AnswersGroups.{count_in-groups}
+use Rattle.fts_scan.proofs.AnswersTop.{once-hits_in}
 use Rattle.fts_collect.specs.Parts.{PartValue, joined, ArePartsOf}
 use Rattle.fts_collect.specs.Internals.Joining.{AreApart, AreGroupsOf, first_of, hits_in, all_hits}
 use Rattle.fts_collect.proofs.ApartLemmas.{once-permuted}

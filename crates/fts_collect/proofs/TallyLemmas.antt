@@ -12,7 +12,7 @@ use Rattle.std.specs.Prelude.{nat_eq, slice_index_or}
 use Rattle.std.specs.List.Sorted.{IsPermutation, IsSortedByKey}
 use Rattle.itertools.specs.List.{dedup_with_count_from}
 use Rattle.fts_model.proofs.Lists.{pairs_none, pairs_front, pairs_behind}
-use Rattle.fts_model.proofs.AnswersGroups.{Below, count_in-fold, rising-fold, positive-fold}
+use Rattle.fts_scan.proofs.AnswersGroups.{Below, count_in-fold, rising-fold, positive-fold}
 use Rattle.fts_collect.proofs.GroupsLemmas.{one_list_of_groups}
 use Rattle.std.proofs.lemmas.List.Sums.{fold_push}
 use Rattle.std.proofs.lemmas.List.{map_push, length-map, take_more, get_or_past}
@@ -20,9 +20,9 @@ use Rattle.std.proofs.lemmas.Cmp.{nat_cmp_total, tied_itself}
 use Rattle.fts_model.specs.declared.schema.Kind.{Kind}
 use Rattle.fts_model.specs.declared.value.Number.{Number}
 use Rattle.fts_model.specs.Answers.{number_cmp, count_number}
-use Rattle.fts_model.specs.Internals.Scans.{hits_counted}
-use Rattle.fts_model.proofs.AnswersNumbers.{number_above}
-use Rattle.fts_model.proofs.AnswersSteps.{hits_counted-fold}
+use Rattle.fts_scan.specs.Scans.{hits_counted}
+use Rattle.fts_scan.proofs.AnswersNumbers.{number_above}
+use Rattle.fts_scan.proofs.AnswersSteps.{hits_counted-fold}
 use Rattle.fts_collect.specs.Internals.Collecting.{number_at, groups_from, groups_of, groups_of_runs, present_at, AreCounts, AreWithin}
 use Rattle.fts_collect.proofs.NumbersLemmas.{number_at-cmp}
 

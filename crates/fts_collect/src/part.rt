@@ -31,7 +31,7 @@ impl Model for Part {
 impl Part {
     ghost use Rattle.std.specs.Prelude.{◌≡◌, ◌<◌, ◌^◌, List, IfOk, IfErr, length};
     ghost use Rattle.fts_model.specs.declared.operation.Stamped.{Stamped};
-    ghost use Rattle.fts_model.specs.declared.refusal.Refusal.TheVariants.{Memory};
+    ghost use Rattle.fts_base.specs.declared.refusal.Refusal.TheVariants.{Memory};
     ghost use Rattle.fts_model.specs.Documents.{DocumentValue};
     ghost use Rattle.fts_model.specs.Operations.{HasEachStampOnce};
     ghost use Rattle.fts_model.specs.Answers.{answer_of};

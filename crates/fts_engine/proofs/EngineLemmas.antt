@@ -3,7 +3,7 @@ use Rattle.std.proofs.Common.{◌≡◌, ◌+◌, ◌≤◌, ℕ, true, false, c
 use Rattle.std.proofs.lemmas.List.{length-append}
 use Rattle.fts_model.specs.declared.operation.Op.{Op}
 use Rattle.fts_model.specs.declared.operation.Stamped.{Stamped}
-use Rattle.fts_model.specs.declared.refusal.Refusal.TheVariants.{OtherSchema}
+use Rattle.fts_base.specs.declared.refusal.Refusal.TheVariants.{OtherSchema}
 use Rattle.fts_model.specs.declared.schema.Field.{Field}
 use Rattle.fts_model.specs.Operations.{op_fits}
 use Rattle.fts_snapshots.specs.Commits.{misfit}

@@ -5,9 +5,9 @@ use Rattle.std.proofs.lemmas.Bool.Decides.{nat_tests}
 use Rattle.std.proofs.lemmas.List.{length-append, length-map}
 use Rattle.std.proofs.lemmas.List.Sorted.{length_permutation}
 use Rattle.std.proofs.lemmas.List.Sums.{sum_by-cons}
-use Rattle.fts_model.specs.declared.refusal.Refusal.{Refusal}
-use Rattle.fts_model.specs.declared.refusal.Refusal.TheVariants.{TooLarge, StampsUsedUp, UnknownSegment, SegmentTwice}
-use Rattle.fts_model.specs.Results.{first_of}
+use Rattle.fts_base.specs.declared.refusal.Refusal.{Refusal}
+use Rattle.fts_base.specs.declared.refusal.Refusal.TheVariants.{TooLarge, StampsUsedUp, UnknownSegment, SegmentTwice}
+use Rattle.fts_base.specs.Results.{first_of}
 use Rattle.fts_snapshots.specs.Commits.{numbers_fault}
 use Rattle.fts_snapshots.specs.Entries.{EntryValue, live_in, live_count, has_live, content}
 use Rattle.fts_snapshots.specs.Infos.{info_of}

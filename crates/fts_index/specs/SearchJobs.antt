@@ -1,8 +1,8 @@
 -- What the jobs of a search are asked, and what they answer.
 use Rattle.std.specs.Prelude.{Result, IfOk, IsOkUnless}
 use Rattle.fts_model.specs.declared.query.Request.{Request}
-use Rattle.fts_model.specs.declared.refusal.Refusal.{Refusal}
-use Rattle.fts_model.specs.declared.refusal.Refusal.TheVariants.{Memory}
+use Rattle.fts_base.specs.declared.refusal.Refusal.{Refusal}
+use Rattle.fts_base.specs.declared.refusal.Refusal.TheVariants.{Memory}
 use Rattle.fts_model.specs.QueryValues.{QueryValue, query_value}
 use Rattle.fts_collect.specs.Parts.{PartValue}
 use Rattle.fts_snapshots.specs.Entries.{EntryValue}

@@ -1,6 +1,6 @@
 // Makes one segment of the live documents of several.
 ghost use Rattle.std.specs.Prelude.{◌≡◌, ◌≢◌, ◌↔◌, ◌<◌, ◌≤◌, ◌+◌, ◌∷◌, ◌++◌, true, [], Some, Err, All, IfOk, IfErr, OnOk, length, slice_get, nat_lt};
-ghost use Rattle.fts_model.specs.declared.refusal.Refusal.TheVariants.{Memory, TooLarge};
+ghost use Rattle.fts_base.specs.declared.refusal.Refusal.TheVariants.{Memory, TooLarge};
 ghost use Rattle.fts_model.specs.declared.operation.Stamped.{Stamped};
 ghost use Rattle.fts_model.specs.Documents.{DocumentValue};
 ghost use Rattle.fts_segment.specs.Segments.{AllFit};

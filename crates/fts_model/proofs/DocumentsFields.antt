@@ -7,10 +7,10 @@ use Rattle.std.specs.Ordering.{match_ordering}
 use Rattle.std.specs.List.{find, list_any, slice_get}
 use Rattle.serde_json.specs.Data.{Data, Members, no_members, member}
 use Rattle.serde_json.specs.Find.{get_member}
-use Rattle.fts_model.specs.declared.refusal.Refusal.{Refusal}
-use Rattle.fts_model.specs.declared.refusal.Refusal.TheVariants.{BadName, NameTwice, TooManyFields}
+use Rattle.fts_base.specs.declared.refusal.Refusal.{Refusal}
+use Rattle.fts_base.specs.declared.refusal.Refusal.TheVariants.{BadName, NameTwice, TooManyFields}
 use Rattle.fts_model.specs.declared.schema.Field.{Field}
-use Rattle.fts_model.specs.Results.{first_of, error_if_err}
+use Rattle.fts_base.specs.Results.{first_of, error_if_err}
 use Rattle.fts_model.specs.Schemas.{is_name, is_named, field_fault, first_fault, schema_fault}
 use Rattle.fts_model.specs.Documents.{value_in, fault_in_field, member_fault, members_fault}
 

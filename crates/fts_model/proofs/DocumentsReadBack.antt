@@ -10,15 +10,15 @@ use Rattle.std.specs.Option.{option_and_then}
 use Rattle.serde_json.specs.Data.{Data, Members, no_members, member, put}
 use Rattle.serde_json.specs.Find.{get_member}
 use Rattle.serde_json.proofs.Views.{get_member-put, get_member-put_other}
-use Rattle.fts_model.specs.declared.refusal.Refusal.{Refusal}
-use Rattle.fts_model.specs.declared.refusal.Refusal.TheVariants.{TextTooLong, KeywordTooLong}
+use Rattle.fts_base.specs.declared.refusal.Refusal.{Refusal}
+use Rattle.fts_base.specs.declared.refusal.Refusal.TheVariants.{TextTooLong, KeywordTooLong}
 use Rattle.fts_model.specs.declared.schema.Kind.{Kind}
 use Rattle.fts_model.specs.declared.schema.Kind.TheVariants as kinds
 use Rattle.fts_model.specs.declared.schema.Field.{Field}
 use Rattle.fts_model.specs.declared.value.Number.TheVariants as numbers
 use Rattle.fts_model.specs.declared.value.FieldValue.{FieldValue}
 use Rattle.fts_model.specs.declared.value.FieldValue.TheVariants as values
-use Rattle.fts_model.specs.Results.{value_if_ok, error_if_err, first_of}
+use Rattle.fts_base.specs.Results.{value_if_ok, error_if_err, first_of}
 use Rattle.fts_model.specs.Schemas.{is_named, field_fault, first_fault}
 use Rattle.fts_model.specs.Documents.{DocumentValue, value_in, fault_in_field, member_fault, members_fault, value_at, document_of, data_of, with_value, with_values, json_of, is_value_of, CanHave, AreValuesOf, IsDocument}
 use Rattle.fts_model.proofs.DocumentsFields.{none_of_two, not_taken, both_false, or_false, none_of_more, others_before, no_field_fault, find_by_name}

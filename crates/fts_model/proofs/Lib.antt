@@ -1,16 +1,9 @@
-pub mod AnswersGroups
-pub mod AnswersNumbers
-pub mod AnswersSteps
-pub mod AnswersTop
 pub mod DocumentsFields
-pub mod DocumentsNames
 pub mod DocumentsReadBack
 pub mod DocumentsZips
 pub mod Lists
 pub mod OperationsAlive
 pub mod OperationsByStamps
-pub mod PlacesSought
 pub mod QueriesBoolean
-pub mod QueriesPhrases
 pub mod ResultsRefused
 pub mod ShortLemmas

@@ -1,9 +1,9 @@
 -- Which refusal is the one that a definition gives.
 use Rattle.std.proofs.Common.{◌≡◌, Result, Ok, Err, IsErrOf, List, Some, map, sym, ap, ◌∙◌}
 use Rattle.serde_json.specs.Data.{Members, object}
-use Rattle.fts_model.specs.declared.refusal.Refusal.{Refusal}
+use Rattle.fts_base.specs.declared.refusal.Refusal.{Refusal}
 use Rattle.fts_model.specs.declared.schema.Field.{Field}
-use Rattle.fts_model.specs.Results.{error_if_err, result_and_then, ok_unless}
+use Rattle.fts_base.specs.Results.{error_if_err, result_and_then, ok_unless}
 use Rattle.fts_model.specs.Documents.{members_fault, value_at, document_of}
 
 -- a result has one error

@@ -8,15 +8,15 @@ use Rattle.std.specs.declared.cmp.Ordering.TheVariants.{Less}
 use Rattle.std.specs.Option.{ok_or}
 use Rattle.serde_json.specs.Data.{Num, unsigned, Data, null, boolean, number, string, array, object, Members, no_members, member, put}
 use Rattle.serde_json.specs.Find.{as_u64, as_i64, of_integer, get_member}
-use Rattle.fts_model.specs.declared.refusal.Refusal.{Refusal}
-use Rattle.fts_model.specs.declared.refusal.Refusal.TheVariants.{NotAnObject, UnknownField, WrongKind, TextTooLong, KeywordTooLong}
+use Rattle.fts_base.specs.declared.refusal.Refusal.{Refusal}
+use Rattle.fts_base.specs.declared.refusal.Refusal.TheVariants.{NotAnObject, UnknownField, WrongKind, TextTooLong, KeywordTooLong}
 use Rattle.fts_model.specs.declared.value.Number.TheVariants as numbers
 use Rattle.fts_model.specs.declared.schema.Kind.{Kind}
 use Rattle.fts_model.specs.declared.schema.Kind.TheVariants as kinds
 use Rattle.fts_model.specs.declared.schema.Field.{Field}
 use Rattle.fts_model.specs.declared.value.FieldValue.{FieldValue}
 use Rattle.fts_model.specs.declared.value.FieldValue.TheVariants as values
-use Rattle.fts_model.specs.Results.{value_if_ok, error_if_err, ok_unless, first_of}
+use Rattle.fts_base.specs.Results.{value_if_ok, error_if_err, ok_unless, first_of}
 use Rattle.fts_model.specs.Schemas.{schema_fault, is_named}
 
 -- a document: the fields of its schema, and what it has in each

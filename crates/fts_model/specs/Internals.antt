@@ -1,3 +1,2 @@
--- What only private functions and the inside of types are told by: no reader of a public contract meets these.
-pub mod Scans
+-- What only the inside of types is told by: no reader of a public contract meets it.
 pub mod Stored

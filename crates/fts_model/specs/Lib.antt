@@ -1,5 +1,3 @@
-pub mod Refusals
-pub mod Results
 pub mod Schemas
 pub mod Documents
 pub mod Operations

@@ -6,8 +6,8 @@ use Rattle.std.specs.Str.{bytes_eq}
 use Rattle.std.specs.declared.ops.Bound.{Bound}
 use Rattle.std.specs.declared.ops.Bound.TheVariants.{Included, Excluded, Unbounded}
 use Rattle.fts_text.specs.Tokens.{tokens}
-use Rattle.fts_model.specs.declared.refusal.Refusal.{Refusal}
-use Rattle.fts_model.specs.declared.refusal.Refusal.TheVariants.{UnknownField, NotANumberField, BadLimit}
+use Rattle.fts_base.specs.declared.refusal.Refusal.{Refusal}
+use Rattle.fts_base.specs.declared.refusal.Refusal.TheVariants.{UnknownField, NotANumberField, BadLimit}
 use Rattle.fts_model.specs.declared.schema.Kind.{Kind}
 use Rattle.fts_model.specs.declared.schema.Kind.TheVariants as kinds
 use Rattle.fts_model.specs.declared.schema.Field.{Field}
@@ -19,7 +19,7 @@ use Rattle.fts_model.specs.declared.operation.Stamped.{Stamped}
 use Rattle.fts_model.specs.declared.query.Order.{Order}
 use Rattle.fts_model.specs.declared.query.Top.{Top}
 use Rattle.fts_model.specs.declared.query.Request.{Request}
-use Rattle.fts_model.specs.Results.{result_and_then, result_map}
+use Rattle.fts_base.specs.Results.{result_and_then, result_map}
 use Rattle.fts_model.specs.Schemas.{field_named, holds_numbers}
 use Rattle.fts_model.specs.Documents.{DocumentValue, value_in_field, is_of_kind}
 use Rattle.fts_model.specs.Operations.{has, kind_at, term_fits}

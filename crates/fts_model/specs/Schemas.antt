@@ -3,12 +3,12 @@ use Rattle.std.specs.Prelude.{ℕ, ◌==◌, ◌&&◌, ◌||◌, not, nat_le, na
 use Rattle.std.specs.Char.{is_ascii_alphabetic, is_ascii_alphanumeric}
 use Rattle.std.specs.List.{list_all, list_any}
 use Rattle.std.specs.Str.{bytes_eq}
-use Rattle.fts_model.specs.declared.refusal.Refusal.{Refusal}
-use Rattle.fts_model.specs.declared.refusal.Refusal.TheVariants.{NoFields, TooManyFields, BadName, NameTwice, BadDefault}
+use Rattle.fts_base.specs.declared.refusal.Refusal.{Refusal}
+use Rattle.fts_base.specs.declared.refusal.Refusal.TheVariants.{NoFields, TooManyFields, BadName, NameTwice, BadDefault}
 use Rattle.fts_model.specs.declared.schema.Kind.{Kind}
 use Rattle.fts_model.specs.declared.schema.Kind.TheVariants.{Text, Keyword, U64, I64}
 use Rattle.fts_model.specs.declared.schema.Field.{Field}
-use Rattle.fts_model.specs.Results.{first_of}
+use Rattle.fts_base.specs.Results.{first_of}
 
 -- a letter or an underscore
 abbrev pub starts_name : ℕ → Bool

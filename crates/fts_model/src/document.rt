@@ -3,14 +3,14 @@ ghost use Rattle.std.specs.Prelude.{◌≡◌, ◌<◌, ◌≤◌, List, ℕ, So
 ghost use Rattle.std.specs.Arc.{arc_value};
 ghost use Rattle.std.specs.List.{find};
 ghost use Rattle.serde_json.specs.View.{view, members_view};
-ghost use Rattle.fts_model.specs.Results.{Gives, error_if_err};
+ghost use Rattle.fts_base.specs.Results.{Gives, error_if_err};
 ghost use Rattle.serde_json.specs.Data.{object, no_members};
 ghost use Rattle.fts_model.specs.Schemas.{schema_fault, is_named};
 ghost use Rattle.fts_model.specs.Documents.{value_in, value_at, members_fault, member_fault, document_of, data_of, with_value, with_values, json_of, CanHave, AreValuesOf, IsDocument, may_stand, fits_fields, fits, value_in_field};
 ghost use Rattle.fts_model.specs.Shorts.{IsShort};
-ghost use Rattle.fts_model.specs.declared.refusal.Refusal.TheVariants.{Memory};
+ghost use Rattle.fts_base.specs.declared.refusal.Refusal.TheVariants.{Memory};
 
-use crate::refusal::Refusal;
+use fts_base::Refusal;
 use crate::schema::{Field, Kind, Schema};
 use crate::text::Text;
 use crate::value::{FieldValue, Number};

@@ -1,11 +1,11 @@
 // What is done to an index: documents are added, and those with a term are deleted.
 ghost use Rattle.std.specs.Prelude.{◌≡◌, Err, IsErrOf, option_copied};
 ghost use Rattle.serde_json.specs.View.{view};
-ghost use Rattle.fts_model.specs.Results.{Gives};
+ghost use Rattle.fts_base.specs.Results.{Gives};
 ghost use Rattle.fts_model.specs.Operations.{kind_at, some_value_in, term_value};
 
 use crate::document::{Document, fault_of_value, value_of};
-use crate::refusal::Refusal;
+use fts_base::Refusal;
 use crate::schema::{Kind, Schema};
 use crate::text::Text;
 use crate::value::FieldValue;
@@ -78,7 +78,7 @@ pub struct Term {
 impl Term {
     ghost use Rattle.std.specs.Prelude.{◌≡◌, Err, IsErrOf};
     ghost use Rattle.serde_json.specs.View.{view};
-    ghost use Rattle.fts_model.specs.Results.{Gives};
+    ghost use Rattle.fts_base.specs.Results.{Gives};
     ghost use Rattle.fts_model.specs.Operations.{term_of, term_fits};
 
     /// The term that a JSON value is in the field of this name.

@@ -1,12 +1,12 @@
 // What a search asks for.
 ghost use Rattle.std.specs.Prelude.{◌≡◌, option_map, option_copied};
 ghost use Rattle.std.specs.List.{list_all};
-ghost use Rattle.fts_model.specs.Results.{Gives};
+ghost use Rattle.fts_base.specs.Results.{Gives};
 ghost use Rattle.fts_model.specs.QueryValues.{query_value};
 ghost use Rattle.fts_model.specs.Queries.{query_fits, is_bound_of, is_range_of, holds_phrases, is_number_field, is_limit, number_field_named, groups_of, top_of};
 
 use crate::operation::{Term, kind_at};
-use crate::refusal::Refusal;
+use fts_base::Refusal;
 use crate::schema::{Kind, Schema};
 use crate::text::Text;
 use crate::value::FieldValue;

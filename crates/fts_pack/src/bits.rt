@@ -8,7 +8,7 @@ ghost use Rattle.fts_pack.specs.Digits.{numbers_in, words_of};
 ghost use Rattle.fts_pack.specs.Bits.{IsBits, flags, marks, number_of};
 
 use crate::packing;
-use fts_model::Refusal;
+use fts_base::Refusal;
 use std::alloc::{AllocError, Global};
 use std::marker::Model;
 

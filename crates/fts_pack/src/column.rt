@@ -7,7 +7,7 @@ ghost use Rattle.fts_pack.specs.Column.{IsColumn, IsRangeOf, least_of, offsets, 
 
 use crate::bits::Bits;
 use crate::{fields, packing};
-use fts_model::Refusal;
+use fts_base::Refusal;
 use std::alloc::{AllocError, Global};
 use std::marker::Model;
 

@@ -5,7 +5,7 @@ ghost use Rattle.fts_pack.specs.Documents.{block_at, block_count, last_of};
 
 use crate::list_source::ListSource;
 use crate::long_list::LongList;
-use fts_model::Refusal;
+use fts_base::Refusal;
 use std::alloc::Global;
 use std::marker::Model;
 

@@ -3,7 +3,7 @@ ghost use Rattle.std.specs.List.Sorted.{IsStrictlyIncreasing};
 
 use crate::blocks::Blocks;
 use crate::list::List;
-use fts_model::GhostCount;
+use fts_base::GhostCount;
 
 /// The blocks of a list. Whenever one is opened, a number goes up that contracts alone read.
 #[derive(Drop)]

@@ -5,7 +5,7 @@ ghost use Rattle.fts_pack.specs.Numbers.{IsAdded};
 
 use crate::block::BLOCK;
 use crate::{lanes, packing};
-use fts_model::Refusal;
+use fts_base::Refusal;
 use std::alloc::{AllocError, Global};
 use std::marker::Model;
 

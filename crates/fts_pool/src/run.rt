@@ -8,7 +8,7 @@ use crate::job::Job;
 use crate::sharing::JobWorker;
 use crate::slots::{emptied, empty_slots, run_from};
 use crate::workers::{pop_all, push_all, share_out};
-use fts_model::Refusal;
+use fts_base::Refusal;
 use std::alloc::{AllocError, Global};
 use std::sync::Wait;
 use std::thread::Threads;

@@ -4,7 +4,7 @@ use Rattle.std.proofs.lemmas.List.{append-nil}
 use Rattle.fts_query.specs.declared.error.QueryError.{QueryError}
 use Rattle.fts_query.specs.declared.clauses.Occur.{Occur}
 use Rattle.fts_query.specs.declared.clauses.Occur.TheVariants.{Must, MustNot, Should}
-use Rattle.fts_model.specs.Results.{result_map}
+use Rattle.fts_base.specs.Results.{result_map}
 use Rattle.fts_model.specs.QueryValues.{QueryValue}
 use Rattle.fts_query.specs.Meanings.{Meaning, Clause, members, musts, must_nots, shoulds, boolean_of, node}
 use Rattle.fts_query.specs.Gathering.{Gathered, gather_all, gathered_node}

@@ -10,7 +10,7 @@ use Rattle.fts_text.specs.Tokens.{tokens}
 use Rattle.fts_model.specs.declared.schema.Kind.{Kind}
 use Rattle.fts_model.specs.declared.schema.Field.{Field}
 use Rattle.fts_model.specs.declared.value.FieldValue.{FieldValue}
-use Rattle.fts_model.specs.Results.{result_and_then, result_map}
+use Rattle.fts_base.specs.Results.{result_and_then, result_map}
 use Rattle.fts_model.specs.Schemas.{field_named, holds_numbers}
 use Rattle.fts_model.specs.Documents.{is_of_kind}
 use Rattle.fts_model.specs.Operations.{kind_at}

@@ -2,7 +2,7 @@
 --
 -- Only proofs and contracts within the crate need this file.
 use Rattle.std.specs.Prelude.{ℕ, suc, List, [], ◌∷◌, length, codes, Option, Some, None, map}
-use Rattle.fts_model.specs.Results.{result_map}
+use Rattle.fts_base.specs.Results.{result_map}
 use Rattle.fts_query.specs.declared.clauses.Occur.TheVariants.{Should}
 use Rattle.fts_query.specs.declared.reader.Level.{Level}
 use Rattle.fts_query.specs.declared.reader.Level.TheVariants as levels

@@ -60,7 +60,7 @@ pub(crate) struct Clauses {
 
 impl Clauses {
     ghost use Rattle.std.specs.Prelude.{◌≡◌, [], OnOk, Ok};
-    ghost use Rattle.fts_model.specs.Results.{result_map};
+    ghost use Rattle.fts_base.specs.Results.{result_map};
     ghost use Rattle.fts_model.specs.QueryValues.{query_value};
     ghost use Rattle.fts_query.specs.Gathering.{gathered_of, gather, gathered_node};
 

@@ -1,7 +1,7 @@
 //! What ties the definitions to each other: each contract is a law, and the body is empty.
 ghost use Rattle.std.specs.Prelude.{◌≡◌, ℕ, List, Result};
 ghost use Rattle.fts_model.specs.declared.schema.Field.{Field};
-ghost use Rattle.fts_model.specs.declared.refusal.Refusal.{Refusal};
+ghost use Rattle.fts_base.specs.declared.refusal.Refusal.{Refusal};
 ghost use Rattle.fts_model.specs.QueryValues.{QueryValue};
 ghost use Rattle.fts_query.specs.Outcomes.{Reads, without_byte};
 ghost use Rattle.fts_query.specs.Answers.{answer};

@@ -3,7 +3,7 @@ ghost use Rattle.std.specs.Prelude.{◌≡◌, ◌≤◌, ◌-◌, length, map, 
 ghost use Rattle.std.specs.List.{list_any};
 ghost use Rattle.fts_text.specs.Tokens.{tokens};
 ghost use Rattle.fts_text.specs.Places.{IsPlaceIn, token_at};
-ghost use Rattle.fts_model.specs.Results.{result_map};
+ghost use Rattle.fts_base.specs.Results.{result_map};
 ghost use Rattle.fts_model.specs.QueryValues.{query_value};
 ghost use Rattle.fts_query.specs.Values.{value_seen, bound_seen, IsShort};
 ghost use Rattle.fts_query.specs.Meanings.{between, with_value, value_in, with_tokens, literal_in, literal_anywhere, bound_in, meaning_in, field_meaning};

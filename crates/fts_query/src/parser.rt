@@ -2,7 +2,7 @@
 ghost use Rattle.std.specs.Prelude.{◌≡◌, ◌⊎◌, ◌≤◌, length, Ok, Err, IfOk, IfErr, true};
 ghost use Rattle.std.specs.List.{list_all};
 ghost use Rattle.std.specs.Str.{chars};
-ghost use Rattle.fts_model.specs.declared.refusal.Refusal.TheVariants.{Memory, TooLong, TooDeep};
+ghost use Rattle.fts_base.specs.declared.refusal.Refusal.TheVariants.{Memory, TooLong, TooDeep};
 ghost use Rattle.fts_model.specs.Queries.{query_fits};
 ghost use Rattle.fts_model.specs.QueryValues.{query_value};
 ghost use Rattle.fts_query.specs.Grammar.{is_space, IsBlank};

@@ -1,6 +1,6 @@
 // Reading a query from left to right: units, factors, and the sequences that they stand in.
 ghost use Rattle.std.specs.Prelude.{◌≡◌, ◌≤◌, ◌∷◌, [], ℕ, length, IfOk, OnOk, option_map};
-ghost use Rattle.fts_model.specs.Results.{result_map};
+ghost use Rattle.fts_base.specs.Results.{result_map};
 ghost use Rattle.fts_model.specs.QueryValues.{query_value};
 ghost use Rattle.fts_query.specs.Gathering.{gathered_of, gather};
 ghost use Rattle.fts_query.specs.Sequences.{factor_seen, part_seen, clause_of, node_of, separator_of, item_of, sequence_of, following};

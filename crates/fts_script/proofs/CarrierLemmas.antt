@@ -1,15 +1,15 @@
 -- Whatever carries an index, a script writes the same.
 use Rattle.std.proofs.Common.{◌≡◌, ℕ, ◌+◌, Bool, true, false, cond, List, [], ◌∷◌, ◌++◌, length, nat_lt, codes, Result, Ok, Err, Option, Some, None, option_map, refl, sym, ap, ◌∙◌}
 use Rattle.serde_json.specs.Data.{Data}
-use Rattle.fts_model.specs.declared.refusal.Refusal.{Refusal}
-use Rattle.fts_model.specs.declared.refusal.Refusal.TheVariants.{TooLarge, LaneFull}
+use Rattle.fts_base.specs.declared.refusal.Refusal.{Refusal}
+use Rattle.fts_base.specs.declared.refusal.Refusal.TheVariants.{TooLarge, LaneFull}
 use Rattle.fts_model.specs.declared.schema.Field.{Field}
 use Rattle.fts_model.specs.declared.operation.Op.{Op}
 use Rattle.fts_model.specs.declared.operation.Op.TheVariants as ops
 use Rattle.fts_model.specs.declared.operation.Stamped.{Stamped}
 use Rattle.fts_model.specs.declared.query.Request.{Request}
 use Rattle.fts_model.specs.QueryValues.{QueryValue}
-use Rattle.fts_model.specs.Results.{ok_unless, result_and_then, result_map}
+use Rattle.fts_base.specs.Results.{ok_unless, result_and_then, result_map}
 use Rattle.fts_model.specs.Schemas.{schema_fault}
 use Rattle.fts_model.specs.Documents.{DocumentValue, document_of}
 use Rattle.fts_model.specs.Operations.{term_of}

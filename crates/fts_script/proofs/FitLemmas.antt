@@ -14,12 +14,12 @@ use Rattle.fts_model.specs.declared.operation.Term.{Term}
 use Rattle.fts_model.specs.declared.query.Order.{Order}
 use Rattle.fts_model.specs.declared.query.Request.{Request}
 use Rattle.fts_model.specs.declared.query.Top.{Top}
-use Rattle.fts_model.specs.declared.refusal.Refusal.{Refusal}
-use Rattle.fts_model.specs.declared.refusal.Refusal.TheVariants.{WrongKind, TextTooLong, KeywordTooLong, UnknownField, NotANumberField, BadLimit}
+use Rattle.fts_base.specs.declared.refusal.Refusal.{Refusal}
+use Rattle.fts_base.specs.declared.refusal.Refusal.TheVariants.{WrongKind, TextTooLong, KeywordTooLong, UnknownField, NotANumberField, BadLimit}
 use Rattle.fts_model.specs.Documents.{DocumentValue, is_of_kind, value_in, value_at, members_fault, document_of, may_stand, fits_fields, fits}
 use Rattle.fts_model.specs.Operations.{kind_at, term_value, term_at, term_of, term_fits}
 use Rattle.fts_model.specs.Queries.{is_number_field, is_limit, number_field_named, groups_of, top_of, request_of, request_fits}
-use Rattle.fts_model.specs.Results.{Gives, value_if_ok, ok_unless, result_and_then, result_map}
+use Rattle.fts_base.specs.Results.{Gives, value_if_ok, ok_unless, result_and_then, result_map}
 use Rattle.fts_model.specs.Schemas.{field_named}
 
 -- a value, if there is one, is of a kind

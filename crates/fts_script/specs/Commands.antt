@@ -12,9 +12,9 @@ use Rattle.fts_model.specs.declared.schema.Kind.TheVariants as kinds
 use Rattle.fts_model.specs.declared.schema.Field.{Field}
 use Rattle.fts_model.specs.declared.query.Order.{Order}
 use Rattle.fts_model.specs.declared.query.Order.TheVariants as orders
-use Rattle.fts_model.specs.declared.refusal.Refusal.{Refusal}
-use Rattle.fts_model.specs.declared.refusal.Refusal.TheVariants.{LineTooLong, BadJson, BadCommand}
-use Rattle.fts_model.specs.Results.{result_and_then}
+use Rattle.fts_base.specs.declared.refusal.Refusal.{Refusal}
+use Rattle.fts_base.specs.declared.refusal.Refusal.TheVariants.{LineTooLong, BadJson, BadCommand}
+use Rattle.fts_base.specs.Results.{result_and_then}
 
 -- the most bytes of a line that is read
 abbrev pub longest : ℕ

@@ -2,7 +2,7 @@
 use Rattle.std.specs.Prelude.{ℕ, ◌+◌, ◌&&◌, ◌++◌, Bool, true, false, Option, None, Some, List, [], length, drop, nat_lt}
 use Rattle.std.specs.Prelude.{if◌then◌else◌}
 use Rattle.std.specs.List.{prefix_len}
-use Rattle.fts_model.specs.declared.refusal.Refusal.TheVariants.{LineTooLong}
+use Rattle.fts_base.specs.declared.refusal.Refusal.TheVariants.{LineTooLong}
 use Rattle.fts_script.specs.Text.{is_white, is_blank}
 use Rattle.fts_script.specs.Commands.{longest}
 use Rattle.fts_script.specs.Replies.{line_of, refusal_reply}

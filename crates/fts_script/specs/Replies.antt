@@ -4,14 +4,14 @@ use Rattle.std.specs.Prelude.{if◌then◌else◌, option_map}
 use Rattle.serde_json.specs.Data.{Data, number, unsigned, string, array, Items, item, no_items, object, Members}
 use Rattle.serde_json.specs.Data.{member, no_members}
 use Rattle.serde_json.specs.Written.{compact_text}
-use Rattle.fts_model.specs.declared.refusal.Refusal.{Refusal}
-use Rattle.fts_model.specs.declared.refusal.Refusal.TheVariants.{NoSchema, SchemaTwice}
+use Rattle.fts_base.specs.declared.refusal.Refusal.{Refusal}
+use Rattle.fts_base.specs.declared.refusal.Refusal.TheVariants.{NoSchema, SchemaTwice}
 use Rattle.fts_model.specs.declared.operation.Op.TheVariants as ops
 use Rattle.fts_model.specs.declared.value.Number.{Number}
 use Rattle.fts_model.specs.declared.value.FieldValue.TheVariants as values
 use Rattle.fts_model.specs.declared.answer.Hit.{Hit}
-use Rattle.fts_model.specs.Refusals.{name_of}
-use Rattle.fts_model.specs.Results.{ok_unless, result_and_then, result_map}
+use Rattle.fts_base.specs.Refusals.{name_of}
+use Rattle.fts_base.specs.Results.{ok_unless, result_and_then, result_map}
 use Rattle.fts_model.specs.Schemas.{schema_fault}
 use Rattle.fts_model.specs.Documents.{document_of, data_of, json_of}
 use Rattle.fts_model.specs.Operations.{term_of}

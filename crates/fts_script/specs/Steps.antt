@@ -1,7 +1,7 @@
 -- The steps of a script on an index: each gives what the index becomes and what is answered, or a refusal.
 use Rattle.std.specs.Prelude.{◌≡◌, ℕ, ◌+◌, ◌⊎◌, nat_lt, length, Result, Ok, Err, if◌then◌else◌}
-use Rattle.fts_model.specs.declared.refusal.Refusal.{Refusal}
-use Rattle.fts_model.specs.declared.refusal.Refusal.TheVariants.{Memory, TooLarge, LaneFull}
+use Rattle.fts_base.specs.declared.refusal.Refusal.{Refusal}
+use Rattle.fts_base.specs.declared.refusal.Refusal.TheVariants.{Memory, TooLarge, LaneFull}
 use Rattle.fts_model.specs.declared.operation.Op.{Op}
 use Rattle.fts_model.specs.declared.query.Request.{Request}
 use Rattle.fts_model.specs.QueryValues.{QueryValue}

@@ -1,7 +1,7 @@
 // What a script needs of an index, however it is kept.
 ghost use Rattle.std.specs.Prelude.{◌≡◌, ◌+◌, ◌^◌, ◌≤◌, ℕ, true, Ok, IfOk};
 ghost use Rattle.std.specs.Thread.{IsSync};
-ghost use Rattle.fts_model.specs.Results.{Gives};
+ghost use Rattle.fts_base.specs.Results.{Gives};
 ghost use Rattle.fts_model.specs.QueryValues.{query_value};
 ghost use Rattle.fts_model.specs.Operations.{op_fits};
 ghost use Rattle.fts_model.specs.Queries.{query_fits, request_fits};

@@ -2,12 +2,12 @@
 ghost use Rattle.std.specs.Prelude.{◌≡◌, ◌++◌, Ok, IfOk, IfErr, OnOk, OnErr};
 ghost use Rattle.std.specs.List.{list_all};
 ghost use Rattle.fts_model.specs.Operations.{added, added_by, adds, alive};
-ghost use Rattle.fts_model.specs.Results.{Gives};
+ghost use Rattle.fts_base.specs.Results.{Gives};
 ghost use Rattle.fts_script.specs.Operations.{is_add};
 
 use crate::engine::Engine;
 use crate::options::Options;
-use fts_model::{Answer, Document, Op, Query, Refusal, Request, Schema, Stamp, Stamped, scan};
+use fts_model::{Answer, Document, Op, Query, Refusal, Request, Schema, Stamp, Stamped};
 use std::alloc::{AllocError, Global};
 use std::sync::Wait;
 use std::thread::Threads;
@@ -118,7 +118,7 @@ fn survivors(
         (Ok (alive schema.now (adds documents.now ++ ops.now))) }
 {
     let all = history(alloc, documents, ops)?;
-    scan::alive(alloc, schema, &all)
+    fts_scan::alive(alloc, schema, &all)
 }
 
 /// Puts the documents alive after operations in the place of those before.
@@ -216,7 +216,7 @@ impl Engine for ListEngine {
         query: &Query,
         request: &Request,
     ) -> Result<Answer, Refusal> {
-        scan::answer(rt.alloc(), &self.schema, query, request, &self.documents)
+        fts_scan::answer(rt.alloc(), &self.schema, query, request, &self.documents)
     }
 
     fn close(self, _rt: &(impl AllocGlobal + Threads + Wait + Sync)) {}

@@ -4,7 +4,7 @@ ghost use Rattle.std.specs.Prelude.{false, IfOk, OnOk, OnErr, MatchOption, ⊤, 
 ghost use Rattle.std.specs.Prelude.{codes};
 ghost use Rattle.serde_json.specs.View.{view};
 ghost use Rattle.std.specs.Option.{ok_or};
-ghost use Rattle.fts_model.specs.Results.{Gives};
+ghost use Rattle.fts_base.specs.Results.{Gives};
 ghost use Rattle.std.specs.Option.{option_copied};
 ghost use Rattle.fts_model.specs.Documents.{document_of, fits};
 ghost use Rattle.fts_model.specs.Operations.{op_fits, term_fits, term_of};

@@ -2,7 +2,7 @@
 ghost use Rattle.std.specs.Prelude.{◌≡◌, []};
 
 use crate::streams::{ScriptIn, ScriptOut, StreamError};
-use fts_model::{GhostBytes, GhostCount};
+use fts_base::{GhostBytes, GhostCount};
 use std::io::{Read, Write};
 
 /// A reader or writer of std, with the bytes and the counts of its calls for contracts alone.

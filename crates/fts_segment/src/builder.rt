@@ -2,7 +2,7 @@
 ghost use Rattle.std.specs.Prelude.{◌≡◌, ◌↔◌, ◌≢◌, ◌<◌, ◌≤◌, true, false, Err, length, IfOk, IfErr, OnOk, OnErr, ◌^◌};
 ghost use Rattle.fts_model.specs.Documents.{fits};
 ghost use Rattle.fts_segment.specs.FieldIndexes.{AreIndexes};
-ghost use Rattle.fts_model.specs.declared.refusal.Refusal.TheVariants.{Memory, SegmentFull};
+ghost use Rattle.fts_base.specs.declared.refusal.Refusal.TheVariants.{Memory, SegmentFull};
 
 use crate::field_index::FieldIndex;
 use crate::segment::{Segment, Stored};

@@ -7,9 +7,9 @@ use Rattle.std.proofs.lemmas.List.{length-map, map-append}
 use Rattle.std.proofs.lemmas.List.Elements.{All-contains, All-from_recursion, recursion_from_All, All-map, All-weaker}
 use Rattle.std.proofs.lemmas.List.Kept.{AllPairs-cons}
 use Rattle.fts_model.proofs.Lists.{pairs_none, Contains-cases, Contains-first, Contains-behind, Contains-none}
-use Rattle.fts_model.specs.declared.refusal.Refusal.{Refusal}
-use Rattle.fts_model.specs.declared.refusal.Refusal.TheVariants.{SourceGone}
-use Rattle.fts_model.specs.Results.{first_of, ok_unless}
+use Rattle.fts_base.specs.declared.refusal.Refusal.{Refusal}
+use Rattle.fts_base.specs.declared.refusal.Refusal.TheVariants.{SourceGone}
+use Rattle.fts_base.specs.Results.{first_of, ok_unless}
 use Rattle.fts_merge.specs.Merges.{HasBits}
 use Rattle.fts_merge.proofs.OriginsLemmas.{IsMerged-merge_of, length-contents_of}
 use Rattle.fts_merge.proofs.PlacesLemmas.{placed_from}

@@ -4,7 +4,7 @@ use Rattle.std.specs.List.{list_any}
 use Rattle.std.specs.Option.{option_map}
 use Rattle.std.proofs.lemmas.Bool.Decides.{nat_tests}
 use Rattle.std.proofs.lemmas.List.Elements.{All-contains}
-use Rattle.fts_model.specs.declared.refusal.Refusal.TheVariants.{SourceGone}
+use Rattle.fts_base.specs.declared.refusal.Refusal.TheVariants.{SourceGone}
 use Rattle.fts_model.proofs.Lists.{Contains-first, Contains-behind}
 use Rattle.fts_snapshots.specs.Entries.{EntryValue}
 use Rattle.fts_snapshots.specs.Merges.{is_there}

@@ -7,7 +7,7 @@ use Rattle.std.proofs.lemmas.List.{append-nil, map-append}
 use Rattle.std.proofs.lemmas.List.Folds.{list_any-append}
 use Rattle.fts_model.specs.declared.operation.Stamped.{Stamped}
 use Rattle.fts_model.specs.Documents.{DocumentValue}
-use Rattle.fts_model.specs.Results.{ok_unless}
+use Rattle.fts_base.specs.Results.{ok_unless}
 use Rattle.fts_segment.specs.Contents.{where_set}
 use Rattle.fts_merge.specs.declared.origin.Origin.{Origin}
 use Rattle.fts_snapshots.specs.Entries.{EntryValue}

@@ -6,7 +6,7 @@ use Rattle.fts_model.specs.declared.schema.Field.{Field}
 use Rattle.fts_model.specs.declared.operation.Op.{Op}
 use Rattle.fts_model.specs.declared.operation.Op.TheVariants.{Add, Delete, DeleteAll}
 use Rattle.fts_model.specs.declared.operation.Stamped.{Stamped}
-use Rattle.fts_model.specs.declared.refusal.Refusal.TheVariants.{OtherSchema}
+use Rattle.fts_base.specs.declared.refusal.Refusal.TheVariants.{OtherSchema}
 use Rattle.fts_model.specs.Documents.{DocumentValue, fits}
 use Rattle.fts_model.specs.Operations.{op_fits, added_by, added}
 use Rattle.fts_segment.specs.Segments.{AllFit}

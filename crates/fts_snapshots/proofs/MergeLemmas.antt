@@ -2,7 +2,7 @@
 use Rattle.std.proofs.Common.{◌≡◌, ◌≢◌, ◌||◌, ◌==◌, ℕ, Bool, true, false, cond, not, Some, None, List, [], ◌∷◌, ◌++◌, refl, sym, ap, ◌∙◌, arith}
 use Rattle.std.specs.List.{AllByRecursion}
 use Rattle.std.proofs.lemmas.Bool.Decides.{nat_tests}
-use Rattle.fts_model.specs.declared.refusal.Refusal.TheVariants.{UnknownSegment, SegmentTwice}
+use Rattle.fts_base.specs.declared.refusal.Refusal.TheVariants.{UnknownSegment, SegmentTwice}
 use Rattle.fts_snapshots.specs.Entries.{EntryValue}
 use Rattle.fts_snapshots.specs.Merges.{is_among, is_there, fault_behind, names_fault}
 use Rattle.fts_snapshots.proofs.OrderLemmas.{Rises}

@@ -6,9 +6,9 @@ use Rattle.std.proofs.lemmas.Bool.Decides.{nat_tests}
 use Rattle.std.proofs.lemmas.List.Sums.{sum_by-cons}
 use Rattle.std.proofs.lemmas.List.Elements.{All-from_recursion, recursion_from_All, All-weaker}
 use Rattle.fts_model.specs.declared.schema.Field.{Field}
-use Rattle.fts_model.specs.declared.refusal.Refusal.{Refusal}
-use Rattle.fts_model.specs.declared.refusal.Refusal.TheVariants.{TooLarge, StampsUsedUp}
-use Rattle.fts_model.specs.Results.{ok_unless, first_of}
+use Rattle.fts_base.specs.declared.refusal.Refusal.{Refusal}
+use Rattle.fts_base.specs.declared.refusal.Refusal.TheVariants.{TooLarge, StampsUsedUp}
+use Rattle.fts_base.specs.Results.{ok_unless, first_of}
 use Rattle.fts_merge.specs.Merges.{SourceValue, MergedValue, AreOfOneSchema, schema_of, contents}
 use Rattle.fts_merge.specs.Merges as sources
 use Rattle.fts_snapshots.specs.Entries.{EntryValue, live_in, live_count}

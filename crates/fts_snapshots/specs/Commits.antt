@@ -3,8 +3,8 @@ use Rattle.std.specs.Prelude.{ℕ, ◌+◌, nat_lt, ◌^◌, Option, Some, None,
 use Rattle.fts_model.specs.declared.schema.Field.{Field}
 use Rattle.fts_model.specs.declared.operation.Op.{Op}
 use Rattle.fts_model.specs.declared.operation.Stamped.{Stamped}
-use Rattle.fts_model.specs.declared.refusal.Refusal.{Refusal}
-use Rattle.fts_model.specs.declared.refusal.Refusal.TheVariants.{StampsUsedUp, OtherSchema}
+use Rattle.fts_base.specs.declared.refusal.Refusal.{Refusal}
+use Rattle.fts_base.specs.declared.refusal.Refusal.TheVariants.{StampsUsedUp, OtherSchema}
 use Rattle.fts_model.specs.Documents.{DocumentValue}
 use Rattle.fts_model.specs.Operations.{op_fits, survives, added}
 use Rattle.fts_merge.specs.Strikes.{bits_after}

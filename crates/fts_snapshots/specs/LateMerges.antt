@@ -2,9 +2,9 @@
 use Rattle.std.specs.Prelude.{ℕ, ◌+◌, ◌||◌, ◌==◌, Bool, false, not, Option, None, Some, List, [], ◌∷◌, ◌++◌, map, filter, flat_map, if◌then◌else◌}
 use Rattle.std.specs.List.{list_any}
 use Rattle.std.specs.Option.{option_map}
-use Rattle.fts_model.specs.declared.refusal.Refusal.{Refusal}
-use Rattle.fts_model.specs.declared.refusal.Refusal.TheVariants.{SourceGone}
-use Rattle.fts_model.specs.Results.{first_of}
+use Rattle.fts_base.specs.declared.refusal.Refusal.{Refusal}
+use Rattle.fts_base.specs.declared.refusal.Refusal.TheVariants.{SourceGone}
+use Rattle.fts_base.specs.Results.{first_of}
 use Rattle.fts_segment.specs.Contents.{where_set}
 use Rattle.fts_snapshots.specs.Entries.{EntryValue, live_in, has_live}
 use Rattle.fts_snapshots.specs.Commits.{numbers_fault}

@@ -1,8 +1,8 @@
 -- What a merge does to segments.
 use Rattle.std.specs.Prelude.{ℕ, ◌==◌, nat_lt, Bool, not, Option, Some, None, List, [], ◌∷◌, ◌++◌, filter, flat_map, if◌then◌else◌}
 use Rattle.std.specs.List.{list_any}
-use Rattle.fts_model.specs.declared.refusal.Refusal.{Refusal}
-use Rattle.fts_model.specs.declared.refusal.Refusal.TheVariants.{NoSegments, UnknownSegment, SegmentTwice, TooLarge}
+use Rattle.fts_base.specs.declared.refusal.Refusal.{Refusal}
+use Rattle.fts_base.specs.declared.refusal.Refusal.TheVariants.{NoSegments, UnknownSegment, SegmentTwice, TooLarge}
 use Rattle.fts_snapshots.specs.Entries.{EntryValue, most_documents}
 
 -- whether a number is among these

@@ -3,10 +3,10 @@ use Rattle.std.specs.Prelude.{◌≡◌, ◌<◌, ◌≤◌, ℕ, ◌+◌, ◌^�
 use Rattle.fts_model.specs.declared.schema.Field.{Field}
 use Rattle.fts_model.specs.declared.operation.Op.{Op}
 use Rattle.fts_model.specs.declared.operation.Stamped.{Stamped}
-use Rattle.fts_model.specs.declared.refusal.Refusal.{Refusal}
+use Rattle.fts_base.specs.declared.refusal.Refusal.{Refusal}
 use Rattle.fts_model.specs.Documents.{DocumentValue}
 use Rattle.fts_model.specs.Operations.{StampsRise}
-use Rattle.fts_model.specs.Results.{first_of}
+use Rattle.fts_base.specs.Results.{first_of}
 use Rattle.fts_snapshots.specs.Entries.{EntryValue, IsEntry, live_count, has_live, content}
 use Rattle.fts_model.specs.declared.cut.Cut.{Cut}
 use Rattle.fts_snapshots.specs.Commits.{committed, new_segments, numbers_fault}

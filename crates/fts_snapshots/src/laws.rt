@@ -18,7 +18,7 @@ pub fn a_commit_continues_each_history()
         content s.entries ≡ alive s.schema history → StampsRise (adds (content s.entries) ++ batch) →
         content (after_commit cut batch s).entries ≡ alive s.schema (history ++ batch) }
 {
-    fts_model::laws::alive_stands_for_history();
+    fts_scan::laws::alive_stands_for_history();
 }
 
 /// A merged segment has as many documents as its sources have live ones together.

@@ -3,7 +3,7 @@ ghost use Rattle.std.specs.Prelude.{◌≡◌, ◌≤◌, ◌^◌, ◌==◌, ℕ
 ghost use Rattle.std.specs.List.{list_any, flat_map};
 ghost use Rattle.std.specs.HashSet.{contains};
 ghost use Rattle.std.specs.Option.{option_map};
-ghost use Rattle.fts_model.specs.Results.{Gives, ok_unless};
+ghost use Rattle.fts_base.specs.Results.{Gives, ok_unless};
 ghost use Rattle.fts_snapshots.specs.Entries.{live_in};
 ghost use Rattle.fts_snapshots.specs.Snapshots.{IdsRise};
 ghost use Rattle.fts_snapshots.specs.Merges.{is_among, is_there, without};

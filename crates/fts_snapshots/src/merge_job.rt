@@ -1,6 +1,6 @@
 // A merge that was begun: it may be run in any thread, beside the writer.
 ghost use Rattle.std.specs.Prelude.{◌≡◌, ◌⊎◌, None, Some, IfOk, IfErr, OnOk, map, sum_by};
-ghost use Rattle.fts_model.specs.Results.{Gives, ok_unless};
+ghost use Rattle.fts_base.specs.Results.{Gives, ok_unless};
 ghost use Rattle.fts_snapshots.specs.Entries.{live_count};
 ghost use Rattle.fts_snapshots.specs.Merges.{size_fault};
 ghost use Rattle.fts_snapshots.specs.MergedSegments.{IsJob, ids_of, merged_of};

@@ -1,7 +1,7 @@
 // The segments that a merge is begun with.
 ghost use Rattle.std.specs.Prelude.{◌≡◌, ◌⊎◌, ◌++◌, ◌∷◌, [], ℕ, List, Some, IfOk, OnOk, MatchResult, nat_eq};
 ghost use Rattle.std.specs.HashSet.{contains};
-ghost use Rattle.fts_model.specs.Results.{Gives, ok_unless};
+ghost use Rattle.fts_base.specs.Results.{Gives, ok_unless};
 ghost use Rattle.fts_snapshots.specs.Snapshots.{IdsRise};
 ghost use Rattle.fts_snapshots.specs.Merges.{entry_at, entries_at, fault_behind, names_fault};
 ghost use Rattle.fts_snapshots.specs.Lookups.{TellsOf};

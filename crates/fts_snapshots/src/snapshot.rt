@@ -1,7 +1,7 @@
 // What is seen of an index at one time, and what commits and merges make of it.
 ghost use Rattle.std.specs.Prelude.{◌≡◌, ◌≤◌, ◌++◌, [], None, map, length, IfOk, IsOkUnless};
 ghost use Rattle.fts_model.specs.Operations.{alive, adds};
-ghost use Rattle.fts_model.specs.Results.{Gives, ok_unless};
+ghost use Rattle.fts_base.specs.Results.{Gives, ok_unless};
 ghost use Rattle.fts_snapshots.specs.Entries.{content};
 ghost use Rattle.fts_snapshots.specs.Infos.{info_of, candidate_ids};
 ghost use Rattle.fts_snapshots.specs.Cuts.{IsCut};

@@ -5,7 +5,7 @@ ghost use Rattle.fts_snapshots.specs.Cuts.{IsCut};
 mod held;
 
 use fts_index::{Cut, Found, Searcher, Writer};
-use fts_model::scan::{alive, answer};
+use fts_scan::{alive, answer};
 use fts_model::{
     Answer, Document, FieldValue, Hit, Op, Order, Query, Refusal, Request, Schema, Stamped, Term,
     Text,

@@ -4,7 +4,7 @@ use Rattle.fts_model.specs.declared.schema.Field.{Field}
 use Rattle.fts_model.specs.Queries.{is_number_field}
 use Rattle.fts_model.specs.Answers.{groups}
 use Rattle.fts_model.specs.Operations.{kind_at}
-use Rattle.fts_model.proofs.AnswersSteps.{length-filter_map}
+use Rattle.fts_scan.proofs.AnswersSteps.{length-filter_map}
 use Rattle.fts_segment.specs.Segments.{column}
 use Rattle.fts_collect.specs.Internals.Collecting.{present_at}
 use Rattle.fts_collect.specs.Internals.Collected.{HasCounted, hits_at}

@@ -3,7 +3,7 @@ use Rattle.fts_snapshots.specs.Rounds.{Gathered, Opened}
 use Rattle.fts_index.specs.Writers.{WriterValue}
 use Rattle.fts_model.specs.declared.operation.Op.{Op}
 use Rattle.fts_model.specs.declared.operation.Stamped.{Stamped}
-use Rattle.fts_model.specs.declared.refusal.Refusal.{Refusal}
+use Rattle.fts_base.specs.declared.refusal.Refusal.{Refusal}
 use Rattle.fts_engine.specs.declared.uncommitted.Uncommitted.{Uncommitted}
 use Rattle.fts_engine.specs.UncommittedOperations.{StayUncommitted, IsOpen, IsUncommittedIn}
 use Rattle.fts_engine.proofs.uncommitted.gather.Goals as goal

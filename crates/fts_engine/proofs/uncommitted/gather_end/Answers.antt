@@ -2,8 +2,8 @@ use Rattle.std.proofs.Common.{◌≡◌, ◌<◌, ◌+◌, ◌==◌, ℕ, Bool, 
 use Rattle.std.proofs.lemmas.Bool.Decides.{nat_tests}
 use Rattle.fts_snapshots.specs.Rounds.{Held, lanes_of, times}
 use Rattle.fts_snapshots.specs.Shuffles.{IsLeastMissing}
-use Rattle.fts_model.specs.declared.refusal.Refusal.{Refusal}
-use Rattle.fts_model.specs.declared.refusal.Refusal.TheVariants.{Memory, LaneMissing}
+use Rattle.fts_base.specs.declared.refusal.Refusal.{Refusal}
+use Rattle.fts_base.specs.declared.refusal.Refusal.TheVariants.{Memory, LaneMissing}
 use Rattle.fts_engine.proofs.uncommitted.gather_end.Goals as goal
 
 -- the one lane isn't missing

@@ -1,7 +1,7 @@
 use Rattle.std.proofs.Common.{◌∙◌, sym}
 use Rattle.std.specs.Option.{ok_or}
 use Rattle.serde_json.specs.View.{view}
-use Rattle.fts_model.specs.declared.refusal.Refusal.TheVariants.{WrongKind}
+use Rattle.fts_base.specs.declared.refusal.Refusal.TheVariants.{WrongKind}
 use Rattle.fts_model.specs.Documents.{value_in}
 use Rattle.fts_model.specs.Operations.{some_value_in}
 use Rattle.fts_model.proofs.ResultsRefused.{one_error, and_then_error}

@@ -1,6 +1,6 @@
 use Rattle.std.proofs.Common.{◌≡◌, sym, ap, ◌∙◌, Some, Ok, length}
 use Rattle.std.proofs.lemmas.Result.{err_from_is_err_and}
-use Rattle.fts_model.specs.Results.{result_map}
+use Rattle.fts_base.specs.Results.{result_map}
 use Rattle.fts_query.specs.Gathering.{Gathered, gathered_of, gather}
 use Rattle.fts_query.specs.Sequences.{part_seen, clause_of}
 use Rattle.fts_query.proofs.GatheringLemmas.{nothing_gathered}

@@ -1,5 +1,5 @@
 use Rattle.std.proofs.Common.{◌≡◌, [], ◌∷◌, ap, ◌∙◌}
-use Rattle.fts_model.specs.Results.{result_map}
+use Rattle.fts_base.specs.Results.{result_map}
 use Rattle.fts_model.specs.QueryValues.{query_value}
 use Rattle.fts_query.specs.declared.clauses.Occur.{Occur}
 use Rattle.fts_query.specs.declared.reader.Level.TheVariants.{Conjunction}

@@ -1,6 +1,6 @@
 use Rattle.std.proofs.Common.{◌≡◌, true, IfOk, subst}
 use Rattle.serde_json.specs.View.{view}
-use Rattle.fts_model.specs.Results.{Gives}
+use Rattle.fts_base.specs.Results.{Gives}
 use Rattle.fts_model.specs.Documents.{DocumentValue, document_of, fits}
 use Rattle.fts_script.proofs.FitLemmas.{if_given, document_fits}
 use Rattle.fts_script.proofs.session.document_in.Goals as goal

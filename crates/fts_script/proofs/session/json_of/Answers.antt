@@ -5,7 +5,7 @@ use Rattle.std.specs.Str.{is_utf8}
 use Rattle.std.proofs.lemmas.Str.{is_utf8-from_IsUtf8, IsUtf8-from_is_utf8}
 use Rattle.serde_json.specs.Data.{Data}
 use Rattle.serde_json.specs.Read.{read}
-use Rattle.fts_model.specs.declared.refusal.Refusal.TheVariants.{BadJson}
+use Rattle.fts_base.specs.declared.refusal.Refusal.TheVariants.{BadJson}
 use Rattle.fts_script.specs.Commands.{json_in}
 use Rattle.fts_script.proofs.session.json_of.Goals as goal
 

@@ -1,7 +1,7 @@
 use Rattle.std.proofs.Common.{◌≡◌, ◌⊎◌, inl, inr, Option, Some, None, Err, refl, ap, sym}
-use Rattle.fts_model.specs.declared.refusal.Refusal.{Refusal}
-use Rattle.fts_model.specs.declared.refusal.Refusal.TheVariants.{Memory}
-use Rattle.fts_model.specs.Results.{ok_unless}
+use Rattle.fts_base.specs.declared.refusal.Refusal.{Refusal}
+use Rattle.fts_base.specs.declared.refusal.Refusal.TheVariants.{Memory}
+use Rattle.fts_base.specs.Results.{ok_unless}
 use Rattle.fts_model.specs.Schemas.{schema_fault}
 use Rattle.fts_script.specs.Indexes.{Index}
 use Rattle.fts_script.specs.Replies.{Outcome}

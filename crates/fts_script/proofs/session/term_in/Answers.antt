@@ -1,7 +1,7 @@
 use Rattle.std.proofs.Common.{◌≡◌, true, IfOk, subst}
 use Rattle.serde_json.specs.View.{view}
 use Rattle.fts_model.specs.declared.operation.Term.{Term}
-use Rattle.fts_model.specs.Results.{Gives}
+use Rattle.fts_base.specs.Results.{Gives}
 use Rattle.fts_model.specs.Operations.{term_fits, term_of}
 use Rattle.fts_script.proofs.FitLemmas.{if_given, term_of_fits}
 use Rattle.fts_script.proofs.session.term_in.Goals as goal

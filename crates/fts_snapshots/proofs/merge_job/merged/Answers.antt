@@ -2,9 +2,9 @@
 use Rattle.std.proofs.Common.{◌≡◌, ◌≢◌, ◌<◌, ◌≤◌, ◌↔◌, ◌⊎◌, inl, inr, ⊎_elim, ◌∙◌, ℕ, true, cond, nat_lt, Some, None, Result, Ok, Err, map, sum_by, refl, sym, ap, subst, arith}
 use Rattle.std.proofs.lemmas.Bool.{cases_lt}
 use Rattle.std.proofs.lemmas.Bool.Decides.{nat_tests}
-use Rattle.fts_model.specs.declared.refusal.Refusal.{Refusal}
-use Rattle.fts_model.specs.declared.refusal.Refusal.TheVariants.{Memory, TooLarge}
-use Rattle.fts_model.specs.Results.{ok_unless}
+use Rattle.fts_base.specs.declared.refusal.Refusal.{Refusal}
+use Rattle.fts_base.specs.declared.refusal.Refusal.TheVariants.{Memory, TooLarge}
+use Rattle.fts_base.specs.Results.{ok_unless}
 use Rattle.fts_merge.specs.Merges.{MergedValue, merge_of}
 use Rattle.fts_merge.specs.Merges as sources
 use Rattle.fts_snapshots.specs.Entries.{live_count}

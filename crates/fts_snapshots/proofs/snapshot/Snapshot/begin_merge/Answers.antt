@@ -1,6 +1,6 @@
 -- What is left of the proof of `snapshot::Snapshot::begin_merge`.
 use Rattle.std.proofs.Common.{◌≡◌, Ok, List, sym, ap, subst, ◌∙◌}
-use Rattle.fts_model.specs.Results.{ok_unless}
+use Rattle.fts_base.specs.Results.{ok_unless}
 use Rattle.fts_snapshots.specs.Entries.{EntryValue}
 use Rattle.fts_snapshots.specs.Merges.{entries_at, names_fault}
 use Rattle.fts_snapshots.specs.MergedSegments.{IsJob, merged_of}

@@ -1,6 +1,6 @@
 -- What is left of the proof of `snapshot::Snapshot::end_merge`.
 use Rattle.std.proofs.Common.{◌≡◌, ◌+◌, Ok, Err, List, inl, inr, ⊎_elim, refl, sym, ap, subst, ◌∙◌}
-use Rattle.fts_model.specs.Results.{ok_unless}
+use Rattle.fts_base.specs.Results.{ok_unless}
 use Rattle.fts_snapshots.specs.Entries.{EntryValue, content}
 use Rattle.fts_snapshots.specs.Commits.{numbers_fault}
 use Rattle.fts_snapshots.specs.Snapshots.{SnapshotValue, IsSnapshot, IdsRise}

@@ -1,6 +1,6 @@
 -- What is left of the proof of `snapshot::Snapshot::merge`.
 use Rattle.std.proofs.Common.{List, sum_by, sym, ap, subst, ◌∙◌}
-use Rattle.fts_model.specs.Results.{Gives}
+use Rattle.fts_base.specs.Results.{Gives}
 use Rattle.fts_snapshots.specs.Entries.{EntryValue, live_count}
 use Rattle.fts_snapshots.specs.Merges.{entries_at, names_fault, size_fault}
 use Rattle.fts_snapshots.specs.MergedSegments.{merged_of}

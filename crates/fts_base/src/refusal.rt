@@ -1,0 +1,200 @@
+// What a call of the index refuses, each cause with its number and its name.
+ghost use Rattle.std.specs.Prelude.{◌≡◌, List, ℕ};
+ghost use Rattle.fts_base.specs.Refusals.{name_of, number_of};
+ghost use Rattle.fts_base.specs.declared.refusal.Refusal.TheVariants.{Memory};
+
+use std::alloc::{AllocError, AllocFailed};
+
+/// Why a call was refused. A refused call leaves everything that it was lent as it was.
+///
+/// The numbers and the names are part of the format: scripts print the names, and neither ever
+/// changes.
+#[derive(Clone, Copy, Debug, PartialEq, Eq)]
+pub enum Refusal {
+    /// 0: the allocator refused a growth.
+    Memory,
+    /// 1: the schema has no field.
+    NoFields,
+    /// 2: the schema has more than 32 fields.
+    TooManyFields,
+    /// 3: a name isn't `[A-Za-z_][A-Za-z0-9_]*` of 1 to 32 bytes, or is `AND`, `OR` or `NOT`.
+    BadName,
+    /// 4: two fields have one name.
+    NameTwice,
+    /// 5: a number field is marked default.
+    BadDefault,
+    /// 6: the document isn't a JSON object.
+    NotAnObject,
+    /// 7: the schema has no field of that name.
+    UnknownField,
+    /// 8: the value isn't of the field's kind, or is null where a term is wanted.
+    WrongKind,
+    /// 9: a text has more than 1,048,576 bytes.
+    TextTooLong,
+    /// 10: a keyword has more than 256 bytes.
+    KeywordTooLong,
+    /// 11: the length of a top list isn't within 1..=10,000.
+    BadLimit,
+    /// 12: groups or a top list are wanted by a text or keyword field.
+    NotANumberField,
+    /// 13: the builder holds 65,536 documents.
+    SegmentFull,
+    /// 14: a query has more than 4,096 bytes.
+    TooLong,
+    /// 15: the query isn't in the grammar; at or before this byte it stops being one.
+    Syntax(usize),
+    /// 16: parentheses nest more than 32 deep.
+    TooDeep,
+    /// 17: a literal or a bound of a number field is no number of its kind.
+    BadNumber,
+    /// 18: a range or a comparison on a text or keyword field.
+    RangeOnText,
+    /// 19: a literal without a field, and the schema has no default field.
+    NoDefaultField,
+    /// 20: a Boolean node of must-nots alone.
+    AllNegative,
+    /// 21: more than 1,048,576 live documents to merge.
+    TooLarge,
+    /// 22: a round is open already.
+    RoundOpen,
+    /// 23: stamps, segment numbers or round numbers would reach 2^62.
+    StampsUsedUp,
+    /// 24: the lane holds as many operations as it may.
+    LaneFull,
+    /// 25: the end of this lane isn't there.
+    LaneMissing(usize),
+    /// 26: no round is open, or the batch isn't of the open round.
+    StaleBatch,
+    /// 27: the operation of this stamp doesn't fit the writer's schema.
+    OtherSchema(u64),
+    /// 28: no segment of the snapshot has this number.
+    UnknownSegment(u64),
+    /// 29: this segment stands earlier in the same list.
+    SegmentTwice(u64),
+    /// 30: the list of segments is empty.
+    NoSegments,
+    /// 31: this source of a merge is gone, and the merge can't take its sources' place.
+    SourceGone(u64),
+    /// 32: the line isn't JSON, or isn't UTF-8, or nests more than 127 deep.
+    BadJson,
+    /// 33: the line is JSON and no command.
+    BadCommand,
+    /// 34: a command other than the schema before a schema was taken.
+    NoSchema,
+    /// 35: a second schema.
+    SchemaTwice,
+    /// 36: the line has more than 4,194,304 bytes before its end.
+    LineTooLong,
+    /// 37: the writer gives no further place for a reader.
+    NoReader,
+}
+
+impl From<AllocError> for Refusal {
+    ghost from_gives = { λ _ refusal. refusal ≡ Memory };
+
+    fn from(_refused: AllocError) -> Refusal {
+        Refusal::Memory
+    }
+}
+
+impl Refusal {
+    /// The number of the cause, 0 to 37.
+    pub fn number(&self) -> u8
+        ensures { result ≡ number_of self.now }
+    {
+        match self {
+            Refusal::Memory => 0,
+            Refusal::NoFields => 1,
+            Refusal::TooManyFields => 2,
+            Refusal::BadName => 3,
+            Refusal::NameTwice => 4,
+            Refusal::BadDefault => 5,
+            Refusal::NotAnObject => 6,
+            Refusal::UnknownField => 7,
+            Refusal::WrongKind => 8,
+            Refusal::TextTooLong => 9,
+            Refusal::KeywordTooLong => 10,
+            Refusal::BadLimit => 11,
+            Refusal::NotANumberField => 12,
+            Refusal::SegmentFull => 13,
+            Refusal::TooLong => 14,
+            Refusal::Syntax(_) => 15,
+            Refusal::TooDeep => 16,
+            Refusal::BadNumber => 17,
+            Refusal::RangeOnText => 18,
+            Refusal::NoDefaultField => 19,
+            Refusal::AllNegative => 20,
+            Refusal::TooLarge => 21,
+            Refusal::RoundOpen => 22,
+            Refusal::StampsUsedUp => 23,
+            Refusal::LaneFull => 24,
+            Refusal::LaneMissing(_) => 25,
+            Refusal::StaleBatch => 26,
+            Refusal::OtherSchema(_) => 27,
+            Refusal::UnknownSegment(_) => 28,
+            Refusal::SegmentTwice(_) => 29,
+            Refusal::NoSegments => 30,
+            Refusal::SourceGone(_) => 31,
+            Refusal::BadJson => 32,
+            Refusal::BadCommand => 33,
+            Refusal::NoSchema => 34,
+            Refusal::SchemaTwice => 35,
+            Refusal::LineTooLong => 36,
+            Refusal::NoReader => 37,
+        }
+    }
+
+    /// The name of the cause, without what it carries.
+    pub fn name(&self) -> &'static str
+        ensures { result.now ≡ name_of self.now }
+    {
+        match self {
+            Refusal::Memory => "Memory",
+            Refusal::NoFields => "NoFields",
+            Refusal::TooManyFields => "TooManyFields",
+            Refusal::BadName => "BadName",
+            Refusal::NameTwice => "NameTwice",
+            Refusal::BadDefault => "BadDefault",
+            Refusal::NotAnObject => "NotAnObject",
+            Refusal::UnknownField => "UnknownField",
+            Refusal::WrongKind => "WrongKind",
+            Refusal::TextTooLong => "TextTooLong",
+            Refusal::KeywordTooLong => "KeywordTooLong",
+            Refusal::BadLimit => "BadLimit",
+            Refusal::NotANumberField => "NotANumberField",
+            Refusal::SegmentFull => "SegmentFull",
+            Refusal::TooLong => "TooLong",
+            Refusal::Syntax(_) => "Syntax",
+            Refusal::TooDeep => "TooDeep",
+            Refusal::BadNumber => "BadNumber",
+            Refusal::RangeOnText => "RangeOnText",
+            Refusal::NoDefaultField => "NoDefaultField",
+            Refusal::AllNegative => "AllNegative",
+            Refusal::TooLarge => "TooLarge",
+            Refusal::RoundOpen => "RoundOpen",
+            Refusal::StampsUsedUp => "StampsUsedUp",
+            Refusal::LaneFull => "LaneFull",
+            Refusal::LaneMissing(_) => "LaneMissing",
+            Refusal::StaleBatch => "StaleBatch",
+            Refusal::OtherSchema(_) => "OtherSchema",
+            Refusal::UnknownSegment(_) => "UnknownSegment",
+            Refusal::SegmentTwice(_) => "SegmentTwice",
+            Refusal::NoSegments => "NoSegments",
+            Refusal::SourceGone(_) => "SourceGone",
+            Refusal::BadJson => "BadJson",
+            Refusal::BadCommand => "BadCommand",
+            Refusal::NoSchema => "NoSchema",
+            Refusal::SchemaTwice => "SchemaTwice",
+            Refusal::LineTooLong => "LineTooLong",
+            Refusal::NoReader => "NoReader",
+        }
+    }
+}
+
+impl<T: Drop> From<AllocFailed<T>> for Refusal {
+    ghost from_gives = { λ _ refusal. refusal ≡ Memory };
+
+    fn from(_: AllocFailed<T>) -> Self {
+        Refusal::Memory
+    }
+}

@@ -1,6 +1,0 @@
--- It owns nothing, so any thread may have it.
-use denote.Param.Send.{IsSend}
-use Rattle.fts_model.specs.contracts.ghosts.GhostBytes.{the_row}
-
-pub send : IsSend the_row
-send = record { owned = λ d vs. ((λ vss. (tt, tt)), tt); leaving = λ k f vs. tt }

@@ -1,6 +1,0 @@
-use Rattle.std.proofs.Common.{◌<◌}
-use Rattle.fts_model.proofs.OperationsAlive.{alive-pairs}
-use Rattle.fts_model.proofs.laws.alive_is_in_the_order_of_stamps.Goals as goal
-
-pub returns : goal.returns
-returns c = alive-pairs (λ s t. s < t)

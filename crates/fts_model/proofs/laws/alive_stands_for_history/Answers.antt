@@ -1,5 +1,0 @@
-use Rattle.fts_model.proofs.OperationsAlive.{alive-history}
-use Rattle.fts_model.proofs.laws.alive_stands_for_history.Goals as goal
-
-pub returns : goal.returns
-returns c = alive-history

@@ -1,5 +1,0 @@
-use Rattle.fts_model.proofs.OperationsByStamps.{Contains-alive}
-use Rattle.fts_model.proofs.laws.each_document_alive_was_added_and_not_struck.Goals as goal
-
-pub returns : goal.returns
-returns c = Contains-alive

@@ -1,5 +1,0 @@
-use Rattle.fts_model.proofs.AnswersGroups.{groups-IsGroups}
-use Rattle.fts_model.proofs.laws.groups_are_groups.Goals as goal
-
-pub returns : goal.returns
-returns c = groups-IsGroups

@@ -1,5 +1,0 @@
-use Rattle.fts_model.proofs.DocumentsNames.{read-NamesRise}
-use Rattle.fts_model.proofs.laws.members_stand_in_the_order_of_their_names.Goals as goal
-
-pub returns : goal.returns
-returns c = read-NamesRise

@@ -1,5 +1,0 @@
-use Rattle.fts_model.proofs.QueriesPhrases.{phrase_in-PhraseIn}
-use Rattle.fts_model.proofs.laws.phrase_stands_at_its_offsets.Goals as goal
-
-pub returns : goal.returns
-returns c = phrase_in-PhraseIn

@@ -1,5 +1,0 @@
-use Rattle.fts_model.proofs.AnswersTop.{IsTop-one}
-use Rattle.fts_model.proofs.laws.there_is_one_top_list.Goals as goal
-
-pub returns : goal.returns
-returns c = IsTop-one

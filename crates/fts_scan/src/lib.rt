@@ -1,0 +1,25 @@
+//! The plain, slow search, and the laws of what it finds.
+//!
+//! [`alive`] applies each operation, [`matches`] and [`answer`] look at each document, one after the
+//! other. Their contracts are the definitions of `fts_model`, so they are what every faster way is
+//! compared with. [`laws`] ties these definitions to each other.
+//!
+//! ```text
+//! let ops = vec![in alloc; Stamped { stamp: 1, value: Op::Add(document) }]?;
+//! let documents = fts_scan::alive(alloc, &schema, &ops)?;
+//! let request = Request::new(&schema, Some("price"), None)?;
+//! let answer = fts_scan::answer(alloc, &schema, &Query::All, &request, &documents)?;
+//! // answer.count is 1, and answer.groups is [(30, 1)].
+//! ```
+#![tactic(auto)]
+
+mod alive;
+mod answers;
+pub mod laws;
+mod matching;
+mod terms;
+
+pub use alive::alive;
+pub use answers::answer;
+pub use matching::matches;
+pub use terms::has;
