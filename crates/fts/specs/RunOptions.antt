@@ -12,6 +12,7 @@ use Rattle.clap.specs.Walk.{Row, Rule, Text, first_of, one_of}
 use Rattle.clap.specs.declared.builder.value_parser.ValueParser.{ValueParser}
 use Rattle.clap.specs.declared.builder.value_parser.ValueParser.TheVariants.{Names, Unsigned}
 use Rattle.clap.specs.declared.parser.matches.ArgMatches.{ArgMatches}
+use Rattle.fts_model.specs.Limits.{most_built}
 use Rattle.fts_model.specs.declared.cut.Cut.{Cut}
 use Rattle.fts_model.specs.declared.cut.Cut.TheVariants.{Runs, Deal}
 use Rattle.fts_script.specs.declared.options.Options.{Options}
@@ -86,7 +87,7 @@ abbrev pub cut_asked : Option ℕ → Option ℕ → Option Cut
 cut_asked (Some n) (Some m) = None
 cut_asked (Some n) None = Some (Runs n)
 cut_asked None (Some m) = Some (Deal m)
-cut_asked None None = Some (Runs 65536)
+cut_asked None None = Some (Runs most_built)
 
 abbrev pub cut_given : List Row → Option Cut
 cut_given rows = cut_asked (number_given (codes "runs") rows) (number_given (codes "deal") rows)

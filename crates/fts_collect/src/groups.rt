@@ -6,7 +6,6 @@ ghost use Rattle.fts_model.specs.Answers.{groups};
 ghost use Rattle.fts_collect.specs.Parts.{joined};
 ghost use Rattle.fts_collect.specs.Internals.Joining.{AreGroupsOf, NumbersRise, add_group};
 
-use crate::order::number_cmp;
 use crate::part::Part;
 use fts_model::Number;
 use std::alloc::{AllocError, Global};
@@ -26,7 +25,7 @@ fn merged(
     let mut j = 0;
     while i < front.len() && j < back.len() {
         let (a, b) = (front[i], back[j]);
-        match number_cmp(b.0, a.0) {
+        match b.0.compare(a.0) {
             Ordering::Less => {
                 list.push(b)?;
                 j += 1;

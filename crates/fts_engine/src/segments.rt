@@ -1,23 +1,21 @@
 // Merges of the segments of a writer.
 ghost use Rattle.std.specs.Prelude.{◌≡◌, ◌+◌, ◌^◌, ◌<◌, ◌≤◌, ◌⊎◌, length};
 ghost use Rattle.std.specs.Prelude.{map, sum_by, MatchOption, IfOk, IfErr, OnOk, OnErr};
+ghost use Rattle.fts_model.specs.Limits.{most_merged};
 ghost use Rattle.fts_snapshots.specs.Entries.{live_count};
 ghost use Rattle.fts_snapshots.specs.Snapshots.{content_of};
 ghost use Rattle.fts_engine.specs.WriterIndexes.{Merges};
 
 use fts_index::{SegmentInfo, Writer};
-use fts_model::Refusal;
+use fts_model::{MOST_MERGED, Refusal};
 use fts_script::Merge;
 use std::alloc::{AllocError, Global};
 use std::sync::Wait;
 
-/// The most documents that are merged.
-const MOST_MERGED: usize = 1_048_576;
-
 /// How many live documents segments have together, unless they are over 1,048,576.
 fn live_in(segments: &[SegmentInfo]) -> Option<usize>
-    ensures { MatchOption result (1048576 < sum_by (λ segment. segment.live) segments.now)
-        (λ live. (live ≡ sum_by (λ segment. segment.live) segments.now) × (live ≤ 1048576)) }
+    ensures { MatchOption result (most_merged < sum_by (λ segment. segment.live) segments.now)
+        (λ live. (live ≡ sum_by (λ segment. segment.live) segments.now) × (live ≤ most_merged)) }
 {
     let mut live = 0;
     for segment in segments {
@@ -44,10 +42,10 @@ pub fn merge_all<R: Wait>(rt: &R, alloc: Global, writer: &mut Writer) -> Result<
     requires room { writer.old.front.snapshot.next_id ≤ 2 ^ 62 }
     ensures merges { OnOk result (Merges 1 writer.old writer.new) }
     ensures count { IfOk result (λ n. n ≡ length (content_of writer.old.front.snapshot)) }
-    ensures few { IfOk result (λ n. n ≤ 1048576) }
+    ensures few { IfOk result (λ n. n ≤ most_merged) }
     ensures same { OnErr result (writer.new ≡ writer.old) }
     ensures refused { IfErr result (λ e. (e ≡ Refusal.Memory) ⊎ ((e ≡ Refusal.TooLarge)
-        × (1048576 < length (content_of writer.old.front.snapshot)))) }
+        × (most_merged < length (content_of writer.old.front.snapshot)))) }
 {
     let searcher = writer.searcher()?;
     if searcher.snapshot().entries().is_empty() {

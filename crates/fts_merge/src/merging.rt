@@ -2,6 +2,7 @@
 ghost use Rattle.std.specs.Prelude.{◌≡◌, ◌≢◌, ◌↔◌, ◌<◌, ◌≤◌, ◌+◌, ◌∷◌, ◌++◌, true, [], Some, Err, All, IfOk, IfErr, OnOk, length, slice_get, nat_lt};
 ghost use Rattle.fts_base.specs.declared.refusal.Refusal.TheVariants.{Memory, TooLarge};
 ghost use Rattle.fts_model.specs.declared.operation.Stamped.{Stamped};
+ghost use Rattle.fts_model.specs.Limits.{most_merged};
 ghost use Rattle.fts_model.specs.Documents.{DocumentValue};
 ghost use Rattle.fts_segment.specs.Segments.{AllFit};
 ghost use Rattle.fts_segment.specs.Contents.{content_of};
@@ -10,18 +11,15 @@ ghost use Rattle.fts_merge.specs.Merges.{HasBits, live_count, contents, origins_
 use crate::merged::Merged;
 use crate::origin::Origin;
 use crate::source::Source;
-use fts_model::Refusal;
+use fts_model::{MOST_MERGED, Refusal};
 use fts_segment::{Builder, Segment};
 use std::alloc::Global;
 
-/// The most documents of a merged segment.
-const MOST_DOCUMENTS: usize = 1_048_576;
-
 /// Whether there are more live documents than a merged segment may have.
 fn is_too_large(sources: &[Source<'_>]) -> bool
-    ensures { result ≡ nat_lt 1048576 (live_count sources.now) }
+    ensures { result ≡ nat_lt most_merged (live_count sources.now) }
 {
-    let mut room = MOST_DOCUMENTS;
+    let mut room = MOST_MERGED;
     for source in sources {
         let live = source.live().count_ones();
         if live > room {
@@ -40,7 +38,7 @@ fn take_document(
     segment: &Segment,
 ) -> Result<(), Refusal>
     requires merging { builder.old.merging ≡ true }
-    requires room { length builder.old.segment.documents < 1048576 }
+    requires room { length builder.old.segment.documents < most_merged }
     requires within { origin.document < length segment.now.documents }
     requires fit { AllFit builder.old.segment.schema segment.now.documents }
     ensures merging { builder.new.merging ≡ true }
@@ -67,7 +65,7 @@ fn take_live(
     requires merging { builder.old.merging ≡ true }
     requires schema { source.now.segment.schema ≡ builder.old.segment.schema }
     requires room { length builder.old.segment.documents
-        + length (content_of source.now.segment source.now.live) ≤ 1048576 }
+        + length (content_of source.now.segment source.now.live) ≤ most_merged }
     ensures merging { builder.new.merging ≡ true }
     ensures schema { builder.new.segment.schema ≡ builder.old.segment.schema }
     ensures documents { OnOk result (builder.new.segment.documents
@@ -101,7 +99,7 @@ fn take_all(
     requires schemas { All (λ source. source.segment.schema ≡ builder.old.segment.schema) sources.now }
     requires empty { builder.old.segment.documents ≡ [] }
     requires untold { origins.old.items ≡ [] }
-    requires room { live_count sources.now ≤ 1048576 }
+    requires room { live_count sources.now ≤ most_merged }
     ensures schema { builder.new.segment.schema ≡ builder.old.segment.schema }
     ensures documents { OnOk result (builder.new.segment.documents ≡ contents sources.now) }
     ensures origins { OnOk result (origins.new.items ≡ origins_from 0 sources.now) }
@@ -122,7 +120,7 @@ pub fn merge(alloc: Global, sources: &[Source<'_>]) -> Result<Merged, Refusal>
     requires some { 0 < length sources.now }
     requires schemas { AreOfOneSchema sources.now }
     ensures ok { IfOk result (λ merged. merged ≡ merge_of sources.now) }
-    ensures large { (result ≡ Err TooLarge) ↔ (1048576 < live_count sources.now) }
+    ensures large { (result ≡ Err TooLarge) ↔ (most_merged < live_count sources.now) }
     ensures other { IfErr result (λ e. e ≢ TooLarge → e ≡ Memory) }
 {
     if is_too_large(sources) {

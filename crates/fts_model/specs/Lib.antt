@@ -1,3 +1,4 @@
+pub mod Limits
 pub mod Schemas
 pub mod Documents
 pub mod Operations

@@ -10,10 +10,10 @@ ghost use Rattle.fts_model.specs.Documents.{value_in, value_at, members_fault, m
 ghost use Rattle.fts_model.specs.Shorts.{IsShort};
 ghost use Rattle.fts_base.specs.declared.refusal.Refusal.TheVariants.{Memory};
 
-use fts_base::Refusal;
 use crate::schema::{Field, Kind, Schema};
 use crate::text::Text;
 use crate::value::{FieldValue, Number};
+use fts_base::Refusal;
 use serde_json::{Map, Value};
 use std::alloc::{AllocError, Global};
 use std::marker::Model;

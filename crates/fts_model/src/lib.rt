@@ -22,6 +22,7 @@
 mod answer;
 mod cut;
 mod document;
+mod limits;
 mod operation;
 mod query;
 mod schema;
@@ -32,6 +33,7 @@ pub use answer::{Answer, Hit};
 pub use cut::Cut;
 pub use document::Document;
 pub use fts_base::Refusal;
+pub use limits::{MOST_BUILT, MOST_MERGED};
 pub use operation::{Op, Stamp, Stamped, Term};
 pub use query::{Order, Query, Request, Top};
 pub use schema::{Field, Kind, Schema};

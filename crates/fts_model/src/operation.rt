@@ -5,10 +5,10 @@ ghost use Rattle.fts_base.specs.Results.{Gives};
 ghost use Rattle.fts_model.specs.Operations.{kind_at, some_value_in, term_value};
 
 use crate::document::{Document, fault_of_value, value_of};
-use fts_base::Refusal;
 use crate::schema::{Kind, Schema};
 use crate::text::Text;
 use crate::value::FieldValue;
+use fts_base::Refusal;
 use serde_json::Value;
 use std::alloc::Global;
 

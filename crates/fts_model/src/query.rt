@@ -2,14 +2,16 @@
 ghost use Rattle.std.specs.Prelude.{◌≡◌, option_map, option_copied};
 ghost use Rattle.std.specs.List.{list_all};
 ghost use Rattle.fts_base.specs.Results.{Gives};
+ghost use Rattle.fts_model.specs.Answers.{cmp_by};
 ghost use Rattle.fts_model.specs.QueryValues.{query_value};
 ghost use Rattle.fts_model.specs.Queries.{query_fits, is_bound_of, is_range_of, holds_phrases, is_number_field, is_limit, number_field_named, groups_of, top_of};
 
 use crate::operation::{Term, kind_at};
-use fts_base::Refusal;
 use crate::schema::{Kind, Schema};
 use crate::text::Text;
-use crate::value::FieldValue;
+use crate::value::{FieldValue, Number};
+use fts_base::Refusal;
+use std::cmp::Ordering;
 use std::ops::Bound;
 
 /// Whether fields of this kind hold phrases.
@@ -113,6 +115,18 @@ fn all_fit(queries: &[Query], schema: &Schema) -> bool
 pub enum Order {
     Rising,
     Falling,
+}
+
+impl Order {
+    /// How a number stands to another in a top list.
+    pub fn compare(self, a: Number, b: Number) -> Ordering
+        ensures { result ≡ cmp_by self a b }
+    {
+        match self {
+            Order::Rising => a.compare(b),
+            Order::Falling => b.compare(a),
+        }
+    }
 }
 
 /// Which hits a top list holds.

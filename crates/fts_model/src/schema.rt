@@ -6,9 +6,9 @@ ghost use Rattle.fts_base.specs.declared.refusal.Refusal.TheVariants.{Memory};
 ghost use Rattle.std.specs.Arc.{arc_value};
 ghost use Rattle.std.specs.List.{list_all, list_any};
 
-use fts_base::Refusal;
 use crate::text::Text;
 use crate::value::{FieldValue, Number};
+use fts_base::Refusal;
 use std::alloc::{AllocError, Global};
 use std::marker::Model;
 use std::sync::Arc;

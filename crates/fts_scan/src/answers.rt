@@ -4,11 +4,13 @@ ghost use Rattle.std.specs.Prelude.{◌≡◌, ◌<◌, ◌≤◌, ◌+◌, ◌^
 ghost use Rattle.fts_base.specs.Results.{Gives};
 ghost use Rattle.fts_model.specs.QueryValues.{query_value};
 ghost use Rattle.fts_model.specs.Queries.{hits};
-ghost use Rattle.fts_model.specs.Answers.{answer, number_in_field, number_cmp, count_number, groups, cmp_by, comes_before, hit_in, put_hit, top};
+ghost use Rattle.fts_model.specs.Answers.{answer, number_in_field, count_number, groups, comes_before, hit_in, put_hit, top};
 ghost use Rattle.fts_scan.specs.Scans.{hits_counted, group_place, is_group_at, hit_place};
 
 use crate::matching::query_matches;
-use fts_model::{Answer, Document, FieldValue, Hit, Number, Order, Query, Refusal, Request, Schema, Stamped, Top};
+use fts_model::{
+    Answer, Document, FieldValue, Hit, Number, Order, Query, Refusal, Request, Schema, Stamped, Top,
+};
 use std::alloc::{AllocError, Global};
 use std::cmp::Ordering;
 
@@ -70,24 +72,12 @@ fn number_in_field(document: &Document, field: usize) -> Option<Number>
     }
 }
 
-/// How two numbers stand to each other.
-fn number_cmp(a: Number, b: Number) -> Ordering
-    ensures { result ≡ number_cmp a b }
-{
-    match (a, b) {
-        (Number::U64(n), Number::U64(m)) => n.cmp(&m),
-        (Number::U64(_), Number::I64(_)) => Ordering::Less,
-        (Number::I64(_), Number::U64(_)) => Ordering::Greater,
-        (Number::I64(n), Number::I64(m)) => n.cmp(&m),
-    }
-}
-
 /// How many groups are below a number, up to the first that is not.
 fn group_place(groups: &[(Number, u64)], number: Number) -> usize
     ensures { result ≡ group_place groups.now number }
 {
     for (i, group) in groups.iter().enumerate() {
-        if number_cmp(number, group.0) != Ordering::Greater {
+        if number.compare(group.0) != Ordering::Greater {
             return i;
         }
     }
@@ -100,7 +90,7 @@ fn is_group_at(groups: &[(Number, u64)], place: usize, number: Number) -> bool
 {
     match groups.get(place) {
         None => false,
-        Some(group) => number_cmp(number, group.0) == Ordering::Equal,
+        Some(group) => number.compare(group.0) == Ordering::Equal,
     }
 }
 
@@ -150,21 +140,11 @@ fn groups(
     Ok(groups)
 }
 
-/// How two numbers stand in a top list.
-fn cmp_by(order: Order, a: Number, b: Number) -> Ordering
-    ensures { result ≡ cmp_by order a b }
-{
-    match order {
-        Order::Rising => number_cmp(a, b),
-        Order::Falling => number_cmp(b, a),
-    }
-}
-
 /// Whether one hit stands before another in a top list.
 fn comes_before(order: Order, a: &Hit, b: &Hit) -> bool
     ensures { result ≡ comes_before order a.now b.now }
 {
-    match cmp_by(order, a.value, b.value) {
+    match order.compare(a.value, b.value) {
         Ordering::Less => true,
         Ordering::Equal => a.stamp < b.stamp,
         Ordering::Greater => false,

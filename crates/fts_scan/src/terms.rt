@@ -10,7 +10,12 @@ use fts_text::{Token, Tokens, fold_into};
 use std::alloc::{AllocError, Global};
 
 /// Whether the token at a place of a text is this one.
-pub(crate) fn is_token(text: &str, place: Token, token: &str, scratch: &mut String) -> Result<bool, AllocError>
+pub(crate) fn is_token(
+    text: &str,
+    place: Token,
+    token: &str,
+    scratch: &mut String,
+) -> Result<bool, AllocError>
     requires { IsPlaceIn text.now place }
     ensures { IfOk result (λ same. same ≡ bytes_eq (token_at text.now place).1 token.now) }
 {

@@ -19,7 +19,8 @@ use Rattle.fts_query.specs.Answers.{answer as query_of}
 use Rattle.fts_script.specs.Text.{lines_of, is_blank}
 use Rattle.fts_script.specs.Commands.{Command, Schema, Add, Delete, DeleteAll, Commit, Rollback, Merge, Find, Search, command}
 use Rattle.fts_script.specs.Carriers.{Carrier}
-use Rattle.fts_script.specs.Steps.{most_waiting, most_merged, next_stamp, submit, commit, rollback, merge, search_commit}
+use Rattle.fts_model.specs.Limits.{most_merged}
+use Rattle.fts_script.specs.Steps.{most_waiting, next_stamp, submit, commit, rollback, merge, search_commit}
 use Rattle.fts_script.specs.Replies.{number_reply, answer_data, Outcome, replied, answer_search, execute, execute_line, index_after, text_of, Carried, carried_over, reply_on, replies_on, output_on}
 
 -- what one carrier holds stands, by a map, for what the other does

@@ -2,6 +2,7 @@
 use Rattle.std.specs.Prelude.{◌≡◌, ℕ, ◌+◌, ◌⊎◌, nat_lt, length, Result, Ok, Err, if◌then◌else◌}
 use Rattle.fts_base.specs.declared.refusal.Refusal.{Refusal}
 use Rattle.fts_base.specs.declared.refusal.Refusal.TheVariants.{Memory, TooLarge, LaneFull}
+use Rattle.fts_model.specs.Limits.{most_merged}
 use Rattle.fts_model.specs.declared.operation.Op.{Op}
 use Rattle.fts_model.specs.declared.query.Request.{Request}
 use Rattle.fts_model.specs.QueryValues.{QueryValue}
@@ -11,10 +12,6 @@ use Rattle.fts_script.specs.Carriers.{Carrier}
 -- the most operations that wait for a commit
 abbrev pub most_waiting : ℕ
 most_waiting = 1000000
-
--- the most documents that are merged
-abbrev pub most_merged : ℕ
-most_merged = 1048576
 
 -- the stamp of the next operation or commit
 abbrev pub next_stamp : {S : Type 0} → Carrier S → S → ℕ

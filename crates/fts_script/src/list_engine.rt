@@ -7,16 +7,15 @@ ghost use Rattle.fts_script.specs.Operations.{is_add};
 
 use crate::engine::Engine;
 use crate::options::Options;
-use fts_model::{Answer, Document, Op, Query, Refusal, Request, Schema, Stamp, Stamped};
+use fts_model::{
+    Answer, Document, MOST_MERGED, Op, Query, Refusal, Request, Schema, Stamp, Stamped,
+};
 use std::alloc::{AllocError, Global};
 use std::sync::Wait;
 use std::thread::Threads;
 
 /// The most operations that wait for a commit.
 const MOST_PENDING: usize = 1_000_000;
-
-/// The most documents that are merged.
-const MOST_MERGED: usize = 1_048_576;
 
 /// The documents of the last commit and the operations since, both in the order of their stamps.
 #[derive(Drop)]

@@ -3,6 +3,7 @@ ghost use Rattle.std.specs.Prelude.{◌≡◌, ◌≤◌, IsTrue, IsNone, IfSome
 ghost use Rattle.fts_script.specs.Limits.{is_cut};
 
 pub use fts_model::Cut;
+use fts_model::MOST_BUILT;
 
 /// How many workers build segments, and when segments end and merge.
 #[derive(Clone, Copy, Debug, Drop, PartialEq, Eq)]
@@ -27,16 +28,15 @@ pub enum Merge {
 }
 
 impl Options {
-    /// The options of these parts, if there are 1 to 64 workers, and a segment takes 1 to 65,536 documents in a row or
-    /// 1
-    /// to 64 segments take documents in turn.
+    /// The options of these parts, if there are 1 to 64 workers, and a segment takes 1 to 65,536
+    /// documents in a row or 1 to 64 segments take documents in turn.
     pub fn new(workers: usize, cut: Cut, merge: Merge) -> Option<Options>
         ensures some { IfSome result (λ options.
             (options.workers ≡ workers) × (options.cut ≡ cut) × (options.merge ≡ merge)) }
         ensures none { IsNone result → IsTrue (is_cut cut) → 1 ≤ workers → workers ≤ 64 → ⊥ }
     {
         let cut_in_range = match cut {
-            Cut::Runs(documents) => 1 <= documents && documents <= 65_536,
+            Cut::Runs(documents) => 1 <= documents && documents <= MOST_BUILT,
             Cut::Deal(segments) => 1 <= segments && segments <= 64,
         };
         if cut_in_range && 1 <= workers && workers <= 64 {
@@ -60,7 +60,7 @@ impl Default for Options {
     fn default() -> Self {
         Options {
             workers: 1,
-            cut: Cut::Runs(65_536),
+            cut: Cut::Runs(MOST_BUILT),
             merge: Merge::Off,
         }
     }

@@ -1,18 +1,16 @@
 // Takes documents one after the other, and makes a segment of them.
 ghost use Rattle.std.specs.Prelude.{◌≡◌, ◌↔◌, ◌≢◌, ◌<◌, ◌≤◌, true, false, Err, length, IfOk, IfErr, OnOk, OnErr, ◌^◌};
+ghost use Rattle.fts_model.specs.Limits.{most_built, most_merged};
 ghost use Rattle.fts_model.specs.Documents.{fits};
 ghost use Rattle.fts_segment.specs.FieldIndexes.{AreIndexes};
 ghost use Rattle.fts_base.specs.declared.refusal.Refusal.TheVariants.{Memory, SegmentFull};
 
 use crate::field_index::FieldIndex;
 use crate::segment::{Segment, Stored};
-use fts_model::{Document, Refusal, Schema, Stamp, Stamped};
+use fts_model::{Document, MOST_BUILT, Refusal, Schema, Stamp, Stamped};
 use std::alloc::{AllocError, Global};
 use std::marker::Model;
 use std::sync::Arc;
-
-/// The most documents of a segment that is built of new ones.
-const MOST_DOCUMENTS: usize = 65_536;
 
 /// Takes the documents of a segment to be. Contracts see these with their schema, and whether it serves a merge.
 ///
@@ -32,7 +30,7 @@ impl Model for Builder {
 
     ghost view = { λ b. record { segment = record { schema = b.schema; documents = b.documents.items }; merging = b.merging } };
 
-    ghost invariant = { λ b. (length b.documents.items ≤ 1048576) × AllFit b.schema b.documents.items
+    ghost invariant = { λ b. (length b.documents.items ≤ most_merged) × AllFit b.schema b.documents.items
         × AreDocuments b.documents.items };
 }
 
@@ -82,16 +80,16 @@ impl Builder {
     /// Takes a document that fits the schema (`Document::fits`), with its stamp. `SegmentFull` where there are 65,536 already and it
     /// serves no merge.
     pub fn add(&mut self, stamp: Stamp, document: &Document) -> Result<(), Refusal>
-        requires room { self.old.merging ≡ true → length self.old.segment.documents < 1048576 }
+        requires room { self.old.merging ≡ true → length self.old.segment.documents < most_merged }
         requires fits { fits self.old.segment.schema document.now ≡ true }
         ensures ok { OnOk result (self.new
             ≡ record self.old { segment = with_document self.old.segment stamp document.now }) }
         ensures full { (result ≡ Err SegmentFull) ↔ (self.old.merging ≡ false)
-            × (65536 ≤ length self.old.segment.documents) }
+            × (most_built ≤ length self.old.segment.documents) }
         ensures other { IfErr result (λ e. e ≢ SegmentFull → e ≡ Memory) }
         ensures err { OnErr result (self.new ≡ self.old) }
     {
-        if !self.merging && self.documents.len() >= MOST_DOCUMENTS {
+        if !self.merging && self.documents.len() >= MOST_BUILT {
             return Err(Refusal::SegmentFull);
         }
         // Shows the proof that its values are such as its fields can have.

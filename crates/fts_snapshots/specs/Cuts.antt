@@ -1,11 +1,8 @@
 -- How the adds of a batch are cut into segments.
 use Rattle.std.specs.Prelude.{ℕ, zero, suc, ◌+◌, ◌*◌, ◌/◌, ◌%◌, ◌≤◌, List, [], ◌∷◌, ◌++◌}
+use Rattle.fts_model.specs.Limits.{most_built}
 use Rattle.fts_model.specs.declared.cut.Cut.{Cut}
 use Rattle.fts_model.specs.declared.cut.Cut.TheVariants.{Runs, Deal}
-
--- the most documents of a segment that is built of adds
-abbrev pub most_built : ℕ
-most_built = 65536
 
 -- the limits of a cut
 abbrev pub IsCut : Cut → Type 0

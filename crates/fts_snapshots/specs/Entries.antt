@@ -2,6 +2,7 @@
 use Rattle.std.specs.Prelude.{◌≡◌, ◌≤◌, ℕ, Bool, List, length, count_by, flat_map}
 use Rattle.std.specs.List.{list_any}
 use Rattle.fts_model.specs.declared.operation.Stamped.{Stamped}
+use Rattle.fts_model.specs.Limits.{most_merged}
 use Rattle.fts_model.specs.Documents.{DocumentValue}
 use Rattle.fts_segment.specs.Segments.{SegmentValue}
 use Rattle.fts_segment.specs.Contents.{content_of}
@@ -13,14 +14,10 @@ pub record EntryValue : Type 0 where
   pub segment : SegmentValue
   pub live : List Bool
 
--- the most documents of a segment
-abbrev pub most_documents : ℕ
-most_documents = 1048576
-
 -- what holds of every segment of a snapshot: it has a bit a document, and not too many documents
 pub record IsEntry (entry : EntryValue) : Type 0 where
   pub bits : length entry.live ≡ length entry.segment.documents
-  pub few : length entry.segment.documents ≤ most_documents
+  pub few : length entry.segment.documents ≤ most_merged
 
 -- the live documents of a segment, by their numbers
 abbrev pub live_in : EntryValue → List (Stamped DocumentValue)

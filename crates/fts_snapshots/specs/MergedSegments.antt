@@ -1,7 +1,8 @@
 -- Merged segments that remember the segments that they were made of, and the jobs that make them.
 use Rattle.std.specs.Prelude.{◌≡◌, ◌≢◌, ◌<◌, ◌≤◌, ℕ, List, map, length, slice_index, All, AllPairs}
 use Rattle.fts_merge.specs.Merges.{MergedValue, IsMerged, AreOfOneSchema, merge_of}
-use Rattle.fts_snapshots.specs.Entries.{EntryValue, most_documents, IsEntry}
+use Rattle.fts_model.specs.Limits.{most_merged}
+use Rattle.fts_snapshots.specs.Entries.{EntryValue, IsEntry}
 use Rattle.fts_snapshots.specs.Sources.{source_of}
 
 -- the numbers of segments
@@ -31,7 +32,7 @@ pub record IsMergedSegment (m : MergedSegmentValue) : Type 0 where
   pub sources : m.merged.sources ≡ length m.ids
   pub some : 0 < length m.ids
   pub different : AllPairs (λ a b. a ≢ b) m.ids
-  pub few : length m.merged.segment.documents ≤ most_documents
+  pub few : length m.merged.segment.documents ≤ most_merged
 
 -- what a job makes of its segments
 abbrev pub merged_of : List EntryValue → MergedSegmentValue

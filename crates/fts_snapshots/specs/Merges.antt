@@ -3,7 +3,8 @@ use Rattle.std.specs.Prelude.{ℕ, ◌==◌, nat_lt, Bool, not, Option, Some, No
 use Rattle.std.specs.List.{list_any}
 use Rattle.fts_base.specs.declared.refusal.Refusal.{Refusal}
 use Rattle.fts_base.specs.declared.refusal.Refusal.TheVariants.{NoSegments, UnknownSegment, SegmentTwice, TooLarge}
-use Rattle.fts_snapshots.specs.Entries.{EntryValue, most_documents}
+use Rattle.fts_model.specs.Limits.{most_merged}
+use Rattle.fts_snapshots.specs.Entries.{EntryValue}
 
 -- whether a number is among these
 abbrev pub is_among : List ℕ → ℕ → Bool
@@ -42,4 +43,4 @@ names_fault entries (id ∷ ids) = fault_behind entries [] (id ∷ ids)
 
 -- why segments can't become one that have so many live documents together
 abbrev pub size_fault : ℕ → Option Refusal
-size_fault live = if nat_lt most_documents live then Some TooLarge else None
+size_fault live = if nat_lt most_merged live then Some TooLarge else None

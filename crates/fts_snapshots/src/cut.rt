@@ -2,7 +2,7 @@
 ghost use Rattle.std.specs.Prelude.{◌≡◌};
 ghost use Rattle.fts_snapshots.specs.Cuts.{IsCut, builders, capacity, place_of};
 
-use fts_model::Cut;
+use fts_model::{Cut, MOST_BUILT};
 
 /// How many builders take the adds in turn.
 fn builders(cut: Cut) -> usize
@@ -13,9 +13,6 @@ fn builders(cut: Cut) -> usize
         Cut::Deal(builders) => builders,
     }
 }
-
-/// The most documents of a segment that is built of adds.
-const MOST_BUILT: usize = 65_536;
 
 /// How many adds fill a segment.
 fn capacity(cut: Cut) -> usize

@@ -40,7 +40,8 @@ pub struct SegmentInfo {
 
 impl Entry {
     ghost use Rattle.std.specs.Prelude.{◌≡◌, ◌≤◌, IfOk};
-    ghost use Rattle.fts_snapshots.specs.Entries.{most_documents, IsEntry, live_count, has_live};
+    ghost use Rattle.fts_snapshots.specs.Entries.{IsEntry, live_count, has_live};
+    ghost use Rattle.fts_model.specs.Limits.{most_merged};
     ghost use Rattle.fts_snapshots.specs.Infos.{info_of};
     ghost use Rattle.fts_snapshots.specs.Following.{is_set};
 
@@ -84,7 +85,7 @@ impl Entry {
     /// How many documents are live.
     pub fn live_count(&self) -> usize
         ensures count { result ≡ live_count self.now }
-        ensures few { result ≤ most_documents }
+        ensures few { result ≤ most_merged }
     {
         self.live.count_ones()
     }

@@ -1,7 +1,8 @@
 // The adds of a batch in groups, one for each new segment.
 ghost use Rattle.std.specs.Prelude.{◌≡◌, ◌<◌, ◌≤◌, ◌+◌, ◌^◌, ◌++◌, ◌∷◌, [], All, IfOk, OnOk, length};
 ghost use Rattle.fts_model.specs.Operations.{added_by, added};
-ghost use Rattle.fts_snapshots.specs.Cuts.{most_built, IsCut, place_of, put_into, dealt_from, groups_of};
+ghost use Rattle.fts_model.specs.Limits.{most_built};
+ghost use Rattle.fts_snapshots.specs.Cuts.{IsCut, place_of, put_into, dealt_from, groups_of};
 
 use crate::cut::place;
 use fts_model::{Cut, Document, Op, Stamp, Stamped};
@@ -16,7 +17,7 @@ pub(crate) struct Group {
 
 impl Model for Group {
     ghost use Rattle.std.specs.Prelude.{List, ◌≤◌, length};
-    ghost use Rattle.fts_snapshots.specs.Cuts.{most_built};
+    ghost use Rattle.fts_model.specs.Limits.{most_built};
     ghost use Rattle.fts_model.specs.Documents.{DocumentValue};
     ghost use Rattle.fts_model.specs.declared.operation.Stamped.{Stamped};
 

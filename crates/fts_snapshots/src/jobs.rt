@@ -2,7 +2,7 @@
 ghost use Rattle.std.specs.Prelude.{◌≡◌, ◌≤◌, ◌+◌, ◌++◌, ◌<◌, ◌^◌, true, map, length, IfOk, OnOk, IsOkUnless, All};
 ghost use Rattle.fts_model.specs.Operations.{survives};
 ghost use Rattle.fts_segment.specs.Segments.{AllFit};
-ghost use Rattle.fts_snapshots.specs.Cuts.{most_built};
+ghost use Rattle.fts_model.specs.Limits.{most_built};
 ghost use Rattle.fts_snapshots.specs.Commits.{struck, fresh, fresh_from};
 ghost use Rattle.fts_snapshots.specs.Jobs.{entry_of, AreAnswers};
 

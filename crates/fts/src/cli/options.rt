@@ -6,6 +6,7 @@ ghost use Rattle.fts.specs.RunOptions.{AreGiven, AreInRange, IsNumber, cut_asked
 ghost use Rattle.fts.specs.RunOptions.{merge_asked, number_given};
 
 use clap::ArgMatches;
+use fts_model::MOST_BUILT;
 use fts_script::{Cut, Merge, Options};
 
 /// The number behind an option, if it is given.
@@ -24,7 +25,7 @@ fn cut(runs: Option<usize>, deal: Option<usize>) -> Option<Cut>
         (Some(_), Some(_)) => None,
         (Some(documents), None) => Some(Cut::Runs(documents)),
         (None, Some(segments)) => Some(Cut::Deal(segments)),
-        (None, None) => Some(Cut::Runs(65_536)),
+        (None, None) => Some(Cut::Runs(MOST_BUILT)),
     }
 }
 

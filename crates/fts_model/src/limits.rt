@@ -1,0 +1,7 @@
+// How many documents a segment has at most.
+
+/// The most documents of a segment that is built of adds.
+pub const MOST_BUILT: usize = 65_536;
+
+/// The most documents of a merged segment.
+pub const MOST_MERGED: usize = 1_048_576;
