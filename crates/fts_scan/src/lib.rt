@@ -13,13 +13,13 @@
 //! ```
 #![tactic(auto)]
 
-mod alive;
 mod answers;
 pub mod laws;
 mod matching;
+mod operations;
 mod terms;
 
-pub use alive::alive;
 pub use answers::answer;
 pub use matching::matches;
+pub use operations::alive;
 pub use terms::has;

@@ -5,7 +5,7 @@ use Rattle.fts_model.specs.declared.operation.Stamped.{Stamped}
 use Rattle.fts_model.specs.Documents.{DocumentValue}
 use Rattle.fts_model.specs.Operations.{alive, strikes}
 use Rattle.fts_model.proofs.OperationsAlive.{alive-one}
-use Rattle.fts_scan.proofs.alive.alive.Goals as goal
+use Rattle.fts_scan.proofs.operations.alive.Goals as goal
 
 pub loop-op-preserved : goal.loop-op-preserved
 loop-op-preserved c =

@@ -1,7 +1,7 @@
 use Rattle.std.proofs.Common.{sym, ◌∙◌, ◌++◌, ◌∷◌, [], ap}
 use Rattle.fts_model.specs.Documents.{DocumentValue}
 use Rattle.fts_model.proofs.OperationsAlive.{alive-add, alive-delete_all}
-use Rattle.fts_scan.proofs.alive.after.Goals as goal
+use Rattle.fts_scan.proofs.operations.after.Goals as goal
 
 pub returns-in_ok-push-in-Add : goal.returns-in_ok-push-in-Add
 returns-in_ok-push-in-Add c =
