@@ -24,6 +24,7 @@ pub struct Builder {
 
 impl Model for Builder {
     ghost use Rattle.std.specs.Prelude.{◌≤◌, length};
+    ghost use Rattle.fts_model.specs.Limits.{most_merged};
     ghost use Rattle.fts_segment.specs.Segments.{BuilderValue, AllFit, AreDocuments};
 
     ghost Value = { BuilderValue };
