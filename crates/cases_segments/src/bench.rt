@@ -5,8 +5,8 @@ use cases::{
     Trouble, list, nonempty, number, numbers, only, only_in_case, optional_flag, optional_list,
     schema_of,
 };
+use fts_bits::Bits;
 use fts_model::{Document, Schema};
-use fts_pack::Bits;
 use fts_segment::{Builder, Segment};
 use serde_json::Value;
 use std::alloc::Global;

@@ -2,8 +2,8 @@
 use cases::{
     Trouble, entry, fields_of, list, nonempty, number, op_of, schema_of, stamps, term_of, text,
 };
-use fts_scan::{alive, has};
 use fts_model::{Document, Op, Schema, Stamped};
+use fts_scan::{alive, has};
 use serde_json::{Value, json};
 use std::alloc::Global;
 

@@ -2,9 +2,9 @@
 use crate::bench::Bench;
 use crate::indexed::postings;
 use cases::{Trouble, documents, entry, list, number, numbers, only, op_of, stamps};
+use fts_bits::Bits;
 use fts_merge::{Merged, Source, merge, plan, strike};
 use fts_model::{Op, Schema, Stamped};
-use fts_pack::Bits;
 use fts_segment::Segment;
 use serde_json::Value;
 use std::alloc::{AllocError, Global};

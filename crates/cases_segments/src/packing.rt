@@ -1,6 +1,8 @@
 // Cases of packed numbers: `block`, `block_words`, `numbers`, `column_of`, `column_words`, `bits` and `signed`.
 use cases::{Trouble, documents, entry, list, numbers, size, some_number, stamps};
-use fts_pack::{Bits, Block, Column, Numbers, i64_to_u64, u64_to_i64};
+use fts_bits::{Bits, i64_to_u64, u64_to_i64};
+use fts_column::Column;
+use fts_pack::{Block, Numbers};
 use serde_json::{Value, json};
 use std::alloc::{AllocError, Global};
 

@@ -1,9 +1,9 @@
 // Cases of queries without a segment: `parse`, `syntax_byte`, `scan`, `pattern` and `request`.
 use crate::texts::text_of;
 use cases::{Trouble, answer_value, nonempty, request_of, schema_of};
-use fts_scan::answer;
 use fts_model::{Document, Query, Refusal, Schema, Stamped, Text};
 use fts_query::parse;
+use fts_scan::answer;
 use serde_json::Value;
 use std::alloc::Global;
 

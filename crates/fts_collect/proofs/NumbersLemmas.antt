@@ -8,7 +8,7 @@ use Rattle.std.specs.declared.cmp.Ordering.TheVariants.{Less, Equal, Greater}
 use Rattle.fts_model.specs.declared.schema.Kind.{Kind}
 use Rattle.fts_model.specs.declared.schema.Kind.TheVariants as kinds
 use Rattle.fts_model.specs.Answers.{number_cmp}
-use Rattle.fts_pack.specs.Signed.{i64_of}
+use Rattle.fts_bits.specs.Signed.{i64_of}
 use Rattle.fts_collect.specs.Internals.Collecting.{number_at}
 
 -- below 2 ^ 63 the order is turned round twice

@@ -15,9 +15,9 @@ use crate::part::Part;
 use crate::ranking::{hits_of, offer_hits};
 use crate::tally::Tally;
 use crate::top_k::TopK;
+use fts_bits::Bits;
 use fts_cursor::{Cursor, DocSet, cursor_of};
 use fts_model::{Answer, Hit, Number, Query, Refusal, Request, Top};
-use fts_pack::Bits;
 use fts_segment::Segment;
 use std::alloc::{AllocError, Global};
 

@@ -4,8 +4,8 @@ ghost use Rattle.fts_collect.specs.Internals.Ranking.{hit_of, keep_keys, key_at,
 
 use crate::tally::number_at;
 use crate::top_k::{Key, TopK};
+use fts_column::Column;
 use fts_model::{Hit, Kind, Order};
-use fts_pack::Column;
 use fts_segment::Segment;
 use std::alloc::{AllocError, Global};
 

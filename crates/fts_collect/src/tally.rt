@@ -3,8 +3,9 @@ ghost use Rattle.std.specs.Prelude.{◌≡◌, ◌≤◌, ◌<◌, ◌+◌, ◌-
 ghost use Rattle.fts_model.specs.declared.schema.Kind.{Kind};
 ghost use Rattle.fts_collect.specs.Internals.Collecting.{AreCounts, AreWithin, groups_from, groups_of_runs, number_at, present_at};
 
+use fts_bits::u64_to_i64;
+use fts_column::Column;
 use fts_model::{Kind, Number};
-use fts_pack::{Column, u64_to_i64};
 use itertools::Itertools;
 use std::alloc::{AllocError, Global};
 

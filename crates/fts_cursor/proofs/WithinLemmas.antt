@@ -6,8 +6,8 @@ use Rattle.std.proofs.lemmas.Bool.{cases_lt}
 use Rattle.std.proofs.lemmas.List.{append-nil, get_or-drop, get_or-take, get_or_past}
 use Rattle.std.proofs.lemmas.Nat.{and_le_l}
 use Rattle.std.proofs.lemmas.Nat.Bits.{bit_at_above, bit_at_and, bit_at_lowest, bit_at-suc, bit_at-zero, bit_at-lt}
-use Rattle.fts_pack.specs.Bits.{number_of}
-use Rattle.fts_pack.specs.Digits.{joined}
+use Rattle.fts_bits.specs.Bits.{number_of}
+use Rattle.fts_bits.specs.Digits.{joined}
 use Rattle.fts_cursor.specs.Scans.{has_within, within}
 use Rattle.fts_postings.specs.Windows.{is_marked, marked, passing}
 use Rattle.fts_cursor.proofs.ScanLemmas.{within-is}

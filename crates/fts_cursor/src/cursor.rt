@@ -7,7 +7,7 @@ ghost use Rattle.fts_postings.specs.Remaining.{at_least};
 ghost use Rattle.fts_cursor.specs.Standing.{Continues, Walked};
 
 use crate::tree::Tree;
-use fts_pack::Bits;
+use fts_bits::Bits;
 use fts_postings::DocSet;
 use std::marker::Model;
 

@@ -3,7 +3,7 @@ ghost use Rattle.std.specs.Prelude.{◌≡◌, ◌%◌, ◌-◌, ◌^◌, ◌<�
 ghost use Rattle.fts_cursor.specs.Scans.{AreFor, has_value, has_within, kept_in};
 ghost use Rattle.fts_postings.specs.Windows.{passing};
 
-use fts_pack::Column;
+use fts_column::Column;
 use fts_postings::marks;
 use fts_segment::Segment;
 

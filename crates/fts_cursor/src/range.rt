@@ -10,8 +10,9 @@ ghost use Rattle.fts_cursor.specs.Ranges.{IsGreatestOf, IsLeastOf, IsWhole, IsWh
 use crate::kept::Kept;
 use crate::scan::ScanCursor;
 use crate::tree::Tree;
+use fts_bits::i64_to_u64;
+use fts_column::Column;
 use fts_model::{FieldValue, Number};
-use fts_pack::{Column, i64_to_u64};
 use fts_segment::Segment;
 use std::ops::Bound;
 

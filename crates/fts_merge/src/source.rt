@@ -2,7 +2,7 @@
 ghost use Rattle.std.specs.Prelude.{◌≡◌, length};
 ghost use Rattle.fts_merge.specs.Merges.{HasBits};
 
-use fts_pack::Bits;
+use fts_bits::Bits;
 use fts_segment::Segment;
 use std::marker::Model;
 

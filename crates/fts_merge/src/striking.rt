@@ -4,8 +4,9 @@ ghost use Rattle.fts_model.specs.Operations.{has};
 ghost use Rattle.fts_merge.specs.Strikes.{bits_where, bits_after};
 ghost use Rattle.fts_merge.specs.Internals.Striking.{bound_by, bound_of, strikes_by_term, survives_terms, cleared};
 
+use fts_bits::Bits;
 use fts_model::{Op, Refusal, Stamp, Stamped, Term};
-use fts_pack::{Bits, Blocks, List};
+use fts_pack::{Blocks, List};
 use fts_segment::Segment;
 use std::alloc::Global;
 

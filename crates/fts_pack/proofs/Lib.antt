@@ -1,12 +1,6 @@
-pub mod BitsLemmas
 pub mod BlockLemmas
-pub mod ColumnLemmas
-pub mod DigitsLemmas
 pub mod DocumentsLemmas
-pub mod FieldLemmas
 pub mod LaneLemmas
 pub mod LongListLemmas
 pub mod NumbersLemmas
-pub mod PackingLemmas
 pub mod SumLemmas
-pub mod VectorLemmas

@@ -1,6 +1,6 @@
 -- What a block of packed numbers keeps.
 use Rattle.std.specs.Prelude.{◌≡◌, ℕ, ◌≤◌, List, take}
-use Rattle.fts_pack.specs.Digits.{IsWidthOf}
+use Rattle.fts_bits.specs.Digits.{IsWidthOf}
 use Rattle.fts_pack.specs.Lanes.{numbers_in_lanes, words_in_lanes}
 
 -- the first of the 128 numbers that lie in the words

@@ -1,7 +1,7 @@
 -- Numbers in four lanes: element i of a list stands at place i / 4 of lane i % 4.
 use Rattle.std.specs.Prelude.{ℕ, ◌+◌, ◌*◌, ◌/◌, ◌%◌, List, slice_index, map}
 use Rattle.std.specs.List.{range_with_len}
-use Rattle.fts_pack.specs.Digits.{numbers_in, words_of}
+use Rattle.fts_bits.specs.Digits.{numbers_in, words_of}
 
 -- the first elements of a lane, so many of them; behind the end of the list they are 0
 unfoldable pub lane_of : ℕ → ℕ → List ℕ → List ℕ

@@ -1,13 +1,9 @@
-pub mod Bits
 pub mod Block
-pub mod Column
-pub mod Digits
 pub mod Documents
 pub mod Lanes
 pub mod ListSource
 pub mod LongList
 pub mod Numbers
 pub mod Repr
-pub mod Signed
 pub mod SourceLaws
 pub mod Unpacked

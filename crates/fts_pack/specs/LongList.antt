@@ -1,7 +1,7 @@
 -- What a list of documents in blocks keeps.
 use Rattle.std.specs.Prelude.{◌≡◌, ℕ, suc, ◌-◌, ◌+◌, ◌*◌, ◌^◌, ◌<◌, ◌≤◌, List, [], ◌∷◌, ◌++◌, All, drop, length, min, take}
 use Rattle.std.specs.List.Sorted.{IsStrictlyIncreasing}
-use Rattle.fts_pack.specs.Digits.{IsWidthOf}
+use Rattle.fts_bits.specs.Digits.{IsWidthOf}
 use Rattle.fts_pack.specs.Documents.{after, documents_at, gaps}
 use Rattle.fts_pack.specs.Lanes.{numbers_in_lanes, words_in_lanes}
 use Rattle.fts_pack.specs.declared.skip.Skip.{Skip}

@@ -2,7 +2,7 @@
 use Rattle.std.specs.Prelude.{◌≡◌, ℕ, ◌+◌, ◌*◌, ◌/◌, ◌%◌, ◌^◌, ◌<◌, ◌≤◌, ◌++◌, List, All, drop, length, map, slice_index, slice_index_or}
 use Rattle.std.specs.List.{range_with_len}
 use Rattle.fts_pack.specs.declared.numbers.Packed.{Packed}
-use Rattle.fts_pack.specs.Digits.{IsWidthOf}
+use Rattle.fts_bits.specs.Digits.{IsWidthOf}
 use Rattle.fts_pack.specs.Documents.{block_count}
 use Rattle.fts_pack.specs.Lanes.{numbers_in_lanes, words_in_lanes}
 

@@ -1,11 +1,12 @@
 // Up to 128 numbers, packed at the width of the greatest.
 ghost use Rattle.std.specs.Prelude.{◌≡◌, ◌≤◌, IfOk, IsOkUnless, List, length, take, ℕ};
 ghost use Rattle.fts_pack.specs.Block.{IsBlock, block_numbers};
-ghost use Rattle.fts_pack.specs.Digits.{IsWidthOf};
+ghost use Rattle.fts_bits.specs.Digits.{IsWidthOf};
 ghost use Rattle.fts_pack.specs.Lanes.{words_in_lanes};
 
-use crate::{lanes, packing};
+use crate::lanes;
 use fts_base::Refusal;
+use fts_bits::packing;
 use std::alloc::{AllocError, Global};
 use std::marker::Model;
 

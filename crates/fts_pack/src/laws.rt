@@ -1,27 +1,8 @@
 // What follows from the definitions, as functions that do nothing.
-ghost use Rattle.std.specs.Prelude.{◌≡◌, ◌≤◌, ◌≤ℤ◌, ◌↔◌, ℤ, ℕ, [], ◌∷◌, Some, None, true, false, length, take, map, slice_index};
+ghost use Rattle.std.specs.Prelude.{◌≡◌, ℕ, [], ◌∷◌, length, take, map, slice_index};
 ghost use Rattle.std.specs.List.{flat_map, range_with_len};
-ghost use Rattle.fts_pack.specs.Bits.{number_of};
-ghost use Rattle.fts_pack.specs.Column.{offsets};
-ghost use Rattle.fts_pack.specs.Digits.{words_of};
 ghost use Rattle.fts_pack.specs.Documents.{blocks_of, gaps};
 ghost use Rattle.fts_pack.specs.Lanes.{words_in_lanes};
-ghost use Rattle.fts_pack.specs.Signed.{i64_of, u64_of};
-
-/// Signed numbers and the unsigned ones in their places have one order.
-pub fn signed_order_is_kept(a: i64, b: i64)
-    ensures { (u64_of a ≤ u64_of b) ↔ (a ≤ℤ b) }
-{}
-
-/// The signed number comes back.
-pub fn signed_comes_back(value: i64)
-    ensures { i64_of (u64_of value) ≡ value }
-{}
-
-/// The unsigned number comes back.
-pub fn unsigned_comes_back(value: u64)
-    ensures { u64_of (i64_of value) ≡ value }
-{}
 
 /// The blocks of documents, joined, are the documents.
 pub fn blocks_join_to_the_documents(documents: &[u32])
@@ -44,12 +25,4 @@ pub fn blocks_of_examples()
 pub fn gaps_of_examples()
     ensures three { gaps 0 (5 ∷ 6 ∷ 133 ∷ []) ≡ 5 ∷ 0 ∷ 126 ∷ [] }
     ensures row { gaps 0 (range_with_len 0 128) ≡ map (λ n. 0) (range_with_len 0 128) }
-{}
-
-/// What a column keeps, by worked examples: a missing value is a zero that a bit tells apart; the widest values take whole words.
-pub fn columns_of_examples()
-    ensures missing { words_of 64 2 (offsets 7 (Some 7 ∷ None ∷ Some 9 ∷ [])) ≡ 32 ∷ [] }
-    ensures present { number_of (true ∷ false ∷ true ∷ []) ≡ 5 }
-    ensures none { words_of 64 0 (offsets 0 (None ∷ None ∷ [])) ≡ [] }
-    ensures widest { words_of 64 64 (0 ∷ 18446744073709551615 ∷ []) ≡ 0 ∷ 18446744073709551615 ∷ [] }
 {}

@@ -6,7 +6,8 @@ ghost use Rattle.fts_pack.specs.LongList.{IsAdded, IsLongList, kept_documents};
 
 use crate::block::BLOCK;
 use crate::skip::Skip;
-use crate::{lanes, packing, sums};
+use crate::{lanes, sums};
+use fts_bits::packing;
 use std::alloc::{AllocError, Global};
 use std::marker::Model;
 

@@ -4,8 +4,9 @@ ghost use Rattle.fts_pack.specs.Documents.{block_at, block_count};
 ghost use Rattle.fts_pack.specs.Numbers.{IsAdded};
 
 use crate::block::BLOCK;
-use crate::{lanes, packing};
+use crate::lanes;
 use fts_base::Refusal;
+use fts_bits::packing;
 use std::alloc::{AllocError, Global};
 use std::marker::Model;
 

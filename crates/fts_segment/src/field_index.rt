@@ -13,8 +13,8 @@ use crate::number_index::{NumberIndex, number_in};
 use crate::occurrences::logged;
 use crate::segment::ListId;
 use crate::term_index::TermIndex;
+use fts_column::Column;
 use fts_model::{Document, FieldValue, Kind, Stamped};
-use fts_pack::Column;
 use std::alloc::{AllocError, Global};
 
 /// What is looked up in a field.

@@ -14,8 +14,10 @@ use crate::grouping::Groups;
 use crate::listing::set_docs;
 use crate::segment::ListId;
 use crate::term_log::Entry;
+use fts_bits::i64_to_u64;
+use fts_column::Column;
 use fts_model::{Document, FieldValue, Kind, Number, Stamped};
-use fts_pack::{Column, List, i64_to_u64};
+use fts_pack::List;
 use std::alloc::{AllocError, Global};
 
 /// The numbers of a field.

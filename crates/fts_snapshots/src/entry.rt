@@ -1,7 +1,7 @@
 // A segment of a snapshot.
 ghost use Rattle.std.specs.Prelude.{◌≡◌};
 
-use fts_pack::Bits;
+use fts_bits::Bits;
 use fts_segment::Segment;
 use std::alloc::{AllocError, Global};
 use std::marker::Model;

@@ -16,8 +16,8 @@ use crate::entry::Entry;
 use crate::lookup::{Lookup, places};
 use crate::merged_segment::MergedSegment;
 use crate::numbers::are_used_up;
+use fts_bits::Bits;
 use fts_model::Refusal;
-use fts_pack::Bits;
 use std::alloc::{AllocError, Global};
 use std::collections::HashSet;
 

@@ -1,11 +1,11 @@
 // Calls of segments, cursors, collectors and merges of which a growth was refused: nothing has changed, and the second try
 // succeeds.
 use crate::fixtures::example;
+use fts_bits::Bits;
 use fts_collect::{Part, collect};
 use fts_cursor::{DocSet, cursor_of};
 use fts_merge::{Merged, Source, merge, strike};
 use fts_model::{FieldValue, Op, Order, Query, Refusal, Request, Stamped, Term, Text};
-use fts_pack::Bits;
 use fts_query::parse;
 use fts_segment::Segment;
 use std::alloc::{AllocError, Global};

@@ -1,8 +1,10 @@
 // fts_pack: what was packed is read, at every width and every number of numbers.
 ghost use Rattle.std.specs.Prelude.{◌≡◌, ◌+◌, ◌^◌, ◌<◌, ◌≤◌, length};
 
+use fts_bits::Bits;
+use fts_column::Column;
 use fts_model::Refusal;
-use fts_pack::{BLOCK, Bits, Block, Blocks, Column, List, Numbers};
+use fts_pack::{BLOCK, Block, Blocks, List, Numbers};
 use std::alloc::{AllocError, Global};
 use std::process::Abort;
 use std::test::Fail;

@@ -8,7 +8,7 @@ use Rattle.fts_model.specs.declared.value.Number.TheVariants.{U64, I64}
 use Rattle.fts_model.specs.Answers.{count_number}
 use Rattle.fts_collect.specs.declared.tally.Tally.{Tally}
 use Rattle.fts_collect.specs.declared.tally.Tally.TheVariants.{Counts, Numbers}
-use Rattle.fts_pack.specs.Signed.{i64_of}
+use Rattle.fts_bits.specs.Signed.{i64_of}
 use Rattle.itertools.specs.List.{dedup_with_count}
 
 -- the number that a column of this kind keeps as this one

@@ -1,0 +1,4 @@
+pub mod BitsLemmas
+pub mod DigitsLemmas
+pub mod PackingLemmas
+pub mod VectorLemmas

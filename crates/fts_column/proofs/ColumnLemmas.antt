@@ -1,0 +1,327 @@
+-- The range of a column, the offsets from its least value, and the values that they give back.
+use Rattle.std.proofs.Common.{◌≡◌, ℕ, zero, suc, ◌+◌, ◌-◌, ◌*◌, ◌/◌, ◌%◌, ◌^◌, ◌<◌, ◌≤◌, inl, inr, List, [], ◌∷◌, ◌++◌, Bool, true, false, Option, Some, None, slice_get, is_some, IfSome, All, Contains, map, replicate, length, get_or, take, drop, set, min, max, cond, refl, sym, ap, ap₂, ◌∙◌, subst, arith, unwrap_or, lit<, mod-eq_of_lt}
+use Rattle.std.specs.Option.{option_map_or}
+use Rattle.std.proofs.lemmas.List.{length-map, get_or-map, set_at, append_assoc, take_more, map_push, length-take-le, get_or_past, get_or_append_left, get_or-append_right, get_or-take, length-append}
+use Rattle.std.proofs.lemmas.List.Elements.{All-push, Contains-append_left, Contains-push}
+use Rattle.std.proofs.lemmas.Option.{get_or_from_slice_get}
+use Rattle.std.proofs.lemmas.Nat.{mul-le, pow_pos}
+use Rattle.std.proofs.lemmas.Bool.{cases_lt}
+use Rattle.std.proofs.Math.Nat.{mul-le-mul_right}
+use Rattle.fts_bits.specs.Digits.{IsWidthOf, joined, digits, numbers_in, word_count, words_of}
+use Rattle.fts_column.specs.Column.{IsColumn, IsRangeOf, range_with, least_of, spread_of, offsets, values_at}
+use Rattle.fts_bits.proofs.DigitsLemmas.{Below, Below-words_of, length-digits, get_or-digits}
+use borrow.Rule.Slice.PartMut.{put_mid}
+use Rattle.fts_column.proofs.FieldLemmas.{AreReadFrom}
+use Rattle.fts_bits.proofs.PackingLemmas.{Below-from_all, numbers_in-words_of, length-numbers_in, length-words_of, word_count-holds}
+
+pub IsRangeOf-missing : (values : List (Option ℕ)) (range : Option (ℕ × ℕ)) → IsRangeOf values range → IsRangeOf (values ++ None ∷ []) range
+IsRangeOf-missing values None h = All-push (λ v. v ≡ None) values None h refl
+IsRangeOf-missing values (Some range) h = (
+  Contains-append_left values _ _ h.0,
+  Contains-append_left values _ _ h.1,
+  All-push (λ v. IfSome v (λ x. (range.0 ≤ x) × (x ≤ range.1))) values None h.2 tt,
+)
+
+-- what holds of a value holds of the greater or lesser of two, if it holds of both
+min_case : (P : ℕ → Type 0) (a b : ℕ) → P a → P b → P (min a b)
+min_case P a b p q =
+    elim (cases_lt a b) [
+      | inl lt ↦ (let e : min a b ≡ a = omega arith in rw e p)
+      | inr ge ↦ (let e : min a b ≡ b = omega arith in rw e q)
+    ]
+
+max_case : (P : ℕ → Type 0) (a b : ℕ) → P a → P b → P (max a b)
+max_case P a b p q =
+    elim (cases_lt a b) [
+      | inl lt ↦ (let e : max a b ≡ b = omega arith in rw e q)
+      | inr ge ↦ (let e : max a b ≡ a = omega arith in rw e p)
+    ]
+
+wider : (v : Option ℕ) (low high low' high' : ℕ) → low' ≤ low → high ≤ high' → IfSome v (λ x. (low ≤ x) × (x ≤ high)) → IfSome v (λ x. (low' ≤ x) × (x ≤ high'))
+wider None low high low' high' a b h = tt
+wider (Some x) low high low' high' a b h = (omega (arith, h.0), omega (arith, h.1))
+
+none_within : (v : Option ℕ) (x : ℕ) → v ≡ None → IfSome v (λ y. (x ≤ y) × (y ≤ x))
+none_within None x e = tt
+none_within (Some y) x e = absurd (cc)
+
+pub IsRangeOf-present : (values : List (Option ℕ)) (range : Option (ℕ × ℕ)) (x : ℕ) → IsRangeOf values range → IsRangeOf (values ++ Some x ∷ []) (Some (range_with range x))
+IsRangeOf-present values None x h = (
+  Contains-push values (Some x),
+  Contains-push values (Some x),
+  All-push (λ v. IfSome v (λ y. (x ≤ y) × (y ≤ x))) values (Some x) (λ k d inside. none_within (get_or values k d) x (h k d inside)) (omega arith, omega arith),
+)
+IsRangeOf-present values (Some range) x h =
+    let low : min range.0 x ≤ range.0 = omega arith in
+    let high : range.1 ≤ max range.1 x = omega arith in (
+      min_case (λ y. Contains (values ++ Some x ∷ []) (Some y)) range.0 x (Contains-append_left values _ _ h.0) (Contains-push values (Some x)),
+      max_case (λ y. Contains (values ++ Some x ∷ []) (Some y)) range.1 x (Contains-append_left values _ _ h.1) (Contains-push values (Some x)),
+      All-push (λ v. IfSome v (λ y. (min range.0 x ≤ y) × (y ≤ max range.1 x))) values (Some x) (λ k d inside. wider (get_or values k d) range.0 range.1 (min range.0 x) (max range.1 x) low high (h.2 k d inside)) (omega arith, omega arith),
+    )
+
+pub range_with-fits : (range : Option (ℕ × ℕ)) (x : ℕ) → IfSome range (λ r. r.1 < 2 ^ 64) → x < 2 ^ 64 → (range_with range x).1 < 2 ^ 64
+range_with-fits None x h small = small
+range_with-fits (Some range) x h small = omega (arith, h, small)
+
+-- each value is at or above the least
+above_one : (v : Option ℕ) (low high : ℕ) → IfSome v (λ x. (low ≤ x) × (x ≤ high)) → IfSome v (λ x. low ≤ x)
+above_one None low high h = tt
+above_one (Some x) low high h = h.0
+
+above_none : (v : Option ℕ) → v ≡ None → IfSome v (λ x. 0 ≤ x)
+above_none None e = tt
+above_none (Some x) e = absurd (cc)
+
+pub above_least : (values : List (Option ℕ)) (range : Option (ℕ × ℕ)) → IsRangeOf values range → All (λ v. IfSome v (λ x. least_of range ≤ x)) values
+above_least values None h = λ k d inside. above_none (get_or values k d) (h k d inside)
+above_least values (Some range) h =
+    λ k d inside. above_one (get_or values k d) range.0 range.1 (h.2 k d inside)
+
+-- each offset is at most the spread
+offset_within : (v : Option ℕ) (low high : ℕ) → IfSome v (λ x. (low ≤ x) × (x ≤ high)) → option_map_or (λ x. x - low) v 0 ≤ high - low
+offset_within None low high h = omega arith
+offset_within (Some x) low high h = omega (arith, h.0, h.1)
+
+offset_none : (v : Option ℕ) → v ≡ None → option_map_or (λ x. x - 0) v 0 ≡ 0
+offset_none None e = refl
+offset_none (Some x) e = absurd (cc)
+
+pub offset_at : (least k d : ℕ) (values : List (Option ℕ)) → k < length values → get_or (offsets least values) k d ≡ option_map_or (λ x. x - least) (get_or values k None) 0
+offset_at least k d values inside = get_or-map (λ v. option_map_or (λ x. x - least) v 0) values k None d inside
+
+pub length-offsets : (least : ℕ) (values : List (Option ℕ)) → length (offsets least values) ≡ length values
+length-offsets least values = length-map values (λ v. option_map_or (λ x. x - least) v 0)
+
+pub offsets_fit : (values : List (Option ℕ)) (range : Option (ℕ × ℕ)) (width : ℕ) → IsRangeOf values range → spread_of range < 2 ^ width → All (λ x. x < 2 ^ width) (offsets (least_of range) values)
+offsets_fit values None width h small =
+    λ k d inside. let within : k < length values = omega (arith, length-map values (λ v. option_map_or (λ x. x - 0) v 0)) in
+    rw (offset_at 0 k d values within, offset_none (get_or values k None) (h k None within)) small
+offsets_fit values (Some range) width h small =
+    λ k d inside. let within : k < length values = omega (arith, length-map values (λ v. option_map_or (λ x. x - range.0) v 0)) in
+    rw (offset_at range.0 k d values within) (omega (arith, offset_within (get_or values k None) range.0 range.1 (h.2 k None within), small))
+
+-- a value is its offset above the least again
+value_again : (v : Option ℕ) (least : ℕ) → IfSome v (λ x. least ≤ x) → cond (is_some v) (Some (least + option_map_or (λ x. x - least) v 0)) None ≡ v
+value_again None least h = refl
+value_again (Some x) least h = ap Some (omega (arith, h))
+
+All-tail : (P : Option ℕ → Type 0) (v : Option ℕ) (values : List (Option ℕ)) → All P (v ∷ values) → All P values
+All-tail P v values h = λ k d inside. h (suc k) d (omega (arith, inside))
+
+pub values_at-offsets : (least : ℕ) (values : List (Option ℕ)) → All (λ v. IfSome v (λ x. least ≤ x)) values → values_at least (map is_some values) (offsets least values) ≡ values
+values_at-offsets least [] h = refl
+values_at-offsets least (v ∷ values) h =
+    ap₂ (λ x xs. x ∷ xs) (value_again v least (h 0 None (omega arith))) (values_at-offsets least values (All-tail (λ w. IfSome w (λ x. least ≤ x)) v values h))
+
+-- the range that a column is built with, where no value is there
+pub unwrap_least : (range : Option (ℕ × ℕ)) → (unwrap_or range (0, 0)).0 ≡ least_of range
+unwrap_least None = refl
+unwrap_least (Some range) = refl
+
+pub unwrap_spread : (range : Option (ℕ × ℕ)) → (unwrap_or range (0, 0)).1 - (unwrap_or range (0, 0)).0 ≡ spread_of range
+unwrap_spread None = refl
+unwrap_spread (Some range) = refl
+
+spread_fits : (range : Option (ℕ × ℕ)) → IfSome range (λ r. r.1 < 2 ^ 64) → spread_of range < 2 ^ 64
+spread_fits None h = pow_pos 64
+spread_fits (Some range) h = omega (arith, h)
+
+-- the least value is no greater than the greatest
+pub least_first : (values : List (Option ℕ)) (range : Option (ℕ × ℕ)) → IsRangeOf values range → (unwrap_or range (0, 0)).0 ≤ (unwrap_or range (0, 0)).1
+least_first values None h = omega arith
+least_first values (Some range) h =
+    let k = h.0.0 in
+    let bounds : IfSome (get_or values k (Some range.0)) (λ x. (range.0 ≤ x) × (x ≤ range.1)) = h.2 k (Some range.0) h.0.1 in
+    let at : IfSome (Some range.0) (λ x. (range.0 ≤ x) × (x ≤ range.1)) = subst (λ v. IfSome v (λ x. (range.0 ≤ x) × (x ≤ range.1))) h.0.2 bounds in
+    at.1
+
+-- the values of the fields are those that were packed
+pub column_values : (values : List (Option ℕ)) (range : Option (ℕ × ℕ)) (present : List Bool) (width : ℕ) (words : List ℕ) → IsRangeOf values range → present ≡ map is_some values → spread_of range < 2 ^ width → words ≡ words_of 64 width (offsets (least_of range) values) → values_at (least_of range) present (numbers_in 64 width (length present) words) ≡ values
+column_values values range present width words r present_is small words_are =
+    let least = least_of range in
+    let numbers = offsets least values in
+    let count : length present ≡ length numbers = ap length present_is ∙ length-map values is_some ∙ sym (length-map values (λ v. option_map_or (λ x. x - least) v 0)) in
+    let again : numbers_in 64 width (length present) words ≡ numbers = ap₂ (λ n ws. numbers_in 64 width n ws) count words_are ∙ numbers_in-words_of 64 width numbers (omega arith) (Below-from_all width numbers (offsets_fit values range width r small)) in
+    ap₂ (λ bits xs. values_at least bits xs) present_is again ∙ values_at-offsets least values (above_least values range r)
+
+pub length-values_at : (least : ℕ) (present : List Bool) (numbers : List ℕ) → length numbers ≡ length present → length (values_at least present numbers) ≡ length present
+length-values_at least [] numbers h = refl
+length-values_at least (bit ∷ present) [] h = absurd (omega (arith, h))
+length-values_at least (bit ∷ present) (x ∷ numbers) h = ap suc (length-values_at least present numbers (omega (arith, h)))
+
+pub get_or-values_at : (least : ℕ) (present : List Bool) (numbers : List ℕ) (i : ℕ) → length numbers ≡ length present → i < length present → get_or (values_at least present numbers) i None ≡ cond (get_or present i false) (Some (least + get_or numbers i 0)) None
+get_or-values_at least [] numbers i h inside = absurd (omega arith)
+get_or-values_at least (bit ∷ present) [] i h inside = absurd (omega (arith, h))
+get_or-values_at least (bit ∷ present) (x ∷ numbers) zero h inside = refl
+get_or-values_at least (bit ∷ present) (x ∷ numbers) (suc i) h inside = get_or-values_at least present numbers i (omega (arith, h)) (omega (arith, inside))
+
+-- one document more is present, or missing
+pub presence_more : (values : List (Option ℕ)) (doc : ℕ) → doc < length values → map is_some (take (doc + 1) values) ++ replicate (length values - (doc + 1)) false ≡ map is_some (take doc values) ++ is_some (get_or values doc None) ∷ replicate (length values - (doc + 1)) false
+presence_more values doc inside =
+    ap (λ xs. map is_some xs ++ replicate (length values - (doc + 1)) false) (take_more values doc None inside) ∙ ap (λ xs. xs ++ replicate (length values - (doc + 1)) false) (map_push is_some (take doc values) (get_or values doc None)) ∙ append_assoc (map is_some (take doc values)) (is_some (get_or values doc None) ∷ []) (replicate (length values - (doc + 1)) false)
+
+presence_before : (values : List (Option ℕ)) (doc : ℕ) → doc < length values → replicate (length values - doc) false ≡ false ∷ replicate (length values - (doc + 1)) false
+presence_before values doc inside =
+    ap (λ n. replicate n false) (let e : length values - doc ≡ suc (length values - (doc + 1)) = omega arith in e)
+
+pub presence_missing : (values : List (Option ℕ)) (present : List Bool) (doc : ℕ) → doc < length values → present ≡ map is_some (take doc values) ++ replicate (length values - doc) false → is_some (get_or values doc None) ≡ false → present ≡ map is_some (take (doc + 1) values) ++ replicate (length values - (doc + 1)) false
+presence_missing values present doc inside h missing =
+    h ∙ ap (λ xs. map is_some (take doc values) ++ xs) (presence_before values doc inside ∙ ap (λ b. b ∷ replicate (length values - (doc + 1)) false) (sym missing)) ∙ sym (presence_more values doc inside)
+
+pub presence_set : (values : List (Option ℕ)) (present : List Bool) (doc : ℕ) → doc < length values → present ≡ map is_some (take doc values) ++ replicate (length values - doc) false → is_some (get_or values doc None) ≡ true → set present doc true ≡ map is_some (take (doc + 1) values) ++ replicate (length values - (doc + 1)) false
+presence_set values present doc inside h there =
+    let front : length (map is_some (take doc values)) ≡ doc = length-map (take doc values) is_some ∙ length-take-le doc values (omega arith) in
+    ap (λ xs. set xs doc true) (h ∙ ap (λ xs. map is_some (take doc values) ++ xs) (presence_before values doc inside)) ∙ set_at (map is_some (take doc values)) false (replicate (length values - (doc + 1)) false) true doc front ∙ ap (λ b. map is_some (take doc values) ++ b ∷ replicate (length values - (doc + 1)) false) (sym there) ∙ sym (presence_more values doc inside)
+
+-- place i of a column, from its fields
+pub column_at : (values : List (Option ℕ)) (least : ℕ) (present : List Bool) (width i : ℕ) (words : List ℕ) → values_at least present (numbers_in 64 width (length present) words) ≡ values → i < length present → get_or values i None ≡ cond (get_or present i false) (Some (least + joined 64 words / 2 ^ (i * width) % 2 ^ width)) None
+unfolding numbers_in
+column_at values least present width i words view inside =
+    let numbers = digits width (length present) (joined 64 words) in
+    ap (λ vs. get_or vs i None) (sym view) ∙ get_or-values_at least present numbers i (length-digits width (length present) (joined 64 words)) inside ∙ ap (λ x. cond (get_or present i false) (Some (least + x)) None) (get_or-digits width (length present) (joined 64 words) i 0 inside)
+
+pub column_length : (values : List (Option ℕ)) (least : ℕ) (present : List Bool) (width : ℕ) (words : List ℕ) → values_at least present (numbers_in 64 width (length present) words) ≡ values → length values ≡ length present
+column_length values least present width words view =
+    ap length (sym view) ∙ length-values_at least present (numbers_in 64 width (length present) words) (length-numbers_in 64 width (length present) words)
+
+-- a value that is there lies within the range
+pub within_range : (values : List (Option ℕ)) (range : ℕ × ℕ) (i x : ℕ) → IsRangeOf values (Some range) → i < length values → get_or values i None ≡ Some x → x ≤ range.1
+within_range values range i x h inside at =
+    let bounds : IfSome (Some x) (λ y. (range.0 ≤ y) × (y ≤ range.1)) = subst (λ v. IfSome v (λ y. (range.0 ≤ y) × (y ≤ range.1))) at (h.2 i None inside) in
+    bounds.1
+
+pub none_in : (values : List (Option ℕ)) (i : ℕ) → All (λ v. v ≡ None) values → get_or values i None ≡ None
+none_in values i h = elim (cases_lt i (length values)) [ inl inside ↦ h i None inside | inr past ↦ get_or_past values i None past ]
+
+only_one : (x width k d : ℕ) → x < 2 ^ width → k < length (x ∷ []) → get_or (x ∷ []) k d < 2 ^ width
+only_one x width zero d small inside = small
+only_one x width (suc k) d small inside = absurd (omega arith)
+
+pub IsColumn-built : (values : List (Option ℕ)) (range : Option (ℕ × ℕ)) (width : ℕ) (words : List ℕ) → length values ≤ 2 ^ 32 → IsRangeOf values range → IfSome range (λ r. r.1 < 2 ^ 64) → spread_of range < 2 ^ width → ((other : ℕ) → spread_of range < 2 ^ other → width ≤ other) → words ≡ words_of 64 width (offsets (least_of range) values) → IsColumn values range width words
+IsColumn-built values range width words few range_is fits holds least words_are = record {
+  few = few;
+  range_is = range_is;
+  range_fits = fits;
+  width_within = least 64 (spread_fits range fits);
+  width_is = record {
+    holds = λ k d inside. only_one (spread_of range) width k d holds inside;
+    least = λ other each. least other (each 0 0 (lit< tt));
+  };
+  words_are = words_are;
+}
+
+-- a document within the column begins at a bit that fits
+pub bit_fits : (doc width count : ℕ) → doc < count → count ≤ 2 ^ 32 → width ≤ 64 → doc * width < 2 ^ 64
+bit_fits doc width count inside few narrow =
+    let few_bits : doc * width ≤ 2 ^ 32 * 64 = mul-le doc width (2 ^ 32) 64 (omega arith) narrow in
+    omega (arith, few_bits)
+
+pub value_there : (values : List (Option ℕ)) (range : Option (ℕ × ℕ)) (least : ℕ) (present : List Bool) (width i number : ℕ) (words : List ℕ) → values_at (least_of range) present (numbers_in 64 width (length present) words) ≡ values → i < length present → slice_get present i ≡ Some true → least_of range ≡ least → number ≡ joined 64 words / 2 ^ (i * width) % 2 ^ width → get_or values i None ≡ Some (least + number)
+value_there values range least present width i number words view inside there least_is number_is =
+    column_at values (least_of range) present width i words view inside ∙ ap (λ b. cond b (Some (least_of range + joined 64 words / 2 ^ (i * width) % 2 ^ width)) None) (get_or_from_slice_get present i true false there) ∙ ap₂ (λ a b. Some (a + b)) least_is (sym number_is)
+
+pub value_missing : (values : List (Option ℕ)) (range : Option (ℕ × ℕ)) (present : List Bool) (width i : ℕ) (words : List ℕ) → values_at (least_of range) present (numbers_in 64 width (length present) words) ≡ values → i < length present → slice_get present i ≡ Some false → get_or values i None ≡ None
+value_missing values range present width i words view inside missing =
+    column_at values (least_of range) present width i words view inside ∙ ap (λ b. cond b (Some (least_of range + joined 64 words / 2 ^ (i * width) % 2 ^ width)) None) (get_or_from_slice_get present i false false missing)
+
+-- a value that is there fits
+pub value_fits : (values : List (Option ℕ)) (range : Option (ℕ × ℕ)) (i least greatest x : ℕ) → IsRangeOf values range → IfSome range (λ r. r.1 < 2 ^ 64) → range ≡ Some (least, greatest) → i < length values → get_or values i None ≡ Some x → x < 2 ^ 64
+value_fits values None i least greatest x h fits e inside at = absurd (cc)
+value_fits values (Some range) i least greatest x h fits e inside at =
+    omega (arith, within_range values range i x h inside at, fits)
+
+-- a column has one range, and one width
+none_is_some : (v : Option ℕ) (x : ℕ) → v ≡ None → v ≡ Some x → ⊥
+none_is_some v x none some = absurd (cc)
+
+bounds_at : (values : List (Option ℕ)) (low high x : ℕ) → Contains values (Some x) → All (λ v. IfSome v (λ y. (low ≤ y) × (y ≤ high))) values → (low ≤ x) × (x ≤ high)
+bounds_at values low high x h all =
+    let here : IfSome (get_or values h.0 (Some x)) (λ y. (low ≤ y) × (y ≤ high)) = all h.0 (Some x) h.1 in
+    subst (λ v. IfSome v (λ y. (low ≤ y) × (y ≤ high))) h.2 here
+
+pub range_unique : (values : List (Option ℕ)) (a b : Option (ℕ × ℕ)) → IsRangeOf values a → IsRangeOf values b → a ≡ b
+range_unique values None None h g = refl
+range_unique values None (Some b) h g = absurd (none_is_some (get_or values g.0.0 (Some b.0)) b.0 (h g.0.0 (Some b.0) g.0.1) g.0.2)
+range_unique values (Some a) None h g = absurd (none_is_some (get_or values h.0.0 (Some a.0)) a.0 (g h.0.0 (Some a.0) h.0.1) h.0.2)
+range_unique values (Some a) (Some b) h g =
+    let low : a.0 ≡ b.0 = omega (arith, (bounds_at values a.0 a.1 b.0 g.0 h.2).0, (bounds_at values b.0 b.1 a.0 h.0 g.2).0) in
+    let high : a.1 ≡ b.1 = omega (arith, (bounds_at values a.0 a.1 b.1 g.1 h.2).1, (bounds_at values b.0 b.1 a.1 h.1 g.2).1) in
+    ap₂ (λ x y. Some (x, y)) low high
+
+pub width_unique : (numbers : List ℕ) (a b : ℕ) → IsWidthOf numbers a → IsWidthOf numbers b → a ≡ b
+width_unique numbers a b h g = omega (arith, h.least b g.holds, g.least a h.holds)
+
+pub presence-values_at : (least : ℕ) (present : List Bool) (numbers : List ℕ) → length numbers ≡ length present → map is_some (values_at least present numbers) ≡ present
+presence-values_at least [] numbers h = refl
+presence-values_at least (bit ∷ present) [] h = absurd (omega (arith, h))
+presence-values_at least (true ∷ present) (x ∷ numbers) h = ap (λ bits. true ∷ bits) (presence-values_at least present numbers (omega (arith, h)))
+presence-values_at least (false ∷ present) (x ∷ numbers) h = ap (λ bits. false ∷ bits) (presence-values_at least present numbers (omega (arith, h)))
+
+-- the layout of a column, from its values alone
+pub column_width : (values : List (Option ℕ)) (kept : Option (ℕ × ℕ)) (width : ℕ) (words : List ℕ) → IsColumn values kept width words → (range : Option (ℕ × ℕ)) → IsRangeOf values range → IsWidthOf (spread_of range ∷ []) width
+column_width values kept width words h range is = subst (λ r. IsWidthOf (spread_of r ∷ []) width) (range_unique values kept range h.range_is is) h.width_is
+
+pub column_words : (values : List (Option ℕ)) (kept : Option (ℕ × ℕ)) (width : ℕ) (words : List ℕ) → IsColumn values kept width words → (range : Option (ℕ × ℕ)) (other : ℕ) → IsRangeOf values range → IsWidthOf (spread_of range ∷ []) other → words ≡ words_of 64 other (offsets (least_of range) values)
+column_words values kept width words h range other is wide =
+    let same = range_unique values kept range h.range_is is in
+    let one = width_unique (spread_of range ∷ []) width other (column_width values kept width words h range is) wide in
+    h.words_are ∙ ap₂ (λ w r. words_of 64 w (offsets (least_of r) values)) one same
+
+-- 64 documents of a column have their words
+pub words_inside : (values : List (Option ℕ)) (range : Option (ℕ × ℕ)) (width from : ℕ) (words : List ℕ) → IsColumn values range width words → from % 64 ≡ 0 → 64 ≤ length values - from → from / 64 * width + width ≤ length words
+words_inside values range width from words h aligned many =
+    let size : length words ≡ word_count 64 (length values * width) = ap length h.words_are ∙ length-words_of 64 width (offsets (least_of range) values) ∙ ap (λ n. word_count 64 (n * width)) (length-offsets (least_of range) values) in
+    let bits : (from / 64 + 1) * 64 * width ≤ length values * width = mul-le-mul_right width (omega arith) in
+    let enough = word_count-holds 64 (length values * width) (omega arith) in
+    let split : (from / 64 + 1) * 64 * width ≡ (from / 64 * width + width) * 64 = omega arith in
+    omega (arith, size, enough)
+
+-- what an option that is there holds
+cond_some : (b : Bool) (x y : ℕ) → cond b (Some y) None ≡ Some x → y ≡ x
+cond_some true x y e = cc
+cond_some false x y e = cc
+
+there_fits : (values : List (Option ℕ)) (range : Option (ℕ × ℕ)) (i x : ℕ) → IsRangeOf values range → IfSome range (λ r. r.1 < 2 ^ 64) → i < length values → get_or values i None ≡ Some x → x < 2 ^ 64
+there_fits values None i x h fits inside at = absurd (none_is_some (get_or values i None) x (h i None inside) at)
+there_fits values (Some range) i x h fits inside at =
+    omega (arith, within_range values range i x h inside at, fits)
+
+-- numbers that were read, each above the least, are the values that are there
+pub read_values : (values : List (Option ℕ)) (range : Option (ℕ × ℕ)) (present : List Bool) (width least from count : ℕ) (words out : List ℕ) → values_at (least_of range) present (numbers_in 64 width (length present) words) ≡ values → IsColumn values range width words → least ≡ least_of range → AreReadFrom words width least from count out → ((i : ℕ) → i < 64 → from + i < length values → i < count) → (i x : ℕ) → i < 64 → get_or values (from + i) None ≡ Some x → get_or out i 0 ≡ x
+read_values values range present width least from count words out view h least_is read enough i x small e =
+    elim (cases_lt (from + i) (length values)) [
+      | inl inside ↦ (
+          let number = joined 64 words / 2 ^ ((from + i) * width) % 2 ^ width in
+          let here : from + i < length present = omega (arith, column_length values (least_of range) present width words view) in
+          let at = column_at values (least_of range) present width (from + i) words view here in
+          let same : least_of range + number ≡ x = cond_some (get_or present (from + i) false) x (least_of range + number) (sym at ∙ e) in
+          read i (enough i small inside) ∙ ap (λ n. (n + number) % 2 ^ 64) least_is ∙ ap (λ n. n % 2 ^ 64) same ∙ mod-eq_of_lt (there_fits values range (from + i) x h.range_is h.range_fits inside e)
+          )
+      | inr past ↦ absurd (none_is_some (get_or values (from + i) None) x (get_or_past values (from + i) None past) e)
+    ]
+
+presence-take : (count : ℕ) (values : List (Option ℕ)) → map is_some (take count values) ≡ take count (map is_some values)
+presence-take zero values = refl
+presence-take (suc count) [] = refl
+presence-take (suc count) (v ∷ values) = ap (λ bits. is_some v ∷ bits) (presence-take count values)
+
+-- the presence of a part of a column
+pub presence-part : (start count : ℕ) (values : List (Option ℕ)) → map is_some (take count (drop start values)) ≡ take count (drop start (map is_some values))
+presence-part zero count values = presence-take count values
+presence-part (suc start) zero [] = refl
+presence-part (suc start) (suc count) [] = refl
+presence-part (suc start) count (v ∷ values) = presence-part start count values
+
+pub column_below : (values : List (Option ℕ)) (range : Option (ℕ × ℕ)) (width : ℕ) (words : List ℕ) → IsColumn values range width words → Below 64 words
+column_below values range width words h = subst (Below 64) (sym h.words_are) (Below-words_of 64 width (offsets (least_of range) values))
+
+-- two halves that were written, one after the other
+pub half_low : (a b out : List ℕ) (i : ℕ) → length a ≡ 64 → i < 64 → get_or (put_mid 64 64 (a ++ out) b) i 0 ≡ get_or a i 0
+half_low a b out i long small =
+    let size : length (take 64 (a ++ out)) ≡ 64 = length-take-le 64 (a ++ out) (omega (arith, length-append a out)) in
+    get_or_append_left (take 64 (a ++ out)) _ 0 i (omega arith) ∙ get_or-take 64 (a ++ out) i 0 small ∙ get_or_append_left a out 0 i (omega arith)
+
+pub half_high : (a b out : List ℕ) (i : ℕ) → length a ≡ 64 → length b ≡ 64 → 64 ≤ i → i < 128 → get_or (put_mid 64 64 (a ++ out) b) i 0 ≡ get_or b (i - 64) 0
+half_high a b out i long long' above small =
+    let size : length (take 64 (a ++ out)) ≡ 64 = length-take-le 64 (a ++ out) (omega (arith, length-append a out)) in
+    get_or-append_right (take 64 (a ++ out)) _ 64 i 0 size above ∙ get_or_append_left b _ 0 (i - 64) (omega arith)

@@ -1,0 +1,32 @@
+use Rattle.std.proofs.Common.{◌≡◌, ◌<◌, ◌^◌, ◌-◌, ◌∙◌, ap}
+use Rattle.fts_bits.specs.Digits.{words_of}
+use Rattle.fts_column.specs.Column.{spread_of, least_of, offsets}
+use Rattle.fts_column.proofs.ColumnLemmas.{IsColumn-built, column_values, offsets_fit, unwrap_least, unwrap_spread}
+use Rattle.fts_column.proofs.column.Column.packed.Goals as goal
+
+pub packed_offsets-requires-clause-fits : goal.packed_offsets-requires-clause-fits
+packed_offsets-requires-clause-fits c =
+    let range = c.range_of-range.result in
+    let least : c.unwrap_or-least.result.0 ≡ least_of range = ap (λ r. r.0) c.unwrap_or-least.ensures ∙ unwrap_least range in
+    let spread : c.unwrap_or-least.result.1 - c.unwrap_or-least.result.0 ≡ spread_of range = ap (λ r. r.1 - r.0) c.unwrap_or-least.ensures ∙ unwrap_spread range in
+    rw least (offsets_fit c.args.values.now range _ c.range_of-range.ensures.range (rw spread at c.bit_length-width.ensures.holds))
+
+pub invariant_of-result : goal.invariant_of-result
+invariant_of-result c =
+    let values = c.args.values.now in
+    let range = c.range_of-range.result in
+    let least : c.unwrap_or-least.result.0 ≡ least_of range = ap (λ r. r.0) c.unwrap_or-least.ensures ∙ unwrap_least range in
+    let spread : c.unwrap_or-least.result.1 - c.unwrap_or-least.result.0 ≡ spread_of range = ap (λ r. r.1 - r.0) c.unwrap_or-least.ensures ∙ unwrap_spread range in
+    let words : c.in_ok-words.words.items ≡ words_of 64 c.bit_length-width.result (offsets (least_of range) values) = c.in_ok-words.ensures ∙ ap (λ x. words_of 64 c.bit_length-width.result (offsets x values)) least in
+    let small : spread_of range < 2 ^ c.bit_length-width.result = rw spread at c.bit_length-width.ensures.holds in
+    let view = column_values values range c.in_ok-present.present c.bit_length-width.result c.in_ok-words.words.items c.range_of-range.ensures.range c.in_ok-present.ensures small words in
+    rw view (IsColumn-built values range c.bit_length-width.result c.in_ok-words.words.items c.requires c.range_of-range.ensures.range c.range_of-range.ensures.fits small (λ other lt. c.bit_length-width.ensures.least other (rw spread lt)) words)
+
+pub returns : goal.returns
+returns c =
+    let values = c.args.values.now in
+    let range = c.range_of-range.result in
+    let least : c.unwrap_or-least.result.0 ≡ least_of range = ap (λ r. r.0) c.unwrap_or-least.ensures ∙ unwrap_least range in
+    let spread : c.unwrap_or-least.result.1 - c.unwrap_or-least.result.0 ≡ spread_of range = ap (λ r. r.1 - r.0) c.unwrap_or-least.ensures ∙ unwrap_spread range in
+    let words : c.in_ok-words.words.items ≡ words_of 64 c.bit_length-width.result (offsets (least_of range) values) = c.in_ok-words.ensures ∙ ap (λ x. words_of 64 c.bit_length-width.result (offsets x values)) least in
+    column_values values range c.in_ok-present.present c.bit_length-width.result c.in_ok-words.words.items c.range_of-range.ensures.range c.in_ok-present.ensures (rw spread at c.bit_length-width.ensures.holds) words

@@ -1,0 +1,45 @@
+-- A column of values, one for each document, of which some are missing.
+use Rattle.std.specs.Prelude.{◌≡◌, ℕ, ◌+◌, ◌-◌, ◌^◌, ◌<◌, ◌≤◌, Bool, List, [], ◌∷◌, Option, Some, None, All, Contains, IfSome, length, map, max, min, if◌then◌else◌}
+use Rattle.std.specs.Option.{option_map_or}
+use Rattle.fts_bits.specs.Digits.{IsWidthOf, words_of}
+
+-- the least and the greatest value, if there is one
+abbrev pub IsRangeOf : List (Option ℕ) → Option (ℕ × ℕ) → Type 0
+IsRangeOf values None = All (λ v. v ≡ None) values
+IsRangeOf values (Some range) =
+    Contains values (Some range.0) × Contains values (Some range.1) × All (λ v. IfSome v (λ x. (range.0 ≤ x) × (x ≤ range.1))) values
+
+-- the range that holds one value more
+abbrev pub range_with : Option (ℕ × ℕ) → ℕ → ℕ × ℕ
+range_with None x = (x, x)
+range_with (Some range) x = (min range.0 x, max range.1 x)
+
+-- the least value, or 0 where there is none
+abbrev pub least_of : Option (ℕ × ℕ) → ℕ
+least_of None = 0
+least_of (Some range) = range.0
+
+-- how far apart the least and the greatest value are
+abbrev pub spread_of : Option (ℕ × ℕ) → ℕ
+spread_of None = 0
+spread_of (Some range) = range.1 - range.0
+
+-- how far each value is above the least, and 0 for a missing one
+abbrev pub offsets : ℕ → List (Option ℕ) → List ℕ
+offsets least values = map (λ v. option_map_or (λ x. x - least) v 0) values
+
+-- the values at these offsets, where they are present
+abbrev pub values_at : ℕ → List Bool → List ℕ → List (Option ℕ)
+values_at least (bit ∷ present) (x ∷ numbers) =
+    (if bit then Some (least + x) else None) ∷ values_at least present numbers
+values_at least (bit ∷ present) [] = []
+values_at least [] numbers = []
+
+-- these fields hold these values
+pub record IsColumn (values : List (Option ℕ)) (range : Option (ℕ × ℕ)) (width : ℕ) (words : List ℕ) : Type 0 where
+  pub few : length values ≤ 2 ^ 32
+  pub range_is : IsRangeOf values range
+  pub range_fits : IfSome range (λ r. r.1 < 2 ^ 64)
+  pub width_within : width ≤ 64
+  pub width_is : IsWidthOf (spread_of range ∷ []) width
+  pub words_are : words ≡ words_of 64 width (offsets (least_of range) values)

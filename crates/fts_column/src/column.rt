@@ -1,0 +1,248 @@
+// One value a document, or none: how far it is above the least, in as few bits as the greatest needs, and a bit for presence.
+ghost use Rattle.std.specs.Prelude.{◌≡◌, ◌≤◌, ◌<◌, ◌+◌, ◌-◌, ◌*◌, ◌%◌, ◌^◌, ◌==◌, ℕ, List, [], ◌∷◌, Option, None, All, IfOk, IfSome, IsOkUnless, drop, is_some, length, map, min, slice_index, slice_index_or, take};
+ghost use Rattle.fts_bits.specs.Bits.{number_of};
+ghost use Rattle.fts_bits.specs.Digits.{IsWidthOf, numbers_in, words_of};
+ghost use Rattle.std.specs.Option.{option_map_or};
+ghost use Rattle.fts_column.specs.Column.{IsColumn, IsRangeOf, least_of, offsets, range_with, spread_of, values_at};
+
+use crate::fields;
+use fts_base::Refusal;
+use fts_bits::{Bits, packing};
+use std::alloc::{AllocError, Global};
+use std::marker::Model;
+
+/// One value for each of a number of documents, of which some may be missing.
+#[derive(Drop)]
+pub struct Column {
+    range: Option<(u64, u64)>,
+    width: u32,
+    present: Bits,
+    words: Vec<u64>,
+}
+
+/// The documents of a column from one on, at most 128 of them.
+#[derive(Clone, Copy, Debug, PartialEq, Eq)]
+pub struct Stretch {
+    /// How many documents there are.
+    pub len: usize,
+    /// A bit for each of them, the first the lowest: it is set where the document has a value.
+    pub present: u128,
+}
+
+impl Model for Column {
+    ghost Value = { List (Option ℕ) };
+
+    ghost view = { λ c. values_at (least_of c.range) c.present (numbers_in 64 c.width (length c.present) c.words.items) };
+
+    ghost invariant = { λ c. IsColumn (values_at (least_of c.range) c.present (numbers_in 64 c.width (length c.present) c.words.items)) c.range c.width c.words.items };
+}
+
+impl Column {
+    /// Packs the values, one a document. Document numbers have 32 bits.
+    pub fn build(alloc: Global, values: &[Option<u64>]) -> Result<Column, Refusal>
+        requires { length values.now ≤ 2 ^ 32 }
+        ensures ok { IfOk result (λ column. column ≡ values.now) }
+        ensures memory { IsOkUnless result Refusal.Memory }
+    {
+        Self::packed(alloc, values).map_err(|_| Refusal::Memory)
+    }
+
+    fn packed(alloc: Global, values: &[Option<u64>]) -> Result<Column, AllocError>
+        requires { length values.now ≤ 2 ^ 32 }
+        ensures { IfOk result (λ column. column ≡ values.now) }
+    {
+        let range = range_of(values);
+        let (least, greatest) = range.unwrap_or((0, 0));
+        let width = packing::bit_length(greatest - least);
+        let present = presence(alloc, values)?;
+        let words = packed_offsets(alloc, width, least, values)?;
+        Ok(Column {
+            range,
+            width,
+            present,
+            words,
+        })
+    }
+
+    /// How many documents there are.
+    pub fn len(&self) -> usize
+        ensures { result ≡ length self.now }
+    {
+        self.present.len()
+    }
+
+    /// Whether there is no document.
+    pub fn is_empty(&self) -> bool
+        ensures { result ≡ (length self.now == 0) }
+    {
+        self.present.is_empty()
+    }
+
+    /// The document's value, and `None` where it has none or there is no such document.
+    #[inline]
+    pub fn get(&self, doc: usize) -> Option<u64>
+        ensures { result ≡ slice_index_or self.now doc None }
+    {
+        let (least, _) = self.range?;
+        if doc < self.present.len() && self.present.get(doc) {
+            Some(least + packing::read(&self.words, self.width, doc))
+        } else {
+            None
+        }
+    }
+
+    /// Writes the values of the 128 documents from `from` on, a multiple of 64, and tells which of them have one. The
+    /// place of a document that has none, or that isn't there, may hold anything.
+    pub fn values(&self, from: usize, out: &mut [u64; 128]) -> Stretch
+        requires inside { from ≤ length self.now }
+        requires aligned { from % 64 ≡ 0 }
+        ensures len { result.len ≡ min 128 (length self.now - from) }
+        ensures present { result.present ≡ number_of (map is_some (take 128 (drop from self.now))) }
+        ensures values { (i x : ℕ) → i < 128 → slice_index_or self.now (from + i) None ≡ Some x
+            → slice_index out.new i ≡ x }
+    {
+        let len = (self.present.len() - from).min(128);
+        self.write_values(from, &mut out[..64]);
+        self.write_values(from + 64, &mut out[64..]);
+        let low = u128::from(self.present.word(from / 64));
+        let high = u128::from(self.present.word(from / 64 + 1));
+        Stretch {
+            len,
+            present: low | high << 64,
+        }
+    }
+
+    // Writes the values of up to 64 documents.
+    fn write_values(&self, from: usize, out: &mut [u64])
+        requires aligned { from % 64 ≡ 0 }
+        requires long { length out.old ≡ 64 }
+        ensures values { (i x : ℕ) → i < 64 → slice_index_or self.now (from + i) None ≡ Some x
+            → slice_index out.new i ≡ x }
+        ensures long { length out.new ≡ 64 }
+    {
+        let (least, _) = self.range.unwrap_or((0, 0));
+        let len = self.present.len().saturating_sub(from);
+        if len >= 64 {
+            let (_, words) = self.words.split_at(from / 64 * self.width as usize);
+            fields::read(words, self.width, least, out);
+        } else {
+            for place in 0..len {
+                out[place] = least.wrapping_add(packing::read(
+                    &self.words,
+                    self.width,
+                    from + place,
+                ));
+            }
+        }
+    }
+
+    /// The least and the greatest value, if there is one.
+    pub fn range(&self) -> Option<(u64, u64)>
+        ensures { IsRangeOf self.now result }
+    {
+        self.range
+    }
+
+    /// The bits of the documents that have a value.
+    pub fn present(&self) -> &Bits
+        ensures { result.now ≡ map is_some self.now }
+    {
+        &self.present
+    }
+
+    /// How many bits each value takes.
+    pub fn width(&self) -> u32
+        ensures { (range : Option (ℕ × ℕ)) → IsRangeOf self.now range → IsWidthOf (spread_of range ∷ []) result }
+    {
+        self.width
+    }
+
+    /// The words in which the values lie.
+    pub fn words(&self) -> &[u64]
+        ensures { (range : Option (ℕ × ℕ)) (width : ℕ) → IsRangeOf self.now range
+            → IsWidthOf (spread_of range ∷ []) width
+            → result.now ≡ words_of 64 width (offsets (least_of range) self.now) }
+    {
+        &self.words
+    }
+}
+
+// The least and the greatest value, if there is one.
+fn range_of(values: &[Option<u64>]) -> Option<(u64, u64)>
+    ensures range { IsRangeOf values.now result }
+    ensures fits { IfSome result (λ r. r.1 < 2 ^ 64) }
+{
+    let mut range = None;
+    for value in values {
+        if let Some(value) = *value {
+            range = Some(widened(range, value));
+        }
+    }
+    range
+}
+
+// The range, made to hold the value.
+fn widened(range: Option<(u64, u64)>, value: u64) -> (u64, u64)
+    ensures { result ≡ range_with range value }
+{
+    match range {
+        None => (value, value),
+        Some((least, greatest)) => (least.min(value), greatest.max(value)),
+    }
+}
+
+// A bit a document, set where its value is present.
+fn presence(alloc: Global, values: &[Option<u64>]) -> Result<Bits, AllocError>
+    ensures { IfOk result (λ bits. bits ≡ map is_some values.now) }
+{
+    let mut present = Bits::zeroed(alloc, values.len())?;
+    for (doc, value) in values.iter().enumerate() {
+        if value.is_some() {
+            present.set(doc);
+        }
+    }
+    Ok(present)
+}
+
+// The words of how far each value is above the least.
+fn packed_offsets(
+    alloc: Global,
+    width: u32,
+    least: u64,
+    values: &[Option<u64>],
+) -> Result<Vec<u64>, AllocError>
+    requires few { length values.now ≤ 2 ^ 32 }
+    requires narrow { width ≤ 64 }
+    requires above { All (λ v. IfSome v (λ x. least ≤ x)) values.now }
+    requires fits { All (λ x. x < 2 ^ width) (offsets least values.now) }
+    ensures { IfOk result (λ words. words.items ≡ words_of 64 width (offsets least values.now)) }
+{
+    let count = packing::word_count_64(values.len() * width as usize);
+    let mut words = Vec::with_capacity(alloc, count)?;
+    let mut pending = 0u128;
+    let mut filled = 0u32;
+    for value in values {
+        pending |= u128::from(offset(least, *value)) << filled;
+        filled += width;
+        if filled >= 64 {
+            words.push((pending & u128::from(u64::MAX)) as u64)?;
+            pending >>= 64;
+            filled -= 64;
+        }
+    }
+    if filled > 0 {
+        words.push(pending as u64)?;
+    }
+    Ok(words)
+}
+
+// How far the value is above the least, and 0 for a missing one.
+fn offset(least: u64, value: Option<u64>) -> u64
+    requires { IfSome value (λ x. least ≤ x) }
+    ensures { result ≡ option_map_or (λ x. x - least) value 0 }
+{
+    match value {
+        None => 0,
+        Some(value) => value - least,
+    }
+}

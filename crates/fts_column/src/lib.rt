@@ -1,0 +1,8 @@
+//! Columns: one value a document, or none, each in as few bits as the greatest of them needs.
+#![tactic(auto)]
+
+mod column;
+mod fields;
+pub mod laws;
+
+pub use column::{Column, Stretch};

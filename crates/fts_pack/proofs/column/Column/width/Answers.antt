@@ -1,8 +1,0 @@
-use Rattle.std.proofs.Common.{subst}
-use Rattle.fts_pack.specs.Column.{IsColumn}
-use Rattle.fts_pack.proofs.ColumnLemmas.{column_width}
-use Rattle.fts_pack.proofs.column.Column.width.Goals as goal
-
-pub returns : goal.returns
-returns c =
-    column_width c.args.self.now c.self.inside.range c.self.inside.width c.self.inside.words.items (subst (λ v. IsColumn v c.self.inside.range c.self.inside.width c.self.inside.words.items) c.self.view_is c.self.invariant)
