@@ -4,13 +4,10 @@
 ghost use Rattle.std.specs.Prelude.{◌≡◌, ◌≢◌, ◌⊎◌};
 ghost use Rattle.fts_script.specs.Runs.{FailsRead, FailsWrite, Flushes, ReadsTooMuch, StopsInLastRead, TellsEnd};
 ghost use Rattle.fts_script.specs.Runs.{WritesBeginning, WritesEnded, WritesOutput};
-ghost use Rattle.fts.specs.Arguments.{run_status_of};
+ghost use Rattle.fts_cli.specs.Arguments.{run_status_of};
 
-mod cli;
-mod laws;
-
-use cli::args::{ArgFault, Asked, args};
-use cli::status::{arg_status, run_status, status};
+use fts_cli::args::{ArgFault, Asked, args};
+use fts_cli::status::{arg_status, run_status, status};
 use fts_engine::IndexEngine;
 use fts_script::{Fault, Options, Plain, Streams, run_script};
 use std::env::Env;

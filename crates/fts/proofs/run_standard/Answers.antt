@@ -1,5 +1,5 @@
 use Rattle.std.proofs.Common.{◌∙◌, sym, inl, inr, ⊎_elim}
-use Rattle.fts.proofs.StatusLemmas.{of_end, of_failed, of_memory, of_stop, of_used_up}
+use Rattle.fts_cli.proofs.StatusLemmas.{of_end, of_failed, of_memory, of_stop, of_used_up}
 use Rattle.fts.proofs.run_standard.Goals as goal
 
 pub returns-clause-ok : goal.returns-clause-ok
