@@ -15,9 +15,9 @@ use Rattle.clap.specs.declared.parser.matches.ArgMatches.{ArgMatches}
 use Rattle.fts_model.specs.Limits.{most_built}
 use Rattle.fts_model.specs.declared.cut.Cut.{Cut}
 use Rattle.fts_model.specs.declared.cut.Cut.TheVariants.{Runs, Deal}
-use Rattle.fts_script.specs.declared.options.Options.{Options}
-use Rattle.fts_script.specs.declared.options.Merge.{Merge}
-use Rattle.fts_script.specs.declared.options.Merge.TheVariants.{Off, Policy}
+use Rattle.fts_steps.specs.declared.options.Options.{Options}
+use Rattle.fts_steps.specs.declared.options.Merge.{Merge}
+use Rattle.fts_steps.specs.declared.options.Merge.TheVariants.{Off, Policy}
 
 -- Where the values of `--merge` lie in memory: clap keeps a reference to them, and compares their texts alone.
 pub record Places : Type 0 where

@@ -6,7 +6,7 @@ ghost use Rattle.fts_cli.specs.declared.args.ArgFault.TheVariants.{Memory};
 use crate::options::options;
 use crate::parser::parse;
 use clap::error::ErrorKind;
-use fts_script::Options;
+use fts_steps::Options;
 use std::alloc::{AllocError, Global};
 use thiserror::Error;
 

@@ -7,7 +7,7 @@ ghost use Rattle.fts_cli.specs.RunOptions.{merge_asked, number_given};
 
 use clap::ArgMatches;
 use fts_model::MOST_BUILT;
-use fts_script::{Cut, Merge, Options};
+use fts_steps::{Cut, Merge, Options};
 
 /// The number behind an option, if it is given.
 fn number(run: &ArgMatches, name: &str) -> Option<usize>

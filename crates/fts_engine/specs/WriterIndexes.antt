@@ -8,7 +8,7 @@ use Rattle.fts_snapshots.specs.Commits.{misfit}
 use Rattle.fts_snapshots.specs.declared.entry.SegmentInfo.{SegmentInfo}
 use Rattle.fts_index.specs.Publications.{Known}
 use Rattle.fts_index.specs.Writers.{WriterValue}
-use Rattle.fts_script.specs.Indexes.{Index}
+use Rattle.fts_steps.specs.Indexes.{Index}
 use Rattle.fts_engine.specs.declared.uncommitted.Uncommitted.{Uncommitted}
 use Rattle.fts_engine.specs.UncommittedOperations.{ops_of, IsUncommittedIn}
 

@@ -9,7 +9,7 @@ use crate::uncommitted::Uncommitted;
 use fts_index::{CommitSeen, Reader, Searcher, SegmentInfo, Writer};
 use fts_model::{Answer, Op, Query, Refusal, Request, Schema, Stamp};
 use fts_pool::Open;
-use fts_script::{Engine, Options};
+use fts_steps::{Engine, Options};
 use std::alloc::Global;
 use std::marker::Model;
 use std::sync::Wait;

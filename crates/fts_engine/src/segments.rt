@@ -8,7 +8,7 @@ ghost use Rattle.fts_engine.specs.WriterIndexes.{Merges};
 
 use fts_index::{SegmentInfo, Writer};
 use fts_model::{MOST_MERGED, Refusal};
-use fts_script::Merge;
+use fts_steps::Merge;
 use std::alloc::{AllocError, Global};
 use std::sync::Wait;
 

@@ -11,7 +11,7 @@ ghost use Rattle.fts_engine.specs.WriterIndexes.{Commits};
 use crate::segments::merge_behind;
 use fts_index::{Batch, Committed, Lane, LaneEnd, Round, Writer};
 use fts_model::{Op, Refusal, Stamp};
-use fts_script::Options;
+use fts_steps::Options;
 use std::alloc::Global;
 use std::mem;
 use std::sync::Wait;

@@ -1,9 +1,4 @@
-pub mod Adds
-pub mod AnswerLemmas
 pub mod BlankLemmas
-pub mod CarrierLemmas
-pub mod FitLemmas
-pub mod HistoryLemmas
 pub mod KeptLemmas
 pub mod LineLemmas
 pub mod RunLemmas

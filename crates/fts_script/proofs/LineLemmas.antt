@@ -4,7 +4,7 @@ use Rattle.std.proofs.lemmas.Bool.{eqb-true}
 use Rattle.std.proofs.lemmas.List.{length-append, take_more, take_all}
 use Rattle.memchr.specs.Find.{IsFirstByte, is_byte}
 use Rattle.std.specs.List.{onto_first}
-use Rattle.fts_script.specs.Text.{lines_of, IsWhole, HasNoEnd}
+use Rattle.fts_session.specs.Text.{lines_of, IsWhole, HasNoEnd}
 
 onto_first-append : (b : ℕ) (ls ms : List (List ℕ)) → 0 < length ls → onto_first b (ls ++ ms) ≡ onto_first b ls ++ ms
 onto_first-append b [] ms h = absurd (omega arith)

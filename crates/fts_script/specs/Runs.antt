@@ -1,7 +1,7 @@
 -- What a run did to its streams: each tells one thing of the streams before it and after it.
 use Rattle.std.specs.Prelude.{ℕ, ◌≡◌, ◌<◌, ◌^◌, List, ◌++◌, length}
 use Rattle.fts_script.specs.Streams.{StreamsValue, Wrote, LosesGiven, GainsTaken}
-use Rattle.fts_script.specs.Outputs.{output}
+use Rattle.fts_session.specs.Outputs.{output}
 use Rattle.fts_script.specs.Stops.{AnswersEnded, AnswersFirst, BeginsOutputUnless, StopsFirst}
 
 -- What the run read, and what it wrote, are so.

@@ -16,24 +16,15 @@
 //! ```
 #![tactic(auto)]
 
-mod answer;
-mod command;
-mod engine;
 mod fault;
-pub mod laws;
 mod lines;
-mod list_engine;
-mod options;
 mod responder;
 mod run;
-mod session;
 mod std_streams;
 mod streams;
 
-pub use engine::Engine;
 pub use fault::Fault;
-pub use list_engine::ListEngine;
-pub use options::{Cut, Merge, Options};
+pub use fts_steps::{Cut, Engine, ListEngine, Merge, Options};
 pub use run::run_script;
 pub use std_streams::Plain;
 pub use streams::{ScriptIn, ScriptOut, Streams};

@@ -1,29 +1,16 @@
 // The line in hand, where a block of the input has cut it.
 ghost use Rattle.std.specs.Prelude.{◌≡◌, ◌≤◌, ◌&&◌, ◌↔◌, false, None, [], length, IsTrue, OnOk, OnErr};
 ghost use Rattle.std.specs.List.{prefix_len};
-ghost use Rattle.fts_script.specs.Text.{is_white, is_blank};
-ghost use Rattle.fts_script.specs.Commands.{longest};
-ghost use Rattle.fts_script.specs.KeptLines.{bytes_in, grown, is_blank_kept, kept_line, too_long_in};
+ghost use Rattle.fts_session.specs.Text.{is_white, is_blank};
+ghost use Rattle.fts_command.specs.Commands.{longest};
+ghost use Rattle.fts_session.specs.KeptLines.{bytes_in, grown, is_blank_kept, kept_line, too_long_in};
 
+use fts_session::{is_blank, is_white};
 use std::alloc::{AllocError, Global};
 use std::marker::Model;
 
 /// The most bytes of a line, before its LF.
 pub const LONGEST: usize = 4_194_304;
-
-/// Whether a byte is a space, a tab or a CR.
-fn is_white(byte: u8) -> bool
-    ensures { result ≡ is_white byte }
-{
-    byte == b' ' || byte == b'\t' || byte == b'\r'
-}
-
-/// Whether a line has only spaces, tabs and CRs.
-pub fn is_blank(line: &[u8]) -> bool
-    ensures { result ≡ is_blank line.now }
-{
-    line.iter().all(|byte| is_white(*byte))
-}
 
 /// How many spaces, tabs and CRs a line begins with.
 fn count_white(line: &[u8]) -> usize
@@ -54,9 +41,9 @@ pub struct PartialLine {
 impl Model for PartialLine {
     ghost use Rattle.std.specs.Prelude.{◌≡◌, ◌+◌, ◌≤◌, vec_len};
     ghost use Rattle.std.specs.List.{prefix_len};
-    ghost use Rattle.fts_script.specs.Text.{is_white};
-    ghost use Rattle.fts_script.specs.Commands.{longest};
-    ghost use Rattle.fts_script.specs.KeptLines.{KeptLine, kept_in};
+    ghost use Rattle.fts_session.specs.Text.{is_white};
+    ghost use Rattle.fts_command.specs.Commands.{longest};
+    ghost use Rattle.fts_session.specs.KeptLines.{KeptLine, kept_in};
 
     ghost Value = { KeptLine };
 

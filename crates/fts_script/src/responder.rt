@@ -2,19 +2,18 @@
 ghost use Rattle.std.specs.Prelude.{ℕ, ◌≡◌, ◌+◌, ◌^◌, ◌<◌, ◌≤◌, ◌++◌, false, List, [], length, take, string_bytes};
 ghost use Rattle.std.specs.Prelude.{IfOk, OnOk, OnErr, IsErrOf};
 ghost use Rattle.fts_script.specs.Streams.{GainsTaken, Wrote};
-ghost use Rattle.fts_script.specs.Text.{lines_of, HasNoEnd};
-ghost use Rattle.fts_script.specs.Commands.{longest};
-ghost use Rattle.fts_script.specs.KeptLines.{after_kept, grown, is_blank_kept, kept_line, reply_to_kept};
-ghost use Rattle.fts_script.specs.Outputs.{start, output};
+ghost use Rattle.fts_session.specs.Text.{lines_of, HasNoEnd};
+ghost use Rattle.fts_command.specs.Commands.{longest};
+ghost use Rattle.fts_session.specs.KeptLines.{after_kept, grown, is_blank_kept, kept_line, reply_to_kept};
+ghost use Rattle.fts_session.specs.Outputs.{start, output};
 ghost use Rattle.fts_script.specs.Stops.{BeginsOutput, BeginsWith, IsWritten, StopsFirst};
 ghost use Rattle.fts_script.specs.Responders.{Finishes, Advances, AdvancesToStop, RunState};
 
-use crate::engine::Engine;
 use crate::fault::Fault;
 use crate::lines::PartialLine;
-use crate::options::Options;
-use crate::session::Session;
 use crate::streams::ScriptOut;
+use fts_session::Session;
+use fts_steps::{Engine, Options};
 use memchr::memchr;
 use std::alloc::{AllocError, Global};
 use std::sync::Wait;

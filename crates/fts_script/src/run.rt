@@ -4,11 +4,10 @@ ghost use Rattle.std.specs.Io.KnownBytes.{IsAtEnd};
 ghost use Rattle.fts_script.specs.Runs.{FailsRead, FailsWrite, Flushes, GainsWritten, LosesRead, ReadsTooMuch};
 ghost use Rattle.fts_script.specs.Runs.{StopsInLastRead, TellsEnd, WritesBeginning, WritesEnded, WritesOutput};
 
-use crate::engine::Engine;
 use crate::fault::Fault;
-use crate::options::Options;
 use crate::responder::Responder;
 use crate::streams::{ScriptIn, ScriptOut, Streams};
+use fts_steps::{Engine, Options};
 use std::alloc::{AllocError, Global};
 use std::sync::Wait;
 use std::thread::Threads;

@@ -14,7 +14,7 @@ loop-i-preserved-in-Less c = record {
       let front = c.args.front.now in
       let back = c.args.back.now in
       ap (λ xs. xs ++ fold add_group (drop c.loop-i.i front) (drop (c.loop-i.j + 1) back)) c.in_ok-push-in-Less.ensures.items
-      ∙ merged-less front back c.loop-i.list.items c.loop-i.i c.loop-i.j (U64 0, 0) (fold add_group front back) c.loop-i-test.true c.if-j-back.true (sym c.number_cmp.ensures ∙ c.in-Less.is) rising (c.loop-i.invariant.so_far rising);
+      ∙ merged-less front back c.loop-i.list.items c.loop-i.i c.loop-i.j (U64 0, 0) (fold add_group front back) c.loop-i-test.true c.if-j-back.true (sym c.compare.ensures ∙ c.in-Less.is) rising (c.loop-i.invariant.so_far rising);
 }
 
 pub loop-i-preserved-in-Equal : goal.loop-i-preserved-in-Equal
@@ -27,7 +27,7 @@ loop-i-preserved-in-Equal c = record {
       let rest = fold add_group (drop (c.loop-i.i + 1) front) (drop (c.loop-i.j + 1) back) in
       ap (λ xs. xs ++ rest) c.in_ok-push-in-Equal.ensures.items
       ∙ ap (λ n. (c.loop-i.list.items ++ ((get_or front c.loop-i.i (U64 0, 0)).0, n) ∷ []) ++ rest) c.saturating_add-in-Equal.ensures
-      ∙ merged-equal front back c.loop-i.list.items c.loop-i.i c.loop-i.j (U64 0, 0) (fold add_group front back) c.loop-i-test.true c.if-j-back.true (sym c.number_cmp.ensures ∙ c.in-Equal.is) rising (c.loop-i.invariant.so_far rising);
+      ∙ merged-equal front back c.loop-i.list.items c.loop-i.i c.loop-i.j (U64 0, 0) (fold add_group front back) c.loop-i-test.true c.if-j-back.true (sym c.compare.ensures ∙ c.in-Equal.is) rising (c.loop-i.invariant.so_far rising);
 }
 
 pub loop-i-preserved : goal.loop-i-preserved
@@ -38,7 +38,7 @@ loop-i-preserved c = record {
       let front = c.args.front.now in
       let back = c.args.back.now in
       ap (λ xs. xs ++ fold add_group (drop (c.loop-i.i + 1) front) (drop c.loop-i.j back)) c.in_ok-push-in-Greater.ensures.items
-      ∙ merged-greater front back c.loop-i.list.items c.loop-i.i c.loop-i.j (U64 0, 0) (fold add_group front back) c.loop-i-test.true c.if-j-back.true (sym c.number_cmp.ensures ∙ c.in-Greater.is) rising (c.loop-i.invariant.so_far rising);
+      ∙ merged-greater front back c.loop-i.list.items c.loop-i.i c.loop-i.j (U64 0, 0) (fold add_group front back) c.loop-i-test.true c.if-j-back.true (sym c.compare.ensures ∙ c.in-Greater.is) rising (c.loop-i.invariant.so_far rising);
 }
 
 pub returns : goal.returns

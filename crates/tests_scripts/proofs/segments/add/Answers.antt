@@ -1,6 +1,6 @@
 use Rattle.std.proofs.Common.{◌≡◌, true, subst}
 use Rattle.fts_model.specs.Documents.{fits}
-use Rattle.fts_script.proofs.FitLemmas.{document_fits}
+use Rattle.fts_steps.proofs.FitLemmas.{document_fits}
 use Rattle.tests_scripts.proofs.segments.add.Goals as goal
 
 pub submit-requires-clause-fits : goal.submit-requires-clause-fits

@@ -1,6 +1,6 @@
 use Rattle.std.proofs.Common.{[], ◌++◌, ◌∙◌, ap, append_assoc, append-nil, drop, take, take-append-drop, length, subst, sym, arith, string_bytes}
 use Rattle.std.proofs.lemmas.List.{take_all}
-use Rattle.fts_script.specs.Text.{lines_of}
+use Rattle.fts_session.specs.Text.{lines_of}
 use Rattle.fts_script.specs.Stops.{IsWritten}
 use Rattle.fts_script.specs.Responders.{Advances}
 use Rattle.fts_script.proofs.BlankLemmas.{IsWritten-front}

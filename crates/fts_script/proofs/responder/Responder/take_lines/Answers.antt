@@ -1,5 +1,5 @@
 use Rattle.std.proofs.Common.{[], ◌++◌, take, drop, subst, sym, arith, string_bytes, take-append-drop}
-use Rattle.fts_script.specs.Text.{lines_of}
+use Rattle.fts_session.specs.Text.{lines_of}
 use Rattle.fts_script.specs.Stops.{IsWritten}
 use Rattle.fts_script.specs.Responders.{Advances, AdvancesToStop}
 use Rattle.fts_script.proofs.RunLemmas.{Advances-then, AdvancesToStop-leads, on_err, sent_more, tail_is, within_more}

@@ -1,0 +1,88 @@
+-- Answers as JSON.
+use Rattle.std.proofs.Common.{◌≡◌, Bool, false, ◌||◌, List, [], ◌∷◌, ◌++◌, ℕ, pos, negsuc, Option, Some, None, Ordering, Less, Equal, Greater, refl, ap, option_map, nat_cmp}
+use Rattle.std.specs.Cmp.Lexicographic.{slice_cmp}
+use Rattle.std.specs.Ordering.{match_ordering}
+use Rattle.serde_json.specs.Data.{Data, Items, no_items, item, Members, no_members, member, put}
+use Rattle.serde_json.specs.View.{view, items_view}
+use Rattle.serde_json.specs.Written.{has_float, items_have_float, members_have_float}
+use Rattle.serde_json.specs.declared.value.Value.{Value}
+use Rattle.fts_model.specs.declared.schema.Field.{Field}
+use Rattle.fts_model.specs.declared.value.Number.{Number}
+use Rattle.fts_model.specs.declared.value.Number.TheVariants as numbers
+use Rattle.fts_model.specs.declared.value.FieldValue.{FieldValue}
+use Rattle.fts_model.specs.declared.value.FieldValue.TheVariants as values
+use Rattle.fts_model.specs.declared.answer.Hit.{Hit}
+use Rattle.fts_model.specs.Documents.{data_of, with_value, with_values}
+use Rattle.fts_model.specs.Answers.{AnswerValue}
+use Rattle.fts_model.proofs.DocumentsFields.{or_false}
+use Rattle.fts_command.specs.AnswerData.{groups_data, hits_data, list_member, answer_data}
+
+-- what values are, in front of others
+abbrev pub items_before : List Value → Items → Items
+items_before [] rest = rest
+items_before (v ∷ vs) rest = item (view v) (items_before vs rest)
+
+pub items_pushed : (vs : List Value) (v : Value) (rest : Items) → items_before (vs ++ v ∷ []) rest ≡ items_before vs (item (view v) rest)
+items_pushed [] v rest = refl
+items_pushed (w ∷ vs) v rest = ap (item (view w)) (items_pushed vs v rest)
+
+pub items_alone : (vs : List Value) → items_before vs no_items ≡ items_view vs
+items_alone [] = refl
+items_alone (v ∷ vs) = ap (item (view v)) (items_alone vs)
+
+neither : {a b : Bool} → a ≡ false → b ≡ false → (a || b) ≡ false
+neither p q = cc
+
+-- nothing of an answer is a float
+value_plain : (v : FieldValue) → has_float (data_of v) ≡ false
+value_plain (values.Text text) = refl
+value_plain (values.Number (numbers.U64 n)) = refl
+value_plain (values.Number (numbers.I64 (pos n))) = refl
+value_plain (values.Number (numbers.I64 (negsuc n))) = refl
+
+put_at : (o : Ordering) (name other : List ℕ) (d e : Data) (ms : Members) → has_float d ≡ false → has_float e ≡ false → members_have_float ms ≡ false →
+    members_have_float (put name d ms) ≡ false →
+    members_have_float (match_ordering o (member name d (member other e ms)) (member other d ms) (member other e (put name d ms))) ≡ false
+put_at Less name other d e ms p q r s = neither p (neither q r)
+put_at Equal name other d e ms p q r s = neither p r
+put_at Greater name other d e ms p q r s = neither q s
+
+put_plain : (name : List ℕ) (d : Data) (ms : Members) → has_float d ≡ false → members_have_float ms ≡ false → members_have_float (put name d ms) ≡ false
+put_plain name d no_members p h = neither p refl
+put_plain name d (member other e ms) p h =
+    let both = or_false (has_float e) (members_have_float ms) h in
+    put_at (slice_cmp nat_cmp name other) name other d e ms p both.0 both.1 (put_plain name d ms p both.1)
+
+one_plain : (ms : Members) (field : Field) (value : Option FieldValue) → members_have_float ms ≡ false → members_have_float (with_value ms field value) ≡ false
+one_plain ms field None h = h
+one_plain ms field (Some v) h = put_plain field.name (data_of v) ms (value_plain v) h
+
+all_plain : (ms : Members) (fields : List Field) (vs : List (Option FieldValue)) → members_have_float ms ≡ false → members_have_float (with_values ms fields vs) ≡ false
+all_plain ms [] vs h = h
+all_plain ms (field ∷ fields) [] h = h
+all_plain ms (field ∷ fields) (v ∷ vs) h = all_plain (with_value ms field v) fields vs (one_plain ms field v h)
+
+groups_plain : (groups : List (Number × ℕ)) → items_have_float (groups_data groups) ≡ false
+groups_plain [] = refl
+groups_plain (group ∷ groups) = neither (neither (value_plain (values.Number group.0)) refl) (groups_plain groups)
+
+hits_plain : (hits : List Hit) → items_have_float (hits_data hits) ≡ false
+hits_plain [] = refl
+hits_plain (hit ∷ hits) =
+    neither (neither (all_plain no_members hit.document.schema hit.document.values refl) (neither (value_plain (values.Number hit.value)) refl)) (hits_plain hits)
+
+list_plain : (name : List ℕ) (items : Option Items) (ms : Members) → ((is : Items) → items ≡ Some is → items_have_float is ≡ false) → members_have_float ms ≡ false →
+    members_have_float (list_member name items ms) ≡ false
+list_plain name None ms h p = p
+list_plain name (Some is) ms h p = neither (h is refl) p
+
+some_groups : (groups : Option (List (Number × ℕ))) (is : Items) → option_map groups_data groups ≡ Some is → items_have_float is ≡ false
+some_groups None is e = cc
+some_groups (Some groups) is e = let p = groups_plain groups in cc
+
+some_hits : (hits : Option (List Hit)) (is : Items) → option_map hits_data hits ≡ Some is → items_have_float is ≡ false
+some_hits None is e = cc
+some_hits (Some hits) is e = let p = hits_plain hits in cc
+
+pub answer_plain : (a : AnswerValue) → has_float (answer_data a) ≡ false
+answer_plain a = list_plain _ (option_map groups_data a.groups) _ (some_groups a.groups) (list_plain _ (option_map hits_data a.top) _ (some_hits a.top) refl)

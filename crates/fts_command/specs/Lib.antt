@@ -1,0 +1,3 @@
+pub mod AnswerData
+pub mod CommandViews
+pub mod Commands

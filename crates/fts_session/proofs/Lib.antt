@@ -1,0 +1,2 @@
+pub mod CarrierLemmas
+pub mod HistoryLemmas

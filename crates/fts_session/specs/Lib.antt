@@ -1,0 +1,5 @@
+pub mod KeptLines
+pub mod Outputs
+pub mod Replies
+pub mod Sessions
+pub mod Text

@@ -1,0 +1,222 @@
+// An index as a plain list of documents: the first engine of scripts, and the comparison for every later one.
+ghost use Rattle.std.specs.Prelude.{◌≡◌, ◌++◌, Ok, IfOk, IfErr, OnOk, OnErr};
+ghost use Rattle.std.specs.List.{list_all};
+ghost use Rattle.fts_model.specs.Operations.{added, added_by, adds, alive};
+ghost use Rattle.fts_base.specs.Results.{Gives};
+ghost use Rattle.fts_steps.specs.Operations.{is_add};
+
+use crate::engine::Engine;
+use crate::options::Options;
+use fts_model::{
+    Answer, Document, MOST_MERGED, Op, Query, Refusal, Request, Schema, Stamp, Stamped,
+};
+use std::alloc::{AllocError, Global};
+use std::sync::Wait;
+use std::thread::Threads;
+
+/// The most operations that wait for a commit.
+const MOST_PENDING: usize = 1_000_000;
+
+/// The documents of the last commit and the operations since, both in the order of their stamps.
+#[derive(Drop)]
+pub struct ListEngine {
+    schema: Schema,
+    documents: Vec<Stamped<Document>>,
+    commit_stamp: Stamp,
+    pending: Vec<Stamped<Op>>,
+}
+
+/// Whether all of the operations add documents.
+fn all_add(ops: &[Stamped<Op>]) -> bool
+    ensures { result ≡ list_all (λ op. is_add op.value) ops.now }
+{
+    ops.iter().all(|op| matches!(op.value, Op::Add(_)))
+}
+
+/// Puts the document that an operation adds behind others.
+fn push_added(documents: &mut Vec<Stamped<Document>>, op: &Stamped<Op>) -> Result<(), AllocError>
+    ensures ok { OnOk result
+        (documents.new.items ≡ documents.old.items ++ added_by op.now.stamp op.now.value) }
+    ensures err { OnErr result (documents.new.items ≡ documents.old.items) }
+{
+    if let Op::Add(document) = &op.value {
+        let value = document.clone()?;
+        documents.push(Stamped {
+            stamp: op.stamp,
+            value,
+        })?;
+    }
+    Ok(())
+}
+
+/// Puts the documents that operations add behind others.
+fn append(documents: &mut Vec<Stamped<Document>>, ops: &[Stamped<Op>]) -> Result<(), AllocError>
+    ensures ok { OnOk result (documents.new.items ≡ documents.old.items ++ added ops.now) }
+    ensures err { OnErr result (documents.new.items ≡ documents.old.items) }
+{
+    let len = documents.len();
+    for op in ops {
+        match push_added(documents, op) {
+            Ok(()) => {}
+            Err(error) => {
+                documents.truncate(len);
+                return Err(error);
+            }
+        }
+    }
+    Ok(())
+}
+
+/// The operations that add these documents, and more behind them.
+fn history(
+    alloc: Global,
+    documents: &[Stamped<Document>],
+    ops: &[Stamped<Op>],
+) -> Result<Vec<Stamped<Op>>, AllocError>
+    ensures { IfOk result (λ all. all.items ≡ adds documents.now ++ ops.now) }
+{
+    let mut all = Vec::with_capacity(alloc, documents.len())?;
+    for document in documents {
+        all.push(add_of(document)?)?;
+    }
+    for op in ops {
+        all.push(copy_of(op)?)?;
+    }
+    Ok(all)
+}
+
+fn copy_of(op: &Stamped<Op>) -> Result<Stamped<Op>, AllocError>
+    ensures { IfOk result (λ copy. copy ≡ op.now) }
+{
+    let value = op.value.clone()?;
+    Ok(Stamped {
+        stamp: op.stamp,
+        value,
+    })
+}
+
+/// The operation that adds a document.
+fn add_of(document: &Stamped<Document>) -> Result<Stamped<Op>, AllocError>
+    ensures { IfOk result (λ op. op ≡ record { stamp = document.now.stamp; value = Op.Add document.now.value }) }
+{
+    let value = Op::Add(document.value.clone()?);
+    Ok(Stamped {
+        stamp: document.stamp,
+        value,
+    })
+}
+
+/// The documents alive after operations behind those that are there.
+fn survivors(
+    alloc: Global,
+    schema: &Schema,
+    documents: &[Stamped<Document>],
+    ops: &[Stamped<Op>],
+) -> Result<Vec<Stamped<Document>>, Refusal>
+    ensures { Gives (λ left. left.items) result
+        (Ok (alive schema.now (adds documents.now ++ ops.now))) }
+{
+    let all = history(alloc, documents, ops)?;
+    fts_scan::alive(alloc, schema, &all)
+}
+
+/// Puts the documents alive after operations in the place of those before.
+fn commit(
+    alloc: Global,
+    schema: &Schema,
+    documents: &mut Vec<Stamped<Document>>,
+    ops: &[Stamped<Op>],
+) -> Result<(), Refusal>
+    ensures ok { OnOk result
+        (documents.new.items ≡ alive schema.now (adds documents.old.items ++ ops.now)) }
+    ensures err { OnErr result (documents.new.items ≡ documents.old.items) }
+    ensures memory { IfErr result (λ refusal. refusal ≡ Refusal.Memory) }
+{
+    if all_add(ops) {
+        // Adds alone go behind what is there, so that a commit costs no more than its operations.
+        append(documents, ops)?;
+        return Ok(());
+    }
+    *documents = survivors(alloc, schema, documents, ops)?;
+    Ok(())
+}
+
+impl Engine for ListEngine {
+    ghost use Rattle.std.specs.Prelude.{◌+◌, length};
+    ghost use Rattle.fts_steps.specs.ListIndexes.{index_of};
+
+    ghost index = { index_of };
+
+    ghost changes = { λ e. e.commit_stamp + length e.pending.items };
+
+    fn open(
+        rt: &(impl AllocGlobal + Threads + Wait + Sync),
+        options: Options,
+        schema: Schema,
+    ) -> Result<Self, Refusal> {
+        let _ = options;
+        let alloc = rt.alloc();
+        Ok(ListEngine {
+            schema,
+            documents: Vec::new(alloc),
+            commit_stamp: 0,
+            pending: Vec::new(alloc),
+        })
+    }
+
+    fn schema(&self) -> &Schema {
+        &self.schema
+    }
+
+    fn commit_stamp(&self) -> Stamp {
+        self.commit_stamp
+    }
+
+    fn next_stamp(&self) -> Stamp {
+        self.commit_stamp + self.pending.len() as u64 + 1
+    }
+
+    fn submit(&mut self, op: Op) -> Result<Stamp, Refusal> {
+        if self.pending.len() >= MOST_PENDING {
+            return Err(Refusal::LaneFull);
+        }
+        let stamp = self.next_stamp();
+        self.pending.push(Stamped { stamp, value: op })?;
+        Ok(stamp)
+    }
+
+    fn commit<R: AllocGlobal + Threads + Wait + Sync>(&mut self, rt: &R) -> Result<Stamp, Refusal> {
+        let stamp = self.next_stamp();
+        commit(rt.alloc(), &self.schema, &mut self.documents, &self.pending)?;
+        self.pending.clear();
+        self.commit_stamp = stamp;
+        Ok(stamp)
+    }
+
+    fn rollback(
+        &mut self,
+        _rt: &(impl AllocGlobal + Threads + Wait + Sync),
+    ) -> Result<Stamp, Refusal> {
+        self.pending.clear();
+        Ok(self.commit_stamp)
+    }
+
+    fn merge(&mut self, _rt: &(impl AllocGlobal + Threads + Wait + Sync)) -> Result<u64, Refusal> {
+        let count = self.documents.len();
+        if count > MOST_MERGED {
+            return Err(Refusal::TooLarge);
+        }
+        Ok(count as u64)
+    }
+
+    fn search<R: AllocGlobal + Threads + Wait + Sync>(
+        &mut self,
+        rt: &R,
+        query: &Query,
+        request: &Request,
+    ) -> Result<Answer, Refusal> {
+        fts_scan::answer(rt.alloc(), &self.schema, query, request, &self.documents)
+    }
+
+    fn close(self, _rt: &(impl AllocGlobal + Threads + Wait + Sync)) {}
+}
