@@ -1,10 +1,10 @@
 // What a search is asked by values, and its answer.
 use crate::member::{number, only, optional_text, text, unknown};
 use crate::trouble::Trouble;
-use crate::values::field_number;
-use fts_model::{Answer, Order, Request, Schema};
-use serde_json::{Map, Value, json};
-use std::alloc::Global;
+use crate::values::{field_number, pair, put};
+use fts_model::{Answer, Hit, Number, Order, Request, Schema};
+use serde_json::{Map, Value};
+use std::alloc::{AllocError, Global};
 
 fn order_named(alloc: Global, name: &str) -> Result<Order, Trouble> {
     match name {
@@ -14,52 +14,58 @@ fn order_named(alloc: Global, name: &str) -> Result<Order, Trouble> {
     }
 }
 
+/// The top list that an object `{"by":FIELD,"k":K,"order":ORDER}` asks for.
+fn top_of(alloc: Global, top: &Value) -> Result<(&str, u64, Order), Trouble> {
+    only(alloc, top, &["by", "k", "order"])?;
+    let order = order_named(alloc, text(top, "order")?)?;
+    Ok((text(top, "by")?, number(top, "k")?, order))
+}
+
+/// The top list that a case asks for, if it does.
+fn optional_top(alloc: Global, case: &Value) -> Result<Option<(&str, u64, Order)>, Trouble> {
+    match case.get("top") {
+        Some(top) => Ok(Some(top_of(alloc, top)?)),
+        None => Ok(None),
+    }
+}
+
 /// What a case asks by values: `groups`, a field, and `top`, an object `{"by":FIELD,"k":K,"order":ORDER}`.
 pub fn request_of(alloc: Global, schema: &Schema, case: &Value) -> Result<Request, Trouble> {
     let groups = optional_text(case, "groups")?;
-    let Some(top) = case.get("top") else {
-        return Ok(Request::new(schema, groups, None)?);
-    };
-    only(alloc, top, &["by", "k", "order"])?;
-    let order = order_named(alloc, text(top, "order")?)?;
-    Ok(Request::new(
-        schema,
-        groups,
-        Some((text(top, "by")?, number(top, "k")?, order)),
-    )?)
+    let top = optional_top(alloc, case)?;
+    Ok(Request::new(schema, groups, top)?)
 }
 
-/// The groups of an answer as pairs of a value and a count.
-fn groups_value(alloc: Global, answer: &Answer) -> Result<Option<Value>, Trouble> {
-    let Some(groups) = &answer.groups else {
-        return Ok(None);
-    };
+/// Groups as pairs of a value and a count.
+fn groups_value(alloc: Global, groups: &[(Number, u64)]) -> Result<Value, AllocError> {
     let mut list = Vec::new(alloc);
     for (value, count) in groups {
-        list.push(json!(in alloc; [(field_number(*value)), (*count)])?)?;
+        list.push(pair(alloc, field_number(*value), Value::from(*count))?)?;
     }
-    Ok(Some(Value::Array(list)))
+    Ok(Value::Array(list))
 }
 
-/// The top list of an answer as pairs of a stamp and a value.
-fn top_value(alloc: Global, answer: &Answer) -> Result<Option<Value>, Trouble> {
-    let Some(hits) = &answer.top else {
-        return Ok(None);
-    };
+/// A top list as pairs of a stamp and a value.
+fn top_value(alloc: Global, hits: &[Hit]) -> Result<Value, AllocError> {
     let mut list = Vec::new(alloc);
     for hit in hits {
-        list.push(json!(in alloc; [(hit.stamp), (field_number(hit.value))])?)?;
+        list.push(pair(alloc, Value::from(hit.stamp), field_number(hit.value))?)?;
     }
-    Ok(Some(Value::Array(list)))
+    Ok(Value::Array(list))
 }
 
-fn put(
+/// Gives an object what was asked by values.
+fn put_lists(
     alloc: Global,
     members: &mut Map<String, Value>,
-    name: &str,
-    value: Value,
-) -> Result<(), Trouble> {
-    drop(members.insert(String::from_str(alloc, name)?, value)?);
+    answer: &Answer,
+) -> Result<(), AllocError> {
+    if let Some(groups) = &answer.groups {
+        put(alloc, members, "groups", groups_value(alloc, groups)?)?;
+    }
+    if let Some(top) = &answer.top {
+        put(alloc, members, "top", top_value(alloc, top)?)?;
+    }
     Ok(())
 }
 
@@ -67,11 +73,6 @@ fn put(
 pub fn answer_value(alloc: Global, answer: &Answer) -> Result<Value, Trouble> {
     let mut members = Map::new(alloc);
     put(alloc, &mut members, "count", Value::from(answer.count))?;
-    if let Some(groups) = groups_value(alloc, answer)? {
-        put(alloc, &mut members, "groups", groups)?;
-    }
-    if let Some(top) = top_value(alloc, answer)? {
-        put(alloc, &mut members, "top", top)?;
-    }
+    put_lists(alloc, &mut members, answer)?;
     Ok(Value::Object(members))
 }

@@ -15,16 +15,20 @@ fn kind_named(alloc: Global, name: &str) -> Result<Kind, Trouble> {
     }
 }
 
-fn field_of(alloc: Global, json: &Value) -> Result<Field, Trouble> {
-    only(alloc, json, &["name", "kind", "default"])?;
-    let kind = kind_named(alloc, text(json, "kind")?)?;
-    let default = flag(json, "default")?;
-    let name = Text::new(String::from_str(alloc, text(json, "name")?)?);
+fn field(alloc: Global, name: &str, kind: Kind, default: bool) -> Result<Field, AllocError> {
+    let name = Text::new(String::from_str(alloc, name)?);
     Ok(Field {
         name,
         kind,
         default,
     })
+}
+
+fn field_of(alloc: Global, json: &Value) -> Result<Field, Trouble> {
+    only(alloc, json, &["name", "kind", "default"])?;
+    let kind = kind_named(alloc, text(json, "kind")?)?;
+    let default = flag(json, "default")?;
+    Ok(field(alloc, text(json, "name")?, kind, default)?)
 }
 
 /// The fields of a list.
@@ -36,22 +40,20 @@ pub fn fields_of(alloc: Global, items: &[Value]) -> Result<Vec<Field>, Trouble> 
     Ok(fields)
 }
 
-fn field(alloc: Global, name: &str, kind: Kind, default: bool) -> Result<Field, AllocError> {
-    let name = Text::new(String::from_str(alloc, name)?);
-    Ok(Field {
-        name,
-        kind,
-        default,
-    })
-}
+/// The name and the kind of each field of a case without a schema, and whether it is marked default.
+const FIELDS: [(&str, Kind, bool); 4] = [
+    ("title", Kind::Text, true),
+    ("tag", Kind::Keyword, true),
+    ("price", Kind::U64, false),
+    ("temp", Kind::I64, false),
+];
 
 /// The fields `title` (text) and `tag` (keyword), both marked default, `price` (`u64`) and `temp` (`i64`).
 fn four_fields(alloc: Global) -> Result<Vec<Field>, AllocError> {
     let mut fields = Vec::new(alloc);
-    fields.push(field(alloc, "title", Kind::Text, true)?)?;
-    fields.push(field(alloc, "tag", Kind::Keyword, true)?)?;
-    fields.push(field(alloc, "price", Kind::U64, false)?)?;
-    fields.push(field(alloc, "temp", Kind::I64, false)?)?;
+    for (name, kind, default) in &FIELDS {
+        fields.push(field(alloc, name, *kind, *default)?)?;
+    }
     Ok(fields)
 }
 

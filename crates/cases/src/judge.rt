@@ -1,6 +1,7 @@
 // What a case says beside what was given.
+use crate::values::{put, words};
 use fts_model::Refusal;
-use serde_json::{Value, json};
+use serde_json::{Map, Value};
 use std::alloc::{AllocError, Global};
 
 /// The bound that `{"at_most":n}` says.
@@ -47,17 +48,26 @@ pub fn fits(says: &Value, given: &Value) -> bool {
     }
 }
 
+/// The number that a refusal has of a lane, an operation or a segment.
+fn number_of(refusal: Refusal) -> Option<u64> {
+    match refusal {
+        Refusal::LaneMissing(lane) => Some(lane as u64),
+        Refusal::OtherSchema(number)
+        | Refusal::UnknownSegment(number)
+        | Refusal::SegmentTwice(number)
+        | Refusal::SourceGone(number) => Some(number),
+        _ => None,
+    }
+}
+
 /// A refusal as a value: `{"error":"StaleBatch"}`, and one that has a number `{"error":"LaneMissing","number":1}`.
 ///
 /// Up to which byte a query may still go on is not among them: a case that shows it says so by a word of its own.
 pub fn refused(alloc: Global, refusal: Refusal) -> Result<Value, AllocError> {
-    let name = refusal.name();
-    match refusal {
-        Refusal::LaneMissing(lane) => json!(in alloc; {"error": name, "number": lane}),
-        Refusal::OtherSchema(number)
-        | Refusal::UnknownSegment(number)
-        | Refusal::SegmentTwice(number)
-        | Refusal::SourceGone(number) => json!(in alloc; {"error": name, "number": number}),
-        _ => json!(in alloc; {"error": name}),
+    let mut members = Map::new(alloc);
+    put(alloc, &mut members, "error", words(alloc, refusal.name())?)?;
+    if let Some(number) = number_of(refusal) {
+        put(alloc, &mut members, "number", Value::from(number))?;
     }
+    Ok(Value::Object(members))
 }

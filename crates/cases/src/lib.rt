@@ -40,4 +40,4 @@ pub use member::{
 pub use operations::{op_of, term_of};
 pub use trouble::Trouble;
 pub use trying::{Driver, Tally, Wanted, case_on, judged, run};
-pub use values::{documents, field_number, some_number, stamps};
+pub use values::{documents, field_number, pair, put, some_number, stamps, two, words};

@@ -84,21 +84,51 @@ impl Tally {
     }
 }
 
+/// The case of a line, or else what the line lacks.
+fn case_of(alloc: Global, line: &str) -> Result<Value, &'static str> {
+    match Value::from_str(alloc, line) {
+        Ok(case) if text(&case, "case").is_ok() => Ok(case),
+        Ok(_) => Err("no sentence"),
+        Err(_) => Err("no JSON"),
+    }
+}
+
 /// The case of a line. Where it has none, that is printed.
 pub fn case_on<R: Print + AllocGlobal>(
     rt: &R,
     name: &str,
     line: &str,
 ) -> io::Result<Option<Value>> {
-    let Ok(case) = Value::from_str(rt.alloc(), line) else {
-        println!(rt; "DIFFERS: {name}: no JSON: {line}")?;
-        return Ok(None);
-    };
-    if text(&case, "case").is_err() {
-        println!(rt; "DIFFERS: {name}: no sentence: {line}")?;
-        return Ok(None);
+    match case_of(rt.alloc(), line) {
+        Ok(case) => Ok(Some(case)),
+        Err(lack) => {
+            println!(rt; "DIFFERS: {name}: {lack}: {line}")?;
+            Ok(None)
+        }
     }
-    Ok(Some(case))
+}
+
+/// What a case gave, a refusal too.
+fn value_of(alloc: Global, given: Result<Value, Trouble>) -> Result<Value, Trouble> {
+    match given {
+        Err(Trouble::Refused(refusal)) => Ok(refused(alloc, refusal)?),
+        given => given,
+    }
+}
+
+/// What a case gave, if that isn't what it says.
+fn other(
+    alloc: Global,
+    case: &Value,
+    given: Result<Value, Trouble>,
+) -> Result<Option<Value>, Trouble> {
+    let says = entry(case, "gives")?;
+    let given = value_of(alloc, given)?;
+    Ok(if fits(says, &given) {
+        None
+    } else {
+        Some(given)
+    })
 }
 
 /// Nothing where a case gave what it says, else what it gave or why it gave nothing.
@@ -107,19 +137,11 @@ fn difference(
     case: &Value,
     given: Result<Value, Trouble>,
 ) -> Result<Option<String>, AllocError> {
-    let says = match entry(case, "gives") {
-        Ok(says) => says,
-        Err(trouble) => return Ok(Some(format!(in alloc; "{trouble}")?)),
-    };
-    let given = match given {
-        Err(Trouble::Refused(refusal)) => refused(alloc, refusal)?,
-        Err(trouble) => return Ok(Some(format!(in alloc; "{trouble}")?)),
-        Ok(given) => given,
-    };
-    if fits(says, &given) {
-        return Ok(None);
+    match other(alloc, case, given) {
+        Ok(None) => Ok(None),
+        Ok(Some(given)) => Ok(Some(given.to_string(alloc)?)),
+        Err(trouble) => Ok(Some(format!(in alloc; "{trouble}")?)),
     }
-    Ok(Some(given.to_string(alloc)?))
 }
 
 /// Whether a case gave what it says. Where it didn't, what it gave is printed.
