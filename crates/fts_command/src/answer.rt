@@ -1,12 +1,13 @@
 // The answer to a search, as JSON.
-ghost use Rattle.std.specs.Prelude.{◌≡◌, IfOk, codes, option_map, false};
-ghost use Rattle.serde_json.specs.Data.{array, object, member, no_members, number, unsigned};
-ghost use Rattle.serde_json.specs.View.{view};
+ghost use Rattle.std.specs.Prelude.{◌≡◌, IfOk, OnOk, codes, false};
+ghost use Rattle.serde_json.specs.Data.{array, put as with_member};
+ghost use Rattle.serde_json.specs.View.{view, members_view};
 ghost use Rattle.serde_json.specs.Written.{has_float};
+ghost use Rattle.fts_model.specs.Documents.{json_of};
 ghost use Rattle.fts_command.specs.AnswerData.{number_data, group_data, groups_data, hit_data, hits_data, answer_data};
 
 use fts_model::{Answer, Hit, Number};
-use serde_json::{Value, json};
+use serde_json::{Map, Value, put};
 use std::alloc::{AllocError, Global};
 
 fn number_value(number: Number) -> Value
@@ -22,8 +23,8 @@ fn number_value(number: Number) -> Value
 fn group_value(alloc: Global, group: &(Number, u64)) -> Result<Value, AllocError>
     ensures { IfOk result (λ value. view value ≡ group_data group.now) }
 {
-    let value = number_value(group.0);
-    json!(in alloc; [value, group.1])
+    let pair = vec![in alloc; number_value(group.0), Value::from(group.1)]?;
+    Ok(Value::Array(pair))
 }
 
 fn groups_value(alloc: Global, groups: &[(Number, u64)]) -> Result<Value, AllocError>
@@ -36,15 +37,25 @@ fn groups_value(alloc: Global, groups: &[(Number, u64)]) -> Result<Value, AllocE
     Ok(Value::Array(list))
 }
 
+/// The document of a hit.
+fn document_value(alloc: Global, hit: &Hit) -> Result<Value, AllocError>
+    ensures { IfOk result (λ value. view value ≡ json_of hit.now.document) }
+{
+    match hit.document.to_json(alloc) {
+        Ok(value) => Ok(value),
+        // The one refusal of `to_json` is want of memory.
+        Err(_) => Err(AllocError),
+    }
+}
+
 fn hit_value(alloc: Global, hit: &Hit) -> Result<Value, AllocError>
     ensures { IfOk result (λ value. view value ≡ hit_data hit.now) }
 {
-    // The one refusal of `to_json` is want of memory.
-    let Ok(doc) = hit.document.to_json(alloc) else {
-        return Err(AllocError);
-    };
-    let value = number_value(hit.value);
-    json!(in alloc; {"doc": doc, "stamp": hit.stamp, "value": value})
+    let mut members = Map::new(alloc);
+    put(&mut members, alloc, "doc", document_value(alloc, hit)?)?;
+    put(&mut members, alloc, "stamp", Value::from(hit.stamp))?;
+    put(&mut members, alloc, "value", number_value(hit.value))?;
+    Ok(Value::Object(members))
 }
 
 fn hits_value(alloc: Global, hits: &[Hit]) -> Result<Value, AllocError>
@@ -57,58 +68,38 @@ fn hits_value(alloc: Global, hits: &[Hit]) -> Result<Value, AllocError>
     Ok(Value::Array(list))
 }
 
-fn counted(alloc: Global, count: u64) -> Result<Value, AllocError>
-    ensures { IfOk result (λ value.
-        view value ≡ object (member (codes "count") (number (unsigned count)) no_members)) }
-{
-    json!(in alloc; {"count": count})
-}
-
-fn grouped(alloc: Global, count: u64, groups: Value) -> Result<Value, AllocError>
-    ensures { IfOk result (λ value. view value ≡ object (member (codes "count")
-        (number (unsigned count)) (member (codes "groups") (view groups) no_members))) }
-{
-    json!(in alloc; {"count": count, "groups": groups})
-}
-
-fn ranked(alloc: Global, count: u64, top: Value) -> Result<Value, AllocError>
-    ensures { IfOk result (λ value. view value ≡ object (member (codes "count")
-        (number (unsigned count)) (member (codes "top") (view top) no_members))) }
-{
-    json!(in alloc; {"count": count, "top": top})
-}
-
-fn grouped_and_ranked(
+fn put_groups(
     alloc: Global,
-    count: u64,
-    groups: Value,
-    top: Value,
-) -> Result<Value, AllocError>
-    ensures { IfOk result (λ value. view value ≡ object (member (codes "count")
-        (number (unsigned count)) (member (codes "groups") (view groups)
-        (member (codes "top") (view top) no_members)))) }
+    members: &mut Map<String, Value>,
+    groups: &[(Number, u64)],
+) -> Result<(), AllocError>
+    ensures { OnOk result (members_view members.new.entries
+        ≡ with_member (codes "groups") (array (groups_data groups.now)) (members_view members.old.entries)) }
 {
-    json!(in alloc; {"count": count, "groups": groups, "top": top})
+    let list = groups_value(alloc, groups)?;
+    put(members, alloc, "groups", list)
+}
+
+fn put_top(alloc: Global, members: &mut Map<String, Value>, hits: &[Hit]) -> Result<(), AllocError>
+    ensures { OnOk result (members_view members.new.entries
+        ≡ with_member (codes "top") (array (hits_data hits.now)) (members_view members.old.entries)) }
+{
+    let list = hits_value(alloc, hits)?;
+    put(members, alloc, "top", list)
 }
 
 fn object_of(alloc: Global, answer: &Answer) -> Result<Value, AllocError>
     ensures { IfOk result (λ value. view value ≡ answer_data answer.now) }
 {
-    let count = answer.count;
-    let groups = match &answer.groups {
-        None => None,
-        Some(groups) => Some(groups_value(alloc, groups)?),
-    };
-    let top = match &answer.top {
-        None => None,
-        Some(hits) => Some(hits_value(alloc, hits)?),
-    };
-    match (groups, top) {
-        (None, None) => counted(alloc, count),
-        (Some(groups), None) => grouped(alloc, count, groups),
-        (None, Some(top)) => ranked(alloc, count, top),
-        (Some(groups), Some(top)) => grouped_and_ranked(alloc, count, groups, top),
+    let mut members = Map::new(alloc);
+    put(&mut members, alloc, "count", Value::from(answer.count))?;
+    if let Some(groups) = &answer.groups {
+        put_groups(alloc, &mut members, groups)?;
     }
+    if let Some(hits) = &answer.top {
+        put_top(alloc, &mut members, hits)?;
+    }
+    Ok(Value::Object(members))
 }
 
 /// An answer as JSON: the count, and what else was asked for. There is no float in it.

@@ -1,9 +1,10 @@
 // The commands of a script, as they stand in JSON.
-ghost use Rattle.std.specs.Prelude.{◌≡◌, ℕ, List, Option, Some, None, IfOk, IfErr, option_map, OnErr};
+ghost use Rattle.std.specs.Prelude.{◌≡◌, ◌++◌, ◌∷◌, [], if◌then◌else◌, ℕ, List, Option, Some, None, IfOk, IfErr};
+ghost use Rattle.std.specs.Prelude.{option_map, OnErr};
 ghost use Rattle.serde_json.specs.View.{view};
 ghost use Rattle.fts_command.specs.Commands.{count_of, text_at, kind_named, flag_or_false, field_in, fields_in};
 ghost use Rattle.fts_command.specs.Commands.{only_member, if_there, order_named, whole_number, top_in};
-ghost use Rattle.fts_command.specs.Commands.{search_in, schema_in, command_if, command_named, command_in};
+ghost use Rattle.fts_command.specs.Commands.{search_in, delete_in, Find, schema_in, command_if, command_named, command_in};
 ghost use Rattle.fts_command.specs.Commands.{json_in};
 ghost use Rattle.fts_command.specs.CommandViews.{command_value, search_value};
 ghost use Rattle.serde_json.specs.Find.{as_str, as_bool};
@@ -103,16 +104,30 @@ fn field_of(alloc: Global, json: &Value) -> Result<Option<Field>, AllocError>
     }))
 }
 
+/// Puts the field that a value is behind others, and says whether it is one.
+fn push_field(alloc: Global, fields: &mut Vec<Field>, json: &Value) -> Result<bool, AllocError>
+    ensures is_one { IfOk result (λ is_one.
+        option_map (λ field. fields.old.items ++ field ∷ []) (field_in (view json.now))
+        ≡ if is_one then Some fields.new.items else None) }
+{
+    match field_of(alloc, json)? {
+        None => Ok(false),
+        Some(field) => {
+            fields.push(field)?;
+            Ok(true)
+        }
+    }
+}
+
 fn fields_of(alloc: Global, json: &[Value]) -> Result<Option<Vec<Field>>, AllocError>
     ensures { IfOk result
         (λ fields. option_map (λ v. v.items) fields ≡ fields_in (items_view json.now)) }
 {
     let mut fields = Vec::with_capacity(alloc, json.len())?;
     for json in json {
-        let Some(field) = field_of(alloc, json)? else {
+        if !push_field(alloc, &mut fields, json)? {
             return Ok(None);
-        };
-        fields.push(field)?;
+        }
     }
     Ok(Some(fields))
 }
@@ -207,6 +222,22 @@ fn schema_of(alloc: Global, json: &Value) -> Result<Option<Command<'_>>, AllocEr
     }
 }
 
+/// The deletion that an object of a name and a value is.
+fn delete_of(json: &Value) -> Option<Command<'_>>
+    ensures { option_map command_value result ≡ delete_in (view json.entry.now) }
+{
+    let (name, value) = only_member(json)?;
+    Some(Command::Delete(name, value))
+}
+
+/// The search that an object is, as a command.
+fn find_of(json: &Value) -> Option<Command<'_>>
+    ensures { option_map command_value result ≡ option_map Find (search_in (view json.entry.now)) }
+{
+    let search = search_of(json)?;
+    Some(Command::Search(search))
+}
+
 /// A command that asks for `true`.
 fn command_if<'a>(command: Command<'a>, json: &Value) -> Option<Command<'a>>
     ensures { option_map command_value result ≡ command_if (command_value command.entry)
@@ -231,18 +262,12 @@ fn command_named<'a>(
     match name {
         "schema" => schema_of(alloc, json),
         "add" => Ok(Some(Command::Add(json))),
-        "delete" => match only_member(json) {
-            Some((name, value)) => Ok(Some(Command::Delete(name, value))),
-            None => Ok(None),
-        },
+        "delete" => Ok(delete_of(json)),
         "delete_all" => Ok(command_if(Command::DeleteAll, json)),
         "commit" => Ok(command_if(Command::Commit, json)),
         "rollback" => Ok(command_if(Command::Rollback, json)),
         "merge" => Ok(command_if(Command::Merge, json)),
-        "search" => match search_of(json) {
-            Some(search) => Ok(Some(Command::Search(search))),
-            None => Ok(None),
-        },
+        "search" => Ok(find_of(json)),
         _ => Ok(None),
     }
 }

@@ -1,5 +1,5 @@
 // An index as a plain list of documents: the first engine of scripts, and the comparison for every later one.
-ghost use Rattle.std.specs.Prelude.{◌≡◌, ◌++◌, Ok, IfOk, IfErr, OnOk, OnErr};
+ghost use Rattle.std.specs.Prelude.{◌≡◌, ◌++◌, ◌∷◌, [], Ok, IfOk, IfErr, OnOk, OnErr};
 ghost use Rattle.std.specs.List.{list_all};
 ghost use Rattle.fts_model.specs.Operations.{added, added_by, adds, alive};
 ghost use Rattle.fts_base.specs.Results.{Gives};
@@ -67,6 +67,31 @@ fn append(documents: &mut Vec<Stamped<Document>>, ops: &[Stamped<Op>]) -> Result
     Ok(())
 }
 
+/// Puts a copy of an operation behind others.
+fn push_copy(all: &mut Vec<Stamped<Op>>, op: &Stamped<Op>) -> Result<(), AllocError>
+    ensures { OnOk result (all.new.items ≡ all.old.items ++ op.now ∷ []) }
+{
+    let value = op.value.clone()?;
+    all.push(Stamped {
+        stamp: op.stamp,
+        value,
+    })?;
+    Ok(())
+}
+
+/// Puts the operation that adds a document behind others.
+fn push_add(all: &mut Vec<Stamped<Op>>, document: &Stamped<Document>) -> Result<(), AllocError>
+    ensures { OnOk result (all.new.items
+        ≡ all.old.items ++ record { stamp = document.now.stamp; value = Op.Add document.now.value } ∷ []) }
+{
+    let value = Op::Add(document.value.clone()?);
+    all.push(Stamped {
+        stamp: document.stamp,
+        value,
+    })?;
+    Ok(())
+}
+
 /// The operations that add these documents, and more behind them.
 fn history(
     alloc: Global,
@@ -77,33 +102,12 @@ fn history(
 {
     let mut all = Vec::with_capacity(alloc, documents.len())?;
     for document in documents {
-        all.push(add_of(document)?)?;
+        push_add(&mut all, document)?;
     }
     for op in ops {
-        all.push(copy_of(op)?)?;
+        push_copy(&mut all, op)?;
     }
     Ok(all)
-}
-
-fn copy_of(op: &Stamped<Op>) -> Result<Stamped<Op>, AllocError>
-    ensures { IfOk result (λ copy. copy ≡ op.now) }
-{
-    let value = op.value.clone()?;
-    Ok(Stamped {
-        stamp: op.stamp,
-        value,
-    })
-}
-
-/// The operation that adds a document.
-fn add_of(document: &Stamped<Document>) -> Result<Stamped<Op>, AllocError>
-    ensures { IfOk result (λ op. op ≡ record { stamp = document.now.stamp; value = Op.Add document.now.value }) }
-{
-    let value = Op::Add(document.value.clone()?);
-    Ok(Stamped {
-        stamp: document.stamp,
-        value,
-    })
 }
 
 /// The documents alive after operations behind those that are there.
