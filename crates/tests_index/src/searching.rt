@@ -5,13 +5,13 @@ ghost use Rattle.fts_snapshots.specs.Cuts.{IsCut};
 mod held;
 
 use fts_index::{Cut, Found, Searcher, Writer};
-use fts_scan::{alive, answer};
 use fts_model::{
     Answer, Document, FieldValue, Hit, Op, Order, Query, Refusal, Request, Schema, Stamped, Term,
     Text,
 };
 use fts_pool::{Gate, Open};
 use fts_query::parse;
+use fts_scan::{alive, answer};
 use std::alloc::{AllocError, Global};
 use std::fmt::Write;
 use std::process::Abort;
