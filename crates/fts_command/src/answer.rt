@@ -1,6 +1,6 @@
 // The answer to a search, as JSON.
 ghost use Rattle.std.specs.Prelude.{◌≡◌, IfOk, OnOk, codes, false};
-ghost use Rattle.serde_json.specs.Data.{array, put as with_member};
+ghost use Rattle.serde_json.specs.Data.{array, put};
 ghost use Rattle.serde_json.specs.View.{view, members_view};
 ghost use Rattle.serde_json.specs.Written.{has_float};
 ghost use Rattle.fts_model.specs.Documents.{json_of};
@@ -74,7 +74,7 @@ fn put_groups(
     groups: &[(Number, u64)],
 ) -> Result<(), AllocError>
     ensures { OnOk result (members_view members.new.entries
-        ≡ with_member (codes "groups") (array (groups_data groups.now)) (members_view members.old.entries)) }
+        ≡ put (codes "groups") (array (groups_data groups.now)) (members_view members.old.entries)) }
 {
     let list = groups_value(alloc, groups)?;
     put(members, alloc, "groups", list)
@@ -82,7 +82,7 @@ fn put_groups(
 
 fn put_top(alloc: Global, members: &mut Map<String, Value>, hits: &[Hit]) -> Result<(), AllocError>
     ensures { OnOk result (members_view members.new.entries
-        ≡ with_member (codes "top") (array (hits_data hits.now)) (members_view members.old.entries)) }
+        ≡ put (codes "top") (array (hits_data hits.now)) (members_view members.old.entries)) }
 {
     let list = hits_value(alloc, hits)?;
     put(members, alloc, "top", list)
