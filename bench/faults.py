@@ -1,0 +1,37 @@
+"""Runs a program whose calls for memory, reads and writes fail as it is told (faults.c says how)."""
+import contextlib
+import os
+import pathlib
+import shutil
+import subprocess
+import tempfile
+
+HERE = pathlib.Path(__file__).resolve().parent
+
+
+def compiler():
+    """Returns the C compiler, or None where there is none."""
+    return shutil.which(os.environ.get("CC", "cc")) or shutil.which("gcc")
+
+
+@contextlib.contextmanager
+def shim():
+    """Gives the path of faults.c, compiled to stand before the C library."""
+    with tempfile.TemporaryDirectory() as folder:
+        made = f"{folder}/faults.so"
+        subprocess.run([compiler(), "-shared", "-fPIC", "-O1", "-o", made, HERE / "faults.c", "-ldl"], check=True)
+        yield made
+
+
+def run(path, command, script=b"", **faults):
+    """Returns the status, the output and the words on standard error of a run."""
+    env = {**os.environ, "LD_PRELOAD": path, **{name: str(value) for name, value in faults.items()}}
+    done = subprocess.run(command, input=script, capture_output=True, env=env)
+    return done.returncode, done.stdout, done.stderr
+
+
+def growths(path, command, script=b""):
+    """Returns how often a run that succeeds asks for memory."""
+    status, _, told = run(path, command, script, COUNT_GROWTHS=1)
+    assert status == 0, (command, status, told)
+    return int(told.split()[-1])
