@@ -24,7 +24,7 @@ fn push_token(
     ensures { OnOk result (log.new ≡ log.old ++ occurrence_at doc (token_at text.now token) ∷ []) }
 {
     term.clear();
-    fold_into(token.run(text), term)?;
+    fold_into(token.span(text), term)?;
     log.push(term.as_str(), doc, token.position as u32)
 }
 
