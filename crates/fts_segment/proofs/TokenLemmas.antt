@@ -15,7 +15,7 @@ use Rattle.fts_model.specs.declared.value.FieldValue.TheVariants as values
 use Rattle.fts_pack.specs.Documents.{Rises}
 use Rattle.fts_segment.specs.Occurrences.{is_token, tokens_of, value_tokens, HasFewTokens}
 use Rattle.fts_segment.specs.Segments.{positions_among}
-use Rattle.fts_segment.specs.Runs.{IsRun}
+use Rattle.fts_segment.specs.PositionLists.{IsPositionList}
 use Rattle.fts_segment.proofs.OccurrencesLemmas.{map-map}
 
 -- a text has no more tokens than bytes
@@ -74,9 +74,9 @@ length-kept p (x ∷ xs) =
       | false ↦ omega (arith, length-kept p xs)
     ]
 
--- the positions of a term in a value are a run
-pub IsRun-tokens : (q : List ℕ) (kind : Kind) (value : Option FieldValue) → HasFewTokens kind value → IsRun (positions_among q (tokens_of kind value))
-IsRun-tokens q kind value few =
+-- the positions of a term in a value are a position list
+pub IsPositionList-tokens : (q : List ℕ) (kind : Kind) (value : Option FieldValue) → HasFewTokens kind value → IsPositionList (positions_among q (tokens_of kind value))
+IsPositionList-tokens q kind value few =
     let position : ℕ × List ℕ → ℕ = λ t. t.0 in
     let ts = tokens_of kind value in
     record {

@@ -1,5 +1,6 @@
 // Puts the tokens of a field into a log, document by document.
-ghost use Rattle.std.specs.Prelude.{◌≡◌, ◌<◌, ◌≤◌, ◌++◌, ◌∷◌, [], ◌^◌, length, OnOk, IfOk, All, map, IfSome, option_copied};
+ghost use Rattle.std.specs.Prelude.{◌≡◌, ◌<◌, ◌≤◌, ◌++◌, ◌∷◌, [], ◌^◌, length, OnOk, IfOk, All, map, IfSome};
+ghost use Rattle.std.specs.Prelude.{option_copied};
 ghost use Rattle.fts_text.specs.Places.{IsPlaceIn, token_at};
 ghost use Rattle.fts_model.specs.Shorts.{IsShort};
 ghost use Rattle.fts_model.specs.declared.schema.Kind.TheVariants.{Text};
