@@ -86,10 +86,17 @@ pub(crate) fn number_in(kind: Kind, value: Option<&FieldValue>) -> Option<u64>
     ensures number { result ≡ number_of kind (option_copied value.entry) }
     ensures fits { IfSome value.entry (λ v. Fits64 kind v.now) }
 {
-    match (kind, value?) {
-        (Kind::U64, FieldValue::Number(Number::U64(number))) => Some(*number),
-        (Kind::I64, FieldValue::Number(Number::I64(number))) => Some(i64_to_u64(*number)),
-        _ => None,
+    let value = value?;
+    match kind {
+        Kind::U64 => match value {
+            FieldValue::Number(Number::U64(number)) => Some(*number),
+            FieldValue::Number(Number::I64(_)) | FieldValue::Text(_) => None,
+        },
+        Kind::I64 => match value {
+            FieldValue::Number(Number::I64(number)) => Some(i64_to_u64(*number)),
+            FieldValue::Number(Number::U64(_)) | FieldValue::Text(_) => None,
+        },
+        Kind::Text | Kind::Keyword => None,
     }
 }
 

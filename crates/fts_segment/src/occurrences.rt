@@ -54,10 +54,16 @@ fn push_value(
         ≡ log.old ++ occurrences_at kind doc (option_copied value.entry)) }
     ensures few { HasFewTokens kind (option_copied value.entry) }
 {
-    match (kind, value) {
-        (Kind::Text, Some(FieldValue::Text(text))) => push_tokens(log, term, doc, text.as_str()),
-        (Kind::Keyword, Some(FieldValue::Text(text))) => log.push(text.as_str(), doc, 0),
-        _ => Ok(()),
+    match kind {
+        Kind::Text => match value {
+            Some(FieldValue::Text(text)) => push_tokens(log, term, doc, text.as_str()),
+            Some(FieldValue::Number(_)) | None => Ok(()),
+        },
+        Kind::Keyword => match value {
+            Some(FieldValue::Text(text)) => log.push(text.as_str(), doc, 0),
+            Some(FieldValue::Number(_)) | None => Ok(()),
+        },
+        Kind::U64 | Kind::I64 => Ok(()),
     }
 }
 
