@@ -97,14 +97,14 @@ def write_queries():
         s.case(sentence, "parse", error(name), query=pieces)
     for query, byte in [("a b )", 4), ("a OR", 2), ("--a", 1), ('é "a', 5)]:
         s.case(f"{query} is the beginning of a query up to byte {byte}", "syntax_byte", byte, query=query)
-    s.case("Titles with runs of 40 and 39 letters are made", "make", 2, documents=[{"title": text} for text in LONG])
+    s.case("Titles with spans of 40 and 39 letters are made", "make", 2, documents=[{"title": text} for text in LONG])
     forty = {"times": 40, "of": "x"}
     for sentence, query, found in [
-            ("A run that is too long keeps its place between two words", '"a b"', []),
-            ("A run that is too long in a phrase stands for any one run", ['"a ', forty, ' b"'], [0, 1]),
-            ("A run of 39 letters stands for itself in a phrase", ['"a ', {"times": 39, "of": "x"}, ' b"'], [1]),
-            ("A run of 39 letters is found", [{"times": 39, "of": "x"}], [1]),
-            ("A run of 40 letters isn't found", [forty], [])]:
+            ("A span that is too long keeps its place between two words", '"a b"', []),
+            ("A span that is too long in a phrase stands for any one span", ['"a ', forty, ' b"'], [0, 1]),
+            ("A span of 39 letters stands for itself in a phrase", ['"a ', {"times": 39, "of": "x"}, ' b"'], [1]),
+            ("A span of 39 letters is found", [{"times": 39, "of": "x"}], [1]),
+            ("A span of 40 letters isn't found", [forty], [])]:
         s.case(sentence, "found", found, query=query)
     gap = [{"title": LONG[0]}, {"title": "a c b"}, {"title": "a b"}]
     s.case("Titles with and without a gap are made", "make", 3, documents=gap)

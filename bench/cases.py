@@ -17,13 +17,13 @@ def write_tokens():
     s.case("A hyphen separates two tokens", "tokens", [[0, "foo"], [1, "bar"]], text="foo-bar")
     s.case("A dot separates a letter with a digit from a digit", "tokens", [[0, "v2"], [1, "0"]], text="v2.0")
     s.case("Each capital sigma is folded to the same small one, the last too", "tokens", [[0, "σοφοσ"]], text="ΣΟΦΟΣ")
-    s.case("A run of 40 bytes is dropped and keeps its number", "tokens", [[0, "a"], [2, "b"]],
+    s.case("A span of 40 bytes is dropped and keeps its number", "tokens", [[0, "a"], [2, "b"]],
            text=["a ", forty, " b"])
-    s.case("A run of 39 bytes is kept", "tokens", [[0, "a"], [1, "x" * 39], [2, "b"]], text=["a ", thirty_nine, " b"])
+    s.case("A span of 39 bytes is kept", "tokens", [[0, "a"], [1, "x" * 39], [2, "b"]], text=["a ", thirty_nine, " b"])
     s.case("Twenty letters of two bytes are 40 bytes, and dropped", "tokens", [], text=[{"times": 20, "of": "é"}])
     s.case("Nineteen letters of two bytes are 38 bytes, and kept", "tokens", [[0, "é" * 19]],
            text=[{"times": 19, "of": "é"}])
-    s.case("A place says at which byte a run begins and ends", "places", [[0, 0, 4], [1, 6, 9], [2, 10, 14]],
+    s.case("A place says at which byte a span begins and ends", "places", [[0, 0, 4], [1, 6, 9], [2, 10, 14]],
            text="Rust, the Book")
     s.case("Places count bytes and not letters", "places", [[0, 0, 2], [1, 3, 5]], text="é ß")
     s.case("A text is folded behind what is there", "fold", "a σοφοσ", text="ΣΟΦΟΣ", behind="a ")
@@ -125,9 +125,9 @@ def write_scan():
     def pattern(sentence, texts, members, count):
         s.case(sentence, "pattern", count, documents=titles(texts), pattern=members)
 
-    pattern("A run that is too long leaves its gap: b isn't next to a", LONG, [[0, "a"], [1, "b"]], 0)
-    pattern("Both kinds of run keep b two after a", LONG, [[0, "a"], [2, "b"]], 2)
-    pattern("A run of 39 bytes is a token of a phrase", LONG, [[0, "a"], [1, "x" * 39], [2, "b"]], 1)
+    pattern("A span that is too long leaves its gap: b isn't next to a", LONG, [[0, "a"], [1, "b"]], 0)
+    pattern("Both kinds of span keep b two after a", LONG, [[0, "a"], [2, "b"]], 2)
+    pattern("A span of 39 bytes is a token of a phrase", LONG, [[0, "a"], [1, "x" * 39], [2, "b"]], 1)
     three = ["a b a b a", "foo-bar", "bar foo"]
     pattern("A phrase is found in the middle of a text", three, [[0, "a"], [1, "b"], [2, "a"]], 1)
     pattern("A token doesn't stand for two", three, [[0, "b"], [1, "b"]], 0)

@@ -34,15 +34,15 @@ pub(crate) fn text_of(alloc: Global, case: &Value, name: &'static str) -> Result
 fn listed(alloc: Global, text: &str) -> Result<Vec<Value>, Trouble> {
     let mut list = Vec::new(alloc);
     for token in Tokens::new(text) {
-        list.push(shown(alloc, token.position, token.run(text))?)?;
+        list.push(shown(alloc, token.position, token.span(text))?)?;
     }
     Ok(list)
 }
 
-/// The position of a run and its folded text.
-fn shown(alloc: Global, position: usize, run: &str) -> Result<Value, Trouble> {
+/// The position of a span and its folded text.
+fn shown(alloc: Global, position: usize, span: &str) -> Result<Value, Trouble> {
     let mut folded = String::new(alloc);
-    fold_into(run, &mut folded)?;
+    fold_into(span, &mut folded)?;
     Ok(json!(in alloc; [position, folded.as_str()])?)
 }
 
@@ -52,7 +52,7 @@ fn tokens(alloc: Global, case: &Value) -> Result<Value, Trouble> {
     Ok(Value::Array(listed(alloc, text.as_str())?))
 }
 
-/// Each token as its position and the bytes where its run begins and ends.
+/// Each token as its position and the bytes where its span begins and ends.
 fn places(alloc: Global, case: &Value) -> Result<Value, Trouble> {
     placed(alloc, text_of(alloc, case, "text")?.as_str())
 }

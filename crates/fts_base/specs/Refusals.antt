@@ -1,7 +1,15 @@
 -- The refusals of the index: each has a number and a name.
 use Rattle.std.specs.Prelude.{ℕ, List, codes}
 use Rattle.fts_base.specs.declared.refusal.Refusal.{Refusal}
-use Rattle.fts_base.specs.declared.refusal.Refusal.TheVariants.{Memory, NoFields, TooManyFields, BadName, NameTwice, BadDefault, NotAnObject, UnknownField, WrongKind, TextTooLong, KeywordTooLong, BadLimit, NotANumberField, SegmentFull, TooLong, Syntax, TooDeep, BadNumber, RangeOnText, NoDefaultField, AllNegative, TooLarge, RoundOpen, StampsUsedUp, LaneFull, LaneMissing, StaleBatch, OtherSchema, UnknownSegment, SegmentTwice, NoSegments, SourceGone, BadJson, BadCommand, NoSchema, SchemaTwice, LineTooLong, NoReader}
+use Rattle.fts_base.specs.declared.refusal.Refusal.TheVariants.{Memory, NoFields, TooManyFields, BadName, NameTwice}
+use Rattle.fts_base.specs.declared.refusal.Refusal.TheVariants.{BadDefault, NotAnObject, UnknownField, WrongKind}
+use Rattle.fts_base.specs.declared.refusal.Refusal.TheVariants.{TextTooLong, KeywordTooLong, BadLimit, NotANumberField}
+use Rattle.fts_base.specs.declared.refusal.Refusal.TheVariants.{SegmentFull, TooLong, Syntax, TooDeep, BadNumber}
+use Rattle.fts_base.specs.declared.refusal.Refusal.TheVariants.{RangeOnText, NoDefaultField, AllNegative, TooLarge}
+use Rattle.fts_base.specs.declared.refusal.Refusal.TheVariants.{RoundOpen, StampsUsedUp, LaneFull, LaneMissing}
+use Rattle.fts_base.specs.declared.refusal.Refusal.TheVariants.{StaleBatch, OtherSchema, UnknownSegment, SegmentTwice}
+use Rattle.fts_base.specs.declared.refusal.Refusal.TheVariants.{NoSegments, SourceGone, BadJson, BadCommand, NoSchema}
+use Rattle.fts_base.specs.declared.refusal.Refusal.TheVariants.{SchemaTwice, LineTooLong, NoReader}
 
 -- the number of a refusal
 abbrev pub number_of : Refusal → ℕ

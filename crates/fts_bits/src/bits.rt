@@ -1,5 +1,6 @@
 // One bit a document: bit `i % 64` of word `i / 64` is document `i`'s, and the bits past the last document are 0.
-ghost use Rattle.std.specs.Prelude.{◌≡◌, ℕ, ◌<◌, ◌*◌, List, Bool, true, false, IfOk, IsOkUnless, count_by, ◌==◌, drop, length, map, replicate, slice_get, slice_set, take};
+ghost use Rattle.std.specs.Prelude.{◌≡◌, ℕ, ◌<◌, ◌*◌, List, Bool, true, false, IfOk, IsOkUnless, count_by, ◌==◌, drop};
+ghost use Rattle.std.specs.Prelude.{length, map, replicate, slice_get, slice_set, take};
 ghost use Rattle.std.specs.Cmp.{bool_eq_equiv, partial_equiv_from_equiv};
 ghost use Rattle.std.specs.Cmp.Lexicographic.{pointwise, lists_per};
 ghost use Rattle.std.proofs.lemmas.Cmp.{lists_equiv};
@@ -126,8 +127,8 @@ impl Bits {
         }
     }
 
-    /// The bits of documents `64 * index` to `64 * index + 63`, the first of them the lowest; behind the last document they
-    /// are 0.
+    /// The bits of documents `64 * index` to `64 * index + 63`, the first of them the lowest; behind the last document
+    /// they are 0.
     #[inline]
     pub fn word(&self, index: usize) -> u64
         ensures { result ≡ number_of (take 64 (drop (64 * index) self.now)) }

@@ -1,7 +1,7 @@
 //! Bits and numbers of a few bits, in words of 64.
 //!
-//! [`Bits`] is one bit a document. [`packing`] says how many bits numbers take, and reads those that lie end to end in words.
-//! Signed numbers are kept as the unsigned ones in their places ([`i64_to_u64`]).
+//! [`Bits`] is one bit a document. [`packing`] says how many bits numbers take, and reads those that lie end to end in
+//! words. Signed numbers are kept as the unsigned ones in their places ([`i64_to_u64`]).
 #![tactic(auto)]
 
 mod bits;

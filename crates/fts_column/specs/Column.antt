@@ -1,5 +1,6 @@
 -- A column of values, one for each document, of which some are missing.
-use Rattle.std.specs.Prelude.{◌≡◌, ℕ, ◌+◌, ◌-◌, ◌^◌, ◌<◌, ◌≤◌, Bool, List, [], ◌∷◌, Option, Some, None, All, Contains, IfSome, length, map, max, min, if◌then◌else◌}
+use Rattle.std.specs.Prelude.{◌≡◌, ℕ, ◌+◌, ◌-◌, ◌^◌, ◌<◌, ◌≤◌, Bool, List, [], ◌∷◌, Option, Some, None, All, Contains}
+use Rattle.std.specs.Prelude.{IfSome, length, map, max, min, if◌then◌else◌}
 use Rattle.std.specs.Option.{option_map_or}
 use Rattle.fts_bits.specs.Digits.{IsWidthOf, words_of}
 
@@ -7,7 +8,8 @@ use Rattle.fts_bits.specs.Digits.{IsWidthOf, words_of}
 abbrev pub IsRangeOf : List (Option ℕ) → Option (ℕ × ℕ) → Type 0
 IsRangeOf values None = All (λ v. v ≡ None) values
 IsRangeOf values (Some range) =
-    Contains values (Some range.0) × Contains values (Some range.1) × All (λ v. IfSome v (λ x. (range.0 ≤ x) × (x ≤ range.1))) values
+    Contains values (Some range.0) × Contains values (Some range.1)
+    × All (λ v. IfSome v (λ x. (range.0 ≤ x) × (x ≤ range.1))) values
 
 -- the range that holds one value more
 abbrev pub range_with : Option (ℕ × ℕ) → ℕ → ℕ × ℕ

@@ -1,5 +1,8 @@
-// One value a document, or none: how far it is above the least, in as few bits as the greatest needs, and a bit for presence.
-ghost use Rattle.std.specs.Prelude.{◌≡◌, ◌≤◌, ◌<◌, ◌+◌, ◌-◌, ◌*◌, ◌%◌, ◌^◌, ◌==◌, ℕ, List, [], ◌∷◌, Option, None, All, IfOk, IfSome, IsOkUnless, drop, is_some, length, map, min, slice_index, slice_index_or, take};
+// One value a document, or none: how far it is above the least, in as few bits as the greatest needs, and a bit for
+// presence.
+ghost use Rattle.std.specs.Prelude.{◌≡◌, ◌≤◌, ◌<◌, ◌+◌, ◌-◌, ◌*◌, ◌%◌, ◌^◌, ◌==◌, ℕ, List, [], ◌∷◌, Option, None, All};
+ghost use Rattle.std.specs.Prelude.{IfOk, IfSome, IsOkUnless, drop, is_some, length, map, min, slice_index};
+ghost use Rattle.std.specs.Prelude.{slice_index_or, take};
 ghost use Rattle.fts_bits.specs.Bits.{number_of};
 ghost use Rattle.fts_bits.specs.Digits.{IsWidthOf, numbers_in, words_of};
 ghost use Rattle.std.specs.Option.{option_map_or};
@@ -32,9 +35,12 @@ pub struct Stretch {
 impl Model for Column {
     ghost Value = { List (Option ℕ) };
 
-    ghost view = { λ c. values_at (least_of c.range) c.present (numbers_in 64 c.width (length c.present) c.words.items) };
+    ghost view = { λ c. values_at (least_of c.range) c.present
+        (numbers_in 64 c.width (length c.present) c.words.items) };
 
-    ghost invariant = { λ c. IsColumn (values_at (least_of c.range) c.present (numbers_in 64 c.width (length c.present) c.words.items)) c.range c.width c.words.items };
+    ghost invariant = { λ c. IsColumn
+        (values_at (least_of c.range) c.present (numbers_in 64 c.width (length c.present) c.words.items))
+        c.range c.width c.words.items };
 }
 
 impl Column {

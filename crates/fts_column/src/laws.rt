@@ -4,7 +4,8 @@ ghost use Rattle.fts_bits.specs.Bits.{number_of};
 ghost use Rattle.fts_bits.specs.Digits.{words_of};
 ghost use Rattle.fts_column.specs.Column.{offsets};
 
-/// What a column keeps, by worked examples: a missing value is a zero that a bit tells apart; the widest values take whole words.
+/// What a column keeps, by worked examples: a missing value is a zero that a bit tells apart; the widest values take
+/// whole words.
 pub fn columns_of_examples()
     ensures missing { words_of 64 2 (offsets 7 (Some 7 ∷ None ∷ Some 9 ∷ [])) ≡ 32 ∷ [] }
     ensures present { number_of (true ∷ false ∷ true ∷ []) ≡ 5 }

@@ -1,7 +1,7 @@
 -- Rising documents, their differences, and their blocks.
-use Rattle.std.proofs.Common.{◌≡◌, ℕ, zero, suc, ◌+◌, ◌-◌, ◌*◌, ◌<◌, ◌≤◌, List, [], ◌∷◌, ◌++◌, length, get_or, take, drop, set, min, refl, sym, ap, ◌∙◌, subst, arith, add-one, append_assoc}
+use Rattle.std.proofs.Common.{◌≡◌, ℕ, zero, suc, ◌+◌, ◌-◌, ◌*◌, ◌<◌, ◌≤◌, List, [], ◌∷◌, ◌++◌, length, get_or, take, drop, set, min, refl, sym, ap, ◌∙◌, subst, arith}
 use Rattle.std.specs.List.Sorted.{IsStrictlyIncreasing}
-use Rattle.std.proofs.lemmas.List.{length-drop, take-append-drop, drop_all, append-nil, drop_more, take_more_set, length-set, take_min}
+use Rattle.std.proofs.lemmas.List.{length-drop, take-append-drop, drop_more, take_min}
 use Rattle.std.specs.Int.{div_ceil}
 use Rattle.std.proofs.Math.Seq.{take-add}
 use Rattle.fts_pack.specs.Documents.{gaps, documents_at, block_count, block_at, last_of, Rises, after}
@@ -59,33 +59,23 @@ Rises-block documents block h =
 pub take_block : (documents : List ℕ) (block : ℕ) → take ((block + 1) * 128) documents ≡ take (block * 128) documents ++ block_at documents block
 take_block documents block = ap (λ n. take n documents) (omega arith) ∙ take-add (block * 128) 128 documents
 
--- the first differences were written
-pub record GapsWritten (first : ℕ) (documents : List ℕ) (index next : ℕ) (out : List ℕ) : Type 0 where
-  pub size : length out ≡ 128
-  pub written : take index out ++ gaps next (drop index documents) ≡ gaps first documents
-  pub rises : Rises next (drop index documents)
+-- the difference of the next number
+pub record IsNextGap (rising : List ℕ) (i next number : ℕ) : Type 0 where
+  pub above : next ≤ number
+  pub rises : Rises (number + 1) (drop (i + 1) rising)
+  pub gaps_are : gaps next (drop i rising) ≡ (number - next) ∷ gaps (number + 1) (drop (i + 1) rising)
 
-pub GapsWritten-start : (next : ℕ) (documents out : List ℕ) → Rises next documents → length out ≡ 128 → GapsWritten next documents 0 next out
-GapsWritten-start next documents out h size = record { size = size; written = refl; rises = h }
-
-pub GapsWritten-more : (first : ℕ) (documents : List ℕ) (index next document gap : ℕ) (out : List ℕ) → GapsWritten first documents index next out → index < length documents → index < 128 → document ≡ get_or documents index 0 → gap ≡ document - next → (next ≤ document) × GapsWritten first documents (index + 1) (document + 1) (set out index gap)
-GapsWritten-more first documents index next document gap out h inside room document_is gap_is =
-    let rest : drop index documents ≡ document ∷ drop (index + 1) documents = drop_more documents index 0 inside ∙ ap (λ d. d ∷ drop (index + 1) documents) (sym document_is) in
-    let rises : Rises next (document ∷ drop (index + 1) documents) = subst (Rises next) rest h.rises in
-    let one : document + 1 ≡ suc document = add-one document in
-    let left = gaps (suc document) (drop (index + 1) documents) in
-    let there : index < length out = omega (arith, h.size) in (
-      rises.0,
-      record {
-        size = length-set out index gap ∙ h.size;
-        written = rw one (ap (λ xs. xs ++ left) (take_more_set out index gap there) ∙ append_assoc (take index out) (gap ∷ []) left ∙ ap (λ g. take index out ++ g ∷ left) gap_is ∙ ap (λ ds. take index out ++ gaps next ds) (sym rest) ∙ h.written);
-        rises = rw one rises.1;
-      },
-    )
-
-pub GapsWritten-end : (first : ℕ) (documents : List ℕ) (index next : ℕ) (out : List ℕ) → GapsWritten first documents index next out → length documents ≤ index → take index out ≡ gaps first documents
-GapsWritten-end first documents index next out h all =
-    sym (append-nil (take index out)) ∙ ap (λ ds. take index out ++ gaps next ds) (sym (drop_all index documents all)) ∙ h.written
+pub next_gap : (rising : List ℕ) (i next number : ℕ) → i < length rising → number ≡ get_or rising i 0 → Rises next (drop i rising) → IsNextGap rising i next number
+next_gap rising i next number within is rises =
+    let rest = drop (i + 1) rising in
+    let here : drop i rising ≡ number ∷ rest = drop_more rising i 0 within ∙ ap (λ p. p ∷ rest) (sym is) in
+    let up : Rises next (number ∷ rest) = subst (Rises next) here rises in
+    let one : suc number ≡ number + 1 = omega arith in
+    record {
+      above = up.0;
+      rises = subst (λ n. Rises n rest) one up.1;
+      gaps_are = ap (gaps next) here ∙ ap (λ n. (number - next) ∷ gaps n rest) one;
+    }
 
 -- a slice from a block's start to its end is the block
 pub block_sliced : (documents : List ℕ) (block end : ℕ) → end ≡ min (length documents) (block * 128 + 128) → take (end - block * 128) (drop (block * 128) documents) ≡ block_at documents block

@@ -1,29 +1,28 @@
 -- The blocks of a list of documents, as they are written and as they are read.
 use Rattle.std.proofs.Common.{◌≡◌, ℕ, zero, suc, ◌+◌, ◌-◌, ◌*◌, ◌^◌, ◌<◌, ◌≤◌, ◌≢◌, inl, inr, List, [], ◌∷◌, ◌++◌, All, length, get_or, take, drop, min, refl, sym, ap, ap₂, ◌∙◌, subst, arith, append_assoc}
 use Rattle.std.specs.List.Sorted.{IsStrictlyIncreasing}
-use Rattle.std.proofs.lemmas.List.{length-append, length-drop, length_push, take_all, take_at, drop-drop, drop_at, drop-append-le, append-nil, get_or-take, get_or-drop, get_or_default, length-take-le}
+use Rattle.std.proofs.lemmas.List.{length-append, length_push, take_all, take_at, drop-drop, drop_at, append-nil, get_or-take, get_or-drop, get_or_default, length-take-le}
 use Rattle.std.proofs.lemmas.Bool.{cases_lt}
 use Rattle.std.proofs.Math.Seq.{take-append-add}
 use Rattle.fts_pack.specs.declared.skip.Skip.{Skip}
 use Rattle.fts_pack.specs.Documents.{gaps, documents_at, block_count, block_at, last_of, Rises, after}
-use Rattle.fts_pack.specs.Lanes.{numbers_in_lanes, words_in_lanes}
-use Rattle.fts_pack.specs.LongList.{kept_block, kept_documents, IsAdded, IsKeptBlock, AreKept, IsLongList}
-use Rattle.fts_pack.proofs.LaneLemmas.{length-numbers_in_lanes, length-words_in_lanes, numbers_in_lanes-append, numbers_in_lanes-words}
+use Rattle.fts_pack.specs.Lanes.{words_in_lanes}
+use Rattle.fts_pack.specs.Packed.{numbers_at, IsWithin}
+use Rattle.fts_pack.specs.LongList.{kept_block, kept_documents, IsSkipAdded, IsKeptBlock, AreKept, IsLongList}
+use Rattle.fts_pack.proofs.LaneLemmas.{length-numbers_in_lanes}
+use Rattle.fts_pack.proofs.PackedLemmas.{numbers_at-append, numbers_at-added, IsWithin-append, IsWithin-added}
 use Rattle.fts_pack.proofs.DocumentsLemmas.{Rises-block, take_block, documents_at-gaps, length-gaps, length-documents_at, after-append, after_last}
 use Rattle.fts_pack.specs.SourceLaws.{length-block_at, block_inside}
 
 -- what is kept of a block doesn't change with what is appended
 pub kept_block-append : (words more : List ℕ) (next count : ℕ) (skip : Skip) → IsKeptBlock words next count skip → kept_block (words ++ more) next count skip ≡ kept_block words next count skip
 kept_block-append words more next count skip h =
-    let room : 4 * skip.width ≤ length (drop skip.start words) = omega (arith, length-drop skip.start words, h.words_within) in
-    ap (λ ws. documents_at next (take (min 128 count) (numbers_in_lanes skip.width ws))) (drop-append-le skip.start words more (omega (arith, h.words_within)))
-    ∙ ap (λ xs. documents_at next (take (min 128 count) xs)) (numbers_in_lanes-append skip.width (drop skip.start words) more room)
+    ap (λ xs. documents_at next (take (min 128 count) xs)) (numbers_at-append words more skip.block h.within)
 
 IsKeptBlock-append : (words more : List ℕ) (next count : ℕ) (skip : Skip) → IsKeptBlock words next count skip → IsKeptBlock (words ++ more) next count skip
 IsKeptBlock-append words more next count skip h = record {
   some = h.some;
-  width_within = h.width_within;
-  words_within = omega (arith, length-append words more, h.words_within);
+  within = IsWithin-append words more skip.block h.within;
   last_is = ap (after next) (kept_block-append words more next count skip h) ∙ h.last_is;
 }
 
@@ -46,9 +45,8 @@ next_after next (s ∷ ss) = next_after (suc s.last) ss
 kept_same : (words : List ℕ) (next a b : ℕ) (skip : Skip) → min 128 a ≡ min 128 b → 0 < b → IsKeptBlock words next a skip → IsKeptBlock words next b skip
 kept_same words next a b skip same some h = record {
   some = some;
-  width_within = h.width_within;
-  words_within = h.words_within;
-  last_is = ap (λ n. after next (documents_at next (take n (numbers_in_lanes skip.width (drop skip.start words))))) (sym same) ∙ h.last_is;
+  within = h.within;
+  last_is = ap (λ n. after next (documents_at next (take n (numbers_at words skip.block)))) (sym same) ∙ h.last_is;
 }
 
 pub kept_documents-push : (words : List ℕ) (next more : ℕ) (skips : List Skip) (skip : Skip) → more ≤ 128 → kept_documents words next (length skips * 128 + more) (skips ++ skip ∷ []) ≡ kept_documents words next (length skips * 128) skips ++ kept_block words (next_after next skips) more skip
@@ -60,7 +58,7 @@ kept_documents-push words next more (s ∷ ss) skip few =
     let full : min 128 (suc (length ss) * 128 + more) ≡ min 128 (suc (length ss) * 128) = omega arith in
     let left : suc (length ss) * 128 + more - 128 ≡ length ss * 128 + more = omega arith in
     let left' : suc (length ss) * 128 - 128 ≡ length ss * 128 = omega arith in
-    ap₂ (λ n k. documents_at next (take n (numbers_in_lanes s.width (drop s.start words))) ++ kept_documents words (suc s.last) k (ss ++ skip ∷ [])) full left ∙ ap (λ ds. kept_block words next (suc (length ss) * 128) s ++ ds) (kept_documents-push words (suc s.last) more ss skip few) ∙ sym (append_assoc (kept_block words next (suc (length ss) * 128) s) (kept_documents words (suc s.last) (length ss * 128) ss) (kept_block words (next_after (suc s.last) ss) more skip)) ∙ ap (λ k. (kept_block words next (suc (length ss) * 128) s ++ kept_documents words (suc s.last) k ss) ++ kept_block words (next_after (suc s.last) ss) more skip) (sym left')
+    ap₂ (λ n k. documents_at next (take n (numbers_at words s.block)) ++ kept_documents words (suc s.last) k (ss ++ skip ∷ [])) full left ∙ ap (λ ds. kept_block words next (suc (length ss) * 128) s ++ ds) (kept_documents-push words (suc s.last) more ss skip few) ∙ sym (append_assoc (kept_block words next (suc (length ss) * 128) s) (kept_documents words (suc s.last) (length ss * 128) ss) (kept_block words (next_after (suc s.last) ss) more skip)) ∙ ap (λ k. (kept_block words next (suc (length ss) * 128) s ++ kept_documents words (suc s.last) k ss) ++ kept_block words (next_after (suc s.last) ss) more skip) (sym left')
 
 pub AreKept-push : (words : List ℕ) (next more : ℕ) (skips : List Skip) (skip : Skip) → more ≤ 128 → AreKept words next (length skips * 128) skips → IsKeptBlock words (next_after next skips) more skip → AreKept words next (length skips * 128 + more) (skips ++ skip ∷ [])
 unfolding next_after
@@ -81,8 +79,8 @@ next_after-kept words next count (s ∷ ss) h =
 
 length-kept_block : (words : List ℕ) (next count : ℕ) (skip : Skip) → length (kept_block words next count skip) ≡ min 128 count
 length-kept_block words next count skip =
-    let numbers = numbers_in_lanes skip.width (drop skip.start words) in
-    length-documents_at next (take (min 128 count) numbers) ∙ length-take-le (min 128 count) numbers (omega (arith, length-numbers_in_lanes skip.width (drop skip.start words)))
+    let numbers = numbers_at words skip.block in
+    length-documents_at next (take (min 128 count) numbers) ∙ length-take-le (min 128 count) numbers (omega (arith, length-numbers_in_lanes skip.block.width (drop skip.block.start words)))
 
 pub length-kept_documents : (words : List ℕ) (next count : ℕ) (skips : List Skip) → AreKept words next count skips → length (kept_documents words next count skips) ≡ count
 length-kept_documents words next count [] h = sym h
@@ -157,29 +155,26 @@ pub record IsBuilt (documents : List ℕ) (block next : ℕ) (skips : List Skip)
 pub IsBuilt-start : (documents : List ℕ) → IsBuilt documents 0 0 [] []
 IsBuilt-start documents = record { count = refl; kept = omega arith; documents_are = refl; next_is = refl }
 
-pub kept_block-added : (piece before words : List ℕ) (next : ℕ) (skip : Skip) → IsAdded piece next before words skip → Rises next piece → length piece ≤ 128 → kept_block words next (length piece) skip ≡ piece
+pub kept_block-added : (piece before words : List ℕ) (next : ℕ) (skip : Skip) → IsSkipAdded piece next before words skip → Rises next piece → length piece ≤ 128 → kept_block words next (length piece) skip ≡ piece
 kept_block-added piece before words next skip h rises few =
     let numbers = gaps next piece in
     let size : length numbers ≡ length piece = length-gaps next piece in
-    let rest : drop skip.start words ≡ words_in_lanes skip.width numbers = ap₂ drop h.start h.words_are ∙ drop_at before (words_in_lanes skip.width numbers) (length before) refl in
     let count : min 128 (length piece) ≡ length numbers = omega arith in
-    ap₂ (λ n ws. documents_at next (take n (numbers_in_lanes skip.width ws))) count rest ∙ ap (documents_at next) (numbers_in_lanes-words skip.width numbers (omega arith) h.width_is.holds) ∙ documents_at-gaps next piece rises
+    ap (λ n. documents_at next (take n (numbers_at words skip.block))) count
+    ∙ ap (documents_at next) (numbers_at-added numbers before words skip.block h.block (omega arith)) ∙ documents_at-gaps next piece rises
 
-pub IsKeptBlock-added : (piece before words : List ℕ) (next : ℕ) (skip : Skip) → IsAdded piece next before words skip → Rises next piece → 0 < length piece → length piece ≤ 128 → IsKeptBlock words next (length piece) skip
+pub IsKeptBlock-added : (piece before words : List ℕ) (next : ℕ) (skip : Skip) → IsSkipAdded piece next before words skip → Rises next piece → 0 < length piece → length piece ≤ 128 → IsKeptBlock words next (length piece) skip
 IsKeptBlock-added piece before words next skip h rises some few =
-    let numbers = gaps next piece in
-    let size : length words ≡ length before + 4 * skip.width = ap length h.words_are ∙ length-append before (words_in_lanes skip.width numbers) ∙ ap (λ n. length before + n) (length-words_in_lanes skip.width numbers) in
     record {
       some = some;
-      width_within = h.width_within;
-      words_within = omega (arith, h.start);
+      within = IsWithin-added (gaps next piece) before words skip.block h.block;
       last_is = ap (after next) (kept_block-added piece before words next skip h rises few) ∙ sym h.last_is;
     }
 
-pub IsBuilt-more : (documents : List ℕ) (block next : ℕ) (skips : List Skip) (before words : List ℕ) (skip : Skip) → IsBuilt documents block next skips before → Rises 0 documents → block < block_count (length documents) → IsAdded (block_at documents block) next before words skip → IsBuilt documents (block + 1) (suc skip.last) (skips ++ skip ∷ []) words
+pub IsBuilt-more : (documents : List ℕ) (block next : ℕ) (skips : List Skip) (before words : List ℕ) (skip : Skip) → IsBuilt documents block next skips before → Rises 0 documents → block < block_count (length documents) → IsSkipAdded (block_at documents block) next before words skip → IsBuilt documents (block + 1) (suc skip.last) (skips ++ skip ∷ []) words
 IsBuilt-more documents block next skips before words skip h rises inside added =
     let piece = block_at documents block in
-    let new = words_in_lanes skip.width (gaps next piece) in
+    let new = words_in_lanes skip.block.width (gaps next piece) in
     let start = block_inside (length documents) block inside in
     let size = length-block_at documents block in
     let now : min (block * 128) (length documents) ≡ length skips * 128 = omega (arith, h.count, start) in
@@ -188,8 +183,8 @@ IsBuilt-more documents block next skips before words skip h rises inside added =
     let some : 0 < length piece = omega (arith, size, start) in
     let here : Rises next piece = subst (λ n. Rises n piece) (sym h.next_is) (Rises-block documents block rises) in
     let kept : AreKept before 0 (length skips * 128) skips = subst (λ n. AreKept before 0 n skips) now h.kept in
-    let kept_more : AreKept words 0 (length skips * 128) skips = subst (λ ws. AreKept ws 0 (length skips * 128) skips) (sym added.words_are) (AreKept-append before new 0 (length skips * 128) skips kept) in
-    let front : kept_documents words 0 (length skips * 128) skips ≡ take (block * 128) documents = ap (λ ws. kept_documents ws 0 (length skips * 128) skips) added.words_are ∙ kept_documents-append before new 0 (length skips * 128) skips kept ∙ ap (λ n. kept_documents before 0 n skips) (sym now) ∙ h.documents_are in
+    let kept_more : AreKept words 0 (length skips * 128) skips = subst (λ ws. AreKept ws 0 (length skips * 128) skips) (sym added.block.words_are) (AreKept-append before new 0 (length skips * 128) skips kept) in
+    let front : kept_documents words 0 (length skips * 128) skips ≡ take (block * 128) documents = ap (λ ws. kept_documents ws 0 (length skips * 128) skips) added.block.words_are ∙ kept_documents-append before new 0 (length skips * 128) skips kept ∙ ap (λ n. kept_documents before 0 n skips) (sym now) ∙ h.documents_are in
     let next_is : next_after 0 skips ≡ next = next_after-kept words 0 (length skips * 128) skips kept_more ∙ ap (after 0) front ∙ sym h.next_is in
     let block_is : IsKeptBlock words (next_after 0 skips) (length piece) skip = rw next_is (IsKeptBlock-added piece before words next skip added here some few) in
     record {
@@ -228,11 +223,10 @@ long_blocks value count skips words view h =
 -- what a list keeps of a block, seen from its documents
 pub record Reads (value : List ℕ) (count : ℕ) (words : List ℕ) (block : ℕ) (skip : Skip) : Type 0 where
   pub start : block * 128 < count
-  pub width_within : skip.width ≤ 32
-  pub words_within : skip.start + 4 * skip.width ≤ length words
+  pub within : IsWithin words skip.block
   pub last_is : skip.last ≡ last_of (block_at value block)
   pub size : min (count - block * 128) 128 ≡ length (block_at value block)
-  pub documents_are : documents_at (after 0 (take (block * 128) value)) (take (min (count - block * 128) 128) (numbers_in_lanes skip.width (drop skip.start words))) ≡ block_at value block
+  pub documents_are : documents_at (after 0 (take (block * 128) value)) (take (min (count - block * 128) 128) (numbers_at words skip.block)) ≡ block_at value block
   pub fits : All (λ document. document < 2 ^ 32) (block_at value block)
 
 pub block_read : (value : List ℕ) (count : ℕ) (skips : List Skip) (words : List ℕ) (block : ℕ) (skip : Skip) → kept_documents words 0 count skips ≡ value → IsLongList count skips words → block < block_count (length value) → skip ≡ get_or skips block skip → Reads value count words block skip
@@ -252,11 +246,10 @@ block_read value count skips words block skip view h inside skip_is =
     let size : min (count - block * 128) 128 ≡ length (block_at value block) = turned ∙ sym long ∙ ap length (sym same) in
     record {
       start = omega (arith, at.kept.some);
-      width_within = at.kept.width_within;
-      words_within = at.kept.words_within;
+      within = at.kept.within;
       last_is = (let e : skip.last ≡ last_of here = omega (arith, last) in e) ∙ ap last_of (sym same);
       size = size;
-      documents_are = ap₂ (λ n k. documents_at n (take k (numbers_in_lanes skip.width (drop skip.start words)))) (sym next_is) turned ∙ sym same;
+      documents_are = ap₂ (λ n k. documents_at n (take k (numbers_at words skip.block))) (sym next_is) turned ∙ sym same;
       fits = λ k d lt. rw (get_or-take 128 (drop (block * 128) value) k d (omega (arith, size, lt)), get_or-drop (block * 128) value k d) (all (block * 128 + k) d (omega (arith, many, size, lt, at.kept.some)));
     }
 
@@ -280,7 +273,7 @@ first_fits value count skips words block d view h inside =
     let skip = get_or skips block d in
     let r = block_read value count skips words block skip view h inside (get_or_default skips block d skip (omega (arith, blocks, inside))) in
     let first = after 0 (take (block * 128) value) in
-    let numbers = take (min (count - block * 128) 128) (numbers_in_lanes skip.width (drop skip.start words)) in
+    let numbers = take (min (count - block * 128) 128) (numbers_at words skip.block) in
     let here : documents_at first numbers ≡ block_at value block = r.documents_are in
     let some : 0 < length (documents_at first numbers) = rw here (omega (arith, r.size, r.start)) in
     let all : All (λ document. document < 2 ^ 32) (documents_at first numbers) = rw here r.fits in

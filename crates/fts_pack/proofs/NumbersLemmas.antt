@@ -1,16 +1,18 @@
 -- The blocks of a list of numbers, as they are written and as they are read.
-use Rattle.std.proofs.Common.{◌≡◌, ℕ, ◌+◌, ◌-◌, ◌*◌, ◌/◌, ◌%◌, ◌^◌, ◌<◌, ◌≤◌, inl, inr, List, [], ◌∷◌, ◌++◌, All, length, get_or, take, drop, min, refl, sym, ap, ap₂, ◌∙◌, subst, arith}
-use Rattle.std.proofs.lemmas.List.{length-append, length-drop, length_push, drop_at, drop-append-le, get_or-take, get_or-drop, get_or_append_left, get_or_read, length-take-le}
+use Rattle.std.proofs.Common.{◌≡◌, ℕ, ◌+◌, ◌-◌, ◌*◌, ◌/◌, ◌%◌, ◌^◌, ◌<◌, ◌≤◌, inl, inr, List, [], ◌∷◌, ◌++◌, All, length, get_or, take, drop, min, refl, sym, ap, ◌∙◌, subst, arith}
+use Rattle.std.proofs.lemmas.List.{length_push, get_or-take, get_or-drop, get_or_append_left, get_or_read, length-take-le}
 use Rattle.std.proofs.lemmas.List.FromFn.{length-map-range_with_len, get_or-map-range_with_len}
 use Rattle.std.proofs.lemmas.Bool.{cases_lt}
 use Rattle.std.proofs.Math.Seq.{get_or-append_seam}
 use Rattle.std.proofs.lemmas.Grind.{same_number_lists}
-use Rattle.fts_pack.specs.declared.numbers.Packed.{Packed}
+use Rattle.fts_pack.specs.declared.packed.Packed.{Packed}
 use Rattle.fts_pack.specs.Documents.{block_count, block_at}
-use Rattle.fts_pack.specs.Lanes.{numbers_in_lanes, words_in_lanes}
-use Rattle.fts_pack.specs.Numbers.{no_block, numbers_at, number_kept, numbers_kept, IsWithin, AreKept, IsAdded}
+use Rattle.fts_pack.specs.Lanes.{words_in_lanes}
+use Rattle.fts_pack.specs.Packed.{numbers_at, IsWithin, IsAdded}
+use Rattle.fts_pack.specs.Numbers.{no_block, number_kept, numbers_kept, AreKept}
 use Rattle.fts_pack.specs.SourceLaws.{length-block_at, block_inside}
-use Rattle.fts_pack.proofs.LaneLemmas.{length-numbers_in_lanes, length-words_in_lanes, numbers_in_lanes-append, numbers_in_lanes-words}
+use Rattle.fts_pack.proofs.LaneLemmas.{length-numbers_in_lanes}
+use Rattle.fts_pack.proofs.PackedLemmas.{length-added, IsWithin-added, numbers_at-append, numbers_at-added}
 
 pub length-numbers_kept : (count : ℕ) (blocks : List Packed) (words : List ℕ) → length (numbers_kept count blocks words) ≡ count
 unfolding numbers_kept
@@ -19,19 +21,6 @@ length-numbers_kept count blocks words = length-map-range_with_len (number_kept 
 pub get_or-numbers_kept : (count : ℕ) (blocks : List Packed) (words : List ℕ) (i : ℕ) → i < count → get_or (numbers_kept count blocks words) i 0 ≡ number_kept blocks words i
 unfolding numbers_kept
 get_or-numbers_kept count blocks words i inside = get_or-map-range_with_len (number_kept blocks words) 0 count i i 0 inside (omega arith)
-
--- what is kept of a block doesn't change with what is appended
-numbers_at-append : (words more : List ℕ) (block : Packed) → IsWithin words block → numbers_at (words ++ more) block ≡ numbers_at words block
-numbers_at-append words more block h =
-    let room : 4 * block.width ≤ length (drop block.start words) = omega (arith, length-drop block.start words, h.room) in
-    ap (numbers_in_lanes block.width) (drop-append-le block.start words more (omega (arith, h.room)))
-    ∙ numbers_in_lanes-append block.width (drop block.start words) more room
-
--- a block that was added has its numbers
-numbers_at-added : (piece before words : List ℕ) (block : Packed) → IsAdded piece before words block → length piece ≤ 128 → take (length piece) (numbers_at words block) ≡ piece
-numbers_at-added piece before words block h few =
-    let rest : drop block.start words ≡ words_in_lanes block.width piece = ap₂ drop h.start h.words_are ∙ drop_at before (words_in_lanes block.width piece) (length before) refl in
-    ap (λ ws. take (length piece) (numbers_in_lanes block.width ws)) rest ∙ numbers_in_lanes-words block.width piece few h.width_is.holds
 
 -- the first blocks were added
 pub record AreBuilt (numbers : List ℕ) (block : ℕ) (blocks : List Packed) (words : List ℕ) : Type 0 where
@@ -50,7 +39,7 @@ AreBuilt-more numbers block blocks before words added h inside new =
     let start = block_inside (length numbers) block inside in
     let few : length piece ≤ 128 = omega (arith, size) in
     let more = words_in_lanes added.width piece in
-    let long : length words ≡ length before + 4 * added.width = ap length new.words_are ∙ length-append before more ∙ ap (λ n. length before + n) (length-words_in_lanes added.width piece) in
+    let long = length-added piece before words added new in
     let all = blocks ++ added ∷ [] in
     let count : length all ≡ block + 1 = length_push blocks added ∙ ap (λ n. n + 1) h.count in
     record {
@@ -61,7 +50,7 @@ AreBuilt-more numbers block blocks before words added h inside new =
             subst (IsWithin words) (sym (get_or_append_left blocks (added ∷ []) d i old)) (record { narrow = w.narrow; room = omega (arith, long, w.room) })
         | inr last ↦
             let place : i ≡ length blocks = omega (arith, count, h.count) in
-            subst (IsWithin words) (sym (ap (λ k. get_or all k d) place ∙ get_or-append_seam blocks added [] d)) (record { narrow = new.narrow; room = omega (arith, long, new.start) })
+            subst (IsWithin words) (sym (ap (λ k. get_or all k d) place ∙ get_or-append_seam blocks added [] d)) (IsWithin-added piece before words added new)
       ];
       same = λ i near there. elim (cases_lt i (block * 128)) [
         | inl old ↦

@@ -4,6 +4,7 @@ pub mod Lanes
 pub mod ListSource
 pub mod LongList
 pub mod Numbers
+pub mod Packed
 pub mod Repr
 pub mod SourceLaws
 pub mod Unpacked

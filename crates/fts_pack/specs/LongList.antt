@@ -1,15 +1,13 @@
 -- What a list of documents in blocks keeps.
-use Rattle.std.specs.Prelude.{◌≡◌, ℕ, suc, ◌-◌, ◌+◌, ◌*◌, ◌^◌, ◌<◌, ◌≤◌, List, [], ◌∷◌, ◌++◌, All, drop, length, min, take}
+use Rattle.std.specs.Prelude.{◌≡◌, ℕ, suc, ◌-◌, ◌^◌, ◌<◌, List, [], ◌∷◌, ◌++◌, All, min, take}
 use Rattle.std.specs.List.Sorted.{IsStrictlyIncreasing}
-use Rattle.fts_bits.specs.Digits.{IsWidthOf}
 use Rattle.fts_pack.specs.Documents.{after, documents_at, gaps}
-use Rattle.fts_pack.specs.Lanes.{numbers_in_lanes, words_in_lanes}
+use Rattle.fts_pack.specs.Packed.{IsAdded, IsWithin, numbers_at}
 use Rattle.fts_pack.specs.declared.skip.Skip.{Skip}
 
 -- the documents of one block, the first of them `next` or later
 abbrev pub kept_block : List ℕ → ℕ → ℕ → Skip → List ℕ
-kept_block words next count skip =
-    documents_at next (take (min 128 count) (numbers_in_lanes skip.width (drop skip.start words)))
+kept_block words next count skip = documents_at next (take (min 128 count) (numbers_at words skip.block))
 
 -- the documents of all blocks, so many in all
 abbrev pub kept_documents : List ℕ → ℕ → ℕ → List Skip → List ℕ
@@ -20,8 +18,7 @@ kept_documents words next count (skip ∷ skips) =
 -- one block lies within the words, and its last document is told
 pub record IsKeptBlock (words : List ℕ) (next count : ℕ) (skip : Skip) : Type 0 where
   pub some : 0 < count
-  pub width_within : skip.width ≤ 32
-  pub words_within : skip.start + 4 * skip.width ≤ length words
+  pub within : IsWithin words skip.block
   pub last_is : after next (kept_block words next count skip) ≡ suc skip.last
 
 -- each block lies within the words, and its last document is told
@@ -37,10 +34,7 @@ pub record IsLongList (count : ℕ) (skips : List Skip) (words : List ℕ) : Typ
   pub rises : IsStrictlyIncreasing (kept_documents words 0 count skips)
   pub fits : All (λ document. document < 2 ^ 32) (kept_documents words 0 count skips)
 
--- what adding one block to the words did
-pub record IsAdded (piece : List ℕ) (next : ℕ) (before words : List ℕ) (skip : Skip) : Type 0 where
-  pub start : skip.start ≡ length before
-  pub width_within : skip.width ≤ 32
-  pub width_is : IsWidthOf (gaps next piece) skip.width
-  pub words_are : words ≡ before ++ words_in_lanes skip.width (gaps next piece)
+-- a block of documents was added to the words, and its skip tells where it lies and its last document
+pub record IsSkipAdded (piece : List ℕ) (next : ℕ) (before words : List ℕ) (skip : Skip) : Type 0 where
+  pub block : IsAdded (gaps next piece) before words skip.block
   pub last_is : suc skip.last ≡ after next piece

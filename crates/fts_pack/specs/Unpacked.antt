@@ -4,4 +4,5 @@ use Rattle.fts_pack.specs.Lanes.{numbers_in_lanes}
 
 -- the first numbers of a block are written, so many of them
 abbrev pub IsUnpacked : ℕ → List ℕ → ℕ → List ℕ → Type 0
-IsUnpacked width words count out = (i : ℕ) → i < count → slice_index out i ≡ slice_index (numbers_in_lanes width words) i
+IsUnpacked width words count out =
+    (i : ℕ) → i < count → slice_index out i ≡ slice_index (numbers_in_lanes width words) i

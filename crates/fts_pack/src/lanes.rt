@@ -1,5 +1,6 @@
 // Up to 128 numbers packed in four lanes, so that four of them, one of each lane, are unpacked at a time.
-ghost use Rattle.std.specs.Prelude.{◌≡◌, ◌≢◌, ℕ, ◌+◌, ◌-◌, ◌*◌, ◌/◌, ◌%◌, ◌^◌, ◌<◌, ◌≤◌, ◌++◌, All, OnOk, length, replicate, slice_index};
+ghost use Rattle.std.specs.Prelude.{◌≡◌, ◌≢◌, ℕ, ◌+◌, ◌-◌, ◌*◌, ◌/◌, ◌%◌, ◌^◌, ◌<◌, ◌≤◌, ◌++◌, All, OnOk, length};
+ghost use Rattle.std.specs.Prelude.{replicate, slice_index};
 ghost use Rattle.fts_bits.specs.Digits.{words_of};
 ghost use Rattle.fts_pack.specs.Lanes.{lane_of, numbers_in_lanes, words_in_lanes};
 ghost use Rattle.fts_pack.specs.Unpacked.{IsUnpacked};

@@ -9,16 +9,17 @@ pub fn blocks_join_to_the_documents(documents: &[u32])
     ensures { flat_map (λ block. block) (blocks_of documents.now) ≡ documents.now }
 {}
 
-/// How a block's numbers lie in words, by worked examples: 1, 2 and 3 in three lanes of two bits; zeros in no word; the greatest
-/// number in whole words; of 0 to 127 word 0 has 0, 4, 8, 12 and the low bits of 16, and word 1 has 1, 5, 9, 13 and those of 17; 128
-/// times 7.
+/// How a block's numbers lie in words, by worked examples: 1, 2 and 3 in three lanes of two bits; zeros in no word; the
+/// greatest number in whole words; of 0 to 127 word 0 has 0, 4, 8, 12 and the low bits of 16, and word 1 has 1, 5, 9,
+/// 13 and those of 17; 128 times 7.
 pub fn blocks_of_examples()
     ensures three { words_in_lanes 2 (1 ∷ 2 ∷ 3 ∷ []) ≡ 1 ∷ 2 ∷ 3 ∷ 0 ∷ 0 ∷ 0 ∷ 0 ∷ 0 ∷ [] }
     ensures zeros { words_in_lanes 0 (0 ∷ 0 ∷ 0 ∷ []) ≡ [] }
     ensures greatest { slice_index (words_in_lanes 32 (4294967295 ∷ [])) 0 ≡ 4294967295 }
     ensures whole { length (words_in_lanes 32 (4294967295 ∷ [])) ≡ 128 }
     ensures fourths { take 2 (words_in_lanes 7 (range_with_len 0 128)) ≡ 25297408 ∷ 295846529 ∷ [] }
-    ensures sevens { words_in_lanes 3 (map (λ n. 7) (range_with_len 0 128)) ≡ map (λ n. 4294967295) (range_with_len 0 12) }
+    ensures sevens { words_in_lanes 3 (map (λ n. 7) (range_with_len 0 128))
+        ≡ map (λ n. 4294967295) (range_with_len 0 12) }
 {}
 
 /// What a list of documents keeps, by worked examples: the differences of three, and those of 128 in a row.

@@ -3,17 +3,20 @@
 
 mod block;
 mod blocks;
+mod gaps;
 mod lanes;
 pub mod laws;
 mod list;
 mod list_source;
 mod long_list;
 mod numbers;
+mod packed;
 mod skip;
 mod sums;
 
 pub use block::{BLOCK, Block};
 pub use blocks::Blocks;
+pub use gaps::push_gaps;
 pub use list::List;
 pub use list_source::ListSource;
 pub use numbers::Numbers;

@@ -1,13 +1,14 @@
 // A strictly rising list of documents in blocks of 128 differences, all in one buffer, and a skip entry a block.
-ghost use Rattle.std.specs.Prelude.{◌≡◌, ℕ, ◌*◌, ◌<◌, ◌≤◌, List, IfOk, length, take};
+ghost use Rattle.std.specs.Prelude.{◌≡◌, ℕ, ◌*◌, ◌<◌, List, IfOk, length, take};
 ghost use Rattle.std.specs.List.Sorted.{IsStrictlyIncreasing};
-ghost use Rattle.fts_pack.specs.Documents.{after, block_at, block_count, gaps, last_of, Rises};
-ghost use Rattle.fts_pack.specs.LongList.{IsAdded, IsLongList, kept_documents};
+ghost use Rattle.fts_pack.specs.Documents.{after, block_at, block_count, last_of, Rises};
+ghost use Rattle.fts_pack.specs.LongList.{IsLongList, IsSkipAdded, kept_documents};
 
 use crate::block::BLOCK;
+use crate::gaps::push_gaps;
+use crate::packed::{Packed, add_block};
 use crate::skip::Skip;
 use crate::{lanes, sums};
-use fts_bits::packing;
 use std::alloc::{AllocError, Global};
 use std::marker::Model;
 
@@ -36,11 +37,12 @@ impl LongList {
         let blocks = documents.len().div_ceil(BLOCK);
         let mut skips = Vec::with_capacity(alloc, blocks)?;
         let mut words = Vec::new(alloc);
+        let mut gaps = Vec::with_capacity(alloc, BLOCK)?;
         let mut next = 0;
         for block in 0..blocks {
             let start = block * BLOCK;
             let end = documents.len().min(start + BLOCK);
-            let skip = add_block(&mut words, next, &documents[start..end])?;
+            let skip = add_skip(&mut words, &mut gaps, next, &documents[start..end])?;
             next = u64::from(skip.last) + 1;
             skips.push(skip)?;
         }
@@ -80,7 +82,7 @@ impl LongList {
         ensures count { result ≡ length (block_at self.now block) }
         ensures documents { take result out.new ≡ block_at self.now block }
     {
-        let Skip { start, width, .. } = self.skips[block];
+        let Packed { start, width } = self.skips[block].block;
         let (_, words) = self.words.split_at(start);
         lanes::unpack(words, width, out);
         sums::add_up(self.first(block), out);
@@ -100,36 +102,22 @@ impl LongList {
     }
 }
 
-// Appends a block, whose documents are `next` or later, and tells where it lies.
-fn add_block(words: &mut Vec<u32>, next: u64, documents: &[u32]) -> Result<Skip, AllocError>
+// Appends a block, whose documents are `next` or later, and tells where it lies. `gaps` is room for their differences.
+fn add_skip(
+    words: &mut Vec<u32>,
+    gaps: &mut Vec<u32>,
+    next: u64,
+    documents: &[u32],
+) -> Result<Skip, AllocError>
     requires some { 0 < length documents.now }
-    requires few { length documents.now ≤ 128 }
     requires rises { Rises next documents.now }
-    ensures { IfOk result (λ skip. IsAdded documents.now next words.old.items words.new.items skip) }
+    ensures { IfOk result (λ skip. IsSkipAdded documents.now next words.old.items words.new.items skip) }
 {
-    let mut differences = [0; BLOCK];
-    write_gaps(next, documents, &mut differences);
-    let differences = &differences[..documents.len()];
-    let width = packing::width_of(differences);
-    let start = words.len();
-    lanes::append(words, width, differences)?;
+    gaps.clear();
+    push_gaps(gaps, next, documents)?;
+    let block = add_block(words, gaps)?;
     Ok(Skip {
-        start,
+        block,
         last: documents[documents.len() - 1],
-        width,
     })
-}
-
-// Writes how far each document is above the one before, less 1.
-fn write_gaps(next: u64, documents: &[u32], out: &mut [u32; 128])
-    requires few { length documents.now ≤ 128 }
-    requires rises { Rises next documents.now }
-    ensures { take (length documents.now) out.new ≡ gaps next documents.now }
-{
-    let mut next = next;
-    for index in 0..documents.len() {
-        let document = u64::from(documents[index]);
-        out[index] = (document - next) as u32;
-        next = document + 1;
-    }
 }

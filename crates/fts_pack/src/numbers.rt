@@ -1,29 +1,19 @@
 // A list of numbers in blocks of 128, all in one buffer of words: a number is read by itself, or a block at once.
-ghost use Rattle.std.specs.Prelude.{◌≡◌, ◌<◌, ◌≤◌, IfOk, IsOkUnless, length, slice_index, take};
+ghost use Rattle.std.specs.Prelude.{◌≡◌, ◌<◌, IfOk, IsOkUnless, length, slice_index, take};
 ghost use Rattle.fts_pack.specs.Documents.{block_at, block_count};
-ghost use Rattle.fts_pack.specs.Numbers.{IsAdded};
 
 use crate::block::BLOCK;
 use crate::lanes;
+use crate::packed::{Packed, add_block};
 use fts_base::Refusal;
-use fts_bits::packing;
 use std::alloc::{AllocError, Global};
 use std::marker::Model;
-
-/// Where a block lies among the words.
-#[derive(Clone, Copy)]
-pub(crate) struct Packed {
-    /// The first word of the block.
-    pub(crate) start: usize,
-    /// How many bits each number takes.
-    pub(crate) width: u32,
-}
 
 /// A list of numbers in blocks of 128, the last one of 1 to 128, each block at the width of its greatest number.
 #[derive(Drop)]
 pub struct Numbers {
     count: usize,
-    places: Vec<Packed>,
+    blocks: Vec<Packed>,
     words: Vec<u32>,
 }
 
@@ -34,9 +24,9 @@ impl Model for Numbers {
 
     ghost use Rattle.fts_pack.specs.Numbers.{numbers_kept, AreKept};
 
-    ghost view = { λ n. numbers_kept n.count n.places.items n.words.items };
+    ghost view = { λ n. numbers_kept n.count n.blocks.items n.words.items };
 
-    ghost invariant = { λ n. AreKept n.count n.places.items n.words.items };
+    ghost invariant = { λ n. AreKept n.count n.blocks.items n.words.items };
 }
 
 impl Numbers {
@@ -52,18 +42,18 @@ impl Numbers {
         ensures { IfOk result (λ packed. packed ≡ numbers.now) }
     {
         let count = numbers.len().div_ceil(BLOCK);
-        let mut places = Vec::with_capacity(alloc, count)?;
+        let mut blocks = Vec::with_capacity(alloc, count)?;
         let mut words = Vec::new(alloc);
         for block in 0..count {
             let start = block * BLOCK;
             let end = numbers.len().min(start + BLOCK);
             let packed = add_block(&mut words, &numbers[start..end])?;
-            places.push(packed)?;
+            blocks.push(packed)?;
         }
         words.shrink_to_fit();
         Ok(Numbers {
             count: numbers.len(),
-            places,
+            blocks,
             words,
         })
     }
@@ -81,7 +71,7 @@ impl Numbers {
         requires { index < length self.now }
         ensures { result ≡ slice_index self.now index }
     {
-        let Packed { start, width } = self.places[index / BLOCK];
+        let Packed { start, width } = self.blocks[index / BLOCK];
         let (_, words) = self.words.split_at(start);
         lanes::read(words, width, index % BLOCK)
     }
@@ -93,19 +83,9 @@ impl Numbers {
         ensures count { result ≡ length (block_at self.now block) }
         ensures numbers { take result out.new ≡ block_at self.now block }
     {
-        let Packed { start, width } = self.places[block];
+        let Packed { start, width } = self.blocks[block];
         let (_, words) = self.words.split_at(start);
         lanes::unpack(words, width, out);
         (self.count - block * BLOCK).min(BLOCK)
     }
-}
-
-// Appends a block, and tells where it lies.
-fn add_block(words: &mut Vec<u32>, numbers: &[u32]) -> Result<Packed, AllocError>
-    ensures { IfOk result (λ block. IsAdded numbers.now words.old.items words.new.items block) }
-{
-    let width = packing::width_of(numbers);
-    let start = words.len();
-    lanes::append(words, width, numbers)?;
-    Ok(Packed { start, width })
 }

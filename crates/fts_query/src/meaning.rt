@@ -23,7 +23,7 @@ fn token(alloc: Global, text: &str, place: Token) -> Result<Text, AllocError>
     ensures { IfOk result (λ t. t ≡ (token_at text.now place).1) }
 {
     let mut token = String::new(alloc);
-    fold_into(place.run(text), &mut token)?;
+    fold_into(place.span(text), &mut token)?;
     Ok(Text::new(token))
 }
 

@@ -20,7 +20,7 @@ pub(crate) fn is_token(
     ensures { IfOk result (λ same. same ≡ bytes_eq (token_at text.now place).1 token.now) }
 {
     scratch.clear();
-    fold_into(place.run(text), scratch)?;
+    fold_into(place.span(text), scratch)?;
     Ok(scratch.as_str() == token)
 }
 

@@ -24,7 +24,7 @@ use Rattle.fts_model.specs.Operations.{has, field_has}
 use Rattle.fts_bits.specs.Signed.{u64_of}
 use Rattle.fts_segment.specs.declared.field_index.FieldIndex.{FieldIndex}
 use Rattle.fts_segment.specs.declared.field_index.FieldIndex.TheVariants.{Numbers, Terms}
-use Rattle.fts_segment.specs.declared.term_index.TermIndex.{TermIndex}
+use Rattle.fts_segment.specs.declared.dictionary.Dictionary.{Dictionary}
 use Rattle.fts_segment.specs.declared.number_index.NumberIndex.{NumberIndex}
 use Rattle.fts_segment.specs.Segments.{SegmentValue, postings, column, numbers_where, number_of}
 use Rattle.fts_segment.specs.Occurrences.{occurrences, docs_with, is_token, tokens_of, holds, values_in}
@@ -79,15 +79,15 @@ docs_with-holds kind text vs = docs_with-occurrences text kind 0 vs
     ∙ numbers_where-same (λ v. list_any (is_token text) (tokens_of kind v)) (holds kind (values.Text text)) 0 vs (λ k d h. holds-tokens kind text (get_or vs k d))
 
 -- what is not among the terms no document has
-pub text_absent : {kind : Kind} {vs : List (Option FieldValue)} {index : TermIndex} (text : List ℕ) → AreTerms kind vs index → ((i : ℕ) → slice_get index.names i ≡ Some text → ⊥) →
+pub text_absent : {kind : Kind} {vs : List (Option FieldValue)} {dictionary : Dictionary} (text : List ℕ) → AreTerms kind vs dictionary → ((i : ℕ) → slice_get dictionary.names i ≡ Some text → ⊥) →
     numbers_where (holds kind (values.Text text)) 0 vs ≡ []
-text_absent {kind} {vs} {index} text a absent = sym (docs_with-holds kind text vs) ∙ absent_list text a.index_is absent
+text_absent {kind} {vs} {dictionary} text a absent = sym (docs_with-holds kind text vs) ∙ absent_list text a.dictionary_is absent
 
 -- a term has the list of its documents
-pub text_found : {kind : Kind} {vs : List (Option FieldValue)} {index : TermIndex} (text : List ℕ) (i : ℕ) → AreTerms kind vs index → slice_get index.names i ≡ Some text →
-    (get_or index.lists.items i [] ≡ numbers_where (holds kind (values.Text text)) 0 vs) × (get_or index.lists.items i [] ≡ [] → ⊥)
-text_found {kind} {vs} {index} text i a found =
-    let list = found_list i text a.index_is found in
+pub text_found : {kind : Kind} {vs : List (Option FieldValue)} {dictionary : Dictionary} (text : List ℕ) (i : ℕ) → AreTerms kind vs dictionary → slice_get dictionary.names i ≡ Some text →
+    (get_or dictionary.lists.items i [] ≡ numbers_where (holds kind (values.Text text)) 0 vs) × (get_or dictionary.lists.items i [] ≡ [] → ⊥)
+text_found {kind} {vs} {dictionary} text i a found =
+    let list = found_list i text a.dictionary_is found in
     (list.1 ∙ docs_with-holds kind text vs, λ none. list.2 (sym list.1 ∙ none))
 
 -- no text or keyword has a number as a term
@@ -100,7 +100,7 @@ number_in_text kinds.Keyword n (Some (values.Number m)) h = refl
 number_in_text kinds.U64 n (Some v) h = absurd (let clash : true ≡ false = h in cc)
 number_in_text kinds.I64 n (Some v) h = absurd (let clash : true ≡ false = h in cc)
 
-pub text_without : {kind : Kind} {vs : List (Option FieldValue)} {index : TermIndex} (n : Number) → AreTerms kind vs index → numbers_where (holds kind (values.Number n)) 0 vs ≡ []
+pub text_without : {kind : Kind} {vs : List (Option FieldValue)} {dictionary : Dictionary} (n : Number) → AreTerms kind vs dictionary → numbers_where (holds kind (values.Number n)) 0 vs ≡ []
 text_without {kind} {vs} n a = numbers_where-none (holds kind (values.Number n)) 0 vs (λ k d h. number_in_text kind n (get_or vs k d) a.kind_is)
 
 eqb-refl_at : (a b : ℕ) → a ≡ b → (a == b) ≡ true

@@ -9,66 +9,66 @@ use Rattle.std.proofs.lemmas.List.Elements.{filter-append, All-append, All-cons,
 use Rattle.std.proofs.lemmas.List.Kept.{AllPairs-cons}
 use Rattle.fts_model.specs.declared.schema.Kind.{Kind}
 use Rattle.fts_model.specs.declared.value.FieldValue.{FieldValue}
-use Rattle.fts_segment.specs.Occurrences.{Occurrence, occurrence_at, tokens_of, occurrences_at, occurrences, is_token, is_term, docs_of, docs_with}
+use Rattle.fts_segment.specs.Occurrences.{OccurrenceValue, occurrence_at, tokens_of, occurrences_at, occurrences, is_token, is_term, docs_of, docs_with}
 use Rattle.fts_segment.specs.Segments.{numbers_where}
 
 -- these are of one document
-abbrev AreOf : ℕ → List Occurrence → Type 0
+abbrev AreOf : ℕ → List OccurrenceValue → Type 0
 AreOf doc os = All (λ o. o.doc ≡ doc) os
 
 tokens_are_of : (doc : ℕ) (ts : List (ℕ × List ℕ)) → AreOf doc (map (occurrence_at doc) ts)
-tokens_are_of doc [] = All-nil (λ (o : Occurrence). o.doc ≡ doc)
-tokens_are_of doc (t ∷ ts) = All-cons (λ (o : Occurrence). o.doc ≡ doc) (occurrence_at doc t) (map (occurrence_at doc) ts) refl (tokens_are_of doc ts)
+tokens_are_of doc [] = All-nil (λ (o : OccurrenceValue). o.doc ≡ doc)
+tokens_are_of doc (t ∷ ts) = All-cons (λ (o : OccurrenceValue). o.doc ≡ doc) (occurrence_at doc t) (map (occurrence_at doc) ts) refl (tokens_are_of doc ts)
 
 -- an occurrence stands in a document from the first number on
 pub from_first : (kind : Kind) (doc : ℕ) (vs : List (Option FieldValue)) → All (λ o. doc ≤ o.doc) (occurrences kind doc vs)
-from_first kind doc [] = All-nil (λ (o : Occurrence). doc ≤ o.doc)
+from_first kind doc [] = All-nil (λ (o : OccurrenceValue). doc ≤ o.doc)
 from_first kind doc (v ∷ vs) =
-    All-append (λ (o : Occurrence). doc ≤ o.doc) (occurrences_at kind doc v) (occurrences kind (doc + 1) vs)
-    (All-weaker (λ (o : Occurrence). o.doc ≡ doc) (λ (o : Occurrence). doc ≤ o.doc) (λ o same. omega arith) _ (tokens_are_of doc (tokens_of kind v)))
-    (All-weaker (λ (o : Occurrence). doc + 1 ≤ o.doc) (λ (o : Occurrence). doc ≤ o.doc) (λ o above. omega arith) _ (from_first kind (doc + 1) vs))
+    All-append (λ (o : OccurrenceValue). doc ≤ o.doc) (occurrences_at kind doc v) (occurrences kind (doc + 1) vs)
+    (All-weaker (λ (o : OccurrenceValue). o.doc ≡ doc) (λ (o : OccurrenceValue). doc ≤ o.doc) (λ o same. omega arith) _ (tokens_are_of doc (tokens_of kind v)))
+    (All-weaker (λ (o : OccurrenceValue). doc + 1 ≤ o.doc) (λ (o : OccurrenceValue). doc ≤ o.doc) (λ o above. omega arith) _ (from_first kind (doc + 1) vs))
 
 after_first : (q : List ℕ) (kind : Kind) (doc : ℕ) (vs : List (Option FieldValue)) → All (λ n. doc < n) (docs_of q (occurrences kind (doc + 1) vs))
 after_first q kind doc vs =
-    All-map (λ (n : ℕ). doc < n) (λ (o : Occurrence). o.doc) (filter (is_term q) (occurrences kind (doc + 1) vs))
-    (All-filter (is_term q) (λ (o : Occurrence). doc < o.doc) (occurrences kind (doc + 1) vs)
-    (All-weaker (λ (o : Occurrence). doc + 1 ≤ o.doc) (λ (o : Occurrence). doc < o.doc) (λ o above. omega arith) _ (from_first kind (doc + 1) vs)))
+    All-map (λ (n : ℕ). doc < n) (λ (o : OccurrenceValue). o.doc) (filter (is_term q) (occurrences kind (doc + 1) vs))
+    (All-filter (is_term q) (λ (o : OccurrenceValue). doc < o.doc) (occurrences kind (doc + 1) vs)
+    (All-weaker (λ (o : OccurrenceValue). doc + 1 ≤ o.doc) (λ (o : OccurrenceValue). doc < o.doc) (λ o above. omega arith) _ (from_first kind (doc + 1) vs)))
 
-docs_of-append : (q : List ℕ) (os ps : List Occurrence) → docs_of q (os ++ ps) ≡ docs_of q os ++ docs_of q ps
-docs_of-append q os ps = ap (map (λ (o : Occurrence). o.doc)) (filter-append (is_term q) os ps) ∙ map-append (λ (o : Occurrence). o.doc) (filter (is_term q) os) (filter (is_term q) ps)
+docs_of-append : (q : List ℕ) (os ps : List OccurrenceValue) → docs_of q (os ++ ps) ≡ docs_of q os ++ docs_of q ps
+docs_of-append q os ps = ap (map (λ (o : OccurrenceValue). o.doc)) (filter-append (is_term q) os ps) ∙ map-append (λ (o : OccurrenceValue). o.doc) (filter (is_term q) os) (filter (is_term q) ps)
 
-pub docs_of-cons : (q : List ℕ) (o : Occurrence) (os : List Occurrence) (b : Bool) → is_term q o ≡ b → docs_of q (o ∷ os) ≡ cond b (o.doc ∷ docs_of q os) (docs_of q os)
-docs_of-cons q o os true is = ap (λ b. map (λ (o : Occurrence). o.doc) (cond b (o ∷ filter (is_term q) os) (filter (is_term q) os))) is
-docs_of-cons q o os false is = ap (λ b. map (λ (o : Occurrence). o.doc) (cond b (o ∷ filter (is_term q) os) (filter (is_term q) os))) is
+pub docs_of-cons : (q : List ℕ) (o : OccurrenceValue) (os : List OccurrenceValue) (b : Bool) → is_term q o ≡ b → docs_of q (o ∷ os) ≡ cond b (o.doc ∷ docs_of q os) (docs_of q os)
+docs_of-cons q o os true is = ap (λ b. map (λ (o : OccurrenceValue). o.doc) (cond b (o ∷ filter (is_term q) os) (filter (is_term q) os))) is
+docs_of-cons q o os false is = ap (λ b. map (λ (o : OccurrenceValue). o.doc) (cond b (o ∷ filter (is_term q) os) (filter (is_term q) os))) is
 
-run_of : (doc n : ℕ) (xs : List ℕ) → n ≡ doc → dedup_from nat_eq doc (n ∷ xs) ≡ dedup_from nat_eq doc xs
-run_of doc n xs same = ap (λ b. cond b (dedup_from nat_eq doc xs) (doc ∷ dedup_from nat_eq n xs)) (let is : nat_eq n doc ≡ true = grind (arith, nat_tests) in is)
+document_again : (doc n : ℕ) (xs : List ℕ) → n ≡ doc → dedup_from nat_eq doc (n ∷ xs) ≡ dedup_from nat_eq doc xs
+document_again doc n xs same = ap (λ b. cond b (dedup_from nat_eq doc xs) (doc ∷ dedup_from nat_eq n xs)) (let is : nat_eq n doc ≡ true = grind (arith, nat_tests) in is)
 
-run_ends : (doc : ℕ) (xs : List ℕ) → All (λ n. doc < n) xs → dedup_from nat_eq doc xs ≡ doc ∷ dedup nat_eq xs
-run_ends doc [] above = refl
-run_ends doc (n ∷ xs) above =
+document_ends : (doc : ℕ) (xs : List ℕ) → All (λ n. doc < n) xs → dedup_from nat_eq doc xs ≡ doc ∷ dedup nat_eq xs
+document_ends doc [] above = refl
+document_ends doc (n ∷ xs) above =
     let more : doc < n = above 0 n (omega arith) in
     ap (λ b. cond b (dedup_from nat_eq doc xs) (doc ∷ dedup_from nat_eq n xs)) (let other : nat_eq n doc ≡ false = grind (arith, nat_tests) in other)
 
-one_run : (q : List ℕ) (doc : ℕ) (os : List Occurrence) (xs : List ℕ) → AreOf doc os → All (λ n. doc < n) xs → dedup_from nat_eq doc (docs_of q os ++ xs) ≡ doc ∷ dedup nat_eq xs
-one_run q doc [] xs of above = run_ends doc xs above
-one_run q doc (o ∷ os) xs of above =
-    let others = one_run q doc os xs (All-tail (λ (o : Occurrence). o.doc ≡ doc) o os of) above in
-    let here = All-head (λ (o : Occurrence). o.doc ≡ doc) o os of in
+one_document : (q : List ℕ) (doc : ℕ) (os : List OccurrenceValue) (xs : List ℕ) → AreOf doc os → All (λ n. doc < n) xs → dedup_from nat_eq doc (docs_of q os ++ xs) ≡ doc ∷ dedup nat_eq xs
+one_document q doc [] xs of above = document_ends doc xs above
+one_document q doc (o ∷ os) xs of above =
+    let others = one_document q doc os xs (All-tail (λ (o : OccurrenceValue). o.doc ≡ doc) o os of) above in
+    let here = All-head (λ (o : OccurrenceValue). o.doc ≡ doc) o os of in
     elim (is_term q o) as (λ b. is_term q o ≡ b → dedup_from nat_eq doc (docs_of q (o ∷ os) ++ xs) ≡ doc ∷ dedup nat_eq xs) [
-      | true ↦ λ is. ap (λ ns. dedup_from nat_eq doc (ns ++ xs)) (docs_of-cons q o os true is) ∙ run_of doc o.doc (docs_of q os ++ xs) here ∙ others
+      | true ↦ λ is. ap (λ ns. dedup_from nat_eq doc (ns ++ xs)) (docs_of-cons q o os true is) ∙ document_again doc o.doc (docs_of q os ++ xs) here ∙ others
       | false ↦ λ is. ap (λ ns. dedup_from nat_eq doc (ns ++ xs)) (docs_of-cons q o os false is) ∙ others
     ] refl
 
 -- the occurrences of one document, behind which come others
-document_first : (q : List ℕ) (doc : ℕ) (os : List Occurrence) (xs : List ℕ) → AreOf doc os → All (λ n. doc < n) xs →
+document_first : (q : List ℕ) (doc : ℕ) (os : List OccurrenceValue) (xs : List ℕ) → AreOf doc os → All (λ n. doc < n) xs →
     dedup nat_eq (docs_of q os ++ xs) ≡ cond (list_any (is_term q) os) (doc ∷ dedup nat_eq xs) (dedup nat_eq xs)
 document_first q doc [] xs of above = refl
 document_first q doc (o ∷ os) xs of above =
-    let rest = All-tail (λ (o : Occurrence). o.doc ≡ doc) o os of in
-    let here = All-head (λ (o : Occurrence). o.doc ≡ doc) o os of in
+    let rest = All-tail (λ (o : OccurrenceValue). o.doc ≡ doc) o os of in
+    let here = All-head (λ (o : OccurrenceValue). o.doc ≡ doc) o os of in
     elim (is_term q o) as (λ b. is_term q o ≡ b → dedup nat_eq (docs_of q (o ∷ os) ++ xs) ≡ cond (b || list_any (is_term q) os) (doc ∷ dedup nat_eq xs) (dedup nat_eq xs)) [
-      | true ↦ λ is. ap (λ ns. dedup nat_eq (ns ++ xs)) (docs_of-cons q o os true is) ∙ ap (λ n. dedup_from nat_eq n (docs_of q os ++ xs)) here ∙ one_run q doc os xs rest above
+      | true ↦ λ is. ap (λ ns. dedup nat_eq (ns ++ xs)) (docs_of-cons q o os true is) ∙ ap (λ n. dedup_from nat_eq n (docs_of q os ++ xs)) here ∙ one_document q doc os xs rest above
       | false ↦ λ is. ap (λ ns. dedup nat_eq (ns ++ xs)) (docs_of-cons q o os false is) ∙ document_first q doc os xs rest above
     ] refl
 
@@ -150,7 +150,7 @@ numbers_where-dedup p n (x ∷ xs) =
     let above : All (λ k. n < k) ns = All-weaker (λ (k : ℕ). n + 1 ≤ k) (λ (k : ℕ). n < k) (λ k h. omega arith) ns (numbers_from p (n + 1) xs) in
     ap (dedup nat_eq) (numbers_where-cons p n x xs)
     ∙ (elim (p x) as (λ b. dedup nat_eq (cond b (n ∷ ns) ns) ≡ cond b (n ∷ ns) ns) [
-      | true ↦ run_ends n ns above ∙ ap (λ ks. n ∷ ks) (numbers_where-dedup p (n + 1) xs)
+      | true ↦ document_ends n ns above ∙ ap (λ ks. n ∷ ks) (numbers_where-dedup p (n + 1) xs)
       | false ↦ numbers_where-dedup p (n + 1) xs
     ])
     ∙ sym (numbers_where-cons p n x xs)

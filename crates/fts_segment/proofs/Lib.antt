@@ -1,18 +1,18 @@
 pub mod PiecesLemmas
 pub mod TermsLemmas
-pub mod EntriesLemmas
+pub mod TermLogsLemmas
 pub mod OccurrencesLemmas
 pub mod FindLemmas
-pub mod SortingLemmas
-pub mod GroupsLemmas
+pub mod TermOrderLemmas
+pub mod TermGroupsLemmas
 pub mod HoldingLemmas
-pub mod IndexLemmas
+pub mod DictionaryLemmas
 pub mod SegmentLemmas
 pub mod StoredLemmas
 pub mod FieldLemmas
 pub mod NumberLemmas
-pub mod RunsLemmas
+pub mod PositionListsLemmas
 pub mod PackedLemmas
-mod RunVectors
+mod PositionListVectors
 pub mod TokenLemmas
 pub mod PositionsLemmas

@@ -9,10 +9,10 @@ use Rattle.std.proofs.lemmas.Option.{slice_get_within, get_or_from_slice_get}
 use Rattle.std.proofs.lemmas.List.{map-append, get_or-map, length-map, get_or_default, same_lists}
 use Rattle.std.proofs.lemmas.List.Elements.{filter-append, All-push}
 use Rattle.std.proofs.lemmas.List.Kept.{AllPairs-from_increasing}
-use Rattle.fts_segment.specs.declared.term_log.Entry.{Entry}
-use Rattle.fts_segment.specs.declared.grouping.Place.{Place}
-use Rattle.fts_segment.specs.Groups.{is_of, place, places_of}
-use Rattle.fts_segment.specs.Indexes.{docs_in}
+use Rattle.fts_segment.specs.declared.term_log.Occurrence.{Occurrence}
+use Rattle.fts_segment.specs.declared.term_groups.Place.{Place}
+use Rattle.fts_segment.specs.TermGroups.{is_of, place, places_of}
+use Rattle.fts_segment.specs.Dictionaries.{docs_in}
 use Rattle.fts_segment.specs.Segments.{numbers_where}
 use Rattle.fts_segment.specs.Numbers.{present, is_number, IsNumberIndex}
 use Rattle.fts_segment.specs.NumberLogs.{NumberLog}
@@ -42,7 +42,7 @@ present-from (Some y ∷ vs) k d h = elim k as (λ k. k < length (present (Some 
   | suc k ↦ λ h. later (Some y) (Some (get_or (present vs) k d)) vs (present-from vs k d (omega arith))
 ] h
 
--- a number has one place among rising ones
+-- a number has one index among rising ones
 pub one_index : (numbers : List ℕ) → IsStrictlyIncreasing numbers → (i j x : ℕ) → slice_get numbers i ≡ Some x → slice_get numbers j ≡ Some x → i ≡ j
 one_index numbers up i j x first second =
     let pairs = AllPairs-from_increasing numbers up in
@@ -55,11 +55,11 @@ one_index numbers up i j x first second =
     ]
 
 -- the log has the documents of each of the numbers
-pub record IsLogged (numbers : List ℕ) (vs : List (Option ℕ)) (log : List Entry) : Type 0 where
+pub record IsLogged (numbers : List ℕ) (vs : List (Option ℕ)) (log : List Occurrence) : Type 0 where
   pub named : All (λ e. e.term < length numbers) log
   pub docs : (t x : ℕ) → slice_get numbers t ≡ Some x → map (λ (p : Place). p.doc) (places_of t log) ≡ numbers_where (is_number x) 0 vs
 
-docs-push : (t : ℕ) (log : List Entry) (e : Entry) → map (λ (p : Place). p.doc) (places_of t (log ++ e ∷ [])) ≡ map (λ (p : Place). p.doc) (places_of t log) ++ cond (e.term == t) (e.doc ∷ []) []
+docs-push : (t : ℕ) (log : List Occurrence) (e : Occurrence) → map (λ (p : Place). p.doc) (places_of t (log ++ e ∷ [])) ≡ map (λ (p : Place). p.doc) (places_of t log) ++ cond (e.term == t) (e.doc ∷ []) []
 docs-push t log e =
     ap (λ es. map (λ (p : Place). p.doc) (map place es)) (filter-append (is_of t) log (e ∷ []))
     ∙ ap (map (λ (p : Place). p.doc)) (map-append place (filter (is_of t) log) (filter (is_of t) (e ∷ [])))
@@ -80,20 +80,20 @@ same_test numbers up s t y x at_s at_t = elim (cases_eq s t) [
 ]
 
 -- a document's number is logged
-pub IsLogged-push : {numbers : List ℕ} {vs : List (Option ℕ)} {old : List Entry} (doc : ℕ) (v : Option ℕ) (new : List Entry) → IsStrictlyIncreasing numbers → doc ≡ length vs →
+pub IsLogged-push : {numbers : List ℕ} {vs : List (Option ℕ)} {old : List Occurrence} (doc : ℕ) (v : Option ℕ) (new : List Occurrence) → IsStrictlyIncreasing numbers → doc ≡ length vs →
     NumberLog numbers doc v old new → IsLogged numbers vs old → IsLogged numbers (vs ++ v ∷ []) new
 IsLogged-push {numbers} {vs} {old} doc None new up at same s =
-    let P : List Entry → Type 0 = λ es. All (λ e. e.term < length numbers) es in
+    let P : List Occurrence → Type 0 = λ es. All (λ e. e.term < length numbers) es in
     record {
       named = subst P (sym same) s.named;
       docs = λ t x there. ap (λ es. map (λ (p : Place). p.doc) (places_of t es)) same ∙ s.docs t x there
           ∙ sym (numbers_where-push (is_number x) 0 vs None ∙ append-nil (numbers_where (is_number x) 0 vs));
     }
 IsLogged-push {numbers} {vs} {old} doc (Some y) new up at put s =
-    let e : Entry = record { term = put.0; doc = doc; position = 0 } in
-    let P : List Entry → Type 0 = λ es. All (λ e. e.term < length numbers) es in
+    let e : Occurrence = record { term = put.0; doc = doc; position = 0 } in
+    let P : List Occurrence → Type 0 = λ es. All (λ e. e.term < length numbers) es in
     record {
-      named = subst P (sym put.2) (All-push (λ (e : Entry). e.term < length numbers) old e s.named (slice_get_within numbers put.0 y put.1));
+      named = subst P (sym put.2) (All-push (λ (e : Occurrence). e.term < length numbers) old e s.named (slice_get_within numbers put.0 y put.1));
       docs = λ t x there. ap (λ es. map (λ (p : Place). p.doc) (places_of t es)) put.2 ∙ docs-push t old e
           ∙ ap (λ b. map (λ (p : Place). p.doc) (places_of t old) ++ cond b (doc ∷ []) []) (same_test numbers up put.0 t y x put.1 there)
           ∙ ap (λ ns. ns ++ cond (y == x) (doc ∷ []) []) (s.docs t x there)
@@ -102,7 +102,7 @@ IsLogged-push {numbers} {vs} {old} doc (Some y) new up at put s =
     }
 
 -- the groups of the log have the documents of each number
-pub group_docs : (numbers : List ℕ) (vs : List (Option ℕ)) (log : List Entry) (groups : List (List Place)) (numbers_read : List ℕ) (vs_read : List (Option ℕ)) (log_read : List Entry) →
+pub group_docs : (numbers : List ℕ) (vs : List (Option ℕ)) (log : List Occurrence) (groups : List (List Place)) (numbers_read : List ℕ) (vs_read : List (Option ℕ)) (log_read : List Occurrence) →
     numbers_read ≡ numbers → vs_read ≡ vs → log_read ≡ log →
     ((t : ℕ) → t < length numbers_read → map (λ (p : Place). p.doc) (places_of t log) ≡ numbers_where (is_number (get_or numbers_read t 0)) 0 vs_read) →
     ((t : ℕ) → t < length numbers → get_or groups t [] ≡ places_of t log_read) →

@@ -7,10 +7,10 @@ use Rattle.fts_text.specs.Places.{places, token_at, IsPlaceIn}
 use Rattle.fts_text.proofs.StretchLemmas.{All-IsPlaceIn, IsPlaceIn-first, tokens-places}
 use Rattle.fts_model.specs.declared.schema.Kind.{Kind}
 use Rattle.fts_model.specs.declared.value.FieldValue.{FieldValue}
-use Rattle.fts_segment.specs.Occurrences.{Occurrence, occurrence_at, occurrences_at, occurrences}
+use Rattle.fts_segment.specs.Occurrences.{OccurrenceValue, occurrence_at, occurrences_at, occurrences}
 
 -- the places that are left stand in the text; with the tokens that are left the log has all of them behind what it had
-pub record Logs (text : List ℕ) (doc : ℕ) (before now : List Occurrence) (left : List Token) : Type 0 where
+pub record Logs (text : List ℕ) (doc : ℕ) (before now : List OccurrenceValue) (left : List Token) : Type 0 where
   pub within : All (IsPlaceIn text) left
   pub whole : now ++ map (λ token. occurrence_at doc (token_at text token)) left ≡ before ++ map (occurrence_at doc) (tokens text)
 
@@ -18,7 +18,7 @@ pub map-map : {A B C : Type 0} (f : B → C) (g : A → B) (xs : List A) → map
 map-map f g [] = refl
 map-map f g (x ∷ xs) = ap (λ ys. f (g x) ∷ ys) (map-map f g xs)
 
-pub Logs-start : (text : List ℕ) (doc : ℕ) (before : List Occurrence) (left : List Token) → IsUtf8 text → left ≡ places text → Logs text doc before before left
+pub Logs-start : (text : List ℕ) (doc : ℕ) (before : List OccurrenceValue) (left : List Token) → IsUtf8 text → left ≡ places text → Logs text doc before before left
 Logs-start text doc before left utf8 start =
     let P : List Token → Type 0 = All (IsPlaceIn text) in
     record {
@@ -27,10 +27,10 @@ Logs-start text doc before left utf8 start =
           ∙ ap (map (occurrence_at doc)) (tokens-places text utf8));
     }
 
-pub Logs-place : {text : List ℕ} {doc : ℕ} {before now : List Occurrence} (token : Token) (left rest : List Token) → left ≡ token ∷ rest → Logs text doc before now left → IsPlaceIn text token
+pub Logs-place : {text : List ℕ} {doc : ℕ} {before now : List OccurrenceValue} (token : Token) (left rest : List Token) → left ≡ token ∷ rest → Logs text doc before now left → IsPlaceIn text token
 Logs-place {text} token left rest first s = (IsPlaceIn-first text token left rest first s.within).0
 
-pub Logs-next : {text : List ℕ} {doc : ℕ} {before now : List Occurrence} (token : Token) (left rest : List Token) (after : List Occurrence) → left ≡ token ∷ rest →
+pub Logs-next : {text : List ℕ} {doc : ℕ} {before now : List OccurrenceValue} (token : Token) (left rest : List Token) (after : List OccurrenceValue) → left ≡ token ∷ rest →
     after ≡ now ++ occurrence_at doc (token_at text token) ∷ [] → Logs text doc before now left → Logs text doc before after rest
 Logs-next {text} {doc} {before} {now} token left rest after first put s =
     let o = occurrence_at doc (token_at text token) in
@@ -41,7 +41,7 @@ Logs-next {text} {doc} {before} {now} token left rest after first put s =
           ∙ sym (ap (λ ps. now ++ map (λ t. occurrence_at doc (token_at text t)) ps) first) ∙ s.whole;
     }
 
-pub Logs-end : {text : List ℕ} {doc : ℕ} {before now : List Occurrence} (left : List Token) → left ≡ [] → Logs text doc before now left → now ≡ before ++ map (occurrence_at doc) (tokens text)
+pub Logs-end : {text : List ℕ} {doc : ℕ} {before now : List OccurrenceValue} (left : List Token) → left ≡ [] → Logs text doc before now left → now ≡ before ++ map (occurrence_at doc) (tokens text)
 Logs-end {text} {doc} {before} {now} left none s =
     sym (append-nil now) ∙ sym (ap (λ ps. now ++ map (λ t. occurrence_at doc (token_at text t)) ps) none) ∙ s.whole
 

@@ -43,7 +43,7 @@ pieces-push start bytes more (end ∷ ends) h =
     ap (λ p. p ∷ pieces end (bytes ++ more) (ends ++ length (bytes ++ more) ∷ [])) (slice_range-append bytes more start end h.0 (ends_within end ends (length bytes) h.1))
     ∙ ap (λ ps. slice_range bytes start end ∷ ps) (pieces-push end bytes more ends h.1)
 
--- places that rise, up to the end of the buffer, are ends
-pub AreEnds-from_places : (start : ℕ) (ends : List ℕ) (len : ℕ) → ((i : ℕ) → i < length ends → get_or (start ∷ ends) i 0 ≤ get_or ends i 0) → get_or (start ∷ ends) (length ends) 0 ≡ len → AreEnds start ends len
-AreEnds-from_places start [] len up last = last
-AreEnds-from_places start (end ∷ ends) len up last = (up 0 (omega arith), AreEnds-from_places end ends len (λ i h. up (suc i) (omega arith)) last)
+-- indexes that rise, up to the end of the buffer, are ends
+pub AreEnds-from_indexes : (start : ℕ) (ends : List ℕ) (len : ℕ) → ((i : ℕ) → i < length ends → get_or (start ∷ ends) i 0 ≤ get_or ends i 0) → get_or (start ∷ ends) (length ends) 0 ≡ len → AreEnds start ends len
+AreEnds-from_indexes start [] len up last = last
+AreEnds-from_indexes start (end ∷ ends) len up last = (up 0 (omega arith), AreEnds-from_indexes end ends len (λ i h. up (suc i) (omega arith)) last)

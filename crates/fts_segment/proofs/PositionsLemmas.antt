@@ -14,18 +14,18 @@ use Rattle.fts_model.specs.declared.operation.Stamped.{Stamped}
 use Rattle.fts_model.specs.declared.operation.Term.{Term}
 use Rattle.fts_model.specs.Documents.{DocumentValue, value_in_field}
 use Rattle.fts_model.specs.Operations.{has, field_has}
-use Rattle.fts_segment.specs.declared.grouping.Place.{Place}
-use Rattle.fts_segment.specs.declared.term_index.TermIndex.{TermIndex}
-use Rattle.fts_segment.specs.Occurrences.{Occurrence, occurrence_at, occurrences_at, occurrences, is_token, is_term, tokens_of, holds, values_in, HasFewTokens}
+use Rattle.fts_segment.specs.declared.term_groups.Place.{Place}
+use Rattle.fts_segment.specs.declared.dictionary.Dictionary.{Dictionary}
+use Rattle.fts_segment.specs.Occurrences.{OccurrenceValue, occurrence_at, occurrences_at, occurrences, is_token, is_term, tokens_of, holds, values_in, HasFewTokens}
 use Rattle.fts_segment.specs.Segments.{SegmentValue, numbers_where, positions_among, document_tokens, positions, positions_of}
-use Rattle.fts_segment.specs.Positions.{place_of, places_with, runs_of, runs_with, value_runs}
-use Rattle.fts_segment.specs.TermRuns.{term_runs}
-use Rattle.fts_segment.specs.Runs.{IsRun}
+use Rattle.fts_segment.specs.Positions.{place_of, places_with, position_lists_of, position_lists_with, value_position_lists}
+use Rattle.fts_segment.specs.TermPositionLists.{term_position_lists}
+use Rattle.fts_segment.specs.PositionLists.{IsPositionList}
 use Rattle.fts_segment.specs.FieldIndexes.{AreTerms}
 use Rattle.fts_segment.proofs.HoldingLemmas.{from_first, numbers_where-cons}
-use Rattle.fts_segment.proofs.RunsLemmas.{place_at, run_first}
-use Rattle.fts_segment.proofs.SegmentLemmas.{found_runs}
-use Rattle.fts_segment.proofs.TokenLemmas.{IsRun-tokens}
+use Rattle.fts_segment.proofs.PositionListsLemmas.{place_at, position_list_first}
+use Rattle.fts_segment.proofs.SegmentLemmas.{found_position_lists}
+use Rattle.fts_segment.proofs.TokenLemmas.{IsPositionList-tokens}
 use Rattle.fts_segment.proofs.FieldLemmas.{holds-tokens, field_at, field_holds}
 
 -- the places of a term in a document are the positions of its tokens
@@ -36,14 +36,14 @@ token_places q doc (t ∷ ts) =
     ≡ map (place_at doc) (map (λ (t : ℕ × List ℕ). t.0) (cond b (t ∷ filter (is_token q) ts) (filter (is_token q) ts))) in
     elim (is_token q t) as Here [ true ↦ ap (λ (ps : List Place). place_at doc t.0 ∷ ps) (token_places q doc ts) | false ↦ token_places q doc ts ]
 
-places_with-append : (q : List ℕ) (os ps : List Occurrence) → places_with q (os ++ ps) ≡ places_with q os ++ places_with q ps
+places_with-append : (q : List ℕ) (os ps : List OccurrenceValue) → places_with q (os ++ ps) ≡ places_with q os ++ places_with q ps
 places_with-append q os ps = ap (map place_of) (filter-append (is_term q) os ps) ∙ map-append place_of (filter (is_term q) os) (filter (is_term q) ps)
 
 later_places : (q : List ℕ) (kind : Kind) (doc : ℕ) (vs : List (Option FieldValue)) → All (λ p. doc < p.doc) (places_with q (occurrences kind (doc + 1) vs))
 later_places q kind doc vs =
     All-map (λ (p : Place). doc < p.doc) place_of (filter (is_term q) (occurrences kind (doc + 1) vs))
-    (All-filter (is_term q) (λ (o : Occurrence). doc < o.doc) (occurrences kind (doc + 1) vs)
-    (All-weaker (λ (o : Occurrence). doc + 1 ≤ o.doc) (λ (o : Occurrence). doc < o.doc) (λ o above. omega arith) _ (from_first kind (doc + 1) vs)))
+    (All-filter (is_term q) (λ (o : OccurrenceValue). doc < o.doc) (occurrences kind (doc + 1) vs)
+    (All-weaker (λ (o : OccurrenceValue). doc + 1 ≤ o.doc) (λ (o : OccurrenceValue). doc < o.doc) (λ o above. omega arith) _ (from_first kind (doc + 1) vs)))
 
 some_token : (q : List ℕ) (ts : List (ℕ × List ℕ)) → nat_lt 0 (length (positions_among q ts)) ≡ list_any (is_token q) ts
 some_token q [] = refl
@@ -56,32 +56,32 @@ some_token q (t ∷ ts) =
 map_filter-cons : {X Y : Type 0} (f : X → Y) (p : X → Bool) (x : X) (xs : List X) → map f (filter p (x ∷ xs)) ≡ cond (p x) (f x ∷ map f (filter p xs)) (map f (filter p xs))
 map_filter-cons f p x xs = elim (p x) as (λ b. map f (cond b (x ∷ filter p xs) (filter p xs)) ≡ cond b (f x ∷ map f (filter p xs)) (map f (filter p xs))) [ true ↦ refl | false ↦ refl ]
 
--- the runs of a term's occurrences are its positions in the values that have it
-pub runs_with-occurrences : (q : List ℕ) (kind : Kind) (doc : ℕ) (vs : List (Option FieldValue)) → runs_with q (occurrences kind doc vs) ≡ value_runs kind (values.Text q) vs
-runs_with-occurrences q kind doc [] = refl
-runs_with-occurrences q kind doc (v ∷ vs) =
+-- the position lists of a term's occurrences are its positions in the values that have it
+pub position_lists_with-occurrences : (q : List ℕ) (kind : Kind) (doc : ℕ) (vs : List (Option FieldValue)) → position_lists_with q (occurrences kind doc vs) ≡ value_position_lists kind (values.Text q) vs
+position_lists_with-occurrences q kind doc [] = refl
+position_lists_with-occurrences q kind doc (v ∷ vs) =
     let ns = positions_among q (tokens_of kind v) in
     let rest = places_with q (occurrences kind (doc + 1) vs) in
     let f : Option FieldValue → List ℕ = λ v. positions_among q (tokens_of kind v) in
-    ap runs_of (places_with-append q (occurrences_at kind doc v) (occurrences kind (doc + 1) vs) ∙ ap (λ ps. ps ++ rest) (token_places q doc (tokens_of kind v)))
-    ∙ run_first doc ns rest (later_places q kind doc vs)
-    ∙ ap (λ b. cond b (ns ∷ runs_of rest) (runs_of rest)) (some_token q (tokens_of kind v) ∙ holds-tokens kind q v)
-    ∙ ap (λ rs. cond (holds kind (values.Text q) v) (ns ∷ rs) rs) (runs_with-occurrences q kind (doc + 1) vs)
+    ap position_lists_of (places_with-append q (occurrences_at kind doc v) (occurrences kind (doc + 1) vs) ∙ ap (λ ps. ps ++ rest) (token_places q doc (tokens_of kind v)))
+    ∙ position_list_first doc ns rest (later_places q kind doc vs)
+    ∙ ap (λ b. cond b (ns ∷ position_lists_of rest) (position_lists_of rest)) (some_token q (tokens_of kind v) ∙ holds-tokens kind q v)
+    ∙ ap (λ rs. cond (holds kind (values.Text q) v) (ns ∷ rs) rs) (position_lists_with-occurrences q kind (doc + 1) vs)
     ∙ sym (map_filter-cons f (holds kind (values.Text q)) v vs)
 
--- so they are runs
-pub AreRuns-occurrences : (q : List ℕ) (kind : Kind) (vs : List (Option FieldValue)) → All (HasFewTokens kind) vs → All IsRun (runs_with q (occurrences kind 0 vs))
-AreRuns-occurrences q kind vs few =
-    let P : List (List ℕ) → Type 0 = All IsRun in
+-- so they are position lists
+pub ArePositionLists-occurrences : (q : List ℕ) (kind : Kind) (vs : List (Option FieldValue)) → All (HasFewTokens kind) vs → All IsPositionList (position_lists_with q (occurrences kind 0 vs))
+ArePositionLists-occurrences q kind vs few =
+    let P : List (List ℕ) → Type 0 = All IsPositionList in
     let p : Option FieldValue → Bool = holds kind (values.Text q) in
     let f : Option FieldValue → List ℕ = λ v. positions_among q (tokens_of kind v) in
-    subst P (sym (runs_with-occurrences q kind 0 vs))
-    (All-map IsRun f (filter p vs) (All-filter p (λ v. IsRun (f v)) vs (All-weaker (HasFewTokens kind) (λ v. IsRun (f v)) (λ v few. IsRun-tokens q kind v few) vs few)))
+    subst P (sym (position_lists_with-occurrences q kind 0 vs))
+    (All-map IsPositionList f (filter p vs) (All-filter p (λ v. IsPositionList (f v)) vs (All-weaker (HasFewTokens kind) (λ v. IsPositionList (f v)) (λ v few. IsPositionList-tokens q kind v few) vs few)))
 
 -- a term has the positions that its documents have
-pub runs_found : {kind : Kind} {vs : List (Option FieldValue)} {index : TermIndex} (text : List ℕ) (i : ℕ) → AreTerms kind vs index → slice_get index.names i ≡ Some text →
-    get_or (term_runs index.positions) i [] ≡ value_runs kind (values.Text text) vs
-runs_found {kind} {vs} {index} text i a found = found_runs i text a.index_is found ∙ runs_with-occurrences text kind 0 vs
+pub position_lists_found : {kind : Kind} {vs : List (Option FieldValue)} {dictionary : Dictionary} (text : List ℕ) (i : ℕ) → AreTerms kind vs dictionary → slice_get dictionary.names i ≡ Some text →
+    get_or (term_position_lists dictionary.positions) i [] ≡ value_position_lists kind (values.Text text) vs
+position_lists_found {kind} {vs} {dictionary} text i a found = found_position_lists i text a.dictionary_is found ∙ position_lists_with-occurrences text kind 0 vs
 
 map_filter-map : {X Y Z : Type 0} (f : X → Z) (h : Y → Z) (p : X → Bool) (q : Y → Bool) (g : X → Y) → ((x : X) → h (g x) ≡ f x) → ((x : X) → q (g x) ≡ p x) → (xs : List X) →
     map h (filter q (map g xs)) ≡ map f (filter p xs)
@@ -93,7 +93,7 @@ map_filter-map f h p q g same test (x ∷ xs) =
     ∙ ap (λ ys. cond (p x) (f x ∷ ys) ys) (map_filter-map f h p q g same test xs) ∙ sym (map_filter-cons f p x xs)
 
 value_positions : (segment : SegmentValue) (term : Term) (value : FieldValue) (field : Field) → slice_get segment.schema term.field ≡ Some field → term.value ≡ value →
-    value_runs field.kind value (values_in term.field segment.documents) ≡ positions_of segment term value
+    value_position_lists field.kind value (values_in term.field segment.documents) ≡ positions_of segment term value
 value_positions segment term (values.Number n) field here is = refl
 value_positions segment term (values.Text text) field here is =
     map_filter-map (λ (d : Stamped DocumentValue). positions_among text (document_tokens segment.schema term.field d.value)) (λ v. positions_among text (tokens_of field.kind v))
@@ -104,12 +104,12 @@ value_positions segment term (values.Text text) field here is =
     segment.documents
 
 pub positions-kind : (segment : SegmentValue) (term : Term) (kind : Kind) → option_map (λ f. f.kind) (slice_get segment.schema term.field) ≡ Some kind →
-    value_runs kind term.value (values_in term.field segment.documents) ≡ positions segment term
+    value_position_lists kind term.value (values_in term.field segment.documents) ≡ positions segment term
 positions-kind segment term kind here =
     let field = field_at (slice_get segment.schema term.field) kind here in
-    ap (λ k. value_runs k term.value (values_in term.field segment.documents)) (sym field.2) ∙ value_positions segment term term.value field.0 field.1 refl
+    ap (λ k. value_position_lists k term.value (values_in term.field segment.documents)) (sym field.2) ∙ value_positions segment term term.value field.0 field.1 refl
 
--- what stands at a place among the elements that pass a test
+-- what stands at an index among the elements that pass a test
 pub kth : {X Y : Type 0} (p : X → Bool) (f : X → Y) (n : ℕ) (xs : List X) (k : ℕ) → k < length (numbers_where p n xs) →
     (x : X) × (i : ℕ) × (get_or (numbers_where p n xs) k 0 ≡ n + i) × (slice_get xs i ≡ Some x) × (slice_get (map f (filter p xs)) k ≡ Some (f x))
 kth p f n [] k within = absurd (omega arith)

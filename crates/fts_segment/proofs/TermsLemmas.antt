@@ -78,9 +78,9 @@ IsDistinct-numbered ids names n = IsDistinct-from_apart bytes_eq names (λ i j d
       | inr e ↦ e
     ])
 
--- the same by places, where they are kept as a list
-pub one_place : (names : List (List ℕ)) → IsDistinct bytes_eq names → (i j : ℕ) (q : List ℕ) → slice_get names i ≡ Some q → slice_get names j ≡ Some q → i ≡ j
-one_place names apart i j q first second =
+-- the same by indexes, where they are kept as a list
+pub one_name_index : (names : List (List ℕ)) → IsDistinct bytes_eq names → (i j : ℕ) (q : List ℕ) → slice_get names i ≡ Some q → slice_get names j ≡ Some q → i ≡ j
+one_name_index names apart i j q first second =
     let at_i : get_or names i [] ≡ q = get_or_from_slice_get names i q [] first in
     let at_j : get_or names j [] ≡ q = get_or_from_slice_get names j q [] second in
     let itself : bytes_eq q q ≡ true = (bytes_eq-Decides q q).1 refl in

@@ -4,7 +4,7 @@ use Rattle.std.specs.Prelude.{nat_lt}
 use Rattle.std.specs.List.{enumerate_from}
 use Rattle.std.specs.Str.{IsUtf8, chars}
 use Rattle.std.proofs.lemmas.List.{length-map}
-use Rattle.fts_text.specs.Tokens.{Run, tokens, kept, runs, chars_of, byte_len}
+use Rattle.fts_text.specs.Tokens.{Span, tokens, kept, spans, chars_of, byte_len}
 use Rattle.fts_text.specs.Characters.{fold_chars}
 use Rattle.fts_text.specs.Places.{places, token_at}
 use Rattle.fts_text.proofs.StretchLemmas.{length-places, tokens-places}
@@ -15,7 +15,7 @@ use Rattle.fts_model.specs.declared.value.FieldValue.TheVariants as values
 use Rattle.fts_pack.specs.Documents.{Rises}
 use Rattle.fts_segment.specs.Occurrences.{is_token, tokens_of, value_tokens, HasFewTokens}
 use Rattle.fts_segment.specs.Segments.{positions_among}
-use Rattle.fts_segment.specs.Runs.{IsRun}
+use Rattle.fts_segment.specs.PositionLists.{IsPositionList}
 use Rattle.fts_segment.proofs.OccurrencesLemmas.{map-map}
 
 -- a text has no more tokens than bytes
@@ -46,10 +46,10 @@ Rises-enumerate next (x ∷ xs) =
 Rises-tokens : (text : List ℕ) → Rises 0 (map (λ t. t.0) (tokens text))
 unfolding tokens kept
 Rises-tokens text =
-    let rs = runs 0 (chars text) in
+    let rs = spans 0 (chars text) in
     let position : ℕ × List ℕ → ℕ = λ t. t.0 in
-    let number : ℕ × Run → ℕ = λ r. r.0 in
-    let token : ℕ × Run → ℕ × List ℕ = λ r. (r.0, fold_chars (chars_of r.1)) in
+    let number : ℕ × Span → ℕ = λ r. r.0 in
+    let token : ℕ × Span → ℕ × List ℕ = λ r. (r.0, fold_chars (chars_of r.1)) in
     subst (Rises 0) (map-map position token (kept 0 rs)) (Rises-filter number (λ r. nat_lt (byte_len r.1) 40) 0 (enumerate_from 0 rs) (Rises-enumerate 0 rs))
 
 Rises-value : (kind : Kind) (value : FieldValue) → Rises 0 (map (λ t. t.0) (value_tokens kind value))
@@ -74,9 +74,9 @@ length-kept p (x ∷ xs) =
       | false ↦ omega (arith, length-kept p xs)
     ]
 
--- the positions of a term in a value are a run
-pub IsRun-tokens : (q : List ℕ) (kind : Kind) (value : Option FieldValue) → HasFewTokens kind value → IsRun (positions_among q (tokens_of kind value))
-IsRun-tokens q kind value few =
+-- the positions of a term in a value are a position list
+pub IsPositionList-tokens : (q : List ℕ) (kind : Kind) (value : Option FieldValue) → HasFewTokens kind value → IsPositionList (positions_among q (tokens_of kind value))
+IsPositionList-tokens q kind value few =
     let position : ℕ × List ℕ → ℕ = λ t. t.0 in
     let ts = tokens_of kind value in
     record {

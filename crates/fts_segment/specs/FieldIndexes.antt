@@ -8,17 +8,18 @@ use Rattle.fts_model.specs.Schemas.{holds_numbers}
 use Rattle.fts_model.specs.Documents.{DocumentValue}
 use Rattle.fts_segment.specs.declared.field_index.FieldIndex.{FieldIndex}
 use Rattle.fts_segment.specs.declared.field_index.FieldIndex.TheVariants.{Terms, Numbers}
-use Rattle.fts_segment.specs.declared.term_index.TermIndex.{TermIndex}
+use Rattle.fts_segment.specs.declared.dictionary.Dictionary.{Dictionary}
 use Rattle.fts_segment.specs.declared.number_index.NumberIndex.{NumberIndex}
 use Rattle.fts_segment.specs.Occurrences.{occurrences, values_in}
-use Rattle.fts_segment.specs.Indexes.{IsIndexOf}
-use Rattle.fts_segment.specs.TermRuns.{term_runs}
+use Rattle.fts_segment.specs.Dictionaries.{IsDictionaryOf}
+use Rattle.fts_segment.specs.TermPositionLists.{term_position_lists}
 use Rattle.fts_segment.specs.Numbers.{Fits64, numbers_of, IsNumberIndex}
 
 -- the terms of a text or keyword field
-pub record AreTerms (kind : Kind) (vs : List (Option FieldValue)) (index : TermIndex) : Type 0 where
+pub record AreTerms (kind : Kind) (vs : List (Option FieldValue)) (dictionary : Dictionary) : Type 0 where
   pub kind_is : holds_numbers kind ≡ false
-  pub index_is : IsIndexOf (occurrences kind 0 vs) index.names index.lists.items (term_runs index.positions)
+  pub dictionary_is : IsDictionaryOf (occurrences kind 0 vs)
+      dictionary.names dictionary.lists.items (term_position_lists dictionary.positions)
 
 -- the numbers of a number field
 pub record AreNumbers (kind : Kind) (vs : List (Option FieldValue)) (index : NumberIndex) : Type 0 where
@@ -29,7 +30,7 @@ pub record AreNumbers (kind : Kind) (vs : List (Option FieldValue)) (index : Num
 
 -- the index of a field of this kind in which the documents have these values
 abbrev pub IsFieldIndex : Kind → List (Option FieldValue) → FieldIndex → Type 0
-IsFieldIndex kind vs (Terms index) = AreTerms kind vs index
+IsFieldIndex kind vs (Terms dictionary) = AreTerms kind vs dictionary
 IsFieldIndex kind vs (Numbers index) = AreNumbers kind vs index
 
 -- the numbers that documents have in a field of this kind fit 64 bits
@@ -37,7 +38,9 @@ abbrev pub NumbersFit : Kind → ℕ → List (Stamped DocumentValue) → Type 0
 NumbersFit kind field documents = All (λ v. IfSome v (Fits64 kind)) (values_in field documents)
 
 -- one index for each field
-pub record AreIndexes (schema : List Field) (documents : List (Stamped DocumentValue)) (indexes : List FieldIndex) : Type 0 where
+pub record AreIndexes (schema : List Field) (documents : List (Stamped DocumentValue)) (indexes : List FieldIndex)
+    : Type 0 where
   pub few : length documents ≤ 2 ^ 32
   pub count : length indexes ≡ length schema
-  pub each : (f : ℕ) (field : Field) (index : FieldIndex) → slice_get schema f ≡ Some field → slice_get indexes f ≡ Some index → IsFieldIndex field.kind (values_in f documents) index
+  pub each : (f : ℕ) (field : Field) (index : FieldIndex) → slice_get schema f ≡ Some field
+      → slice_get indexes f ≡ Some index → IsFieldIndex field.kind (values_in f documents) index

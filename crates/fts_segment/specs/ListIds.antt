@@ -1,17 +1,17 @@
 -- What the list of a term holds.
 use Rattle.std.specs.Prelude.{ℕ, List, [], Option, Some, None}
 use Rattle.fts_segment.specs.declared.segment.ListId.{ListId}
-use Rattle.fts_segment.specs.declared.term_positions.TermRuns.{TermRuns}
-use Rattle.fts_segment.specs.TermRuns.{runs_in}
+use Rattle.fts_segment.specs.declared.term_positions.TermPositionLists.{TermPositionLists}
+use Rattle.fts_segment.specs.TermPositionLists.{position_lists_in}
 
 -- the numbers of the documents that have the term
 abbrev pub documents_in : ListId → List ℕ
 documents_in list = list.list.now
 
 -- its positions in each of them; a number has none
-abbrev pub positions_of : Option TermRuns → List (List ℕ)
+abbrev pub positions_of : Option TermPositionLists → List (List ℕ)
 positions_of None = []
-positions_of (Some term) = runs_in term
+positions_of (Some term) = position_lists_in term
 
 abbrev pub positions_in : ListId → List (List ℕ)
 positions_in list = positions_of list.positions

@@ -1,5 +1,6 @@
 -- The tokens of the values of a field, one document after the other.
-use Rattle.std.specs.Prelude.{ℕ, ◌+◌, ◌^◌, ◌<◌, length, Bool, false, List, [], ◌∷◌, ◌++◌, map, filter, nat_eq, Option, Some, None}
+use Rattle.std.specs.Prelude.{ℕ, ◌+◌, ◌^◌, ◌<◌, length, Bool, false, List, [], ◌∷◌, ◌++◌, map, filter, nat_eq, Option}
+use Rattle.std.specs.Prelude.{Some, None}
 use Rattle.std.specs.List.{dedup}
 use Rattle.std.specs.Str.{bytes_eq}
 use Rattle.fts_text.specs.Tokens.{tokens}
@@ -12,13 +13,13 @@ use Rattle.fts_model.specs.Documents.{DocumentValue, value_in_field}
 use Rattle.fts_model.specs.Operations.{value_has}
 
 -- a term stands in a document at a position
-pub record Occurrence : Type 0 where
+pub record OccurrenceValue : Type 0 where
   pub term : List ℕ
   pub doc : ℕ
   pub position : ℕ
 
 -- a token of a document, after its position
-abbrev pub occurrence_at : ℕ → ℕ × List ℕ → Occurrence
+abbrev pub occurrence_at : ℕ → ℕ × List ℕ → OccurrenceValue
 occurrence_at doc token = record { term = token.1; doc = doc; position = token.0 }
 
 -- the tokens of a value, each after its position: those of a text, and a keyword as one token, at 0
@@ -37,11 +38,11 @@ abbrev pub HasFewTokens : Kind → Option FieldValue → Type 0
 HasFewTokens kind value = length (tokens_of kind value) < 2 ^ 32
 
 -- the occurrences of a document's value
-abbrev pub occurrences_at : Kind → ℕ → Option FieldValue → List Occurrence
+abbrev pub occurrences_at : Kind → ℕ → Option FieldValue → List OccurrenceValue
 occurrences_at kind doc value = map (occurrence_at doc) (tokens_of kind value)
 
 -- the occurrences of values, of which the first is of the document `doc`
-abbrev pub occurrences : Kind → ℕ → List (Option FieldValue) → List Occurrence
+abbrev pub occurrences : Kind → ℕ → List (Option FieldValue) → List OccurrenceValue
 occurrences kind doc [] = []
 occurrences kind doc (v ∷ vs) = occurrences_at kind doc v ++ occurrences kind (doc + 1) vs
 
@@ -59,13 +60,13 @@ abbrev pub is_token : List ℕ → ℕ × List ℕ → Bool
 is_token term token = bytes_eq token.1 term
 
 -- an occurrence of a term
-abbrev pub is_term : List ℕ → Occurrence → Bool
+abbrev pub is_term : List ℕ → OccurrenceValue → Bool
 is_term term occurrence = bytes_eq occurrence.term term
 
 -- the documents of the occurrences of a term, as often as they come
-abbrev pub docs_of : List ℕ → List Occurrence → List ℕ
+abbrev pub docs_of : List ℕ → List OccurrenceValue → List ℕ
 docs_of term os = map (λ o. o.doc) (filter (is_term term) os)
 
 -- the same, each once
-abbrev pub docs_with : List ℕ → List Occurrence → List ℕ
+abbrev pub docs_with : List ℕ → List OccurrenceValue → List ℕ
 docs_with term os = dedup nat_eq (docs_of term os)

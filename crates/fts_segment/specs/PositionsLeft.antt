@@ -2,8 +2,9 @@
 use Rattle.std.specs.Prelude.{ℕ, List, slice_range}
 use Rattle.fts_pack.specs.Documents.{documents_at}
 use Rattle.fts_segment.specs.declared.positions.Positions.{Positions}
-use Rattle.fts_segment.specs.Runs.{numbers_behind}
+use Rattle.fts_segment.specs.PositionLists.{numbers_behind}
 
 -- the positions that are still to come
 abbrev pub positions_left : Positions → List ℕ
-positions_left positions = documents_at positions.next (slice_range (numbers_behind positions.gaps) positions.at positions.end)
+positions_left positions =
+    documents_at positions.next (slice_range (numbers_behind positions.gaps) positions.at positions.end)

@@ -1,5 +1,6 @@
 -- What a segment holds, and what it finds for a term.
-use Rattle.std.specs.Prelude.{◌≡◌, ℕ, Bool, true, List, [], ◌∷◌, ◌++◌, All, Option, Some, None, map, filter, option_and_then}
+use Rattle.std.specs.Prelude.{◌≡◌, ℕ, Bool, true, List, [], ◌∷◌, ◌++◌, All, Option, Some, None, map, filter}
+use Rattle.std.specs.Prelude.{option_and_then}
 use Rattle.std.specs.List.{enumerate_from}
 use Rattle.std.specs.Option.{option_map_or}
 use Rattle.fts_model.specs.declared.schema.Field.{Field}
@@ -30,7 +31,8 @@ AreDocuments documents = All (λ d. IsDocument d.value) documents
 
 -- the same with one document more
 abbrev pub with_document : SegmentValue → ℕ → DocumentValue → SegmentValue
-with_document segment stamp document = record { schema = segment.schema; documents = segment.documents ++ record { stamp = stamp; value = document } ∷ [] }
+with_document segment stamp document =
+    record { schema = segment.schema; documents = segment.documents ++ record { stamp = stamp; value = document } ∷ [] }
 
 -- the numbers of the elements that pass a test, where the first element has the number `first`
 abbrev pub numbers_where : {X : Type 0} → (X → Bool) → ℕ → List X → List ℕ
@@ -46,12 +48,14 @@ positions_among text tokens = map (λ t. t.0) (filter (is_token text) tokens)
 
 -- the tokens of a document in a field
 abbrev pub document_tokens : List Field → ℕ → DocumentValue → List (ℕ × List ℕ)
-document_tokens schema field document = option_map_or (λ kind. tokens_of kind (value_in_field document field)) (kind_at schema field) []
+document_tokens schema field document =
+    option_map_or (λ kind. tokens_of kind (value_in_field document field)) (kind_at schema field) []
 
 -- the positions of a term in each of the documents that have it, where its value is a text; a number has none
 abbrev pub positions_of : SegmentValue → Term → FieldValue → List (List ℕ)
 positions_of segment term (values.Text text) =
-    map (λ d. positions_among text (document_tokens segment.schema term.field d.value)) (filter (λ d. has segment.schema d.value term) segment.documents)
+    map (λ d. positions_among text (document_tokens segment.schema term.field d.value))
+    (filter (λ d. has segment.schema d.value term) segment.documents)
 positions_of segment term (values.Number n) = []
 
 abbrev pub positions : SegmentValue → Term → List (List ℕ)
@@ -68,7 +72,9 @@ number_of kind value = option_and_then (number_in kind) value
 
 -- the numbers of the documents in a field
 abbrev pub column : SegmentValue → ℕ → List (Option ℕ)
-column segment field = map (λ d. option_and_then (λ kind. number_of kind (value_in_field d.value field)) (kind_at segment.schema field)) segment.documents
+column segment field =
+    map (λ d. option_and_then (λ kind. number_of kind (value_in_field d.value field)) (kind_at segment.schema field))
+    segment.documents
 
 -- no documents yet
 abbrev pub no_documents : List Field → SegmentValue

@@ -12,4 +12,5 @@ stored_value s = record { schema = (arc_value s.stored).schema; documents = (arc
 pub record IsStored (s : Inside) : Type 0 where
   pub fit : AllFit (arc_value s.stored).schema (arc_value s.stored).documents.items
   pub documents_are : AreDocuments (arc_value s.stored).documents.items
-  pub indexes_are : AreIndexes (arc_value s.stored).schema (arc_value s.stored).documents.items (arc_value s.stored).indexes.items
+  pub indexes_are :
+      AreIndexes (arc_value s.stored).schema (arc_value s.stored).documents.items (arc_value s.stored).indexes.items

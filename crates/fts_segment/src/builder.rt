@@ -29,7 +29,10 @@ impl Model for Builder {
 
     ghost Value = { BuilderValue };
 
-    ghost view = { λ b. record { segment = record { schema = b.schema; documents = b.documents.items }; merging = b.merging } };
+    ghost view = { λ b. record {
+      segment = record { schema = b.schema; documents = b.documents.items };
+      merging = b.merging;
+    } };
 
     ghost invariant = { λ b. (length b.documents.items ≤ most_merged) × AllFit b.schema b.documents.items
         × AreDocuments b.documents.items };
@@ -78,8 +81,8 @@ impl Builder {
         self.documents.len()
     }
 
-    /// Takes a document that fits the schema (`Document::fits`), with its stamp. `SegmentFull` where there are 65,536 already and it
-    /// serves no merge.
+    /// Takes a document that fits the schema (`Document::fits`), with its stamp. `SegmentFull` where there are 65,536
+    /// already and it serves no merge.
     pub fn add(&mut self, stamp: Stamp, document: &Document) -> Result<(), Refusal>
         requires room { self.old.merging ≡ true → length self.old.segment.documents < most_merged }
         requires fits { fits self.old.segment.schema document.now ≡ true }

@@ -5,14 +5,14 @@ ghost use Rattle.fts_segment.specs.FieldIndexes.{IsFieldIndex, AreTerms};
 ghost use Rattle.fts_segment.specs.ListIds.{documents_in, positions_in};
 ghost use Rattle.fts_segment.specs.Occurrences.{holds, values_in};
 ghost use Rattle.fts_segment.specs.Segments.{numbers_where};
-ghost use Rattle.fts_segment.specs.Positions.{value_runs};
+ghost use Rattle.fts_segment.specs.Positions.{value_position_lists};
 ghost use Rattle.fts_segment.specs.Numbers.{numbers_of};
 ghost use Rattle.fts_model.specs.Schemas.{holds_numbers};
 
+use crate::dictionary::Dictionary;
 use crate::number_index::{NumberIndex, number_in};
 use crate::occurrences::logged;
 use crate::segment::ListId;
-use crate::term_index::TermIndex;
 use fts_column::Column;
 use fts_model::{Document, FieldValue, Kind, Stamped};
 use std::alloc::{AllocError, Global};
@@ -20,7 +20,7 @@ use std::alloc::{AllocError, Global};
 /// What is looked up in a field.
 #[derive(Drop)]
 pub(crate) enum FieldIndex {
-    Terms(TermIndex),
+    Terms(Dictionary),
     Numbers(NumberIndex),
 }
 
@@ -40,7 +40,7 @@ impl FieldIndex {
             return Ok(FieldIndex::Numbers(index));
         }
         let log = logged(alloc, documents, field, kind)?;
-        Ok(FieldIndex::Terms(log.index(alloc)?))
+        Ok(FieldIndex::Terms(log.dictionary(alloc)?))
     }
 
     /// The numbers of the documents in a number field.
@@ -65,28 +65,28 @@ impl FieldIndex {
         ensures documents { (vs : List (Option FieldValue)) → IsFieldIndex kind vs self.now
             → IfSome result (λ list. documents_in list ≡ numbers_where (holds kind term.now) 0 vs) }
         ensures positions { (vs : List (Option FieldValue)) → IsFieldIndex kind vs self.now
-            → IfSome result (λ list. positions_in list ≡ value_runs kind term.now vs) }
+            → IfSome result (λ list. positions_in list ≡ value_position_lists kind term.now vs) }
     {
         match self {
-            FieldIndex::Terms(index) => find_text(index, kind, term),
+            FieldIndex::Terms(dictionary) => find_text(dictionary, kind, term),
             FieldIndex::Numbers(index) => index.find(number_in(kind, Some(term))?),
         }
     }
 }
 
 // The list of a term of a text or keyword field, where a document has it.
-fn find_text<'a>(index: &'a TermIndex, kind: Kind, term: &FieldValue) -> Option<ListId<'a>>
-    requires { (vs : List (Option FieldValue)) × AreTerms kind vs index.now }
-    ensures none { (vs : List (Option FieldValue)) → AreTerms kind vs index.entry.now
+fn find_text<'a>(dictionary: &'a Dictionary, kind: Kind, term: &FieldValue) -> Option<ListId<'a>>
+    requires { (vs : List (Option FieldValue)) × AreTerms kind vs dictionary.now }
+    ensures none { (vs : List (Option FieldValue)) → AreTerms kind vs dictionary.entry.now
         → IfNone result (numbers_where (holds kind term.now) 0 vs ≡ []) }
     ensures some { IfSome result (λ list. documents_in list ≢ []) }
-    ensures documents { (vs : List (Option FieldValue)) → AreTerms kind vs index.entry.now
+    ensures documents { (vs : List (Option FieldValue)) → AreTerms kind vs dictionary.entry.now
         → IfSome result (λ list. documents_in list ≡ numbers_where (holds kind term.now) 0 vs) }
-    ensures positions { (vs : List (Option FieldValue)) → AreTerms kind vs index.entry.now
-        → IfSome result (λ list. positions_in list ≡ value_runs kind term.now vs) }
+    ensures positions { (vs : List (Option FieldValue)) → AreTerms kind vs dictionary.entry.now
+        → IfSome result (λ list. positions_in list ≡ value_position_lists kind term.now vs) }
 {
     match term {
-        FieldValue::Text(text) => index.find(text.as_str()),
+        FieldValue::Text(text) => dictionary.find(text.as_str()),
         FieldValue::Number(_) => None,
     }
 }

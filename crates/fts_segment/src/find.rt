@@ -25,14 +25,14 @@ pub(crate) fn find_name(names: &Names, name: &[u8]) -> Option<usize>
     None
 }
 
-/// The place of a number.
+/// The index of a number.
 pub(crate) fn find_number(numbers: &[u64], number: u64) -> Option<usize>
     requires { IsStrictlyIncreasing numbers.now }
     ensures { MatchOption result ((i : ℕ) → slice_get numbers.now i ≡ Some number → ⊥)
         (λ i. slice_get numbers.now i ≡ Some number) }
 {
     match numbers.binary_search(&number) {
-        Ok(place) => Some(place),
+        Ok(index) => Some(index),
         Err(_) => None,
     }
 }

@@ -1,9 +1,10 @@
 //! A segment: stored documents with their stamps, and what is looked up in them. It never changes once made.
 //!
-//! A [`Builder`] takes documents one after the other and makes a [`Segment`] of them. The segment numbers its documents from
-//! 0, and finds the list of a term ([`Segment::find`]): the documents that have it ([`Segment::postings`]), and where it
-//! stands in each ([`Segment::positions`], a [`PositionReader`]). Of a number field it has a column ([`Segment::column`]). A
-//! copy of a segment shares it, so that commits, merges and searches hand segments on at the cost of one count.
+//! A [`Builder`] takes documents one after the other and makes a [`Segment`] of them. The segment numbers its documents
+//! from 0, and finds the list of a term ([`Segment::find`]): the documents that have it ([`Segment::postings`]), and
+//! where it stands in each ([`Segment::positions`], a [`PositionReader`]). Of a number field it has a column
+//! ([`Segment::column`]). A copy of a segment shares it, so that commits, merges and searches hand segments on at the
+//! cost of one count.
 //!
 //! ```text
 //! let mut builder = Builder::new(alloc, &schema)?;
@@ -16,23 +17,23 @@
 #![tactic(auto)]
 
 mod builder;
+mod dictionary;
 mod field_index;
 mod find;
-mod grouping;
 pub mod laws;
-mod listing;
 mod names;
 mod number_index;
 mod numbering;
 mod occurrences;
 mod pieces;
+mod position_lists;
 mod position_reader;
 mod positions;
-mod runs;
+mod postings_writer;
 mod segment;
-mod sorting;
-mod term_index;
+mod term_groups;
 mod term_log;
+mod term_order;
 mod term_positions;
 
 pub use builder::Builder;

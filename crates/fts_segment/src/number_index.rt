@@ -1,8 +1,9 @@
 // The numbers of a field: a column, and for each number the documents that have it.
-ghost use Rattle.std.specs.Prelude.{◌≡◌, ℕ, ◌<◌, ◌≤◌, ◌^◌, ◌++◌, ◌∷◌, [], Some, length, map, All, Contains, IfOk, IfSome, OnOk, option_copied, slice_get, slice_index, slice_index_or, MatchOption};
+ghost use Rattle.std.specs.Prelude.{◌≡◌, ℕ, ◌<◌, ◌≤◌, ◌^◌, ◌++◌, ◌∷◌, [], Some, length, map, All, Contains, IfOk};
+ghost use Rattle.std.specs.Prelude.{IfSome, OnOk, option_copied, slice_get, slice_index, slice_index_or, MatchOption};
 ghost use Rattle.std.specs.List.Sorted.{IsStrictlyIncreasing};
-ghost use Rattle.fts_segment.specs.Groups.{places_of};
-ghost use Rattle.fts_segment.specs.Indexes.{docs_in};
+ghost use Rattle.fts_segment.specs.TermGroups.{places_of};
+ghost use Rattle.fts_segment.specs.Dictionaries.{docs_in};
 ghost use Rattle.fts_segment.specs.Occurrences.{values_in};
 ghost use Rattle.fts_segment.specs.Segments.{number_of, numbers_where};
 ghost use Rattle.fts_segment.specs.Numbers.{Fits64, numbers_of, present, is_number, IsNumberIndex};
@@ -10,10 +11,10 @@ ghost use Rattle.fts_segment.specs.ListIds.{documents_in, positions_in};
 ghost use Rattle.fts_segment.specs.NumberLogs.{NumberLog};
 
 use crate::find::find_number;
-use crate::grouping::Groups;
-use crate::listing::set_docs;
+use crate::postings_writer::set_docs;
 use crate::segment::ListId;
-use crate::term_log::Entry;
+use crate::term_groups::TermGroups;
+use crate::term_log::Occurrence;
 use fts_bits::i64_to_u64;
 use fts_column::Column;
 use fts_model::{Document, FieldValue, Kind, Number, Stamped};
@@ -50,7 +51,7 @@ impl NumberIndex {
         let values = numbers_of(alloc, documents, field, kind)?;
         let numbers = different(alloc, &values)?;
         let log = logged(alloc, &values, &numbers)?;
-        let groups = Groups::new(alloc, &log, numbers.len())?;
+        let groups = TermGroups::new(alloc, &log, numbers.len())?;
         let lists = lists_of(alloc, &groups, numbers.len())?;
         let Ok(column) = Column::build(alloc, &values) else {
             return Err(AllocError);
@@ -72,9 +73,9 @@ impl NumberIndex {
             × (documents_in list ≡ slice_index_or self.now.lists.items i [])
             × (positions_in list ≡ [])) }
     {
-        let place = find_number(&self.numbers, number)?;
+        let index = find_number(&self.numbers, number)?;
         Some(ListId {
-            list: &self.lists[place],
+            list: &self.lists[index],
             positions: None,
         })
     }
@@ -85,10 +86,17 @@ pub(crate) fn number_in(kind: Kind, value: Option<&FieldValue>) -> Option<u64>
     ensures number { result ≡ number_of kind (option_copied value.entry) }
     ensures fits { IfSome value.entry (λ v. Fits64 kind v.now) }
 {
-    match (kind, value?) {
-        (Kind::U64, FieldValue::Number(Number::U64(number))) => Some(*number),
-        (Kind::I64, FieldValue::Number(Number::I64(number))) => Some(i64_to_u64(*number)),
-        _ => None,
+    let value = value?;
+    match kind {
+        Kind::U64 => match value {
+            FieldValue::Number(Number::U64(number)) => Some(*number),
+            FieldValue::Number(Number::I64(_)) | FieldValue::Text(_) => None,
+        },
+        Kind::I64 => match value {
+            FieldValue::Number(Number::I64(number)) => Some(i64_to_u64(*number)),
+            FieldValue::Number(Number::U64(_)) | FieldValue::Text(_) => None,
+        },
+        Kind::Text | Kind::Keyword => None,
     }
 }
 
@@ -135,9 +143,9 @@ fn different(alloc: Global, values: &[Option<u64>]) -> Result<Vec<u64>, AllocErr
     Ok(numbers)
 }
 
-// Puts a document's number behind the others, by its place among the different ones.
+// Puts a document's number behind the others, by its index among the different ones.
 fn push_number(
-    log: &mut Vec<Entry>,
+    log: &mut Vec<Occurrence>,
     numbers: &[u64],
     doc: u32,
     value: Option<u64>,
@@ -152,7 +160,7 @@ fn push_number(
     let Some(term) = find_number(numbers, number) else {
         return Ok(());
     };
-    log.push(Entry {
+    log.push(Occurrence {
         term,
         doc,
         position: 0,
@@ -160,8 +168,12 @@ fn push_number(
     Ok(())
 }
 
-// The numbers of documents, each by its place among the different ones.
-fn logged(alloc: Global, values: &[Option<u64>], numbers: &[u64]) -> Result<Vec<Entry>, AllocError>
+// The numbers of documents, each by its index among the different ones.
+fn logged(
+    alloc: Global,
+    values: &[Option<u64>],
+    numbers: &[u64],
+) -> Result<Vec<Occurrence>, AllocError>
     requires few { length values.now ≤ 2 ^ 32 }
     requires rises { IsStrictlyIncreasing numbers.now }
     requires whole { (x : ℕ) → Contains values.now (Some x) → Contains numbers.now x }
@@ -179,7 +191,7 @@ fn logged(alloc: Global, values: &[Option<u64>], numbers: &[u64]) -> Result<Vec<
 }
 
 // The documents of the groups, each once.
-fn lists_of(alloc: Global, groups: &Groups, count: usize) -> Result<Vec<List>, AllocError>
+fn lists_of(alloc: Global, groups: &TermGroups, count: usize) -> Result<Vec<List>, AllocError>
     requires count { length groups.now ≡ count }
     requires rise { All (λ places. IsStrictlyIncreasing (docs_in places)) groups.now }
     ensures { IfOk result (λ lists. lists.items ≡ map docs_in groups.now) }

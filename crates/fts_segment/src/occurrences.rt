@@ -1,5 +1,6 @@
 // Puts the tokens of a field into a log, document by document.
-ghost use Rattle.std.specs.Prelude.{◌≡◌, ◌<◌, ◌≤◌, ◌++◌, ◌∷◌, [], ◌^◌, length, OnOk, IfOk, All, map, IfSome, option_copied};
+ghost use Rattle.std.specs.Prelude.{◌≡◌, ◌<◌, ◌≤◌, ◌++◌, ◌∷◌, [], ◌^◌, length, OnOk, IfOk, All, map, IfSome};
+ghost use Rattle.std.specs.Prelude.{option_copied};
 ghost use Rattle.fts_text.specs.Places.{IsPlaceIn, token_at};
 ghost use Rattle.fts_model.specs.Shorts.{IsShort};
 ghost use Rattle.fts_model.specs.declared.schema.Kind.TheVariants.{Text};
@@ -24,7 +25,7 @@ fn push_token(
     ensures { OnOk result (log.new ≡ log.old ++ occurrence_at doc (token_at text.now token) ∷ []) }
 {
     term.clear();
-    fold_into(token.run(text), term)?;
+    fold_into(token.span(text), term)?;
     log.push(term.as_str(), doc, token.position as u32)
 }
 
@@ -53,10 +54,16 @@ fn push_value(
         ≡ log.old ++ occurrences_at kind doc (option_copied value.entry)) }
     ensures few { HasFewTokens kind (option_copied value.entry) }
 {
-    match (kind, value) {
-        (Kind::Text, Some(FieldValue::Text(text))) => push_tokens(log, term, doc, text.as_str()),
-        (Kind::Keyword, Some(FieldValue::Text(text))) => log.push(text.as_str(), doc, 0),
-        _ => Ok(()),
+    match kind {
+        Kind::Text => match value {
+            Some(FieldValue::Text(text)) => push_tokens(log, term, doc, text.as_str()),
+            Some(FieldValue::Number(_)) | None => Ok(()),
+        },
+        Kind::Keyword => match value {
+            Some(FieldValue::Text(text)) => log.push(text.as_str(), doc, 0),
+            Some(FieldValue::Number(_)) | None => Ok(()),
+        },
+        Kind::U64 | Kind::I64 => Ok(()),
     }
 }
 

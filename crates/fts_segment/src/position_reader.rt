@@ -3,9 +3,9 @@ ghost use Rattle.std.specs.Prelude.{◌≡◌, [], slice_index_or};
 ghost use Rattle.fts_segment.specs.ListIds.{positions_of};
 ghost use Rattle.fts_segment.specs.PositionsLeft.{positions_left};
 
+use crate::position_lists::Bounds;
 use crate::positions::Positions;
-use crate::runs::Bounds;
-use crate::term_positions::TermRuns;
+use crate::term_positions::TermPositionLists;
 use std::marker::Model;
 
 /// The positions of a term, a list for each of its postings. Contracts see the list of these.
@@ -13,7 +13,7 @@ use std::marker::Model;
 /// Where the positions of 128 documents lie is kept, so that it is best asked for postings in rising order.
 #[derive(Drop)]
 pub struct PositionReader<'a> {
-    term: Option<TermRuns<'a>>,
+    term: Option<TermPositionLists<'a>>,
     bounds: Bounds,
 }
 
@@ -24,16 +24,16 @@ impl<'a> Model for PositionReader<'a> {
 
     ghost use Rattle.std.specs.Prelude.{IfSome};
     ghost use Rattle.fts_segment.specs.ListIds.{positions_of};
-    ghost use Rattle.fts_segment.specs.RunBounds.{AreBounds};
+    ghost use Rattle.fts_segment.specs.PositionListBounds.{AreBounds};
 
     ghost view = { λ r. positions_of r.term };
 
-    ghost invariant = { λ r. IfSome r.term (λ term. AreBounds term.runs.now r.bounds) };
+    ghost invariant = { λ r. IfSome r.term (λ term. AreBounds term.lists.now r.bounds) };
 }
 
 impl<'a> PositionReader<'a> {
     /// Reads the positions of a term, or of a number, which has none.
-    pub(crate) fn new(term: Option<TermRuns<'a>>) -> PositionReader<'a>
+    pub(crate) fn new(term: Option<TermPositionLists<'a>>) -> PositionReader<'a>
         ensures { result ≡ positions_of term.entry }
     {
         PositionReader {

@@ -1,7 +1,7 @@
 // The positions of a term in a document, read from their differences one after the other.
 ghost use Rattle.std.specs.Prelude.{◌≤◌, ◌<◌, ◌^◌, All, length, slice_range};
 ghost use Rattle.fts_pack.specs.Documents.{documents_at};
-ghost use Rattle.fts_segment.specs.Runs.{numbers_behind};
+ghost use Rattle.fts_segment.specs.PositionLists.{numbers_behind};
 
 use fts_pack::Numbers;
 

@@ -1,5 +1,6 @@
 // Documents that never change, with the terms that they have.
-ghost use Rattle.std.specs.Prelude.{◌≡◌, ◌≢◌, ◌^◌, ◌<◌, ◌≤◌, [], length, slice_get, option_map, Some, IfNone, IfSome, All, true};
+ghost use Rattle.std.specs.Prelude.{◌≡◌, ◌≢◌, ◌^◌, ◌<◌, ◌≤◌, [], length, slice_get, option_map, Some, IfNone, IfSome};
+ghost use Rattle.std.specs.Prelude.{All, true};
 ghost use Rattle.fts_model.specs.Documents.{IsDocument, fits};
 ghost use Rattle.fts_model.specs.Queries.{is_number_field};
 ghost use Rattle.fts_model.specs.Operations.{kind_at};
@@ -10,7 +11,7 @@ ghost use Rattle.fts_segment.specs.ListIds.{documents_in, positions_in};
 
 use crate::field_index::FieldIndex;
 use crate::position_reader::PositionReader;
-use crate::term_positions::TermRuns;
+use crate::term_positions::TermPositionLists;
 use fts_column::Column;
 use fts_model::{Document, Schema, Stamp, Stamped, Term};
 use fts_pack::List;
@@ -22,7 +23,7 @@ use std::sync::Arc;
 #[derive(Clone, Copy)]
 pub struct ListId<'a> {
     pub(crate) list: &'a List,
-    pub(crate) positions: Option<TermRuns<'a>>,
+    pub(crate) positions: Option<TermPositionLists<'a>>,
 }
 
 /// What a segment shares with its copies.
@@ -105,8 +106,8 @@ impl Segment {
         list.list
     }
 
-    /// The positions of a term in the documents of its postings, counted from 0: those of its tokens in a text, and 0 of
-    /// a keyword. A number has none.
+    /// The positions of a term in the documents of its postings, counted from 0: those of its tokens in a text, and 0
+    /// of a keyword. A number has none.
     pub fn positions<'a>(&self, list: ListId<'a>) -> PositionReader<'a>
         ensures { result ≡ positions_in list.entry }
     {
@@ -117,7 +118,8 @@ impl Segment {
     pub fn column(&self, field: usize) -> &Column
         requires { is_number_field self.now.schema field ≡ true }
         ensures values { result.now ≡ column self.now field }
-        ensures fit { (kind : Kind) → kind_at self.now.schema field ≡ Some kind → NumbersFit kind field self.now.documents }
+        ensures fit { (kind : Kind) → kind_at self.now.schema field ≡ Some kind
+            → NumbersFit kind field self.now.documents }
     {
         let stored: &Stored = &self.stored;
         stored.indexes[field].column(stored.schema.kind(field))

@@ -1,15 +1,15 @@
 // The occurrences of terms in documents, in the order in which they come.
-use crate::grouping::Groups;
-use crate::listing::list_terms;
+use crate::dictionary::Dictionary;
 use crate::numbering::Numbering;
-use crate::sorting::sorted;
-use crate::term_index::TermIndex;
+use crate::postings_writer::write_terms;
+use crate::term_groups::TermGroups;
+use crate::term_order::sorted;
 use std::alloc::{AllocError, Global};
 use std::marker::Model;
 
 /// A term, by its number, stands in a document at a position.
 #[derive(Clone, Copy)]
-pub(crate) struct Entry {
+pub(crate) struct Occurrence {
     pub(crate) term: usize,
     pub(crate) doc: u32,
     pub(crate) position: u32,
@@ -19,18 +19,18 @@ pub(crate) struct Entry {
 #[derive(Drop)]
 pub(crate) struct TermLog {
     terms: Numbering,
-    log: Vec<Entry>,
+    log: Vec<Occurrence>,
 }
 
 impl Model for TermLog {
     ghost use Rattle.std.specs.Prelude.{List};
-    ghost use Rattle.fts_segment.specs.Occurrences.{Occurrence};
+    ghost use Rattle.fts_segment.specs.Occurrences.{OccurrenceValue};
 
-    ghost Value = { List Occurrence };
+    ghost Value = { List OccurrenceValue };
 
-    ghost use Rattle.fts_segment.specs.Entries.{occurrences_of, AreNamed};
+    ghost use Rattle.fts_segment.specs.TermLogs.{occurrence_values, AreNamed};
 
-    ghost view = { λ t. occurrences_of t.terms t.log.items };
+    ghost view = { λ t. occurrence_values t.terms t.log.items };
 
     ghost invariant = { λ t. AreNamed t.terms t.log.items };
 }
@@ -39,10 +39,10 @@ impl TermLog {
     ghost use Rattle.std.specs.Prelude.{◌≡◌, ◌++◌, ◌∷◌, [], ℕ, List, All, OnOk, IfOk};
     ghost use Rattle.std.specs.List.Sorted.{IsStrictlyIncreasing};
     ghost use Rattle.fts_segment.specs.Occurrences.{docs_with};
-    ghost use Rattle.fts_segment.specs.Indexes.{IsIndexOf};
-    ghost use Rattle.fts_segment.specs.Positions.{runs_with};
-    ghost use Rattle.fts_segment.specs.Runs.{IsRun};
-    ghost use Rattle.fts_segment.specs.TermRuns.{term_runs};
+    ghost use Rattle.fts_segment.specs.Dictionaries.{IsDictionaryOf};
+    ghost use Rattle.fts_segment.specs.Positions.{position_lists_with};
+    ghost use Rattle.fts_segment.specs.PositionLists.{IsPositionList};
+    ghost use Rattle.fts_segment.specs.TermPositionLists.{term_position_lists};
 
     /// No occurrence.
     pub(crate) fn new(alloc: Global) -> TermLog
@@ -60,7 +60,7 @@ impl TermLog {
             ≡ self.old ++ record { term = term.now; doc = doc; position = position } ∷ []) }
     {
         let term = self.terms.number(term)?;
-        self.log.push(Entry {
+        self.log.push(Occurrence {
             term,
             doc,
             position,
@@ -68,18 +68,19 @@ impl TermLog {
         Ok(())
     }
 
-    /// The terms that occur, in order, each with the list of its documents.
-    pub(crate) fn index(&self, alloc: Global) -> Result<TermIndex, AllocError>
+    /// The terms that occur, in order, each with the list of its documents and its positions in them.
+    pub(crate) fn dictionary(&self, alloc: Global) -> Result<Dictionary, AllocError>
         requires rise { (q : List ℕ) → IsStrictlyIncreasing (docs_with q self.now) }
-        requires runs { (q : List ℕ) → All IsRun (runs_with q self.now) }
+        requires positions { (q : List ℕ) → All IsPositionList (position_lists_with q self.now) }
         ensures { IfOk result
-            (λ index. IsIndexOf self.now index.names index.lists.items (term_runs index.positions)) }
+            (λ dictionary. IsDictionaryOf self.now dictionary.names dictionary.lists.items
+            (term_position_lists dictionary.positions)) }
     {
         let names = self.terms.names();
         let order = sorted(alloc, names)?;
-        let groups = Groups::new(alloc, &self.log, names.len())?;
-        let listing = list_terms(alloc, &order, &groups)?;
-        let index = listing.index(alloc)?;
-        Ok(index)
+        let groups = TermGroups::new(alloc, &self.log, names.len())?;
+        let writer = write_terms(alloc, &order, &groups)?;
+        let dictionary = writer.finish(alloc)?;
+        Ok(dictionary)
     }
 }

@@ -1,152 +1,163 @@
-// The positions of terms: for each a run of positions for each of its postings.
+// The positions of terms: for each a list of positions for each of its postings.
 ghost use Rattle.std.specs.Prelude.{◌≡◌, ◌≢◌, ◌<◌, ◌==◌, ◌++◌, ◌∷◌, [], All, cond, length, IfOk, OnOk, slice_index_or};
-ghost use Rattle.fts_segment.specs.Positions.{runs_of};
-ghost use Rattle.fts_segment.specs.Runs.{IsRun};
-ghost use Rattle.fts_segment.specs.RunLogs.{IsRunLog, logged_runs};
+ghost use Rattle.fts_segment.specs.Positions.{position_lists_of};
+ghost use Rattle.fts_segment.specs.PositionLists.{IsPositionList};
+ghost use Rattle.fts_segment.specs.PositionListLogs.{IsPositionListLog, logged_position_lists};
 
-use crate::grouping::Place;
 use crate::pieces::start_of;
+use crate::position_lists::{Bounds, PositionListLog, PositionLists};
 use crate::positions::Positions;
-use crate::runs::{Bounds, RunLog, Runs};
+use crate::term_groups::Place;
 use std::alloc::{AllocError, Global};
 
 /// The positions of terms.
 #[derive(Drop)]
 pub(crate) struct TermPositions {
-    pub(crate) runs: Runs,
-    /// Where the runs of each term end.
+    pub(crate) lists: PositionLists,
+    /// Where the lists of each term end.
     pub(crate) ends: Vec<usize>,
 }
 
 /// The positions of a term's postings, among those of others.
 #[derive(Clone, Copy)]
-pub(crate) struct TermRuns<'a> {
-    pub(crate) runs: &'a Runs,
+pub(crate) struct TermPositionLists<'a> {
+    pub(crate) lists: &'a PositionLists,
     pub(crate) start: usize,
     pub(crate) end: usize,
 }
 
 impl TermPositions {
     ghost use Rattle.std.specs.Prelude.{◌≡◌, ◌<◌, [], IfOk, length, slice_index_or};
-    ghost use Rattle.fts_segment.specs.TermRuns.{term_runs, runs_in};
-    ghost use Rattle.fts_segment.specs.PositionLogs.{IsPositionLog, logged_term_runs};
+    ghost use Rattle.fts_segment.specs.TermPositionLists.{term_position_lists, position_lists_in};
+    ghost use Rattle.fts_segment.specs.PositionLogs.{IsPositionLog, logged_term_position_lists};
 
     /// Packs the positions of a log.
     pub(crate) fn build(alloc: Global, log: PositionLog) -> Result<TermPositions, AllocError>
         requires { IsPositionLog log }
-        ensures { IfOk result (λ positions. term_runs positions ≡ logged_term_runs log) }
+        ensures { IfOk result (λ positions. term_position_lists positions ≡ logged_term_position_lists log) }
     {
-        let runs = Runs::build(alloc, log.runs)?;
+        let lists = PositionLists::build(alloc, log.lists)?;
         Ok(TermPositions {
-            runs,
+            lists,
             ends: log.ends,
         })
     }
 
     /// The positions of the term of this number.
-    pub(crate) fn get(&self, number: usize) -> TermRuns<'_>
-        requires { number < length (term_runs self.now) }
-        ensures { runs_in result ≡ slice_index_or (term_runs self.now) number [] }
+    pub(crate) fn get(&self, number: usize) -> TermPositionLists<'_>
+        requires { number < length (term_position_lists self.now) }
+        ensures { position_lists_in result ≡ slice_index_or (term_position_lists self.now) number [] }
     {
-        TermRuns {
-            runs: &self.runs,
+        TermPositionLists {
+            lists: &self.lists,
             start: start_of(&self.ends, number),
             end: self.ends[number],
         }
     }
 }
 
-impl<'a> TermRuns<'a> {
+impl<'a> TermPositionLists<'a> {
     ghost use Rattle.std.specs.Prelude.{◌≡◌, [], slice_index_or};
-    ghost use Rattle.fts_segment.specs.RunBounds.{AreBounds};
-    ghost use Rattle.fts_segment.specs.TermRuns.{runs_in};
+    ghost use Rattle.fts_segment.specs.PositionListBounds.{AreBounds};
+    ghost use Rattle.fts_segment.specs.TermPositionLists.{position_lists_in};
     ghost use Rattle.fts_segment.specs.PositionsLeft.{positions_left};
 
     /// The positions in the document of a posting, and none where there is no such posting.
     pub(crate) fn get(self, posting: usize, bounds: &mut Bounds) -> Positions<'a>
-        requires bounds { AreBounds self.runs.now bounds.old }
-        ensures bounds { AreBounds self.entry.runs.now bounds.new }
-        ensures positions { positions_left result ≡ slice_index_or (runs_in self.entry) posting [] }
+        requires bounds { AreBounds self.lists.now bounds.old }
+        ensures bounds { AreBounds self.entry.lists.now bounds.new }
+        ensures positions { positions_left result ≡ slice_index_or (position_lists_in self.entry) posting [] }
     {
         if posting >= self.end.saturating_sub(self.start) {
             return Positions::none();
         }
-        self.runs.get(self.start + posting, bounds)
+        self.lists.get(self.start + posting, bounds)
     }
 }
 
 /// The positions of terms as they come, as they are to be packed.
 #[derive(Drop)]
 pub(crate) struct PositionLog {
-    pub(crate) runs: RunLog,
+    pub(crate) lists: PositionListLog,
     pub(crate) ends: Vec<usize>,
 }
 
 impl PositionLog {
     ghost use Rattle.std.specs.Prelude.{◌≡◌, ◌++◌, ◌∷◌, [], All, OnOk};
-    ghost use Rattle.fts_segment.specs.Positions.{runs_of};
-    ghost use Rattle.fts_segment.specs.Runs.{IsRun};
-    ghost use Rattle.fts_segment.specs.PositionLogs.{IsPositionLog, logged_term_runs};
+    ghost use Rattle.fts_segment.specs.Positions.{position_lists_of};
+    ghost use Rattle.fts_segment.specs.PositionLists.{IsPositionList};
+    ghost use Rattle.fts_segment.specs.PositionLogs.{IsPositionLog, logged_term_position_lists};
 
     /// Of no term.
     pub(crate) fn new(alloc: Global) -> PositionLog
         ensures is { IsPositionLog result }
-        ensures none { logged_term_runs result ≡ [] }
+        ensures none { logged_term_position_lists result ≡ [] }
     {
         PositionLog {
-            runs: RunLog::new(alloc),
+            lists: PositionListLog::new(alloc),
             ends: Vec::new(alloc),
         }
     }
 
-    /// Puts the positions of a term behind those of the others. `run` is room for those of a posting.
-    pub(crate) fn push(&mut self, run: &mut Vec<u32>, places: &[Place]) -> Result<(), AllocError>
+    /// Puts the positions of a term behind those of the others. `list` is room for those of a posting.
+    pub(crate) fn push(&mut self, list: &mut Vec<u32>, places: &[Place]) -> Result<(), AllocError>
         requires is { IsPositionLog self.old }
-        requires runs { All IsRun (runs_of places.now) }
+        requires positions { All IsPositionList (position_lists_of places.now) }
         ensures is { OnOk result (IsPositionLog self.new) }
-        ensures pushed { OnOk result (logged_term_runs self.new
-            ≡ logged_term_runs self.old ++ runs_of places.now ∷ []) }
+        ensures pushed { OnOk result (logged_term_position_lists self.new
+            ≡ logged_term_position_lists self.old ++ position_lists_of places.now ∷ []) }
     {
-        push_runs(&mut self.runs, run, places)?;
-        self.ends.push(self.runs.len())?;
+        push_position_lists(&mut self.lists, list, places)?;
+        self.ends.push(self.lists.len())?;
         Ok(())
     }
 }
 
-// Puts a place behind those of a run of the document `doc`. Where it is of another, the run is put behind the others.
-fn next_run(runs: &mut RunLog, run: &mut Vec<u32>, doc: u32, place: Place) -> Result<(), AllocError>
-    requires is { IsRunLog runs.old }
-    requires run { place.doc ≢ doc → IsRun run.old.items }
-    ensures is { OnOk result (IsRunLog runs.new) }
-    ensures runs { OnOk result (logged_runs runs.new
-        ≡ logged_runs runs.old ++ cond (place.doc == doc) [] (run.old.items ∷ [])) }
-    ensures run { OnOk result (run.new.items
-        ≡ cond (place.doc == doc) run.old.items [] ++ place.position ∷ []) }
+// Puts the position of a place behind those of the document `doc`, which `list` has. Where the place is of another
+// document, the list is put behind the others first.
+fn push_place(
+    lists: &mut PositionListLog,
+    list: &mut Vec<u32>,
+    doc: u32,
+    place: Place,
+) -> Result<(), AllocError>
+    requires is { IsPositionListLog lists.old }
+    requires list { place.doc ≢ doc → IsPositionList list.old.items }
+    ensures is { OnOk result (IsPositionListLog lists.new) }
+    ensures positions { OnOk result (logged_position_lists lists.new
+        ≡ logged_position_lists lists.old ++ cond (place.doc == doc) [] (list.old.items ∷ [])) }
+    ensures list { OnOk result (list.new.items
+        ≡ cond (place.doc == doc) list.old.items [] ++ place.position ∷ []) }
 {
     if place.doc != doc {
-        runs.push(run)?;
-        run.clear();
+        lists.push(list)?;
+        list.clear();
     }
-    run.push(place.position)?;
+    list.push(place.position)?;
     Ok(())
 }
 
-// Puts the positions of places behind the runs so far, a run for each document.
-fn push_runs(runs: &mut RunLog, run: &mut Vec<u32>, places: &[Place]) -> Result<(), AllocError>
-    requires is { IsRunLog runs.old }
-    requires runs { All IsRun (runs_of places.now) }
-    ensures is { OnOk result (IsRunLog runs.new) }
-    ensures runs { OnOk result (logged_runs runs.new ≡ logged_runs runs.old ++ runs_of places.now) }
+// Puts the positions of places behind the lists so far, a list for each document.
+fn push_position_lists(
+    lists: &mut PositionListLog,
+    list: &mut Vec<u32>,
+    places: &[Place],
+) -> Result<(), AllocError>
+    requires is { IsPositionListLog lists.old }
+    requires positions { All IsPositionList (position_lists_of places.now) }
+    ensures is { OnOk result (IsPositionListLog lists.new) }
+    ensures positions { OnOk result (logged_position_lists lists.new
+        ≡ logged_position_lists lists.old ++ position_lists_of places.now) }
 {
     let [first, rest @ ..] = places else {
         return Ok(());
     };
     let mut doc = first.doc;
-    run.clear();
-    run.push(first.position)?;
+    list.clear();
+    list.push(first.position)?;
     for place in rest {
-        next_run(runs, run, doc, *place)?;
+        push_place(lists, list, doc, *place)?;
         doc = place.doc;
     }
-    runs.push(run)
+    lists.push(list)
 }

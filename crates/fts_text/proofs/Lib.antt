@@ -1,6 +1,6 @@
 pub mod CharacterLemmas
 pub mod FoldLemmas
 pub mod PlaceLemmas
-pub mod RunLemmas
 pub mod SpanLemmas
+pub mod FrontLemmas
 pub mod StretchLemmas

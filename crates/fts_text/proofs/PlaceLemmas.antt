@@ -3,56 +3,56 @@ use Rattle.std.proofs.Common.{◌≡◌, ◌<◌, ◌≤◌, ◌-◌, ◌+◌, �
 use Rattle.std.proofs.lemmas.Bool.Decides.{nat_tests}
 use Rattle.fts_text.specs.declared.tokenizer.Token.{Token}
 use Rattle.fts_text.specs.declared.tokenizer.Tokens.{Tokens}
-use Rattle.fts_text.specs.Tokens.{Run, kept, byte_len}
-use Rattle.fts_text.specs.Places.{place_of, places_left, runs_left, YieldsRun}
+use Rattle.fts_text.specs.Tokens.{Span, kept, byte_len}
+use Rattle.fts_text.specs.Places.{place_of, places_left, spans_left, YieldsSpan}
 
--- a run is short enough for a token
-abbrev is_kept : ℕ × Run → Bool
+-- a span is short enough for a token
+abbrev is_kept : ℕ × Span → Bool
 is_kept r = nat_lt (byte_len r.1) 40
 
--- the kept runs, by whether the first is one
-kept-cons : (n : ℕ) (run : Run) (rs : List Run) → kept n (run ∷ rs) ≡ cond (is_kept (n, run)) ((n, run) ∷ kept (n + 1) rs) (kept (n + 1) rs)
+-- the kept spans, by whether the first is one
+kept-cons : (n : ℕ) (span : Span) (rs : List Span) → kept n (span ∷ rs) ≡ cond (is_kept (n, span)) ((n, span) ∷ kept (n + 1) rs) (kept (n + 1) rs)
 unfolding kept
-kept-cons n run rs = refl
+kept-cons n span rs = refl
 
--- the places of runs with one in front that is kept or not
-map-cond : (b : Bool) (r : ℕ × Run) (rs : List (ℕ × Run)) → map place_of (cond b (r ∷ rs) rs) ≡ cond b (place_of r ∷ map place_of rs) (map place_of rs)
+-- the places of spans with one in front that is kept or not
+map-cond : (b : Bool) (r : ℕ × Span) (rs : List (ℕ × Span)) → map place_of (cond b (r ∷ rs) rs) ≡ cond b (place_of r ∷ map place_of rs) (map place_of rs)
 map-cond true r rs = refl
 map-cond false r rs = refl
 
--- one more run, as the test has it
-places_left-cons : (s t : Tokens) (token : Token) (b : Bool) (h : YieldsRun s (Some token) t) → is_kept (s.next_position, h.0) ≡ b → places_left s ≡ cond b (token ∷ places_left t) (places_left t)
+-- one more span, as the test has it
+places_left-cons : (s t : Tokens) (token : Token) (b : Bool) (h : YieldsSpan s (Some token) t) → is_kept (s.next_position, h.0) ≡ b → places_left s ≡ cond b (token ∷ places_left t) (places_left t)
 unfolding places_left
 places_left-cons s t token b h test =
     ap (λ rs. map place_of (kept s.next_position rs)) h.1
-    ∙ ap (map place_of) (kept-cons s.next_position h.0 (runs_left t))
-    ∙ map-cond (is_kept (s.next_position, h.0)) (s.next_position, h.0) (kept (s.next_position + 1) (runs_left t))
-    ∙ ap (λ c. cond c (place_of (s.next_position, h.0) ∷ map place_of (kept (s.next_position + 1) (runs_left t))) (map place_of (kept (s.next_position + 1) (runs_left t)))) test
-    ∙ ap (λ u. cond b (u ∷ map place_of (kept (s.next_position + 1) (runs_left t))) (map place_of (kept (s.next_position + 1) (runs_left t)))) (sym h.2)
-    ∙ ap (λ n. cond b (token ∷ map place_of (kept n (runs_left t))) (map place_of (kept n (runs_left t)))) (sym h.3)
+    ∙ ap (map place_of) (kept-cons s.next_position h.0 (spans_left t))
+    ∙ map-cond (is_kept (s.next_position, h.0)) (s.next_position, h.0) (kept (s.next_position + 1) (spans_left t))
+    ∙ ap (λ c. cond c (place_of (s.next_position, h.0) ∷ map place_of (kept (s.next_position + 1) (spans_left t))) (map place_of (kept (s.next_position + 1) (spans_left t)))) test
+    ∙ ap (λ u. cond b (u ∷ map place_of (kept (s.next_position + 1) (spans_left t))) (map place_of (kept (s.next_position + 1) (spans_left t)))) (sym h.2)
+    ∙ ap (λ n. cond b (token ∷ map place_of (kept n (spans_left t))) (map place_of (kept n (spans_left t)))) (sym h.3)
 
--- a place is as long as its run
-byte_len-of_place : (n : ℕ) (run : Run) (token : Token) → token ≡ place_of (n, run) → token.end - token.start ≡ byte_len run
-byte_len-of_place n run token e =
+-- a place is as long as its span
+byte_len-of_place : (n : ℕ) (span : Span) (token : Token) → token ≡ place_of (n, span) → token.end - token.start ≡ byte_len span
+byte_len-of_place n span token e =
     let starts = ap (λ u. u.start) e in
     let ends = ap (λ u. u.end) e in
     omega arith
 
--- a run that is short enough is the next place
-pub places_left-kept : (s t : Tokens) (token : Token) → YieldsRun s (Some token) t → token.end - token.start < 40 → places_left s ≡ token ∷ places_left t
+-- a span that is short enough is the next place
+pub places_left-kept : (s t : Tokens) (token : Token) → YieldsSpan s (Some token) t → token.end - token.start < 40 → places_left s ≡ token ∷ places_left t
 places_left-kept s t token h short =
     let bytes = byte_len-of_place s.next_position h.0 token h.2 in
     let test : is_kept (s.next_position, h.0) ≡ true = grind (arith, nat_tests) in
     places_left-cons s t token true h test
 
 -- one that is too long is passed over
-pub places_left-dropped : (s t : Tokens) (token : Token) → YieldsRun s (Some token) t → 40 ≤ token.end - token.start → places_left s ≡ places_left t
+pub places_left-dropped : (s t : Tokens) (token : Token) → YieldsSpan s (Some token) t → 40 ≤ token.end - token.start → places_left s ≡ places_left t
 places_left-dropped s t token h long =
     let bytes = byte_len-of_place s.next_position h.0 token h.2 in
     let test : is_kept (s.next_position, h.0) ≡ false = grind (arith, nat_tests) in
     places_left-cons s t token false h test
 
--- where no run is left, no place is
-pub places_left-none : (s : Tokens) → runs_left s ≡ [] → places_left s ≡ []
+-- where no span is left, no place is
+pub places_left-none : (s : Tokens) → spans_left s ≡ [] → places_left s ≡ []
 unfolding places_left kept
 places_left-none s h = ap (λ rs. map place_of (kept s.next_position rs)) h

@@ -1,118 +1,157 @@
--- How far the characters of one class go.
-use Rattle.std.proofs.Common.{◌≡◌, ◌≤◌, ℕ, ◌+◌, Bool, true, false, not, cond, List, [], ◌∷◌, ◌++◌, length, drop, refl, sym, ap, subst, ◌∙◌, arith, length-append}
-use Rattle.std.proofs.Math.Seq.{drop-append-add}
-use Rattle.std.proofs.lemmas.Bool.{and_parts}
-use Rattle.std.proofs.lemmas.Str.{chars-nil, chars-encodes, chars_past_char, encodes-chars, scalars-chars, length-encode, IsCharBoundary-from_drop}
-use lib.Utf8.{encodes, scalar, scalars}
+-- The spans of a text, one after another.
+use Rattle.std.proofs.Common.{◌≡◌, ◌<◌, ℕ, ◌+◌, Bool, true, false, not, cond, nat_lt, List, [], ◌∷◌, length, drop, filter, refl, sym, ap, ◌∙◌, arith, add-zero, add_assoc}
 use Rattle.std.specs.Bool.{beq}
-use Rattle.std.specs.Char.{encode_utf8, len_utf8}
-use Rattle.std.specs.Str.{chars, IsUtf8, IsCharBoundary}
-use Rattle.fts_text.specs.Characters.{is_alphanumeric, span_len}
+use Rattle.std.specs.Char.{len_utf8}
+use Rattle.std.specs.List.{slice_split, onto_first}
+use Rattle.std.specs.Str.{encode_utf8_all, chars, IsUtf8}
+use Rattle.std.proofs.lemmas.Bool.Decides.{nat_tests}
+use Rattle.std.proofs.lemmas.Str.{len_utf8_bounds}
+use Rattle.fts_text.specs.Characters.{is_alphanumeric, front_len}
+use Rattle.fts_text.specs.Tokens.{Span, char_indices, chars_of, byte_len, spans}
+use Rattle.fts_text.specs.Places.{start_of, place_of}
+use Rattle.fts_text.specs.declared.tokenizer.Token.{Token}
+use Rattle.fts_text.proofs.FrontLemmas.{front, after, length-front, chars-drop-front_len}
 
--- what isn't not so is so
-true_from_not : (b : Bool) → not b ≡ false → b ≡ true
-true_from_not true h = refl
-true_from_not false h = cc
+-- the test at which a text is cut
+abbrev pub separates : ℕ × ℕ → Bool
+separates p = not (is_alphanumeric p.1)
 
--- what is not so isn't
-false_from_not : (b : Bool) → not b ≡ true → b ≡ false
-false_from_not true h = cc
-false_from_not false h = refl
+-- a span has a character
+abbrev pub is_nonempty : Span → Bool
+is_nonempty span = nat_lt 0 (length span)
 
--- no characters are left
-pub span_len-empty : (a : Bool) (bs : List ℕ) → length bs ≡ 0 → span_len a (chars bs) ≡ 0
-span_len-empty a [] h = ap (span_len a) chars-nil
-span_len-empty a (b ∷ bs) h = absurd (omega arith)
+-- the parts between separators, empty ones too
+abbrev pub parts : ℕ → List ℕ → List Span
+parts at cs = slice_split separates (char_indices at cs)
 
--- the next character is of the class
-pub span_len-more : (a : Bool) (bs rest : List ℕ) (c : ℕ) → IsUtf8 bs → bs ≡ encode_utf8 c ++ rest → not (beq (is_alphanumeric c) a) ≡ false → span_len a (chars bs) ≡ len_utf8 c + span_len a (chars rest)
-span_len-more a bs rest c text begins same =
-    ap (span_len a) (chars_past_char bs rest c text begins)
-    ∙ ap (λ b. cond b (len_utf8 c + span_len a (chars rest)) 0) (true_from_not (beq (is_alphanumeric c) a) same)
+-- the characters of indexed characters
+pub chars_of-char_indices : (at : ℕ) (cs : List ℕ) → chars_of (char_indices at cs) ≡ cs
+chars_of-char_indices at [] = refl
+chars_of-char_indices at (c ∷ cs) = ap (λ l. c ∷ l) (chars_of-char_indices (at + len_utf8 c) cs)
 
--- the next character is not
-pub span_len-stop : (a : Bool) (bs rest : List ℕ) (c : ℕ) → IsUtf8 bs → bs ≡ encode_utf8 c ++ rest → not (beq (is_alphanumeric c) a) ≡ true → span_len a (chars bs) ≡ 0
-span_len-stop a bs rest c text begins other =
-    ap (span_len a) (chars_past_char bs rest c text begins)
-    ∙ ap (λ b. cond b (len_utf8 c + span_len a (chars rest)) 0) (false_from_not (beq (is_alphanumeric c) a) other)
+-- no characters have no span
+pub spans-nil : (at : ℕ) → spans at [] ≡ []
+unfolding spans
+spans-nil at = refl
 
--- the characters at the front of the class, and those after them
-abbrev pub front : Bool → List ℕ → List ℕ
-front a [] = []
-front a (c ∷ cs) = cond (beq (is_alphanumeric c) a) (c ∷ front a cs) []
+-- the spans of a text that begins with a character that is not alphanumeric, or that is
+spans-gap-at : (at c : ℕ) (cs : List ℕ) (b : Bool) → is_alphanumeric c ≡ b
+    → spans (at + len_utf8 c) cs ≡ spans (at + len_utf8 c + front_len false cs) (after false cs)
+    → spans at (c ∷ cs) ≡ spans (at + cond (beq b false) (len_utf8 c + front_len false cs) 0) (cond (beq b false) (after false cs) (c ∷ cs))
+unfolding spans
+spans-gap-at at c cs true is ih = ap (λ n. spans n (c ∷ cs)) (sym (add-zero at))
+spans-gap-at at c cs false is ih =
+    ap (λ b. filter is_nonempty (cond (not b) ([] ∷ parts (at + len_utf8 c) cs) (onto_first (at, c) (parts (at + len_utf8 c) cs)))) is
+    ∙ ih
+    ∙ ap (λ n. spans n (after false cs)) (add_assoc at (len_utf8 c) (front_len false cs))
 
--- the characters behind a span
-abbrev pub after : Bool → List ℕ → List ℕ
-after a [] = []
-after a (c ∷ cs) = cond (beq (is_alphanumeric c) a) (after a cs) (c ∷ cs)
+-- a gap at the front may be left out
+pub spans-gap : (at : ℕ) (cs : List ℕ) → spans at cs ≡ spans (at + front_len false cs) (after false cs)
+spans-gap at [] = ap (λ n. spans n []) (sym (add-zero at))
+spans-gap at (c ∷ cs) = spans-gap-at at c cs (is_alphanumeric c) refl (spans-gap (at + len_utf8 c) cs)
 
--- the bytes of both
-length-front-at : (a b : Bool) (c : ℕ) (cs : List ℕ) → length (encodes (front a cs)) ≡ span_len a cs → length (encodes (cond b (c ∷ front a cs) [])) ≡ cond b (len_utf8 c + span_len a cs) 0
-length-front-at a true c cs h =
-    let both = length-append (encode_utf8 c) (encodes (front a cs)) in
-    let one = length-encode c in
-    omega arith
-length-front-at a false c cs h = refl
+-- the first part is the front, and the others have the spans of the rest
+abbrev pub BeginsWithFront : ℕ → List ℕ → Type 0
+BeginsWithFront at cs = (tail : List Span) × (parts at cs ≡ char_indices at (front true cs) ∷ tail) × (filter is_nonempty tail ≡ spans (at + front_len true cs) (after true cs))
+
+-- the parts begin with the characters before the first separator, whether the first is one or not
+parts-front-at : (at c : ℕ) (cs : List ℕ) (b : Bool) → is_alphanumeric c ≡ b → BeginsWithFront (at + len_utf8 c) cs
+    → (tail : List Span) × (parts at (c ∷ cs) ≡ char_indices at (cond (beq b true) (c ∷ front true cs) []) ∷ tail)
+    × (filter is_nonempty tail ≡ spans (at + cond (beq b true) (len_utf8 c + front_len true cs) 0) (cond (beq b true) (after true cs) (c ∷ cs)))
+unfolding spans
+parts-front-at at c cs true is ih = (
+  ih.0,
+  ap (λ b. cond (not b) ([] ∷ parts (at + len_utf8 c) cs) (onto_first (at, c) (parts (at + len_utf8 c) cs))) is ∙ ap (onto_first (at, c)) ih.1,
+  ih.2 ∙ ap (λ n. spans n (after true cs)) (add_assoc at (len_utf8 c) (front_len true cs)),
+)
+parts-front-at at c cs false is ih = (
+  parts (at + len_utf8 c) cs,
+  ap (λ b. cond (not b) ([] ∷ parts (at + len_utf8 c) cs) (onto_first (at, c) (parts (at + len_utf8 c) cs))) is,
+  sym (ap (λ b. filter is_nonempty (cond (not b) ([] ∷ parts (at + len_utf8 c) cs) (onto_first (at, c) (parts (at + len_utf8 c) cs)))) is)
+      ∙ ap (λ n. spans n (c ∷ cs)) (sym (add-zero at)),
+)
+
+-- the parts begin with the characters before the first separator
+pub parts-front : (at : ℕ) (cs : List ℕ) → BeginsWithFront at cs
+unfolding spans
+parts-front at [] = ([], refl, refl)
+parts-front at (c ∷ cs) = parts-front-at at c cs (is_alphanumeric c) refl (parts-front (at + len_utf8 c) cs)
+
+-- a part with a byte is kept
+filter-first : (at : ℕ) (ds : List ℕ) (tail : List Span) → 0 < length (encode_utf8_all ds) → filter is_nonempty (char_indices at ds ∷ tail) ≡ char_indices at ds ∷ filter is_nonempty tail
+filter-first at [] tail some = absurd (omega arith)
+filter-first at (d ∷ ds) tail some =
+    let yes : is_nonempty (char_indices at (d ∷ ds)) ≡ true = grind (arith, nat_tests) in
+    ap (λ b. cond b (char_indices at (d ∷ ds) ∷ filter is_nonempty tail) (filter is_nonempty tail)) yes
+
+-- a front that is not empty is the first span
+pub spans-front : (at : ℕ) (cs : List ℕ) → 0 < front_len true cs → spans at cs ≡ char_indices at (front true cs) ∷ spans (at + front_len true cs) (after true cs)
+unfolding spans
+spans-front at cs some =
+    let begins = parts-front at cs in
+    let long = length-front true cs in
+    ap (filter is_nonempty) begins.1
+    ∙ filter-first at (front true cs) begins.0 (omega arith)
+    ∙ ap (λ rs. char_indices at (front true cs) ∷ rs) begins.2
+
+-- after a gap there is a span, or nothing
+after-gap-at : (c : ℕ) (cs : List ℕ) (b : Bool) → is_alphanumeric c ≡ b → (front_len true (after false cs) ≡ 0 → after false cs ≡ [])
+    → front_len true (cond (beq b false) (after false cs) (c ∷ cs)) ≡ 0 → cond (beq b false) (after false cs) (c ∷ cs) ≡ []
+after-gap-at c cs true is ih none =
+    let some = ap (λ b. cond (beq b true) (len_utf8 c + front_len true cs) 0) is in
+    absurd (omega (arith, len_utf8_bounds c))
+after-gap-at c cs false is ih none = ih none
+
+-- where no span follows a gap, nothing does
+pub after-gap : (cs : List ℕ) → front_len true (after false cs) ≡ 0 → after false cs ≡ []
+after-gap [] none = refl
+after-gap (c ∷ cs) none = after-gap-at c cs (is_alphanumeric c) refl (after-gap cs) none
+
+-- what follows a front, in the bytes of a text
+chars-rest : (a : Bool) (bs rest : List ℕ) (n : ℕ) → IsUtf8 bs → n ≡ front_len a (chars bs) → rest ≡ drop n bs → chars rest ≡ after a (chars bs)
+chars-rest a bs rest n text long cut =
+    ap chars cut ∙ ap (λ k. chars (drop k bs)) long ∙ chars-drop-front_len a bs text
+
+-- past the gap at the front of a text
+spans-past_gap : (at gap : ℕ) (bs mid : List ℕ) → IsUtf8 bs → gap ≡ front_len false (chars bs) → mid ≡ drop gap bs → spans at (chars bs) ≡ spans (at + gap) (chars mid)
+spans-past_gap at gap bs mid text long cut =
+    spans-gap at (chars bs)
+    ∙ ap (λ k. spans (at + k) (after false (chars bs))) (sym long)
+    ∙ ap (spans (at + gap)) (sym (chars-rest false bs mid gap text long cut))
+
+-- the first span of a text, and those of the rest
+pub spans-step : (at gap len : ℕ) (bs mid rest : List ℕ) → IsUtf8 bs → gap ≡ front_len false (chars bs) → mid ≡ drop gap bs → IsUtf8 mid → len ≡ front_len true (chars mid) → rest ≡ drop len mid → 0 < len
+    → spans at (chars bs) ≡ char_indices (at + gap) (front true (chars mid)) ∷ spans (at + gap + len) (chars rest)
+spans-step at gap len bs mid rest text gap_is mid_is mid_text len_is rest_is some =
+    spans-past_gap at gap bs mid text gap_is mid_is
+    ∙ spans-front (at + gap) (chars mid) (omega arith)
+    ∙ ap (λ k. char_indices (at + gap) (front true (chars mid)) ∷ spans (at + gap + k) (after true (chars mid))) (sym len_is)
+    ∙ ap (λ cs. char_indices (at + gap) (front true (chars mid)) ∷ spans (at + gap + len) cs) (sym (chars-rest true mid rest len mid_text len_is rest_is))
+
+-- a text with a gap alone has no span
+pub spans-end : (at gap len : ℕ) (bs mid rest : List ℕ) → IsUtf8 bs → gap ≡ front_len false (chars bs) → mid ≡ drop gap bs → IsUtf8 mid → len ≡ front_len true (chars mid) → rest ≡ drop len mid → len ≡ 0
+    → (spans at (chars bs) ≡ []) × (spans (at + gap + len) (chars rest) ≡ [])
+spans-end at gap len bs mid rest text gap_is mid_is mid_text len_is rest_is none =
+    let mid_chars = chars-rest false bs mid gap text gap_is mid_is in
+    let empty : after false (chars bs) ≡ [] = after-gap (chars bs) (ap (front_len true) (sym mid_chars) ∙ sym len_is ∙ none) in
+    let mid_empty : chars mid ≡ [] = mid_chars ∙ empty in (
+      spans-past_gap at gap bs mid text gap_is mid_is ∙ ap (spans (at + gap)) mid_empty ∙ spans-nil (at + gap),
+      ap (spans (at + gap + len)) (chars-rest true mid rest len mid_text len_is rest_is ∙ ap (after true) mid_empty) ∙ spans-nil (at + gap + len),
+    )
+
+-- a span begins where its characters are counted from
+pub start_of-char_indices : (at : ℕ) (ds : List ℕ) → 0 < length (encode_utf8_all ds) → start_of (char_indices at ds) ≡ at
+start_of-char_indices at [] some = absurd (omega arith)
+start_of-char_indices at (d ∷ ds) some = refl
 
 -- a span is as long as its characters
-pub length-front : (a : Bool) (cs : List ℕ) → length (encodes (front a cs)) ≡ span_len a cs
-length-front a [] = refl
-length-front a (c ∷ cs) = length-front-at a (beq (is_alphanumeric c) a) c cs (length-front a cs)
+pub byte_len-char_indices : (at : ℕ) (ds : List ℕ) → byte_len (char_indices at ds) ≡ length (encode_utf8_all ds)
+byte_len-char_indices at ds = ap (λ l. length (encode_utf8_all l)) (chars_of-char_indices at ds)
 
--- what is behind a span's bytes is behind its characters, whether the first is of it or not
-drop-span-at : (a b : Bool) (c : ℕ) (cs : List ℕ) → drop (span_len a cs) (encodes cs) ≡ encodes (after a cs) → drop (cond b (len_utf8 c + span_len a cs) 0) (encodes (c ∷ cs)) ≡ encodes (cond b (after a cs) (c ∷ cs))
-drop-span-at a true c cs h =
-    ap (λ n. drop (n + span_len a cs) (encodes (c ∷ cs))) (sym (length-encode c))
-    ∙ drop-append-add (encode_utf8 c) (encodes cs) (span_len a cs)
-    ∙ h
-drop-span-at a false c cs h = refl
-
--- what is behind a span's bytes is behind its characters
-drop-span : (a : Bool) (cs : List ℕ) → drop (span_len a cs) (encodes cs) ≡ encodes (after a cs)
-drop-span a [] = refl
-drop-span a (c ∷ cs) = drop-span-at a (beq (is_alphanumeric c) a) c cs (drop-span a cs)
-
--- characters behind a span are characters, whether the first is of it or not
-scalars-after-at : (a b : Bool) (c : ℕ) (cs : List ℕ) → scalars (c ∷ cs) ≡ true → (scalars cs ≡ true → scalars (after a cs) ≡ true) → scalars (cond b (after a cs) (c ∷ cs)) ≡ true
-scalars-after-at a true c cs all h = h (and_parts (scalar c) (scalars cs) all).1
-scalars-after-at a false c cs all h = all
-
--- characters behind a span are characters
-scalars-after : (a : Bool) (cs : List ℕ) → scalars cs ≡ true → scalars (after a cs) ≡ true
-scalars-after a [] all = all
-scalars-after a (c ∷ cs) all = scalars-after-at a (beq (is_alphanumeric c) a) c cs all (scalars-after a cs)
-
--- a span is no longer than the text, whether the first character is of it or not
-span_len-le-at : (a b : Bool) (c : ℕ) (cs : List ℕ) → span_len a cs ≤ length (encodes cs) → cond b (len_utf8 c + span_len a cs) 0 ≤ length (encodes (c ∷ cs))
-span_len-le-at a true c cs h =
-    let both = length-append (encode_utf8 c) (encodes cs) in
-    let one = length-encode c in
-    omega arith
-span_len-le-at a false c cs h = omega arith
-
--- a span is no longer than the characters
-span_len-le-encodes : (a : Bool) (cs : List ℕ) → span_len a cs ≤ length (encodes cs)
-span_len-le-encodes a [] = omega arith
-span_len-le-encodes a (c ∷ cs) = span_len-le-at a (beq (is_alphanumeric c) a) c cs (span_len-le-encodes a cs)
-
--- in a text: where the front ends, and what comes then
-pub span_len-le : (a : Bool) (bs : List ℕ) → IsUtf8 bs → span_len a (chars bs) ≤ length bs
-span_len-le a bs text =
-    let P : List ℕ → Type 0 = λ l. span_len a (chars bs) ≤ length l in
-    subst P (encodes-chars bs text) (span_len-le-encodes a (chars bs))
-
--- what is behind a span's bytes in a text
-drop-span_len : (a : Bool) (bs : List ℕ) → IsUtf8 bs → drop (span_len a (chars bs)) bs ≡ encodes (after a (chars bs))
-drop-span_len a bs text =
-    ap (drop (span_len a (chars bs))) (sym (encodes-chars bs text)) ∙ drop-span a (chars bs)
-
--- the characters of what is behind a span's bytes
-pub chars-drop-span_len : (a : Bool) (bs : List ℕ) → IsUtf8 bs → chars (drop (span_len a (chars bs)) bs) ≡ after a (chars bs)
-chars-drop-span_len a bs text =
-    ap chars (drop-span_len a bs text) ∙ chars-encodes (after a (chars bs)) (scalars-after a (chars bs) (scalars-chars bs text))
-
--- a span ends between characters
-pub IsCharBoundary-span_len : (a : Bool) (bs : List ℕ) → IsUtf8 bs → IsCharBoundary bs (span_len a (chars bs))
-IsCharBoundary-span_len a bs text =
-    let rest : IsUtf8 (drop (span_len a (chars bs)) bs) = (after a (chars bs), (scalars-after a (chars bs) (scalars-chars bs text), sym (drop-span_len a bs text))) in
-    IsCharBoundary-from_drop bs (span_len a (chars bs)) (span_len-le a bs text) rest
+-- the place of a front
+pub place_of-front : (n at len : ℕ) (cs : List ℕ) → len ≡ front_len true cs → 0 < len → (let token : Token = record { position = n; start = at; end = at + len } in token) ≡ place_of (n, char_indices at (front true cs))
+place_of-front n at len cs long some =
+    let bytes = byte_len-char_indices at (front true cs) ∙ length-front true cs in
+    let starts : at ≡ start_of (char_indices at (front true cs)) = sym (start_of-char_indices at (front true cs) (omega (arith, length-front true cs))) in
+    let ends : at + len ≡ start_of (char_indices at (front true cs)) + byte_len (char_indices at (front true cs)) = omega arith in
+    λ i. record { position = n; start = starts i; end = ends i }

@@ -1,4 +1,4 @@
--- Each run stands in its text.
+-- Each span stands in its text.
 use Rattle.std.proofs.Common.{◌≡◌, ◌<◌, ◌≤◌, ◌-◌, ℕ, zero, suc, ◌+◌, Bool, true, false, cond, ◌&&◌, List, [], ◌∷◌, ◌++◌, length, take, drop, map, filter, refl, sym, ap, subst, ◌∙◌, arith, inl, inr, not, nat_lt, length-append, append_assoc}
 use Rattle.std.proofs.Math.Seq.{take-append_seam, drop-append_seam}
 use Rattle.std.proofs.lemmas.Bool.{and_parts, cases_lt}
@@ -11,30 +11,30 @@ use Rattle.std.specs.Char.{len_utf8}
 use Rattle.std.specs.List.{All, AllByRecursion, enumerate_from, slice_range, onto_first}
 use Rattle.std.specs.Str.{chars, IsUtf8, IsCharBoundary}
 use lib.Utf8.{encodes, scalar, scalars}
-use Rattle.fts_text.specs.Characters.{is_alphanumeric, span_len, fold_chars, folded}
-use Rattle.fts_text.specs.Tokens.{Run, char_indices, chars_of, byte_len, runs, kept, tokens}
+use Rattle.fts_text.specs.Characters.{is_alphanumeric, front_len, fold_chars, folded}
+use Rattle.fts_text.specs.Tokens.{Span, char_indices, chars_of, byte_len, spans, kept, tokens}
 use Rattle.fts_text.specs.Places.{start_of, place_of, places, IsPlaceIn, token_at}
 use Rattle.fts_text.specs.declared.tokenizer.Token.{Token}
-use Rattle.fts_text.proofs.SpanLemmas.{front, after, length-front}
-use Rattle.fts_text.proofs.RunLemmas.{is_nonempty, parts, chars_of-char_indices, byte_len-char_indices, start_of-char_indices, runs-gap, runs-front, runs-nil, after-gap}
+use Rattle.fts_text.proofs.FrontLemmas.{front, after, length-front}
+use Rattle.fts_text.proofs.SpanLemmas.{is_nonempty, parts, chars_of-char_indices, byte_len-char_indices, start_of-char_indices, spans-gap, spans-front, spans-nil, after-gap}
 
 -- the characters are those of the front and those after it
 front-after-at : (a b : Bool) (c : ℕ) (cs : List ℕ) → cs ≡ front a cs ++ after a cs → c ∷ cs ≡ cond b (c ∷ front a cs) [] ++ cond b (after a cs) (c ∷ cs)
 front-after-at a true c cs h = ap (λ l. c ∷ l) h
 front-after-at a false c cs h = refl
 
--- characters are a span and what is behind it
+-- characters are a front and what is behind it
 front-after : (a : Bool) (cs : List ℕ) → cs ≡ front a cs ++ after a cs
 front-after a [] = refl
 front-after a (c ∷ cs) = front-after-at a (beq (is_alphanumeric c) a) c cs (front-after a cs)
 
--- a numbered run is the characters `here`, which come after `before`
-pub record Stands (n at : ℕ) (cs : List ℕ) (r : ℕ × Run) : Type 0 where
+-- a numbered span is the characters `here`, which come after `before`
+pub record Stands (n at : ℕ) (cs : List ℕ) (r : ℕ × Span) : Type 0 where
   pub before : List ℕ
   pub here : List ℕ
   pub behind : List ℕ
   pub whole : cs ≡ before ++ (here ++ behind)
-  pub run : r.1 ≡ char_indices (at + length (encodes before)) here
+  pub span : r.1 ≡ char_indices (at + length (encodes before)) here
   pub some : 0 < length (encodes here)
   pub numbered : r.0 ≤ n + length (encodes before)
 
@@ -42,8 +42,8 @@ pub record Stands (n at : ℕ) (cs : List ℕ) (r : ℕ × Run) : Type 0 where
 length-encodes-append : (xs ys : List ℕ) → length (encodes (xs ++ ys)) ≡ length (encodes xs) + length (encodes ys)
 length-encodes-append xs ys = ap length (encodes-append xs ys) ∙ length-append (encodes xs) (encodes ys)
 
--- a run of what follows others stands in the whole
-Stands-later : (n at : ℕ) (cs xs rest : List ℕ) (r : ℕ × Run) → cs ≡ xs ++ rest → 0 < length (encodes xs) → Stands (n + 1) (at + length (encodes xs)) rest r → Stands n at cs r
+-- a span of what follows others stands in the whole
+Stands-later : (n at : ℕ) (cs xs rest : List ℕ) (r : ℕ × Span) → cs ≡ xs ++ rest → 0 < length (encodes xs) → Stands (n + 1) (at + length (encodes xs)) rest r → Stands n at cs r
 Stands-later n at cs xs rest r whole some s =
     let bytes = length-encodes-append xs s.before in
     let place : at + length (encodes xs) + length (encodes s.before) ≡ at + length (encodes (xs ++ s.before)) = omega arith in
@@ -52,7 +52,7 @@ Stands-later n at cs xs rest r whole some s =
       here = s.here;
       behind = s.behind;
       whole = whole ∙ ap (λ l. xs ++ l) s.whole ∙ sym (append_assoc xs s.before (s.here ++ s.behind));
-      run = s.run ∙ ap (λ k. char_indices k s.here) place;
+      span = s.span ∙ ap (λ k. char_indices k s.here) place;
       some = s.some;
       numbered = omega (arith, s.numbered);
     }
@@ -67,12 +67,12 @@ length-some : (xs : List ℕ) → 0 < length (encodes xs) → 0 < length xs
 length-some [] some = absurd (omega arith)
 length-some (x ∷ xs) some = omega arith
 
--- each run stands in the characters, for characters that are at most `fuel` many
-Stands-all : (fuel n at : ℕ) (cs : List ℕ) → length cs ≤ fuel → AllByRecursion (Stands n at cs) (enumerate_from n (runs at cs))
-Stands-all zero n at [] few = let P : List Run → Type 0 = λ rs. AllByRecursion (Stands n at []) (enumerate_from n rs) in subst P (sym (runs-nil at)) tt
+-- each span stands in the characters, for characters that are at most `fuel` many
+Stands-all : (fuel n at : ℕ) (cs : List ℕ) → length cs ≤ fuel → AllByRecursion (Stands n at cs) (enumerate_from n (spans at cs))
+Stands-all zero n at [] few = let P : List Span → Type 0 = λ rs. AllByRecursion (Stands n at []) (enumerate_from n rs) in subst P (sym (spans-nil at)) tt
 Stands-all zero n at (c ∷ cs) few = absurd (omega arith)
 Stands-all (suc fuel) n at cs few =
-    let P : List Run → Type 0 = λ rs. AllByRecursion (Stands n at cs) (enumerate_from n rs) in
+    let P : List Span → Type 0 = λ rs. AllByRecursion (Stands n at cs) (enumerate_from n rs) in
     let gap = front false cs in
     let mid = after false cs in
     let word = front true mid in
@@ -80,32 +80,32 @@ Stands-all (suc fuel) n at cs few =
     let gap_bytes = length-front false cs in
     let word_bytes = length-front true mid in
     let split : cs ≡ (gap ++ word) ++ rest = front-after false cs ∙ ap (λ l. gap ++ l) (front-after true mid) ∙ sym (append_assoc gap word rest) in
-    elim (cases_lt 0 (span_len true mid)) [
+    elim (cases_lt 0 (front_len true mid)) [
       | inl some ↦
           let both = length-encodes-append gap word in
           let few_more = length-some word (omega arith) in
           let long = ap length split ∙ length-append (gap ++ word) rest in
           let longer = length-append gap word in
-          let step : runs at cs ≡ char_indices (at + span_len false cs) word ∷ runs (at + span_len false cs + span_len true mid) rest = runs-gap at cs ∙ runs-front (at + span_len false cs) mid some in
-          let begins : at + span_len false cs ≡ at + length (encodes gap) = omega arith in
-          let ends : at + span_len false cs + span_len true mid ≡ at + length (encodes (gap ++ word)) = omega arith in
-          let first : Stands n at cs (n, char_indices (at + span_len false cs) word) = record {
+          let step : spans at cs ≡ char_indices (at + front_len false cs) word ∷ spans (at + front_len false cs + front_len true mid) rest = spans-gap at cs ∙ spans-front (at + front_len false cs) mid some in
+          let begins : at + front_len false cs ≡ at + length (encodes gap) = omega arith in
+          let ends : at + front_len false cs + front_len true mid ≡ at + length (encodes (gap ++ word)) = omega arith in
+          let first : Stands n at cs (n, char_indices (at + front_len false cs) word) = record {
             before = gap;
             here = word;
             behind = rest;
             whole = split ∙ append_assoc gap word rest;
-            run = ap (λ k. char_indices k word) begins;
+            span = ap (λ k. char_indices k word) begins;
             some = omega arith;
             numbered = omega arith;
           } in
-          let Q : ℕ → Type 0 = λ k. AllByRecursion (Stands (n + 1) k rest) (enumerate_from (n + 1) (runs k rest)) in
-          let others : AllByRecursion (Stands (n + 1) (at + length (encodes (gap ++ word))) rest) (enumerate_from (n + 1) (runs (at + length (encodes (gap ++ word))) rest)) = Stands-all fuel (n + 1) (at + length (encodes (gap ++ word))) rest (omega arith) in
+          let Q : ℕ → Type 0 = λ k. AllByRecursion (Stands (n + 1) k rest) (enumerate_from (n + 1) (spans k rest)) in
+          let others : AllByRecursion (Stands (n + 1) (at + length (encodes (gap ++ word))) rest) (enumerate_from (n + 1) (spans (at + length (encodes (gap ++ word))) rest)) = Stands-all fuel (n + 1) (at + length (encodes (gap ++ word))) rest (omega arith) in
           let later = AllByRecursion-weaker (Stands (n + 1) (at + length (encodes (gap ++ word))) rest) (Stands n at cs) _ (λ r s. Stands-later n at cs (gap ++ word) rest r split (omega arith) s) others in
-          let tail : AllByRecursion (Stands n at cs) (enumerate_from (n + 1) (runs (at + span_len false cs + span_len true mid) rest)) = let R : ℕ → Type 0 = λ k. AllByRecursion (Stands n at cs) (enumerate_from (n + 1) (runs k rest)) in subst R (sym ends) later in
+          let tail : AllByRecursion (Stands n at cs) (enumerate_from (n + 1) (spans (at + front_len false cs + front_len true mid) rest)) = let R : ℕ → Type 0 = λ k. AllByRecursion (Stands n at cs) (enumerate_from (n + 1) (spans k rest)) in subst R (sym ends) later in
           subst P (sym step) (first, tail)
       | inr none ↦
           let empty = after-gap cs (omega arith) in
-          subst P (sym (runs-gap at cs ∙ ap (runs (at + span_len false cs)) empty ∙ runs-nil (at + span_len false cs))) tt
+          subst P (sym (spans-gap at cs ∙ ap (spans (at + front_len false cs)) empty ∙ spans-nil (at + front_len false cs))) tt
     ]
 
 -- what holds of all holds of those kept
@@ -130,10 +130,10 @@ map-map : {X Y Z : Type 0} (f : Y → Z) (g : X → Y) (xs : List X) → map f (
 map-map f g [] = refl
 map-map f g (x ∷ xs) = ap (λ l. f (g x) ∷ l) (map-map f g xs)
 
--- each run that is kept stands in its text
-Stands-kept : (cs : List ℕ) → AllByRecursion (Stands 0 0 cs) (kept 0 (runs 0 cs))
+-- each span that is kept stands in its text
+Stands-kept : (cs : List ℕ) → AllByRecursion (Stands 0 0 cs) (kept 0 (spans 0 cs))
 unfolding kept
-Stands-kept cs = AllByRecursion-filter (Stands 0 0 cs) _ (enumerate_from 0 (runs 0 cs)) (Stands-all (length cs) 0 0 cs (omega arith))
+Stands-kept cs = AllByRecursion-filter (Stands 0 0 cs) _ (enumerate_from 0 (spans 0 cs)) (Stands-all (length cs) 0 0 cs (omega arith))
 
 -- characters of two lists are characters of each
 scalars-both : (xs ys : List ℕ) → scalars (xs ++ ys) ≡ true → (scalars xs ≡ true) × (scalars ys ≡ true)
@@ -143,8 +143,8 @@ scalars-both (x ∷ xs) ys all =
     let rest = scalars-both xs ys parts.1 in
     (ap (λ b. b && scalars xs) parts.0 ∙ rest.0, rest.1)
 
--- a run that stands in a text, as bytes
-record StandsInBytes (text : List ℕ) (r : ℕ × Run) : Type 0 where
+-- a span that stands in a text, as bytes
+record StandsInBytes (text : List ℕ) (r : ℕ × Span) : Type 0 where
   before : List ℕ
   here : List ℕ
   behind : List ℕ
@@ -158,14 +158,14 @@ record StandsInBytes (text : List ℕ) (r : ℕ × Run) : Type 0 where
   some : 0 < length (encodes here)
   numbered : r.0 ≤ length (encodes before)
 
--- a run of a text's characters stands in its bytes
-StandsInBytes-from : (text : List ℕ) → IsUtf8 text → (r : ℕ × Run) → Stands 0 0 (chars text) r → StandsInBytes text r
+-- a span of a text's characters stands in its bytes
+StandsInBytes-from : (text : List ℕ) → IsUtf8 text → (r : ℕ × Span) → Stands 0 0 (chars text) r → StandsInBytes text r
 StandsInBytes-from text utf8 r s =
     let all : scalars (s.before ++ (s.here ++ s.behind)) ≡ true = ap scalars (sym s.whole) ∙ scalars-chars text utf8 in
     let rest = (scalars-both s.before (s.here ++ s.behind) all).1 in
     let parts = scalars-both s.here s.behind rest in
     let place = 0 + length (encodes s.before) in
-    let at : start_of r.1 ≡ place = ap start_of s.run ∙ start_of-char_indices place s.here s.some in
+    let at : start_of r.1 ≡ place = ap start_of s.span ∙ start_of-char_indices place s.here s.some in
     record {
       before = s.before;
       here = s.here;
@@ -175,14 +175,14 @@ StandsInBytes-from text utf8 r s =
       rest_text = (s.here ++ s.behind, (rest, encodes-append s.here s.behind));
       behind_text = (s.behind, (parts.1, refl));
       starts = omega arith;
-      bytes = ap byte_len s.run ∙ byte_len-char_indices place s.here;
-      spelled = ap chars_of s.run ∙ chars_of-char_indices place s.here;
+      bytes = ap byte_len s.span ∙ byte_len-char_indices place s.here;
+      spelled = ap chars_of s.span ∙ chars_of-char_indices place s.here;
       some = s.some;
       numbered = omega (arith, s.numbered);
     }
 
--- the place of a run that stands in a text stands there
-IsPlaceIn-from : (text : List ℕ) (r : ℕ × Run) → StandsInBytes text r → IsPlaceIn text (place_of r)
+-- the place of a span that stands in a text stands there
+IsPlaceIn-from : (text : List ℕ) (r : ℕ × Span) → StandsInBytes text r → IsPlaceIn text (place_of r)
 IsPlaceIn-from text r s =
     let here = encodes s.here in
     let behind = encodes s.behind in
@@ -209,8 +209,8 @@ slice_range-seam text before here behind a b whole starts ends =
     ∙ ap (take (length here)) (drop-append_seam before (here ++ behind))
     ∙ take-append_seam here behind
 
--- the token at a run's place is the run, folded
-token_at-from : (text : List ℕ) (r : ℕ × Run) → StandsInBytes text r → token_at text (place_of r) ≡ (r.0, fold_chars (chars_of r.1))
+-- the token at a span's place is the span, folded
+token_at-from : (text : List ℕ) (r : ℕ × Span) → StandsInBytes text r → token_at text (place_of r) ≡ (r.0, fold_chars (chars_of r.1))
 unfolding folded
 token_at-from text r s =
     let ends : start_of r.1 + byte_len r.1 ≡ start_of r.1 + length (encodes s.here) = omega (arith, s.bytes) in
@@ -218,24 +218,24 @@ token_at-from text r s =
     let spelled = ap chars bytes ∙ chars-encodes s.here s.here_text ∙ sym s.spelled in
     ap (λ cs. (r.0, fold_chars cs)) spelled
 
--- the kept runs stand in the text's bytes
-StandsInBytes-all : (text : List ℕ) → IsUtf8 text → AllByRecursion (StandsInBytes text) (kept 0 (runs 0 (chars text)))
+-- the kept spans stand in the text's bytes
+StandsInBytes-all : (text : List ℕ) → IsUtf8 text → AllByRecursion (StandsInBytes text) (kept 0 (spans 0 (chars text)))
 StandsInBytes-all text utf8 =
-    AllByRecursion-weaker (Stands 0 0 (chars text)) (StandsInBytes text) (kept 0 (runs 0 (chars text))) (StandsInBytes-from text utf8) (Stands-kept (chars text))
+    AllByRecursion-weaker (Stands 0 0 (chars text)) (StandsInBytes text) (kept 0 (spans 0 (chars text))) (StandsInBytes-from text utf8) (Stands-kept (chars text))
 
 -- each place of a text stands in it
 pub All-IsPlaceIn : (text : List ℕ) → IsUtf8 text → All (IsPlaceIn text) (places text)
 unfolding places
 All-IsPlaceIn text utf8 =
     All-from_recursion (IsPlaceIn text) (places text)
-    (AllByRecursion-map (StandsInBytes text) (IsPlaceIn text) place_of (kept 0 (runs 0 (chars text))) (IsPlaceIn-from text) (StandsInBytes-all text utf8))
+    (AllByRecursion-map (StandsInBytes text) (IsPlaceIn text) place_of (kept 0 (spans 0 (chars text))) (IsPlaceIn-from text) (StandsInBytes-all text utf8))
 
 -- the tokens of a text are what stands at its places
 pub tokens-places : (text : List ℕ) → IsUtf8 text → map (token_at text) (places text) ≡ tokens text
 unfolding places tokens
 tokens-places text utf8 =
-    map-map (token_at text) place_of (kept 0 (runs 0 (chars text)))
-    ∙ map-same (StandsInBytes text) (λ r. token_at text (place_of r)) (λ r. (r.0, fold_chars (chars_of r.1))) (kept 0 (runs 0 (chars text))) (token_at-from text) (StandsInBytes-all text utf8)
+    map-map (token_at text) place_of (kept 0 (spans 0 (chars text)))
+    ∙ map-same (StandsInBytes text) (λ r. token_at text (place_of r)) (λ r. (r.0, fold_chars (chars_of r.1))) (kept 0 (spans 0 (chars text))) (token_at-from text) (StandsInBytes-all text utf8)
 
 -- a list with one in front or not is no shorter, and at most one longer
 length-cond : {X : Type 0} (b : Bool) (x : X) (xs : List X) → (length xs ≤ length (cond b (x ∷ xs) xs)) × (length (cond b (x ∷ xs) xs) ≤ length xs + 1)
@@ -243,19 +243,19 @@ length-cond true x xs = (omega arith, omega arith)
 length-cond false x xs = (omega arith, omega arith)
 
 -- a character more makes at most one part more
-length-onto_first : (p : ℕ × ℕ) (ps : List Run) → length (filter is_nonempty (onto_first p ps)) ≤ length (filter is_nonempty ps) + 1
+length-onto_first : (p : ℕ × ℕ) (ps : List Span) → length (filter is_nonempty (onto_first p ps)) ≤ length (filter is_nonempty ps) + 1
 length-onto_first p [] = omega (arith, length-cond (is_nonempty (p ∷ [])) (p ∷ []) [])
 length-onto_first p (first ∷ rest) =
     let with = length-cond (is_nonempty (p ∷ first)) (p ∷ first) (filter is_nonempty rest) in
     let without = length-cond (is_nonempty first) first (filter is_nonempty rest) in
     omega (arith, with.1, without.0)
 
--- a text has no more runs than characters
-length-runs : (at : ℕ) (cs : List ℕ) → length (runs at cs) ≤ length cs
-unfolding runs
-length-runs at [] = omega arith
-length-runs at (c ∷ cs) =
-    let rest = length-runs (at + len_utf8 c) cs in
+-- a text has no more spans than characters
+length-spans : (at : ℕ) (cs : List ℕ) → length (spans at cs) ≤ length cs
+unfolding spans
+length-spans at [] = omega arith
+length-spans at (c ∷ cs) =
+    let rest = length-spans (at + len_utf8 c) cs in
     let first = length-onto_first (at, c) (parts (at + len_utf8 c) cs) in
     elim (is_alphanumeric c) as (λ b. length (filter is_nonempty (cond (not b) ([] ∷ parts (at + len_utf8 c) cs) (onto_first (at, c) (parts (at + len_utf8 c) cs)))) ≤ length (c ∷ cs)) [
       | true ↦ omega (arith, rest, first)
@@ -273,12 +273,12 @@ length-filter-le test (x ∷ xs) =
 pub length-places : (text : List ℕ) → IsUtf8 text → length (places text) ≤ length text
 unfolding places kept
 length-places text utf8 =
-    let numbered = enumerate_from 0 (runs 0 (chars text)) in
-    let short = λ (r : ℕ × Run). nat_lt (byte_len r.1) 40 in
+    let numbered = enumerate_from 0 (spans 0 (chars text)) in
+    let short = λ (r : ℕ × Span). nat_lt (byte_len r.1) 40 in
     let bytes = length-le-encodes (chars text) in
     let same = ap length (encodes-chars text utf8) in
-    let of_runs = length-runs 0 (chars text) in
-    let of_numbered = length-enumerate_from 0 (runs 0 (chars text)) in
+    let of_spans = length-spans 0 (chars text) in
+    let of_numbered = length-enumerate_from 0 (spans 0 (chars text)) in
     let of_kept = length-filter-le short numbered in
     let of_places = length-map (filter short numbered) place_of in
     omega arith

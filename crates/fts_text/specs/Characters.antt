@@ -1,4 +1,4 @@
--- The characters of a run, and how they are folded.
+-- The characters of a span, and how they are folded.
 use Rattle.std.specs.Prelude.{ℕ, ◌+◌, Bool, ◌||◌, cond, List, [], ◌∷◌, map, encode_utf8_all}
 use Rattle.std.specs.Bool.{beq}
 use Rattle.std.specs.Char.{len_utf8}
@@ -9,7 +9,7 @@ use Rattle.unicode.specs.GeneralCategoryGroup.{in_group}
 use Rattle.unicode.specs.CaseFolding.{simple_fold}
 use Rattle.ucd_category.specs.declared.GeneralCategoryGroup.TheVariants.{Number}
 
--- a character of a run: Alphabetic, or a number, which is general category Nd, Nl or No (UAX #44)
+-- a character of a span: Alphabetic, or a number, which is general category Nd, Nl or No (UAX #44)
 unfoldable pub is_alphanumeric : ℕ → Bool
 is_alphanumeric c = is_alphabetic c || in_group Number (general_category c)
 
@@ -22,6 +22,6 @@ unfoldable pub folded : List ℕ → List ℕ
 folded text = fold_chars (chars text)
 
 -- how many bytes the characters at the front take that are alphanumeric, or, at `false`, that are not
-abbrev pub span_len : Bool → List ℕ → ℕ
-span_len alphanumeric [] = 0
-span_len alphanumeric (c ∷ cs) = cond (beq (is_alphanumeric c) alphanumeric) (len_utf8 c + span_len alphanumeric cs) 0
+abbrev pub front_len : Bool → List ℕ → ℕ
+front_len alphanumeric [] = 0
+front_len alphanumeric (c ∷ cs) = cond (beq (is_alphanumeric c) alphanumeric) (len_utf8 c + front_len alphanumeric cs) 0

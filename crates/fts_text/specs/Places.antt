@@ -4,22 +4,23 @@ use Rattle.std.specs.Str.{chars, IsCharBoundary}
 use Rattle.fts_text.specs.declared.tokenizer.Token.{Token}
 use Rattle.fts_text.specs.declared.tokenizer.Tokens.{Tokens}
 use Rattle.fts_text.specs.Characters.{folded}
-use Rattle.fts_text.specs.Tokens.{Run, runs, kept, byte_len}
+use Rattle.fts_text.specs.Tokens.{Span, spans, kept, byte_len}
 
--- the byte at which a run begins
-abbrev pub start_of : Run → ℕ
+-- the byte at which a span begins
+abbrev pub start_of : Span → ℕ
 start_of [] = 0
 start_of (p ∷ ps) = p.0
 
--- the place of a run, by its number
-abbrev pub place_of : ℕ × Run → Token
+-- the place of a span, by its number
+abbrev pub place_of : ℕ × Span → Token
 place_of r = record { position = r.0; start = start_of r.1; end = start_of r.1 + byte_len r.1 }
 
 -- the places of the tokens of a text
 unfoldable pub places : List ℕ → List Token
-places text = map place_of (kept 0 (runs 0 (chars text)))
+places text = map place_of (kept 0 (spans 0 (chars text)))
 
--- the place stands in the text: it has a byte or more, begins and ends between characters, and begins no earlier than its number says
+-- the place stands in the text: it has a byte or more, begins and ends between characters, and begins no earlier than
+-- its number says
 pub record IsPlaceIn (text : List ℕ) (token : Token) : Type 0 where
   pub nonempty : token.start < token.end
   pub within : token.end ≤ length text
@@ -31,16 +32,16 @@ pub record IsPlaceIn (text : List ℕ) (token : Token) : Type 0 where
 abbrev pub token_at : List ℕ → Token → ℕ × List ℕ
 token_at text token = (token.position, folded (slice_range text token.start token.end))
 
--- the runs that are still to come
-abbrev pub runs_left : Tokens → List Run
-runs_left s = runs s.at (chars s.rest.now)
+-- the spans that are still to come
+abbrev pub spans_left : Tokens → List Span
+spans_left s = spans s.at (chars s.rest.now)
 
 -- the places that are still to come
 unfoldable pub places_left : Tokens → List Token
-places_left s = map place_of (kept s.next_position (runs_left s))
+places_left s = map place_of (kept s.next_position (spans_left s))
 
--- the first of the runs that were left came, by its place, or none was left
-abbrev pub YieldsRun : Tokens → Option Token → Tokens → Type 0
-YieldsRun s r t = MatchOption r ((runs_left s ≡ []) × (runs_left t ≡ []))
-    (λ token. (run : Run) × (runs_left s ≡ run ∷ runs_left t) × (token ≡ place_of (s.next_position, run))
+-- the first of the spans that were left came, by its place, or none was left
+abbrev pub YieldsSpan : Tokens → Option Token → Tokens → Type 0
+YieldsSpan s r t = MatchOption r ((spans_left s ≡ []) × (spans_left t ≡ []))
+    (λ token. (span : Span) × (spans_left s ≡ span ∷ spans_left t) × (token ≡ place_of (s.next_position, span))
     × (t.next_position ≡ s.next_position + 1) × (length t.rest.now < length s.rest.now))

@@ -1,4 +1,4 @@
-// Which characters are of a run. ASCII takes a short way past the tables.
+// Which characters are of a span. ASCII takes a short way past the tables.
 ghost use Rattle.std.specs.Prelude.{◌≡◌};
 ghost use Rattle.fts_text.specs.Characters.{is_alphanumeric};
 

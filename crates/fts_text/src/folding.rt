@@ -18,16 +18,16 @@ fn fold_char(c: char) -> char
     simple_fold(c)
 }
 
-/// Appends the folding of a run, which may be longer or shorter than the run. Where a growth is
+/// Appends the folding of a span, which may be longer or shorter than the span. Where a growth is
 /// refused, `out` is left as it was.
-pub fn fold_into(run: &str, out: &mut String) -> Result<(), AllocError>
-    ensures ok { OnOk result (string_bytes out.new ≡ string_bytes out.old ++ folded run.now) }
+pub fn fold_into(span: &str, out: &mut String) -> Result<(), AllocError>
+    ensures ok { OnOk result (string_bytes out.new ≡ string_bytes out.old ++ folded span.now) }
     ensures err { OnErr result (string_bytes out.new ≡ string_bytes out.old) }
     ensures full { OnErr result
-        (string_capacity out.old < string_len out.old + length (folded run.now)) }
+        (string_capacity out.old < string_len out.old + length (folded span.now)) }
 {
     let len = out.len();
-    for c in run.chars() {
+    for c in span.chars() {
         if let Err(error) = out.push(fold_char(c)) {
             out.truncate(len);
             return Err(error);

@@ -1,18 +1,18 @@
-//! The tokens of a text: its runs of alphanumeric characters, numbered and folded.
+//! The tokens of a text: its spans of alphanumeric characters, numbered and folded.
 //!
-//! A run is a maximal sequence of characters that are Alphabetic or of general category Nd, Nl or
-//! No. Runs are numbered from 0. One of 40 bytes or more, before folding, is no token but keeps its
+//! A span is a maximal sequence of characters that are Alphabetic or of general category Nd, Nl or
+//! No. Spans are numbered from 0. One of 40 bytes or more, before folding, is no token but keeps its
 //! number, so that a phrase does not match across it. The folding is simple case folding, character
 //! by character, as in Unicode's CaseFolding.txt with the statuses C and S.
 //!
-//! [`Tokens`] finds the runs in one pass and without memory, and [`fold_into`] folds one of them
+//! [`Tokens`] finds the spans in one pass and without memory, and [`fold_into`] folds one of them
 //! into a buffer that the caller keeps. They are apart so that no token costs an allocation, and
 //! that a caller who wants the places alone folds nothing:
 //!
 //! ```text
 //! for token in Tokens::new(text) {
 //!     term.clear();
-//!     fold_into(token.run(text), &mut term)?;
+//!     fold_into(token.span(text), &mut term)?;
 //! }
 //! ```
 #![tactic(auto)]

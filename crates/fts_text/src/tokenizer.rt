@@ -1,22 +1,22 @@
-// Goes over a text once, and finds its runs.
+// Goes over a text once, and finds its spans.
 ghost use Rattle.std.specs.Prelude.{◌≡◌, ◌+◌, ◌^◌, ◌<◌, length};
 ghost use Rattle.std.specs.Str.{chars, IsUtf8};
-ghost use Rattle.fts_text.specs.Characters.{span_len};
+ghost use Rattle.fts_text.specs.Characters.{front_len};
 
 use crate::characters::is_alphanumeric;
 
-/// A run of this many bytes is too long for a token.
+/// A span of this many bytes is too long for a token.
 const LIMIT: usize = 40;
 
 /// Where a token of a text stands.
 #[derive(Clone, Copy, Debug, PartialEq, Eq)]
 pub struct Token {
-    /// The number of the run, from 0 on. A run that is too long keeps its number, so the positions
+    /// The number of the span, from 0 on. A span that is too long keeps its number, so the positions
     /// may have gaps.
     pub position: usize,
-    /// The byte of the text at which the run begins.
+    /// The byte of the text at which the span begins.
     pub start: usize,
-    /// The byte after the run.
+    /// The byte after the span.
     pub end: usize,
 }
 
@@ -24,8 +24,8 @@ impl Token {
     ghost use Rattle.std.specs.Prelude.{◌≡◌, slice_range};
     ghost use Rattle.fts_text.specs.Places.{IsPlaceIn};
 
-    /// The run of the text at this place, not folded.
-    pub fn run<'a>(&self, text: &'a str) -> &'a str
+    /// The span of the text at this place, not folded.
+    pub fn span<'a>(&self, text: &'a str) -> &'a str
         requires { IsPlaceIn text.now self.now }
         ensures { result.now ≡ slice_range text.now self.now.start self.now.end }
     {
@@ -40,7 +40,7 @@ pub struct Tokens<'a> {
     rest: &'a str,
     /// The byte of the text at which the rest begins.
     at: usize,
-    /// The number of the next run.
+    /// The number of the next span.
     next_position: usize,
     ghost at_fits: { at + length rest.now < 2 ^ 64 },
     ghost position_fits: { next_position + length rest.now < 2 ^ 64 },
@@ -48,7 +48,7 @@ pub struct Tokens<'a> {
 
 impl<'a> Tokens<'a> {
     ghost use Rattle.std.specs.Prelude.{◌≡◌};
-    ghost use Rattle.fts_text.specs.Places.{places, places_left, YieldsRun};
+    ghost use Rattle.fts_text.specs.Places.{places, places_left, YieldsSpan};
 
     /// The tokens of a text, from its first on.
     pub fn new(text: &'a str) -> Tokens<'a>
@@ -61,13 +61,13 @@ impl<'a> Tokens<'a> {
         }
     }
 
-    // The next run, of any length.
-    fn next_run(&mut self) -> Option<Token>
-        ensures { YieldsRun self.old result self.new }
+    // The next span, of any length.
+    fn next_span(&mut self) -> Option<Token>
+        ensures { YieldsSpan self.old result self.new }
     {
-        let gap = span_len(self.rest, false);
+        let gap = front_len(self.rest, false);
         let rest = &self.rest[gap..];
-        let len = span_len(rest, true);
+        let len = front_len(rest, true);
         let start = self.at + gap;
         self.rest = &rest[len..];
         self.at = start + len;
@@ -95,9 +95,9 @@ impl Iterator for Tokens<'_> {
     ghost remaining = { item_count places_left };
 
     fn next(&mut self) -> Option<Token> {
-        while let Some(run) = self.next_run() {
-            if run.end - run.start < LIMIT {
-                return Some(run);
+        while let Some(span) = self.next_span() {
+            if span.end - span.start < LIMIT {
+                return Some(span);
             }
         }
         None
@@ -105,8 +105,8 @@ impl Iterator for Tokens<'_> {
 }
 
 // How many bytes the characters at the front of a text take that are alphanumeric, or that are not.
-fn span_len(text: &str, alphanumeric: bool) -> usize
-    ensures len { result ≡ span_len alphanumeric (chars text.now) }
+fn front_len(text: &str, alphanumeric: bool) -> usize
+    ensures len { result ≡ front_len alphanumeric (chars text.now) }
     ensures utf8 { IsUtf8 text.now }
 {
     let mut len = 0;

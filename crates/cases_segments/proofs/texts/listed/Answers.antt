@@ -11,8 +11,8 @@ loop-token-init c =
     let P : List Token → Type 0 = All (IsPlaceIn c.args.text.now) in
     (tt, tt, subst P (sym start) (All-IsPlaceIn c.args.text.now c.utf8.text))
 
-pub run-requires : goal.run-requires
-run-requires c =
+pub span-requires : goal.span-requires
+span-requires c =
     (IsPlaceIn-first c.args.text.now c.in-Some.token (places_left c.loop-token.token-iterator) (places_left c.next.new.self) c.in-Some.ensures.steps c.loop-token.invariant.2).0
 
 pub loop-token-preserved : goal.loop-token-preserved

@@ -1,6 +1,6 @@
 use Rattle.std.proofs.Common.{Some, ap, sym, ◌∙◌}
 use Rattle.fts_segment.proofs.FieldLemmas.{if_none, if_some, text_absent, text_found, text_without}
-use Rattle.fts_segment.proofs.PositionsLemmas.{runs_found}
+use Rattle.fts_segment.proofs.PositionsLemmas.{position_lists_found}
 use Rattle.fts_segment.proofs.field_index.find_text.Goals as goal
 
 pub returns-in-Text-clause-none : goal.returns-in-Text-clause-none
@@ -19,4 +19,4 @@ returns-in-Number-clause-none c vs a = rw c.in-Number.is (text_without c.in-Numb
 
 pub returns-in-Text-clause-positions : goal.returns-in-Text-clause-positions
 returns-in-Text-clause-positions c vs a = rw c.in-Text.is (if_some _ _ _ c.find.result c.find.ensures (λ list found.
-    found.3 ∙ runs_found c.in-Text.text found.0 a (found.1 ∙ ap Some c.as_str.ensures)))
+    found.3 ∙ position_lists_found c.in-Text.text found.0 a (found.1 ∙ ap Some c.as_str.ensures)))

@@ -21,8 +21,8 @@ pub returns-in-Err-clause-full : goal.returns-in-Err-clause-full
 unfolding folded
 returns-in-Err-clause-full c =
     let kept = c.loop-c.invariant.2 in
-    let fits = length-fold_chars-step (chars_rest c.loop-c.c-iterator) (chars_rest c.next.new.self) (string_bytes c.loop-c.out) (string_bytes c.args.out.now ++ fold_chars (chars c.args.run.now)) c.in-Some.c c.fold_char.result kept.text c.in-Some.ensures.steps.0 c.fold_char.ensures kept.whole in
-    let both = length-append (string_bytes c.args.out.now) (fold_chars (chars c.args.run.now)) in
+    let fits = length-fold_chars-step (chars_rest c.loop-c.c-iterator) (chars_rest c.next.new.self) (string_bytes c.loop-c.out) (string_bytes c.args.out.now ++ fold_chars (chars c.args.span.now)) c.in-Some.c c.fold_char.result kept.text c.in-Some.ensures.steps.0 c.fold_char.ensures kept.whole in
+    let both = length-append (string_bytes c.args.out.now) (fold_chars (chars c.args.span.now)) in
     let full = c.in-Err.ensures.full in
     omega (arith, kept.capacity, c.args.out.now.bytes.ok.0, c.loop-c.out.bytes.ok.0)
 

@@ -10,6 +10,6 @@ invariant-loop-c l =
     (goal.iterator-loop-c).can_next l.c-iterator × (goal.iterator-loop-c).is_finite l.c-iterator × record {
       text : IsUtf8 (chars_rest l.c-iterator);
       begins : take l.len (string_bytes l.out) ≡ string_bytes l.initial.out;
-      whole : string_bytes l.out ++ fold_chars (chars (chars_rest l.c-iterator)) ≡ string_bytes l.initial.out ++ fold_chars (chars l.run);
+      whole : string_bytes l.out ++ fold_chars (chars (chars_rest l.c-iterator)) ≡ string_bytes l.initial.out ++ fold_chars (chars l.span);
       capacity : string_capacity l.initial.out ≤ string_capacity l.out;
     }

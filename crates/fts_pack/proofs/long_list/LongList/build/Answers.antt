@@ -6,8 +6,8 @@ use Rattle.fts_pack.proofs.DocumentsLemmas.{Rises-from_increasing, Rises-block, 
 use Rattle.fts_pack.proofs.LongListLemmas.{IsBuilt, IsBuilt-more, IsLongList-built}
 use Rattle.fts_pack.proofs.long_list.LongList.build.Goals as goal
 
-pub add_block-requires-clause-rises : goal.add_block-requires-clause-rises
-add_block-requires-clause-rises c =
+pub add_skip-requires-clause-rises : goal.add_skip-requires-clause-rises
+add_skip-requires-clause-rises c =
     let documents = c.args.documents.now in
     let block = c.loop-block.block in
     rw (block_sliced documents block c.min-end.result c.min-end.ensures, c.loop-block.invariant.next_is) (Rises-block documents block (Rises-from_increasing documents c.requires))
@@ -19,7 +19,7 @@ loop-block-preserved c =
     let added = rw (block_sliced documents block c.min-end.result c.min-end.ensures) at c.in_ok-skip.ensures in
     let inside : block < block_count (length documents) = omega (arith, c.loop-block-test.true, c.div_ceil-blocks.ensures, block_count-div_ceil (length documents)) in
     let next : c.from-next.result + 1 ≡ suc c.in_ok-skip.skip.last = omega (arith, c.from-next.ensures) in
-    rw (next, c.in_ok-push.ensures.items) (IsBuilt-more documents block c.loop-block.next c.loop-block.skips.items c.loop-block.words.items c.add_block.new.words.items c.in_ok-skip.skip c.loop-block.invariant (Rises-from_increasing documents c.requires) inside added)
+    rw (next, c.in_ok-push.ensures.items) (IsBuilt-more documents block c.loop-block.next c.loop-block.skips.items c.loop-block.words.items c.add_skip.new.words.items c.in_ok-skip.skip c.loop-block.invariant (Rises-from_increasing documents c.requires) inside added)
 
 built : (c : goal.After-shrink_to_fit) → IsBuilt c.args.documents.now (block_count (length c.args.documents.now)) c.loop-block.next c.loop-block.skips.items c.shrink_to_fit.new.self.items
 built c =

@@ -18,14 +18,14 @@ index-requires c =
 pub split_at-requires : goal.split_at-requires
 split_at-requires c =
     let r = reads c.self.inside c.args.self.now c.args.block c.index.result.now c.self.view_is c.self.invariant c.requires c.index.ensures in
-    omega (arith, r.words_within, ap length c.deref.ensures.value)
+    omega (arith, r.within.room, ap length c.deref.ensures.value)
 
 pub unpack-requires : goal.unpack-requires
 unpack-requires c =
     let r = reads c.self.inside c.args.self.now c.args.block c.index.result.now c.self.view_is c.self.invariant c.requires c.index.ensures in
     record {
-      narrow = r.width_within;
-      room = omega (arith, r.words_within, c.split_at.ensures.back_len, ap length c.deref.ensures.value);
+      narrow = r.within.narrow;
+      room = omega (arith, r.within.room, c.split_at.ensures.back_len, ap length c.deref.ensures.value);
     }
 
 pub overflow_mul-block : goal.overflow_mul-block
@@ -47,7 +47,7 @@ pub returns-clause-documents : goal.returns-clause-documents
 returns-clause-documents c =
     let r = reads c.self.inside c.args.self.now c.args.block c.index.result.now c.self.view_is c.self.invariant c.requires c.index.ensures in
     let skip = c.index.result.now in
-    let words : c.split_at.result.1.now ≡ drop skip.start c.self.inside.words.items = c.split_at.ensures.back ∙ ap (drop skip.start) c.deref.ensures.value in
-    let numbers : c.unpack.new.out ≡ numbers_in_lanes skip.width (drop skip.start c.self.inside.words.items) = c.unpack.ensures ∙ ap (numbers_in_lanes skip.width) words in
+    let words : c.split_at.result.1.now ≡ drop skip.block.start c.self.inside.words.items = c.split_at.ensures.back ∙ ap (drop skip.block.start) c.deref.ensures.value in
+    let numbers : c.unpack.new.out ≡ numbers_in_lanes skip.block.width (drop skip.block.start c.self.inside.words.items) = c.unpack.ensures ∙ ap (numbers_in_lanes skip.block.width) words in
     let here : documents_at c.first.result (take c.min.result c.unpack.new.out) ≡ block_at c.args.self.now c.args.block = ap₂ documents_at c.first.ensures (ap₂ take c.min.ensures numbers) ∙ r.documents_are in
     ap (take c.min.result) c.add_up.ensures ∙ documents_kept c.first.result c.min.result c.unpack.new.out (rw here r.fits) ∙ here

@@ -4,4 +4,4 @@ use Rattle.fts_pack.proofs.numbers.Numbers.len.Goals as goal
 
 pub returns : goal.returns
 returns c = let n = c.self.inside in
-    sym (length-numbers_kept n.count n.places.items n.words.items) ∙ ap length c.self.view_is
+    sym (length-numbers_kept n.count n.blocks.items n.words.items) ∙ ap length c.self.view_is

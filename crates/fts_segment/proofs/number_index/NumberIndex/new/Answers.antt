@@ -1,5 +1,5 @@
 use Rattle.std.proofs.Common.{ℕ, List, Option, Some, All, Contains, map, sym, subst, ◌∙◌, arith}
-use Rattle.fts_segment.specs.Indexes.{docs_in}
+use Rattle.fts_segment.specs.Dictionaries.{docs_in}
 use Rattle.fts_segment.specs.Occurrences.{values_in}
 use Rattle.fts_segment.specs.Numbers.{numbers_of, IsNumberIndex}
 use Rattle.fts_segment.proofs.NumberLemmas.{group_docs, groups_rise, IsNumberIndex-listed}

@@ -1,5 +1,5 @@
 use Rattle.std.proofs.Common.{get_or, ap, sym, ◌∙◌, arith}
-use Rattle.fts_segment.specs.Runs.{numbers_behind}
+use Rattle.fts_segment.specs.PositionLists.{numbers_behind}
 use Rattle.fts_segment.proofs.PackedLemmas.{ComesNext, comes_next}
 use Rattle.fts_segment.proofs.positions.PositionsIterator.next.Goals as goal
 

@@ -6,17 +6,17 @@ use Rattle.fts_segment.proofs.term_positions.TermPositions.get.Goals as goal
 
 pub start_of-requires : goal.start_of-requires
 start_of-requires c = let p = c.args.self.now in
-    omega (arith, length-pieces 0 p.runs p.ends.items, c.requires, ap length c.deref.ensures.value)
+    omega (arith, length-pieces 0 p.lists p.ends.items, c.requires, ap length c.deref.ensures.value)
 
 pub index-requires : goal.index-requires
 index-requires c = let p = c.args.self.now in
-    omega (arith, length-pieces 0 p.runs p.ends.items, c.requires, p.ends.ok.0)
+    omega (arith, length-pieces 0 p.lists p.ends.items, c.requires, p.ends.ok.0)
 
 pub returns : goal.returns
 returns c =
     let p = c.args.self.now in
     let i = c.args.number in
-    let within : i < length p.ends.items = omega (arith, length-pieces 0 p.runs p.ends.items, c.requires) in
-    ap (λ a. slice_range p.runs a c.index.result.now) (c.start_of.ensures ∙ ap (λ es. get_or (0 ∷ es) i 0) c.deref.ensures.value)
-    ∙ ap (slice_range p.runs (get_or (0 ∷ p.ends.items) i 0)) (get_or_read p.ends.items i _ within c.index.ensures 0)
-    ∙ sym (get_or-pieces 0 p.runs p.ends.items i within)
+    let within : i < length p.ends.items = omega (arith, length-pieces 0 p.lists p.ends.items, c.requires) in
+    ap (λ a. slice_range p.lists a c.index.result.now) (c.start_of.ensures ∙ ap (λ es. get_or (0 ∷ es) i 0) c.deref.ensures.value)
+    ∙ ap (slice_range p.lists (get_or (0 ∷ p.ends.items) i 0)) (get_or_read p.ends.items i _ within c.index.ensures 0)
+    ∙ sym (get_or-pieces 0 p.lists p.ends.items i within)

@@ -1,6 +1,0 @@
-use Rattle.std.proofs.Common.{◌≡◌, map, take}
-use Rattle.fts_segment.specs.declared.grouping.Place.{Place}
-use Rattle.fts_segment.proofs.listing.set_docs.Given as goal
-
-abbrev pub invariant-loop-place : goal.invariant-loop-place
-invariant-loop-place l = l.docs.items ≡ map (λ (p : Place). p.doc) (take l.place-index l.places)

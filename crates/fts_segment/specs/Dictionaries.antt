@@ -1,0 +1,42 @@
+-- What a dictionary and its lists say of occurrences.
+use Rattle.std.specs.Prelude.{◌≡◌, ◌++◌, ℕ, nat_lt, Bool, true, List, [], ◌∷◌, length, map, nat_eq, Contains, All}
+use Rattle.std.specs.Prelude.{slice_index_or}
+use Rattle.std.specs.List.{dedup}
+use Rattle.fts_segment.specs.declared.term_groups.Place.{Place}
+use Rattle.fts_segment.specs.Occurrences.{OccurrenceValue}
+use Rattle.fts_segment.specs.Sorted.{Ascends}
+use Rattle.fts_segment.specs.Positions.{position_lists_with}
+use Rattle.fts_segment.specs.Occurrences.{docs_with, docs_of}
+
+-- the documents of places, each once
+abbrev pub docs_in : List Place → List ℕ
+docs_in places = dedup nat_eq (map (λ p. p.doc) places)
+
+-- a term occurs
+abbrev pub occurs : List OccurrenceValue → List ℕ → Bool
+occurs os term = nat_lt 0 (length (docs_of term os))
+
+-- the names are the terms that occur, in order, and each has the list of its documents and its positions in each
+pub record IsDictionaryOf (os : List OccurrenceValue) (names lists : List (List ℕ)) (positions : List (List (List ℕ)))
+    : Type 0 where
+  pub ascends : Ascends names
+  pub listed : lists ≡ map (λ q. docs_with q os) names
+  pub positioned : positions ≡ map (λ q. position_lists_with q os) names
+  pub occur : All (λ q. occurs os q ≡ true) names
+  pub whole : (q : List ℕ) → occurs os q ≡ true → Contains names q
+
+-- one element, unless there is no place
+abbrev pub unless_none : {X : Type 0} → List Place → X → List X
+unless_none [] x = []
+unless_none (p ∷ ps) x = x ∷ []
+
+-- the names that have a place, of names with their numbers
+abbrev pub names_listed : List (List Place) → List (ℕ × List ℕ) → List (List ℕ)
+names_listed groups [] = []
+names_listed groups (e ∷ es) = unless_none (slice_index_or groups e.0 []) e.1 ++ names_listed groups es
+
+-- what each of their groups gives
+abbrev pub listed_by : {X : Type 0} → (List Place → X) → List (List Place) → List (ℕ × List ℕ) → List X
+listed_by f groups [] = []
+listed_by f groups (e ∷ es) =
+    unless_none (slice_index_or groups e.0 []) (f (slice_index_or groups e.0 [])) ++ listed_by f groups es

@@ -1,0 +1,28 @@
+-- Lists of positions as they are packed: how many each has, and of each the first position and then differences less 1.
+use Rattle.std.specs.Prelude.{◌≡◌, ℕ, ◌*◌, ◌^◌, ◌<◌, List, [], ◌∷◌, All, Option, Some, None, length, take, drop, sum}
+use Rattle.std.specs.Prelude.{slice_index}
+use Rattle.std.specs.Borrow.{Bor}
+use Rattle.fts_pack.specs.Documents.{Rises, block_count, documents_at}
+
+-- positions of a term in a text: they rise, and 32 bits count them
+pub record IsPositionList (list : List ℕ) : Type 0 where
+  pub rises : Rises 0 list
+  pub few : length list < 2 ^ 32
+
+-- the lists of so many positions each, with these differences
+abbrev pub position_lists_at : List ℕ → List ℕ → List (List ℕ)
+position_lists_at [] gaps = []
+position_lists_at (count ∷ counts) gaps = documents_at 0 (take count gaps) ∷ position_lists_at counts (drop count gaps)
+
+-- the differences are those of the lists, and the first of each 128 lists begins at its start
+pub record ArePacked (counts starts gaps : List ℕ) : Type 0 where
+  pub whole : sum counts ≡ length gaps
+  pub few : length gaps < 2 ^ 64
+  pub many : length starts ≡ block_count (length counts)
+  pub starts_are : (block : ℕ) → block < length starts → slice_index starts block ≡ sum (take (block * 128) counts)
+  pub fit : All (λ list. All (λ p. p < 2 ^ 32) list) (position_lists_at counts gaps)
+
+-- the numbers that are referred to, if any
+abbrev pub numbers_behind : Option (Bor (List ℕ)) → List ℕ
+numbers_behind None = []
+numbers_behind (Some numbers) = numbers.now

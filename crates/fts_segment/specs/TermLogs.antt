@@ -1,0 +1,16 @@
+-- Occurrences as the log keeps them: terms by their numbers.
+use Rattle.std.specs.Prelude.{◌<◌, ℕ, List, [], length, map, slice_index_or, All}
+use Rattle.fts_segment.specs.declared.term_log.Occurrence.{Occurrence}
+use Rattle.fts_segment.specs.Occurrences.{OccurrenceValue}
+
+-- an occurrence with the name of its term in place of its number
+abbrev pub occurrence_value : List (List ℕ) → Occurrence → OccurrenceValue
+occurrence_value names occurrence =
+    record { term = slice_index_or names occurrence.term []; doc = occurrence.doc; position = occurrence.position }
+
+abbrev pub occurrence_values : List (List ℕ) → List Occurrence → List OccurrenceValue
+occurrence_values names log = map (occurrence_value names) log
+
+-- each occurrence is of a term that has a name
+abbrev pub AreNamed : List (List ℕ) → List Occurrence → Type 0
+AreNamed names log = All (λ occurrence. occurrence.term < length names) log

@@ -1,0 +1,38 @@
+// The dictionary: the terms that occur, in order, each with the list of its documents and its positions in them.
+use crate::find::find_name;
+use crate::names::Names;
+use crate::segment::ListId;
+use crate::term_positions::TermPositions;
+use fts_pack::List;
+
+/// The terms that occur, the documents of each, and its positions in them.
+#[derive(Drop)]
+pub(crate) struct Dictionary {
+    pub(crate) names: Names,
+    pub(crate) lists: Vec<List>,
+    pub(crate) positions: TermPositions,
+}
+
+impl Dictionary {
+    ghost use Rattle.std.specs.Prelude.{◌≡◌, [], ℕ, Some, MatchOption, length, slice_get, slice_index_or};
+    ghost use Rattle.fts_segment.specs.Sorted.{Ascends};
+    ghost use Rattle.fts_segment.specs.ListIds.{documents_in, positions_in};
+    ghost use Rattle.fts_segment.specs.TermPositionLists.{term_position_lists};
+
+    /// The list of a term, where it is one of the names.
+    pub(crate) fn find(&self, term: &str) -> Option<ListId<'_>>
+        requires ascends { Ascends self.now.names }
+        requires listed { length self.now.names ≡ length self.now.lists.items }
+        requires positioned { length self.now.names ≡ length (term_position_lists self.now.positions) }
+        ensures { MatchOption result ((i : ℕ) → slice_get self.now.names i ≡ Some term.now → ⊥)
+            (λ list. (i : ℕ) × (slice_get self.now.names i ≡ Some term.now)
+            × (documents_in list ≡ slice_index_or self.now.lists.items i [])
+            × (positions_in list ≡ slice_index_or (term_position_lists self.now.positions) i [])) }
+    {
+        let number = find_name(&self.names, term.as_bytes())?;
+        Some(ListId {
+            list: &self.lists[number],
+            positions: Some(self.positions.get(number)),
+        })
+    }
+}

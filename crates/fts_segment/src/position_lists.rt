@@ -1,0 +1,185 @@
+// Lists of positions, packed: how many each has, and of each the first position and then differences less 1.
+ghost use Rattle.std.specs.Prelude.{◌≡◌, ◌+◌, ◌<◌, ◌≤◌, ◌++◌, ◌∷◌, ◌^◌, ◌%◌, ◌==◌, [], ℕ, IfOk, OnOk, Some, cond};
+ghost use Rattle.std.specs.Prelude.{length, slice_index, slice_index_or, sum, take};
+ghost use Rattle.fts_pack.specs.Documents.{block_count};
+ghost use Rattle.fts_segment.specs.PositionLists.{IsPositionList};
+ghost use Rattle.fts_segment.specs.PositionListBounds.{AreBounds};
+ghost use Rattle.fts_segment.specs.PositionListLogs.{IsPositionListLog, logged_position_lists};
+ghost use Rattle.fts_segment.specs.PositionsLeft.{positions_left};
+
+use crate::positions::Positions;
+use fts_pack::{BLOCK, Numbers, push_gaps};
+use std::alloc::{AllocError, Global};
+use std::marker::Model;
+
+/// The positions of postings, a list for each. Contracts see the list of these lists.
+///
+/// A list is found by the counts of the 128 lists of its block, which are added up once, as long as lists of this block
+/// are asked for ([`Bounds`]). No position of another list is unpacked.
+#[derive(Drop)]
+pub(crate) struct PositionLists {
+    /// How many positions each list has.
+    counts: Numbers,
+    /// Where the positions of the first of each 128 lists begin.
+    starts: Vec<usize>,
+    /// Of each list its first position, and then how far each one is above the one before, less 1.
+    gaps: Numbers,
+}
+
+impl Model for PositionLists {
+    ghost use Rattle.std.specs.Prelude.{List, ℕ};
+    ghost use Rattle.fts_segment.specs.PositionLists.{position_lists_at, ArePacked};
+
+    ghost Value = { List (List ℕ) };
+
+    ghost view = { λ l. position_lists_at l.counts l.gaps };
+
+    ghost invariant = { λ l. ArePacked l.counts l.starts.items l.gaps };
+}
+
+impl PositionLists {
+    /// Packs the lists of a log.
+    pub(crate) fn build(alloc: Global, log: PositionListLog) -> Result<PositionLists, AllocError>
+        requires { IsPositionListLog log }
+        ensures { IfOk result (λ lists. lists ≡ logged_position_lists log) }
+    {
+        let Ok(counts) = Numbers::build(alloc, &log.counts) else {
+            return Err(AllocError);
+        };
+        let Ok(gaps) = Numbers::build(alloc, &log.gaps) else {
+            return Err(AllocError);
+        };
+        Ok(PositionLists {
+            counts,
+            starts: log.starts,
+            gaps,
+        })
+    }
+
+    /// The list of this number, and no positions where there is none.
+    pub(crate) fn get(&self, number: usize, bounds: &mut Bounds) -> Positions<'_>
+        requires bounds { AreBounds self.now bounds.old }
+        ensures bounds { AreBounds self.now bounds.new }
+        ensures positions { positions_left result ≡ slice_index_or self.now number [] }
+    {
+        if number >= self.counts.len() {
+            return Positions::none();
+        }
+        self.enter(number / BLOCK, bounds);
+        let index = number % BLOCK;
+        Positions::between(&self.gaps, bounds.at[index], bounds.at[index + 1])
+    }
+
+    // Looks where the lists of a block begin and end, unless that is the block that was looked at last.
+    fn enter(&self, block: usize, bounds: &mut Bounds)
+        requires within { block < block_count (length self.now) }
+        requires bounds { AreBounds self.now bounds.old }
+        ensures block { bounds.new.block ≡ Some block }
+        ensures bounds { AreBounds self.now bounds.new }
+    {
+        if bounds.block == Some(block) {
+            return;
+        }
+        let mut counts = [0; BLOCK];
+        let many = self.counts.open(block, &mut counts);
+        add_up(self.starts[block], &counts[..many], &mut bounds.at);
+        bounds.block = Some(block);
+    }
+}
+
+// Writes a number, and behind it its sums with the first count, with the first two, and so on.
+fn add_up(start: usize, counts: &[u32], out: &mut [usize; 129])
+    requires few { length counts.now ≤ 128 }
+    requires fits { start + sum counts.now < 2 ^ 64 }
+    ensures { (index : ℕ) → index ≤ length counts.now
+        → slice_index out.new index ≡ start + sum (take index counts.now) }
+{
+    let mut end = start;
+    out[0] = end;
+    for (index, count) in counts.iter().enumerate() {
+        end += *count as usize;
+        out[index + 1] = end;
+    }
+}
+
+/// Where the lists of a block begin and end among the differences, where one was looked at.
+#[derive(Drop)]
+pub(crate) struct Bounds {
+    /// Which block it is.
+    pub(crate) block: Option<usize>,
+    /// Where each list of the block begins, and behind these where the last one ends.
+    pub(crate) at: [usize; 129],
+}
+
+impl Bounds {
+    ghost use Rattle.std.specs.Prelude.{List, ℕ};
+    ghost use Rattle.fts_segment.specs.PositionListBounds.{AreBounds};
+
+    /// Of no block.
+    pub(crate) fn new() -> Bounds
+        ensures { (lists : List (List ℕ)) → AreBounds lists result }
+    {
+        Bounds {
+            block: None,
+            at: [0; 129],
+        }
+    }
+}
+
+/// Lists of positions as they come, as they are to be packed.
+#[derive(Drop)]
+pub(crate) struct PositionListLog {
+    pub(crate) counts: Vec<u32>,
+    pub(crate) starts: Vec<usize>,
+    pub(crate) gaps: Vec<u32>,
+}
+
+impl PositionListLog {
+    ghost use Rattle.std.specs.Prelude.{◌≡◌, ◌++◌, ◌∷◌, [], OnOk, length};
+    ghost use Rattle.fts_segment.specs.PositionLists.{IsPositionList};
+    ghost use Rattle.fts_segment.specs.PositionListLogs.{IsPositionListLog, logged_position_lists};
+
+    /// No lists.
+    pub(crate) fn new(alloc: Global) -> PositionListLog
+        ensures is { IsPositionListLog result }
+        ensures none { logged_position_lists result ≡ [] }
+    {
+        PositionListLog {
+            counts: Vec::new(alloc),
+            starts: Vec::new(alloc),
+            gaps: Vec::new(alloc),
+        }
+    }
+
+    /// How many lists there are.
+    pub(crate) fn len(&self) -> usize
+        ensures { result ≡ length (logged_position_lists self.now) }
+    {
+        self.counts.len()
+    }
+
+    /// Puts a list behind the others.
+    pub(crate) fn push(&mut self, list: &[u32]) -> Result<(), AllocError>
+        requires is { IsPositionListLog self.old }
+        requires list { IsPositionList list.now }
+        ensures is { OnOk result (IsPositionListLog self.new) }
+        ensures pushed { OnOk result (logged_position_lists self.new
+            ≡ logged_position_lists self.old ++ list.now ∷ []) }
+    {
+        push_start(&mut self.starts, self.counts.len(), self.gaps.len())?;
+        push_gaps(&mut self.gaps, 0, list)?;
+        self.counts.push(list.len() as u32)?;
+        Ok(())
+    }
+}
+
+// Keeps where the positions of the next list begin, if it is the first of 128.
+fn push_start(starts: &mut Vec<usize>, lists: usize, start: usize) -> Result<(), AllocError>
+    ensures { OnOk result (starts.new.items
+        ≡ starts.old.items ++ cond (lists % 128 == 0) (start ∷ []) []) }
+{
+    if lists % BLOCK == 0 {
+        starts.push(start)?;
+    }
+    Ok(())
+}

@@ -1,0 +1,151 @@
+// Writes the postings of terms in their order: of each the documents, and its positions in them.
+ghost use Rattle.std.specs.Prelude.{◌≡◌, ◌++◌, [], OnOk, IfOk, All, map, slice_index_or};
+ghost use Rattle.std.specs.List.Sorted.{IsStrictlyIncreasing};
+ghost use Rattle.fts_segment.specs.Dictionaries.{docs_in, unless_none, names_listed, listed_by};
+ghost use Rattle.fts_segment.specs.Positions.{position_lists_of};
+ghost use Rattle.fts_segment.specs.PositionLists.{IsPositionList};
+ghost use Rattle.fts_segment.specs.PositionLogs.{IsPositionLog, logged_term_position_lists};
+
+use crate::dictionary::Dictionary;
+use crate::names::Names;
+use crate::term_groups::{Place, TermGroups};
+use crate::term_positions::{PositionLog, TermPositions};
+use fts_pack::List;
+use std::alloc::{AllocError, Global};
+
+/// Terms with their lists, and their positions as they are to be packed.
+#[derive(Drop)]
+pub(crate) struct PostingsWriter {
+    pub(crate) names: Names,
+    pub(crate) lists: Vec<List>,
+    pub(crate) positions: PositionLog,
+}
+
+// Makes `docs` the documents of places, each once.
+pub(crate) fn set_docs(docs: &mut Vec<u32>, places: &[Place]) -> Result<(), AllocError>
+    ensures { OnOk result (docs.new.items ≡ docs_in places.now) }
+{
+    docs.clear();
+    for place in places {
+        docs.push(place.doc)?;
+    }
+    docs.dedup();
+    Ok(())
+}
+
+impl PostingsWriter {
+    ghost use Rattle.std.specs.Prelude.{◌≡◌, ◌++◌, ◌∷◌, [], All, IfOk, OnOk};
+    ghost use Rattle.std.specs.List.Sorted.{IsStrictlyIncreasing};
+    ghost use Rattle.fts_segment.specs.Dictionaries.{docs_in};
+    ghost use Rattle.fts_segment.specs.Positions.{position_lists_of};
+    ghost use Rattle.fts_segment.specs.PositionLists.{IsPositionList};
+    ghost use Rattle.fts_segment.specs.PositionLogs.{IsPositionLog, logged_term_position_lists};
+    ghost use Rattle.fts_segment.specs.TermPositionLists.{term_position_lists};
+
+    /// Puts a term behind the others, with the documents of its places. `room` is for the numbers of one of them.
+    fn push(
+        &mut self,
+        alloc: Global,
+        room: &mut Vec<u32>,
+        name: &[u8],
+        places: &[Place],
+    ) -> Result<(), AllocError>
+        requires rise { IsStrictlyIncreasing (docs_in places.now) }
+        requires positions { All IsPositionList (position_lists_of places.now) }
+        requires is { IsPositionLog self.old.positions }
+        ensures names { OnOk result (self.new.names ≡ self.old.names ++ name.now ∷ []) }
+        ensures lists { OnOk result (self.new.lists.items
+            ≡ self.old.lists.items ++ docs_in places.now ∷ []) }
+        ensures positions { OnOk result (logged_term_position_lists self.new.positions
+            ≡ logged_term_position_lists self.old.positions ++ position_lists_of places.now ∷ []) }
+        ensures is { OnOk result (IsPositionLog self.new.positions) }
+    {
+        set_docs(room, places)?;
+        let Ok(list) = List::build(alloc, room) else {
+            return Err(AllocError);
+        };
+        self.names.push(name)?;
+        self.lists.push(list)?;
+        self.positions.push(room, places)
+    }
+
+    /// The dictionary of the terms, with their positions packed.
+    pub(crate) fn finish(self, alloc: Global) -> Result<Dictionary, AllocError>
+        requires { IsPositionLog self.positions }
+        ensures names { IfOk result (λ dictionary. dictionary.names ≡ self.names) }
+        ensures lists { IfOk result (λ dictionary. dictionary.lists.items ≡ self.lists.items) }
+        ensures positions { IfOk result
+            (λ dictionary. term_position_lists dictionary.positions
+            ≡ logged_term_position_lists self.positions) }
+    {
+        let PostingsWriter {
+            names,
+            lists,
+            positions,
+        } = self;
+        let positions = TermPositions::build(alloc, positions)?;
+        Ok(Dictionary {
+            names,
+            lists,
+            positions,
+        })
+    }
+}
+
+// Puts a term behind the others, if it has a place.
+fn put(
+    writer: &mut PostingsWriter,
+    alloc: Global,
+    room: &mut Vec<u32>,
+    name: &[u8],
+    places: &[Place],
+) -> Result<(), AllocError>
+    requires rise { IsStrictlyIncreasing (docs_in places.now) }
+    requires positions { All IsPositionList (position_lists_of places.now) }
+    requires is { IsPositionLog writer.old.positions }
+    ensures names { OnOk result (writer.new.names
+        ≡ writer.old.names ++ unless_none places.now name.now) }
+    ensures lists { OnOk result (writer.new.lists.items
+        ≡ writer.old.lists.items ++ unless_none places.now (docs_in places.now)) }
+    ensures positions { OnOk result (logged_term_position_lists writer.new.positions
+        ≡ logged_term_position_lists writer.old.positions
+        ++ unless_none places.now (position_lists_of places.now)) }
+    ensures is { OnOk result (IsPositionLog writer.new.positions) }
+{
+    match places {
+        [] => Ok(()),
+        [_, ..] => writer.push(alloc, room, name, places),
+    }
+}
+
+/// Writes sorted names, each with the places of its number, and leaves out those without a place.
+pub(crate) fn write_terms(
+    alloc: Global,
+    order: &[(&[u8], usize)],
+    groups: &TermGroups,
+) -> Result<PostingsWriter, AllocError>
+    requires rise { All (λ e. IsStrictlyIncreasing (docs_in (slice_index_or groups.now e.1 []))) order.now }
+    requires positions { All
+        (λ e. All IsPositionList (position_lists_of (slice_index_or groups.now e.1 []))) order.now }
+    ensures names { IfOk result
+        (λ all. all.names ≡ names_listed groups.now (map (λ e. (e.1, e.0.now)) order.now)) }
+    ensures lists { IfOk result
+        (λ all. all.lists.items
+        ≡ listed_by docs_in groups.now (map (λ e. (e.1, e.0.now)) order.now)) }
+    ensures positions { IfOk result
+        (λ all. logged_term_position_lists all.positions
+        ≡ listed_by position_lists_of groups.now (map (λ e. (e.1, e.0.now)) order.now)) }
+    ensures is { IfOk result (λ all. IsPositionLog all.positions) }
+{
+    let mut writer = PostingsWriter {
+        names: Names::new(alloc),
+        lists: Vec::new(alloc),
+        positions: PositionLog::new(alloc),
+    };
+    let mut room = Vec::new(alloc);
+    for i in 0..order.len() {
+        let (name, number) = order[i];
+        put(&mut writer, alloc, &mut room, name, groups.get(number))?;
+    }
+    Ok(writer)
+}
