@@ -2,7 +2,7 @@ use Rattle.std.proofs.Common.{◌≡◌, ◌==◌, Bool, IfOk, length, not, sym,
 use Rattle.std.specs.List.{list_all, list_any}
 use Rattle.fts_model.specs.Queries.{is_nonempty}
 use Rattle.fts_model.proofs.QueriesBoolean.{flipped, is_nonempty-length, is_nonempty-none, matches_in, matches_at_bool, not_all_must, one_must_not, musts_suffice, shoulds_decide}
-use Rattle.fts_scan.proofs.matching.+matches.Goals as goal
+use Rattle.fts_scan.proofs.matcher.+matches.Goals as goal
 
 pub query_matches-returns-then-branch : goal.query_matches-returns-then-branch
 query_matches-returns-then-branch t c =

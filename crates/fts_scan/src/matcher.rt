@@ -6,7 +6,8 @@ ghost use Rattle.fts_base.specs.Results.{Gives};
 ghost use Rattle.fts_text.specs.Tokens.{tokens};
 ghost use Rattle.fts_text.specs.Places.{IsPlaceIn, token_at};
 ghost use Rattle.fts_model.specs.QueryValues.{query_value};
-ghost use Rattle.fts_model.specs.Queries.{stands_with, leads, phrase_in, value_has_phrase, number_lt, number_le, value_lt, value_le};
+ghost use Rattle.fts_model.specs.Queries.{stands_with, leads, phrase_in, value_has_phrase, number_lt, number_le};
+ghost use Rattle.fts_model.specs.Queries.{value_lt, value_le};
 ghost use Rattle.fts_model.specs.Queries.{admits_from, admits_to, matches};
 ghost use Rattle.fts_scan.specs.Scans.{one_is};
 
@@ -133,7 +134,7 @@ fn number_lt(a: Number, b: Number) -> bool
     match (a, b) {
         (Number::U64(n), Number::U64(m)) => n < m,
         (Number::I64(n), Number::I64(m)) => n < m,
-        _ => false,
+        (Number::U64(_), Number::I64(_)) | (Number::I64(_), Number::U64(_)) => false,
     }
 }
 
@@ -144,7 +145,7 @@ fn number_le(a: Number, b: Number) -> bool
     match (a, b) {
         (Number::U64(n), Number::U64(m)) => n <= m,
         (Number::I64(n), Number::I64(m)) => n <= m,
-        _ => false,
+        (Number::U64(_), Number::I64(_)) | (Number::I64(_), Number::U64(_)) => false,
     }
 }
 
@@ -154,7 +155,7 @@ fn value_lt(a: &FieldValue, b: &FieldValue) -> bool
 {
     match (a, b) {
         (FieldValue::Number(n), FieldValue::Number(m)) => number_lt(*n, *m),
-        _ => false,
+        (FieldValue::Text(_), _) | (_, FieldValue::Text(_)) => false,
     }
 }
 
@@ -164,7 +165,7 @@ fn value_le(a: &FieldValue, b: &FieldValue) -> bool
 {
     match (a, b) {
         (FieldValue::Number(n), FieldValue::Number(m)) => number_le(*n, *m),
-        _ => false,
+        (FieldValue::Text(_), _) | (_, FieldValue::Text(_)) => false,
     }
 }
 

@@ -2,7 +2,7 @@ use Rattle.std.proofs.Common.{◌+◌, ◌==◌, ◌&&◌}
 use Rattle.std.specs.Str.{bytes_eq}
 use Rattle.fts_text.specs.Places.{places_left}
 use Rattle.fts_scan.proofs.PlacesSought.{Seeks}
-use Rattle.fts_scan.proofs.matching.stands_with.Given as goal
+use Rattle.fts_scan.proofs.matcher.stands_with.Given as goal
 
 abbrev pub invariant-loop-there : goal.invariant-loop-there
 invariant-loop-there l =

@@ -3,7 +3,7 @@ use Rattle.std.specs.List.{list_all}
 use Rattle.fts_text.specs.Tokens.{tokens}
 use Rattle.fts_text.specs.Places.{token_at}
 use Rattle.fts_model.specs.Queries.{stands_with}
-use Rattle.fts_scan.proofs.matching.leads.Given as goal
+use Rattle.fts_scan.proofs.matcher.leads.Given as goal
 
 -- the others stand where those stand that are left
 abbrev pub invariant-loop-other : goal.invariant-loop-other

@@ -2,7 +2,7 @@ use Rattle.fts_text.specs.Tokens.{tokens}
 use Rattle.fts_text.specs.Places.{places_left}
 use Rattle.fts_model.specs.Queries.{leads}
 use Rattle.fts_scan.proofs.PlacesSought.{Seeks}
-use Rattle.fts_scan.proofs.matching.any_leads.Given as goal
+use Rattle.fts_scan.proofs.matcher.any_leads.Given as goal
 
 abbrev pub invariant-loop-place : goal.invariant-loop-place
 invariant-loop-place l =

@@ -1,7 +1,7 @@
 use Rattle.std.proofs.Common.{◌≡◌, drop}
 use Rattle.fts_scan.specs.Scans.{one_is}
 use Rattle.fts_model.proofs.QueriesBoolean.{matches_in}
-use Rattle.fts_scan.proofs.matching.+matches.Given as goal
+use Rattle.fts_scan.proofs.matcher.+matches.Given as goal
 
 -- the answer is that of the queries that are left
 abbrev pub invariant-one_is-loop-query : goal.invariant-one_is-loop-query

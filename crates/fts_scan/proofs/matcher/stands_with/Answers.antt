@@ -2,7 +2,7 @@ use Rattle.std.proofs.Common.{◌≡◌, ◌+◌, ◌==◌, ◌&&◌, sym, ◌�
 use Rattle.std.specs.Str.{bytes_eq}
 use Rattle.fts_text.specs.Places.{places, places_left}
 use Rattle.fts_scan.proofs.PlacesSought.{Seeks-start, Seeks-place, Seeks-next}
-use Rattle.fts_scan.proofs.matching.stands_with.Goals as goal
+use Rattle.fts_scan.proofs.matcher.stands_with.Goals as goal
 
 pub loop-there-init : goal.loop-there-init
 loop-there-init c =

@@ -3,7 +3,7 @@ use Rattle.fts_text.specs.Tokens.{tokens}
 use Rattle.fts_text.specs.Places.{places, places_left}
 use Rattle.fts_model.specs.Queries.{leads}
 use Rattle.fts_scan.proofs.PlacesSought.{Seeks-start, Seeks-place, Seeks-next}
-use Rattle.fts_scan.proofs.matching.any_leads.Goals as goal
+use Rattle.fts_scan.proofs.matcher.any_leads.Goals as goal
 
 pub loop-place-init : goal.loop-place-init
 loop-place-init c =
