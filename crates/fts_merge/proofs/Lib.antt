@@ -1,6 +1,6 @@
 pub mod BitsLemmas
-pub mod StrikingLemmas
-pub mod MergingLemmas
+pub mod DeletesLemmas
+pub mod MergeLemmas
 pub mod OriginsLemmas
 pub mod PlacesLemmas
 pub mod LevelsLemmas

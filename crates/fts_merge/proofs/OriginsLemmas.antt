@@ -8,7 +8,7 @@ use Rattle.fts_merge.specs.declared.origin.Origin.{Origin}
 use Rattle.fts_segment.specs.Contents.{content_of}
 use Rattle.fts_merge.specs.Merges.{SourceValue, HasBits, IsMerged, live_count, contents, origins_in, origins_from, merge_of}
 use Rattle.fts_merge.proofs.BitsLemmas.{length-where_set}
-use Rattle.fts_merge.proofs.MergingLemmas.{count_of, origins_behind, origins-cons}
+use Rattle.fts_merge.proofs.MergeLemmas.{count_of, origins_behind, origins-cons}
 
 -- each set bit has an origin
 pub length-origins_behind : (source n : ℕ) (bits : List Bool) → length (origins_behind source n bits) ≡ count_by (λ bit. bit) bits

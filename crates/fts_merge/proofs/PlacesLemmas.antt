@@ -10,7 +10,7 @@ use Rattle.fts_merge.specs.declared.origin.Origin.{Origin}
 use Rattle.fts_segment.specs.Contents.{where_set, content_of}
 use Rattle.fts_merge.specs.Merges.{SourceValue, HasBits, contents, origins_in, origins_from}
 use Rattle.fts_merge.proofs.BitsLemmas.{length-where_set}
-use Rattle.fts_merge.proofs.MergingLemmas.{origins_behind, origins-cons}
+use Rattle.fts_merge.proofs.MergeLemmas.{origins_behind, origins-cons}
 use Rattle.fts_merge.proofs.OriginsLemmas.{length-origins_behind}
 
 -- the members of two lists, one behind the other

@@ -1,2 +1,2 @@
 -- What only private functions are told by: no reader of a public contract meets these.
-pub mod Striking
+pub mod Deletes

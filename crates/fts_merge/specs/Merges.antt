@@ -1,5 +1,6 @@
 -- What a merge of segments gives: a segment of their live documents, and where each of these comes from.
-use Rattle.std.specs.Prelude.{◌≡◌, ◌≢◌, ◌<◌, ℕ, ◌+◌, Bool, List, [], ◌∷◌, ◌++◌, All, AllPairs, length, map, sum_by, count_by, flat_map}
+use Rattle.std.specs.Prelude.{◌≡◌, ◌≢◌, ◌<◌, ℕ, ◌+◌, Bool, List, [], ◌∷◌, ◌++◌, All, AllPairs, length, map, sum_by}
+use Rattle.std.specs.Prelude.{count_by, flat_map}
 use Rattle.fts_model.specs.declared.schema.Field.{Field}
 use Rattle.fts_model.specs.declared.operation.Stamped.{Stamped}
 use Rattle.fts_model.specs.Documents.{DocumentValue}
@@ -59,7 +60,8 @@ AreOfOneSchema sources = All (λ source. source.segment.schema ≡ schema_of sou
 -- what a merge of sources gives
 abbrev pub merge_of : List SourceValue → MergedValue
 merge_of sources =
-    made_of (record { schema = schema_of sources; documents = contents sources }) (origins_from 0 sources) (length sources)
+    made_of (record { schema = schema_of sources; documents = contents sources })
+    (origins_from 0 sources) (length sources)
 
 -- what holds of every merged segment: each document has one origin, no two have the same, and each is of a source
 pub record IsMerged (merged : MergedValue) : Type 0 where

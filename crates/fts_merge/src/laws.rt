@@ -1,5 +1,6 @@
 //! What ties the definitions to each other: each contract is a law, and the body is empty.
-ghost use Rattle.std.specs.Prelude.{◌≡◌, ◌<◌, ◌≤◌, ◌++◌, ℕ, true, Bool, List, Some, All, AllPairs, count_by, filter, flat_map, length, slice_get, ◌≢◌};
+ghost use Rattle.std.specs.Prelude.{◌≡◌, ◌<◌, ◌≤◌, ◌++◌, ℕ, true, Bool, List, Some, All, AllPairs, count_by, filter};
+ghost use Rattle.std.specs.Prelude.{flat_map, length, slice_get, ◌≢◌};
 ghost use Rattle.fts_model.specs.declared.schema.Field.{Field};
 ghost use Rattle.fts_model.specs.declared.operation.Op.{Op};
 ghost use Rattle.fts_model.specs.declared.operation.Stamped.{Stamped};

@@ -113,9 +113,10 @@ fn large_levels(alloc: Global, counted: &[Counted]) -> Result<Vec<Vec<usize>>, A
 
 /// What is to be merged among segments of these sizes: for each candidate the indexes of its sizes.
 ///
-/// Sizes over 1,000,000 aren't considered, and those below 10,000 count as 10,000. So counted they are ordered, the greatest
-/// first and equal ones by their indexes. The first size opens a level, and a size joins it where its logarithm to base 2 is at
-/// most 0.75 less than that of the level's first; else it opens another. A level of at least 8 sizes is a candidate.
+/// Sizes over 1,000,000 aren't considered, and those below 10,000 count as 10,000. So counted they are ordered, the
+/// greatest first and equal ones by their indexes. The first size opens a level, and a size joins it where its
+/// logarithm to base 2 is at most 0.75 less than that of the level's first; else it opens another. A level of at least
+/// 8 sizes is a candidate.
 ///
 /// No sizes take no memory.
 pub fn plan(alloc: Global, sizes: &[u32]) -> Result<Vec<Vec<usize>>, Refusal>

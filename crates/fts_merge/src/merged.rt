@@ -6,8 +6,8 @@ use crate::origin::Origin;
 use fts_segment::Segment;
 use std::marker::Model;
 
-/// A segment of the live documents of others, its sources. For each of its documents it tells the source and the number there;
-/// no two documents have one origin.
+/// A segment of the live documents of others, its sources. For each of its documents it tells the source and the number
+/// there; no two documents have one origin.
 #[derive(Drop)]
 pub struct Merged {
     segment: Segment,

@@ -1,5 +1,7 @@
 -- What the answer to a query and a request is.
-use Rattle.std.specs.Prelude.{◌≡◌, ◌↔◌, ℕ, ◌+◌, ◌<◌, nat_lt, min, Bool, true, false, List, [], ◌∷◌, length, take, fold, Option, Some, None, if◌then◌else◌, option_map, option_and_then, count_by, All, AllPairs, Contains}
+use Rattle.std.specs.Prelude.{◌≡◌, ◌↔◌, ℕ, ◌+◌, ◌<◌, nat_lt, min, Bool, true, false, List, [], ◌∷◌, length, take, fold}
+use Rattle.std.specs.Prelude.{Option, Some, None, if◌then◌else◌, option_map, option_and_then, count_by, All, AllPairs}
+use Rattle.std.specs.Prelude.{Contains}
 use Rattle.std.specs.Ordering.{nat_cmp, int_cmp, match_ordering, is_eq}
 use Rattle.std.specs.List.{filter_map}
 use Rattle.std.specs.Option.{option_map_or}
@@ -49,7 +51,10 @@ numbers_in field hits = filter_map (λ hit. number_in_field hit.value field) hit
 abbrev pub count_number : List (Number × ℕ) → Number → List (Number × ℕ)
 count_number [] n = (n, 1) ∷ []
 count_number (group ∷ groups) n =
-    match_ordering (number_cmp n group.0) ((n, 1) ∷ group ∷ groups) ((group.0, group.1 + 1) ∷ groups) (group ∷ count_number groups n)
+    match_ordering (number_cmp n group.0)
+    ((n, 1) ∷ group ∷ groups)
+    ((group.0, group.1 + 1) ∷ groups)
+    (group ∷ count_number groups n)
 
 -- each number that a hit has in a field, rising, with the number of hits that have it
 abbrev pub groups : ℕ → List (Stamped DocumentValue) → List (Number × ℕ)
@@ -70,7 +75,9 @@ pub record IsGroups (field : ℕ) (hits : List (Stamped DocumentValue)) (list : 
 
 -- a hit with its number in a field, if it has one
 abbrev pub hit_in : ℕ → Stamped DocumentValue → Option Hit
-hit_in field hit = option_map (λ n. record { stamp = hit.stamp; value = n; document = hit.value }) (number_in_field hit.value field)
+hit_in field hit =
+    option_map (λ n. record { stamp = hit.stamp; value = n; document = hit.value })
+    (number_in_field hit.value field)
 
 -- the hits that have a number in a field
 abbrev pub hits_in : ℕ → List (Stamped DocumentValue) → List Hit
@@ -86,16 +93,19 @@ abbrev pub comes_before : Order → Hit → Hit → Bool
 comes_before order a b = match_ordering (cmp_by order a.value b.value) true (nat_lt a.stamp b.stamp) false
 
 -- the top list: at most `k` of the hits that have a number in the field, each before the next and before those left out
-pub record IsTop (k : ℕ) (order : Order) (field : ℕ) (hits : List (Stamped DocumentValue)) (list : List Hit) : Type 0 where
+pub record IsTop (k : ℕ) (order : Order) (field : ℕ) (hits : List (Stamped DocumentValue))
+    (list : List Hit) : Type 0 where
   pub long : length list ≡ min k (length (hits_in field hits))
   pub members : All (Contains (hits_in field hits)) list
   pub ordered : AllPairs (λ a b. comes_before order a b ≡ true) list
-  pub first : (other : Hit) → Contains (hits_in field hits) other → ¬ Contains list other → All (λ member. comes_before order member other ≡ true) list
+  pub first : (other : Hit) → Contains (hits_in field hits) other → ¬ Contains list other
+      → All (λ member. comes_before order member other ≡ true) list
 
 -- a list of hits with one more, before the first that it comes before
 abbrev pub put_hit : Order → List Hit → Hit → List Hit
 put_hit order [] hit = hit ∷ []
-put_hit order (other ∷ others) hit = if comes_before order hit other then hit ∷ other ∷ others else other ∷ put_hit order others hit
+put_hit order (other ∷ others) hit =
+    if comes_before order hit other then hit ∷ other ∷ others else other ∷ put_hit order others hit
 
 -- the hits that have a number in a field, in the order of a top list
 abbrev pub sorted_hits : Order → ℕ → List (Stamped DocumentValue) → List Hit

@@ -1,15 +1,19 @@
 -- What a document is: a value, or none, for each field of a schema, and what a JSON value says of it.
-use Rattle.std.specs.Prelude.{◌≡◌, ℕ, ◌^◌, ℤ, pos, negsuc, ◌&&◌, nat_le, nat_lt, Bool, true, false, List, [], ◌∷◌, length, map, Result, Ok, Err, Option, Some, None, IfSome, AllPairs, drop, if◌then◌else◌, option_map, option_and_then, slice_get}
+use Rattle.std.specs.Prelude.{◌≡◌, ℕ, ◌^◌, ℤ, pos, negsuc, ◌&&◌, nat_le, nat_lt, Bool, true, false, List, [], ◌∷◌}
+use Rattle.std.specs.Prelude.{length, map, Result, Ok, Err, Option, Some, None, IfSome, AllPairs, drop, if◌then◌else◌}
+use Rattle.std.specs.Prelude.{option_map, option_and_then, slice_get}
 use Rattle.std.specs.List.{AllZip, find}
 use Rattle.std.specs.Str.{bytes_eq}
 use Rattle.std.specs.Ordering.{nat_cmp}
 use Rattle.std.specs.Cmp.Lexicographic.{slice_cmp}
 use Rattle.std.specs.declared.cmp.Ordering.TheVariants.{Less}
 use Rattle.std.specs.Option.{ok_or}
-use Rattle.serde_json.specs.Data.{Num, unsigned, Data, null, boolean, number, string, array, object, Members, no_members, member, put}
+use Rattle.serde_json.specs.Data.{Num, unsigned, Data, null, boolean, number, string, array, object, Members}
+use Rattle.serde_json.specs.Data.{no_members, member, put}
 use Rattle.serde_json.specs.Find.{as_u64, as_i64, of_integer, get_member}
 use Rattle.fts_base.specs.declared.refusal.Refusal.{Refusal}
-use Rattle.fts_base.specs.declared.refusal.Refusal.TheVariants.{NotAnObject, UnknownField, WrongKind, TextTooLong, KeywordTooLong}
+use Rattle.fts_base.specs.declared.refusal.Refusal.TheVariants.{NotAnObject, UnknownField, WrongKind, TextTooLong}
+use Rattle.fts_base.specs.declared.refusal.Refusal.TheVariants.{KeywordTooLong}
 use Rattle.fts_model.specs.declared.value.Number.TheVariants as numbers
 use Rattle.fts_model.specs.declared.schema.Kind.{Kind}
 use Rattle.fts_model.specs.declared.schema.Kind.TheVariants as kinds
@@ -76,15 +80,19 @@ NamesRise members = AllPairs (λ a b. slice_cmp nat_cmp a b ≡ Less) (member_na
 -- what is wrong with the members of an object: the first fault, as they stand, which is in the order of their names
 abbrev pub members_fault : List Field → Members → Option Refusal
 members_fault fields no_members = None
-members_fault fields (member name value members) = first_of (member_fault fields name value) (members_fault fields members)
+members_fault fields (member name value members) =
+    first_of (member_fault fields name value) (members_fault fields members)
 
 -- the value of a field: what the members have at its name
 abbrev pub value_at : Members → Field → Option FieldValue
-value_at members field = option_and_then (λ value. option_and_then (λ v. v) (value_if_ok (value_in field.kind value))) (get_member field.name members)
+value_at members field =
+    option_and_then (λ value. option_and_then (λ v. v) (value_if_ok (value_in field.kind value)))
+    (get_member field.name members)
 
 -- the document that a JSON value is under a schema, or the first refusal
 abbrev pub document_of : List Field → Data → Result DocumentValue Refusal
-document_of fields (object ms) = ok_unless (members_fault fields ms) (record { schema = fields; values = map (value_at ms) fields })
+document_of fields (object ms) =
+    ok_unless (members_fault fields ms) (record { schema = fields; values = map (value_at ms) fields })
 document_of fields null = Err NotAnObject
 document_of fields (string text) = Err NotAnObject
 document_of fields (number n) = Err NotAnObject
@@ -147,7 +155,8 @@ may_stand (Some there) field (Some v) = bytes_eq field.name there.name && is_of_
 abbrev pub fits_fields : List Field → List Field → List (Option FieldValue) → Bool
 fits_fields schema [] vs = true
 fits_fields schema (field ∷ fields) [] = true
-fits_fields schema (field ∷ fields) (v ∷ vs) = may_stand (slice_get schema 0) field v && fits_fields (drop 1 schema) fields vs
+fits_fields schema (field ∷ fields) (v ∷ vs) =
+    may_stand (slice_get schema 0) field v && fits_fields (drop 1 schema) fields vs
 
 -- whether a document fits a schema
 abbrev pub fits : List Field → DocumentValue → Bool

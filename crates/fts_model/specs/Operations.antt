@@ -1,5 +1,6 @@
 -- What operations do to documents.
-use Rattle.std.specs.Prelude.{◌≢◌, ℕ, ◌==◌, ◌<◌, ◌&&◌, not, nat_lt, Bool, true, false, List, [], ◌∷◌, ◌++◌, Option, Some, None, Result, Ok, Err, if◌then◌else◌, slice_get, map, option_map, AllPairs}
+use Rattle.std.specs.Prelude.{◌≢◌, ℕ, ◌==◌, ◌<◌, ◌&&◌, not, nat_lt, Bool, true, false, List, [], ◌∷◌, ◌++◌, Option}
+use Rattle.std.specs.Prelude.{Some, None, Result, Ok, Err, if◌then◌else◌, slice_get, map, option_map, AllPairs}
 use Rattle.std.specs.Ordering.{int_eq}
 use Rattle.std.specs.List.{list_any}
 use Rattle.std.specs.Option.{ok_or, option_map_or}
@@ -37,11 +38,14 @@ term_value kind value = some_value_in kind value
 
 -- the term that a JSON value is in the field of this number
 abbrev pub term_at : List Field → ℕ → Data → Result Term Refusal
-term_at schema field value = option_map_or (λ kind. result_map (λ v. record { field = field; value = v }) (term_value kind value)) (kind_at schema field) (Err UnknownField)
+term_at schema field value =
+    option_map_or (λ kind. result_map (λ v. record { field = field; value = v }) (term_value kind value))
+    (kind_at schema field) (Err UnknownField)
 
 -- the term that a JSON value is in the field of this name
 abbrev pub term_of : List Field → List ℕ → Data → Result Term Refusal
-term_of schema name value = option_map_or (λ field. term_at schema field value) (field_named name schema) (Err UnknownField)
+term_of schema name value =
+    option_map_or (λ field. term_at schema field value) (field_named name schema) (Err UnknownField)
 
 -- whether a term fits a schema: its value is of its field's kind
 abbrev pub term_fits : List Field → Term → Bool
@@ -87,7 +91,8 @@ is_struck schema later document = list_any (λ op. strikes schema op.value docum
 
 -- what an operation leaves, where these come later: the document that it adds, unless one of them strikes it
 abbrev pub left_by : List Field → ℕ → Op → List (Stamped Op) → List (Stamped DocumentValue)
-left_by schema stamp (Add document) later = if is_struck schema later document then [] else record { stamp = stamp; value = document } ∷ []
+left_by schema stamp (Add document) later =
+    if is_struck schema later document then [] else record { stamp = stamp; value = document } ∷ []
 left_by schema stamp (Delete term) later = []
 left_by schema stamp DeleteAll later = []
 

@@ -1,5 +1,6 @@
 -- Which documents a query matches, and what may be asked of those.
-use Rattle.std.specs.Prelude.{◌≡◌, ℕ, ◌+◌, ◌==◌, ℤ, pos, ◌+ℤ◌, ◌&&◌, ◌||◌, not, nat_lt, nat_le, int_lt, Bool, true, false, List, [], ◌∷◌, Option, Some, None, Result, Ok, Err, if◌then◌else◌, All, Contains}
+use Rattle.std.specs.Prelude.{◌≡◌, ℕ, ◌+◌, ◌==◌, ℤ, pos, ◌+ℤ◌, ◌&&◌, ◌||◌, not, nat_lt, nat_le, int_lt, Bool, true}
+use Rattle.std.specs.Prelude.{false, List, [], ◌∷◌, Option, Some, None, Result, Ok, Err, if◌then◌else◌, All, Contains}
 use Rattle.std.specs.List.{list_any, list_all, filter}
 use Rattle.std.specs.Option.{option_map_or}
 use Rattle.std.specs.Str.{bytes_eq}
@@ -23,7 +24,8 @@ use Rattle.fts_base.specs.Results.{result_and_then, result_map}
 use Rattle.fts_model.specs.Schemas.{field_named, holds_numbers}
 use Rattle.fts_model.specs.Documents.{DocumentValue, value_in_field, is_of_kind}
 use Rattle.fts_model.specs.Operations.{has, kind_at, term_fits}
-use Rattle.fts_model.specs.QueryValues.{QueryValue, every, nothing, term, phrase, range, boolean, QueryValues, no_queries, queries}
+use Rattle.fts_model.specs.QueryValues.{QueryValue, every, nothing, term, phrase, range, boolean, QueryValues}
+use Rattle.fts_model.specs.QueryValues.{no_queries, queries}
 
 -- where a member of a pattern is a token, another member is one as far behind it as their offsets are apart
 abbrev pub stands_with : List (ℕ × List ℕ) → ℕ × List ℕ → ℕ × List ℕ → ℕ × List ℕ → Bool
@@ -38,9 +40,12 @@ abbrev pub phrase_in : List ℕ → List (ℕ × List ℕ) → Bool
 phrase_in text [] = true
 phrase_in text (first ∷ others) = list_any (leads (tokens text) first others) (tokens text)
 
--- for some whole number, below 0 or not, each member is a token whose position is that number and the member's offset together
+-- for some whole number, below 0 or not, each member is a token whose position is that number and the member's offset
+-- together
 abbrev pub PhraseIn : List ℕ → List (ℕ × List ℕ) → Type 0
-PhraseIn text pattern = (shift : ℤ) × All (λ m. (position : ℕ) × (pos position ≡ shift +ℤ pos m.0) × Contains (tokens text) (position, m.1)) pattern
+PhraseIn text pattern =
+    (shift : ℤ) ×
+    All (λ m. (position : ℕ) × (pos position ≡ shift +ℤ pos m.0) × Contains (tokens text) (position, m.1)) pattern
 
 -- a value has a phrase
 abbrev pub value_has_phrase : List (ℕ × List ℕ) → FieldValue → Bool
@@ -94,10 +99,13 @@ abbrev mutual
   matches schema document every = true
   matches schema document nothing = false
   matches schema document (term t) = has schema document t
-  matches schema document (phrase field pattern) = option_map_or (value_has_phrase pattern) (value_in_field document field) false
-  matches schema document (range field lower upper) = option_map_or (λ v. admits_from lower v && admits_to upper v) (value_in_field document field) false
+  matches schema document (phrase field pattern) =
+      option_map_or (value_has_phrase pattern) (value_in_field document field) false
+  matches schema document (range field lower upper) =
+      option_map_or (λ v. admits_from lower v && admits_to upper v) (value_in_field document field) false
   matches schema document (boolean must must_not should) =
-      all_match schema document must && not (any_matches schema document must_not) && (are_some must || any_matches schema document should)
+      all_match schema document must && not (any_matches schema document must_not)
+      && (are_some must || any_matches schema document should)
 
   pub all_match : List Field → DocumentValue → QueryValues → Bool
   all_match schema document no_queries = true
@@ -126,15 +134,18 @@ is_bound_of kind Unbounded = true
 abbrev pub is_range_of : Bound FieldValue → Bound FieldValue → Kind → Bool
 is_range_of lower upper kind = holds_numbers kind && is_bound_of kind lower && is_bound_of kind upper
 
--- whether a query fits a schema: a term's value is of its field's kind, a phrase is of a text field and has a member, a range is of a number field and so are its bounds; whether all of some queries do
+-- whether a query fits a schema: a term's value is of its field's kind, a phrase is of a text field and has a member, a
+-- range is of a number field and so are its bounds; whether all of some queries do
 abbrev mutual
   pub query_fits : List Field → QueryValue → Bool
   query_fits schema every = true
   query_fits schema nothing = true
   query_fits schema (term t) = term_fits schema t
-  query_fits schema (phrase field pattern) = option_map_or holds_phrases (kind_at schema field) false && is_nonempty pattern
+  query_fits schema (phrase field pattern) =
+      option_map_or holds_phrases (kind_at schema field) false && is_nonempty pattern
   query_fits schema (range field lower upper) = option_map_or (is_range_of lower upper) (kind_at schema field) false
-  query_fits schema (boolean must must_not should) = all_fit schema must && all_fit schema must_not && all_fit schema should
+  query_fits schema (boolean must must_not should) =
+      all_fit schema must && all_fit schema must_not && all_fit schema should
 
   pub all_fit : List Field → QueryValues → Bool
   all_fit schema no_queries = true
@@ -151,12 +162,14 @@ is_limit k = nat_le 1 k && nat_le k 10000
 -- whether a request fits a schema: it is about number fields, and its limit is one
 abbrev pub request_fits : List Field → Request → Bool
 request_fits schema request =
-    option_map_or (is_number_field schema) request.groups true && option_map_or (λ top. is_number_field schema top.by && is_limit top.k) request.top true
+    option_map_or (is_number_field schema) request.groups true
+    && option_map_or (λ top. is_number_field schema top.by && is_limit top.k) request.top true
 
 -- the number of the number field of this name
 abbrev pub number_field_named : List Field → List ℕ → Result ℕ Refusal
 number_field_named schema name =
-    option_map_or (λ field. if is_number_field schema field then Ok field else Err NotANumberField) (field_named name schema) (Err UnknownField)
+    option_map_or (λ field. if is_number_field schema field then Ok field else Err NotANumberField)
+    (field_named name schema) (Err UnknownField)
 
 -- the field of the groups that are asked for, if they are
 abbrev pub groups_of : List Field → Option (List ℕ) → Result (Option ℕ) Refusal
@@ -167,9 +180,12 @@ groups_of schema (Some name) = result_map Some (number_field_named schema name)
 abbrev pub top_of : List Field → Option (List ℕ × ℕ × Order) → Result (Option Top) Refusal
 top_of schema None = Ok None
 top_of schema (Some (name, k, order)) =
-    result_and_then (λ field. if is_limit k then Ok (Some (record { by = field; k = k; order = order })) else Err BadLimit) (number_field_named schema name)
+    result_and_then
+    (λ field. if is_limit k then Ok (Some (record { by = field; k = k; order = order })) else Err BadLimit)
+    (number_field_named schema name)
 
 -- the request for groups by the field of this name, and for a top list
 abbrev pub request_of : List Field → Option (List ℕ) → Option (List ℕ × ℕ × Order) → Result Request Refusal
 request_of schema groups top =
-    result_and_then (λ field. result_map (λ list. record { groups = field; top = list }) (top_of schema top)) (groups_of schema groups)
+    result_and_then (λ field. result_map (λ list. record { groups = field; top = list }) (top_of schema top))
+    (groups_of schema groups)

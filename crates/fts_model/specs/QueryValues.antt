@@ -6,7 +6,8 @@ use Rattle.fts_model.specs.declared.operation.Term.{Term}
 use Rattle.fts_model.specs.declared.query.Query.{Query, fold-Query}
 use Rattle.fts_model.specs.declared.query.Query.TheOpen.{Query-F}
 
--- every document, none, those with a term, those with a phrase in a field, those with a value of a field within bounds, and those that musts, must-nots and shoulds leave
+-- every document, none, those with a term, those with a phrase in a field, those with a value of a field within bounds,
+-- and those that musts, must-nots and shoulds leave
 mutual
   pub data QueryValue : Type 0 where
     every : QueryValue
@@ -31,7 +32,8 @@ value_by_parts Query-F.None = nothing
 value_by_parts (Query-F.Term t) = term t
 value_by_parts (Query-F.Phrase field pattern) = phrase field pattern.items
 value_by_parts (Query-F.Range field lower upper) = range field lower upper
-value_by_parts (Query-F.Bool must must_not should) = boolean (query_list must.items) (query_list must_not.items) (query_list should.items)
+value_by_parts (Query-F.Bool must must_not should) =
+    boolean (query_list must.items) (query_list must_not.items) (query_list should.items)
 
 -- a query of the code
 abbrev pub query_value : Query → QueryValue

@@ -1,5 +1,6 @@
 -- What a schema is: a list of 1 to 32 fields, each with a name of its own.
-use Rattle.std.specs.Prelude.{ℕ, ◌==◌, ◌&&◌, ◌||◌, not, nat_le, nat_lt, Bool, false, true, List, [], ◌∷◌, ◌++◌, length, codes, Option, Some, None, if◌then◌else◌, position}
+use Rattle.std.specs.Prelude.{ℕ, ◌==◌, ◌&&◌, ◌||◌, not, nat_le, nat_lt, Bool, false, true, List, [], ◌∷◌, ◌++◌, length}
+use Rattle.std.specs.Prelude.{codes, Option, Some, None, if◌then◌else◌, position}
 use Rattle.std.specs.Char.{is_ascii_alphabetic, is_ascii_alphanumeric}
 use Rattle.std.specs.List.{list_all, list_any}
 use Rattle.std.specs.Str.{bytes_eq}
@@ -58,7 +59,8 @@ first_fault before (field ∷ fields) = first_of (field_fault before field) (fir
 -- the first fault of a list of fields
 abbrev pub schema_fault : List Field → Option Refusal
 schema_fault [] = Some NoFields
-schema_fault (field ∷ fields) = if nat_lt 31 (length fields) then Some TooManyFields else first_fault [] (field ∷ fields)
+schema_fault (field ∷ fields) =
+    if nat_lt 31 (length fields) then Some TooManyFields else first_fault [] (field ∷ fields)
 
 -- the number of the field of this name
 abbrev pub field_named : List ℕ → List Field → Option ℕ

@@ -30,5 +30,9 @@ impl Model for Answer {
 
     ghost Value = { AnswerValue };
 
-    ghost view = { λ a. record { count = a.count; groups = option_map (λ groups. groups.items) a.groups; top = option_map (λ hits. hits.items) a.top } };
+    ghost view = { λ a. record {
+      count = a.count;
+      groups = option_map (λ groups. groups.items) a.groups;
+      top = option_map (λ hits. hits.items) a.top;
+    } };
 }

@@ -1,12 +1,15 @@
 // Documents: a value, or none, for each field of a schema.
-ghost use Rattle.std.specs.Prelude.{◌≡◌, ◌<◌, ◌≤◌, List, ℕ, Some, None, Ok, Err, IfSome, IfOk, IfErr, IsErrOf, OnOk, map, length, slice_get, unwrap_or, option_map, option_copied};
+ghost use Rattle.std.specs.Prelude.{◌≡◌, ◌<◌, ◌≤◌, List, ℕ, Some, None, Ok, Err, IfSome, IfOk, IfErr, IsErrOf, OnOk};
+ghost use Rattle.std.specs.Prelude.{map, length, slice_get, unwrap_or, option_map, option_copied};
 ghost use Rattle.std.specs.Arc.{arc_value};
 ghost use Rattle.std.specs.List.{find};
 ghost use Rattle.serde_json.specs.View.{view, members_view};
 ghost use Rattle.fts_base.specs.Results.{Gives, error_if_err};
 ghost use Rattle.serde_json.specs.Data.{object, no_members};
 ghost use Rattle.fts_model.specs.Schemas.{schema_fault, is_named};
-ghost use Rattle.fts_model.specs.Documents.{value_in, value_at, members_fault, member_fault, document_of, data_of, with_value, with_values, json_of, CanHave, AreValuesOf, IsDocument, may_stand, fits_fields, fits, value_in_field};
+ghost use Rattle.fts_model.specs.Documents.{value_in, value_at, members_fault, member_fault, document_of, data_of};
+ghost use Rattle.fts_model.specs.Documents.{with_value, with_values, json_of, CanHave, AreValuesOf, IsDocument};
+ghost use Rattle.fts_model.specs.Documents.{may_stand, fits_fields, fits, value_in_field};
 ghost use Rattle.fts_model.specs.Shorts.{IsShort};
 ghost use Rattle.fts_base.specs.declared.refusal.Refusal.TheVariants.{Memory};
 
@@ -41,10 +44,13 @@ pub(crate) fn fault_of_value(kind: Kind, json: &Value) -> Option<Refusal>
             Kind::U64 | Kind::I64 => Some(Refusal::WrongKind),
         };
     }
-    let fits = match (kind, json.as_number()) {
-        (Kind::U64, Some(number)) => number.is_u64(),
-        (Kind::I64, Some(number)) => number.is_i64(),
-        _ => false,
+    let Some(number) = json.as_number() else {
+        return Some(Refusal::WrongKind);
+    };
+    let fits = match kind {
+        Kind::Text | Kind::Keyword => false,
+        Kind::U64 => number.is_u64(),
+        Kind::I64 => number.is_i64(),
     };
     if fits { None } else { Some(Refusal::WrongKind) }
 }

@@ -4,7 +4,8 @@ ghost use Rattle.std.specs.List.{list_all};
 ghost use Rattle.fts_base.specs.Results.{Gives};
 ghost use Rattle.fts_model.specs.Answers.{cmp_by};
 ghost use Rattle.fts_model.specs.QueryValues.{query_value};
-ghost use Rattle.fts_model.specs.Queries.{query_fits, is_bound_of, is_range_of, holds_phrases, is_number_field, is_limit, number_field_named, groups_of, top_of};
+ghost use Rattle.fts_model.specs.Queries.{query_fits, is_bound_of, is_range_of, holds_phrases, is_number_field};
+ghost use Rattle.fts_model.specs.Queries.{is_limit, number_field_named, groups_of, top_of};
 
 use crate::operation::{Term, kind_at};
 use crate::schema::{Kind, Schema};

@@ -1,7 +1,9 @@
 // The fields of an index.
-ghost use Rattle.std.specs.Prelude.{◌≡◌, ◌<◌, ◌≤◌, List, ℕ, Some, None, IfOk, IfErr, IsErrAnd, OnOk, length, slice_get, vec_len, option_map};
+ghost use Rattle.std.specs.Prelude.{◌≡◌, ◌<◌, ◌≤◌, List, ℕ, Some, None, IfOk, IfErr, IsErrAnd, OnOk, length, slice_get};
+ghost use Rattle.std.specs.Prelude.{vec_len, option_map};
 ghost use Rattle.fts_base.specs.Results.{first_of};
-ghost use Rattle.fts_model.specs.Schemas.{is_name, is_reserved, starts_name, goes_on_name, has_name_start, holds_numbers, is_named, field_fault, first_fault, schema_fault, field_named};
+ghost use Rattle.fts_model.specs.Schemas.{is_name, is_reserved, starts_name, goes_on_name, has_name_start};
+ghost use Rattle.fts_model.specs.Schemas.{holds_numbers, is_named, field_fault, first_fault, schema_fault, field_named};
 ghost use Rattle.fts_base.specs.declared.refusal.Refusal.TheVariants.{Memory};
 ghost use Rattle.std.specs.Arc.{arc_value};
 ghost use Rattle.std.specs.List.{list_all, list_any};

@@ -1,5 +1,6 @@
 -- What contracts see of a conjunction of posting cursors, and the bound on its openings.
-use Rattle.std.specs.Prelude.{◌≡◌, ℕ, ◌+◌, ◌-◌, ◌<◌, ◌≤◌, All, List, Option, None, Some, true, false, length, map, slice_get}
+use Rattle.std.specs.Prelude.{◌≡◌, ℕ, ◌+◌, ◌-◌, ◌<◌, ◌≤◌, All, List, Option, None, Some, true, false, length, map}
+use Rattle.std.specs.Prelude.{slice_get}
 use Rattle.std.specs.List.{AllZip, sum_by}
 use Rattle.fts_postings.specs.Bounds.{Bound}
 use Rattle.fts_postings.specs.Meeting.{common, in_all}
@@ -72,4 +73,5 @@ Brought doc old new = AllZip (Sought doc) old new
 -- where the lists may next have a document in common, from `doc` on
 abbrev pub IsAhead : ℕ → List (List ℕ) → Option ℕ → Type 0
 IsAhead doc lists None = (d : ℕ) → doc ≤ d → in_all lists d ≡ false
-IsAhead doc lists (Some next) = (doc ≤ next) × (next ≡ doc → in_all lists doc ≡ true) × ((d : ℕ) → doc ≤ d → d < next → in_all lists d ≡ false)
+IsAhead doc lists (Some next) =
+    (doc ≤ next) × (next ≡ doc → in_all lists doc ≡ true) × ((d : ℕ) → doc ≤ d → d < next → in_all lists d ≡ false)

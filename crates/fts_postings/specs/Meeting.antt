@@ -1,5 +1,6 @@
 -- What several rising lists have in common, together, or apart.
-use Rattle.std.specs.Prelude.{◌≡◌, ℕ, Bool, true, false, ◌<◌, Option, Some, None, ◌==◌, List, [], ◌∷◌, not, nat_lt, if◌then◌else◌}
+use Rattle.std.specs.Prelude.{◌≡◌, ℕ, Bool, true, false, ◌<◌, Option, Some, None, ◌==◌, List, [], ◌∷◌, not, nat_lt}
+use Rattle.std.specs.Prelude.{if◌then◌else◌}
 use Rattle.std.specs.List.{filter, list_all, list_any}
 
 -- whether a list has the document

@@ -1,7 +1,9 @@
 // A conjunction of posting cursors: one of them leads, and the others are sought for its documents alone.
-ghost use Rattle.std.specs.Prelude.{◌≡◌, ℕ, ◌-◌, ◌^◌, ◌<◌, ◌≤◌, All, List, drop, length, min, slice_get, slice_index_or, take};
+ghost use Rattle.std.specs.Prelude.{◌≡◌, ℕ, ◌-◌, ◌^◌, ◌<◌, ◌≤◌, All, List, drop, length, min, slice_get};
+ghost use Rattle.std.specs.Prelude.{slice_index_or, take};
 ghost use Rattle.std.specs.List.{AllZip};
-ghost use Rattle.fts_postings.specs.Conjoined.{AllFollow, AreFew, Brought, IsAhead, MayBeBrought, StandAt, StandTogether, bound_of, common_of, each_remaining, openings_of};
+ghost use Rattle.fts_postings.specs.Conjoined.{AllFollow, AreFew, Brought, IsAhead, MayBeBrought, StandAt};
+ghost use Rattle.fts_postings.specs.Conjoined.{StandTogether, bound_of, common_of, each_remaining, openings_of};
 ghost use Rattle.fts_postings.specs.Bounds.{most_at};
 ghost use Rattle.fts_postings.specs.Meeting.{common};
 ghost use Rattle.fts_pack.specs.Documents.{blocks_of};

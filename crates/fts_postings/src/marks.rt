@@ -20,7 +20,8 @@ pub fn within(numbers: &[u64], low: u64, high: u64) -> u64
     above.simd_le(u64x64::splat(high - low)).to_bitmask()
 }
 
-/// Writes the documents from `from` on that are marked behind the first `count` of `out`, and gives how many are there then.
+/// Writes the documents from `from` on that are marked behind the first `count` of `out`, and gives how many are there
+/// then.
 #[inline]
 pub fn write(marks: u64, from: usize, out: &mut [u32; 128], count: usize) -> usize
     requires room { count ≤ 64 }

@@ -1,9 +1,11 @@
 // A cursor over the blocks of one list, of which one is open at a time.
-ghost use Rattle.std.specs.Prelude.{◌≡◌, ℕ, ◌+◌, ◌-◌, ◌^◌, ◌<◌, ◌≤◌, List, [], drop, length, min, slice_index_or, take, if◌then◌else◌, nat_lt};
+ghost use Rattle.std.specs.Prelude.{◌≡◌, ℕ, ◌+◌, ◌-◌, ◌^◌, ◌<◌, ◌≤◌, List, [], drop, length, min, slice_index_or, take};
+ghost use Rattle.std.specs.Prelude.{if◌then◌else◌, nat_lt};
 ghost use Rattle.std.specs.List.Sorted.{IsStrictlyIncreasing};
 ghost use Rattle.fts_pack.specs.Documents.{blocks_of, last_of};
 ghost use Rattle.fts_postings.specs.Fills.{IsStretch};
-ghost use Rattle.fts_postings.specs.Posting.{Follows, Walks, blocks_reached, here, members_of, opened_by_step, remaining_of};
+ghost use Rattle.fts_postings.specs.Posting.{Follows, Walks, blocks_reached, here, members_of, opened_by_step};
+ghost use Rattle.fts_postings.specs.Posting.{remaining_of};
 ghost use Rattle.fts_postings.specs.Remaining.{at_least, IsPlaceOf};
 
 use crate::doc_set::DocSet;
@@ -27,7 +29,13 @@ impl<B: Blocks> Model for PostingCursor<B> {
 
     ghost Value = { Posting };
 
-    ghost view = { λ c. record { blocks = B.contents c.source; block = c.block; at = c.at; opened = c.opened; count = B.openings c.source } };
+    ghost view = { λ c. record {
+      blocks = B.contents c.source;
+      block = c.block;
+      at = c.at;
+      opened = c.opened;
+      count = B.openings c.source;
+    } };
 
     ghost invariant = { λ c. IsPosting (B.contents c.source) c.block c.at c.len c.opened c.numbers };
 }
@@ -171,7 +179,8 @@ impl<B: Blocks> DocSet for PostingCursor<B> {
         }
     }
 
-    /// Looks in the open block first, and else opens the one block in which the target lies or would lie, if there is one.
+    /// Looks in the open block first, and else opens the one block in which the target lies or would lie, if there is
+    /// one.
     fn seek(&mut self, target: u32)
         ensures remaining { remaining_of self.new ≡ at_least target (remaining_of self.old) }
         ensures once { self.new.opened ≤ self.old.opened + 1 }

@@ -4,7 +4,8 @@ use Rattle.std.specs.List.{list_all}
 use Rattle.std.specs.Str.{chars}
 use Rattle.fts_model.specs.declared.schema.Field.{Field}
 use Rattle.fts_base.specs.declared.refusal.Refusal.{Refusal}
-use Rattle.fts_base.specs.declared.refusal.Refusal.TheVariants.{Memory, TooLong, Syntax, TooDeep, UnknownField, BadNumber, RangeOnText, NoDefaultField, AllNegative}
+use Rattle.fts_base.specs.declared.refusal.Refusal.TheVariants.{Memory, TooLong, Syntax, TooDeep, UnknownField}
+use Rattle.fts_base.specs.declared.refusal.Refusal.TheVariants.{BadNumber, RangeOnText, NoDefaultField, AllNegative}
 use Rattle.fts_model.specs.declared.query.Query.{Query}
 use Rattle.fts_query.specs.declared.error.QueryError.{QueryError}
 use Rattle.fts_query.specs.declared.error.QueryError.TheVariants as errors

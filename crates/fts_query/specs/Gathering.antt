@@ -17,7 +17,9 @@ gathered None ms ns ss = Ok (ms, ns, ss)
 gathered (Some error) ms ns ss = Err error
 
 abbrev pub gathered_of : Clauses → Gathered
-gathered_of c = gathered c.error (map query_value c.must.items) (map query_value c.must_not.items) (map query_value c.should.items)
+gathered_of c =
+    gathered c.error (map query_value c.must.items) (map query_value c.must_not.items)
+    (map query_value c.should.items)
 
 abbrev pub gather : Gathered → Clause → Gathered
 gather (Err error) c = Err error

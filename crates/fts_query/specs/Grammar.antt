@@ -1,5 +1,6 @@
 -- Which texts are queries of a schema, and what each means. A text is a list of characters.
-use Rattle.std.specs.Prelude.{◌≡◌, ℕ, ◌<◌, Bool, true, false, not, ◌&&◌, ◌||◌, ◌==◌, List, [], ◌∷◌, ◌++◌, length, codes, Option, Some, None, Ok, if◌then◌else◌}
+use Rattle.std.specs.Prelude.{◌≡◌, ℕ, ◌<◌, Bool, true, false, not, ◌&&◌, ◌||◌, ◌==◌, List, [], ◌∷◌, ◌++◌, length, codes}
+use Rattle.std.specs.Prelude.{Option, Some, None, Ok, if◌then◌else◌}
 use Rattle.std.specs.List.{list_all, list_any}
 use Rattle.std.specs.Str.{encode_utf8_all}
 use Rattle.std.specs.declared.ops.Bound.{Bound}
@@ -9,8 +10,11 @@ use Rattle.fts_model.specs.Schemas.{is_reserved}
 use Rattle.fts_query.specs.declared.clauses.Modifier.{Modifier}
 use Rattle.fts_query.specs.declared.clauses.Modifier.TheVariants.{Plain, Plus, Minus}
 use Rattle.fts_model.specs.QueryValues.{every}
-use Rattle.fts_query.specs.Characters.{tab, line_feed, carriage_return, space, quote, open_parenthesis, close_parenthesis, star, plus, minus, colon, less_than, equals, greater_than, open_bracket, backslash, close_bracket, open_brace, close_brace}
-use Rattle.fts_query.specs.Meanings.{Meaning, Factor, Value, literal, between, list_meaning, literal_anywhere, field_meaning}
+use Rattle.fts_query.specs.Characters.{tab, line_feed, carriage_return, space, quote, open_parenthesis}
+use Rattle.fts_query.specs.Characters.{close_parenthesis, star, plus, minus, colon, less_than, equals, greater_than}
+use Rattle.fts_query.specs.Characters.{open_bracket, backslash, close_bracket, open_brace, close_brace}
+use Rattle.fts_query.specs.Meanings.{Meaning, Factor, Value, literal, between, list_meaning, literal_anywhere}
+use Rattle.fts_query.specs.Meanings.{field_meaning}
 
 -- a space, a tab, a CR or an LF
 abbrev pub is_space : ℕ → Bool
@@ -82,12 +86,17 @@ begins_equals (c ∷ w) = c == equals
 pub data IsValue : List ℕ → Value → Type 0 where
   word : {w : List ℕ} → IsWord w → IsValue w (literal (encode_utf8_all w))
   quoted : (unquoted : List ℕ) → IsValue (quote ∷ quoted_text unquoted) (literal (encode_utf8_all unquoted))
-  range : (u s w t v : List ℕ) {b e : ℕ} {i j : Bool} {low high : Option (List ℕ)} → Opens b i → IsBlank u → IsBound s low → IsOperator (codes "TO") w → IsBound t high → IsBlank v → Closes e j
+  range : (u s w t v : List ℕ) {b e : ℕ} {i j : Bool} {low high : Option (List ℕ)} → Opens b i → IsBlank u
+      → IsBound s low → IsOperator (codes "TO") w → IsBound t high → IsBlank v → Closes e j
       → IsValue (b ∷ (u ++ (s ++ (w ++ (t ++ (v ++ e ∷ [])))))) (between (bound i low) (bound j high))
-  at_least : {w : List ℕ} → IsWord w → IsValue (greater_than ∷ equals ∷ w) (between (Included (encode_utf8_all w)) Unbounded)
-  at_most : {w : List ℕ} → IsWord w → IsValue (less_than ∷ equals ∷ w) (between Unbounded (Included (encode_utf8_all w)))
-  greater : {w : List ℕ} → IsWord w → begins_equals w ≡ false → IsValue (greater_than ∷ w) (between (Excluded (encode_utf8_all w)) Unbounded)
-  less : {w : List ℕ} → IsWord w → begins_equals w ≡ false → IsValue (less_than ∷ w) (between Unbounded (Excluded (encode_utf8_all w)))
+  at_least : {w : List ℕ} → IsWord w
+      → IsValue (greater_than ∷ equals ∷ w) (between (Included (encode_utf8_all w)) Unbounded)
+  at_most : {w : List ℕ} → IsWord w
+      → IsValue (less_than ∷ equals ∷ w) (between Unbounded (Included (encode_utf8_all w)))
+  greater : {w : List ℕ} → IsWord w → begins_equals w ≡ false
+      → IsValue (greater_than ∷ w) (between (Excluded (encode_utf8_all w)) Unbounded)
+  less : {w : List ℕ} → IsWord w → begins_equals w ≡ false
+      → IsValue (less_than ∷ w) (between Unbounded (Excluded (encode_utf8_all w)))
 
 -- nothing, `+`, `-`, or `NOT` and white space
 pub data IsModifier : List ℕ → Modifier → Type 0 where
@@ -99,30 +108,39 @@ pub data IsModifier : List ℕ → Modifier → Type 0 where
 mutual
   -- a list in parentheses, `*`, a literal, or a field and what stands after it
   pub data IsUnit (schema : List Field) : List ℕ → Meaning → Type 0 where
-    group : (v s w : List ℕ) (disjunctions : List (List (List Factor))) → IsBlank v → IsList schema s disjunctions → IsBlank w → IsUnit schema (open_parenthesis ∷ (v ++ (s ++ (w ++ close_parenthesis ∷ [])))) (list_meaning disjunctions)
+    group : (v s w : List ℕ) (disjunctions : List (List (List Factor)))
+        → IsBlank v → IsList schema s disjunctions → IsBlank w
+        → IsUnit schema (open_parenthesis ∷ (v ++ (s ++ (w ++ close_parenthesis ∷ [])))) (list_meaning disjunctions)
     all : IsUnit schema (star ∷ []) (Ok every)
     bare : {w : List ℕ} → IsBare w → IsUnit schema w (literal_anywhere schema (encode_utf8_all w))
-    quoted : (unquoted : List ℕ) → IsUnit schema (quote ∷ quoted_text unquoted) (literal_anywhere schema (encode_utf8_all unquoted))
-    field : (w s : List ℕ) {v : Value} → IsBare w → IsValue s v → IsUnit schema (w ++ (colon ∷ s)) (field_meaning schema (encode_utf8_all w) v)
+    quoted : (unquoted : List ℕ)
+        → IsUnit schema (quote ∷ quoted_text unquoted) (literal_anywhere schema (encode_utf8_all unquoted))
+    field : (w s : List ℕ) {v : Value} → IsBare w → IsValue s v
+        → IsUnit schema (w ++ (colon ∷ s)) (field_meaning schema (encode_utf8_all w) v)
 
   -- a modifier, then a unit
   pub data IsFactor (schema : List Field) : List ℕ → Factor → Type 0 where
-    factor : (v s : List ℕ) {modifier : Modifier} {m : Meaning} → IsModifier v modifier → IsUnit schema s m → IsFactor schema (v ++ s) (modifier, m)
+    factor : (v s : List ℕ) {modifier : Modifier} {m : Meaning} → IsModifier v modifier → IsUnit schema s m
+        → IsFactor schema (v ++ s) (modifier, m)
 
   -- factors with `AND` between them
   pub data IsConjunction (schema : List Field) : List ℕ → List Factor → Type 0 where
     one : {s : List ℕ} {f : Factor} → IsFactor schema s f → IsConjunction schema s (f ∷ [])
-    both : (s w t : List ℕ) {f : Factor} {fs : List Factor} → IsFactor schema s f → IsOperator (codes "AND") w → IsConjunction schema t fs → IsConjunction schema (s ++ (w ++ t)) (f ∷ fs)
+    both : (s w t : List ℕ) {f : Factor} {fs : List Factor} → IsFactor schema s f → IsOperator (codes "AND") w
+        → IsConjunction schema t fs → IsConjunction schema (s ++ (w ++ t)) (f ∷ fs)
 
   -- conjunctions with `OR` between them
   pub data IsDisjunction (schema : List Field) : List ℕ → List (List Factor) → Type 0 where
     conjunction : {s : List ℕ} {c : List Factor} → IsConjunction schema s c → IsDisjunction schema s (c ∷ [])
-    either : (s w t : List ℕ) {c : List Factor} {cs : List (List Factor)} → IsConjunction schema s c → IsOperator (codes "OR") w → IsDisjunction schema t cs → IsDisjunction schema (s ++ (w ++ t)) (c ∷ cs)
+    either : (s w t : List ℕ) {c : List Factor} {cs : List (List Factor)}
+        → IsConjunction schema s c → IsOperator (codes "OR") w → IsDisjunction schema t cs
+        → IsDisjunction schema (s ++ (w ++ t)) (c ∷ cs)
 
   -- disjunctions with white space between them
   pub data IsList (schema : List Field) : List ℕ → List (List (List Factor)) → Type 0 where
     single : {s : List ℕ} {c : List (List Factor)} → IsDisjunction schema s c → IsList schema s (c ∷ [])
-    several : (s w t : List ℕ) {c : List (List Factor)} {cs : List (List (List Factor))} → IsDisjunction schema s c → IsSpace w → IsList schema t cs → IsList schema (s ++ (w ++ t)) (c ∷ cs)
+    several : (s w t : List ℕ) {c : List (List Factor)} {cs : List (List (List Factor))}
+        → IsDisjunction schema s c → IsSpace w → IsList schema t cs → IsList schema (s ++ (w ++ t)) (c ∷ cs)
 
 -- a list, with white space round it
 pub record IsQuery (schema : List Field) (text : List ℕ) (m : Meaning) : Type 0 where

@@ -1,5 +1,6 @@
 -- What the parts of a query mean under a schema.
-use Rattle.std.specs.Prelude.{ℕ, ◌+◌, ◌-◌, ◌*◌, ◌^◌, ◌==◌, ◌&&◌, nat_lt, nat_le, Bool, false, List, [], ◌∷◌, map, drop, Option, Some, None, Result, Ok, Err, if◌then◌else◌, option_map, pos, neg_ℤ}
+use Rattle.std.specs.Prelude.{ℕ, ◌+◌, ◌-◌, ◌*◌, ◌^◌, ◌==◌, ◌&&◌, nat_lt, nat_le, Bool, false, List, [], ◌∷◌, map, drop}
+use Rattle.std.specs.Prelude.{Option, Some, None, Result, Ok, Err, if◌then◌else◌, option_map, pos, neg_ℤ}
 use Rattle.std.specs.List.{list_all}
 use Rattle.std.specs.Option.{option_map_or}
 use Rattle.std.specs.declared.ops.Bound.{Bound}
@@ -16,7 +17,8 @@ use Rattle.fts_base.specs.Results.{result_and_then, result_map}
 use Rattle.fts_model.specs.Schemas.{field_named, holds_numbers}
 use Rattle.fts_model.specs.Operations.{kind_at}
 use Rattle.fts_query.specs.declared.error.QueryError.{QueryError}
-use Rattle.fts_query.specs.declared.error.QueryError.TheVariants.{UnknownField, BadNumber, RangeOnText, NoDefaultField, AllNegative}
+use Rattle.fts_query.specs.declared.error.QueryError.TheVariants.{UnknownField, BadNumber, RangeOnText, NoDefaultField}
+use Rattle.fts_query.specs.declared.error.QueryError.TheVariants.{AllNegative}
 use Rattle.fts_query.specs.declared.clauses.Occur.{Occur}
 use Rattle.fts_query.specs.declared.clauses.Occur.TheVariants.{Must, MustNot, Should}
 use Rattle.fts_query.specs.declared.clauses.Modifier.{Modifier}
@@ -140,7 +142,8 @@ value_in kind text = option_map_or (λ n. Ok (values.Number n)) (number_in kind 
 abbrev pub with_value : ℕ → FieldValue → QueryValue
 with_value field value = term (record { field = field; value = value })
 
--- the documents with tokens in a field: no token is in none, one is a term, several are a phrase of their distances from the first
+-- the documents with tokens in a field: no token is in none, one is a term, several are a phrase of their distances
+-- from the first
 abbrev pub with_tokens : ℕ → List (ℕ × List ℕ) → QueryValue
 with_tokens field [] = nothing
 with_tokens field (t ∷ []) = with_value field (values.Text t.1)
@@ -184,11 +187,13 @@ pub data Value : Type 0 where
 abbrev pub meaning_in : ℕ → Kind → Value → Meaning
 meaning_in field kind (literal text) = literal_in field kind text
 meaning_in field kind (between lower upper) =
-    if holds_numbers kind then result_and_then (λ low. result_map (range field low) (bound_in kind upper)) (bound_in kind lower)
+    if holds_numbers kind
+    then result_and_then (λ low. result_map (range field low) (bound_in kind upper)) (bound_in kind lower)
     else Err RangeOnText
 
 abbrev pub meaning_at : List Field → Value → ℕ → Meaning
-meaning_at schema value field = option_map_or (λ kind. meaning_in field kind value) (kind_at schema field) (Err UnknownField)
+meaning_at schema value field =
+    option_map_or (λ kind. meaning_in field kind value) (kind_at schema field) (Err UnknownField)
 
 -- a field, by its name, and what stands after it
 unfoldable pub field_meaning : List Field → List ℕ → Value → Meaning

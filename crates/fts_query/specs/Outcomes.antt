@@ -1,9 +1,11 @@
 -- What a text reads as: a query, or a refusal.
-use Rattle.std.specs.Prelude.{◌≡◌, ℕ, ◌+◌, ◌-◌, ◌<◌, ◌≤◌, ◌⊎◌, Bool, true, false, ◌==◌, nat_lt, List, [], ◌∷◌, length, Result, Ok, Err, if◌then◌else◌}
+use Rattle.std.specs.Prelude.{◌≡◌, ℕ, ◌+◌, ◌-◌, ◌<◌, ◌≤◌, ◌⊎◌, Bool, true, false, ◌==◌, nat_lt, List, [], ◌∷◌, length}
+use Rattle.std.specs.Prelude.{Result, Ok, Err, if◌then◌else◌}
 use Rattle.std.specs.Str.{chars}
 use Rattle.fts_model.specs.declared.schema.Field.{Field}
 use Rattle.fts_base.specs.declared.refusal.Refusal.{Refusal}
-use Rattle.fts_base.specs.declared.refusal.Refusal.TheVariants.{TooLong, Syntax, TooDeep, UnknownField, BadNumber, RangeOnText, NoDefaultField, AllNegative}
+use Rattle.fts_base.specs.declared.refusal.Refusal.TheVariants.{TooLong, Syntax, TooDeep, UnknownField, BadNumber}
+use Rattle.fts_base.specs.declared.refusal.Refusal.TheVariants.{RangeOnText, NoDefaultField, AllNegative}
 use Rattle.fts_query.specs.declared.error.QueryError.TheVariants as errors
 use Rattle.fts_query.specs.declared.nesting.Place.{Place}
 use Rattle.fts_query.specs.declared.nesting.Place.TheVariants.{Outside, Quoted, Escaped}
@@ -40,7 +42,8 @@ abbrev pub Reads : List Field → List ℕ → Result QueryValue Refusal → Typ
 Reads schema text (Ok query) = IsFit text × (IsNothing text query ⊎ IsQuery schema (chars text) (Ok query))
 Reads schema text (Err TooLong) = 4096 < length text
 Reads schema text (Err TooDeep) = (length text ≤ 4096) × (is_too_deep Outside 0 (chars text) ≡ true)
-Reads schema text (Err (Syntax byte)) = IsFit text × (IsBlank (chars text) → ⊥) × ((m : Meaning) → IsQuery schema (chars text) m → ⊥)
+Reads schema text (Err (Syntax byte)) =
+    IsFit text × (IsBlank (chars text) → ⊥) × ((m : Meaning) → IsQuery schema (chars text) m → ⊥)
 Reads schema text (Err UnknownField) = IsFit text × IsQuery schema (chars text) (Err errors.UnknownField)
 Reads schema text (Err BadNumber) = IsFit text × IsQuery schema (chars text) (Err errors.BadNumber)
 Reads schema text (Err RangeOnText) = IsFit text × IsQuery schema (chars text) (Err errors.RangeOnText)

@@ -1,7 +1,9 @@
 -- Reading from left to right: what stands at the front of a text, and what follows it.
 --
--- The code finds exactly what is said here, and the proofs tie it to the grammar. No public contract of this crate names it.
-use Rattle.std.specs.Prelude.{ℕ, zero, suc, Bool, true, false, not, ◌&&◌, ◌||◌, ◌==◌, List, [], ◌∷◌, length, drop, take_while, codes, Option, Some, None, option_and_then, Ok, if◌then◌else◌}
+-- The code finds exactly what is said here, and the proofs tie it to the grammar. No public contract of this crate
+-- names it.
+use Rattle.std.specs.Prelude.{ℕ, zero, suc, Bool, true, false, not, ◌&&◌, ◌||◌, ◌==◌, List, [], ◌∷◌, length, drop}
+use Rattle.std.specs.Prelude.{take_while, codes, Option, Some, None, option_and_then, Ok, if◌then◌else◌}
 use Rattle.std.specs.List.{prefix_len}
 use Rattle.std.specs.Str.{encode_utf8_all, bytes_eq}
 use Rattle.std.specs.declared.ops.Bound.TheVariants.{Unbounded}
@@ -13,8 +15,11 @@ use Rattle.fts_query.specs.declared.clauses.Modifier.TheVariants.{Plain, Plus, M
 use Rattle.fts_query.specs.declared.input.Class.{Class}
 use Rattle.fts_query.specs.declared.input.Class.TheVariants as classes
 use Rattle.fts_model.specs.QueryValues.{every}
-use Rattle.fts_query.specs.Characters.{quote, open_parenthesis, close_parenthesis, star, plus, minus, colon, less_than, equals, greater_than, open_bracket, backslash, close_bracket, open_brace, close_brace}
-use Rattle.fts_query.specs.Meanings.{Meaning, Factor, Value, literal, between, list_meaning, literal_anywhere, field_meaning}
+use Rattle.fts_query.specs.Characters.{quote, open_parenthesis, close_parenthesis, star, plus, minus, colon, less_than}
+use Rattle.fts_query.specs.Characters.{equals, greater_than, open_bracket, backslash, close_bracket, open_brace}
+use Rattle.fts_query.specs.Characters.{close_brace}
+use Rattle.fts_query.specs.Meanings.{Meaning, Factor, Value, literal, between, list_meaning, literal_anywhere}
+use Rattle.fts_query.specs.Meanings.{field_meaning}
 use Rattle.fts_query.specs.Grammar.{is_space, is_word_char, bound}
 
 -- what was read, and what follows it
@@ -50,7 +55,12 @@ unfoldable pub space_at : List ℕ → Option (List ℕ)
 space_at s = if begins_space s && not (closes (skip_while is_space s)) then Some (skip_while is_space s) else None
 
 unfoldable pub operator_at : List ℕ → List ℕ → Option (List ℕ)
-operator_at name s = if begins_space s && (bytes_eq (word (skip_while is_space s)) name && begins_space (skip_while is_word_char (skip_while is_space s))) then Some (skip_while is_space (skip_while is_word_char (skip_while is_space s))) else None
+operator_at name s =
+    if begins_space s
+    && (bytes_eq (word (skip_while is_space s)) name
+    && begins_space (skip_while is_word_char (skip_while is_space s)))
+    then Some (skip_while is_space (skip_while is_word_char (skip_while is_space s)))
+    else None
 
 abbrev pub onto : {A : Type 0} → A → Option (List A × List ℕ) → Option (List A × List ℕ)
 onto x None = None
@@ -64,7 +74,8 @@ follow (Some t) rest next = next t
 -- items with separators, n at most
 unfoldable pub seq_by : {A : Type 0} → ℕ → (List ℕ → Option (List ℕ)) → Parser A → Parser (List A)
 seq_by {A} zero sep item s = None
-seq_by {A} (suc n) sep item s = option_and_then (λ (x : Read A). onto x.0 (follow (sep x.1) x.1 (λ t. seq_by n sep item t))) (item s)
+seq_by {A} (suc n) sep item s =
+    option_and_then (λ (x : Read A). onto x.0 (follow (sep x.1) x.1 (λ t. seq_by n sep item t))) (item s)
 
 -- `NOT` and white space, behind `NOT`
 abbrev pub negation_of : Parser Modifier
@@ -80,7 +91,10 @@ modifier_of (c ∷ s) =
 
 -- a modifier, then a unit
 unfoldable pub factor_of : Parser Meaning → Parser Factor
-factor_of unit s = option_and_then (λ (m : Read Modifier). option_and_then (λ (u : Read Meaning). Some ((m.0, u.0), u.1)) (unit m.1)) (modifier_of s)
+factor_of unit s =
+    option_and_then
+    (λ (m : Read Modifier). option_and_then (λ (u : Read Meaning). Some ((m.0, u.0), u.1)) (unit m.1))
+    (modifier_of s)
 
 unfoldable pub conjunction_of : Parser Meaning → Parser (List Factor)
 conjunction_of unit s = seq_by (suc (length s)) (operator_at (codes "AND")) (factor_of unit) s
@@ -107,7 +121,9 @@ close m (c ∷ s) = if c == close_parenthesis then Some (m, s) else None
 
 -- behind an opening parenthesis
 unfoldable pub group_of : Parser Meaning → Parser Meaning
-group_of unit s = option_and_then (λ (x : Read Meaning). close x.0 (skip_while is_space x.1)) (meaning_of unit (skip_while is_space s))
+group_of unit s =
+    option_and_then (λ (x : Read Meaning). close x.0 (skip_while is_space x.1))
+    (meaning_of unit (skip_while is_space s))
 
 abbrev pub char_onto : ℕ → Option (List ℕ × List ℕ) → Option (List ℕ × List ℕ)
 char_onto c None = None
@@ -137,7 +153,9 @@ word_of (c ∷ s) = if is_word_char c then Some (word (c ∷ s), skip_while is_w
 
 unfoldable pub bound_of : Parser (Option (List ℕ))
 bound_of [] = None
-bound_of (c ∷ s) = if c == star then Some (None, s) else option_and_then (λ (x : Read (List ℕ)). Some (Some x.0, x.1)) (word_of (c ∷ s))
+bound_of (c ∷ s) =
+    if c == star then Some (None, s)
+    else option_and_then (λ (x : Read (List ℕ)). Some (Some x.0, x.1)) (word_of (c ∷ s))
 
 -- behind the upper bound of a range
 unfoldable pub range_end : Bound (List ℕ) → Option (List ℕ) → Parser Value
@@ -150,7 +168,8 @@ unfoldable pub range_of : Bool → Parser Value
 range_of i s =
     option_and_then (λ (x : Read (Option (List ℕ))).
     option_and_then (λ (t : List ℕ).
-    option_and_then (λ (y : Read (Option (List ℕ))). range_end (bound i x.0) y.0 (skip_while is_space y.1)) (bound_of t))
+    option_and_then (λ (y : Read (Option (List ℕ))). range_end (bound i x.0) y.0 (skip_while is_space y.1))
+    (bound_of t))
     (operator_at (codes "TO") x.1))
     (bound_of (skip_while is_space s))
 
@@ -162,10 +181,14 @@ compared_of (c ∷ s) =
     else option_and_then (λ (x : Read (List ℕ)). Some ((false, x.0), x.1)) (word_of (c ∷ s))
 
 unfoldable pub above_of : Parser Value
-above_of s = option_and_then (λ (x : Read (Bool × List ℕ)). Some (between (bound x.0.0 (Some x.0.1)) Unbounded, x.1)) (compared_of s)
+above_of s =
+    option_and_then (λ (x : Read (Bool × List ℕ)). Some (between (bound x.0.0 (Some x.0.1)) Unbounded, x.1))
+    (compared_of s)
 
 unfoldable pub below_of : Parser Value
-below_of s = option_and_then (λ (x : Read (Bool × List ℕ)). Some (between Unbounded (bound x.0.0 (Some x.0.1)), x.1)) (compared_of s)
+below_of s =
+    option_and_then (λ (x : Read (Bool × List ℕ)). Some (between Unbounded (bound x.0.0 (Some x.0.1)), x.1))
+    (compared_of s)
 
 unfoldable pub quoted_value_of : Parser Value
 quoted_value_of s = option_and_then (λ (x : Read (List ℕ)). Some (literal x.0, x.1)) (quoted_of s)
@@ -198,11 +221,14 @@ begins_modifier c = c == plus || c == minus
 unfoldable pub bare_of : List Field → Parser Meaning
 bare_of schema [] = None
 bare_of schema (c ∷ s) =
-    if is_word_char c && not (begins_modifier c) && not (is_reserved (word (c ∷ s))) then after_bare schema (word (c ∷ s)) (skip_while is_word_char (c ∷ s)) else None
+    if is_word_char c && not (begins_modifier c) && not (is_reserved (word (c ∷ s)))
+    then after_bare schema (word (c ∷ s)) (skip_while is_word_char (c ∷ s))
+    else None
 
 -- behind an opening quote
 unfoldable pub quoted_literal_of : List Field → Parser Meaning
-quoted_literal_of schema s = option_and_then (λ (x : Read (List ℕ)). Some (literal_anywhere schema x.0, x.1)) (quoted_of s)
+quoted_literal_of schema s =
+    option_and_then (λ (x : Read (List ℕ)). Some (literal_anywhere schema x.0, x.1)) (quoted_of s)
 
 -- a unit, whose inner units are read by unit
 unfoldable pub unit_by : List Field → Parser Meaning → Parser Meaning
@@ -224,4 +250,6 @@ ended m (c ∷ s) = None
 
 -- a whole text
 unfoldable pub query_of : List Field → ℕ → List ℕ → Option Meaning
-query_of schema d s = option_and_then (λ (x : Read Meaning). ended x.0 (skip_while is_space x.1)) (meaning_of (unit_of schema d) (skip_while is_space s))
+query_of schema d s =
+    option_and_then (λ (x : Read Meaning). ended x.0 (skip_while is_space x.1))
+    (meaning_of (unit_of schema d) (skip_while is_space s))

@@ -78,7 +78,8 @@ impl Clauses {
 
     /// Adds a clause. Behind an error nothing is kept.
     pub(crate) fn push(&mut self, occur: Occur, meaning: Meaning) -> Result<(), AllocError>
-        ensures { OnOk result (gathered_of self.new ≡ gather (gathered_of self.old) (occur, result_map query_value meaning)) }
+        ensures { OnOk result (gathered_of self.new
+            ≡ gather (gathered_of self.old) (occur, result_map query_value meaning)) }
     {
         if self.error.is_some() {
             return Ok(());

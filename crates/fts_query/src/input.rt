@@ -100,8 +100,8 @@ fn split_word(text: &str) -> (&str, &str)
     text.split_at(text.len() - rest.len())
 }
 
-/// A quoted text, after its opening quote, with its escapes resolved, and what follows it. It is refused at the byte from
-/// which on nothing closes it, or at a `\\` before another character than `"` and `\\`.
+/// A quoted text, after its opening quote, with its escapes resolved, and what follows it. It is refused at the byte
+/// from which on nothing closes it, or at a `\\` before another character than `"` and `\\`.
 #[tactic(auto, using(crate::proofs::ReadingLemmas::front_more), unfolding(crate::specs::Reading::unquoted, crate::specs::Reading::quoted_of))]
 fn unquote(alloc: Global, text: &str) -> Result<(String, &str), ParseError>
     ensures unquoted { Finds (λ x. (string_bytes x.0, chars x.1.now)) result (quoted_of (chars text.now)) }
@@ -148,7 +148,8 @@ impl<'a> Model for Input<'a> {
 }
 
 impl<'a> Input<'a> {
-    ghost use Rattle.std.specs.Prelude.{◌≡◌, ◌≤◌, ◌∷◌, [], ℕ, List, length, option_map, MatchOption, IfOk, string_bytes};
+    ghost use Rattle.std.specs.Prelude.{◌≡◌, ◌≤◌, ◌∷◌, [], ℕ, List, length, option_map, MatchOption, IfOk};
+    ghost use Rattle.std.specs.Prelude.{string_bytes};
     ghost use Rattle.std.specs.Str.{chars};
     ghost use Rattle.fts_query.specs.Grammar.{is_space, is_word_char};
     ghost use Rattle.fts_query.specs.Reading.{word, quoted_of, begins_space, closes, space_at, operator_at, skip_while};

@@ -8,7 +8,8 @@ ghost use Rattle.fts_query.specs.Answers.{answer};
 
 /// A text reads as one query or one refusal, the byte of a syntax error aside.
 pub fn a_text_reads_as_one_thing()
-    ensures { (schema : List Field) (text : List ℕ) (x y : Result QueryValue Refusal) → Reads schema text x → Reads schema text y → without_byte x ≡ without_byte y }
+    ensures { (schema : List Field) (text : List ℕ) (x y : Result QueryValue Refusal) →
+        Reads schema text x → Reads schema text y → without_byte x ≡ without_byte y }
 {}
 
 /// Each text reads as something, and `answer` is what it reads as.

@@ -21,8 +21,8 @@
 //! - The clauses of a node are gathered as they are read, and there is no tree of the syntax beside the query. An error
 //!   in what a part means is kept until the text is known to be in the grammar, since a syntax error comes first.
 //! - The conjunctions, disjunctions and lists of the grammar are one sequence at three levels (`reader.rt`).
-//! - Length and nesting are checked before anything is read, so the depth of the recursion is bounded, and a text that is
-//!   too long, too deep or blank has its outcome whatever memory there is.
+//! - Length and nesting are checked before anything is read, so the depth of the recursion is bounded, and a text that
+//!   is too long, too deep or blank has its outcome whatever memory there is.
 #![tactic(auto)]
 
 mod clauses;

@@ -6,7 +6,8 @@ ghost use Rattle.fts_text.specs.Places.{IsPlaceIn, token_at};
 ghost use Rattle.fts_base.specs.Results.{result_map};
 ghost use Rattle.fts_model.specs.QueryValues.{query_value};
 ghost use Rattle.fts_query.specs.Values.{value_seen, bound_seen, IsShort};
-ghost use Rattle.fts_query.specs.Meanings.{between, with_value, value_in, with_tokens, literal_in, literal_anywhere, bound_in, meaning_in, field_meaning};
+ghost use Rattle.fts_query.specs.Meanings.{between, with_value, value_in, with_tokens, literal_in, literal_anywhere};
+ghost use Rattle.fts_query.specs.Meanings.{bound_in, meaning_in, field_meaning};
 
 use crate::clauses::{Clauses, Meaning, Occur};
 use crate::error::QueryError;
@@ -136,7 +137,8 @@ fn bound_in(kind: Kind, bound: Bound<&str>) -> Result<Bound<FieldValue>, QueryEr
 
 /// What bounds mean in a field.
 fn range_in(field: usize, kind: Kind, lower: Bound<&str>, upper: Bound<&str>) -> Meaning
-    ensures { result_map query_value result ≡ meaning_in field kind (between (bound_seen lower.entry) (bound_seen upper.entry)) }
+    ensures { result_map query_value result
+        ≡ meaning_in field kind (between (bound_seen lower.entry) (bound_seen upper.entry)) }
 {
     if !kind.holds_numbers() {
         return Err(QueryError::RangeOnText);

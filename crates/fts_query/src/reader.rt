@@ -3,9 +3,11 @@ ghost use Rattle.std.specs.Prelude.{◌≡◌, ◌≤◌, ◌∷◌, [], ℕ, le
 ghost use Rattle.fts_base.specs.Results.{result_map};
 ghost use Rattle.fts_model.specs.QueryValues.{query_value};
 ghost use Rattle.fts_query.specs.Gathering.{gathered_of, gather};
-ghost use Rattle.fts_query.specs.Sequences.{factor_seen, part_seen, clause_of, node_of, separator_of, item_of, sequence_of, following};
+ghost use Rattle.fts_query.specs.Sequences.{factor_seen, part_seen, clause_of, node_of, separator_of, item_of};
+ghost use Rattle.fts_query.specs.Sequences.{sequence_of, following};
 ghost use Rattle.fts_query.specs.Steps.{Finds};
-ghost use Rattle.fts_query.specs.Reading.{over, onto, after_bare, bare_of, quoted_literal_of, close, unit_of, group_of, modifier_of, factor_of, meaning_of, query_of};
+ghost use Rattle.fts_query.specs.Reading.{over, onto, after_bare, bare_of, quoted_literal_of, close, unit_of, group_of};
+ghost use Rattle.fts_query.specs.Reading.{modifier_of, factor_of, meaning_of, query_of};
 ghost use Rattle.fts_query.specs.Meanings.{conjunction};
 
 use crate::clauses::{Clauses, Meaning, Modifier, Occur, occur_alone, occur_in_conjunction};
@@ -57,7 +59,8 @@ fn push_item(
     clauses: &mut Clauses,
     item: Part,
 ) -> Result<(), AllocError>
-    ensures { OnOk result (gathered_of clauses.new ≡ gather (gathered_of clauses.old) (clause_of level (part_seen item))) }
+    ensures { OnOk result (gathered_of clauses.new
+        ≡ gather (gathered_of clauses.old) (clause_of level (part_seen item))) }
 {
     match item {
         Part::Several(meaning) => clauses.push(Occur::Should, meaning),
@@ -145,7 +148,8 @@ fn quoted_literal_at<'a>(
 
 /// What follows a list in parentheses.
 fn close_at<'a>(meaning: Meaning, text: Input<'a>) -> Result<(Meaning, Input<'a>), ParseError>
-    ensures { Finds (λ x. (result_map query_value x.0, x.1)) result (close (result_map query_value meaning) text.entry) }
+    ensures { Finds (λ x. (result_map query_value x.0, x.1)) result
+        (close (result_map query_value meaning) text.entry) }
 {
     let left = text.len();
     match text.split_first() {
@@ -278,7 +282,10 @@ fn node_at<'a>(
     first: Part,
     text: Input<'a>,
 ) -> Result<(Meaning, Input<'a>), ParseError>
-    ensures { (n : ℕ) → length text.entry ≤ n → Finds (λ x. (result_map query_value x.0, x.1)) result (over (node_of level) (onto (part_seen first) (following n level (unit_of schema.now depth) text.entry))) }
+    ensures { (n : ℕ) → length text.entry ≤ n →
+        Finds (λ x. (result_map query_value x.0, x.1)) result
+        (over (node_of level)
+        (onto (part_seen first) (following n level (unit_of schema.now depth) text.entry))) }
 {
     let mut clauses = Clauses::new(alloc);
     push_item(alloc, level, &mut clauses, first)?;

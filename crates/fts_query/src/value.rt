@@ -3,7 +3,8 @@ ghost use Rattle.std.specs.Prelude.{◌≡◌, ◌≤◌, length, option_map, If
 ghost use Rattle.fts_query.specs.Steps.{Finds};
 ghost use Rattle.fts_query.specs.Values.{value_seen, bound_seen, IsShort};
 ghost use Rattle.fts_query.specs.Grammar.{bound};
-ghost use Rattle.fts_query.specs.Reading.{word_of, bound_of, range_end, range_of, compared_of, above_of, below_of, quoted_value_of, plain_of, value_of};
+ghost use Rattle.fts_query.specs.Reading.{word_of, bound_of, range_end, range_of, compared_of, above_of, below_of};
+ghost use Rattle.fts_query.specs.Reading.{quoted_value_of, plain_of, value_of};
 
 use crate::error::ParseError;
 use crate::input::{Input, is_word_char};
@@ -77,7 +78,8 @@ fn range_end_at<'a>(
     upper: Option<&'a str>,
     text: Input<'a>,
 ) -> Result<(Value<'a>, Input<'a>), ParseError>
-    ensures read { Finds (λ x. (value_seen x.0, x.1)) result (range_end (bound_seen lower.entry) (option_map (λ w. w.now) upper.entry) text.entry) }
+    ensures read { Finds (λ x. (value_seen x.0, x.1)) result
+        (range_end (bound_seen lower.entry) (option_map (λ w. w.now) upper.entry) text.entry) }
     ensures short { IfOk result (λ x. IsShort (value_seen x.0)) }
 {
     let left = text.len();

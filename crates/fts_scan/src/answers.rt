@@ -1,13 +1,15 @@
 // The answer over the documents that are alive: the hits are counted, grouped and put into a top
 // list one by one.
-ghost use Rattle.std.specs.Prelude.{◌≡◌, ◌<◌, ◌≤◌, ◌+◌, ◌^◌, ◌++◌, ◌∷◌, [], IfOk, OnOk, Ok, option_map, option_to_list, fold, take};
+ghost use Rattle.std.specs.Prelude.{◌≡◌, ◌<◌, ◌≤◌, ◌+◌, ◌^◌, ◌++◌, ◌∷◌, [], IfOk, OnOk, Ok, option_map, option_to_list};
+ghost use Rattle.std.specs.Prelude.{fold, take};
 ghost use Rattle.fts_base.specs.Results.{Gives};
 ghost use Rattle.fts_model.specs.QueryValues.{query_value};
 ghost use Rattle.fts_model.specs.Queries.{hits};
-ghost use Rattle.fts_model.specs.Answers.{answer, number_in_field, count_number, groups, comes_before, hit_in, put_hit, top};
+ghost use Rattle.fts_model.specs.Answers.{answer, number_in_field, count_number, groups, comes_before, hit_in, put_hit};
+ghost use Rattle.fts_model.specs.Answers.{top};
 ghost use Rattle.fts_scan.specs.Scans.{hits_counted, group_place, is_group_at, hit_place};
 
-use crate::matching::query_matches;
+use crate::matcher::query_matches;
 use fts_model::{
     Answer, Document, FieldValue, Hit, Number, Order, Query, Refusal, Request, Schema, Stamped, Top,
 };
@@ -66,9 +68,9 @@ fn hits(
 fn number_in_field(document: &Document, field: usize) -> Option<Number>
     ensures { result ≡ number_in_field document.now field }
 {
-    match document.value(field) {
-        Some(FieldValue::Number(number)) => Some(*number),
-        _ => None,
+    match document.value(field)? {
+        FieldValue::Number(number) => Some(*number),
+        FieldValue::Text(_) => None,
     }
 }
 

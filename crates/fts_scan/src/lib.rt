@@ -15,11 +15,11 @@
 
 mod answers;
 pub mod laws;
-mod matching;
+mod matcher;
 mod operations;
 mod terms;
 
 pub use answers::answer;
-pub use matching::matches;
+pub use matcher::matches;
 pub use operations::alive;
 pub use terms::has;

@@ -36,6 +36,23 @@ fn has_token(text: &str, token: &str, scratch: &mut String) -> Result<bool, Allo
     Ok(false)
 }
 
+/// Whether a number of a field of this kind is the one of a term.
+fn number_has(kind: Kind, number: Number, term: Number) -> bool
+    ensures { result ≡ value_has kind (FieldValue.Number number) (FieldValue.Number term) }
+{
+    match (number, term) {
+        (Number::U64(n), Number::U64(m)) => match kind {
+            Kind::U64 => n == m,
+            Kind::Text | Kind::Keyword | Kind::I64 => false,
+        },
+        (Number::I64(n), Number::I64(m)) => match kind {
+            Kind::I64 => n == m,
+            Kind::Text | Kind::Keyword | Kind::U64 => false,
+        },
+        (Number::U64(_), Number::I64(_)) | (Number::I64(_), Number::U64(_)) => false,
+    }
+}
+
 /// Whether a value of a field of this kind has a term.
 fn value_has(
     kind: Kind,
@@ -45,18 +62,17 @@ fn value_has(
 ) -> Result<bool, AllocError>
     ensures { IfOk result (λ found. found ≡ value_has kind value.now term.now) }
 {
-    match (kind, value, term) {
-        (Kind::Text, FieldValue::Text(text), FieldValue::Text(token)) => {
-            has_token(text.as_str(), token.as_str(), scratch)
+    match (value, term) {
+        (FieldValue::Text(text), FieldValue::Text(term)) => match kind {
+            Kind::Text => has_token(text.as_str(), term.as_str(), scratch),
+            Kind::Keyword => Ok(text == term),
+            Kind::U64 | Kind::I64 => Ok(false),
+        },
+        (FieldValue::Number(number), FieldValue::Number(term)) => {
+            Ok(number_has(kind, *number, *term))
         }
-        (Kind::Keyword, FieldValue::Text(text), FieldValue::Text(whole)) => Ok(text == whole),
-        (Kind::U64, FieldValue::Number(Number::U64(n)), FieldValue::Number(Number::U64(m))) => Ok(
-            n == m,
-        ),
-        (Kind::I64, FieldValue::Number(Number::I64(n)), FieldValue::Number(Number::I64(m))) => Ok(
-            n == m,
-        ),
-        _ => Ok(false),
+        (FieldValue::Text(_), FieldValue::Number(_))
+        | (FieldValue::Number(_), FieldValue::Text(_)) => Ok(false),
     }
 }
 

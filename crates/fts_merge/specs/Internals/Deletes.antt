@@ -1,0 +1,41 @@
+-- The steps of a strike.
+use Rattle.std.specs.Prelude.{ℕ, ◌&&◌, not, nat_lt, max, Bool, false, List, [], ◌∷◌, slice_get, slice_set}
+use Rattle.std.specs.Prelude.{if◌then◌else◌}
+use Rattle.std.specs.List.{list_any}
+use Rattle.std.specs.Option.{option_map_or}
+use Rattle.fts_model.specs.declared.schema.Field.{Field}
+use Rattle.fts_model.specs.declared.operation.Op.{Op}
+use Rattle.fts_model.specs.declared.operation.Op.TheVariants.{Add, Delete, DeleteAll}
+use Rattle.fts_model.specs.declared.operation.Stamped.{Stamped}
+use Rattle.fts_model.specs.Documents.{DocumentValue}
+use Rattle.fts_model.specs.Operations.{has}
+
+-- an operation strikes every document of a smaller stamp than this
+abbrev pub bound_by : ℕ → Op → ℕ
+bound_by stamp (Add document) = 0
+bound_by stamp (Delete term) = 0
+bound_by stamp DeleteAll = stamp
+
+-- operations strike every document of a smaller stamp than this
+abbrev pub bound_of : List (Stamped Op) → ℕ
+bound_of [] = 0
+bound_of (op ∷ ops) = max (bound_by op.stamp op.value) (bound_of ops)
+
+-- an operation strikes a document by a term that it has
+abbrev pub strikes_by_term : List Field → ℕ → Op → Stamped DocumentValue → Bool
+strikes_by_term schema stamp (Add added) document = false
+strikes_by_term schema stamp (Delete term) document = nat_lt document.stamp stamp && has schema document.value term
+strikes_by_term schema stamp DeleteAll document = false
+
+-- no operation strikes a document by a term
+abbrev pub survives_terms : List Field → List (Stamped Op) → Stamped DocumentValue → Bool
+survives_terms schema ops document = not (list_any (λ op. strikes_by_term schema op.stamp op.value document) ops)
+
+-- the document of this number has a smaller stamp
+abbrev pub is_before : List (Stamped DocumentValue) → ℕ → ℕ → Bool
+is_before documents stamp number =
+    option_map_or (λ document. nat_lt document.stamp stamp) (slice_get documents number) false
+
+-- the bits without that of the document of this number, if its stamp is smaller
+abbrev pub cleared : List (Stamped DocumentValue) → ℕ → List Bool → ℕ → List Bool
+cleared documents stamp live number = if is_before documents stamp number then slice_set live number false else live

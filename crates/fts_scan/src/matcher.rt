@@ -1,0 +1,272 @@
+// Whether a query matches a document. A text is gone over once for each term or member of a phrase.
+ghost use Rattle.std.specs.Prelude.{◌≡◌, ◌+◌, ◌==◌, ◌&&◌, IfOk, Ok};
+ghost use Rattle.std.specs.List.{list_any};
+ghost use Rattle.std.specs.Str.{bytes_eq};
+ghost use Rattle.fts_base.specs.Results.{Gives};
+ghost use Rattle.fts_text.specs.Tokens.{tokens};
+ghost use Rattle.fts_text.specs.Places.{IsPlaceIn, token_at};
+ghost use Rattle.fts_model.specs.QueryValues.{query_value};
+ghost use Rattle.fts_model.specs.Queries.{stands_with, leads, phrase_in, value_has_phrase, number_lt, number_le};
+ghost use Rattle.fts_model.specs.Queries.{value_lt, value_le};
+ghost use Rattle.fts_model.specs.Queries.{admits_from, admits_to, matches};
+ghost use Rattle.fts_scan.specs.Scans.{one_is};
+
+use crate::terms::{document_has, is_token};
+use fts_model::{Document, FieldValue, Number, Query, Refusal, Schema, Text};
+use fts_text::{Token, Tokens};
+use std::alloc::{AllocError, Global};
+use std::ops::Bound;
+
+/// Whether the token at a place is this one, and its position with an offset makes this sum.
+fn is_token_at(
+    text: &str,
+    place: Token,
+    offset: u32,
+    sum: usize,
+    token: &str,
+    scratch: &mut String,
+) -> Result<bool, AllocError>
+    requires { IsPlaceIn text.now place }
+    ensures { IfOk result
+        (λ same. same
+        ≡ (((token_at text.now place).0 + offset == sum)
+        && bytes_eq (token_at text.now place).1 token.now)) }
+{
+    if place.position + offset as usize != sum {
+        return Ok(false);
+    }
+    is_token(text, place, token, scratch)
+}
+
+/// Whether another member of a pattern is a token, as far behind a member's place as their offsets
+/// are apart.
+fn stands_with(
+    text: &str,
+    member: &(u32, Text),
+    place: Token,
+    other: &(u32, Text),
+    scratch: &mut String,
+) -> Result<bool, AllocError>
+    requires { IsPlaceIn text.now place }
+    ensures { IfOk result
+        (λ stands. stands
+        ≡ stands_with (tokens text.now) member.now (token_at text.now place) other.now) }
+{
+    let sum = place.position + other.0 as usize;
+    for there in Tokens::new(text) {
+        if is_token_at(text, there, member.0, sum, other.1.as_str(), scratch)? {
+            return Ok(true);
+        }
+    }
+    Ok(false)
+}
+
+/// Whether the token at a place is the first member of a pattern, and the others stand with it.
+fn leads(
+    text: &str,
+    first: &(u32, Text),
+    others: &[(u32, Text)],
+    place: Token,
+    scratch: &mut String,
+) -> Result<bool, AllocError>
+    requires { IsPlaceIn text.now place }
+    ensures { IfOk result
+        (λ found. found ≡ leads (tokens text.now) first.now others.now (token_at text.now place)) }
+{
+    if !is_token(text, place, first.1.as_str(), scratch)? {
+        return Ok(false);
+    }
+    for other in others {
+        if !stands_with(text, first, place, other, scratch)? {
+            return Ok(false);
+        }
+    }
+    Ok(true)
+}
+
+/// Whether some token of a text is the first member of a pattern, and the others stand with it.
+fn any_leads(
+    text: &str,
+    first: &(u32, Text),
+    others: &[(u32, Text)],
+    scratch: &mut String,
+) -> Result<bool, AllocError>
+    ensures { IfOk result
+        (λ stands. stands
+        ≡ list_any (leads (tokens text.now) first.now others.now) (tokens text.now)) }
+{
+    for place in Tokens::new(text) {
+        if leads(text, first, others, place, scratch)? {
+            return Ok(true);
+        }
+    }
+    Ok(false)
+}
+
+/// Whether a phrase stands in a text.
+fn has_phrase(text: &str, pattern: &[(u32, Text)], scratch: &mut String) -> Result<bool, AllocError>
+    ensures { IfOk result (λ stands. stands ≡ phrase_in text.now pattern.now) }
+{
+    match pattern {
+        [] => Ok(true),
+        [first, others @ ..] => any_leads(text, first, others, scratch),
+    }
+}
+
+/// Whether a value has a phrase.
+fn value_has_phrase(
+    value: &FieldValue,
+    pattern: &[(u32, Text)],
+    scratch: &mut String,
+) -> Result<bool, AllocError>
+    ensures { IfOk result (λ stands. stands ≡ value_has_phrase pattern.now value.now) }
+{
+    match value {
+        FieldValue::Text(text) => has_phrase(text.as_str(), pattern, scratch),
+        FieldValue::Number(_) => Ok(false),
+    }
+}
+
+/// Whether one number is below another of its kind.
+fn number_lt(a: Number, b: Number) -> bool
+    ensures { result ≡ number_lt a b }
+{
+    match (a, b) {
+        (Number::U64(n), Number::U64(m)) => n < m,
+        (Number::I64(n), Number::I64(m)) => n < m,
+        (Number::U64(_), Number::I64(_)) | (Number::I64(_), Number::U64(_)) => false,
+    }
+}
+
+/// Whether one number is not above another of its kind.
+fn number_le(a: Number, b: Number) -> bool
+    ensures { result ≡ number_le a b }
+{
+    match (a, b) {
+        (Number::U64(n), Number::U64(m)) => n <= m,
+        (Number::I64(n), Number::I64(m)) => n <= m,
+        (Number::U64(_), Number::I64(_)) | (Number::I64(_), Number::U64(_)) => false,
+    }
+}
+
+/// Whether one value is a number below another.
+fn value_lt(a: &FieldValue, b: &FieldValue) -> bool
+    ensures { result ≡ value_lt a.now b.now }
+{
+    match (a, b) {
+        (FieldValue::Number(n), FieldValue::Number(m)) => number_lt(*n, *m),
+        (FieldValue::Text(_), _) | (_, FieldValue::Text(_)) => false,
+    }
+}
+
+/// Whether one value is a number not above another.
+fn value_le(a: &FieldValue, b: &FieldValue) -> bool
+    ensures { result ≡ value_le a.now b.now }
+{
+    match (a, b) {
+        (FieldValue::Number(n), FieldValue::Number(m)) => number_le(*n, *m),
+        (FieldValue::Text(_), _) | (_, FieldValue::Text(_)) => false,
+    }
+}
+
+/// Whether a lower bound admits a value.
+fn admits_from(bound: &Bound<FieldValue>, value: &FieldValue) -> bool
+    ensures { result ≡ admits_from bound.now value.now }
+{
+    match bound {
+        Bound::Included(bound) => value_le(bound, value),
+        Bound::Excluded(bound) => value_lt(bound, value),
+        Bound::Unbounded => true,
+    }
+}
+
+/// Whether an upper bound admits a value.
+fn admits_to(bound: &Bound<FieldValue>, value: &FieldValue) -> bool
+    ensures { result ≡ admits_to bound.now value.now }
+{
+    match bound {
+        Bound::Included(bound) => value_le(value, bound),
+        Bound::Excluded(bound) => value_lt(value, bound),
+        Bound::Unbounded => true,
+    }
+}
+
+/// Whether a query matches a document.
+#[cycle(matches)]
+pub(crate) fn query_matches(
+    schema: &Schema,
+    query: &Query,
+    document: &Document,
+    scratch: &mut String,
+) -> Result<bool, AllocError>
+    ensures { IfOk result
+        (λ found. found ≡ matches schema.now document.now (query_value query.now)) }
+{
+    match query {
+        Query::All => Ok(true),
+        Query::None => Ok(false),
+        Query::Term(term) => document_has(schema, document, term, scratch),
+        Query::Phrase { field, pattern } => match document.value(*field) {
+            None => Ok(false),
+            Some(value) => value_has_phrase(value, pattern, scratch),
+        },
+        Query::Range {
+            field,
+            lower,
+            upper,
+        } => match document.value(*field) {
+            None => Ok(false),
+            Some(value) => Ok(admits_from(lower, value) && admits_to(upper, value)),
+        },
+        Query::Bool {
+            must,
+            must_not,
+            should,
+        } => {
+            if one_is(schema, must, document, false, scratch)? {
+                return Ok(false);
+            }
+            if one_is(schema, must_not, document, true, scratch)? {
+                return Ok(false);
+            }
+            if !must.is_empty() {
+                return Ok(true);
+            }
+            one_is(schema, should, document, true, scratch)
+        }
+    }
+}
+
+/// Whether one of these queries is found to be `wanted` of a document: that it matches, or that it doesn't.
+#[cycle(matches)]
+fn one_is(
+    schema: &Schema,
+    queries: &[Query],
+    document: &Document,
+    wanted: bool,
+    scratch: &mut String,
+) -> Result<bool, AllocError>
+    ensures { IfOk result (λ found. found
+        ≡ one_is wanted (λ q. matches schema.now document.now (query_value q)) queries.now) }
+{
+    for query in queries {
+        if query_matches(schema, query, document, scratch)? == wanted {
+            return Ok(true);
+        }
+    }
+    Ok(false)
+}
+
+/// Whether a query matches a document. The only refusal is `Memory`.
+pub fn matches(
+    alloc: Global,
+    schema: &Schema,
+    query: &Query,
+    document: &Document,
+) -> Result<bool, Refusal>
+    ensures { Gives (λ found. found) result
+        (Ok (matches schema.now document.now (query_value query.now))) }
+{
+    let mut scratch = String::new(alloc);
+    Ok(query_matches(schema, query, document, &mut scratch)?)
+}
