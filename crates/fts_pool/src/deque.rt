@@ -18,7 +18,7 @@ pub struct EachOnce;
 
 impl Protocol<usize, Known> for EachOnce {
     ghost use Rattle.std.specs.Prelude.{[]};
-    ghost use Rattle.fts_pool.specs.Internals.Sharing.{Holds, known};
+    ghost use Rattle.fts_pool.specs.Internals.Deque.{Holds, known};
 
     ghost holds = { Holds };
 
@@ -31,7 +31,7 @@ impl Protocol<usize, Known> for EachOnce {
 pub struct Push;
 
 impl Outcome<usize, Known> for Push {
-    ghost use Rattle.fts_pool.specs.Internals.Sharing.{Pushed};
+    ghost use Rattle.fts_pool.specs.Internals.Deque.{Pushed};
 
     ghost then = { Pushed };
 }
@@ -40,7 +40,7 @@ impl Outcome<usize, Known> for Push {
 pub struct Pop;
 
 impl Outcome<usize, Known> for Pop {
-    ghost use Rattle.fts_pool.specs.Internals.Sharing.{Took, TookAll};
+    ghost use Rattle.fts_pool.specs.Internals.Deque.{Took, TookAll};
 
     ghost then = { Took };
 
@@ -51,7 +51,7 @@ impl Outcome<usize, Known> for Pop {
 pub struct Theft;
 
 impl Outcome<usize, Known> for Theft {
-    ghost use Rattle.fts_pool.specs.Internals.Sharing.{Took};
+    ghost use Rattle.fts_pool.specs.Internals.Deque.{Took};
 
     ghost then = { Took };
 }
@@ -60,7 +60,7 @@ impl Outcome<usize, Known> for Theft {
 pub struct Share;
 
 impl Split<Known> for Share {
-    ghost use Rattle.fts_pool.specs.Internals.Sharing.{one_less, one_share};
+    ghost use Rattle.fts_pool.specs.Internals.Deque.{one_less, one_share};
 
     ghost left = { one_less };
 
@@ -68,7 +68,7 @@ impl Split<Known> for Share {
 }
 
 impl Join<Known> for Share {
-    ghost use Rattle.fts_pool.specs.Internals.Sharing.{joined, spent};
+    ghost use Rattle.fts_pool.specs.Internals.Deque.{joined, spent};
 
     ghost both = { joined };
 

@@ -2,7 +2,7 @@
 use Rattle.std.specs.Prelude.{◌≡◌, ℕ, ◌+◌, ◌-◌, ◌<◌, List, [], ◌∷◌, ◌++◌, ◌==◌, nat_lt, if◌then◌else◌, All}
 use mathlib.Core.Option.{some}
 use lib.ListN.{get_elem?}
-use Rattle.fts_pool.specs.declared.sharing.Known.{Known}
+use Rattle.fts_pool.specs.declared.deque.Known.{Known}
 
 abbrev pub known : ℕ → ℕ → List ℕ → Known
 known shares pushed taken = record { shares = shares; pushed = pushed; taken = taken }
