@@ -3,7 +3,7 @@ use Rattle.std.proofs.Common.{◌≡◌, ℕ, ◌+◌, ◌<◌, List, [], ◌∷
 use Rattle.std.proofs.lemmas.List.Elements.{All-weaker, All-append, All-take, All-drop, All-push, All-get_or}
 use Rattle.fts_snapshots.specs.MergedSegments.{MergedSegmentValue}
 use Rattle.fts_snapshots.specs.Snapshots.{SnapshotValue}
-use Rattle.fts_snapshots.specs.Following.{Follows, Fits}
+use Rattle.fts_snapshots.specs.Successors.{Follows, Fits}
 use Rattle.fts_snapshots.proofs.FollowLemmas.{fits_further}
 use Rattle.cases_index.specs.Late.{AllFit}
 

@@ -1,7 +1,8 @@
-// Steps that change what is found or what waits: `commit`, `gather`, `commit_batch`, `open_round`, `abandon` and `merge`.
+// Steps that change what is found or what waits: `commit`, `gather`, `commit_batch`, `open_round`, `abandon` and
+// `merge`.
 ghost use Rattle.std.specs.Prelude.{◌≡◌, IfOk};
 ghost use Rattle.fts_snapshots.specs.Cuts.{IsCut};
-ghost use Rattle.fts_snapshots.specs.Following.{Follows};
+ghost use Rattle.fts_snapshots.specs.Successors.{Follows};
 
 use crate::walk::Made;
 use cases::{Trouble, ids, list, only, op_of, optional_list, schema_of, size};

@@ -1,6 +1,6 @@
 // Steps of merges that end later: `merge_later` and `end`.
 ghost use Rattle.std.specs.Prelude.{◌≡◌, IfOk};
-ghost use Rattle.fts_snapshots.specs.Following.{Fits};
+ghost use Rattle.fts_snapshots.specs.Successors.{Fits};
 ghost use Rattle.cases_index.specs.Late.{AllFit};
 
 use cases::{Trouble, ids, only, size};

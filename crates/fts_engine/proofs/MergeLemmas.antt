@@ -11,7 +11,7 @@ use Rattle.fts_base.specs.Results.{first_of}
 use Rattle.fts_snapshots.specs.Commits.{numbers_fault}
 use Rattle.fts_snapshots.specs.Entries.{EntryValue, live_in, live_count, has_live, content}
 use Rattle.fts_snapshots.specs.Infos.{info_of}
-use Rattle.fts_snapshots.specs.declared.entry.SegmentInfo.{SegmentInfo}
+use Rattle.fts_snapshots.specs.declared.entries.entry.SegmentInfo.{SegmentInfo}
 use Rattle.fts_snapshots.specs.Merges.{is_among, is_there, entry_at, entries_at, without, fault_behind, names_fault, size_fault}
 use Rattle.fts_snapshots.specs.MergedSegments.{merged_of}
 use Rattle.fts_snapshots.specs.LateMerges.{ended}

@@ -5,7 +5,7 @@ use Rattle.fts_model.specs.declared.operation.Stamped.{Stamped}
 use Rattle.fts_model.specs.Operations.{alive, adds}
 use Rattle.fts_snapshots.specs.Snapshots.{content_of}
 use Rattle.fts_snapshots.specs.Commits.{misfit}
-use Rattle.fts_snapshots.specs.declared.entry.SegmentInfo.{SegmentInfo}
+use Rattle.fts_snapshots.specs.declared.entries.entry.SegmentInfo.{SegmentInfo}
 use Rattle.fts_index.specs.Publications.{Known}
 use Rattle.fts_index.specs.Writers.{WriterValue}
 use Rattle.fts_steps.specs.Indexes.{Index}

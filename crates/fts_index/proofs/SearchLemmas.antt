@@ -24,7 +24,7 @@ use Rattle.fts_snapshots.specs.Entries.{EntryValue, live_in, content}
 use Rattle.fts_snapshots.specs.Snapshots.{IsSnapshot, SnapshotValue, content_of}
 use Rattle.fts_index.specs.Searches.{IsPartOf, OpensInAll, blocks_in, most_in, has_hit, least_in}
 use Rattle.fts_index.specs.SearchJobs.{Asked, asks, asked_of, Tells, AnswersSearch}
-use Rattle.fts_index.specs.declared.searching.job.SearchJob.{SearchJob}
+use Rattle.fts_index.specs.declared.searches.job.SearchJob.{SearchJob}
 use Rattle.fts_snapshots.proofs.OrderLemmas.{permutation_in_order, filter-in_stamp_order}
 
 told_at : (query : QueryValue) (request : Request) (job : SearchJob) (answer : Result PartValue Refusal) (entry : EntryValue) (part : PartValue) →

@@ -11,7 +11,7 @@ use Rattle.fts_model.specs.Documents.{DocumentValue}
 use Rattle.fts_model.specs.Operations.{alive, adds, is_struck, left_by, StampsRise}
 use Rattle.fts_model.proofs.OperationsAlive.{alive-pairs}
 use Rattle.fts_snapshots.specs.Rounds.{Gathered, stamps_of}
-use Rattle.fts_snapshots.specs.declared.stamps.RoundLimits.{RoundLimits}
+use Rattle.fts_snapshots.specs.declared.rounds.stamps.RoundLimits.{RoundLimits}
 use Rattle.fts_snapshots.specs.Snapshots.{SnapshotValue, IsBehind, content_of}
 use Rattle.fts_index.specs.Publications.{IsStamped}
 use Rattle.fts_index.specs.Writers.{IsOpen, is_of}

@@ -36,5 +36,6 @@ least_in schema query entries terms = length terms * count_by (has_hit schema qu
 -- the openings of a search of a snapshot; a count stays at the greatest of 64 bits
 abbrev pub OpensInAll : SnapshotValue → QueryValue → ℕ → Type 0
 OpensInAll snapshot query openings =
-    AreOpenings query (λ t. min (2 ^ 64 - 1) (blocks_in snapshot.entries t)) (λ terms. min (2 ^ 64 - 1) (least_in snapshot.schema query snapshot.entries terms))
+    AreOpenings query (λ t. min (2 ^ 64 - 1) (blocks_in snapshot.entries t))
+    (λ terms. min (2 ^ 64 - 1) (least_in snapshot.schema query snapshot.entries terms))
     (most_in snapshot.entries) openings

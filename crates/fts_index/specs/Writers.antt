@@ -1,10 +1,11 @@
 -- What contracts see of a writer, and what its calls make of it.
-use Rattle.std.specs.Prelude.{◌≡◌, ℕ, ◌+◌, ◌*◌, ◌^◌, ◌<◌, ◌≤◌, ◌==◌, ◌&&◌, ◌||◌, nat_le, Bool, false, Option, Some, None, List, length, MatchOption, ◌⊎◌, Result, Ok, Err, if◌then◌else◌}
+use Rattle.std.specs.Prelude.{◌≡◌, ℕ, ◌+◌, ◌*◌, ◌^◌, ◌<◌, ◌≤◌, ◌==◌, ◌&&◌, ◌||◌, nat_le, Bool, false, Option}
+use Rattle.std.specs.Prelude.{Some, None, List, length, MatchOption, ◌⊎◌, Result, Ok, Err, if◌then◌else◌}
 use Rattle.fts_base.specs.declared.refusal.Refusal.{Refusal}
 use Rattle.fts_base.specs.declared.refusal.Refusal.TheVariants.{Memory, RoundOpen, StampsUsedUp, StaleBatch}
 use Rattle.fts_base.specs.Results.{first_of}
 use Rattle.fts_model.specs.declared.cut.Cut.{Cut}
-use Rattle.fts_snapshots.specs.declared.stamps.RoundLimits.{RoundLimits}
+use Rattle.fts_snapshots.specs.declared.rounds.stamps.RoundLimits.{RoundLimits}
 use Rattle.fts_snapshots.specs.Rounds.{Gathered}
 use Rattle.fts_snapshots.specs.Commits.{misfit}
 use Rattle.fts_snapshots.specs.Snapshots.{after_commit, commit_fault}
@@ -26,7 +27,8 @@ pub record WriterValue : Type 0 where
 
 -- the open round begins behind the last commit, and has a number that was given
 abbrev pub IsOpen : ℕ → ℕ → Option RoundLimits → Type 0
-IsOpen stamp rounds round = MatchOption round (Unit {0}) (λ limits. (limits.first ≡ stamp + 1) × (limits.round < rounds))
+IsOpen stamp rounds round =
+    MatchOption round (Unit {0}) (λ limits. (limits.first ≡ stamp + 1) × (limits.round < rounds))
 
 -- what holds of every writer
 pub record IsWriter (w : WriterValue) : Type 0 where
@@ -51,7 +53,8 @@ fault_beside (Some limits) used_up = Some RoundOpen
 fault_beside None used_up = if used_up then Some StampsUsedUp else None
 
 abbrev pub round_fault : ℕ → ℕ → WriterValue → Option Refusal
-round_fault lanes cap w = fault_beside w.round (nat_le (2 ^ 62) (w.front.stamp + 1 + lanes * cap) || nat_le (2 ^ 62) w.rounds)
+round_fault lanes cap w =
+    fault_beside w.round (nat_le (2 ^ 62) (w.front.stamp + 1 + lanes * cap) || nat_le (2 ^ 62) w.rounds)
 
 -- a batch is of the round
 abbrev pub is_of : Option RoundLimits → Gathered → Bool

@@ -1,14 +1,15 @@
 //! The index: written by one writer in as many lanes as there are threads, and searched from any thread.
 //!
-//! What is found at one time, and how commits and merges lead from one such [`Snapshot`] to the next, is the crate below
-//! (`fts_snapshots`), whose types are handed on here.
+//! What is found at one time, and how commits and merges lead from one such [`Snapshot`] to the next, is the crate
+//! below (`fts_snapshots`), whose types are handed on here.
 //!
-//! - A [`Writer`] opens rounds, commits their batches, and merges segments. It holds the newest snapshot, counts rounds and
-//!   stamps, and refuses a batch that isn't of the open round.
-//! - A merge can end later: [`Writer::begin_merge`] gives a [`MergeJob`], which any thread may run beside the writer, and
-//!   [`Writer::end_merge`] puts the [`MergedSegment`] in place of its sources, with the live bits that these have by then.
-//! - Commits are *published* ([`publications`]). A [`Reader`] in any thread takes the newest one by one look, without a lock,
-//!   and never goes back; a [`Searcher`] keeps the one that it was made of.
+//! - A [`Writer`] opens rounds, commits their batches, and merges segments. It holds the newest snapshot, counts rounds
+//!   and stamps, and refuses a batch that isn't of the open round.
+//! - A merge can end later: [`Writer::begin_merge`] gives a [`MergeJob`], which any thread may run beside the writer,
+//!   and [`Writer::end_merge`] puts the [`MergedSegment`] in place of its sources, with the live bits that these have
+//!   by then.
+//! - Commits are *published* ([`publications`]). A [`Reader`] in any thread takes the newest one by one look, without a
+//!   lock, and never goes back; a [`Searcher`] keeps the one that it was made of.
 //! - A search asks each segment by a job of its own, and joins what these tell ([`Searcher::search`]).
 //!
 //! ```text
@@ -31,7 +32,7 @@
 #![tactic(auto)]
 
 pub mod publications;
-mod searching;
+mod searches;
 mod writer;
 
 pub use fts_model::Cut;
@@ -40,5 +41,5 @@ pub use fts_snapshots::{
     SegmentInfo, Snapshot, open_round,
 };
 pub use publications::{CommitSeen, Publisher, Reader, Searcher};
-pub use searching::Found;
+pub use searches::Found;
 pub use writer::{Committed, Writer};

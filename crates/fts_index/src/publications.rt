@@ -1,15 +1,16 @@
 //! Commits for readers that never wait and never go back.
 //!
-//! A commit leaves a snapshot that never changes. A [`Publisher`], which is the part of a writer that shows commits to other
-//! threads, puts the snapshot and its commit stamp at the end of one list. Readers take the last of that list: a [`Reader`]
-//! makes a [`Searcher`] by one look, with no lock, while the publisher goes on, and the searcher keeps its snapshot for good.
+//! A commit leaves a snapshot that never changes. A [`Publisher`], which is the part of a writer that shows commits to
+//! other threads, puts the snapshot and its commit stamp at the end of one list. Readers take the last of that list: a
+//! [`Reader`] makes a [`Searcher`] by one look, with no lock, while the publisher goes on, and the searcher keeps its
+//! snapshot for good.
 //!
-//! What a reader knows of the list is a beginning of it, and only grows. It grows when the reader looks, and when it is told
-//! of a [`CommitSeen`], which the publisher answers and any thread may hand on. So a reader that was told of a commit answers
-//! that commit or a later one, and two searchers of one stamp have the same documents.
+//! What a reader knows of the list is a beginning of it, and only grows. It grows when the reader looks, and when it is
+//! told of a [`CommitSeen`], which the publisher answers and any thread may hand on. So a reader that was told of a
+//! commit answers that commit or a later one, and two searchers of one stamp have the same documents.
 //!
-//! The list exists in proofs alone: what the threads share is its length, in one word (`history`), and the newest snapshot,
-//! in two places of which readers read one while the other is changed (`shown`).
+//! The list exists in proofs alone: what the threads share is its length, in one word (`history`), and the newest
+//! snapshot, in two places of which readers read one while the other is changed (`shown`).
 //!
 //! ```text
 //! let mut publisher = Publisher::new(&rt, alloc, snapshot)?;

@@ -1,5 +1,6 @@
 // The writer of an index: it opens rounds, commits their batches, merges segments, and publishes what these leave.
-ghost use Rattle.std.specs.Prelude.{◌≡◌, ◌+◌, ◌*◌, ◌^◌, ◌<◌, ◌≤◌, ◌⊎◌, ◌↔◌, ◌++◌, [], ◌∷◌, List, IsTrue, Some, None, Ok, IfOk, IfErr, OnOk, OnErr, IsOkUnless, map, length, option_map};
+ghost use Rattle.std.specs.Prelude.{◌≡◌, ◌+◌, ◌*◌, ◌^◌, ◌<◌, ◌≤◌, ◌⊎◌, ◌↔◌, ◌++◌, [], ◌∷◌, List, IsTrue, Some};
+ghost use Rattle.std.specs.Prelude.{None, Ok, IfOk, IfErr, OnOk, OnErr, IsOkUnless, map, length, option_map};
 ghost use Rattle.std.specs.List.{range_with_len};
 ghost use Rattle.fts_model.specs.Operations.{alive, adds};
 ghost use Rattle.fts_snapshots.specs.Rounds.{fresh};
@@ -9,9 +10,10 @@ ghost use Rattle.fts_snapshots.specs.Infos.{info_of, candidate_ids};
 ghost use Rattle.fts_snapshots.specs.Snapshots.{content_of, merge_fault};
 ghost use Rattle.fts_snapshots.specs.Merges.{entries_at, names_fault};
 ghost use Rattle.fts_snapshots.specs.MergedSegments.{merged_of};
-ghost use Rattle.fts_snapshots.specs.Following.{Follows, Fits};
+ghost use Rattle.fts_snapshots.specs.Successors.{Follows, Fits};
 ghost use Rattle.fts_index.specs.Publications.{opening, schema_of, IsFront, IsOneCommit};
-ghost use Rattle.fts_index.specs.Writers.{IsRefusedFor, next_round, with_round, without_round, round_fault, is_of, batch_fault, stamp_behind, with_commit, with_merge, late_fault, with_end};
+ghost use Rattle.fts_index.specs.Writers.{IsRefusedFor, next_round, with_round, without_round, round_fault, is_of};
+ghost use Rattle.fts_index.specs.Writers.{batch_fault, stamp_behind, with_commit, with_merge, late_fault, with_end};
 
 use crate::publications::{CommitSeen, Publisher, Reader, Searcher};
 use fts_model::{Cut, Op, Refusal, Schema, Stamp, Stamped};

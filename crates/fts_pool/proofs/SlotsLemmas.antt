@@ -3,9 +3,9 @@ use Rattle.std.proofs.Common.{◌≡◌, ◌≢◌, ℕ, zero, suc, ◌+◌, ◌
 use Rattle.std.specs.Prelude.{Option, Some, None, is_some}
 use Rattle.std.specs.List.{AllZip}
 use Rattle.std.proofs.lemmas.Bool.{cases_eq}
-use Rattle.fts_pool.specs.declared.sharing.Known.{Known}
+use Rattle.fts_pool.specs.declared.deque.Known.{Known}
 use Rattle.fts_pool.specs.declared.slots.Done.{Done}
-use Rattle.fts_pool.specs.Internals.Sharing.{known, times}
+use Rattle.fts_pool.specs.Internals.Deque.{known, times}
 use Rattle.fts_pool.specs.Internals.Slots.{AreSlots, IsFilled, IsOf, IsReady, numbers_of}
 use Rattle.fts_pool.proofs.ViewsLemmas.{times-append, times_else}
 

@@ -5,8 +5,8 @@ use mathlib.Core.Option.{some, some-injective, some-ne-none}
 use lib.ListN.{get_elem?}
 use Rattle.crossbeam_deque.specs.Tasks.{Pushes, Takes, Finds, Forks, Merges}
 use Rattle.crossbeam_deque.proofs.Lists.{at_set}
-use Rattle.fts_pool.specs.declared.sharing.Known.{Known}
-use Rattle.fts_pool.specs.Internals.Sharing.{known, one_less, one_share, joined, spent, times, once_below, Fits, Holds, Pushed, Took, TookAll}
+use Rattle.fts_pool.specs.declared.deque.Known.{Known}
+use Rattle.fts_pool.specs.Internals.Deque.{known, one_less, one_share, joined, spent, times, once_below, Fits, Holds, Pushed, Took, TookAll}
 use Rattle.fts_pool.proofs.ViewsLemmas.{times-append, times_here, once_none, once_more, below_once, total-set, total-push, no_share, each_set, each_push, with_share, with_none, total-alone}
 
 -- at the start nothing is pushed

@@ -4,8 +4,8 @@ use Rattle.std.proofs.lemmas.Bool.Decides.{nat_tests}
 use mathlib.Core.Option.{some, some-injective, some-ne-none}
 use lib.ListN.{get_elem?}
 use Rattle.crossbeam_deque.proofs.Lists.{at_set, at_snoc, set_else}
-use Rattle.fts_pool.specs.declared.sharing.Known.{Known}
-use Rattle.fts_pool.specs.Internals.Sharing.{times, once_below, total, spent, Fits}
+use Rattle.fts_pool.specs.declared.deque.Known.{Known}
+use Rattle.fts_pool.specs.Internals.Deque.{times, once_below, total, spent, Fits}
 
 pub times-append : (x : ℕ) (xs ys : List ℕ) → times x (xs ++ ys) ≡ times x xs + times x ys
 times-append x [] ys = omega arith

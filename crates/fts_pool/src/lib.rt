@@ -20,10 +20,10 @@
 //! ```
 #![tactic(auto)]
 
+mod deque;
 mod gate;
 mod job;
 mod run;
-mod sharing;
 mod slots;
 mod workers;
 

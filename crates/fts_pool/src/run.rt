@@ -3,9 +3,9 @@ ghost use Rattle.std.specs.Prelude.{◌≡◌, ℕ, ◌<◌, ◌≤◌, IfOk, Is
 ghost use Rattle.std.specs.List.{AllZip};
 ghost use Rattle.fts_pool.specs.Internals.Slots.{AreSlots, IsFilled};
 
+use crate::deque::JobWorker;
 use crate::gate::Gate;
 use crate::job::Job;
-use crate::sharing::JobWorker;
 use crate::slots::{emptied, empty_slots, run_from};
 use crate::workers::{pop_all, push_all, share_out};
 use fts_base::Refusal;

@@ -1,12 +1,13 @@
 // The threads that run the jobs: the calling thread pops from its deque, and the others steal from it.
 ghost use Rattle.std.specs.Prelude.{◌≡◌, ◌<◌, ◌≤◌, [], length};
-ghost use Rattle.crossbeam_deque.specs.Handles.{view, IsPassOf, worker_deque, stealer_deque, worker_flavor, worker_view};
-ghost use Rattle.fts_pool.specs.Internals.Sharing.{known, TookAll};
+ghost use Rattle.crossbeam_deque.specs.Handles.{view, IsPassOf, worker_deque};
+ghost use Rattle.crossbeam_deque.specs.Handles.{stealer_deque, worker_flavor, worker_view};
+ghost use Rattle.fts_pool.specs.Internals.Deque.{known, TookAll};
 ghost use Rattle.fts_pool.specs.Internals.Slots.{AreOf, IsFresh, IsReady, numbers_of};
 
+use crate::deque::{JobPass, JobStealer, JobWorker, Pop, Push, Share, Theft};
 use crate::gate::Gate;
 use crate::job::Job;
-use crate::sharing::{JobPass, JobStealer, JobWorker, Pop, Push, Share, Theft};
 use crate::slots::{Done, put, put_all, run_one};
 use crossbeam_deque::Steal;
 use std::alloc::Global;

@@ -1,7 +1,7 @@
 //! A script line by line: what it has come to, and its replies.
 //!
-//! A [`Session`] reads each line as a command, executes it over an `Engine` of `fts_steps`, and puts the reply behind those
-//! before it. It knows no block and no stream.
+//! A [`Session`] reads each line as a command, executes it over an `Engine` of `fts_steps`, and puts the reply behind
+//! those before it. It knows no block and no stream.
 #![tactic(auto)]
 
 pub mod laws;

@@ -20,7 +20,7 @@ use Rattle.fts_snapshots.specs.Commits.{numbers_fault}
 use Rattle.fts_snapshots.specs.MergedSegments.{MergedSegmentValue, IsJob, IsMergedSegment, ids_of, merged_of}
 use Rattle.fts_snapshots.specs.Snapshots.{SnapshotValue, IsSnapshot, merge_fault}
 use Rattle.fts_snapshots.specs.Sources.{source_of}
-use Rattle.fts_snapshots.specs.Following.{is_set, Fits}
+use Rattle.fts_snapshots.specs.Successors.{is_set, Fits}
 use Rattle.fts_snapshots.proofs.OrderLemmas.{rises_from_pairs}
 use Rattle.fts_snapshots.proofs.MergeLemmas.{ById, AreDifferent, names_given}
 use Rattle.fts_snapshots.proofs.SnapshotLemmas.{all_entries_at, some_sources}

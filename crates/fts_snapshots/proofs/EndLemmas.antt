@@ -19,7 +19,7 @@ use Rattle.fts_snapshots.specs.Entries.{EntryValue, IsEntry, live_in, has_live, 
 use Rattle.fts_snapshots.specs.Merges.{is_among, without}
 use Rattle.fts_snapshots.specs.MergedSegments.{MergedSegmentValue, IsMergedSegment, origins_of}
 use Rattle.fts_snapshots.specs.Snapshots.{SnapshotValue, IsSnapshot}
-use Rattle.fts_snapshots.specs.Following.{is_set, Fits}
+use Rattle.fts_snapshots.specs.Successors.{is_set, Fits}
 use Rattle.fts_snapshots.specs.LateMerges.{is_live_at, ended, after_end}
 use Rattle.fts_snapshots.proofs.OrderLemmas.{rises_from_pairs, pairs_from_rises, rises_filtered, rises_joined, in_stamp_order-permutation}
 use Rattle.fts_snapshots.proofs.EntryLemmas.{live_in-filter}

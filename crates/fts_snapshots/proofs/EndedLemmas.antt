@@ -10,7 +10,7 @@ use Rattle.fts_snapshots.specs.Entries.{EntryValue}
 use Rattle.fts_snapshots.specs.Merges.{is_there}
 use Rattle.fts_snapshots.specs.MergedSegments.{MergedSegmentValue, IsMergedSegment}
 use Rattle.fts_snapshots.specs.Snapshots.{SnapshotValue, IsSnapshot}
-use Rattle.fts_snapshots.specs.Following.{Fits}
+use Rattle.fts_snapshots.specs.Successors.{Fits}
 use Rattle.fts_snapshots.specs.LateMerges.{first_gone, is_some_live, stamps_left, gone_fault}
 
 there_entry : (es : List EntryValue) (id : ℕ) → is_there es id ≡ true → (e : EntryValue) × Contains es e × (e.id ≡ id)

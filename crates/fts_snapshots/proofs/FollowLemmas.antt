@@ -13,7 +13,7 @@ use Rattle.fts_snapshots.specs.Commits.{struck, fresh_from}
 use Rattle.fts_snapshots.specs.Merges.{is_among, without}
 use Rattle.fts_snapshots.specs.MergedSegments.{MergedSegmentValue}
 use Rattle.fts_snapshots.specs.Snapshots.{SnapshotValue, after_commit}
-use Rattle.fts_snapshots.specs.Following.{is_set, IsLater, Follows, Fits}
+use Rattle.fts_snapshots.specs.Successors.{is_set, IsLater, Follows, Fits}
 use Rattle.fts_snapshots.specs.LateMerges.{ended, after_end}
 use Rattle.fts_snapshots.proofs.SnapshotLemmas.{ids_from}
 

@@ -7,7 +7,7 @@ use Rattle.fts_base.specs.declared.refusal.Refusal.{Refusal}
 use Rattle.fts_base.specs.declared.refusal.Refusal.TheVariants.{Memory}
 use Rattle.fts_snapshots.specs.Entries.{EntryValue, has_live}
 use Rattle.fts_snapshots.specs.Jobs.{entry_of, Answers, AreAnswers}
-use Rattle.fts_snapshots.specs.declared.jobs.CommitJob.{CommitJob}
+use Rattle.fts_snapshots.specs.declared.commits.jobs.CommitJob.{CommitJob}
 
 -- the answer of a job is its own
 answer_at : (jobs : List CommitJob) (results : List (Result EntryValue Refusal)) (k : ℕ) (job : CommitJob) (result : Result EntryValue Refusal) → AreAnswers jobs results → k < length results →

@@ -15,7 +15,7 @@ use Rattle.fts_snapshots.specs.Entries.{EntryValue}
 use Rattle.fts_snapshots.specs.Merges.{is_there, entry_at}
 use Rattle.fts_snapshots.specs.MergedSegments.{ids_of}
 use Rattle.fts_snapshots.specs.Snapshots.{IdsRise}
-use Rattle.fts_snapshots.specs.Following.{is_set}
+use Rattle.fts_snapshots.specs.Successors.{is_set}
 use Rattle.fts_snapshots.specs.LateMerges.{is_live_at}
 use Rattle.fts_snapshots.specs.Lookups.{place_in, is_live_there}
 use Rattle.fts_snapshots.proofs.OrderLemmas.{Rises, rises_from_pairs, pairs_from_rises}

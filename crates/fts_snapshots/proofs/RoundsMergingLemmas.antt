@@ -5,8 +5,8 @@ use Rattle.std.proofs.lemmas.List.Sorted.{IsPermutation-append, IsPermutation-ap
 use Rattle.atomic_table.specs.Table.{Me}
 use Rattle.fts_model.specs.declared.operation.Op.{Op}
 use Rattle.fts_model.specs.declared.operation.Stamped.{Stamped}
-use Rattle.fts_snapshots.specs.declared.stamps.RoundLimits.{RoundLimits}
-use Rattle.fts_snapshots.specs.declared.stamps.Drawn.{Drawn}
+use Rattle.fts_snapshots.specs.declared.rounds.stamps.RoundLimits.{RoundLimits}
+use Rattle.fts_snapshots.specs.declared.rounds.stamps.Drawn.{Drawn}
 use Rattle.fts_snapshots.specs.RoundsDrawn.{AreAll, drawn, joined}
 use Rattle.fts_snapshots.specs.Rounds.{Held, Rises, stamps_of}
 use Rattle.fts_snapshots.specs.Shuffles.{submissions}

@@ -5,8 +5,8 @@ use lib.ListN.{get_elem?}
 use Rattle.std.proofs.Math.Nat.{add-mul}
 use Rattle.atomic_table.specs.Table.{State, Me, step, keeps, stepped, opening, Allows, Splits, Joins}
 use Rattle.atomic_table.proofs.Lists.{at_set, at_snoc, set_again, set_else}
-use Rattle.fts_snapshots.specs.declared.stamps.RoundLimits.{RoundLimits}
-use Rattle.fts_snapshots.specs.declared.stamps.Drawn.{Drawn}
+use Rattle.fts_snapshots.specs.declared.rounds.stamps.RoundLimits.{RoundLimits}
+use Rattle.fts_snapshots.specs.declared.rounds.stamps.Drawn.{Drawn}
 use Rattle.std.specs.List.{range_with_len}
 use Rattle.fts_snapshots.specs.Rounds.{times}
 use Rattle.fts_snapshots.specs.RoundsDrawn.{drawn, begun, one_less, one_lane, joined, spent, lane_count, stamp_count, Fits, Kept, Draws, Looks}

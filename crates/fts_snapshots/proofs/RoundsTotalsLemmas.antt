@@ -2,8 +2,8 @@
 use Rattle.std.proofs.Common.{◌≡◌, ℕ, zero, suc, ◌+◌, ◌*◌, ◌≤◌, List, [], ◌∷◌, ◌++◌, set, sym, refl, ap, subst, ⊎_elim, arith}
 use mathlib.Core.Option.{some, some-injective, some-ne-none}
 use lib.ListN.{get_elem?}
-use Rattle.fts_snapshots.specs.declared.stamps.RoundLimits.{RoundLimits}
-use Rattle.fts_snapshots.specs.declared.stamps.Drawn.{Drawn}
+use Rattle.fts_snapshots.specs.declared.rounds.stamps.RoundLimits.{RoundLimits}
+use Rattle.fts_snapshots.specs.declared.rounds.stamps.Drawn.{Drawn}
 use Rattle.fts_snapshots.specs.RoundsDrawn.{total, lane_count, stamp_count, spent, Fits}
 use Rattle.std.proofs.Math.Nat.{add-mul}
 use Rattle.atomic_table.proofs.Lists.{at_set}

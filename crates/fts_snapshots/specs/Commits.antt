@@ -1,5 +1,6 @@
 -- What a commit does to segments.
-use Rattle.std.specs.Prelude.{ℕ, ◌+◌, nat_lt, ◌^◌, Option, Some, None, List, [], ◌∷◌, ◌++◌, length, map, filter, if◌then◌else◌}
+use Rattle.std.specs.Prelude.{ℕ, ◌+◌, nat_lt, ◌^◌, Option, Some, None, List, []}
+use Rattle.std.specs.Prelude.{◌∷◌, ◌++◌, length, map, filter, if◌then◌else◌}
 use Rattle.fts_model.specs.declared.schema.Field.{Field}
 use Rattle.fts_model.specs.declared.operation.Op.{Op}
 use Rattle.fts_model.specs.declared.operation.Stamped.{Stamped}
@@ -40,7 +41,8 @@ fresh_from schema ops id (documents ∷ groups) = fresh schema ops id documents 
 
 -- the segments after a batch, with those that have no live document: the old ones, and new ones of the adds
 abbrev pub all_after : Cut → List Field → List (Stamped Op) → ℕ → List EntryValue → List EntryValue
-all_after cut schema batch id entries = map (struck batch) entries ++ fresh_from schema batch id (groups_of cut (added batch))
+all_after cut schema batch id entries =
+    map (struck batch) entries ++ fresh_from schema batch id (groups_of cut (added batch))
 
 -- the segments that a commit leaves: those that have a live document
 abbrev pub committed : Cut → List Field → List (Stamped Op) → ℕ → List EntryValue → List EntryValue

@@ -3,7 +3,7 @@ use Rattle.std.specs.Prelude.{ℕ, List, length, map, slice_get}
 use Rattle.std.specs.Option.{option_map_or}
 use Rattle.fts_merge.specs.Levels.{candidates}
 use Rattle.fts_snapshots.specs.Entries.{EntryValue, live_count}
-use Rattle.fts_snapshots.specs.declared.entry.SegmentInfo.{SegmentInfo}
+use Rattle.fts_snapshots.specs.declared.entries.entry.SegmentInfo.{SegmentInfo}
 
 -- the number of a segment, and how many documents and live documents it has
 abbrev pub info_of : EntryValue → SegmentInfo

@@ -6,9 +6,9 @@ use Rattle.fts_base.specs.declared.refusal.Refusal.{Refusal}
 use Rattle.fts_base.specs.declared.refusal.Refusal.TheVariants.{Memory}
 use Rattle.fts_snapshots.specs.Entries.{EntryValue}
 use Rattle.fts_snapshots.specs.Commits.{struck, fresh}
-use Rattle.fts_snapshots.specs.declared.jobs.CommitJob.{CommitJob}
-use Rattle.fts_snapshots.specs.declared.jobs.Task.{Task}
-use Rattle.fts_snapshots.specs.declared.jobs.Task.TheVariants.{Strike, Build}
+use Rattle.fts_snapshots.specs.declared.commits.jobs.CommitJob.{CommitJob}
+use Rattle.fts_snapshots.specs.declared.commits.jobs.Task.{Task}
+use Rattle.fts_snapshots.specs.declared.commits.jobs.Task.TheVariants.{Strike, Build}
 
 -- the segment that a task leaves
 abbrev pub entry_of_task : List (Stamped Op) → Task → EntryValue
@@ -26,4 +26,5 @@ Answers job result = IfOk result (λ entry. entry ≡ entry_of job) × IsOkUnles
 -- there is one answer a job, in their order
 pub record AreAnswers (jobs : List CommitJob) (results : List (Result EntryValue Refusal)) : Type 0 where
   pub count : length results ≡ length jobs
-  pub each : (i : ℕ) (job : CommitJob) (result : Result EntryValue Refusal) → i < length jobs → Answers (slice_index_or jobs i job) (slice_index_or results i result)
+  pub each : (i : ℕ) (job : CommitJob) (result : Result EntryValue Refusal) → i < length jobs →
+      Answers (slice_index_or jobs i job) (slice_index_or results i result)

@@ -1,5 +1,6 @@
 -- What a merge makes of the snapshot in which it ends.
-use Rattle.std.specs.Prelude.{ℕ, ◌+◌, ◌||◌, ◌==◌, Bool, false, not, Option, None, Some, List, [], ◌∷◌, ◌++◌, map, filter, flat_map, if◌then◌else◌}
+use Rattle.std.specs.Prelude.{ℕ, ◌+◌, ◌||◌, ◌==◌, Bool, false, not, Option, None, Some, List}
+use Rattle.std.specs.Prelude.{[], ◌∷◌, ◌++◌, map, filter, flat_map, if◌then◌else◌}
 use Rattle.std.specs.List.{list_any}
 use Rattle.std.specs.Option.{option_map}
 use Rattle.fts_base.specs.declared.refusal.Refusal.{Refusal}
@@ -11,12 +12,13 @@ use Rattle.fts_snapshots.specs.Commits.{numbers_fault}
 use Rattle.fts_snapshots.specs.Merges.{is_among, is_there, entries_at, without}
 use Rattle.fts_snapshots.specs.MergedSegments.{MergedSegmentValue, merged_of, origins_of}
 use Rattle.fts_snapshots.specs.Snapshots.{SnapshotValue}
-use Rattle.fts_snapshots.specs.Following.{is_set}
+use Rattle.fts_snapshots.specs.Successors.{is_set}
 
 -- whether a document of the segment of this number is live
 abbrev pub is_live_at : List EntryValue → ℕ → ℕ → Bool
 is_live_at [] id document = false
-is_live_at (entry ∷ entries) id document = if entry.id == id then is_set entry.live document else is_live_at entries id document
+is_live_at (entry ∷ entries) id document =
+    if entry.id == id then is_set entry.live document else is_live_at entries id document
 
 -- the merged segment under this number, with the live bits that its sources have among these segments
 abbrev pub ended : ℕ → MergedSegmentValue → List EntryValue → EntryValue
@@ -50,7 +52,8 @@ first_gone entries (id ∷ ids) = if is_there entries id then first_gone entries
 -- the stamps of the documents whose source is gone
 abbrev pub stamps_left : MergedSegmentValue → List EntryValue → List ℕ
 stamps_left m entries =
-    map (λ document. document.stamp) (where_set m.merged.segment.documents (map (λ origin. not (is_there entries origin.0)) (origins_of m)))
+    map (λ document. document.stamp)
+    (where_set m.merged.segment.documents (map (λ origin. not (is_there entries origin.0)) (origins_of m)))
 
 -- whether a document of one of these stamps is live
 abbrev pub is_some_live : List EntryValue → List ℕ → Bool

@@ -12,6 +12,6 @@ pub mod Sources
 pub mod Merges
 pub mod Snapshots
 pub mod MergedSegments
-pub mod Following
+pub mod Successors
 pub mod Lookups
 pub mod LateMerges

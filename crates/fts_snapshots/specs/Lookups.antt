@@ -1,9 +1,10 @@
 -- Looking up segments, and numbers.
-use Rattle.std.specs.Prelude.{◌≡◌, ℕ, suc, ◌==◌, Bool, false, Option, Some, None, List, [], ◌∷◌, slice_get, if◌then◌else◌}
+use Rattle.std.specs.Prelude.{◌≡◌, ℕ, suc, ◌==◌, Bool, false, Option, Some, None}
+use Rattle.std.specs.Prelude.{List, [], ◌∷◌, slice_get, if◌then◌else◌}
 use Rattle.std.specs.Option.{option_map, option_map_or}
 use Rattle.fts_snapshots.specs.Entries.{EntryValue}
 use Rattle.fts_snapshots.specs.Merges.{is_among}
-use Rattle.fts_snapshots.specs.Following.{is_set}
+use Rattle.fts_snapshots.specs.Successors.{is_set}
 
 -- the place of the segment of this number, if there is one
 abbrev pub place_in : List EntryValue → ℕ → Option ℕ
@@ -13,7 +14,8 @@ place_in (entry ∷ entries) id = if entry.id == id then Some 0 else option_map 
 -- whether a document of the segment at a place is live
 abbrev pub is_live_there : List EntryValue → Option ℕ → ℕ → Bool
 is_live_there entries None document = false
-is_live_there entries (Some place) document = option_map_or (λ entry. is_set entry.live document) (slice_get entries place) false
+is_live_there entries (Some place) document =
+    option_map_or (λ entry. is_set entry.live document) (slice_get entries place) false
 
 -- a test tells of these numbers alone
 abbrev pub TellsOf : (ℕ → Bool) → List ℕ → Type 0

@@ -1,5 +1,6 @@
 -- What a merge does to segments.
-use Rattle.std.specs.Prelude.{ℕ, ◌==◌, nat_lt, Bool, not, Option, Some, None, List, [], ◌∷◌, ◌++◌, filter, flat_map, if◌then◌else◌}
+use Rattle.std.specs.Prelude.{ℕ, ◌==◌, nat_lt, Bool, not, Option, Some, None, List}
+use Rattle.std.specs.Prelude.{[], ◌∷◌, ◌++◌, filter, flat_map, if◌then◌else◌}
 use Rattle.std.specs.List.{list_any}
 use Rattle.fts_base.specs.declared.refusal.Refusal.{Refusal}
 use Rattle.fts_base.specs.declared.refusal.Refusal.TheVariants.{NoSegments, UnknownSegment, SegmentTwice, TooLarge}

@@ -3,7 +3,7 @@ use Rattle.std.specs.Prelude.{◌≡◌, ℕ, ◌+◌, ◌<◌, List, [], ◌∷
 use Rattle.atomic_table.specs.Seated.{TableId}
 use Rattle.fts_model.specs.declared.operation.Op.{Op}
 use Rattle.fts_model.specs.declared.operation.Stamped.{Stamped}
-use Rattle.fts_snapshots.specs.declared.stamps.RoundLimits.{RoundLimits}
+use Rattle.fts_snapshots.specs.declared.rounds.stamps.RoundLimits.{RoundLimits}
 
 -- a round: its table, which no other round has, and its limits
 pub record Opened : Type 0 where

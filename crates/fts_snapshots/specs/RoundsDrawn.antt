@@ -4,8 +4,8 @@ use Rattle.std.specs.List.{range_with_len}
 use mathlib.Core.Option.{some}
 use lib.ListN.{get_elem?}
 use Rattle.atomic_table.specs.Table.{State, Me, Step}
-use Rattle.fts_snapshots.specs.declared.stamps.RoundLimits.{RoundLimits}
-use Rattle.fts_snapshots.specs.declared.stamps.Drawn.{Drawn}
+use Rattle.fts_snapshots.specs.declared.rounds.stamps.RoundLimits.{RoundLimits}
+use Rattle.fts_snapshots.specs.declared.rounds.stamps.Drawn.{Drawn}
 use Rattle.fts_snapshots.specs.Rounds.{times, AllBelow, Rises}
 
 abbrev pub drawn : RoundLimits → ℕ → List ℕ → Drawn
@@ -53,16 +53,19 @@ pub record Kept (t : RoundLimits) (s : State (Unit {0}) Drawn) : Type 0 where
   pub small : t.first + t.lanes * t.cap < 2 ^ 62
   pub lanes : lane_count s.views ≡ t.lanes
   pub next : slice_index s.words 0 ≡ t.first + stamp_count s.views
-  pub each_once : (x : ℕ) → total (λ v. times x v.stamps) s.views ≡ times x (range_with_len t.first (stamp_count s.views))
+  pub each_once : (x : ℕ) →
+      total (λ v. times x v.stamps) s.views ≡ times x (range_with_len t.first (stamp_count s.views))
   pub fit : (id : ℕ) (v : Drawn) → get_elem? s.views id ≡ some v → Fits t (slice_index s.words 0) v
 
 abbrev Sat : Type 0
 Sat = Me (Unit {0}) Drawn
 
--- the stamp that was found is this seat's now, above its earlier ones. A seat that stands for all lanes draws one after the other
+-- the stamp that was found is this seat's now, above its earlier ones. A seat that stands for all lanes draws one after
+-- the other
 abbrev pub Draws : Step (Unit {0}) → Sat → ℕ → Sat → Type 0
 Draws step v found w =
-    (w ≡ (drawn v.0.limits v.0.lanes (v.0.stamps ++ found ∷ []), v.1)) × (v.0.limits.first ≤ found) × AllBelow found v.0.stamps × (found < 2 ^ 62)
+    (w ≡ (drawn v.0.limits v.0.lanes (v.0.stamps ++ found ∷ []), v.1))
+    × (v.0.limits.first ≤ found) × AllBelow found v.0.stamps × (found < 2 ^ 62)
     × (v.0.lanes ≡ v.0.limits.lanes → found ≡ v.0.limits.first + length v.0.stamps)
 
 -- these stamps are the first ones of the round, each once

@@ -9,7 +9,7 @@ ghost use Rattle.fts_snapshots.specs.Merges.{entries_at, names_fault};
 ghost use Rattle.fts_model.specs.declared.cut.Cut.{Cut};
 ghost use Rattle.fts_snapshots.specs.MergedSegments.{MergedSegmentValue, IsMergedSegment, merged_of};
 ghost use Rattle.fts_snapshots.specs.Snapshots.{SnapshotValue, IsSnapshot, after_commit};
-ghost use Rattle.fts_snapshots.specs.Following.{Follows, Fits};
+ghost use Rattle.fts_snapshots.specs.Successors.{Follows, Fits};
 ghost use Rattle.fts_snapshots.specs.LateMerges.{after_end};
 
 /// Whatever history left the content before a commit, what is alive after it and the batch is the content afterwards.
@@ -35,7 +35,8 @@ pub fn following_is_transitive()
 
 /// What a commit and the end of a merge leave follows what was. A merge at once is one that ends where it began.
 pub fn commits_and_merges_are_followed()
-    ensures commit { (s : SnapshotValue) (cut : Cut) (batch : List (Stamped Op)) → Follows s (after_commit cut batch s) }
+    ensures commit { (s : SnapshotValue) (cut : Cut) (batch : List (Stamped Op)) →
+        Follows s (after_commit cut batch s) }
     ensures end_merge { (s : SnapshotValue) (m : MergedSegmentValue) → Follows s (after_end m s) }
 {}
 

@@ -30,33 +30,16 @@
 //! ```
 #![tactic(auto)]
 
-mod batch;
-mod commit;
-mod cut;
-mod entry;
-mod group;
-mod jobs;
-mod lane;
+mod commits;
+mod entries;
 pub mod laws;
-mod lookup;
-mod merge_end;
-mod merge_job;
-mod merge_plan;
-mod merge_sources;
-mod merged_segment;
-mod new_segment;
-mod numbers;
-mod round;
+mod merges;
+mod rounds;
 mod snapshot;
-mod stamps;
 
-pub use batch::Batch;
-pub use entry::{Entry, SegmentInfo};
+pub use commits::CommitJob;
+pub use entries::{Entry, SegmentInfo};
 pub use fts_model::Cut;
-pub use jobs::CommitJob;
-pub use lane::{Lane, LaneEnd};
-pub use merge_job::MergeJob;
-pub use merged_segment::MergedSegment;
-pub use round::{Round, open_round};
+pub use merges::{MergeJob, MergedSegment};
+pub use rounds::{Batch, Lane, LaneEnd, Round, RoundLimits, open_round};
 pub use snapshot::Snapshot;
-pub use stamps::RoundLimits;

@@ -8,19 +8,13 @@ ghost use Rattle.fts_snapshots.specs.Cuts.{IsCut};
 ghost use Rattle.fts_snapshots.specs.Commits.{misfit};
 ghost use Rattle.fts_snapshots.specs.Merges.{entries_at, names_fault};
 ghost use Rattle.fts_snapshots.specs.MergedSegments.{merged_of};
-ghost use Rattle.fts_snapshots.specs.Following.{Fits};
+ghost use Rattle.fts_snapshots.specs.Successors.{Fits};
 ghost use Rattle.fts_snapshots.specs.LateMerges.{end_fault, after_end, after_merge};
 ghost use Rattle.fts_snapshots.specs.Snapshots.{IsBehind, IsSnapshot, after_commit, commit_fault, merge_fault};
 
-use crate::commit::{entries_of_jobs, jobs_of_batch};
-use crate::entry::{Entry, SegmentInfo};
-use crate::group::groups;
-use crate::merge_end::end_entries;
-use crate::merge_job::MergeJob;
-use crate::merge_plan::candidates;
-use crate::merge_sources::named_entries;
-use crate::merged_segment::MergedSegment;
-use crate::numbers::are_used_up;
+use crate::commits::{entries_of_jobs, groups, jobs_of_batch};
+use crate::entries::{Entry, SegmentInfo, are_used_up};
+use crate::merges::{MergeJob, MergedSegment, candidates, end_entries, named_entries};
 use fts_model::{Cut, Op, Refusal, Schema, Stamped};
 use fts_pool::Gate;
 use std::alloc::{AllocError, Global};
@@ -44,7 +38,8 @@ impl Model for Snapshot {
 
     ghost view = { λ s. record { schema = s.schema; entries = s.entries.items; next_id = s.next_id } };
 
-    ghost invariant = { λ s. IsSnapshot (record { schema = s.schema; entries = s.entries.items; next_id = s.next_id }) };
+    ghost invariant = { λ s.
+        IsSnapshot (record { schema = s.schema; entries = s.entries.items; next_id = s.next_id }) };
 }
 
 impl Snapshot {

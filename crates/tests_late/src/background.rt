@@ -1,6 +1,6 @@
 // A log that goes on while another thread merges what was there.
 ghost use Rattle.std.specs.Prelude.{◌≡◌, IfOk};
-ghost use Rattle.fts_snapshots.specs.Following.{Follows, Fits};
+ghost use Rattle.fts_snapshots.specs.Successors.{Follows, Fits};
 ghost use Rattle.fts_snapshots.specs.MergedSegments.{merged_of};
 
 use crate::steps::{commit, end};

@@ -2,7 +2,7 @@
 // succeeds.
 ghost use Rattle.std.specs.Prelude.{◌≡◌, IfOk};
 ghost use Rattle.fts_snapshots.specs.MergedSegments.{merged_of};
-ghost use Rattle.fts_snapshots.specs.Following.{Fits};
+ghost use Rattle.fts_snapshots.specs.Successors.{Fits};
 
 use crate::steps::commit;
 use fts_index::{MergeJob, MergedSegment, Searcher, Writer};

@@ -1,5 +1,5 @@
 // A commit, and the end of a merge, each followed by what is there then.
-ghost use Rattle.fts_snapshots.specs.Following.{Follows, Fits};
+ghost use Rattle.fts_snapshots.specs.Successors.{Follows, Fits};
 
 use fts_index::{Cut, MergedSegment, Writer};
 use fts_model::Refusal;

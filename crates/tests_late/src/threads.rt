@@ -1,6 +1,6 @@
 // Two merges of one writer, each run in a thread of its own.
 ghost use Rattle.std.specs.Prelude.{IfOk};
-ghost use Rattle.fts_snapshots.specs.Following.{Fits};
+ghost use Rattle.fts_snapshots.specs.Successors.{Fits};
 
 use crate::steps::{commit, end};
 use fts_index::{MergedSegment, Writer};

@@ -4,7 +4,8 @@ ghost use Rattle.std.specs.Prelude.{◌≡◌, ◌<◌, ◌≤◌, ◌⊎◌, �
 ghost use Rattle.std.specs.Arc.{arc_value};
 ghost use mathlib.Core.List.{IsPrefix};
 ghost use Rattle.fts_snapshots.specs.Snapshots.{content_of};
-ghost use Rattle.fts_index.specs.Publications.{opening, publication, published, schema_of, Follows, IsFront, IsOneCommit, IsStamped};
+ghost use Rattle.fts_index.specs.Publications.{opening, publication, published, schema_of};
+ghost use Rattle.fts_index.specs.Publications.{Follows, IsFront, IsOneCommit, IsStamped};
 ghost use Rattle.fts_index.specs.PublicationsHistory.{head_of};
 
 use crate::publications::commit::Commit;
@@ -28,7 +29,8 @@ pub struct Front {
 impl Model for Front {
     ghost use Rattle.std.specs.Prelude.{◌≡◌, ◌+◌, length};
     ghost use Rattle.std.specs.Arc.{arc_value};
-    ghost use Rattle.fts_index.specs.Publications.{ArePublications, FrontValue, IsFront, IsStamped, newest, publication};
+    ghost use Rattle.fts_index.specs.Publications.{ArePublications, FrontValue, IsFront};
+    ghost use Rattle.fts_index.specs.Publications.{IsStamped, newest, publication};
 
     ghost Value = { FrontValue };
 
@@ -98,8 +100,8 @@ impl Front {
         }
     }
 
-    /// The front with one publication more, by the one step on the word. It takes no memory. `None` where more was published
-    /// than this front has seen, or 2^64 - 1 times, neither of which a publisher meets.
+    /// The front with one publication more, by the one step on the word. It takes no memory. `None` where more was
+    /// published than this front has seen, or 2^64 - 1 times, neither of which a publisher meets.
     pub fn with(&self, head: &Head, commit: Arc<Commit>) -> Option<Front>
         requires head { head.now ≡ head_of self.now.seen.of }
         requires follows { Follows (publication self.now.stamp self.now.snapshot)

@@ -1,5 +1,5 @@
-// The book that holds the list of publications. It exists in proofs alone but for one word, the number of publications behind
-// the opening, which only the publisher has.
+// The book that holds the list of publications. It exists in proofs alone but for one word, the number of publications
+// behind the opening, which only the publisher has.
 ghost use Rattle.std.specs.Prelude.{◌≡◌};
 
 use crate::publications::commit::Commit;

@@ -15,7 +15,8 @@ pub fn newest_follows()
         Follows (newest known) (newest more) }
 {}
 
-/// What two have seen of one writer, in whatever threads: at equal stamps it is one commit, of one schema and one content.
+/// What two have seen of one writer, in whatever threads: at equal stamps it is one commit, of one schema and one
+/// content.
 pub fn equal_stamps_are_one_commit()
     ensures { (a b : FrontValue) (all : List Publication) →
         IsPrefix a.seen.list all → IsPrefix b.seen.list all → IsFront a → IsFront b →

@@ -1,8 +1,10 @@
 // The part of a writer that publishes. It alone changes the list of publications.
-ghost use Rattle.std.specs.Prelude.{◌≡◌, ◌<◌, ◌^◌, ◌⊎◌, ◌↔◌, [], ◌∷◌, ◌++◌, Some, IsTrue, IfOk, IfErr, OnOk, OnErr, IsOkUnless, MatchResult, length};
+ghost use Rattle.std.specs.Prelude.{◌≡◌, ◌<◌, ◌^◌, ◌⊎◌, ◌↔◌, [], ◌∷◌, ◌++◌, Some, IsTrue, IfOk};
+ghost use Rattle.std.specs.Prelude.{IfErr, OnOk, OnErr, IsOkUnless, MatchResult, length};
 ghost use Rattle.std.specs.Arc.{arc_value};
 ghost use Rattle.fts_snapshots.specs.Snapshots.{content_of};
-ghost use Rattle.fts_index.specs.Publications.{opening, newest, publication, published, schema_of, Follows, IsFront, IsOneCommit, IsStamped};
+ghost use Rattle.fts_index.specs.Publications.{opening, newest, publication, published, schema_of};
+ghost use Rattle.fts_index.specs.Publications.{Follows, IsFront, IsOneCommit, IsStamped};
 ghost use Rattle.fts_index.specs.PublicationsShown.{name_of, told_name};
 
 use crate::publications::commit::Commit;
@@ -21,8 +23,8 @@ use std::sync::{Arc, Wait};
 /// How many readers there may be at once.
 const PLACES: usize = 64;
 
-/// Publishes snapshots to readers. It isn't dropped but closed. Contracts see it as its newest snapshot at its commit stamp,
-/// with the whole list of its publications.
+/// Publishes snapshots to readers. It isn't dropped but closed. Contracts see it as its newest snapshot at its commit
+/// stamp, with the whole list of its publications.
 pub struct Publisher {
     desk: Desk,
     head: Head,
@@ -58,8 +60,8 @@ impl Publisher {
         Ok(Publisher { desk, head, front })
     }
 
-    /// Publishes what a commit left, at a stamp above all before and above the stamps of its documents. A refusal publishes
-    /// nothing, and the snapshot is let go.
+    /// Publishes what a commit left, at a stamp above all before and above the stamps of its documents. A refusal
+    /// publishes nothing, and the snapshot is let go.
     pub fn publish<R: Wait>(
         &mut self,
         rt: &R,
@@ -132,8 +134,8 @@ impl Publisher {
         searcher.front.is_of_commit(&self.front)
     }
 
-    /// A reader that knows all publications so far. `NoReader` where there are 64 already; one that is dropped makes room for
-    /// another.
+    /// A reader that knows all publications so far. `NoReader` where there are 64 already; one that is dropped makes
+    /// room for another.
     pub fn reader(&mut self) -> Result<Reader, Refusal>
         ensures same { self.new ≡ self.old }
         ensures reader { IfOk result (λ r. r ≡ self.old.seen) }

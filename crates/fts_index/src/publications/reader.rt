@@ -12,8 +12,8 @@ use fts_model::Refusal;
 use std::alloc::AllocError;
 use std::marker::Model;
 
-/// Takes the newest snapshots of one writer, in a thread of its own. Contracts see it as the writer and what it knows of the
-/// writer's publications.
+/// Takes the newest snapshots of one writer, in a thread of its own. Contracts see it as the writer and what it knows
+/// of the writer's publications.
 #[derive(Drop)]
 pub struct Reader {
     place: Place,
@@ -41,9 +41,9 @@ impl Reader {
         Reader { place, front }
     }
 
-    /// The newest snapshot that is shown, or the newest that this reader knows where that is newer or none is shown any more:
-    /// no searcher is older than the one before it, or than a commit that the reader was told of. `Memory` is the one
-    /// refusal, and what the reader has found by then it still knows.
+    /// The newest snapshot that is shown, or the newest that this reader knows where that is newer or none is shown any
+    /// more: no searcher is older than the one before it, or than a commit that the reader was told of. `Memory` is the
+    /// one refusal, and what the reader has found by then it still knows.
     pub fn searcher(&mut self) -> Result<Searcher, Refusal>
         ensures of { self.new.of ≡ self.old.of }
         ensures grows { IsPrefix self.old.list self.new.list }

@@ -8,7 +8,7 @@ ghost use Rattle.fts_index.specs.Searches.{OpensInAll};
 ghost use Rattle.fts_index.specs.Publications.{IsFront};
 
 use crate::publications::front::Front;
-use crate::searching::{Found, openings_of, segment_parts};
+use crate::searches::{Found, openings_of, segment_parts};
 use fts_collect::Part;
 use fts_model::{Query, Refusal, Request, Stamp};
 use fts_pool::Gate;
@@ -18,8 +18,8 @@ use std::marker::Model;
 use std::sync::Wait;
 use std::thread::Threads;
 
-/// A snapshot to search, which it keeps whatever is published afterwards. Contracts see it with its commit stamp and with
-/// the publications that were seen when it was taken.
+/// A snapshot to search, which it keeps whatever is published afterwards. Contracts see it with its commit stamp and
+/// with the publications that were seen when it was taken.
 #[derive(Drop)]
 pub struct Searcher {
     pub(crate) front: Front,
@@ -50,12 +50,12 @@ impl Searcher {
         self.front.snapshot()
     }
 
-    /// What a query finds among all documents of the commit. The segments are searched by up to so many threads, 1 to 64, the
-    /// calling one among them: one job for each segment, in their order. The gate is called around each.
+    /// What a query finds among all documents of the commit. The segments are searched by up to so many threads, 1 to
+    /// 64, the calling one among them: one job for each segment, in their order. The gate is called around each.
     ///
-    /// It also tells how many blocks of lists of documents were opened: each one once, of each segment, for a query of one
-    /// term, and no more than the bound of a conjunction for one of several terms that all must stand. The only refusal is
-    /// `Memory`.
+    /// It also tells how many blocks of lists of documents were opened: each one once, of each segment, for a query of
+    /// one term, and no more than the bound of a conjunction for one of several terms that all must stand. The only
+    /// refusal is `Memory`.
     pub fn search<R: Threads + Wait + Sync, G: Gate>(
         &self,
         rt: &R,
@@ -84,8 +84,8 @@ impl Searcher {
     }
 }
 
-/// What a writer had published when it answered: readers are told of it, in any thread. Contracts see it as the writer and
-/// the list of its publications.
+/// What a writer had published when it answered: readers are told of it, in any thread. Contracts see it as the writer
+/// and the list of its publications.
 #[derive(Drop)]
 pub struct CommitSeen {
     pub(crate) front: Front,

@@ -1,5 +1,5 @@
-// What readers are shown: the newest front, in two places of which they read one while the publisher changes the other. The
-// rule says of which writer it is, and that each reader knows the writer.
+// What readers are shown: the newest front, in two places of which they read one while the publisher changes the other.
+// The rule says of which writer it is, and that each reader knows the writer.
 ghost use Rattle.std.specs.Prelude.{◌≡◌};
 
 use crate::publications::front::Front;

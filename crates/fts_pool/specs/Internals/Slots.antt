@@ -1,9 +1,10 @@
 -- The slots in which results wait for their jobs' turn.
-use Rattle.std.specs.Prelude.{◌≡◌, ℕ, ◌<◌, ◌≤◌, List, [], length, map, All, Option, None, IsSome, IfSome, slice_index_or}
+use Rattle.std.specs.Prelude.{◌≡◌, ℕ, ◌<◌, ◌≤◌, List, [], length, map, All}
+use Rattle.std.specs.Prelude.{Option, None, IsSome, IfSome, slice_index_or}
 use Rattle.std.specs.List.{AllZip, HoldsAt}
-use Rattle.fts_pool.specs.declared.sharing.Known.{Known}
+use Rattle.fts_pool.specs.declared.deque.Known.{Known}
 use Rattle.fts_pool.specs.declared.slots.Done.{Done}
-use Rattle.fts_pool.specs.Internals.Sharing.{times}
+use Rattle.fts_pool.specs.Internals.Deque.{times}
 
 abbrev pub numbers_of : {O : Type 0} → List (Done O) → List ℕ
 numbers_of done = map (λ d. d.number) done

@@ -1,6 +1,6 @@
 -- A commit is followed.
 use Rattle.std.proofs.Common.{sym, subst}
-use Rattle.fts_snapshots.specs.Following.{Follows}
+use Rattle.fts_snapshots.specs.Successors.{Follows}
 use Rattle.fts_snapshots.proofs.FollowLemmas.{follows_commit}
 use Rattle.fts_index.specs.Writers.{WriterValue}
 use Rattle.cases_index.proofs.changed.committed.Goals as goal

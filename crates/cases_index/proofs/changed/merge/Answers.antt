@@ -2,7 +2,7 @@
 use Rattle.std.proofs.Common.{sym, subst}
 use Rattle.fts_snapshots.specs.Merges.{entries_at}
 use Rattle.fts_snapshots.specs.MergedSegments.{merged_of}
-use Rattle.fts_snapshots.specs.Following.{Follows}
+use Rattle.fts_snapshots.specs.Successors.{Follows}
 use Rattle.fts_snapshots.proofs.FollowLemmas.{follows_end}
 use Rattle.fts_index.specs.Writers.{WriterValue}
 use Rattle.cases_index.proofs.changed.merge.Goals as goal

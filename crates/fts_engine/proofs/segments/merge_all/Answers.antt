@@ -1,7 +1,7 @@
 use Rattle.std.proofs.Common.{◌≡◌, ◌<◌, ◌≤◌, ◌==◌, Bool, false, List, length, map, sum_by, inl, inr, refl, sym, ap, subst, ◌∙◌, arith}
 use Rattle.std.proofs.lemmas.Bool.Decides.{nat_tests}
 use Rattle.fts_snapshots.specs.Entries.{EntryValue}
-use Rattle.fts_snapshots.specs.declared.entry.SegmentInfo.{SegmentInfo}
+use Rattle.fts_snapshots.specs.declared.entries.entry.SegmentInfo.{SegmentInfo}
 use Rattle.fts_snapshots.specs.Snapshots.{IsSnapshot}
 use Rattle.fts_engine.proofs.CommitLemmas.{memory_alone}
 use Rattle.fts_engine.proofs.MergeLemmas.{merges_named, no_fault_in_all, ids_counted, live_documents}

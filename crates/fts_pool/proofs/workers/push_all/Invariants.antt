@@ -1,7 +1,7 @@
 -- The jobs so far were pushed.
 use Rattle.std.proofs.Common.{◌≡◌, []}
 use Rattle.crossbeam_deque.specs.Handles.{worker_deque, worker_flavor, worker_view}
-use Rattle.fts_pool.specs.Internals.Sharing.{known}
+use Rattle.fts_pool.specs.Internals.Deque.{known}
 use Rattle.fts_pool.proofs.workers.push_all.Given as goal
 
 abbrev pub invariant-loop-number : goal.invariant-loop-number

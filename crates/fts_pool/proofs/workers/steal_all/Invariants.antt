@@ -1,7 +1,7 @@
 -- What was stolen so far was run.
 use Rattle.std.proofs.Common.{◌≡◌}
 use Rattle.crossbeam_deque.specs.Handles.{view, IsPassOf, stealer_deque}
-use Rattle.fts_pool.specs.Internals.Sharing.{known}
+use Rattle.fts_pool.specs.Internals.Deque.{known}
 use Rattle.fts_pool.specs.Internals.Slots.{AreOf, numbers_of}
 use Rattle.fts_pool.proofs.workers.steal_all.Given as goal
 

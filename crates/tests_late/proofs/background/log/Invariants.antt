@@ -1,5 +1,5 @@
 -- What is left follows what was there.
-use Rattle.fts_snapshots.specs.Following.{Follows}
+use Rattle.fts_snapshots.specs.Successors.{Follows}
 use Rattle.tests_late.proofs.background.log.Given as goal
 
 abbrev pub invariant-loop-line : goal.invariant-loop-line

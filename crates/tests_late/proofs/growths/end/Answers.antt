@@ -1,6 +1,6 @@
 -- All is as before.
 use Rattle.std.proofs.Common.{sym, subst}
-use Rattle.fts_snapshots.specs.Following.{Fits}
+use Rattle.fts_snapshots.specs.Successors.{Fits}
 use Rattle.fts_snapshots.specs.MergedSegments.{MergedSegmentValue}
 use Rattle.fts_index.specs.Writers.{WriterValue}
 use Rattle.tests_late.proofs.growths.end.Goals as goal

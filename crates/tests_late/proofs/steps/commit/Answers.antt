@@ -2,7 +2,7 @@
 use Rattle.std.proofs.Common.{sym, ap, subst}
 use Rattle.fts_index.specs.Publications.{FrontValue}
 use Rattle.fts_model.specs.declared.cut.Cut.TheVariants.{Runs}
-use Rattle.fts_snapshots.specs.Following.{Follows}
+use Rattle.fts_snapshots.specs.Successors.{Follows}
 use Rattle.fts_index.specs.Writers.{WriterValue}
 use Rattle.fts_snapshots.proofs.FollowLemmas.{follows_commit}
 use Rattle.tests_late.proofs.steps.commit.Goals as goal

@@ -3,7 +3,7 @@ use Rattle.std.proofs.Common.{◌≡◌, ◌⊎◌, inl, inr, ⊎_elim, None, Re
 use Rattle.std.specs.Prelude.{OnOk, OnErr}
 use Rattle.fts_index.specs.Publications.{FrontValue, published}
 use Rattle.fts_snapshots.specs.Snapshots.{SnapshotValue}
-use Rattle.fts_snapshots.specs.Following.{Follows}
+use Rattle.fts_snapshots.specs.Successors.{Follows}
 use Rattle.fts_snapshots.specs.LateMerges.{end_fault, after_end}
 use Rattle.fts_index.specs.Writers.{WriterValue, late_fault}
 use Rattle.fts_snapshots.proofs.EndingLemmas.{fault_of_err}

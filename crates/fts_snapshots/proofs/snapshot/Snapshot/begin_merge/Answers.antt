@@ -5,7 +5,7 @@ use Rattle.fts_snapshots.specs.Entries.{EntryValue}
 use Rattle.fts_snapshots.specs.Merges.{entries_at, names_fault}
 use Rattle.fts_snapshots.specs.MergedSegments.{IsJob, merged_of}
 use Rattle.fts_snapshots.specs.Snapshots.{SnapshotValue, IdsRise}
-use Rattle.fts_snapshots.specs.Following.{Fits}
+use Rattle.fts_snapshots.specs.Successors.{Fits}
 use Rattle.fts_snapshots.proofs.BeginLemmas.{job_begun, fits_begun}
 use Rattle.fts_snapshots.proofs.SnapshotLemmas.{snapshot_with}
 use Rattle.fts_snapshots.proofs.SourceLemmas.{unless_ok}

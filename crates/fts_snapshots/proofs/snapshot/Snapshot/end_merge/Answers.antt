@@ -4,7 +4,7 @@ use Rattle.fts_base.specs.Results.{ok_unless}
 use Rattle.fts_snapshots.specs.Entries.{EntryValue, content}
 use Rattle.fts_snapshots.specs.Commits.{numbers_fault}
 use Rattle.fts_snapshots.specs.Snapshots.{SnapshotValue, IsSnapshot, IdsRise}
-use Rattle.fts_snapshots.specs.Following.{Fits}
+use Rattle.fts_snapshots.specs.Successors.{Fits}
 use Rattle.fts_snapshots.specs.LateMerges.{gone_fault, end_fault, replaced, after_end}
 use Rattle.fts_snapshots.proofs.EndLemmas.{content-ended, snapshot_after_end}
 use Rattle.fts_snapshots.proofs.EndingLemmas.{unless_err}

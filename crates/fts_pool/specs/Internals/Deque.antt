@@ -1,0 +1,60 @@
+-- The rule of the deque in which the numbers of jobs lie, and what one step on it tells.
+use Rattle.std.specs.Prelude.{◌≡◌, ℕ, ◌+◌, ◌-◌, ◌<◌, List, [], ◌∷◌, ◌++◌, ◌==◌, nat_lt, if◌then◌else◌, All}
+use mathlib.Core.Option.{some}
+use lib.ListN.{get_elem?}
+use Rattle.fts_pool.specs.declared.deque.Known.{Known}
+
+abbrev pub known : ℕ → ℕ → List ℕ → Known
+known shares pushed taken = record { shares = shares; pushed = pushed; taken = taken }
+
+abbrev pub one_less : Known → Known
+one_less v = known (v.shares - 1) v.pushed v.taken
+
+abbrev pub one_share : Known → Known
+one_share v = known 1 v.pushed []
+
+abbrev pub joined : Known → Known → Known
+joined v w = known (v.shares + w.shares) v.pushed (v.taken ++ w.taken)
+
+abbrev pub spent : Known
+spent = known 0 0 []
+
+-- how often x stands in the list
+abbrev pub times : ℕ → List ℕ → ℕ
+times x [] = 0
+times x (y ∷ ys) = (if x == y then 1 else 0) + times x ys
+
+-- 1 for each number below n, and else 0
+abbrev pub once_below : ℕ → ℕ → ℕ
+once_below x n = if nat_lt x n then 1 else 0
+
+-- f of each view, added up
+abbrev pub total : (Known → ℕ) → List Known → ℕ
+total f [] = 0
+total f (v ∷ vs) = f v + total f vs
+
+-- who has a share knows how many jobs were pushed, and who has none took nothing
+pub record Fits (pushed : ℕ) (v : Known) : Type 0 where
+  pub told : 0 < v.shares → v.pushed ≡ pushed
+  pub idle : v.shares ≡ 0 → v.taken ≡ []
+
+-- each job that was pushed lies in the deque or was taken, once
+pub record Kept (pushed : ℕ) (items : List ℕ) (views : List Known) : Type 0 where
+  pub shares : total (λ v. v.shares) views ≡ 64
+  pub each_once : (x : ℕ) → total (λ v. times x v.taken) views + times x items ≡ once_below x pushed
+  pub fit : (port : ℕ) (v : Known) → get_elem? views port ≡ some v → Fits pushed v
+
+abbrev pub Holds : List ℕ → List Known → Type 0
+Holds items views = (pushed : ℕ) × Kept pushed items views
+
+-- one job more was pushed
+abbrev pub Pushed : Known → List ℕ → Known → Type 0
+Pushed v xs w = w ≡ known v.shares (v.pushed + 1) v.taken
+
+-- these jobs are the thread's now, and were pushed
+abbrev pub Took : Known → List ℕ → Known → Type 0
+Took v xs w = (w ≡ known v.shares v.pushed (v.taken ++ xs)) × All (λ x. x < v.pushed) xs
+
+-- who has all shares took each job once
+abbrev pub TookAll : Known → Type 0
+TookAll v = v.shares ≡ 64 → (x : ℕ) → times x v.taken ≡ once_below x v.pushed

@@ -1,0 +1,85 @@
+// The rule of the deque in which the numbers of jobs lie, and what each step on it tells.
+
+use crossbeam_deque::protocol::{Join, Outcome, Protocol, Split};
+use crossbeam_deque::{Pass, Stealer, Worker};
+use std::alloc::Global;
+use std::collections::LinkedList;
+
+/// What a thread knows of the deque: for how many of the 64 shares it stands, how many jobs were
+/// pushed, and which of them it took. No value of it is ever made.
+pub struct Known {
+    pub shares: u64,
+    pub pushed: usize,
+    pub taken: LinkedList<usize>,
+}
+
+/// Each job that was pushed lies in the deque or was taken by one thread, once.
+pub struct EachOnce;
+
+impl Protocol<usize, Known> for EachOnce {
+    ghost use Rattle.std.specs.Prelude.{[]};
+    ghost use Rattle.fts_pool.specs.Internals.Deque.{Holds, known};
+
+    ghost holds = { Holds };
+
+    ghost first = { known 64 0 [] };
+
+    ghost guest = { known 0 0 [] };
+}
+
+/// The next job is pushed, by the thread that has all shares.
+pub struct Push;
+
+impl Outcome<usize, Known> for Push {
+    ghost use Rattle.fts_pool.specs.Internals.Deque.{Pushed};
+
+    ghost then = { Pushed };
+}
+
+/// The calling thread takes a job; where it finds none and has all shares, every job was taken.
+pub struct Pop;
+
+impl Outcome<usize, Known> for Pop {
+    ghost use Rattle.fts_pool.specs.Internals.Deque.{Took, TookAll};
+
+    ghost then = { Took };
+
+    ghost empty = { TookAll };
+}
+
+/// Another thread takes a job.
+pub struct Theft;
+
+impl Outcome<usize, Known> for Theft {
+    ghost use Rattle.fts_pool.specs.Internals.Deque.{Took};
+
+    ghost then = { Took };
+}
+
+/// The calling thread lends a share, and takes it back with what was taken for it.
+pub struct Share;
+
+impl Split<Known> for Share {
+    ghost use Rattle.fts_pool.specs.Internals.Deque.{one_less, one_share};
+
+    ghost left = { one_less };
+
+    ghost right = { one_share };
+}
+
+impl Join<Known> for Share {
+    ghost use Rattle.fts_pool.specs.Internals.Deque.{joined, spent};
+
+    ghost both = { joined };
+
+    ghost spent = { spent };
+}
+
+/// The deque's end at which the calling thread pushes and pops.
+pub(crate) type JobWorker = Worker<usize, Global, Known, EachOnce>;
+
+/// The deque's end at which other threads steal.
+pub(crate) type JobStealer = Stealer<usize, Global, Known, EachOnce>;
+
+/// With what a thread steals.
+pub(crate) type JobPass = Pass<usize, Known>;

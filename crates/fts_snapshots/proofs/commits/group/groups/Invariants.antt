@@ -1,0 +1,11 @@
+-- What stays true in the loop of `commits::group::groups`.
+use Rattle.std.proofs.Common.{◌≡◌, length, take}
+use Rattle.fts_model.specs.Operations.{added}
+use Rattle.fts_snapshots.specs.Cuts.{groups_of}
+use Rattle.fts_snapshots.proofs.commits.group.groups.Given as goal
+
+abbrev pub invariant-loop-op : goal.invariant-loop-op
+invariant-loop-op l = record {
+  dealt : l.groups.items ≡ groups_of l.cut (added (take l.op-index l.ops));
+  counted : l.count ≡ length (added (take l.op-index l.ops));
+}

@@ -1,7 +1,0 @@
--- What is left of the proof of `entry::Entry::live_count`.
-use Rattle.std.proofs.Common.{length, ap, arith}
-use Rattle.fts_snapshots.proofs.EntryLemmas.{count-le-length}
-use Rattle.fts_snapshots.proofs.entry.Entry.live_count.Goals as goal
-
-pub returns-clause-few : goal.returns-clause-few
-returns-clause-few c = omega (arith, count-le-length c.deref.result.now, ap length c.deref.ensures, c.self.invariant.bits, c.self.invariant.few, c.count_ones.ensures)

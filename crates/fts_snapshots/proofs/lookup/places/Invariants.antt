@@ -1,7 +1,0 @@
--- What stays true in the loop of `lookup::places`.
-use Rattle.std.proofs.Common.{◌≡◌, map, take}
-use Rattle.fts_snapshots.specs.Lookups.{place_in}
-use Rattle.fts_snapshots.proofs.lookup.places.Given as goal
-
-abbrev pub invariant-loop-id : goal.invariant-loop-id
-invariant-loop-id l = l.places.items ≡ map (place_in l.lookup) (take l.id-index l.ids)

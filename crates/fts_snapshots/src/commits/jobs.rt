@@ -1,0 +1,139 @@
+// The jobs of a commit: what it does to one segment each.
+ghost use Rattle.std.specs.Prelude.{◌≡◌, ◌≤◌, ◌+◌, ◌++◌, ◌<◌, ◌^◌, true, map, length, IfOk, OnOk, IsOkUnless, All};
+ghost use Rattle.fts_model.specs.Operations.{survives};
+ghost use Rattle.fts_segment.specs.Segments.{AllFit};
+ghost use Rattle.fts_model.specs.Limits.{most_built};
+ghost use Rattle.fts_snapshots.specs.Commits.{struck, fresh, fresh_from};
+ghost use Rattle.fts_snapshots.specs.Jobs.{entry_of, AreAnswers};
+
+use crate::commits::group::Group;
+use crate::commits::new_segment::NewSegment;
+use crate::entries::Entry;
+use fts_bits::Bits;
+use fts_merge::strike;
+use fts_model::{Document, Op, Refusal, Schema, Stamped};
+use fts_pool::Job;
+use fts_segment::{Builder, Segment};
+use std::alloc::{AllocError, Global};
+
+/// What a job is about.
+#[derive(Drop)]
+pub(crate) enum Task<'a> {
+    /// An old segment is struck.
+    Strike(&'a Entry),
+    /// A new segment is built and struck.
+    Build(NewSegment<'a>),
+}
+
+/// What a commit does to one segment: an old one is struck, or a new one is built of its documents and struck.
+#[derive(Drop)]
+pub struct CommitJob<'a> {
+    alloc: Global,
+    ops: &'a [Stamped<Op>],
+    task: Task<'a>,
+}
+
+impl Job for CommitJob<'_> {
+    ghost use Rattle.fts_snapshots.specs.Jobs.{Answers};
+
+    type Out = Result<Entry, Refusal>;
+
+    ghost gives = { Answers };
+
+    fn run(&self) -> Result<Entry, Refusal> {
+        match &self.task {
+            Task::Strike(entry) => struck(self.alloc, self.ops, entry),
+            Task::Build(segment) => fresh(self.alloc, self.ops, segment),
+        }
+    }
+}
+
+/// A segment after operations. Its bits are shared where there are none.
+fn struck(alloc: Global, ops: &[Stamped<Op>], entry: &Entry) -> Result<Entry, Refusal>
+    ensures ok { IfOk result (λ new. new ≡ struck ops.now entry.now) }
+    ensures memory { IsOkUnless result Refusal.Memory }
+{
+    let live = entry.live();
+    if ops.is_empty() {
+        return Ok(entry.clone()?);
+    }
+    let live = strike(alloc, entry.segment(), live, ops)?;
+    let segment = entry.segment().clone()?;
+    Ok(Entry::new(alloc, entry.id(), segment, live)?)
+}
+
+/// A segment of documents.
+fn built(
+    alloc: Global,
+    schema: &Schema,
+    documents: &[Stamped<Document>],
+) -> Result<Segment, Refusal>
+    requires few { length documents.now ≤ most_built }
+    requires fit { AllFit schema.now documents.now }
+    ensures ok { IfOk result (λ segment. segment ≡ record { schema = schema.now; documents = documents.now }) }
+    ensures memory { IsOkUnless result Refusal.Memory }
+{
+    let mut builder = Builder::new(alloc, schema)?;
+    for document in documents {
+        builder.add(document.stamp, &document.value)?;
+    }
+    builder.finish(alloc).map_err(|(_, refusal)| refusal)
+}
+
+/// A new segment after operations.
+fn fresh(alloc: Global, ops: &[Stamped<Op>], new: &NewSegment<'_>) -> Result<Entry, Refusal>
+    ensures ok { IfOk result (λ entry. entry ≡ fresh new.now.schema.now ops.now new.now.id new.now.group.now) }
+    ensures memory { IsOkUnless result Refusal.Memory }
+{
+    let segment = built(alloc, new.schema, new.group.documents())?;
+    let all = Bits::all_set(alloc, segment.docs())?;
+    let live = strike(alloc, &segment, &all, ops)?;
+    Ok(Entry::new(alloc, new.id, segment, live)?)
+}
+
+/// The jobs of a commit: one for each old segment, and then one for each group of adds, whose segments are numbered
+/// from `id` on.
+pub(crate) fn commit_jobs<'a>(
+    alloc: Global,
+    schema: &'a Schema,
+    ops: &'a [Stamped<Op>],
+    entries: &'a [Entry],
+    id: u64,
+    groups: &'a [Group],
+) -> Result<Vec<CommitJob<'a>>, AllocError>
+    requires room { id + length groups.now ≤ 2 ^ 62 }
+    requires fit { All (AllFit schema.now) groups.now }
+    ensures { IfOk result (λ jobs. map entry_of jobs.items
+        ≡ map (struck ops.now) entries.now ++ fresh_from schema.now ops.now id groups.now) }
+{
+    let mut jobs = Vec::new(alloc);
+    for entry in entries {
+        let task = Task::Strike(entry);
+        jobs.push(CommitJob { alloc, ops, task })?;
+    }
+    push_builds(&mut jobs, alloc, schema, ops, id, groups)?;
+    Ok(jobs)
+}
+
+/// Puts the jobs of new segments behind others.
+fn push_builds<'a>(
+    jobs: &mut Vec<CommitJob<'a>>,
+    alloc: Global,
+    schema: &'a Schema,
+    ops: &'a [Stamped<Op>],
+    first: u64,
+    groups: &'a [Group],
+) -> Result<(), AllocError>
+    requires room { first + length groups.now ≤ 2 ^ 62 }
+    requires fit { All (AllFit schema.now) groups.now }
+    ensures { OnOk result (map entry_of jobs.new.items
+        ≡ map entry_of jobs.old.items ++ fresh_from schema.now ops.now first groups.now) }
+{
+    let mut id = first;
+    for group in groups {
+        let task = Task::Build(NewSegment { schema, id, group });
+        jobs.push(CommitJob { alloc, ops, task })?;
+        id += 1;
+    }
+    Ok(())
+}

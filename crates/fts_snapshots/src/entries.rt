@@ -1,0 +1,9 @@
+// Segments with their numbers and their live bits, as a snapshot has them.
+
+mod entry;
+mod lookup;
+mod number_limit;
+
+pub use entry::{Entry, SegmentInfo};
+pub(crate) use lookup::{Lookup, numbers, places};
+pub(crate) use number_limit::are_used_up;

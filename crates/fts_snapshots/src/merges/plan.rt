@@ -1,0 +1,59 @@
+// Which segments of a snapshot are worth merging.
+ghost use Rattle.std.specs.Prelude.{◌≡◌, ◌<◌, All, map, length, IfOk, IsOkUnless};
+ghost use Rattle.fts_snapshots.specs.Entries.{live_count};
+ghost use Rattle.fts_snapshots.specs.Infos.{id_at, candidate_ids};
+
+use crate::entries::Entry;
+use fts_merge::plan;
+use fts_model::Refusal;
+use std::alloc::{AllocError, Global};
+
+/// How many live documents each segment has.
+fn sizes(alloc: Global, entries: &[Entry]) -> Result<Vec<u32>, AllocError>
+    ensures { IfOk result (λ sizes. sizes.items ≡ map live_count entries.now) }
+{
+    let mut sizes = Vec::with_capacity(alloc, entries.len())?;
+    for entry in entries {
+        sizes.push(entry.live_count() as u32)?;
+    }
+    Ok(sizes)
+}
+
+/// The numbers of the segments at these indexes.
+fn ids_at(alloc: Global, entries: &[Entry], indexes: &[usize]) -> Result<Vec<u64>, AllocError>
+    requires { All (λ index. index < length entries.now) indexes.now }
+    ensures { IfOk result (λ ids. ids.items ≡ map (id_at entries.now) indexes.now) }
+{
+    let mut ids = Vec::with_capacity(alloc, indexes.len())?;
+    for index in indexes {
+        ids.push(entries[*index].id())?;
+    }
+    Ok(ids)
+}
+
+/// The same of several lists.
+fn all_ids_at(
+    alloc: Global,
+    entries: &[Entry],
+    lists: &[Vec<usize>],
+) -> Result<Vec<Vec<u64>>, AllocError>
+    requires { All (λ list. All (λ index. index < length entries.now) list.items) lists.now }
+    ensures { IfOk result (λ all. map (λ ids. ids.items) all.items
+        ≡ map (λ list. map (id_at entries.now) list.items) lists.now) }
+{
+    let mut all = Vec::with_capacity(alloc, lists.len())?;
+    for list in lists {
+        all.push(ids_at(alloc, entries, list)?)?;
+    }
+    Ok(all)
+}
+
+/// The candidates for merges, by the numbers of segments.
+pub(crate) fn candidates(alloc: Global, entries: &[Entry]) -> Result<Vec<Vec<u64>>, Refusal>
+    ensures candidates { IfOk result (λ found. map (λ ids. ids.items) found.items ≡ candidate_ids entries.now) }
+    ensures memory { IsOkUnless result Refusal.Memory }
+{
+    let sizes = sizes(alloc, entries)?;
+    let found = plan(alloc, &sizes)?;
+    Ok(all_ids_at(alloc, entries, &found)?)
+}

@@ -1,0 +1,55 @@
+// The segments that a merge is begun with.
+ghost use Rattle.std.specs.Prelude.{◌≡◌, ◌⊎◌, ◌++◌, ◌∷◌, [], ℕ, List, Some, IfOk, OnOk, MatchResult, nat_eq};
+ghost use Rattle.std.specs.HashSet.{contains};
+ghost use Rattle.fts_base.specs.Results.{Gives, ok_unless};
+ghost use Rattle.fts_snapshots.specs.Snapshots.{IdsRise};
+ghost use Rattle.fts_snapshots.specs.Merges.{entry_at, entries_at, fault_behind, names_fault};
+ghost use Rattle.fts_snapshots.specs.Lookups.{TellsOf};
+
+use crate::entries::{Entry, Lookup};
+use fts_model::Refusal;
+use std::alloc::{AllocError, Global};
+use std::collections::HashSet;
+
+/// The segment of this number, which is put among those that were named. Or why it can't be named: no segment has the
+/// number, or it was named before.
+fn named(lookup: &Lookup<'_>, names: &mut HashSet<u64>, id: u64) -> Result<Entry, Refusal>
+    ensures names { (before : List ℕ) → TellsOf (contains nat_eq names.old) before →
+        OnOk result (TellsOf (contains nat_eq names.new) (before ++ id ∷ [])) }
+    ensures entry { IfOk result (λ entry. entry_at lookup.now id ≡ entry ∷ []) }
+    ensures fault { (before ids : List ℕ) → TellsOf (contains nat_eq names.old) before →
+        MatchResult result
+        (λ _. fault_behind lookup.now before (id ∷ ids) ≡ fault_behind lookup.now (before ++ id ∷ []) ids)
+        (λ e. (e ≡ Refusal.Memory) ⊎ (fault_behind lookup.now before (id ∷ ids) ≡ Some e)) }
+{
+    let Some(entry) = lookup.get(id) else {
+        return Err(Refusal::UnknownSegment(id));
+    };
+    if !names.insert(id)? {
+        return Err(Refusal::SegmentTwice(id));
+    }
+    Ok(entry.clone()?)
+}
+
+/// The segments of these numbers, in the order of the numbers; or what is wrong with the numbers: there is none, or the
+/// first that no segment has or that stands before.
+pub(crate) fn named_entries(
+    alloc: Global,
+    entries: &[Entry],
+    ids: &[u64],
+) -> Result<Vec<Entry>, Refusal>
+    requires { IdsRise entries.now }
+    ensures { Gives (λ found. found.items) result
+        (ok_unless (names_fault entries.now ids.now) (entries_at entries.now ids.now)) }
+{
+    if ids.is_empty() {
+        return Err(Refusal::NoSegments);
+    }
+    let lookup = Lookup::new(alloc, entries)?;
+    let mut names = HashSet::new(alloc);
+    let mut found = Vec::with_capacity(alloc, ids.len())?;
+    for id in ids {
+        found.push(named(&lookup, &mut names, *id)?)?;
+    }
+    Ok(found)
+}
