@@ -16,7 +16,6 @@ use Rattle.fts_model.specs.Operations.{has}
 use Rattle.fts_model.specs.Answers.{AnswerValue, answer_of}
 use Rattle.fts_segment.specs.Segments.{SegmentValue}
 use Rattle.fts_cursor.specs.Openings.{HasMusts, blocks_with}
-use Rattle.fts_cursor.specs.Standing.{Standing, Walked}
 use Rattle.fts_collect.specs.Internals.Collected.{hits_at}
 use Rattle.fts_collect.proofs.LiveLemmas.{length-numbers_where}
 
@@ -37,17 +36,6 @@ musts-length must must_not should terms has =
     sym (ap query_value (sym (rolls-Bool must must_not should)) ∙ fold-roll-Query QueryValue value_by_parts (Query-F.Bool must must_not should)) ∙ has in
     let same : query_list (map query_value must.items) ≡ query_list (map term terms) = cc in
     sym (length-map must.items query_value) ∙ query_list-length (map query_value must.items) (map term terms) same ∙ length-map terms term
-
--- a cursor that walked and walked on
-pub walked-on : (a b c : Standing) → Walked a b → Walked b c → Walked a c
-walked-on a b c first second = record {
-  continues = record {
-    bound = second.continues.bound ∙ first.continues.bound;
-    more = omega (arith, first.continues.more, second.continues.more);
-    height = second.continues.height ∙ first.continues.height;
-  };
-  whole = λ w. second.whole (first.whole w);
-}
 
 -- the blocks of a term can be counted in 64 bits
 pub blocks-few : (segment : SegmentValue) (t : Term) → length segment.documents ≤ 2 ^ 32 → min (2 ^ 64 - 1) (blocks_with segment t) ≡ blocks_with segment t

@@ -18,7 +18,7 @@ use Rattle.fts_segment.specs.Segments.{SegmentValue, numbers_where}
 use Rattle.fts_segment.proofs.HoldingLemmas.{numbers_where-same}
 use Rattle.fts_cursor.specs.Hits.{is_live, live_hits, segment_hits}
 use Rattle.fts_postings.specs.Meeting.{common, union, without}
-use Rattle.fts_cursor.specs.Standing.{Standing, remains}
+use Rattle.fts_cursor.specs.TreeValues.{TreeValue, remains}
 use Rattle.fts_postings.proofs.MeetingLemmas.{Rises-filter}
 use Rattle.fts_cursor.proofs.HitsLemmas.{Rises-numbers, has-all, has-filter, hits_apart, hits_common, hits_of, hits_union, numbers_are, test_at}
 
@@ -49,8 +49,8 @@ all_kept segment (q ∷ qs) should some =
     (λ k d inside. and_true (list_all (matches_in segment.schema (get_or segment.documents k d).value) (q ∷ qs)))
 
 -- the musts, and nothing else
-pub must_hits : (segment : SegmentValue) (trees : List Standing) (must should : List Query) (out : List ℕ) → remains trees ≡ map (hits_of segment) must → 0 < length must →
-    ((first : Standing) (rest : List Standing) → trees ≡ first ∷ rest → out ≡ common first.remaining (remains rest)) →
+pub must_hits : (segment : SegmentValue) (trees : List TreeValue) (must should : List Query) (out : List ℕ) → remains trees ≡ map (hits_of segment) must → 0 < length must →
+    ((first : TreeValue) (rest : List TreeValue) → trees ≡ first ∷ rest → out ≡ common first.remaining (remains rest)) →
     out ≡ numbers_where (kept_by segment.schema must should) 0 segment.documents
 must_hits segment trees [] should out are some is = absurd (omega (arith, some))
 must_hits segment [] (q ∷ qs) should out are some is = absurd (omega (arith, ap length are))

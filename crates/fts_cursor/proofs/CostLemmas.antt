@@ -5,27 +5,27 @@ use Rattle.std.specs.List.Sorted.{IsStrictlyIncreasing}
 use Rattle.std.proofs.lemmas.Bool.{cases_lt}
 use Rattle.std.proofs.lemmas.List.{get_or_default}
 use Rattle.fts_postings.specs.Meeting.{common, has, in_all, union}
-use Rattle.fts_cursor.specs.Standing.{Standing, remains}
+use Rattle.fts_cursor.specs.TreeValues.{TreeValue, remains}
 use Rattle.fts_cursor.proofs.HitsLemmas.{has-filter, same_members}
 use Rattle.fts_postings.proofs.MeetingLemmas.{Rises-filter}
 use Rattle.fts_postings.proofs.RemainingLemmas.{Rises-from_increasing}
 use Rattle.fts_postings.proofs.CostLemmas.{length-with_all}
 
 -- how many documents remain of all, each counted as often as it does
-abbrev pub all_remaining : List Standing → ℕ
+abbrev pub all_remaining : List TreeValue → ℕ
 all_remaining [] = 0
 all_remaining (s ∷ parts) = length s.remaining + all_remaining parts
 
-pub length-union : (parts : List Standing) → length (union (remains parts)) ≤ all_remaining parts
+pub length-union : (parts : List TreeValue) → length (union (remains parts)) ≤ all_remaining parts
 length-union [] = omega arith
 length-union (s ∷ parts) = omega (arith, length-with_all s.remaining (union (remains parts)), length-union parts)
 
-remaining-suc : (parts : List Standing) (index : ℕ) (d : Standing) → index < length parts → all_remaining (take (suc index) parts) ≡ all_remaining (take index parts) + length (get_or parts index d).remaining
+remaining-suc : (parts : List TreeValue) (index : ℕ) (d : TreeValue) → index < length parts → all_remaining (take (suc index) parts) ≡ all_remaining (take index parts) + length (get_or parts index d).remaining
 remaining-suc [] index d inside = absurd (omega arith)
 remaining-suc (p ∷ ps) zero d inside = omega arith
 remaining-suc (p ∷ ps) (suc index) d inside = omega (arith, remaining-suc ps index d (omega (arith, inside)))
 
-pub all_remaining-more : (parts : List Standing) (index : ℕ) (d : Standing) → index < length parts → all_remaining (take (index + 1) parts) ≡ all_remaining (take index parts) + length (get_or parts index d).remaining
+pub all_remaining-more : (parts : List TreeValue) (index : ℕ) (d : TreeValue) → index < length parts → all_remaining (take (index + 1) parts) ≡ all_remaining (take index parts) + length (get_or parts index d).remaining
 all_remaining-more parts index d inside = ap (λ n. all_remaining (take n parts)) (add-one index) ∙ remaining-suc parts index d inside
 
 and_swap : (a b c : Bool) → (a && (b && c)) ≡ (b && (a && c))
@@ -35,14 +35,14 @@ and_swap false true c = refl
 and_swap false false c = refl
 
 -- one of some lists and the others have in common what all have
-in_all-led : (parts : List Standing) (k : ℕ) (e : Standing) (d : ℕ) → k < length parts → (has (get_or parts k e).remaining d && in_all (remains (remove parts k)) d) ≡ in_all (remains parts) d
+in_all-led : (parts : List TreeValue) (k : ℕ) (e : TreeValue) (d : ℕ) → k < length parts → (has (get_or parts k e).remaining d && in_all (remains (remove parts k)) d) ≡ in_all (remains parts) d
 in_all-led [] k e d inside = absurd (omega (arith, inside))
 in_all-led (p ∷ ps) zero e d inside = refl
 in_all-led (p ∷ ps) (suc k) e d inside =
     and_swap (has (get_or ps k e).remaining d) (has p.remaining d) (in_all (remains (remove ps k)) d) ∙ ap (λ b. has p.remaining d && b) (in_all-led ps k e d (omega (arith, inside)))
 
 -- which of them leads doesn't matter
-pub common-led : (parts : List Standing) (k : ℕ) (e : Standing) (first : Standing) (rest : List Standing) → All (λ part. IsStrictlyIncreasing part.remaining) parts → k < length parts → parts ≡ first ∷ rest →
+pub common-led : (parts : List TreeValue) (k : ℕ) (e : TreeValue) (first : TreeValue) (rest : List TreeValue) → All (λ part. IsStrictlyIncreasing part.remaining) parts → k < length parts → parts ≡ first ∷ rest →
     common (get_or parts k e).remaining (remains (remove parts k)) ≡ common first.remaining (remains rest)
 common-led [] k e first rest rise inside are = absurd (omega (arith, inside))
 common-led (p ∷ ps) k e first rest rise inside are =
@@ -55,12 +55,12 @@ common-led (p ∷ ps) k e first rest rise inside are =
     ∙ ap (λ parts. common (get_or parts 0 e).remaining (remains (drop 1 parts))) are
 
 -- one part more that rises
-pub rise_more : (parts : List Standing) (index : ℕ) (s : Standing) → ((k : ℕ) (d : Standing) → k < index → IsStrictlyIncreasing (get_or parts k d).remaining) → index < length parts → s ≡ get_or parts index s → IsStrictlyIncreasing s.remaining →
-    (k : ℕ) (d : Standing) → k < index + 1 → IsStrictlyIncreasing (get_or parts k d).remaining
+pub rise_more : (parts : List TreeValue) (index : ℕ) (s : TreeValue) → ((k : ℕ) (d : TreeValue) → k < index → IsStrictlyIncreasing (get_or parts k d).remaining) → index < length parts → s ≡ get_or parts index s → IsStrictlyIncreasing s.remaining →
+    (k : ℕ) (d : TreeValue) → k < index + 1 → IsStrictlyIncreasing (get_or parts k d).remaining
 rise_more parts index s before inside is rises k d low = elim (cases_lt k index) [
   | inl less ↦ before k d less
   | inr here ↦
       let same : k ≡ index = omega (arith, low, here) in
       let at : s ≡ get_or parts k d = is ∙ get_or_default parts index s d inside ∙ ap (λ n. get_or parts n d) (sym same) in
-      subst (λ (t : Standing). IsStrictlyIncreasing t.remaining) at rises
+      subst (λ (t : TreeValue). IsStrictlyIncreasing t.remaining) at rises
 ]

@@ -8,7 +8,7 @@ use Rattle.fts_pack.specs.Documents.{Rises}
 use Rattle.fts_postings.specs.Remaining.{at_least}
 use Rattle.fts_postings.specs.Windows.{is_marked, passing}
 use Rattle.fts_postings.specs.Meeting.{IsLeast, has, in_some, union, with_all, with_one}
-use Rattle.fts_cursor.specs.Standing.{Continues, Left, Standing, beside, remains, together}
+use Rattle.fts_cursor.specs.TreeValues.{Left, TreeContinues, TreeValue, beside, remains, together}
 use Rattle.fts_cursor.specs.Trees.{AreBeyond, AreMarked, IsBuffered, IsNow, found, gathered}
 use Rattle.fts_cursor.specs.declared.tree.buffered_union.BufferedUnion.{BufferedUnion}
 use Rattle.fts_cursor.specs.declared.tree.Node.TheVariants.{Or}
@@ -16,7 +16,7 @@ use Rattle.fts_postings.specs.declared.window.Window.{Window}
 use Rattle.fts_postings.proofs.RemainingLemmas.{Rises-from_increasing, at_least_all, first-at_least, increasing-from_Rises, nothing_first}
 use Rattle.fts_postings.proofs.MeetingLemmas.{above_is_other, below_is_other, has-at_least, has-before_first, has-below, has-first, has-none, is_itself}
 use Rattle.fts_postings.proofs.PassingLemmas.{Rises-passing}
-use Rattle.fts_cursor.proofs.PartsLemmas.{Continues-beside, Continues-same, Continues-together, UpTo, UpTo-next, UpTo-none, union-left}
+use Rattle.fts_cursor.proofs.PartsLemmas.{TreeContinues-beside, TreeContinues-same, TreeContinues-together, UpTo, UpTo-next, UpTo-none, union-left}
 use Rattle.fts_postings.proofs.UnionLemmas.{Rises-union, at_least-with_all, by_order, first_of, has-union, has-with_one, in_some-append, leaves, or_false, union_first}
 use Rattle.fts_cursor.proofs.TreeLemmas.{IsNow-first, drop_first, from_union, parts_from, stays_from_first}
 
@@ -74,7 +74,7 @@ pub record IsMarking (initial now : List ℕ) (old new : Window) : Type 0 where
   pub same : (d : ℕ) → (has (found new) d || has now d) ≡ (has (found old) d || has initial d)
 
 -- how far those of several were
-pub record MarkedUpTo (initial now : List Standing) (old new : Window) (index : ℕ) : Type 0 where
+pub record MarkedUpTo (initial now : List TreeValue) (old new : Window) (index : ℕ) : Type 0 where
   pub up_to : UpTo (Left (old.last + 1)) initial now index
   pub place : (new.from ≡ old.from) × (new.last ≡ old.last)
   pub marked : AreMarked (in_some (remains (take index initial))) old new
@@ -160,22 +160,22 @@ marking_ended now target none =
     let empty = nothing_first now none in
     empty ∙ sym (ap (at_least target) empty)
 
-pub MarkedUpTo-none : (parts : List Standing) (w : Window) → MarkedUpTo parts parts w w 0
+pub MarkedUpTo-none : (parts : List TreeValue) (w : Window) → MarkedUpTo parts parts w w 0
 MarkedUpTo-none parts w = record {
   up_to = UpTo-none (Left (w.last + 1)) parts;
   place = (refl, refl);
   marked = λ d. sym (ap (λ b. has (found w) d || b) (and_nothing (nat_le d w.last)) ∙ or_false (has (found w) d));
 }
 
-module _ (initial now : List Standing) (old new : Window) (index : ℕ) (h : MarkedUpTo initial now old new index) where
-  pub MarkedUpTo-next : (d₀ q : Standing) (w : Window) → index < length now → Left (new.last + 1) (get_or now index d₀) q → (w.from ≡ new.from) × (w.last ≡ new.last) → AreMarked (has (get_or now index d₀).remaining) new w → MarkedUpTo initial (set now index q) old w (index + 1)
+module _ (initial now : List TreeValue) (old new : Window) (index : ℕ) (h : MarkedUpTo initial now old new index) where
+  pub MarkedUpTo-next : (d₀ q : TreeValue) (w : Window) → index < length now → Left (new.last + 1) (get_or now index d₀) q → (w.from ≡ new.from) × (w.last ≡ new.last) → AreMarked (has (get_or now index d₀).remaining) new w → MarkedUpTo initial (set now index q) old w (index + 1)
   MarkedUpTo-next d₀ q w inside left place marked =
       let p = get_or now index d₀ in
       let same : p ≡ get_or initial index d₀ = h.up_to.rest index d₀ (omega arith) in
       let moved : Left (old.last + 1) p q = subst (λ n. Left (n + 1) p q) h.place.1 left in
       let there : index < length initial = omega (arith, inside, h.up_to.size) in
       let more : remains (take (index + 1) initial) ≡ remains (take index initial) ++ p.remaining ∷ [] =
-      ap remains (take_more initial index d₀ there) ∙ map-append (λ s. s.remaining) (take index initial) (get_or initial index d₀ ∷ []) ∙ ap (λ (s : Standing). remains (take index initial) ++ s.remaining ∷ []) (sym same) in
+      ap remains (take_more initial index d₀ there) ∙ map-append (λ s. s.remaining) (take index initial) (get_or initial index d₀ ∷ []) ∙ ap (λ (s : TreeValue). remains (take index initial) ++ s.remaining ∷ []) (sym same) in
       record {
         up_to = UpTo-next (Left (old.last + 1)) initial now index h.up_to d₀ q inside moved;
         place = (place.0 ∙ h.place.0, place.1 ∙ h.place.1);
@@ -240,11 +240,11 @@ gathered_from target old new lists is none =
     ap (λ xs. with_all xs (at_least target (union lists))) (sym none ∙ is) ∙ sym (at_least-with_all target (found old) (union lists))
 
 -- a window is filled from the first document of all parts
-module _ (parts : List Standing) (least : ℕ) (h : IsLeast (Some least) (remains parts)) where
-  pub fill_ahead : (k : ℕ) (e : Standing) → k < length parts → (get_or parts k e).remaining ≡ at_least least (get_or parts k e).remaining
+module _ (parts : List TreeValue) (least : ℕ) (h : IsLeast (Some least) (remains parts)) where
+  pub fill_ahead : (k : ℕ) (e : TreeValue) → k < length parts → (get_or parts k e).remaining ≡ at_least least (get_or parts k e).remaining
   fill_ahead = parts_from parts least (sym (union_first (Some least) (remains parts) h))
 
-  module _ (after : List Standing) (old new : Window) (from : old.from ≡ least) (nothing : found old ≡ []) (last : new.last ≡ old.last) (each : AllZip (Left (old.last + 1)) parts after) (marked : AreMarked (in_some (remains parts)) old new) where
+  module _ (after : List TreeValue) (old new : Window) (from : old.from ≡ least) (nothing : found old ≡ []) (last : new.last ≡ old.last) (each : AllZip (Left (old.last + 1)) parts after) (marked : AreMarked (in_some (remains parts)) old new) where
     lies : (d : ℕ) → has (found new) d ≡ (nat_le d old.last && in_some (remains parts) d)
     lies d = marked d ∙ ap (λ xs. has xs d || (nat_le d old.last && in_some (remains parts) d)) nothing
 
@@ -275,6 +275,6 @@ module _ (parts : List Standing) (least : ℕ) (h : IsLeast (Some least) (remain
     }
 
 -- parts that were moved one after the other
-pub Continues-parts : (target : ℕ) (parts after : List Standing) (before remaining : List ℕ) → AllZip (Left target) parts after → Continues (beside (together parts) (together []) before) (beside (together after) (together []) remaining)
-Continues-parts target parts after before remaining each =
-    Continues-beside (together parts) (together []) (together after) (together []) before remaining (Continues-together (Left target) (λ p q h. h.continues) parts after each) (Continues-same (together []))
+pub TreeContinues-parts : (target : ℕ) (parts after : List TreeValue) (before remaining : List ℕ) → AllZip (Left target) parts after → TreeContinues (beside (together parts) (together []) before) (beside (together after) (together []) remaining)
+TreeContinues-parts target parts after before remaining each =
+    TreeContinues-beside (together parts) (together []) (together after) (together []) before remaining (TreeContinues-together (Left target) (λ p q h. h.continues) parts after each) (TreeContinues-same (together []))

@@ -135,7 +135,7 @@ are_over (p ∷ ps) (l ∷ ls) h =
     let rest = are_over ps ls h.1 in
     record {
       remaining = ap₂ (λ x xs. x ∷ xs) h.0.remaining rest.remaining;
-      opened = All-cons (λ q. q.opened ≤ 1) p ps h.0.opened rest.opened;
+      opened = All-cons (λ q. q.opened ≤ 1) p ps (omega (arith, h.0.opened, h.0.tied)) rest.opened;
       tied = All-cons IsTied p ps h.0.tied rest.tied;
       enters = λ d at.
           let both = and_parts (has l.now d) (in_all (lists_of ls) d) at in

@@ -20,7 +20,8 @@ use Rattle.fts_segment.specs.Segments.{SegmentValue, numbers_where, postings}
 use Rattle.fts_cursor.specs.Builds.{Opens, is_term}
 use Rattle.fts_cursor.specs.Hits.{segment_hits}
 use Rattle.fts_cursor.specs.Openings.{blocks_with, bound_for_musts, bound_of_all}
-use Rattle.fts_cursor.specs.Standing.{Standing, Walked, at_most, remains}
+use Rattle.fts_cursor.specs.Standing.{Standing, Walked, at_most}
+use Rattle.fts_cursor.specs.TreeValues.{TreeValue, remains}
 use Rattle.fts_postings.specs.Bounds.{Bound, most_at}
 use Rattle.fts_postings.specs.Meeting.{common, union}
 use Rattle.fts_cursor.proofs.BoolHits.{all_kept, kept_by, must_hits, should_hits}
@@ -103,8 +104,8 @@ abbrev pub kept_value : List Query → List Query → QueryValue
 kept_value must should = boolean (query_list (map query_value must)) no_queries (query_list (map query_value should))
 
 -- one of shoulds alone
-pub opens_shoulds : (segment : SegmentValue) (must should : List Query) (trees : List Standing) (s : Standing) → must ≡ [] → AllZip (λ t q. Opens segment (query_value q) t) trees should →
-    ((part : Standing) → trees ≡ part ∷ [] → s ≡ part) → (trees ≡ [] → s.bound ≡ at_most 0) → Opens segment (kept_value must should) s
+pub opens_shoulds : (segment : SegmentValue) (must should : List Query) (trees : List TreeValue) (s : TreeValue) → must ≡ [] → AllZip (λ t q. Opens segment (query_value q) t.standing) trees should →
+    ((part : TreeValue) → trees ≡ part ∷ [] → s ≡ part) → (trees ≡ [] → s.bound ≡ at_most 0) → Opens segment (kept_value must should) s.standing
 opens_shoulds segment (m ∷ ms) should trees s empty zip alone none = absurd (cc)
 opens_shoulds segment [] [] [] s empty zip alone none = record {
   one_term = λ u h. elim h [ inl e ↦ absurd (cc) | inr e ↦ absurd (cc) ];
@@ -118,7 +119,7 @@ opens_shoulds segment [] (q ∷ []) (p ∷ []) s empty zip alone none = record {
     | inl e ↦ absurd (cc)
     | inr e ↦
         let first : query_value q ≡ term u = cc in
-        subst (λ (x : Standing). (x.whole ≡ true) × (most_at x.bound None ≡ blocks_with segment u)) (sym (alone p refl)) (zip.0.one_term u (inl first))
+        subst (λ (x : TreeValue). (x.whole ≡ true) × (most_at x.bound None ≡ blocks_with segment u)) (sym (alone p refl)) (zip.0.one_term u (inl first))
   ];
   musts = λ terms e doc. absurd (cc);
   opened = λ terms e some. absurd (cc);
@@ -158,39 +159,39 @@ opens_walked segment query p s t h walked is = record {
 }
 
 -- what a Boolean query keeps before its must-nots are asked for, and what its cursor opens
-pub record Keeps (segment : SegmentValue) (must should : List Query) (s : Standing) : Type 0 where
+pub record Keeps (segment : SegmentValue) (must should : List Query) (s : TreeValue) : Type 0 where
   pub hits : s.remaining ≡ numbers_where (kept_by segment.schema must should) 0 segment.documents
-  pub opens : Opens segment (kept_value must should) s
+  pub opens : Opens segment (kept_value must should) s.standing
 
-pub keeps_shoulds : (segment : SegmentValue) (must should : List Query) (trees : List Standing) (s : Standing) → must ≡ [] → remains trees ≡ map (hits_of segment) should → AllZip (λ t q. Opens segment (query_value q) t) trees should →
-    s.remaining ≡ union (remains trees) → ((part : Standing) → trees ≡ part ∷ [] → s ≡ part) → (trees ≡ [] → s.bound ≡ at_most 0) → Keeps segment must should s
+pub keeps_shoulds : (segment : SegmentValue) (must should : List Query) (trees : List TreeValue) (s : TreeValue) → must ≡ [] → remains trees ≡ map (hits_of segment) should → AllZip (λ t q. Opens segment (query_value q) t.standing) trees should →
+    s.remaining ≡ union (remains trees) → ((part : TreeValue) → trees ≡ part ∷ [] → s ≡ part) → (trees ≡ [] → s.bound ≡ at_most 0) → Keeps segment must should s
 keeps_shoulds segment must should trees s empty are zip is alone none = record {
   hits = is ∙ ap union are ∙ should_hits segment must should empty;
   opens = opens_shoulds segment must should trees s empty zip alone none;
 }
 
-pub keeps_terms : (segment : SegmentValue) (must should : List Query) (s : Standing) → 0 < length must → s.remaining ≡ all_hits segment must →
+pub keeps_terms : (segment : SegmentValue) (must should : List Query) (s : TreeValue) → 0 < length must → s.remaining ≡ all_hits segment must →
     ((doc : Option ℕ) → most_at s.bound doc ≤ most_at (bound_of_all (map (hits_of segment) must)) doc) → (s.remaining ≢ [] → length must ≤ s.openings) → Keeps segment must should s
 keeps_terms segment must should s some is most opened = record {
   hits = is ∙ all_kept segment must should some;
-  opens = opens_terms segment must should s some most opened;
+  opens = opens_terms segment must should s.standing some most opened;
 }
 
-pub keeps_mixed : (segment : SegmentValue) (must should : List Query) (trees : List Standing) (s : Standing) → 0 < length must → list_all (λ q. is_term (query_value q)) must ≡ false → remains trees ≡ map (hits_of segment) must →
-    ((first : Standing) (rest : List Standing) → trees ≡ first ∷ rest → s.remaining ≡ common first.remaining (remains rest)) → Keeps segment must should s
+pub keeps_mixed : (segment : SegmentValue) (must should : List Query) (trees : List TreeValue) (s : TreeValue) → 0 < length must → list_all (λ q. is_term (query_value q)) must ≡ false → remains trees ≡ map (hits_of segment) must →
+    ((first : TreeValue) (rest : List TreeValue) → trees ≡ first ∷ rest → s.remaining ≡ common first.remaining (remains rest)) → Keeps segment must should s
 keeps_mixed segment must should trees s some mixed are is = record {
   hits = must_hits segment trees must should s.remaining are some is;
-  opens = opens_mixed segment must should s mixed;
+  opens = opens_mixed segment must should s.standing mixed;
 }
 
 -- a Boolean query of the code, with its must-nots or without
-module _ (segment : SegmentValue) (query : Query) (must must_not should : List Query) (s : Standing) (value : query_value query ≡ boolean (query_list (map query_value must)) (query_list (map query_value must_not)) (query_list (map query_value should))) where
-  pub opens_kept : must_not ≡ [] → Keeps segment must should s → Opens segment (query_value query) s
+module _ (segment : SegmentValue) (query : Query) (must must_not should : List Query) (s : TreeValue) (value : query_value query ≡ boolean (query_list (map query_value must)) (query_list (map query_value must_not)) (query_list (map query_value should))) where
+  pub opens_kept : must_not ≡ [] → Keeps segment must should s → Opens segment (query_value query) s.standing
   opens_kept none h =
-      subst (λ v. Opens segment v s) (sym (value ∙ ap (λ qs. boolean (query_list (map query_value must)) (query_list (map query_value qs)) (query_list (map query_value should))) none)) h.opens
+      subst (λ v. Opens segment v s.standing) (sym (value ∙ ap (λ qs. boolean (query_list (map query_value must)) (query_list (map query_value qs)) (query_list (map query_value should))) none)) h.opens
 
-  pub opens_apart : 0 < length must_not → Opens segment (query_value query) s
-  opens_apart some = opens_without segment (query_value query) (query_list (map query_value must)) (query_list (map query_value should)) must_not s value some
+  pub opens_apart : 0 < length must_not → Opens segment (query_value query) s.standing
+  opens_apart some = opens_without segment (query_value query) (query_list (map query_value must)) (query_list (map query_value should)) must_not s.standing value some
 
 -- the queries in a Boolean query fit where it does
 pub parts_fit : (schema : List Field) (query : Query) (must must_not should : _) → query ≡ views.Bool must must_not should → fits_in schema query ≡ true →
@@ -211,8 +212,8 @@ nothing_found segment query is =
     sym (numbers_where-none (λ e. matches segment.schema e.value nothing) 0 segment.documents (λ k d inside. refl)) ∙ ap (segment_hits segment) (sym (ap query_value is ∙ value_of_none))
 
 -- one cursor more
-pub remains_more : (segment : SegmentValue) (trees : List Standing) (qs : List Query) (k : ℕ) (s : Standing) (q : Query) → remains trees ≡ map (hits_of segment) (take k qs) → k < length qs → q ≡ get_or qs k q → s.remaining ≡ hits_of segment q →
+pub remains_more : (segment : SegmentValue) (trees : List TreeValue) (qs : List Query) (k : ℕ) (s : TreeValue) (q : Query) → remains trees ≡ map (hits_of segment) (take k qs) → k < length qs → q ≡ get_or qs k q → s.remaining ≡ hits_of segment q →
     remains (trees ++ s ∷ []) ≡ map (hits_of segment) (take (k + 1) qs)
 remains_more segment trees qs k s q are inside is hits =
-    map-append (λ (p : Standing). p.remaining) trees (s ∷ []) ∙ ap₂ (λ xs x. xs ++ x ∷ []) are hits ∙ sym (map-append (hits_of segment) (take k qs) (q ∷ []))
+    map-append (λ (p : TreeValue). p.remaining) trees (s ∷ []) ∙ ap₂ (λ xs x. xs ++ x ∷ []) are hits ∙ sym (map-append (hits_of segment) (take k qs) (q ∷ []))
     ∙ ap (map (hits_of segment)) (ap (λ z. take k qs ++ z ∷ []) is ∙ sym (take_more qs k q inside))

@@ -297,7 +297,7 @@ are_cursors (p ∷ ps) (m ∷ ms) h =
     let rest = are_cursors ps ms h.1 in
     record {
       remaining = ap₂ (λ x xs. x ∷ xs) h.0.remaining rest.remaining;
-      opened = All-cons (λ q. q.opened ≤ 1) p ps h.0.opened rest.opened;
+      opened = All-cons (λ q. q.opened ≤ 1) p ps (omega (arith, h.0.opened, h.0.tied)) rest.opened;
       tied = All-cons IsTied p ps h.0.tied rest.tied;
       paired = (h.0.blocks, rest.paired);
     }

@@ -34,7 +34,6 @@ terms-continue c d h tied =
       λ before after. record {
         bound = ap₂ bound h.lead.blocks rest.2;
         more = omega (arith, rest.0, h.lead.more, lead, tied.0);
-        height = refl;
       },
       (lead, rest.1),
     )

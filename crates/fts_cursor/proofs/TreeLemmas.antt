@@ -7,23 +7,24 @@ use Rattle.fts_pack.specs.Documents.{Rises}
 use Rattle.fts_postings.specs.Bounds.{most_at}
 use Rattle.fts_postings.specs.Remaining.{at_least}
 use Rattle.fts_postings.specs.Meeting.{IsLeast, common, has, in_all, in_some, lacks, union, without}
-use Rattle.fts_cursor.specs.Standing.{Continues, Left, Narrowed, Standing, Walked, all_most, all_openings, beside, remains, together}
+use Rattle.fts_cursor.specs.Standing.{Standing, Walked}
+use Rattle.fts_cursor.specs.TreeValues.{Left, Narrowed, TreeContinues, TreeValue, all_most, all_openings, beside, remains, together}
 use Rattle.fts_postings.specs.Conjoined.{IsAhead}
 use Rattle.std.specs.Borrow.{Bor}
 use Rattle.fts_cursor.specs.Hits.{is_live}
 use Rattle.fts_cursor.specs.Live.{of_live}
-use Rattle.fts_cursor.specs.Trees.{IsNow, IsTiedNode, Met, PartsStand, differ, meet, standing}
+use Rattle.fts_cursor.specs.Trees.{IsNow, IsTiedNode, Met, PartsStand, differ, meet, tree_value}
 use Rattle.fts_cursor.specs.declared.tree.exclusion.Exclusion.{Exclusion}
 use Rattle.fts_cursor.specs.declared.tree.intersection.Intersection.{Intersection}
 use Rattle.fts_cursor.specs.declared.tree.Node.{Node}
 use Rattle.fts_cursor.specs.declared.tree.Node.TheVariants.{And}
 use Rattle.fts_postings.proofs.RemainingLemmas.{Rises-from_increasing, increasing-from_Rises, fewer-at_least, first-at_least, at_least_all, nothing_first}
 use Rattle.fts_postings.proofs.MeetingLemmas.{FirstPasses-first, filter-past, Rises-from_first, filter-ahead, filter-first, filter-none, filter-rises, filter-same, has-at_least, has-before_first, has-first, has-none, is_itself}
-use Rattle.fts_cursor.proofs.PartsLemmas.{Continues-beside, Continues-same, Continues-together, Continues-trans, LeftUpTo, UpTo-next, in_all-narrowed, remains-more}
+use Rattle.fts_cursor.proofs.PartsLemmas.{TreeContinues-beside, TreeContinues-together, TreeContinues-trans, LeftUpTo, UpTo-next, in_all-narrowed, remains-more}
 use Rattle.fts_postings.proofs.UnionLemmas.{Rises-union, has-union}
 
 -- a node whose parts were brought together
-pub IsNow-met : (doc : Option ℕ) (node : Node) (before remaining : List ℕ) (test : ℕ → Bool) (lead : List ℕ) → Met doc before test lead → (standing node).remaining ≡ filter test lead → PartsStand doc node → IsTiedNode node → before ≡ remaining → IsNow doc node remaining
+pub IsNow-met : (doc : Option ℕ) (node : Node) (before remaining : List ℕ) (test : ℕ → Bool) (lead : List ℕ) → Met doc before test lead → (tree_value node).remaining ≡ filter test lead → PartsStand doc node → IsTiedNode node → before ≡ remaining → IsNow doc node remaining
 IsNow-met doc node before remaining test lead h is parts tied same =
     let all = is ∙ h.is in
     record {
@@ -32,7 +33,7 @@ IsNow-met doc node before remaining test lead h is parts tied same =
     }
 
 -- a node whose first document is known
-pub IsNow-first : (doc : Option ℕ) (node : Node) (remaining : List ℕ) → doc ≡ slice_get (standing node).remaining 0 → IsStrictlyIncreasing (standing node).remaining → PartsStand doc node → IsTiedNode node → (standing node).remaining ≡ remaining → IsNow doc node remaining
+pub IsNow-first : (doc : Option ℕ) (node : Node) (remaining : List ℕ) → doc ≡ slice_get (tree_value node).remaining 0 → IsStrictlyIncreasing (tree_value node).remaining → PartsStand doc node → IsTiedNode node → (tree_value node).remaining ≡ remaining → IsNow doc node remaining
 IsNow-first doc node remaining first rises parts tied is = record { is = is; stands = record { first = first; rises = rises; parts = parts; tied = tied } }
 
 -- what leads stands at a document, and the test is as it was from there on
@@ -88,7 +89,7 @@ right_false : (a b : Bool) → (a || b) ≡ false → b ≡ false
 right_false true b h = absurd (false≢true (sym h))
 right_false false b h = h
 
-pub Left-seek : (target : ℕ) (p q : Standing) → q.remaining ≡ at_least target p.remaining → Continues p q → Left target p q
+pub Left-seek : (target : ℕ) (p q : TreeValue) → q.remaining ≡ at_least target p.remaining → TreeContinues p q → Left target p q
 Left-seek target p q is continues = record { remaining = is; continues = continues }
 
 pub drop_first : (doc : ℕ) (xs : List ℕ) → IsStrictlyIncreasing xs → Some doc ≡ slice_get xs 0 → drop 1 xs ≡ at_least (doc + 1) xs
@@ -98,7 +99,7 @@ drop_first doc (x ∷ xs) rises is =
     let up = (Rises-from_increasing (x ∷ xs) rises).1 in
     sym (ap (λ b. cond b (x ∷ at_least (doc + 1) xs) (at_least (doc + 1) xs)) (lt-leb (doc + 1) x (omega (arith, same))) ∙ at_least_all (doc + 1) (suc x) xs up (omega (arith, same)))
 
-pub LeftUpTo-next : (target : ℕ) (initial now : List Standing) (least later : Option ℕ) (index : ℕ) → LeftUpTo target initial now least index → (d₀ q : Standing) → index < length now → Left target (get_or now index d₀) q → IsLeast later (remains (take index now) ++ q.remaining ∷ []) → LeftUpTo target initial (set now index q) later (index + 1)
+pub LeftUpTo-next : (target : ℕ) (initial now : List TreeValue) (least later : Option ℕ) (index : ℕ) → LeftUpTo target initial now least index → (d₀ q : TreeValue) → index < length now → Left target (get_or now index d₀) q → IsLeast later (remains (take index now) ++ q.remaining ∷ []) → LeftUpTo target initial (set now index q) later (index + 1)
 LeftUpTo-next target initial now least later index h d₀ q inside left is = record {
   up_to = UpTo-next (Left target) initial now index h.up_to d₀ q inside left;
   least_is = subst (IsLeast later) (sym (remains-more now index q inside)) is;
@@ -115,31 +116,31 @@ from_union doc (x ∷ xs) lists h =
     sym (ap (λ b. cond b (x ∷ at_least doc xs) (at_least doc xs)) (le-leb doc x up)
     ∙ ap (λ ys. x ∷ ys) (sym (from_union doc xs lists (λ d low. right_false (x == d) (has xs d) (h d low)))))
 
-lacks_each : (parts : List Standing) (d : ℕ) → in_some (remains parts) d ≡ false → (k : ℕ) (e : Standing) → k < length parts → has (get_or parts k e).remaining d ≡ false
+lacks_each : (parts : List TreeValue) (d : ℕ) → in_some (remains parts) d ≡ false → (k : ℕ) (e : TreeValue) → k < length parts → has (get_or parts k e).remaining d ≡ false
 lacks_each [] d h k e inside = absurd (omega arith)
 lacks_each (p ∷ ps) d h zero e inside = left_false (has p.remaining d) (in_some (remains ps) d) h
 lacks_each (p ∷ ps) d h (suc k) e inside = lacks_each ps d (right_false (has p.remaining d) (in_some (remains ps) d) h) k e (omega (arith, inside))
 
-pub parts_from : (parts : List Standing) (doc : ℕ) → slice_get (union (remains parts)) 0 ≡ Some doc → (k : ℕ) (e : Standing) → k < length parts → (get_or parts k e).remaining ≡ at_least doc (get_or parts k e).remaining
+pub parts_from : (parts : List TreeValue) (doc : ℕ) → slice_get (union (remains parts)) 0 ≡ Some doc → (k : ℕ) (e : TreeValue) → k < length parts → (get_or parts k e).remaining ≡ at_least doc (get_or parts k e).remaining
 parts_from parts doc first k e inside =
     let rises = increasing-from_Rises 0 (union (remains parts)) (Rises-union (remains parts)) in
     from_union doc (get_or parts k e).remaining (remains parts) (λ d low. lacks_each parts d (sym (has-union (remains parts) d) ∙ has-before_first (union (remains parts)) doc d rises (sym first) low) k e inside)
 
-openings-suc : (parts : List Standing) (index : ℕ) (d : Standing) → index < length parts → all_openings (take (suc index) parts) ≡ all_openings (take index parts) + (get_or parts index d).openings
+openings-suc : (parts : List TreeValue) (index : ℕ) (d : TreeValue) → index < length parts → all_openings (take (suc index) parts) ≡ all_openings (take index parts) + (get_or parts index d).openings
 openings-suc [] index d inside = absurd (omega arith)
 openings-suc (p ∷ ps) zero d inside = omega arith
 openings-suc (p ∷ ps) (suc index) d inside = omega (arith, openings-suc ps index d (omega (arith, inside)))
 
-pub all_openings-more : (parts : List Standing) (index : ℕ) (d : Standing) → index < length parts → all_openings (take (index + 1) parts) ≡ all_openings (take index parts) + (get_or parts index d).openings
+pub all_openings-more : (parts : List TreeValue) (index : ℕ) (d : TreeValue) → index < length parts → all_openings (take (index + 1) parts) ≡ all_openings (take index parts) + (get_or parts index d).openings
 all_openings-more parts index d inside = ap (λ n. all_openings (take n parts)) (add-one index) ∙ openings-suc parts index d inside
 
 -- a turn of an intersection: what leads stands at a document, which the others were sought for
-module _ (old now : Intersection) (lead : Standing) (others after : List Standing) (doc : ℕ) (same : meet now ≡ meet old) (lead_is : lead ≡ now.lead.value) (others_are : others ≡ now.others.items) (rises : IsStrictlyIncreasing lead.remaining) (first : Some doc ≡ slice_get lead.remaining 0) (each : AllZip (Narrowed doc) others after) where
+module _ (old now : Intersection) (lead : TreeValue) (others after : List TreeValue) (doc : ℕ) (same : meet now ≡ meet old) (lead_is : lead ≡ now.lead.value) (others_are : others ≡ now.others.items) (rises : IsStrictlyIncreasing lead.remaining) (first : Some doc ≡ slice_get lead.remaining 0) (each : AllZip (Narrowed doc) others after) where
   abbrev documents : List ℕ
   documents = now.lead.value.remaining
 
   rises_now : IsStrictlyIncreasing documents
-  rises_now = subst (λ (s : Standing). IsStrictlyIncreasing s.remaining) lead_is rises
+  rises_now = subst (λ (s : TreeValue). IsStrictlyIncreasing s.remaining) lead_is rises
 
   first_now : Some doc ≡ slice_get documents 0
   first_now = first ∙ ap (λ s. slice_get s.remaining 0) lead_is
@@ -153,13 +154,13 @@ module _ (old now : Intersection) (lead : Standing) (others after : List Standin
   pub intersection-none : IsAhead doc (remains after) None → Met None (meet old) (in_all (remains after)) documents
   intersection-none none = Met-none (meet old) documents (in_all (remains now.others.items)) (in_all (remains after)) doc same rises_now first_now agree none
 
-  pub intersection-continues : Continues (standing (And old)) (standing (And now)) → (s : Standing) (remaining : List ℕ) → Continues now.lead.value s → Continues (standing (And old)) (beside s (together after) remaining)
+  pub intersection-continues : TreeContinues (tree_value (And old)) (tree_value (And now)) → (s : TreeValue) (remaining : List ℕ) → TreeContinues now.lead.value s → TreeContinues (tree_value (And old)) (beside s (together after) remaining)
   intersection-continues continues s remaining moved =
-      let rest = Continues-together (Narrowed doc) (λ p q h. h.continues) others after each in
-      Continues-trans (standing (And old)) (standing (And now)) (beside s (together after) remaining) continues
-      (Continues-beside now.lead.value (together now.others.items) s (together after) (meet now) remaining moved (subst (λ ps. Continues (together ps) (together after)) others_are rest))
+      let rest = TreeContinues-together (Narrowed doc) (λ p q h. h.continues) others after each in
+      TreeContinues-trans (tree_value (And old)) (tree_value (And now)) (beside s (together after) remaining) continues
+      (TreeContinues-beside now.lead.value (together now.others.items) s (together after) (meet now) remaining moved (subst (λ ps. TreeContinues (together ps) (together after)) others_are rest))
 
-  module _ (next : ℕ) (moved : Standing) (ahead : IsAhead doc (remains after) (Some next)) (is : moved.remaining ≡ at_least next documents) where
+  module _ (next : ℕ) (moved : TreeValue) (ahead : IsAhead doc (remains after) (Some next)) (is : moved.remaining ≡ at_least next documents) where
     pub intersection-sought : common moved.remaining (remains after) ≡ meet old
     intersection-sought = sought (meet old) documents (in_all (remains now.others.items)) (in_all (remains after)) doc same rises_now first_now agree next moved.remaining ahead.2 is
 
@@ -167,12 +168,12 @@ module _ (old now : Intersection) (lead : Standing) (others after : List Standin
     intersection-fewer other = rw is (fewer-at_least next documents doc first_now (omega (arith, ahead.0, other)))
 
 -- a turn of an exclusion: what is kept stands at a document, which the other was sought for
-module _ (old now : Exclusion) (kept dropped after : Standing) (doc : ℕ) (same : differ now ≡ differ old) (kept_is : kept ≡ now.kept.value) (dropped_is : dropped ≡ now.dropped.value) (rises : IsStrictlyIncreasing kept.remaining) (first : Some doc ≡ slice_get kept.remaining 0) (left : after.remaining ≡ at_least doc dropped.remaining) where
+module _ (old now : Exclusion) (kept dropped after : TreeValue) (doc : ℕ) (same : differ now ≡ differ old) (kept_is : kept ≡ now.kept.value) (dropped_is : dropped ≡ now.dropped.value) (rises : IsStrictlyIncreasing kept.remaining) (first : Some doc ≡ slice_get kept.remaining 0) (left : after.remaining ≡ at_least doc dropped.remaining) where
   abbrev members : List ℕ
   members = now.kept.value.remaining
 
   rises_kept : IsStrictlyIncreasing members
-  rises_kept = subst (λ (s : Standing). IsStrictlyIncreasing s.remaining) kept_is rises
+  rises_kept = subst (λ (s : TreeValue). IsStrictlyIncreasing s.remaining) kept_is rises
 
   first_kept : Some doc ≡ slice_get members 0
   first_kept = first ∙ ap (λ s. slice_get s.remaining 0) kept_is
@@ -183,22 +184,25 @@ module _ (old now : Exclusion) (kept dropped after : Standing) (doc : ℕ) (same
   pub exclusion-here : (found : Option ℕ) → found ≡ slice_get after.remaining 0 → found ≢ Some doc → IsStrictlyIncreasing after.remaining → Met (Some doc) (differ old) (lacks after.remaining) members
   exclusion-here found is other up = Met-here (differ old) members (lacks now.dropped.value.remaining) (lacks after.remaining) doc same rises_kept first_kept differ_alike (ap not (not_first after.remaining dropped.remaining doc found is other left up))
 
-  pub exclusion-passed : (next : Standing) → Some doc ≡ slice_get after.remaining 0 → next.remaining ≡ drop 1 members → without next.remaining after.remaining ≡ differ old
+  pub exclusion-passed : (next : TreeValue) → Some doc ≡ slice_get after.remaining 0 → next.remaining ≡ drop 1 members → without next.remaining after.remaining ≡ differ old
   exclusion-passed next there is = passed (differ old) members (lacks now.dropped.value.remaining) (lacks after.remaining) doc same rises_kept first_kept differ_alike next.remaining (ap not (has-first after.remaining doc there)) is
 
-most-suc : (parts : List Standing) (index : ℕ) (d : Standing) → index < length parts → all_most (take (suc index) parts) ≡ all_most (take index parts) + most_at (get_or parts index d).bound None
+most-suc : (parts : List TreeValue) (index : ℕ) (d : TreeValue) → index < length parts → all_most (take (suc index) parts) ≡ all_most (take index parts) + most_at (get_or parts index d).bound None
 most-suc [] index d inside = absurd (omega arith)
 most-suc (p ∷ ps) zero d inside = omega arith
 most-suc (p ∷ ps) (suc index) d inside = omega (arith, most-suc ps index d (omega (arith, inside)))
 
-pub all_most-more : (parts : List Standing) (index : ℕ) (d : Standing) → index < length parts → all_most (take (index + 1) parts) ≡ all_most (take index parts) + most_at (get_or parts index d).bound None
+pub all_most-more : (parts : List TreeValue) (index : ℕ) (d : TreeValue) → index < length parts → all_most (take (index + 1) parts) ≡ all_most (take index parts) + most_at (get_or parts index d).bound None
 all_most-more parts index d inside = ap (λ n. all_most (take n parts)) (add-one index) ∙ most-suc parts index d inside
 
 pub Walked-same : (s : Standing) → Walked s s
-Walked-same s = record { continues = Continues-same s; whole = λ h. h }
+Walked-same s = record { continues = record { bound = refl; more = omega arith }; whole = λ h. h }
 
 pub Walked-trans : (s t u : Standing) → Walked s t → Walked t u → Walked s u
-Walked-trans s t u h k = record { continues = Continues-trans s t u h.continues k.continues; whole = λ w. k.whole (h.whole w) }
+Walked-trans s t u h k = record {
+  continues = record { bound = k.continues.bound ∙ h.continues.bound; more = omega (arith, h.continues.more, k.continues.more) };
+  whole = λ w. k.whole (h.whole w);
+}
 
 -- what is live of a rising list rises
 pub live_rises : (live : Option (Bor (List Bool))) (s : Standing) → IsStrictlyIncreasing s.remaining → IsStrictlyIncreasing (of_live live s).remaining

@@ -18,7 +18,8 @@ text_term field text = record { field = field; value = values.Text text }
 
 -- a member of a pattern has no documents
 abbrev pub LacksTerm : SegmentValue → ℕ → List (ℕ × List ℕ) → Type 0
-LacksTerm segment field pattern = (k : ℕ) × (m : ℕ × List ℕ) × (slice_get pattern k ≡ Some m) × (postings segment (text_term field m.1) ≡ [])
+LacksTerm segment field pattern =
+    (k : ℕ) × (m : ℕ × List ℕ) × (slice_get pattern k ≡ Some m) × (postings segment (text_term field m.1) ≡ [])
 
 -- the list and the positions of a member of a pattern, and its offset
 pub record IsMemberFor (segment : SegmentValue) (field : ℕ) (wanted : ℕ × List ℕ) (member : Member) : Type 0 where
@@ -35,10 +36,12 @@ abbrev pub is_term : QueryValue → Bool
 is_term (term t) = true
 is_term query = false
 
--- what the cursor of a query opens, where it is of one term, or all musts are terms and nothing else is asked: wherever it
--- stands, no more than the blocks of the shortest list, and of each other list one, and one for each document of the shortest
--- up to there
+-- what the cursor of a query opens, where it is of one term, or all musts are terms and nothing else is asked: wherever
+-- it stands, no more than the blocks of the shortest list, and of each other list one, and one for each document of the
+-- shortest up to there
 pub record Opens (segment : SegmentValue) (query : QueryValue) (cursor : Standing) : Type 0 where
-  pub one_term : (t : Term) → IsOfOneTerm query t → (cursor.whole ≡ true) × (most_at cursor.bound None ≡ blocks_with segment t)
-  pub musts : (terms : List Term) → HasMusts query terms → (doc : Option ℕ) → most_at cursor.bound doc ≤ most_at (bound_for_musts segment terms) doc
+  pub one_term : (t : Term) → IsOfOneTerm query t →
+      (cursor.whole ≡ true) × (most_at cursor.bound None ≡ blocks_with segment t)
+  pub musts : (terms : List Term) → HasMusts query terms → (doc : Option ℕ) →
+      most_at cursor.bound doc ≤ most_at (bound_for_musts segment terms) doc
   pub opened : (terms : List Term) → HasMusts query terms → cursor.remaining ≢ [] → length terms ≤ cursor.openings

@@ -1,13 +1,13 @@
 -- Each cursor is deeper than those within it.
 use Rattle.std.specs.Prelude.{◌≤◌, max}
 use Rattle.std.proofs.Common.{arith}
-use Rattle.fts_cursor.specs.Standing.{most-heights}
-use Rattle.fts_cursor.specs.Trees.{standing}
+use Rattle.fts_cursor.specs.TreeValues.{most-heights}
+use Rattle.fts_cursor.specs.Trees.{tree_value}
 use Rattle.fts_cursor.specs.declared.tree.Node.{Node}
 use Rattle.fts_cursor.specs.declared.tree.Node.TheVariants.{Nothing, Scan, Postings, Terms, Phrase, And, Or, Without}
 use Rattle.fts_cursor.specs.declared.tree.Tree.TheDeep.{deep-Node}
 
-pub node_falls : (node : Node) → max (deep-Node node) 0 ≤ (standing node).height
+pub node_falls : (node : Node) → max (deep-Node node) 0 ≤ (tree_value node).height
 node_falls Nothing = omega arith
 node_falls (Scan documents) = omega arith
 node_falls (Postings p) = omega arith

@@ -13,10 +13,10 @@ pub record IsLed (lists : List (List ℕ)) (shortest : List ℕ) (others : List 
   pub least : shortest_of lists ≡ shortest
   pub rises : Rises 0 shortest
 
--- a cursor over a list, as it was made
+-- a cursor over a list, as it was made: of its blocks at most one was opened
 pub record IsOver (cursor : Posting) (documents : List ℕ) : Type 0 where
   pub blocks : cursor.blocks ≡ blocks_of documents
   pub remaining : remaining_of cursor ≡ documents
-  pub opened : cursor.opened ≤ 1
+  pub opened : cursor.count ≤ 1
   pub enters : 0 < length documents → cursor.opened ≡ 1
   pub tied : IsTied cursor

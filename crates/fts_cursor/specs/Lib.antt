@@ -5,6 +5,7 @@ pub mod Phrases
 pub mod Leading
 pub mod Builds
 pub mod Scans
+pub mod TreeValues
 pub mod Trees
 pub mod Falls
 pub mod Ranges

@@ -25,10 +25,14 @@ shortest_of (xs ∷ lists) = fold (λ least other. if nat_lt (length other) (len
 
 -- the bound of a conjunction of lists that the shortest leads
 abbrev pub bound_of_all : List (List ℕ) → Bound
-bound_of_all lists = record { blocks = block_count (length (shortest_of lists)); lead = shortest_of lists; others = length lists - 1 }
+bound_of_all lists = record {
+  blocks = block_count (length (shortest_of lists));
+  lead = shortest_of lists;
+  others = length lists - 1;
+}
 
--- the bound of a conjunction of terms: the blocks of the shortest list, and of each other list one when its cursor is made
--- and one for each document of the shortest that was reached
+-- the bound of a conjunction of terms: the blocks of the shortest list, and of each other list one when its cursor is
+-- made and one for each document of the shortest that was reached
 abbrev pub bound_for_musts : SegmentValue → List Term → Bound
 bound_for_musts segment terms = bound_of_all (map (postings segment) terms)
 

@@ -1,5 +1,6 @@
 -- Where a phrase stands, by the positions of its terms.
-use Rattle.std.specs.Prelude.{◌≡◌, ℕ, ◌+◌, ◌^◌, ◌≤◌, ◌==◌, ◌∷◌, nat_lt, Bool, true, List, [], All, filter, length, slice_index_or}
+use Rattle.std.specs.Prelude.{◌≡◌, ℕ, ◌+◌, ◌^◌, ◌≤◌, ◌==◌, nat_lt, Bool, true, List, [], ◌∷◌}
+use Rattle.std.specs.Prelude.{All, filter, length, slice_index_or}
 use Rattle.std.specs.List.{AllZip, list_all, list_any}
 use Rattle.std.specs.List.Sorted.{IsStrictlyIncreasing}
 use Rattle.fts_pack.specs.Documents.{blocks_of}

@@ -38,10 +38,12 @@ key_to Unbounded x = true
 
 -- the least and the greatest number of 64 bits that a bound admits, if it admits one
 abbrev pub IsLeastOf : Bound FieldValue → Option ℕ → Type 0
-IsLeastOf bound least = (x : ℕ) → x < 2 ^ 64 → option_map_or (λ low. nat_le low x) least false ≡ key_from bound x
+IsLeastOf bound least =
+    (x : ℕ) → x < 2 ^ 64 → option_map_or (λ low. nat_le low x) least false ≡ key_from bound x
 
 abbrev pub IsGreatestOf : Bound FieldValue → Option ℕ → Type 0
-IsGreatestOf bound greatest = (x : ℕ) → x < 2 ^ 64 → option_map_or (λ high. nat_le x high) greatest false ≡ key_to bound x
+IsGreatestOf bound greatest =
+    (x : ℕ) → x < 2 ^ 64 → option_map_or (λ high. nat_le x high) greatest false ≡ key_to bound x
 
 -- a bound is one
 abbrev pub is_bounded : Bound FieldValue → Bool

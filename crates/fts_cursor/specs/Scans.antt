@@ -1,5 +1,6 @@
 -- The documents that are kept by their numbers alone, a stretch at a time.
-use Rattle.std.specs.Prelude.{◌≡◌, ℕ, ◌-◌, ◌%◌, ◌^◌, ◌<◌, ◌≤◌, Bool, true, false, ◌&&◌, nat_le, List, Option, Some, None, length, min, take, is_some, slice_get, slice_index_or}
+use Rattle.std.specs.Prelude.{◌≡◌, ℕ, ◌-◌, ◌%◌, ◌^◌, ◌<◌, ◌≤◌, nat_le, Bool, true, false, ◌&&◌, Option, Some, None}
+use Rattle.std.specs.Prelude.{List, length, min, take, is_some, slice_get, slice_index_or}
 use Rattle.std.specs.Option.{option_map_or}
 use Rattle.fts_model.specs.Documents.{DocumentValue, value_in_field}
 use Rattle.fts_model.specs.declared.operation.Stamped.{Stamped}
@@ -18,7 +19,8 @@ has_within low high column doc = within low high (slice_index_or column doc None
 
 -- whether a document has a value of a field
 abbrev pub has_value : List (Stamped DocumentValue) → ℕ → ℕ → Bool
-has_value documents field doc = option_map_or (λ d. is_some (value_in_field d.value field)) (slice_get documents doc) false
+has_value documents field doc =
+    option_map_or (λ d. is_some (value_in_field d.value field)) (slice_get documents doc) false
 
 -- whether a document is kept
 abbrev pub keeps : Kept → ℕ → Bool

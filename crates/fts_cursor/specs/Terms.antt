@@ -13,4 +13,4 @@ AreTied c = IsTied c.lead × All IsTied c.others
 
 -- a conjunction of which this remains
 abbrev pub of_terms : Conjoined → List ℕ → Standing
-of_terms c remaining = record { remaining = remaining; openings = counts_of c; bound = bound_of c; whole = false; height = 0 }
+of_terms c remaining = record { remaining = remaining; openings = counts_of c; bound = bound_of c; whole = false }

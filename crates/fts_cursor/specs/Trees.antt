@@ -1,12 +1,14 @@
 -- What a tree of cursors stands for.
-use Rattle.std.specs.Prelude.{◌≡◌, ℕ, ◌==◌, ◌≤◌, ◌&&◌, ◌||◌, nat_le, Bool, true, false, List, [], ◌∷◌, Option, Some, None, length, slice_get}
+use Rattle.std.specs.Prelude.{◌≡◌, ℕ, ◌==◌, ◌≤◌, nat_le, Bool, true, false, ◌&&◌, ◌||◌, Option, Some, None}
+use Rattle.std.specs.Prelude.{List, [], ◌∷◌, length, slice_get}
 use Rattle.std.specs.List.{filter}
 use Rattle.std.specs.List.Sorted.{IsStrictlyIncreasing}
 use Rattle.fts_postings.specs.Posting.{blocks_reached, remaining_of}
 use Rattle.fts_postings.specs.Conjoined.{common_of}
 use Rattle.fts_postings.specs.Meeting.{FirstPasses, common, has, in_all, in_some, lacks, union, without}
-use Rattle.fts_cursor.specs.Standing.{Standing, at_most, beside, remains, together}
+use Rattle.fts_cursor.specs.Standing.{at_most}
 use Rattle.fts_cursor.specs.Terms.{AreTied, IsTied, of_terms}
+use Rattle.fts_cursor.specs.TreeValues.{TreeValue, beside, leaf, remains, together}
 use Rattle.fts_postings.specs.Windows.{marked}
 use Rattle.fts_cursor.specs.declared.tree.buffered_union.BufferedUnion.{BufferedUnion}
 use Rattle.fts_cursor.specs.declared.tree.exclusion.Exclusion.{Exclusion}
@@ -38,15 +40,20 @@ meet parts = common parts.lead.value.remaining (remains parts.others.items)
 abbrev pub differ : Exclusion → List ℕ
 differ parts = without parts.kept.value.remaining parts.dropped.value.remaining
 
-abbrev pub standing : Node → Standing
-standing Nothing = record { remaining = []; openings = 0; bound = at_most 0; whole = true; height = 0 }
-standing (Scan documents) = record { remaining = documents; openings = 0; bound = at_most 0; whole = false; height = 0 }
-standing (Postings p) = record { remaining = remaining_of p; openings = p.count; bound = at_most (length p.blocks); whole = p.opened == blocks_reached p; height = 0 }
-standing (Terms c) = of_terms c (common_of c)
-standing (Phrase s) = record s { whole = false }
-standing (And parts) = beside parts.lead.value (together parts.others.items) (meet parts)
-standing (Or buffered) = beside (together buffered.parts.items) (together []) (gathered buffered)
-standing (Without parts) = beside parts.kept.value parts.dropped.value (differ parts)
+abbrev pub tree_value : Node → TreeValue
+tree_value Nothing = leaf (record { remaining = []; openings = 0; bound = at_most 0; whole = true })
+tree_value (Scan documents) = leaf (record { remaining = documents; openings = 0; bound = at_most 0; whole = false })
+tree_value (Postings p) = leaf (record {
+  remaining = remaining_of p;
+  openings = p.count;
+  bound = at_most (length p.blocks);
+  whole = p.opened == blocks_reached p;
+})
+tree_value (Terms c) = leaf (of_terms c (common_of c))
+tree_value (Phrase s) = leaf (record s { whole = false })
+tree_value (And parts) = beside parts.lead.value (together parts.others.items) (meet parts)
+tree_value (Or buffered) = beside (together buffered.parts.items) (together []) (gathered buffered)
+tree_value (Without parts) = beside parts.kept.value parts.dropped.value (differ parts)
 
 -- the first that passes, if there is one, is the first of what leads
 abbrev pub PassesAt : Option ℕ → (ℕ → Bool) → List ℕ → Type 0
@@ -73,14 +80,14 @@ IsTiedNode node = Unit {0}
 
 -- the document is the first that remains, and the parts stand there
 pub record StandsAt (doc : Option ℕ) (node : Node) : Type 0 where
-  pub first : doc ≡ slice_get (standing node).remaining 0
-  pub rises : IsStrictlyIncreasing (standing node).remaining
+  pub first : doc ≡ slice_get (tree_value node).remaining 0
+  pub rises : IsStrictlyIncreasing (tree_value node).remaining
   pub parts : PartsStand doc node
   pub tied : IsTiedNode node
 
 -- the node now stands at the document, and this remains
 pub record IsNow (doc : Option ℕ) (node : Node) (remaining : List ℕ) : Type 0 where
-  pub is : (standing node).remaining ≡ remaining
+  pub is : (tree_value node).remaining ≡ remaining
   pub stands : StandsAt doc node
 
 -- what remained is what passes of the one that leads, and rises

@@ -1,5 +1,6 @@
 // The cursor of a query: a tree of cursors, one for each query within it.
-ghost use Rattle.std.specs.Prelude.{◌≡◌, ◌-◌, ◌^◌, ◌≤◌, ◌<◌, ◌∷◌, All, EachIndex, [], true, List, IfOk, IsOkUnless, MatchOption, length, map, min, slice_index};
+ghost use Rattle.std.specs.Prelude.{◌≡◌, ◌-◌, ◌^◌, ◌≤◌, ◌<◌, true, IfOk, IsOkUnless, MatchOption};
+ghost use Rattle.std.specs.Prelude.{All, EachIndex, List, [], ◌∷◌, length, map, min, slice_index};
 ghost use Rattle.std.specs.List.{AllZip, list_all};
 ghost use Rattle.std.specs.List.Sorted.{IsStrictlyIncreasing};
 ghost use Rattle.fts_model.specs.Queries.{query_fits};
@@ -10,7 +11,8 @@ ghost use Rattle.fts_cursor.specs.Hits.{live_hits, segment_hits};
 ghost use Rattle.fts_postings.specs.Meeting.{common};
 ghost use Rattle.fts_cursor.specs.Builds.{IsCursorOf, IsMemberFor, LacksTerm, Opens, text_term};
 ghost use Rattle.fts_segment.specs.ListIds.{documents_in, positions_in};
-ghost use Rattle.fts_cursor.specs.Standing.{Standing, at_most, remains};
+ghost use Rattle.fts_cursor.specs.Standing.{at_most};
+ghost use Rattle.fts_cursor.specs.TreeValues.{TreeValue, remains};
 
 use crate::cursor::Cursor;
 use crate::kept::Kept;
@@ -60,7 +62,7 @@ fn tree_of<'a>(alloc: Global, segment: &'a Segment, query: &Query) -> Result<Tre
     requires fits { query_fits segment.now.schema (query_value query.now) ≡ true }
     ensures hits { IfOk result (λ t. t.remaining
         ≡ segment_hits segment.now (query_value query.now)) }
-    ensures opens { IfOk result (λ t. Opens segment.now (query_value query.now) t) }
+    ensures opens { IfOk result (λ t. Opens segment.now (query_value query.now) t.standing) }
 {
     match query {
         Query::All => Ok(of_all(segment)),
@@ -108,7 +110,9 @@ fn trees_of<'a>(
         (λ trees. remains trees.items
         ≡ map (λ q. segment_hits segment.now (query_value q)) queries.now) }
     ensures opens { IfOk result
-        (λ trees. AllZip (λ t q. Opens segment.now (query_value q) t) trees.items queries.now) }
+        (λ trees. AllZip
+        (λ t q. Opens segment.now (query_value q) t.standing)
+        trees.items queries.now) }
 {
     let mut trees = Vec::with_capacity(alloc, queries.len())?;
     for query in queries {
@@ -120,7 +124,7 @@ fn trees_of<'a>(
 // What all have in common. The part of the least cost leads.
 fn all<'a>(alloc: Global, parts: Vec<Tree<'a>>) -> Result<Tree<'a>, AllocError>
     requires { 0 < length parts.items }
-    ensures { IfOk result (λ t. (first : Standing) (rest : List Standing) →
+    ensures { IfOk result (λ t. (first : TreeValue) (rest : List TreeValue) →
         parts.entry.items ≡ first ∷ rest
         → t.remaining ≡ common first.remaining (remains rest)) }
 {

@@ -13,8 +13,8 @@ use std::marker::Model;
 
 /// The live documents of a segment that match a query, from the first on. It borrows the segment and its bits.
 ///
-/// Contracts see what remains, how often its sources opened a block, how many blocks it opens at most by where it stands,
-/// whatever is sought, and whether it goes over one list of which it has opened each block up to there.
+/// Contracts see what remains, how often its sources opened a block, how many blocks it opens at most by where it
+/// stands, whatever is sought, and whether it goes over one list of which it has opened each block up to there.
 #[derive(Drop)]
 pub struct Cursor<'a> {
     tree: Tree<'a>,
@@ -27,15 +27,15 @@ impl<'a> Model for Cursor<'a> {
 
     ghost Value = { Standing };
 
-    ghost view = { λ c. of_live c.live c.tree };
+    ghost view = { λ c. of_live c.live c.tree.standing };
 
-    ghost invariant = { λ c. IsSettled c.live c.tree };
+    ghost invariant = { λ c. IsSettled c.live c.tree.standing };
 }
 
 impl<'a> Cursor<'a> {
     /// Of all documents of the tree.
     pub(crate) fn all(tree: Tree<'a>) -> Cursor<'a>
-        ensures { result ≡ tree.entry }
+        ensures { result ≡ tree.entry.standing }
     {
         Cursor { tree, live: None }
     }
@@ -43,7 +43,7 @@ impl<'a> Cursor<'a> {
     /// Of those whose bit is set.
     pub(crate) fn live(tree: Tree<'a>, live: &'a Bits) -> Cursor<'a>
         ensures remaining { result.remaining ≡ filter (is_live live.now) tree.entry.remaining }
-        ensures walked { Walked tree.entry result }
+        ensures walked { Walked tree.entry.standing result }
     {
         let mut tree = tree;
         settle(&mut tree, live);
@@ -53,8 +53,8 @@ impl<'a> Cursor<'a> {
         }
     }
 
-    /// How many blocks were opened since the cursor was made, the making included, or the greatest `u64`: at every moment no
-    /// more than the bound at the document where it stands.
+    /// How many blocks were opened since the cursor was made, the making included, or the greatest `u64`: at every
+    /// moment no more than the bound at the document where it stands.
     pub fn openings(&self) -> u64
         ensures sum { result ≡ min (2 ^ 64 - 1) self.now.openings }
         ensures bound { self.now.openings
@@ -115,7 +115,7 @@ fn fill_live(tree: &mut Tree, live: &Bits, out: &mut [u32; 128]) -> usize
     ensures remaining { filter (is_live live.now) tree.new.remaining
         ≡ drop 128 (filter (is_live live.now) tree.old.remaining) }
     ensures settled { FirstPasses (is_live live.now) tree.new.remaining }
-    ensures walked { Walked tree.old tree.new }
+    ensures walked { Walked tree.old.standing tree.new.standing }
 {
     for filled in 0..128 {
         match tree.doc() {
@@ -142,7 +142,7 @@ fn settle(tree: &mut Tree, live: &Bits)
     ensures remaining { filter (is_live live.now) tree.new.remaining
         ≡ filter (is_live live.now) tree.old.remaining }
     ensures settled { FirstPasses (is_live live.now) tree.new.remaining }
-    ensures walked { Walked tree.old tree.new }
+    ensures walked { Walked tree.old.standing tree.new.standing }
 {
     while let Some(doc) = tree.doc() {
         if is_live(live, doc) {

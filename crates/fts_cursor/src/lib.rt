@@ -1,13 +1,13 @@
 //! The cursor of a query: the documents of a segment that match it, one after the other, without a list of them.
 //!
-//! [`cursor_of`] makes the [`Cursor`] of a query, over a segment and the bits of its documents. It is a [`DocSet`]: it stands
-//! at a document, steps to the next, goes to the first from a number on, or writes up to 128 at once. Its steps take no
-//! memory.
+//! [`cursor_of`] makes the [`Cursor`] of a query, over a segment and the bits of its documents. It is a [`DocSet`]: it
+//! stands at a document, steps to the next, goes to the first from a number on, or writes up to 128 at once. Its steps
+//! take no memory.
 //!
-//! It is a tree of cursors, one for each query within the query. A term is a [`PostingCursor`] over its list, and terms that
-//! must all match are a [`Conjunction`] of such. Ranges are read from columns 128 documents at a time, phrases from positions
-//! where all of their terms stand, and what must not match is asked for the documents that are left. Blocks that are opened
-//! are counted, and contracts bound the count.
+//! It is a tree of cursors, one for each query within the query. A term is a [`PostingCursor`] over its list, and terms
+//! that must all match are a [`Conjunction`] of such. Ranges are read from columns 128 documents at a time, phrases
+//! from positions where all of their terms stand, and what must not match is asked for the documents that are left.
+//! Blocks that are opened are counted, and contracts bound the count.
 //!
 //! ```text
 //! let mut cursor = cursor_of(alloc, &segment, &live, &query)?;

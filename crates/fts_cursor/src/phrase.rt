@@ -1,5 +1,6 @@
 // A cursor over the documents in which a phrase stands: positions are read only where all of its terms do.
-ghost use Rattle.std.specs.Prelude.{◌≡◌, ℕ, ◌+◌, ◌-◌, ◌^◌, ◌<◌, ◌≤◌, ◌==◌, ◌∷◌, Some, drop, filter, length, min, slice_get, take, true, IfOk};
+ghost use Rattle.std.specs.Prelude.{◌≡◌, ℕ, ◌+◌, ◌-◌, ◌^◌, ◌<◌, ◌≤◌, ◌==◌, Some, true, IfOk};
+ghost use Rattle.std.specs.Prelude.{◌∷◌, drop, filter, length, min, slice_get, take};
 ghost use Rattle.std.specs.List.{list_all, list_any};
 ghost use Rattle.fts_model.specs.Queries.{query_fits};
 ghost use Rattle.fts_model.specs.QueryValues.{phrase};

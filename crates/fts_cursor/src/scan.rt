@@ -137,8 +137,8 @@ impl DocSet for ScanCursor<'_> {
     }
 }
 
-// The first stretch from one on in which a document of the target or more is kept, and how many are kept there: they lie
-// at the front of `numbers`.
+// The first stretch from one on in which a document of the target or more is kept, and how many are kept there: they
+// lie at the front of `numbers`.
 fn find(
     kept: Kept,
     docs: usize,

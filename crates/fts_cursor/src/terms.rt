@@ -1,5 +1,6 @@
 // The cursor of queries that are terms and must all match: one conjunction, led by the shortest list.
-ghost use Rattle.std.specs.Prelude.{◌≡◌, ◌≢◌, ℕ, ◌≤◌, ◌<◌, ◌∷◌, [], false, true, IfOk, MatchOption, Option, length, map, nat_lt, if◌then◌else◌};
+ghost use Rattle.std.specs.Prelude.{◌≡◌, ◌≢◌, ℕ, ◌≤◌, ◌<◌, nat_lt, false, true, if◌then◌else◌, IfOk, MatchOption};
+ghost use Rattle.std.specs.Prelude.{Option, [], ◌∷◌, length, map};
 ghost use Rattle.std.specs.List.{AllZip, list_all};
 ghost use Rattle.fts_model.specs.Queries.{matches};
 ghost use Rattle.fts_model.specs.QueryValues.{query_value};

@@ -6,8 +6,9 @@ ghost use Rattle.fts_postings.specs.Conjoined.{bound_of, common_of, counts_of};
 ghost use Rattle.fts_postings.specs.Meeting.{common, has, union, without};
 ghost use Rattle.fts_postings.specs.Posting.{blocks_reached, remaining_of};
 ghost use Rattle.fts_postings.specs.Remaining.{at_least};
-ghost use Rattle.fts_cursor.specs.Standing.{Continues, Standing, Walked, all_most, all_openings, at_most, remains};
-ghost use Rattle.fts_cursor.specs.Trees.{IsNow, StandsAt, found, standing};
+ghost use Rattle.fts_cursor.specs.Standing.{Walked, at_most};
+ghost use Rattle.fts_cursor.specs.TreeValues.{TreeContinues, TreeValue, all_most, all_openings, remains};
+ghost use Rattle.fts_cursor.specs.Trees.{IsNow, StandsAt, found, tree_value};
 
 mod buffered_union;
 mod exclusion;
@@ -44,17 +45,17 @@ enum Node<'a> {
 }
 
 impl<'a> Model for Tree<'a> {
-    ghost use Rattle.fts_cursor.specs.Standing.{Standing};
+    ghost use Rattle.fts_cursor.specs.TreeValues.{TreeValue};
 
-    ghost Value = { Standing };
+    ghost Value = { TreeValue };
 
-    ghost use Rattle.fts_cursor.specs.Trees.{standing, StandsAt};
+    ghost use Rattle.fts_cursor.specs.Trees.{tree_value, StandsAt};
 
-    ghost view = { λ c. standing c.node };
+    ghost view = { λ c. tree_value c.node };
 
     ghost invariant = { λ c. StandsAt c.doc c.node };
 
-    ghost size = { λ s. s.height };
+    ghost size = { λ t. t.height };
 
     ghost use Rattle.fts_cursor.specs.Falls.{node_falls};
 
@@ -155,7 +156,7 @@ impl<'a> Tree<'a> {
     /// The same, where it is the part itself if there is one alone.
     pub(crate) fn any(parts: Vec<Tree<'a>>) -> Tree<'a>
         ensures remaining { result.remaining ≡ union (remains parts.entry.items) }
-        ensures alone { (part : Standing) → parts.entry.items ≡ part ∷ [] → result ≡ part }
+        ensures alone { (part : TreeValue) → parts.entry.items ≡ part ∷ [] → result ≡ part }
         ensures none { parts.entry.items ≡ [] → result.bound ≡ at_most 0 }
     {
         if parts.is_empty() {
@@ -184,8 +185,8 @@ impl<'a> Tree<'a> {
         }
     }
 
-    /// How many blocks were opened since the cursors were made, the making included, or the greatest `u64`: no more than the
-    /// bound where it stands.
+    /// How many blocks were opened since the cursors were made, the making included, or the greatest `u64`: no more
+    /// than the bound where it stands.
     #[cycle(openings)]
     pub(crate) fn openings(&self) -> u64
         ensures sum { result ≡ min (2 ^ 64 - 1) self.now.openings }
@@ -245,7 +246,8 @@ impl<'a> Tree<'a> {
     #[cycle(tree)]
     pub(crate) fn advance(&mut self)
         ensures remaining { self.new.remaining ≡ drop 1 self.old.remaining }
-        ensures walked { Walked self.old self.new }
+        ensures walked { Walked self.old.standing self.new.standing }
+        ensures height { self.new.height ≡ self.old.height }
     {
         if self.doc.is_some() {
             self.doc = step(&mut self.node);
@@ -256,7 +258,7 @@ impl<'a> Tree<'a> {
     #[cycle(tree)]
     pub(crate) fn seek(&mut self, target: u32)
         ensures remaining { self.new.remaining ≡ at_least target self.old.remaining }
-        ensures continues { Continues self.old self.new }
+        ensures continues { TreeContinues self.old self.new }
     {
         if let Some(doc) = self.doc {
             if doc < target {
@@ -271,7 +273,7 @@ impl<'a> Tree<'a> {
         ensures count { result ≡ min 128 (length self.old.remaining) }
         ensures taken { take result out.new ≡ take 128 self.old.remaining }
         ensures remaining { self.new.remaining ≡ drop 128 self.old.remaining }
-        ensures walked { Walked self.old self.new }
+        ensures walked { Walked self.old.standing self.new.standing }
     {
         let (count, doc) = fill(&mut self.node, self.doc, out);
         self.doc = doc;
@@ -308,8 +310,9 @@ fn cost_in(parts: &[Tree]) -> usize
 #[cycle(tree)]
 fn step(node: &mut Node) -> Option<u32>
     requires { (doc : ℕ) × StandsAt (Some doc) node.old }
-    ensures now { IsNow result node.new (drop 1 (standing node.old).remaining) }
-    ensures walked { Walked (standing node.old) (standing node.new) }
+    ensures now { IsNow result node.new (drop 1 (tree_value node.old).remaining) }
+    ensures walked { Walked (tree_value node.old).standing (tree_value node.new).standing }
+    ensures height { (tree_value node.new).height ≡ (tree_value node.old).height }
 {
     match node {
         Node::Nothing => None,
@@ -348,8 +351,8 @@ fn step(node: &mut Node) -> Option<u32>
 #[cycle(tree)]
 fn skip(node: &mut Node, target: u32) -> Option<u32>
     requires { (doc : ℕ) × StandsAt (Some doc) node.old × (doc < target) }
-    ensures now { IsNow result node.new (at_least target (standing node.old).remaining) }
-    ensures continues { Continues (standing node.old) (standing node.new) }
+    ensures now { IsNow result node.new (at_least target (tree_value node.old).remaining) }
+    ensures continues { TreeContinues (tree_value node.old) (tree_value node.new) }
 {
     match node {
         Node::Nothing => None,
@@ -384,10 +387,10 @@ fn skip(node: &mut Node, target: u32) -> Option<u32>
 // Takes the next 128 of a node that stands at the document, and gives how many they are, and the next.
 fn fill(node: &mut Node, doc: Option<u32>, out: &mut [u32; 128]) -> (usize, Option<u32>)
     requires { StandsAt doc node.old }
-    ensures count { result.0 ≡ min 128 (length (standing node.old).remaining) }
-    ensures taken { take result.0 out.new ≡ take 128 (standing node.old).remaining }
-    ensures now { IsNow result.1 node.new (drop 128 (standing node.old).remaining) }
-    ensures walked { Walked (standing node.old) (standing node.new) }
+    ensures count { result.0 ≡ min 128 (length (tree_value node.old).remaining) }
+    ensures taken { take result.0 out.new ≡ take 128 (tree_value node.old).remaining }
+    ensures now { IsNow result.1 node.new (drop 128 (tree_value node.old).remaining) }
+    ensures walked { Walked (tree_value node.old).standing (tree_value node.new).standing }
 {
     match node {
         Node::Scan(scan) => {
@@ -415,10 +418,10 @@ fn fill(node: &mut Node, doc: Option<u32>, out: &mut [u32; 128]) -> (usize, Opti
 // The same, a document at a time.
 fn fill_by_steps(node: &mut Node, doc: Option<u32>, out: &mut [u32; 128]) -> (usize, Option<u32>)
     requires { StandsAt doc node.old }
-    ensures count { result.0 ≡ min 128 (length (standing node.old).remaining) }
-    ensures taken { take result.0 out.new ≡ take 128 (standing node.old).remaining }
-    ensures now { IsNow result.1 node.new (drop 128 (standing node.old).remaining) }
-    ensures walked { Walked (standing node.old) (standing node.new) }
+    ensures count { result.0 ≡ min 128 (length (tree_value node.old).remaining) }
+    ensures taken { take result.0 out.new ≡ take 128 (tree_value node.old).remaining }
+    ensures now { IsNow result.1 node.new (drop 128 (tree_value node.old).remaining) }
+    ensures walked { Walked (tree_value node.old).standing (tree_value node.new).standing }
 {
     let mut next = doc;
     for filled in 0..128 {

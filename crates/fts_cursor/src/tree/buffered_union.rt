@@ -5,8 +5,8 @@ ghost use Rattle.std.specs.List.Sorted.{IsStrictlyIncreasing};
 ghost use Rattle.fts_postings.specs.Meeting.{IsLeast, has, in_some, lesser_of, union};
 ghost use Rattle.fts_postings.specs.Posting.{Follows, remaining_of};
 ghost use Rattle.fts_postings.specs.Remaining.{at_least};
-ghost use Rattle.fts_cursor.specs.Standing.{Continues, Left, remains};
-ghost use Rattle.fts_cursor.specs.Trees.{AreBeyond, AreMarked, IsNow, found, gathered, standing};
+ghost use Rattle.fts_cursor.specs.TreeValues.{Left, TreeContinues, remains};
+ghost use Rattle.fts_cursor.specs.Trees.{AreBeyond, AreMarked, IsNow, found, gathered, tree_value};
 
 use crate::tree::{Node, Tree};
 use fts_pack::ListSource;
@@ -26,7 +26,8 @@ pub(crate) struct BufferedUnion<'a> {
 pub(crate) fn gather(buffered: &mut BufferedUnion, target: u32) -> Option<u32>
     requires { AreBeyond buffered.old.window (remains buffered.old.parts.items) }
     ensures now { IsNow result (Node.Or buffered.new) (at_least target (gathered buffered.old)) }
-    ensures continues { Continues (standing (Node.Or buffered.old)) (standing (Node.Or buffered.new)) }
+    ensures continues { TreeContinues (tree_value (Node.Or buffered.old))
+        (tree_value (Node.Or buffered.new)) }
 {
     buffered.window.seek(target);
     if let Some(doc) = buffered.window.first() {
@@ -41,7 +42,8 @@ pub(crate) fn refill(buffered: &mut BufferedUnion, target: u32) -> Option<u32>
     requires { found buffered.old.window ≡ [] }
     ensures now { IsNow result (Node.Or buffered.new)
         (at_least target (union (remains buffered.old.parts.items))) }
-    ensures continues { Continues (standing (Node.Or buffered.old)) (standing (Node.Or buffered.new)) }
+    ensures continues { TreeContinues (tree_value (Node.Or buffered.old))
+        (tree_value (Node.Or buffered.new)) }
 {
     // The next search after one that goes far may go as far again, so that takes the one document that it asks for.
     let reach = if buffered.window.is_near(target) {

@@ -1,8 +1,8 @@
 // What one cursor has and another doesn't.
 ghost use Rattle.std.specs.Prelude.{◌≡◌, ◌≢◌, MatchBool};
 ghost use Rattle.fts_postings.specs.Meeting.{lacks};
-ghost use Rattle.fts_cursor.specs.Standing.{Continues};
-ghost use Rattle.fts_cursor.specs.Trees.{Met, differ, standing};
+ghost use Rattle.fts_cursor.specs.TreeValues.{TreeContinues};
+ghost use Rattle.fts_cursor.specs.Trees.{Met, differ, tree_value};
 
 use crate::tree::{Node, Tree};
 
@@ -19,7 +19,8 @@ pub(crate) struct Exclusion<'a> {
 pub(crate) fn settle(parts: &mut Exclusion) -> Option<u32>
     ensures met { Met result (differ parts.old) (lacks parts.new.dropped.value.remaining)
         parts.new.kept.value.remaining }
-    ensures continues { Continues (standing (Node.Without parts.old)) (standing (Node.Without parts.new)) }
+    ensures continues { TreeContinues (tree_value (Node.Without parts.old))
+        (tree_value (Node.Without parts.new)) }
 {
     while let Some(doc) = parts.kept.doc() {
         parts.dropped.seek(doc);

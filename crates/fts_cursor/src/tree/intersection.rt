@@ -2,8 +2,8 @@
 ghost use Rattle.std.specs.List.{AllZip};
 ghost use Rattle.fts_postings.specs.Conjoined.{IsAhead};
 ghost use Rattle.fts_postings.specs.Meeting.{in_all};
-ghost use Rattle.fts_cursor.specs.Standing.{Continues, Narrowed, remains};
-ghost use Rattle.fts_cursor.specs.Trees.{Met, meet, standing};
+ghost use Rattle.fts_cursor.specs.TreeValues.{Narrowed, TreeContinues, remains};
+ghost use Rattle.fts_cursor.specs.Trees.{Met, meet, tree_value};
 
 use crate::tree::{Node, Tree};
 
@@ -37,7 +37,8 @@ fn bring(others: &mut [Tree], doc: u32) -> Option<u32>
 pub(crate) fn align(parts: &mut Intersection) -> Option<u32>
     ensures met { Met result (meet parts.old) (in_all (remains parts.new.others.items))
         parts.new.lead.value.remaining }
-    ensures continues { Continues (standing (Node.And parts.old)) (standing (Node.And parts.new)) }
+    ensures continues { TreeContinues (tree_value (Node.And parts.old))
+        (tree_value (Node.And parts.new)) }
 {
     while let Some(doc) = parts.lead.doc() {
         match bring(&mut parts.others, doc) {

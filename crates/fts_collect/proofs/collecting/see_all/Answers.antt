@@ -1,6 +1,6 @@
 use Rattle.std.proofs.Common.{◌≡◌, ◌∙◌, ◌-◌, ◌<◌, length, ap, arith}
 use Rattle.std.proofs.lemmas.List.{length-drop}
-use Rattle.fts_collect.proofs.OpeningsLemmas.{walked-on}
+use Rattle.fts_cursor.proofs.TreeLemmas.{Walked-trans}
 use Rattle.fts_collect.proofs.SeenLemmas.{under_way-all, under_way-first, under_way-next}
 use Rattle.fts_collect.proofs.collecting.see_all.Goals as goal
 
@@ -31,5 +31,5 @@ loop-len-preserved c =
     record {
       under_way = under_way-next c.args.segment.now c.args.request.now c.args.cursor.now.remaining _ _ _ _ _ _ c.loop-len.invariant.under_way c.in_ok-see.ensures filled.taken filled.remaining;
       within = omega (arith, filled.count);
-      walked = walked-on _ _ _ c.loop-len.invariant.walked filled.walked;
+      walked = Walked-trans _ _ _ c.loop-len.invariant.walked filled.walked;
     }

@@ -9,7 +9,7 @@ use Rattle.fts_model.specs.QueryValues.{query_value}
 use Rattle.fts_model.proofs.QueriesBoolean.{fits_in, matches_at_bool, matches_in}
 use Rattle.fts_cursor.specs.Builds.{Opens, is_term}
 use Rattle.fts_postings.specs.Meeting.{union}
-use Rattle.fts_cursor.specs.Standing.{Standing}
+use Rattle.fts_cursor.specs.TreeValues.{TreeValue}
 use Rattle.fts_cursor.proofs.BoolHits.{IsBool, bool_apart, bool_kept, paired_more, some_from}
 use Rattle.fts_cursor.proofs.DepthLemmas.{depth, depth_at, depth_of, one_of_all, parts_fall}
 use Rattle.fts_cursor.proofs.HitsLemmas.{hits_of}
@@ -95,7 +95,7 @@ pub trees_of-loop-query-preserved : goal.trees_of-loop-query-preserved
 trees_of-loop-query-preserved t c =
     rw c.in_ok-push.ensures.items (
       remains_more c.args.segment.now c.loop-query.trees.items c.args.queries.now c.loop-query.query-index c.in_ok-tree_of.field-0 c.query-item.result c.loop-query.invariant.0 c.loop-query-test.true c.query-item.is c.in_ok-tree_of.ensures.hits,
-      paired_more (λ s q. Opens c.args.segment.now (query_value q) s) c.loop-query.trees.items c.args.queries.now c.loop-query.query-index c.in_ok-tree_of.field-0 c.query-item.result c.loop-query.invariant.1 c.loop-query-test.true c.query-item.is c.in_ok-tree_of.ensures.opens,
+      paired_more (λ t q. Opens c.args.segment.now (query_value q) t.standing) c.loop-query.trees.items c.args.queries.now c.loop-query.query-index c.in_ok-tree_of.field-0 c.query-item.result c.loop-query.invariant.1 c.loop-query-test.true c.query-item.is c.in_ok-tree_of.ensures.opens,
     )
 
 pub tree_of-returns-in_ok-dropped-in-Bool-clause-hits : goal.tree_of-returns-in_ok-dropped-in-Bool-clause-hits
@@ -104,5 +104,5 @@ tree_of-returns-in_ok-dropped-in-Bool-clause-hits t c =
     let bool : IsBool segment c.args.query.now c.in-Bool.must.items c.in-Bool.must_not.items c.in-Bool.should.items = λ document. ap (matches_in segment.schema document) c.in-Bool.is ∙ matches_at_bool segment.schema document c.in-Bool.must c.in-Bool.must_not c.in-Bool.should in
     let kept_is : c.in_ok-kept-in-Bool-3.kept.value ≡ c.if-is_empty.kept = search rules in
     let dropped_is : c.in_ok-dropped-in-Bool.dropped.value ≡ c.any-dropped.result = search rules in
-    let dropped = ap (λ (s : Standing). s.remaining) dropped_is ∙ c.any-dropped.ensures.remaining ∙ ap union (c.in_ok-trees_of-in-Bool-3.ensures.hits ∙ ap (map (hits_of segment)) c.deref-in-Bool.ensures.value) in
-    c.without.ensures ∙ bool_apart segment c.args.query.now c.in-Bool.must.items c.in-Bool.must_not.items c.in-Bool.should.items c.in_ok-kept-in-Bool-3.kept.value.remaining c.in_ok-dropped-in-Bool.dropped.value.remaining bool (ap (λ (s : Standing). s.remaining) kept_is ∙ (keeps t (goal.at.tree_of-returns-in_ok-dropped-in-Bool-clause-hits t c).Joined-is_empty).hits) dropped
+    let dropped = ap (λ (s : TreeValue). s.remaining) dropped_is ∙ c.any-dropped.ensures.remaining ∙ ap union (c.in_ok-trees_of-in-Bool-3.ensures.hits ∙ ap (map (hits_of segment)) c.deref-in-Bool.ensures.value) in
+    c.without.ensures ∙ bool_apart segment c.args.query.now c.in-Bool.must.items c.in-Bool.must_not.items c.in-Bool.should.items c.in_ok-kept-in-Bool-3.kept.value.remaining c.in_ok-dropped-in-Bool.dropped.value.remaining bool (ap (λ (s : TreeValue). s.remaining) kept_is ∙ (keeps t (goal.at.tree_of-returns-in_ok-dropped-in-Bool-clause-hits t c).Joined-is_empty).hits) dropped

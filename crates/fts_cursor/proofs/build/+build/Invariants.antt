@@ -3,7 +3,7 @@ use Rattle.std.proofs.Common.{◌≡◌, ◌+◌, ◌*◌, map, take}
 use Rattle.std.specs.List.{AllZip}
 use Rattle.fts_model.specs.QueryValues.{query_value}
 use Rattle.fts_cursor.specs.Builds.{Opens}
-use Rattle.fts_cursor.specs.Standing.{remains}
+use Rattle.fts_cursor.specs.TreeValues.{remains}
 use Rattle.fts_cursor.proofs.DepthLemmas.{depth, depth_of}
 use Rattle.fts_cursor.proofs.HitsLemmas.{hits_of}
 use Rattle.fts_cursor.proofs.build.+build.Given as goal
@@ -17,4 +17,4 @@ decreases-trees_of l = 2 * depth_of l.queries.now + 1
 abbrev pub invariant-trees_of-loop-query : goal.invariant-trees_of-loop-query
 invariant-trees_of-loop-query l =
     (remains l.trees.items ≡ map (hits_of l.segment) (take l.query-index l.queries)) ×
-    AllZip (λ t q. Opens l.segment (query_value q) t) l.trees.items (take l.query-index l.queries)
+    AllZip (λ t q. Opens l.segment (query_value q) t.standing) l.trees.items (take l.query-index l.queries)

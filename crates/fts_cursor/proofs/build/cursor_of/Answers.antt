@@ -15,4 +15,4 @@ pub returns-then-count_ones-len-clause-opens : goal.returns-then-count_ones-len-
 returns-then-count_ones-len-clause-opens c = subst (Opens c.args.segment.now (query_value c.args.query.now)) (sym c.all.ensures) c.in-Ok.ensures.opens
 
 pub returns-else-count_ones-len-clause-opens : goal.returns-else-count_ones-len-clause-opens
-returns-else-count_ones-len-clause-opens c = opens_walked c.args.segment.now (query_value c.args.query.now) (is_live c.args.live.now) c.in-Ok.tree c.live.result c.in-Ok.ensures.opens c.live.ensures.walked c.live.ensures.remaining
+returns-else-count_ones-len-clause-opens c = opens_walked c.args.segment.now (query_value c.args.query.now) (is_live c.args.live.now) c.in-Ok.tree.standing c.live.result c.in-Ok.ensures.opens c.live.ensures.walked c.live.ensures.remaining

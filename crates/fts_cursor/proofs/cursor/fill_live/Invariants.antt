@@ -10,5 +10,5 @@ abbrev pub invariant-loop-filled : goal.invariant-loop-filled
 invariant-loop-filled l = record {
   taken : Taken (filter (is_live l.live) l.initial.tree.remaining) (filter (is_live l.live) l.tree.remaining) l.out l.filled;
   settled : FirstPasses (is_live l.live) l.tree.remaining;
-  walked : Walked l.initial.tree l.tree;
+  walked : Walked l.initial.tree.standing l.tree.standing;
 }

@@ -8,7 +8,7 @@ use Rattle.fts_cursor.proofs.cursor.settle.Given as goal
 abbrev pub invariant-loop-doc : goal.invariant-loop-doc
 invariant-loop-doc l = record {
   same : filter (is_live l.live) l.tree.remaining ≡ filter (is_live l.live) l.initial.tree.remaining;
-  walked : Walked l.initial.tree l.tree;
+  walked : Walked l.initial.tree.standing l.tree.standing;
 }
 
 abbrev pub decreases-loop-doc : goal.decreases-loop-doc

@@ -14,7 +14,7 @@ returns c =
     record {
       blocks = blocks;
       remaining = posting_new c.new.result documents blocks c.new.ensures.first.0 c.new.ensures.first.1;
-      opened = omega (arith, once);
+      opened = omega (arith, once, c.new.ensures.counted, c.source.ensures.unopened);
       enters = one_where_some c.new.result.opened documents (c.new.ensures.opened ∙ ap one_where (ap blocks_of c.source.ensures.documents));
       tied = omega (arith, c.new.ensures.counted, c.source.ensures.unopened);
     }

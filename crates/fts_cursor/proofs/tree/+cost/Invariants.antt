@@ -1,6 +1,6 @@
 -- The sum so far, or its greatest value.
 use Rattle.std.proofs.Common.{◌+◌, ◌-◌, ◌*◌, ◌^◌, ◌≤◌, min, take}
-use Rattle.fts_cursor.specs.Standing.{heights}
+use Rattle.fts_cursor.specs.TreeValues.{heights}
 use Rattle.fts_cursor.proofs.CostLemmas.{all_remaining}
 use Rattle.fts_cursor.proofs.tree.+cost.Given as goal
 

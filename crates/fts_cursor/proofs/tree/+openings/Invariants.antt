@@ -1,6 +1,6 @@
 -- The sum so far, or its greatest value.
 use Rattle.std.proofs.Common.{◌≡◌, ◌+◌, ◌-◌, ◌*◌, ◌^◌, ◌≤◌, min, take}
-use Rattle.fts_cursor.specs.Standing.{all_most, all_openings, heights}
+use Rattle.fts_cursor.specs.TreeValues.{all_most, all_openings, heights}
 use Rattle.fts_cursor.proofs.tree.+openings.Given as goal
 
 abbrev pub decreases-Tree::openings : goal.decreases-Tree::openings

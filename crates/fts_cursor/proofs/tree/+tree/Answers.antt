@@ -5,14 +5,14 @@ use Rattle.std.specs.List.Sorted.{IsStrictlyIncreasing}
 use Rattle.fts_postings.proofs.MeetingLemmas.{filter-at_least}
 use Rattle.std.proofs.lemmas.List.{with_items_is}
 use Rattle.fts_postings.specs.Meeting.{IsLeast, common, in_all, in_some, lacks, union}
-use Rattle.fts_cursor.specs.Standing.{Continues, Left, Narrowed, Standing, heights, remains}
+use Rattle.fts_cursor.specs.TreeValues.{Left, Narrowed, TreeContinues, TreeValue, heights, remains}
 use Rattle.fts_cursor.specs.Terms.{AreTied}
-use Rattle.fts_cursor.specs.Trees.{AreMarked, IsBuffered, IsNow, found, gathered, standing}
+use Rattle.fts_cursor.specs.Trees.{AreMarked, IsBuffered, IsNow, found, gathered, tree_value}
 use Rattle.std.specs.Vec.{with_items}
 use Rattle.fts_cursor.specs.declared.tree.Node.TheVariants.{Or}
-use Rattle.fts_cursor.proofs.GatherLemmas.{Continues-parts, IsMarking-next, IsMarking-none, IsNow-none, IsNow-some, MarkedUpTo-next, MarkedUpTo-none, fill_ahead, filled, filled_buffered, gathered_from, gathered_next, gathered_within, marking_done, marking_ended, marking_left, marking_low, marking_past}
+use Rattle.fts_cursor.proofs.GatherLemmas.{TreeContinues-parts, IsMarking-next, IsMarking-none, IsNow-none, IsNow-some, MarkedUpTo-next, MarkedUpTo-none, fill_ahead, filled, filled_buffered, gathered_from, gathered_next, gathered_within, marking_done, marking_ended, marking_left, marking_low, marking_past}
 use Rattle.fts_postings.specs.Remaining.{at_least}
-use Rattle.fts_cursor.proofs.PartsLemmas.{Continues-beside, Continues-same, Continues-trans, Narrowed-same, Narrowed-seek, NarrowedUpTo-next, UpTo-all, UpTo-exit, ahead-later, ahead-none, all_stand, height_ahead, union-left}
+use Rattle.fts_cursor.proofs.PartsLemmas.{TreeContinues-beside, TreeContinues-same, TreeContinues-trans, Narrowed-same, Narrowed-seek, NarrowedUpTo-next, UpTo-all, UpTo-exit, ahead-later, ahead-none, all_stand, height_ahead, union-left}
 use Rattle.fts_postings.proofs.RemainingLemmas.{nothing_first}
 use Rattle.fts_postings.proofs.UnionLemmas.{IsLeast-none, IsLeast-some}
 use Rattle.fts_cursor.proofs.TreeLemmas.{IsNow-first, IsNow-met, Left-seek, LeftUpTo-next, Met-end, exclusion-here, exclusion-passed, intersection-continues, intersection-fewer, intersection-here, intersection-none, intersection-sought, stays_from_first}
@@ -23,7 +23,7 @@ use Rattle.fts_cursor.proofs.tree.+tree.Goals.{buffered_union::seek_each-in-Some
 pub Tree::seek-returns-else-doc-target-clause-remaining : goal.Tree::seek-returns-else-doc-target-clause-remaining
 Tree::seek-returns-else-doc-target-clause-remaining t c =
     let first = sym c.in-Some.is ∙ c.self.invariant.first ∙ ap (λ s. slice_get s.remaining 0) c.self.view_is in
-    let rises = subst (λ (s : Standing). IsStrictlyIncreasing s.remaining) c.self.view_is c.self.invariant.rises in
+    let rises = subst (λ (s : TreeValue). IsStrictlyIncreasing s.remaining) c.self.view_is c.self.invariant.rises in
     stays_from_first c.args.target c.in-Some.doc c.args.self.now.remaining rises first c.if-doc-target.false
 
 pub Tree::seek-returns-in_default-clause-remaining : goal.Tree::seek-returns-in_default-clause-remaining
@@ -42,7 +42,7 @@ pub intersection::align-returns-in-Some-bring-clause-continues : goal.intersecti
 intersection::align-returns-in-Some-bring-clause-continues t c =
     let first = sym c.in-Some.is ∙ c.doc.ensures.first in
     let items = with_items_is c.loop-doc.parts.others c.bring.new.others (omega arith) in
-    rw items (intersection-continues c.args.parts.now c.loop-doc.parts c.deref.result.now c.deref_mut.result.now c.bring.new.others c.in-Some.doc c.loop-doc.invariant.same c.deref.ensures c.deref_mut.ensures.value c.doc.ensures.rises first c.bring.ensures.each c.loop-doc.invariant.continues c.loop-doc.parts.lead.value _ (Continues-same c.loop-doc.parts.lead.value))
+    rw items (intersection-continues c.args.parts.now c.loop-doc.parts c.deref.result.now c.deref_mut.result.now c.bring.new.others c.in-Some.doc c.loop-doc.invariant.same c.deref.ensures c.deref_mut.ensures.value c.doc.ensures.rises first c.bring.ensures.each c.loop-doc.invariant.continues c.loop-doc.parts.lead.value _ (TreeContinues-same c.loop-doc.parts.lead.value))
 
 pub intersection::align-loop-doc-smaller : goal.intersection::align-loop-doc-smaller
 intersection::align-loop-doc-smaller t c =
@@ -56,7 +56,7 @@ intersection::align-loop-doc-preserved t c =
     let first = sym c.in-Some.is ∙ c.doc.ensures.first in
     let items = with_items_is c.loop-doc.parts.others c.bring.new.others (omega arith) in
     let ahead = rw c.in-Some-bring.is at c.bring.ensures.next in
-    let moved : Continues c.loop-doc.parts.lead.value c.seek.new.self = rw c.deref_mut-in-Some-2.ensures.value at c.seek.ensures.continues in
+    let moved : TreeContinues c.loop-doc.parts.lead.value c.seek.new.self = rw c.deref_mut-in-Some-2.ensures.value at c.seek.ensures.continues in
     record {
       same = ap (λ os. common c.seek.new.self.remaining (remains os)) items ∙ intersection-sought c.args.parts.now c.loop-doc.parts c.deref.result.now c.deref_mut.result.now c.bring.new.others c.in-Some.doc c.loop-doc.invariant.same c.deref.ensures c.deref_mut.ensures.value c.doc.ensures.rises first c.bring.ensures.each c.in-Some-bring.next c.seek.new.self ahead (c.seek.ensures.remaining ∙ ap (λ s. at_least c.in-Some-bring.next s.remaining) c.deref_mut-in-Some-2.ensures.value);
       continues = rw items (intersection-continues c.args.parts.now c.loop-doc.parts c.deref.result.now c.deref_mut.result.now c.bring.new.others c.in-Some.doc c.loop-doc.invariant.same c.deref.ensures c.deref_mut.ensures.value c.doc.ensures.rises first c.bring.ensures.each c.loop-doc.invariant.continues c.seek.new.self _ moved);
@@ -73,7 +73,7 @@ pub intersection::align-returns-in-None-clause-continues : goal.intersection::al
 intersection::align-returns-in-None-clause-continues t c =
     let first = sym c.in-Some.is ∙ c.doc.ensures.first in
     let items = with_items_is c.loop-doc.parts.others c.bring.new.others (omega arith) in
-    rw items (intersection-continues c.args.parts.now c.loop-doc.parts c.deref.result.now c.deref_mut.result.now c.bring.new.others c.in-Some.doc c.loop-doc.invariant.same c.deref.ensures c.deref_mut.ensures.value c.doc.ensures.rises first c.bring.ensures.each c.loop-doc.invariant.continues c.loop-doc.parts.lead.value _ (Continues-same c.loop-doc.parts.lead.value))
+    rw items (intersection-continues c.args.parts.now c.loop-doc.parts c.deref.result.now c.deref_mut.result.now c.bring.new.others c.in-Some.doc c.loop-doc.invariant.same c.deref.ensures c.deref_mut.ensures.value c.doc.ensures.rises first c.bring.ensures.each c.loop-doc.invariant.continues c.loop-doc.parts.lead.value _ (TreeContinues-same c.loop-doc.parts.lead.value))
 
 pub intersection::align-returns-clause-met : goal.intersection::align-returns-clause-met
 intersection::align-returns-clause-met t c =
@@ -135,16 +135,19 @@ buffered_union::seek_each-returns-clause-each t c = UpTo-all (Left c.args.target
 
 pub exclusion::settle-returns-then-not-is_at-clause-met : goal.exclusion::settle-returns-then-not-is_at-clause-met
 exclusion::settle-returns-then-not-is_at-clause-met t c =
-    exclusion-here c.args.parts.now c.loop-doc.parts c.deref.result.now c.deref_mut.result.now c.seek.new.self c.in-Some.doc c.loop-doc.invariant.same c.deref.ensures c.deref_mut.ensures.value c.doc.ensures.rises (sym c.in-Some.is ∙ c.doc.ensures.first) c.seek.ensures.remaining c.doc-found.result (c.doc-found.ensures.first ∙ ap (λ s. slice_get s.remaining 0) c.deref-in-Some.ensures) c.if-not-is_at.ensures (subst (λ (s : Standing). IsStrictlyIncreasing s.remaining) c.deref-in-Some.ensures c.doc-found.ensures.rises)
+    exclusion-here c.args.parts.now c.loop-doc.parts c.deref.result.now c.deref_mut.result.now c.seek.new.self c.in-Some.doc c.loop-doc.invariant.same c.deref.ensures c.deref_mut.ensures.value c.doc.ensures.rises (sym c.in-Some.is ∙ c.doc.ensures.first) c.seek.ensures.remaining c.doc-found.result (c.doc-found.ensures.first ∙ ap (λ s. slice_get s.remaining 0) c.deref-in-Some.ensures) c.if-not-is_at.ensures (subst (λ (s : TreeValue). IsStrictlyIncreasing s.remaining) c.deref-in-Some.ensures c.doc-found.ensures.rises)
 
 pub exclusion::settle-loop-doc-preserved : goal.exclusion::settle-loop-doc-preserved
 exclusion::settle-loop-doc-preserved t c =
     let there = sym c.if-not-is_at.ensures ∙ c.doc-found.ensures.first ∙ ap (λ s. slice_get s.remaining 0) c.deref-in-Some.ensures in
-    let kept : Continues c.loop-doc.parts.kept.value c.advance.new.self = rw c.deref_mut-in-Some.ensures.value at c.advance.ensures.walked.continues in
-    let dropped : Continues c.loop-doc.parts.dropped.value c.seek.new.self = rw c.deref_mut.ensures.value at c.seek.ensures.continues in
+    let kept : TreeContinues c.loop-doc.parts.kept.value c.advance.new.self = record {
+      continues = rw c.deref_mut-in-Some.ensures.value at c.advance.ensures.walked.continues;
+      height = rw c.deref_mut-in-Some.ensures.value at c.advance.ensures.height;
+    } in
+    let dropped : TreeContinues c.loop-doc.parts.dropped.value c.seek.new.self = rw c.deref_mut.ensures.value at c.seek.ensures.continues in
     record {
       same = exclusion-passed c.args.parts.now c.loop-doc.parts c.deref.result.now c.deref_mut.result.now c.seek.new.self c.in-Some.doc c.loop-doc.invariant.same c.deref.ensures c.deref_mut.ensures.value c.doc.ensures.rises (sym c.in-Some.is ∙ c.doc.ensures.first) c.seek.ensures.remaining c.advance.new.self there (c.advance.ensures.remaining ∙ ap (λ s. drop 1 s.remaining) c.deref_mut-in-Some.ensures.value);
-      continues = Continues-trans _ _ _ c.loop-doc.invariant.continues (Continues-beside c.loop-doc.parts.kept.value c.loop-doc.parts.dropped.value c.advance.new.self c.seek.new.self _ _ kept dropped);
+      continues = TreeContinues-trans _ _ _ c.loop-doc.invariant.continues (TreeContinues-beside c.loop-doc.parts.kept.value c.loop-doc.parts.dropped.value c.advance.new.self c.seek.new.self _ _ kept dropped);
     }
 
 pub exclusion::settle-returns-clause-met : goal.exclusion::settle-returns-clause-met
@@ -159,7 +162,7 @@ skip-returns-in-Terms-clause-now t c =
 pub skip-returns-in-Terms-clause-continues : goal.skip-returns-in-Terms-clause-continues
 skip-returns-in-Terms-clause-continues t c =
     let tied : AreTied c.in-Terms.terms = rw c.in-Terms.is at c.requires.1.tied in
-    rw c.in-Terms.is ((terms-continue c.in-Terms.terms c.seek-in-Terms.new.self c.seek-in-Terms.ensures.follows tied).0 _ _)
+    rw c.in-Terms.is (record { continues = (terms-continue c.in-Terms.terms c.seek-in-Terms.new.self c.seek-in-Terms.ensures.follows tied).0 _ _; height = refl })
 
 pub skip-returns-in-And-clause-now : goal.skip-returns-in-And-clause-now
 skip-returns-in-And-clause-now t c =
@@ -167,7 +170,7 @@ skip-returns-in-And-clause-now t c =
     IsNow-met c.align.result _ _ _ (in_all (remains c.align.new.parts.others.items)) c.align.new.parts.lead.value.remaining c.align.ensures.met refl c.align.ensures.met.passes tt
     (ap (filter test) (c.seek-in-And.ensures.remaining ∙ ap (λ s. at_least c.args.target s.remaining) c.deref_mut.ensures.value)
     ∙ filter-at_least c.args.target test c.in-And.parts.lead.value.remaining
-    ∙ ap (λ n. at_least c.args.target (standing n).remaining) (sym c.in-And.is))
+    ∙ ap (λ n. at_least c.args.target (tree_value n).remaining) (sym c.in-And.is))
 
 pub skip-returns-in-Without-clause-now : goal.skip-returns-in-Without-clause-now
 skip-returns-in-Without-clause-now t c =
@@ -175,7 +178,7 @@ skip-returns-in-Without-clause-now t c =
     IsNow-met c.settle.result _ _ _ (lacks c.settle.new.parts.dropped.value.remaining) c.settle.new.parts.kept.value.remaining c.settle.ensures.met refl c.settle.ensures.met.passes tt
     (ap (filter test) (c.seek-in-Without.ensures.remaining ∙ ap (λ s. at_least c.args.target s.remaining) c.deref_mut-in-Without.ensures.value)
     ∙ filter-at_least c.args.target test c.in-Without.parts.kept.value.remaining
-    ∙ ap (λ n. at_least c.args.target (standing n).remaining) (sym c.in-Without.is))
+    ∙ ap (λ n. at_least c.args.target (tree_value n).remaining) (sym c.in-Without.is))
 
 pub step-returns-in-Terms-clause-now : goal.step-returns-in-Terms-clause-now
 step-returns-in-Terms-clause-now t c =
@@ -219,7 +222,7 @@ buffered_union::refill-returns-in_err-least-clause-continues t c =
     let after = c.seek_each.new.parts in
     let items = with_items_is b.parts after (omega arith) in
     let each : AllZip (Left c.args.target) b.parts.items after = rw c.deref_mut.ensures.value at c.seek_each.ensures.each in
-    rw items (Continues-parts c.args.target b.parts.items after _ _ each)
+    rw items (TreeContinues-parts c.args.target b.parts.items after _ _ each)
 
 pub buffered_union::refill-mark_each-requires : goal.buffered_union::refill-mark_each-requires
 buffered_union::refill-mark_each-requires t c =
@@ -228,7 +231,7 @@ buffered_union::refill-mark_each-requires t c =
     let items = with_items_is b.parts after (omega arith) in
     let now : c.deref_mut-2.result.now ≡ after = c.deref_mut-2.ensures.value ∙ items in
     let each : AllZip (Left c.args.target) b.parts.items after = rw c.deref_mut.ensures.value at c.seek_each.ensures.each in
-    let same = Continues-parts c.args.target b.parts.items after [] [] each in
+    let same = TreeContinues-parts c.args.target b.parts.items after [] [] each in
     let less : 8 * heights c.deref_mut-2.result.now + 6 < t = omega (arith, c.decreases, ap heights now, same.height) in
     (less, rw (now, c.at-buffered.ensures.from) (fill_ahead after c.in_ok-least.least c.in_ok-least.ensures.least))
 
@@ -263,8 +266,8 @@ buffered_union::refill-returns-clause-continues t c =
     let all = with_items_is (with_items b.parts after) last (omega (arith, ap length now, ap length items)) in
     let each : AllZip (Left c.args.target) b.parts.items after = rw c.deref_mut.ensures.value at c.seek_each.ensures.each in
     let marks : AllZip (Left (c.at-buffered.result.last + 1)) after last = rw now at c.mark_each.ensures.each in
-    let sought = Continues-parts c.args.target b.parts.items after (gathered b) [] each in
-    rw all (Continues-trans _ _ _ sought (Continues-parts (c.at-buffered.result.last + 1) after last [] _ marks))
+    let sought = TreeContinues-parts c.args.target b.parts.items after (gathered b) [] each in
+    rw all (TreeContinues-trans _ _ _ sought (TreeContinues-parts (c.at-buffered.result.last + 1) after last [] _ marks))
 
 pub buffered_union::mark_each-mark_part-requires : goal.buffered_union::mark_each-mark_part-requires
 buffered_union::mark_each-mark_part-requires t c =
@@ -289,7 +292,7 @@ pub buffered_union::mark_each-loop-part-init : goal.buffered_union::mark_each-lo
 buffered_union::mark_each-loop-part-init t c = MarkedUpTo-none c.args.parts.now c.args.window.now
 
 pub buffered_union::mark_any-loop-doc-init : goal.buffered_union::mark_any-loop-doc-init
-buffered_union::mark_any-loop-doc-init t c = record { continues = Continues-same c.args.part.now; marking = IsMarking-none c.args.part.now.remaining c.args.window.now c.requires }
+buffered_union::mark_any-loop-doc-init t c = record { continues = TreeContinues-same c.args.part.now; marking = IsMarking-none c.args.part.now.remaining c.args.window.now c.requires }
 
 pub buffered_union::mark_any-mark-requires-clause-low : goal.buffered_union::mark_any-mark-requires-clause-low
 buffered_union::mark_any-mark-requires-clause-low t c =
@@ -298,7 +301,7 @@ buffered_union::mark_any-mark-requires-clause-low t c =
 pub buffered_union::mark_any-loop-doc-preserved : goal.buffered_union::mark_any-loop-doc-preserved
 buffered_union::mark_any-loop-doc-preserved t c =
     record {
-      continues = Continues-trans _ _ _ c.loop-doc.invariant.continues c.advance.ensures.walked.continues;
+      continues = TreeContinues-trans _ _ _ c.loop-doc.invariant.continues (record { continues = c.advance.ensures.walked.continues; height = c.advance.ensures.height });
       marking = IsMarking-next c.args.part.now.remaining c.loop-doc.part.remaining c.args.window.now c.loop-doc.window c.loop-doc.invariant.marking c.doc.ensures.rises c.in-Some.doc (sym c.in-Some.is ∙ c.doc.ensures.first) c.if-not-covers.ensures c.advance.new.self.remaining c.mark.new.self c.advance.ensures.remaining c.mark.ensures.place c.mark.ensures.marked;
     }
 
@@ -324,20 +327,20 @@ buffered_union::mark_any-returns-clause-marked t c = marking_done c.args.part.no
 
 pub skip-gather-requires : goal.skip-gather-requires
 skip-gather-requires t c =
-    let less : 8 * heights c.in-Or.buffered.parts.items + 8 < t = omega (arith, c.decreases, ap (λ n. (standing n).height) c.in-Or.is) in
+    let less : 8 * heights c.in-Or.buffered.parts.items + 8 < t = omega (arith, c.decreases, ap (λ n. (tree_value n).height) c.in-Or.is) in
     let parts : IsBuffered (Some c.requires.0) c.in-Or.buffered.window (remains c.in-Or.buffered.parts.items) = rw c.in-Or.is at c.requires.1.parts in
     (less, parts.beyond)
 
 pub skip-returns-in-Or-clause-now : goal.skip-returns-in-Or-clause-now
 skip-returns-in-Or-clause-now t c =
-    subst (IsNow c.gather.result (Or c.gather.new.buffered)) (ap (λ n. at_least c.args.target (standing n).remaining) (sym c.in-Or.is)) c.gather.ensures.now
+    subst (IsNow c.gather.result (Or c.gather.new.buffered)) (ap (λ n. at_least c.args.target (tree_value n).remaining) (sym c.in-Or.is)) c.gather.ensures.now
 
 pub skip-returns-in-Or-clause-continues : goal.skip-returns-in-Or-clause-continues
 skip-returns-in-Or-clause-continues t c = rw c.in-Or.is c.gather.ensures.continues
 
 pub step-gather-requires : goal.step-gather-requires
 step-gather-requires t c =
-    let less : 8 * heights c.in-Or.buffered.parts.items + 8 < t = omega (arith, c.decreases, ap (λ n. (standing n).height) c.in-Or.is) in
+    let less : 8 * heights c.in-Or.buffered.parts.items + 8 < t = omega (arith, c.decreases, ap (λ n. (tree_value n).height) c.in-Or.is) in
     let parts : IsBuffered (Some c.requires.0) c.in-Or.buffered.window (remains c.in-Or.buffered.parts.items) = rw c.in-Or.is at c.requires.1.parts in
     (less, λ d within. parts.beyond d (omega (arith, within, c.advance-in-Or.ensures.place.1)))
 
@@ -346,13 +349,13 @@ step-returns-in-Or-clause-now t c =
     let b = c.in-Or.buffered in
     let parts : IsBuffered (Some c.requires.0) b.window (remains b.parts.items) = rw c.in-Or.is at c.requires.1.parts in
     subst (IsNow c.gather.result (Or c.gather.new.buffered))
-    (gathered_next c.requires.0 b.window c.advance-in-Or.new.self (remains b.parts.items) parts c.advance-in-Or.ensures.marked ∙ ap (λ n. drop 1 (standing n).remaining) (sym c.in-Or.is))
+    (gathered_next c.requires.0 b.window c.advance-in-Or.new.self (remains b.parts.items) parts c.advance-in-Or.ensures.marked ∙ ap (λ n. drop 1 (tree_value n).remaining) (sym c.in-Or.is))
     c.gather.ensures.now
 
 pub step-returns-in-Or-clause-walked : goal.step-returns-in-Or-clause-walked
 step-returns-in-Or-clause-walked t c =
     let k = c.gather.ensures.continues in
-    rw c.in-Or.is (record { continues = record { bound = k.bound; more = k.more; height = k.height }; whole = λ h. h })
+    rw c.in-Or.is (record { continues = record { bound = k.bound; more = k.more }; whole = λ h. h })
 
 pub buffered_union::gather-refill-requires : goal.buffered_union::gather-refill-requires
 buffered_union::gather-refill-requires t c =
@@ -368,4 +371,4 @@ buffered_union::gather-returns-clause-now t c =
 pub buffered_union::gather-returns-clause-continues : goal.buffered_union::gather-returns-clause-continues
 buffered_union::gather-returns-clause-continues t c =
     let k = c.refill.ensures.continues in
-    record { bound = k.bound; more = k.more; height = k.height }
+    record { continues = record { bound = k.bound; more = k.more }; height = k.height }

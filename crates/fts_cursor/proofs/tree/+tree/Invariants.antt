@@ -1,7 +1,7 @@
 -- Each cursor is deeper than its parts, so a call on a part goes down.
 use Rattle.std.proofs.Common.{◌≡◌, ◌+◌, ◌*◌, max, length}
-use Rattle.fts_cursor.specs.Standing.{Continues, heights}
-use Rattle.fts_cursor.specs.Trees.{differ, meet, standing}
+use Rattle.fts_cursor.specs.TreeValues.{TreeContinues, heights}
+use Rattle.fts_cursor.specs.Trees.{differ, meet, tree_value}
 use Rattle.fts_cursor.specs.declared.tree.Node.TheVariants.{And, Without}
 use Rattle.fts_cursor.proofs.PartsLemmas.{NarrowedUpTo, LeftUpTo}
 use Rattle.fts_cursor.proofs.GatherLemmas.{IsMarking, MarkedUpTo}
@@ -14,10 +14,10 @@ abbrev pub decreases-Tree::seek : goal.decreases-Tree::seek
 decreases-Tree::seek l = 8 * l.self.now.height + 2
 
 abbrev pub decreases-step : goal.decreases-step
-decreases-step l = 8 * (standing l.node.now).height + 1
+decreases-step l = 8 * (tree_value l.node.now).height + 1
 
 abbrev pub decreases-skip : goal.decreases-skip
-decreases-skip l = 8 * (standing l.node.now).height + 1
+decreases-skip l = 8 * (tree_value l.node.now).height + 1
 
 abbrev pub decreases-intersection::align : goal.decreases-intersection::align
 decreases-intersection::align l = 8 * max l.parts.now.lead.value.height (heights l.parts.now.others.items) + 5
@@ -34,7 +34,7 @@ decreases-buffered_union::seek_each l = 8 * heights l.parts.now + 3
 abbrev pub invariant-intersection::align-loop-doc : goal.invariant-intersection::align-loop-doc
 invariant-intersection::align-loop-doc l = record {
   same : meet l.parts ≡ meet l.initial.parts;
-  continues : Continues (standing (And l.initial.parts)) (standing (And l.parts));
+  continues : TreeContinues (tree_value (And l.initial.parts)) (tree_value (And l.parts));
 }
 
 abbrev pub decreases-intersection::align-loop-doc : goal.decreases-intersection::align-loop-doc
@@ -43,7 +43,7 @@ decreases-intersection::align-loop-doc l = length l.parts.lead.value.remaining
 abbrev pub invariant-exclusion::settle-loop-doc : goal.invariant-exclusion::settle-loop-doc
 invariant-exclusion::settle-loop-doc l = record {
   same : differ l.parts ≡ differ l.initial.parts;
-  continues : Continues (standing (Without l.initial.parts)) (standing (Without l.parts));
+  continues : TreeContinues (tree_value (Without l.initial.parts)) (tree_value (Without l.parts));
 }
 
 abbrev pub decreases-exclusion::settle-loop-doc : goal.decreases-exclusion::settle-loop-doc
@@ -75,7 +75,7 @@ invariant-buffered_union::mark_each-loop-part l = MarkedUpTo l.initial.parts l.p
 
 abbrev pub invariant-buffered_union::mark_any-loop-doc : goal.invariant-buffered_union::mark_any-loop-doc
 invariant-buffered_union::mark_any-loop-doc l = record {
-  continues : Continues l.initial.part l.part;
+  continues : TreeContinues l.initial.part l.part;
   marking : IsMarking l.initial.part.remaining l.part.remaining l.initial.window l.window;
 }
 

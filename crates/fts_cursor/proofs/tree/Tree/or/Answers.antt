@@ -1,7 +1,7 @@
 -- The window is empty at first, so the parts have all.
 use Rattle.std.proofs.Common.{subst, arith}
 use Rattle.fts_postings.specs.Meeting.{union}
-use Rattle.fts_cursor.specs.Standing.{remains}
+use Rattle.fts_cursor.specs.TreeValues.{remains}
 use Rattle.fts_cursor.specs.Trees.{IsNow}
 use Rattle.fts_cursor.specs.declared.tree.Node.TheVariants.{Or}
 use Rattle.fts_postings.proofs.RemainingLemmas.{at_least_all}
