@@ -15,11 +15,11 @@ use Rattle.fts_model.specs.Answers.{count_number, groups}
 use Rattle.fts_segment.specs.Segments.{SegmentValue, column}
 use Rattle.fts_collect.specs.declared.tally.Tally.{Tally}
 use Rattle.fts_collect.specs.Internals.Keys.{TopKValue, first_keys}
-use Rattle.fts_collect.specs.Internals.Collecting.{IsTally, groups_of, present_at}
-use Rattle.fts_collect.specs.Internals.Ranking.{keep_keys, key_at, keys_at}
+use Rattle.fts_collect.specs.Internals.Tallies.{IsTally, groups_of, present_at}
+use Rattle.fts_collect.specs.Internals.Ranks.{keep_keys, key_at, keys_at}
 use Rattle.fts_collect.specs.Internals.Collected.{HasCounted, HasNumbers, HasRanked, KeysWithin, hits_at}
 use Rattle.fts_collect.proofs.FitLemmas.{both}
-use Rattle.fts_collect.proofs.RankingLemmas.{IsNumberField, keep-first, first_keys-within}
+use Rattle.fts_collect.proofs.RanksLemmas.{IsNumberField, keep-first, first_keys-within}
 use Rattle.fts_collect.proofs.ValuesLemmas.{numbers_kept}
 
 -- more numbers were counted

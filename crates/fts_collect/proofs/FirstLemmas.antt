@@ -14,7 +14,7 @@ use Rattle.fts_model.specs.Answers.{comes_before, put_hit}
 use Rattle.fts_model.proofs.Lists.{pairs_none, one_order}
 use Rattle.fts_scan.proofs.AnswersSteps.{take-put_hit}
 use Rattle.fts_scan.proofs.AnswersTop.{Before, Apart, rank_total, ranked, Before-else, Before-one_way, sorted-fold, moved-fold}
-use Rattle.fts_collect.specs.Internals.Joining.{AreApart, first_of, rank}
+use Rattle.fts_collect.specs.Internals.Joins.{AreApart, first_of, rank}
 use Rattle.fts_collect.proofs.ApartLemmas.{times, times-once, once-from_times, once-permuted}
 
 -- the stamp of a hit

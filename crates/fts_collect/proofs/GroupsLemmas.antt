@@ -19,7 +19,7 @@ use Rattle.fts_scan.proofs.AnswersNumbers.{number_total, number_same, number_abo
 use Rattle.fts_scan.proofs.AnswersSteps.{hits_counted-groups}
 use Rattle.fts_scan.proofs.AnswersGroups.{count_in, Below, Below-one_way, count_in-groups, count_in-at, count_in-there, rising-fold, positive-fold}
 use Rattle.fts_collect.specs.Parts.{PartValue, joined}
-use Rattle.fts_collect.specs.Internals.Joining.{counts_added, add_group, NumbersRise, AreGroupsOf}
+use Rattle.fts_collect.specs.Internals.Joins.{counts_added, add_group, NumbersRise, AreGroupsOf}
 
 -- no group is of no hits
 abbrev pub ArePositive : List (Number × ℕ) → Type 0

@@ -16,7 +16,7 @@ use Rattle.std.proofs.lemmas.List.Sums.{fold_push, sum_by-cons}
 use Rattle.std.proofs.lemmas.List.Sorted.{sorted_far, ranks_by, sum_by-IsPermutation}
 use Rattle.fts_model.proofs.Lists.{pairs_none, pairs_front, pairs_behind}
 use Rattle.fts_collect.specs.declared.top_k.Key.{Key}
-use Rattle.fts_collect.specs.Internals.Ranking.{keep_keys}
+use Rattle.fts_collect.specs.Internals.Ranks.{keep_keys}
 use Rattle.fts_collect.specs.Internals.Keys.{key_cmp, key_lt, put_key, first_keys, IsBound, IsTopK}
 
 -- keys stand in one order

@@ -8,7 +8,7 @@ pub mod LiveLemmas
 pub mod NumbersLemmas
 pub mod OpeningsLemmas
 pub mod PartsLemmas
-pub mod RankingLemmas
+pub mod RanksLemmas
 pub mod SeenLemmas
 pub mod TallyLemmas
 pub mod ValuesLemmas

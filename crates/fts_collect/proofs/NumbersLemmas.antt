@@ -9,7 +9,7 @@ use Rattle.fts_model.specs.declared.schema.Kind.{Kind}
 use Rattle.fts_model.specs.declared.schema.Kind.TheVariants as kinds
 use Rattle.fts_model.specs.Answers.{number_cmp}
 use Rattle.fts_bits.specs.Signed.{i64_of}
-use Rattle.fts_collect.specs.Internals.Collecting.{number_at}
+use Rattle.fts_collect.specs.Internals.Tallies.{number_at}
 
 -- below 2 ^ 63 the order is turned round twice
 both_below : (x y : ℕ) → x < 2 ^ 63 → y < 2 ^ 63 →

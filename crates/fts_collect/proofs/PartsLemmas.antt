@@ -21,7 +21,7 @@ use Rattle.fts_model.proofs.Lists.{Contains-cases, Contains-first, Contains-behi
 use Rattle.fts_scan.proofs.AnswersGroups.{count_in-groups}
 use Rattle.fts_scan.proofs.AnswersTop.{once-hits_in}
 use Rattle.fts_collect.specs.Parts.{PartValue, joined, ArePartsOf}
-use Rattle.fts_collect.specs.Internals.Joining.{AreApart, AreGroupsOf, first_of, hits_in, all_hits}
+use Rattle.fts_collect.specs.Internals.Joins.{AreApart, AreGroupsOf, first_of, hits_in, all_hits}
 use Rattle.fts_collect.proofs.ApartLemmas.{once-permuted}
 use Rattle.fts_collect.proofs.FirstLemmas.{first_of-members, first_of-firsts, firsts_apart}
 use Rattle.fts_collect.proofs.GroupsLemmas.{groups-rise, groups-positive, one_list_of_groups}

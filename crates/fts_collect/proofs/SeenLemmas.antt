@@ -10,7 +10,7 @@ use Rattle.fts_model.specs.declared.operation.Stamped.{Stamped}
 use Rattle.fts_model.specs.declared.query.Request.{Request}
 use Rattle.fts_model.specs.Documents.{DocumentValue}
 use Rattle.fts_segment.specs.Segments.{SegmentValue}
-use Rattle.fts_collect.specs.declared.collecting.Seen.{Seen}
+use Rattle.fts_collect.specs.declared.collector.Seen.{Seen}
 use Rattle.fts_collect.specs.Internals.Collected.{HasSeen, IsUnderWay, hits_at}
 
 -- where none of the first hits is at hand, there are no hits

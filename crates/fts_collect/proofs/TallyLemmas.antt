@@ -23,7 +23,7 @@ use Rattle.fts_model.specs.Answers.{number_cmp, count_number}
 use Rattle.fts_scan.specs.Scans.{hits_counted}
 use Rattle.fts_scan.proofs.AnswersNumbers.{number_above}
 use Rattle.fts_scan.proofs.AnswersSteps.{hits_counted-fold}
-use Rattle.fts_collect.specs.Internals.Collecting.{number_at, groups_from, groups_of, groups_of_runs, present_at, AreCounts, AreWithin}
+use Rattle.fts_collect.specs.Internals.Tallies.{number_at, groups_from, groups_of, groups_of_sorted, present_at, AreCounts, AreWithin}
 use Rattle.fts_collect.proofs.NumbersLemmas.{number_at-cmp}
 
 -- two equal numbers compare so
@@ -198,9 +198,9 @@ runs_from kind n x (y ∷ ys) up =
     runs_at kind n x y ys (nat_eq x y) refl (All-head (λ z. x ≤ z) y ys first) rest (λ m. runs_from kind m x ys skip) (runs_from kind 1 y ys behind)
 
 -- the runs of numbers in order are their groups
-pub groups_of-runs : (kind : Kind) (numbers : List ℕ) → Rise numbers → groups_of_runs kind numbers ≡ groups_of kind numbers
-groups_of-runs kind [] up = refl
-groups_of-runs kind (x ∷ numbers) up = sym (runs_from kind 1 x numbers up)
+pub groups_of-sorted : (kind : Kind) (numbers : List ℕ) → Rise numbers → groups_of_sorted kind numbers ≡ groups_of kind numbers
+groups_of-sorted kind [] up = refl
+groups_of-sorted kind (x ∷ numbers) up = sym (runs_from kind 1 x numbers up)
 
 -- numbers that were sorted are in order
 pub Rise-sorted : (numbers : List ℕ) → IsSortedByKey (λ n. n) nat_cmp numbers → Rise numbers

@@ -1,6 +1,6 @@
 -- What only private functions are told by: no reader of a public contract meets these.
-pub mod Joining
+pub mod Joins
 pub mod Keys
-pub mod Collecting
-pub mod Ranking
+pub mod Tallies
+pub mod Ranks
 pub mod Collected

@@ -4,7 +4,7 @@ ghost use Rattle.fts_model.specs.declared.operation.Stamped.{Stamped};
 ghost use Rattle.fts_model.specs.Documents.{DocumentValue};
 ghost use Rattle.fts_model.specs.Answers.{groups};
 ghost use Rattle.fts_collect.specs.Parts.{joined};
-ghost use Rattle.fts_collect.specs.Internals.Joining.{AreGroupsOf, NumbersRise, add_group};
+ghost use Rattle.fts_collect.specs.Internals.Joins.{AreGroupsOf, NumbersRise, add_group};
 
 use crate::part::Part;
 use fts_model::Number;

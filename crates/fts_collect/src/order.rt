@@ -1,6 +1,6 @@
 // How hits stand to each other.
 ghost use Rattle.std.specs.Prelude.{◌≡◌};
-ghost use Rattle.fts_collect.specs.Internals.Joining.{rank};
+ghost use Rattle.fts_collect.specs.Internals.Joins.{rank};
 
 use fts_model::{Hit, Order};
 use std::cmp::Ordering;

@@ -5,7 +5,7 @@ ghost use Rattle.fts_model.specs.Documents.{DocumentValue};
 ghost use Rattle.fts_model.specs.Operations.{HasEachStampOnce};
 ghost use Rattle.fts_model.specs.Answers.{groups, top};
 ghost use Rattle.fts_collect.specs.Parts.{ArePartsOf};
-ghost use Rattle.fts_collect.specs.Internals.Joining.{all_hits};
+ghost use Rattle.fts_collect.specs.Internals.Joins.{all_hits};
 
 use crate::groups::joined_groups;
 use crate::top::{joined_top, room_for_hits};

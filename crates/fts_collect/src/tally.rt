@@ -1,7 +1,9 @@
 // Hits counted by their numbers in a column.
-ghost use Rattle.std.specs.Prelude.{◌≡◌, ◌≤◌, ◌<◌, ◌+◌, ◌-◌, ◌++◌, ◌^◌, ℕ, List, IfOk, OnOk, length, min, None, option_to_list, slice_index, slice_index_or, slice_set};
+ghost use Rattle.std.specs.Prelude.{◌≡◌, ◌≤◌, ◌<◌, ◌+◌, ◌-◌, ◌++◌, ◌^◌, ℕ, List, IfOk, OnOk, length, min, None};
+ghost use Rattle.std.specs.Prelude.{option_to_list, slice_index, slice_index_or, slice_set};
 ghost use Rattle.fts_model.specs.declared.schema.Kind.{Kind};
-ghost use Rattle.fts_collect.specs.Internals.Collecting.{AreCounts, AreWithin, groups_from, groups_of_runs, number_at, present_at};
+ghost use Rattle.fts_collect.specs.Internals.Tallies.{AreCounts, AreWithin, groups_from, groups_of_sorted, number_at};
+ghost use Rattle.fts_collect.specs.Internals.Tallies.{present_at};
 
 use fts_bits::u64_to_i64;
 use fts_column::Column;
@@ -25,7 +27,7 @@ fn groups_of_sorted(
     kind: Kind,
     numbers: &[u64],
 ) -> Result<Vec<(Number, u64)>, AllocError>
-    ensures { IfOk result (λ list. list.items ≡ groups_of_runs kind numbers.now) }
+    ensures { IfOk result (λ list. list.items ≡ groups_of_sorted kind numbers.now) }
 {
     numbers
         .iter()
@@ -129,7 +131,7 @@ const MOST_COUNTS: u64 = 65_536;
 impl Tally {
     ghost use Rattle.std.specs.Prelude.{◌≡◌, ◌<◌, ◌++◌, ◌^◌, ℕ, List, [], IfOk, OnOk, length};
     ghost use Rattle.fts_model.specs.declared.schema.Kind.{Kind};
-    ghost use Rattle.fts_collect.specs.Internals.Collecting.{IsTally, IsTallyFor, groups_of, present_at};
+    ghost use Rattle.fts_collect.specs.Internals.Tallies.{IsTally, IsTallyFor, groups_of, present_at};
 
     /// Of no hits. There is a place for each number where they lie close together.
     pub(crate) fn new(alloc: Global, column: &Column) -> Result<Tally, AllocError>

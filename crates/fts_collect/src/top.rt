@@ -1,6 +1,6 @@
 // The top lists of several parts as one.
 ghost use Rattle.std.specs.Prelude.{◌≡◌, ◌≤◌, ◌+◌, ◌++◌, [], IfOk, OnOk, length, vec_capacity, vec_len};
-ghost use Rattle.fts_collect.specs.Internals.Joining.{AreApart, all_hits, first_of, hits_in};
+ghost use Rattle.fts_collect.specs.Internals.Joins.{AreApart, all_hits, first_of, hits_in};
 
 use crate::order::rank;
 use crate::part::Part;

@@ -1,5 +1,6 @@
 -- What is kept of the hits of a segment that were seen.
-use Rattle.std.specs.Prelude.{◌≡◌, ℕ, ◌-◌, ◌^◌, ◌<◌, true, min, List, [], ◌++◌, Option, Some, None, All, AllPairs, length, slice_get}
+use Rattle.std.specs.Prelude.{◌≡◌, ℕ, ◌-◌, ◌^◌, ◌<◌, true, min, List, [], ◌++◌, Option, Some, None, All, AllPairs}
+use Rattle.std.specs.Prelude.{length, slice_get}
 use Rattle.std.specs.List.{filter_map}
 use Rattle.fts_model.specs.declared.schema.Kind.{Kind}
 use Rattle.fts_model.specs.declared.query.Top.{Top}
@@ -9,11 +10,11 @@ use Rattle.fts_model.specs.Schemas.{holds_numbers}
 use Rattle.fts_model.specs.Documents.{DocumentValue, CanHave, value_in_field}
 use Rattle.fts_model.specs.Operations.{kind_at}
 use Rattle.fts_segment.specs.Segments.{SegmentValue, column}
-use Rattle.fts_collect.specs.declared.collecting.Seen.{Seen}
+use Rattle.fts_collect.specs.declared.collector.Seen.{Seen}
 use Rattle.fts_collect.specs.declared.tally.Tally.{Tally}
-use Rattle.fts_collect.specs.Internals.Collecting.{IsTally, IsTallyFor, present_at}
+use Rattle.fts_collect.specs.Internals.Tallies.{IsTally, IsTallyFor, present_at}
 use Rattle.fts_collect.specs.Internals.Keys.{TopKValue, first_keys}
-use Rattle.fts_collect.specs.Internals.Ranking.{keys_at}
+use Rattle.fts_collect.specs.Internals.Ranks.{keys_at}
 
 -- what each document has in a number field is a value that the field can have
 abbrev pub HasNumbers : SegmentValue → Type 0
@@ -39,7 +40,10 @@ HasCounted segment (Some field) docs tally = (kind : Kind) → IsTally kind (pre
 abbrev pub HasRanked : SegmentValue → Option Top → List ℕ → TopKValue → Type 0
 HasRanked segment None docs top_k = Unit {0}
 HasRanked segment (Some top) docs top_k =
-    top_k ≡ record { k = top.k; keys = first_keys top.k (keys_at top.order segment.documents (column segment top.by) docs) }
+    top_k ≡ record {
+      k = top.k;
+      keys = first_keys top.k (keys_at top.order segment.documents (column segment top.by) docs);
+    }
 
 -- each key that is kept is of a document, if a top list is asked for
 abbrev pub KeysWithin : SegmentValue → Option Top → TopKValue → Type 0
@@ -60,7 +64,8 @@ pub record HasSeen (segment : SegmentValue) (request : Request) (docs : List ℕ
   pub top : HasRanked segment request.top docs seen.top_k
 
 -- of all these documents some were seen, some are at hand and the others remain
-pub record IsUnderWay (segment : SegmentValue) (request : Request) (all docs remaining : List ℕ) (seen : Seen) : Type 0 where
+pub record IsUnderWay
+  (segment : SegmentValue) (request : Request) (all docs remaining : List ℕ) (seen : Seen) : Type 0 where
   pub before : List ℕ
   pub seen_is : HasSeen segment request before seen
   pub rest : before ++ (docs ++ remaining) ≡ all

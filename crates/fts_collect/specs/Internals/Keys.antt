@@ -1,5 +1,6 @@
 -- The keys by which the first of many hits are picked.
-use Rattle.std.specs.Prelude.{◌≡◌, ℕ, Bool, false, List, [], ◌∷◌, Option, if◌then◌else◌, length, take, fold, All, IfSome}
+use Rattle.std.specs.Prelude.{◌≡◌, ℕ, Bool, false, List, [], ◌∷◌, Option, if◌then◌else◌, length, take, fold, All}
+use Rattle.std.specs.Prelude.{IfSome}
 use Rattle.std.specs.Ordering.{nat_cmp, ordering_then, is_lt}
 use Rattle.std.specs.declared.cmp.Ordering.{Ordering}
 use Rattle.fts_collect.specs.declared.top_k.Key.{Key}

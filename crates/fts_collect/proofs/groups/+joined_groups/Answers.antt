@@ -2,7 +2,7 @@ use Rattle.std.proofs.Common.{◌≡◌, ◌∙◌, ◌/◌, ℕ, List, IfOk, sy
 use Rattle.fts_model.specs.declared.value.Number.{Number}
 use Rattle.fts_model.specs.Answers.{groups}
 use Rattle.fts_collect.specs.Parts.{PartValue, joined}
-use Rattle.fts_collect.specs.Internals.Joining.{AreGroupsOf, NumbersRise, add_group}
+use Rattle.fts_collect.specs.Internals.Joins.{AreGroupsOf, NumbersRise, add_group}
 use Rattle.fts_collect.proofs.GroupsLemmas.{only_one, groups-alone, groups-halves, few-halves, groups-rise, AreGroupsOf-take, AreGroupsOf-drop}
 use Rattle.fts_collect.proofs.groups.+joined_groups.Goals as goal
 

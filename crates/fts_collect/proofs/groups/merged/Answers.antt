@@ -1,7 +1,7 @@
 use Rattle.std.proofs.Common.{◌∙◌, sym, ap, inl, inr, arith}
 use Rattle.fts_model.specs.declared.value.Number.TheVariants.{U64}
 use Rattle.fts_collect.proofs.GroupsLemmas.{merged-less, merged-equal, merged-greater, merged-end, rest_is}
-use Rattle.fts_collect.specs.Internals.Joining.{add_group}
+use Rattle.fts_collect.specs.Internals.Joins.{add_group}
 use Rattle.std.proofs.Common.{fold, drop, ◌++◌, ◌∷◌, [], ◌+◌, get_or}
 use Rattle.fts_collect.proofs.groups.merged.Goals as goal
 use Rattle.fts_collect.proofs.groups.merged.Goals.{then-loop-i-test+else-j-back, else-loop-i-test}

@@ -1,5 +1,5 @@
 use Rattle.std.proofs.Common.{◌≡◌, ◌≤◌, ◌+◌, ◌-◌, ◌++◌, length, drop, fold}
-use Rattle.fts_collect.specs.Internals.Joining.{NumbersRise, add_group}
+use Rattle.fts_collect.specs.Internals.Joins.{NumbersRise, add_group}
 use Rattle.fts_collect.proofs.groups.merged.Given as goal
 
 abbrev pub invariant-loop-i : goal.invariant-loop-i

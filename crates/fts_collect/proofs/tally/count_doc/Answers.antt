@@ -1,7 +1,7 @@
 use Rattle.std.proofs.Common.{◌∙◌, ◌++◌, ℕ, List, None, sym, subst}
 use Rattle.std.specs.Prelude.{slice_index_or}
 use Rattle.std.specs.Option.{option_to_list}
-use Rattle.fts_collect.specs.Internals.Collecting.{AreCounts}
+use Rattle.fts_collect.specs.Internals.Tallies.{AreCounts}
 use Rattle.fts_collect.proofs.TallyLemmas.{AreCounts-doc}
 use Rattle.fts_collect.proofs.tally.count_doc.Goals as goal
 

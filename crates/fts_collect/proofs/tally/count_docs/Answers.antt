@@ -1,5 +1,5 @@
 use Rattle.std.proofs.Common.{◌∙◌, ◌++◌, ℕ, List, take, subst}
-use Rattle.fts_collect.specs.Internals.Collecting.{AreCounts, present_at}
+use Rattle.fts_collect.specs.Internals.Tallies.{AreCounts, present_at}
 use Rattle.fts_collect.proofs.TallyLemmas.{present_at-behind}
 use Rattle.fts_collect.proofs.tally.count_docs.Goals as goal
 

@@ -1,6 +1,6 @@
 use Rattle.std.proofs.Common.{◌≡◌, ◌++◌, ℕ, List, length, take}
 use Rattle.fts_model.specs.declared.schema.Kind.{Kind}
-use Rattle.fts_collect.specs.Internals.Collecting.{AreCounts, present_at}
+use Rattle.fts_collect.specs.Internals.Tallies.{AreCounts, present_at}
 use Rattle.fts_collect.proofs.tally.count_docs.Given as goal
 
 abbrev pub invariant-loop-doc : goal.invariant-loop-doc

@@ -1,5 +1,5 @@
 use Rattle.std.proofs.Common.{◌≡◌, ◌+◌, ◌++◌, drop}
-use Rattle.fts_collect.specs.Internals.Collecting.{groups_from}
+use Rattle.fts_collect.specs.Internals.Tallies.{groups_from}
 use Rattle.fts_collect.proofs.tally.groups_of_counts.Given as goal
 
 abbrev pub invariant-loop-i : goal.invariant-loop-i

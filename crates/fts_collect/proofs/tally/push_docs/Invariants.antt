@@ -1,5 +1,5 @@
 use Rattle.std.proofs.Common.{◌≡◌, ◌++◌, take}
-use Rattle.fts_collect.specs.Internals.Collecting.{present_at}
+use Rattle.fts_collect.specs.Internals.Tallies.{present_at}
 use Rattle.fts_collect.proofs.tally.push_docs.Given as goal
 
 abbrev pub invariant-loop-doc : goal.invariant-loop-doc

@@ -2,7 +2,7 @@ use Rattle.std.proofs.Common.{◌≡◌, ◌∙◌, ◌++◌, [], List, sym, ap,
 use Rattle.std.specs.List.Sorted.{IsPermutation}
 use Rattle.fts_model.specs.declared.answer.Hit.{Hit}
 use Rattle.fts_collect.specs.Parts.{PartValue}
-use Rattle.fts_collect.specs.Internals.Joining.{all_hits, hits_in}
+use Rattle.fts_collect.specs.Internals.Joins.{all_hits, hits_in}
 use Rattle.fts_collect.proofs.ApartLemmas.{once-permuted}
 use Rattle.fts_collect.proofs.FirstLemmas.{first_of-permuted}
 use Rattle.fts_collect.proofs.PartsLemmas.{all_hits-push, all_hits-moved, no_length}

@@ -1,6 +1,6 @@
 use Rattle.std.proofs.Common.{◌≤◌, ◌+◌, ◌++◌, length, vec_len, vec_capacity}
 use Rattle.std.specs.List.Sorted.{IsPermutation}
-use Rattle.fts_collect.specs.Internals.Joining.{all_hits}
+use Rattle.fts_collect.specs.Internals.Joins.{all_hits}
 use Rattle.fts_collect.proofs.top.joined_top.Given as goal
 
 abbrev pub invariant-loop-part : goal.invariant-loop-part

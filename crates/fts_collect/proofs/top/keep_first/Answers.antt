@@ -4,7 +4,7 @@ use Rattle.std.proofs.lemmas.List.Sorted.{ranks_by}
 use Rattle.std.proofs.lemmas.Fn.{always_returns_same}
 use Rattle.fts_model.specs.declared.answer.Hit.{Hit}
 use Rattle.fts_scan.proofs.AnswersTop.{rank_total}
-use Rattle.fts_collect.specs.Internals.Joining.{rank}
+use Rattle.fts_collect.specs.Internals.Joins.{rank}
 use Rattle.fts_collect.proofs.FirstLemmas.{first_of-sorted}
 use Rattle.fts_collect.proofs.top.keep_first.Goals as goal
 

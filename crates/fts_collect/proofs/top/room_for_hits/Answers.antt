@@ -3,7 +3,7 @@ use Rattle.std.proofs.lemmas.List.{take_all}
 use Rattle.std.proofs.lemmas.List.Concat.{length-flat_map}
 use Rattle.std.proofs.lemmas.Result.{IfOk-weaker}
 use Rattle.fts_collect.specs.Parts.{PartValue}
-use Rattle.fts_collect.specs.Internals.Joining.{all_hits, hits_in}
+use Rattle.fts_collect.specs.Internals.Joins.{all_hits, hits_in}
 use Rattle.fts_collect.proofs.top.room_for_hits.Goals as goal
 
 pub returns-clause-room : goal.returns-clause-room

@@ -1,5 +1,5 @@
 use Rattle.std.proofs.Common.{◌≡◌, length, take, sum_by}
-use Rattle.fts_collect.specs.Internals.Joining.{hits_in}
+use Rattle.fts_collect.specs.Internals.Joins.{hits_in}
 use Rattle.fts_collect.proofs.top.room_for_hits.Given as goal
 
 abbrev pub invariant-loop-part : goal.invariant-loop-part

@@ -2,7 +2,7 @@ use Rattle.std.proofs.Common.{◌∙◌, ℕ, Option, Some, option_map, sym, ap,
 use Rattle.fts_model.specs.declared.query.Top.{Top}
 use Rattle.fts_model.specs.Answers.{answer_of, groups, top}
 use Rattle.fts_collect.specs.Parts.{PartValue}
-use Rattle.fts_collect.specs.Internals.Joining.{AreGroupsOf}
+use Rattle.fts_collect.specs.Internals.Joins.{AreGroupsOf}
 use Rattle.fts_collect.proofs.PartsLemmas.{count-joined, groups-joined, groups-told, length-joined, same_answer, top-joined}
 use Rattle.fts_collect.proofs.part.Part.join.Goals.{in-None, in-None-top, in-Some+in-Ok, in-Some-top}
 use Rattle.fts_collect.proofs.part.Part.join.Goals as goal

@@ -1,5 +1,5 @@
 use Rattle.std.proofs.Common.{◌∙◌, ◌+◌, ◌-◌, ap}
-use Rattle.fts_collect.specs.Internals.Collecting.{groups_from}
+use Rattle.fts_collect.specs.Internals.Tallies.{groups_from}
 use Rattle.fts_collect.proofs.TallyLemmas.{AreCounts-none}
 use Rattle.fts_collect.proofs.tally.Tally.new.Goals as goal
 

@@ -1,0 +1,12 @@
+use Rattle.std.proofs.Common.{◌≡◌, length, arith}
+use Rattle.fts_model.specs.Answers.{answer_of}
+use Rattle.fts_collect.specs.Internals.Collected.{hits_at}
+use Rattle.fts_collect.proofs.PartsLemmas.{same_answer}
+use Rattle.fts_collect.proofs.SeenLemmas.{length-hits_at}
+use Rattle.fts_collect.proofs.collector.told.Goals as goal
+
+pub returns : goal.returns
+returns c = λ docs seen are.
+    let segment = c.args.segment.now in
+    let count : c.args.seen.count ≡ length (hits_at segment docs) = omega (arith, seen.count, are.few, length-hits_at segment docs are.within) in
+    same_answer _ (answer_of c.args.request.now (hits_at segment docs)) count (c.in_ok-groups.ensures docs seen.groups are.few) (c.in_ok-top.ensures docs seen.top are)

@@ -1,0 +1,56 @@
+-- How hits are counted by their numbers in a column.
+use Rattle.std.specs.Prelude.{◌≡◌, ℕ, ◌+◌, ◌^◌, ◌<◌, ◌≤◌, nat_lt, nat_eq, List, [], ◌∷◌, Option, None, if◌then◌else◌}
+use Rattle.std.specs.Prelude.{length, map, slice_index_or, fold, All, IfSome}
+use Rattle.std.specs.List.{filter_map}
+use Rattle.fts_model.specs.declared.schema.Kind.{Kind}
+use Rattle.fts_model.specs.declared.schema.Kind.TheVariants as kinds
+use Rattle.fts_model.specs.declared.value.Number.{Number}
+use Rattle.fts_model.specs.declared.value.Number.TheVariants.{U64, I64}
+use Rattle.fts_model.specs.Answers.{count_number}
+use Rattle.fts_collect.specs.declared.tally.Tally.{Tally}
+use Rattle.fts_collect.specs.declared.tally.Tally.TheVariants.{Counts, Numbers}
+use Rattle.fts_bits.specs.Signed.{i64_of}
+use Rattle.itertools.specs.List.{dedup_with_count}
+
+-- the number that a column of this kind keeps as this one
+abbrev pub number_at : Kind → ℕ → Number
+number_at kinds.I64 x = I64 (i64_of x)
+number_at kind x = U64 x
+
+-- the numbers that documents have in a column
+abbrev pub present_at : List (Option ℕ) → List ℕ → List ℕ
+present_at column docs = filter_map (λ doc. slice_index_or column doc None) docs
+
+-- each number of a column is one of so many from the least on
+abbrev pub AreWithin : List (Option ℕ) → ℕ → ℕ → Type 0
+AreWithin column least count = All (λ v. IfSome v (λ x. (least ≤ x) × (x < least + count))) column
+
+-- the groups of numbers that were counted, from the number `x` on
+abbrev pub groups_from : Kind → ℕ → List ℕ → List (Number × ℕ)
+groups_from kind x [] = []
+groups_from kind x (count ∷ counts) =
+    if nat_lt 0 count then (number_at kind x, count) ∷ groups_from kind (x + 1) counts
+    else groups_from kind (x + 1) counts
+
+-- the groups of numbers in order: each run of one number
+abbrev pub groups_of_sorted : Kind → List ℕ → List (Number × ℕ)
+groups_of_sorted kind numbers = map (λ same. (number_at kind same.1, same.0)) (dedup_with_count nat_eq numbers)
+
+-- the groups of numbers, each counted as it comes
+abbrev pub groups_of : Kind → List ℕ → List (Number × ℕ)
+groups_of kind numbers = fold count_number [] (map (number_at kind) numbers)
+
+-- numbers were counted, each at its place from the least on; a count stays at the greatest of 64 bits
+abbrev pub AreCounts : Kind → List ℕ → ℕ → List ℕ → Type 0
+AreCounts kind numbers least counts = length numbers < 2 ^ 64 → groups_from kind least counts ≡ groups_of kind numbers
+
+-- these numbers were counted
+abbrev pub IsTally : Kind → List ℕ → Tally → Type 0
+IsTally kind numbers (Counts least counts) = AreCounts kind numbers least counts.items
+IsTally kind numbers (Numbers held) = held.items ≡ numbers
+
+-- there is a place for each number of a column, where there are places
+abbrev pub IsTallyFor : List (Option ℕ) → Tally → Type 0
+IsTallyFor column (Counts least counts) =
+    AreWithin column least (length counts.items) × (least + length counts.items ≤ 2 ^ 64)
+IsTallyFor column (Numbers held) = Unit {0}

@@ -1,0 +1,276 @@
+// What a segment tells of its live hits.
+ghost use Rattle.std.specs.Prelude.{◌≡◌, ◌<◌, ◌≤◌, ◌++◌, ◌^◌, ℕ, List, [], true, All, IfOk, IfSome, OnOk, IsOkUnless};
+ghost use Rattle.std.specs.Prelude.{length, min, option_map, ◌-◌};
+ghost use Rattle.fts_cursor.specs.Standing.{Walked};
+ghost use Rattle.fts_model.specs.declared.operation.Term.{Term};
+ghost use Rattle.fts_model.specs.Queries.{is_number_field, query_fits, request_fits};
+ghost use Rattle.fts_model.specs.QueryValues.{query_value};
+ghost use Rattle.fts_model.specs.Answers.{answer, answer_of, groups, top};
+ghost use Rattle.fts_segment.specs.Contents.{content_of};
+ghost use Rattle.fts_postings.specs.Bounds.{most_at};
+ghost use Rattle.fts_cursor.specs.Openings.{HasMusts};
+ghost use Rattle.fts_collect.specs.Parts.{OpensIn};
+ghost use Rattle.fts_collect.specs.Internals.Collected.{AreHits, HasCounted, HasNumbers, HasRanked, HasSeen};
+ghost use Rattle.fts_collect.specs.Internals.Collected.{IsTallyOf, KeysWithin, hits_at};
+
+use crate::part::Part;
+use crate::ranks::{hits_of, offer_hits};
+use crate::tally::Tally;
+use crate::top_k::TopK;
+use fts_bits::Bits;
+use fts_cursor::{Cursor, DocSet, cursor_of};
+use fts_model::{Answer, Hit, Number, Query, Refusal, Request, Top};
+use fts_segment::Segment;
+use std::alloc::{AllocError, Global};
+
+/// What is kept of the hits that were seen.
+#[derive(Drop)]
+pub(crate) struct Seen {
+    pub(crate) count: u64,
+    /// Of their numbers in the field of the groups.
+    pub(crate) tally: Tally,
+    /// By their numbers in the field of the top list.
+    pub(crate) top_k: TopK,
+}
+
+/// The tally of no hits, for the field of the groups.
+fn empty_tally(alloc: Global, segment: &Segment, field: Option<usize>) -> Result<Tally, AllocError>
+    requires { IfSome field (λ f. is_number_field segment.now.schema f ≡ true) }
+    ensures places { IfOk result (IsTallyOf segment.now field) }
+    ensures none { IfOk result (HasCounted segment.now field []) }
+{
+    match field {
+        None => Ok(Tally::Numbers(Vec::new(alloc))),
+        Some(field) => Tally::new(alloc, segment.column(field)),
+    }
+}
+
+/// Counts hits by their numbers in the field of the groups.
+fn count_hits(
+    segment: &Segment,
+    field: Option<usize>,
+    docs: &[u32],
+    tally: &mut Tally,
+) -> Result<(), AllocError>
+    requires fits { IfSome field (λ f. is_number_field segment.now.schema f ≡ true) }
+    requires places { IsTallyOf segment.now field tally.old }
+    ensures places { OnOk result (IsTallyOf segment.now field tally.new) }
+    ensures counted { OnOk result ((before : List ℕ) →
+        HasCounted segment.now field before tally.old →
+        HasCounted segment.now field (before ++ docs.now) tally.new) }
+{
+    match field {
+        None => Ok(()),
+        Some(field) => tally.take(segment.column(field), docs),
+    }
+}
+
+/// The groups that are asked for, of the hits that were counted.
+fn groups_told(
+    alloc: Global,
+    segment: &Segment,
+    field: Option<usize>,
+    tally: Tally,
+) -> Result<Option<Vec<(Number, u64)>>, AllocError>
+    requires fits { IfSome field (λ f. is_number_field segment.now.schema f ≡ true) }
+    requires documents { HasNumbers segment.now }
+    requires places { IsTallyOf segment.now field tally }
+    ensures { (docs : List ℕ) → HasCounted segment.now field docs tally → length docs < 2 ^ 64 →
+        IfOk result (λ found. option_map (λ g. g.items) found
+        ≡ option_map (λ f. groups f (hits_at segment.now docs)) field) }
+{
+    match field {
+        None => Ok(None),
+        Some(field) => {
+            let kind = segment.schema().kind(field);
+            Ok(Some(tally.into_groups(alloc, kind)?))
+        }
+    }
+}
+
+/// Offers hits to the top list.
+fn rank_hits(
+    segment: &Segment,
+    wanted: Option<Top>,
+    docs: &[u32],
+    top_k: &mut TopK,
+) -> Result<(), AllocError>
+    requires fits { IfSome wanted (λ t. is_number_field segment.now.schema t.by ≡ true) }
+    requires within { All (λ doc. doc < length segment.now.documents) docs.now }
+    ensures { OnOk result ((before : List ℕ) → HasRanked segment.now wanted before top_k.old →
+        HasRanked segment.now wanted (before ++ docs.now) top_k.new) }
+{
+    match wanted {
+        None => Ok(()),
+        Some(top) => offer_hits(segment, segment.column(top.by), top.order, docs, top_k),
+    }
+}
+
+/// The top list that is asked for, of the hits that were offered.
+fn top_told(
+    alloc: Global,
+    segment: &Segment,
+    wanted: Option<Top>,
+    top_k: TopK,
+) -> Result<Option<Vec<Hit>>, AllocError>
+    requires fits { IfSome wanted (λ t. is_number_field segment.now.schema t.by ≡ true) }
+    requires documents { HasNumbers segment.now }
+    requires within { KeysWithin segment.now wanted top_k }
+    ensures { (docs : List ℕ) → HasRanked segment.now wanted docs top_k → AreHits segment.now docs →
+        IfOk result (λ list. option_map (λ l. l.items) list
+        ≡ option_map (λ t. top t.k t.order t.by (hits_at segment.now docs)) wanted) }
+{
+    match wanted {
+        None => Ok(None),
+        Some(top) => {
+            let kind = segment.schema().kind(top.by);
+            let keys = top_k.into_keys();
+            Ok(Some(hits_of(alloc, segment, kind, top.order, &keys)?))
+        }
+    }
+}
+
+/// Takes more hits.
+fn see(
+    segment: &Segment,
+    request: &Request,
+    docs: &[u32],
+    seen: &mut Seen,
+) -> Result<(), AllocError>
+    requires fits { request_fits segment.now.schema request.now ≡ true }
+    requires within { All (λ doc. doc < length segment.now.documents) docs.now }
+    requires places { IsTallyOf segment.now request.now.groups seen.old.tally }
+    ensures { OnOk result ((before : List ℕ) → HasSeen segment.now request.now before seen.old →
+        HasSeen segment.now request.now (before ++ docs.now) seen.new) }
+{
+    seen.count = seen.count.saturating_add(docs.len() as u64);
+    count_hits(segment, request.groups, docs, &mut seen.tally)?;
+    rank_hits(segment, request.top, docs, &mut seen.top_k)
+}
+
+/// Takes all hits that remain of a cursor, 128 at a time.
+fn see_all(
+    segment: &Segment,
+    request: &Request,
+    cursor: &mut Cursor<'_>,
+    seen: &mut Seen,
+) -> Result<(), AllocError>
+    requires fits { request_fits segment.now.schema request.now ≡ true }
+    requires within { All (λ doc. doc < length segment.now.documents) cursor.old.remaining }
+    requires none { HasSeen segment.now request.now [] seen.old }
+    ensures seen { OnOk result (HasSeen segment.now request.now cursor.old.remaining seen.new) }
+    ensures end { OnOk result (cursor.new.remaining ≡ []) }
+    ensures walked { OnOk result (Walked cursor.old cursor.new) }
+{
+    let mut docs = [0u32; 128];
+    let mut len = cursor.fill(&mut docs);
+    while len > 0 {
+        see(segment, request, &docs[..len], seen)?;
+        len = cursor.fill(&mut docs);
+    }
+    Ok(())
+}
+
+/// What is kept of no hits.
+fn nothing_seen(alloc: Global, segment: &Segment, request: &Request) -> Result<Seen, AllocError>
+    requires { request_fits segment.now.schema request.now ≡ true }
+    ensures { IfOk result (HasSeen segment.now request.now []) }
+{
+    let tally = empty_tally(alloc, segment, request.groups)?;
+    let k = match request.top {
+        None => 0,
+        Some(top) => top.k as usize,
+    };
+    Ok(Seen {
+        count: 0,
+        tally,
+        top_k: TopK::new(alloc, k),
+    })
+}
+
+/// The answer over the hits that were seen.
+fn told(
+    alloc: Global,
+    segment: &Segment,
+    request: &Request,
+    seen: Seen,
+) -> Result<Answer, AllocError>
+    requires fits { request_fits segment.now.schema request.now ≡ true }
+    requires documents { HasNumbers segment.now }
+    requires places { IsTallyOf segment.now request.now.groups seen.tally }
+    requires within { KeysWithin segment.now request.now.top seen.top_k }
+    ensures { (docs : List ℕ) →
+        HasSeen segment.now request.now docs seen → AreHits segment.now docs →
+        IfOk result (λ answer. answer ≡ answer_of request.now (hits_at segment.now docs)) }
+{
+    let Seen {
+        count,
+        tally,
+        top_k,
+    } = seen;
+    let groups = groups_told(alloc, segment, request.groups, tally)?;
+    let top = top_told(alloc, segment, request.top, top_k)?;
+    Ok(Answer { count, groups, top })
+}
+
+/// What the live hits of a segment tell, and how many blocks were opened to find them.
+fn part_of(
+    alloc: Global,
+    segment: &Segment,
+    request: &Request,
+    cursor: &mut Cursor<'_>,
+) -> Result<Part, AllocError>
+    requires fits { request_fits segment.now.schema request.now ≡ true }
+    requires documents { HasNumbers segment.now }
+    requires hits { AreHits segment.now cursor.old.remaining }
+    ensures answer { IfOk result (λ part. part.answer
+        ≡ answer_of request.now (hits_at segment.now cursor.old.remaining)) }
+    ensures most { IfOk result (λ part. part.openings ≤ most_at cursor.old.bound None) }
+    ensures least { IfOk result (λ part. min (2 ^ 64 - 1) cursor.old.openings ≤ part.openings) }
+    ensures whole { IfOk result (λ part. cursor.old.whole ≡ true →
+        part.openings ≡ min (2 ^ 64 - 1) (most_at cursor.old.bound None)) }
+{
+    let mut seen = nothing_seen(alloc, segment, request)?;
+    see_all(segment, request, cursor, &mut seen)?;
+    let openings = cursor.openings();
+    let answer = told(alloc, segment, request, seen)?;
+    Ok(Part { answer, openings })
+}
+
+/// How many musts a query has.
+fn musts_of(query: &Query) -> usize
+    ensures { (terms : List Term) → HasMusts (query_value query.now) terms → result ≡ length terms }
+{
+    match query {
+        Query::Bool { must, .. } => must.len(),
+        Query::All | Query::None | Query::Term(_) | Query::Phrase { .. } | Query::Range { .. } => 0,
+    }
+}
+
+/// What a segment tells of its live hits, where `live` has one bit a document: the answer to the query and the request
+/// over its live documents in their order, and the openings of a cursor that ran to its end.
+///
+/// The hits come from a cursor, 128 at a time, and nothing is kept of them but what the request wants: counts by
+/// number, the first keys, and in the end a handle for each document of the top list. The only refusal is `Memory`.
+pub fn collect(
+    alloc: Global,
+    segment: &Segment,
+    live: &Bits,
+    query: &Query,
+    request: &Request,
+) -> Result<Part, Refusal>
+    requires bits { length live.now ≡ length segment.now.documents }
+    requires query { query_fits segment.now.schema (query_value query.now) ≡ true }
+    requires request { request_fits segment.now.schema request.now ≡ true }
+    ensures part { IfOk result (λ part. part.answer ≡ answer segment.now.schema
+        (query_value query.now) request.now (content_of segment.now live.now)) }
+    ensures openings { IfOk result (OpensIn segment.now (query_value query.now)) }
+    ensures memory { IsOkUnless result Refusal.Memory }
+{
+    // A count of openings has 64 bits: neither the documents nor the musts are more.
+    let _documents = segment.docs();
+    let _musts = musts_of(query);
+    let mut cursor = cursor_of(alloc, segment, live, query)?;
+    let part = part_of(alloc, segment, request, &mut cursor)?;
+    Ok(part)
+}

@@ -1,0 +1,108 @@
+// The first hits of a segment, picked by their numbers in a column.
+ghost use Rattle.std.specs.Prelude.{◌≡◌, ◌<◌, ◌≤◌, ◌^◌, ◌++◌, ◌∷◌, [], All, IfOk, OnOk, length, map, option_to_list};
+ghost use Rattle.fts_collect.specs.Internals.Ranks.{hit_of, keep_keys, key_at, keys_at, rank_in};
+
+use crate::tally::number_at;
+use crate::top_k::{Key, TopK};
+use fts_column::Column;
+use fts_model::{Hit, Kind, Order};
+use fts_segment::Segment;
+use std::alloc::{AllocError, Global};
+
+/// Where a number stands among those of 64 bits in an order, and also the number that stands there.
+fn rank_in(order: Order, number: u64) -> u64
+    ensures { result ≡ rank_in order number }
+{
+    match order {
+        Order::Rising => number,
+        Order::Falling => u64::MAX - number,
+    }
+}
+
+/// Offers a hit, if it has a number in a column. Its stamp is looked up only where its rank may do.
+fn offer_hit(
+    segment: &Segment,
+    column: &Column,
+    order: Order,
+    doc: u32,
+    top_k: &mut TopK,
+) -> Result<(), AllocError>
+    requires { doc < length segment.now.documents }
+    ensures { OnOk result (top_k.new ≡ record top_k.old {
+      keys =
+          keep_keys top_k.old.k top_k.old.keys
+          (option_to_list (key_at order segment.now.documents column.now doc));
+    }) }
+{
+    let Some(number) = column.get(doc as usize) else {
+        return Ok(());
+    };
+    let rank = rank_in(order, number);
+    if top_k.is_beyond(rank) {
+        return Ok(());
+    }
+    let stamp = segment.stamp(doc as usize);
+    top_k.offer(Key { rank, stamp, doc })
+}
+
+/// Offers the hits that have a number in a column, the last first: where ranks fall from document to document, each hit
+/// would else keep out those before it, and few are kept out at one compare.
+pub(crate) fn offer_hits(
+    segment: &Segment,
+    column: &Column,
+    order: Order,
+    docs: &[u32],
+    top_k: &mut TopK,
+) -> Result<(), AllocError>
+    requires { All (λ doc. doc < length segment.now.documents) docs.now }
+    ensures { OnOk result (top_k.new ≡ record top_k.old {
+      keys =
+          keep_keys top_k.old.k top_k.old.keys
+          (keys_at order segment.now.documents column.now docs.now);
+    }) }
+{
+    for i in (0..docs.len()).rev() {
+        offer_hit(segment, column, order, docs[i], top_k)?;
+    }
+    Ok(())
+}
+
+/// Puts the hit of a key behind others. The document is a copy, which shares it.
+fn push_hit(
+    segment: &Segment,
+    kind: Kind,
+    order: Order,
+    key: Key,
+    hits: &mut Vec<Hit>,
+) -> Result<(), AllocError>
+    requires { key.doc < length segment.now.documents }
+    ensures { OnOk result (hits.new.items
+        ≡ hits.old.items ++ hit_of kind order segment.now.documents key ∷ []) }
+{
+    let document = segment.document(key.doc as usize).clone()?;
+    hits.push(Hit {
+        stamp: key.stamp,
+        value: number_at(kind, rank_in(order, key.rank)),
+        document,
+    })?;
+    Ok(())
+}
+
+/// The hits of keys.
+pub(crate) fn hits_of(
+    alloc: Global,
+    segment: &Segment,
+    kind: Kind,
+    order: Order,
+    keys: &[Key],
+) -> Result<Vec<Hit>, AllocError>
+    requires { All (λ key. key.doc < length segment.now.documents) keys.now }
+    ensures { IfOk result (λ hits. hits.items
+        ≡ map (hit_of kind order segment.now.documents) keys.now) }
+{
+    let mut hits = Vec::with_capacity(alloc, keys.len())?;
+    for key in keys {
+        push_hit(segment, kind, order, *key, &mut hits)?;
+    }
+    Ok(hits)
+}
