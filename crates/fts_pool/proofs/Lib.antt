@@ -1,3 +1,4 @@
+pub mod TotalsLemmas
 pub mod ViewsLemmas
 pub mod StepsLemmas
 pub mod SlotsLemmas

@@ -6,8 +6,10 @@ use lib.ListN.{get_elem?}
 use Rattle.crossbeam_deque.specs.Tasks.{Pushes, Takes, Finds, Forks, Merges}
 use Rattle.crossbeam_deque.proofs.Lists.{at_set}
 use Rattle.fts_pool.specs.declared.deque.Known.{Known}
-use Rattle.fts_pool.specs.Internals.Deque.{known, one_less, one_share, joined, spent, times, once_below, Fits, Holds, Pushed, Took, TookAll}
-use Rattle.fts_pool.proofs.ViewsLemmas.{times-append, times_here, once_none, once_more, below_once, total-set, total-push, no_share, each_set, each_push, with_share, with_none, total-alone}
+use Rattle.fts_pool.specs.Totals.{times}
+use Rattle.fts_pool.specs.Internals.Deque.{known, one_less, one_share, joined, spent, once_below, Fits, Holds, Pushed, Took, TookAll}
+use Rattle.fts_pool.proofs.TotalsLemmas.{times-append, times_here, total-set, total-push, total-alone, each_set, each_push}
+use Rattle.fts_pool.proofs.ViewsLemmas.{once_none, once_more, below_once, no_share, with_share, with_none, took_none}
 
 -- at the start nothing is pushed
 pub begins : Holds [] (known 64 0 [] ∷ [])
@@ -80,7 +82,8 @@ finds port v views h at all x =
     let k = h.1 in
     let told : v.pushed ≡ h.0 = (k.fit port v at).told (omega arith) in
     let before = k.each_once x in
-    let mine = total-alone h.0 x views port v k.fit at (k.shares ∙ sym all) in
+    let mine = total-alone (Fits h.0) (λ u. u.shares) (λ u. times x u.taken) (took_none h.0 x) spent (with_none h.0 spent refl refl) refl
+    views port v k.fit at (k.shares ∙ sym all) in
     let same : once_below x v.pushed ≡ once_below x h.0 = ap (once_below x) told in
     omega arith
 

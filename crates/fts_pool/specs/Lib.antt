@@ -1,2 +1,3 @@
 -- The modules that clauses cite.
 pub mod Internals
+pub mod Totals

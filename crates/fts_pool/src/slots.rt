@@ -1,7 +1,7 @@
 // The slots of the results, one a job, filled in whatever order the jobs end.
 ghost use Rattle.std.specs.Prelude.{◌≡◌, ℕ, ◌<◌, ◌≤◌, [], length, map, slice_set, vec_len, IfOk, replicate, Some, None};
 ghost use Rattle.std.specs.Vec.{vec_capacity};
-ghost use Rattle.fts_pool.specs.Internals.Deque.{times};
+ghost use Rattle.fts_pool.specs.Totals.{times};
 ghost use Rattle.fts_pool.specs.Internals.Slots.{AreOf, AreSlots, IsFilled, IsOf, numbers_of};
 
 use crate::gate::Gate;

@@ -4,8 +4,10 @@ use Rattle.std.proofs.lemmas.List.FromFn.{get_or-map-range_with_len, length-map-
 use native.Mathlib.Decide.{ℕ_discrete}
 use mathlib.Core.Logic.{dite}
 use Rattle.std.specs.List.{range_with_len}
-use Rattle.fts_snapshots.specs.Rounds.{Held, IsLaneOf, Opened, SameLane, fresh, lanes_of, times}
-use Rattle.fts_snapshots.proofs.RoundsOrderLemmas.{times_here, times_else, times_low}
+use Rattle.fts_pool.specs.Totals.{times}
+use Rattle.fts_snapshots.specs.Rounds.{Held, IsLaneOf, Opened, SameLane, fresh, lanes_of}
+use Rattle.fts_pool.proofs.TotalsLemmas.{times_here, times_else}
+use Rattle.fts_snapshots.proofs.RoundsOrderLemmas.{times_low}
 
 run_once : (k a n : ℕ) → times k (range_with_len a n) ≤ 1
 run_once k a zero = omega arith

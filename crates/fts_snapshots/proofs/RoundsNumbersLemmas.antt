@@ -5,11 +5,8 @@ use Rattle.std.proofs.lemmas.List.Elements.{All-nil, All-cons}
 use Rattle.std.specs.List.{range_with_len}
 use Rattle.fts_model.specs.declared.operation.Op.{Op}
 use Rattle.fts_model.specs.declared.operation.Stamped.{Stamped}
-use Rattle.fts_snapshots.specs.Rounds.{AllAbove, AllBelow, Rises, stamps_of, times}
-
-pub times-append : (x : ℕ) (xs ys : List ℕ) → times x (xs ++ ys) ≡ times x xs + times x ys
-times-append x [] ys = omega arith
-times-append x (y ∷ xs) ys = let r = times-append x xs ys in omega arith
+use Rattle.fts_pool.specs.Totals.{times}
+use Rattle.fts_snapshots.specs.Rounds.{AllAbove, AllBelow, Rises, stamps_of}
 
 pub range_with_len-snoc : (first n : ℕ) → range_with_len first (suc n) ≡ range_with_len first n ++ (first + n) ∷ []
 range_with_len-snoc first zero = ap (λ (k : ℕ). k ∷ []) (omega arith)

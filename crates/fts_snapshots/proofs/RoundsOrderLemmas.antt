@@ -4,7 +4,8 @@ use Rattle.std.proofs.lemmas.Bool.Decides.{nat_tests}
 use Rattle.std.proofs.lemmas.List.Sums.{sum_by-cons}
 use Rattle.std.proofs.lemmas.List.Sorted.{sum_by-IsPermutation}
 use Rattle.std.specs.List.{range_with_len}
-use Rattle.fts_snapshots.specs.Rounds.{AllAbove, AllBelow, Rises, times}
+use Rattle.fts_pool.specs.Totals.{times}
+use Rattle.fts_snapshots.specs.Rounds.{AllAbove, AllBelow, Rises}
 
 -- each number is at least n
 abbrev pub AllFrom : ℕ → List ℕ → Type 0
@@ -24,12 +25,6 @@ one_same x = ap (λ (b : Bool). if b then 1 else 0) (eq-eqb x x refl)
 
 one_other : (x y : ℕ) → x ≢ y → one x y ≡ 0
 one_other x y ne = ap (λ (b : Bool). if b then 1 else 0) (ne_eqb x y ne)
-
-pub times_here : (x : ℕ) (xs : List ℕ) → times x (x ∷ xs) ≡ 1 + times x xs
-times_here x xs = ap (λ (k : ℕ). k + times x xs) (one_same x)
-
-pub times_else : (x y : ℕ) (xs : List ℕ) → x ≢ y → times x (y ∷ xs) ≡ times x xs
-times_else x y xs ne = let o = one_other x y ne in omega arith
 
 times_above : (n : ℕ) (xs : List ℕ) → AllAbove n xs → times n xs ≡ 0
 times_above n [] a = refl

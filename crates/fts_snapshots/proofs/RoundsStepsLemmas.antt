@@ -8,10 +8,11 @@ use Rattle.atomic_table.proofs.Lists.{at_set, at_snoc, set_again, set_else}
 use Rattle.fts_snapshots.specs.declared.rounds.stamps.RoundLimits.{RoundLimits}
 use Rattle.fts_snapshots.specs.declared.rounds.stamps.Drawn.{Drawn}
 use Rattle.std.specs.List.{range_with_len}
-use Rattle.fts_snapshots.specs.Rounds.{times}
+use Rattle.fts_pool.specs.Totals.{times}
 use Rattle.fts_snapshots.specs.RoundsDrawn.{drawn, begun, one_less, one_lane, joined, spent, lane_count, stamp_count, Fits, Kept, Draws, Looks}
-use Rattle.fts_snapshots.proofs.RoundsNumbersLemmas.{times-append, range_with_len-snoc, AllBelow-more, AllBelow-append, Rises-push, Rises-after_none, times-none}
-use Rattle.fts_snapshots.proofs.RoundsTotalsLemmas.{total-set, total-push, count_le, total-alone}
+use Rattle.fts_snapshots.proofs.RoundsNumbersLemmas.{range_with_len-snoc, AllBelow-more, AllBelow-append, Rises-push, Rises-after_none, times-none}
+use Rattle.fts_pool.proofs.TotalsLemmas.{times-append, total-set, total-push, total-alone}
+use Rattle.fts_snapshots.proofs.RoundsTotalsLemmas.{count_le}
 
 -- a view after it drew the next stamp
 fits_drawn : (t : RoundLimits) (n : ℕ) (v : Drawn) → Fits t n v → v.lanes ≡ 1 → length v.stamps < v.limits.cap → v.limits ≡ t → Fits t (n + 1) (drawn v.limits v.lanes (v.stamps ++ n ∷ []))
@@ -79,7 +80,8 @@ module _ (t : RoundLimits) (s : State (Unit {0}) Drawn) (r : Kept t s) where
 
   -- a seat that stands for all lanes has as many stamps as there are
   count_alone : (id : ℕ) (v : Drawn) → get_elem? s.views id ≡ some v → v.limits ≡ t → v.lanes ≡ v.limits.lanes → stamp_count s.views ≡ length v.stamps
-  count_alone id v at is all = total-alone (Fits t (get_or s.words 0 0)) (λ u. length u.stamps) (λ u f e. empty_from u f e) s.views id v r.fit blank at
+  count_alone id v at is all =
+      total-alone (Fits t (get_or s.words 0 0)) (λ u. u.lanes) (λ u. length u.stamps) (λ u f e. empty_from u f e) spent blank refl s.views id v r.fit at
       (r.lanes ∙ (sym (ap (λ (u : RoundLimits). u.lanes) is) ∙ sym all))
 
   -- and it has each of them
@@ -87,7 +89,7 @@ module _ (t : RoundLimits) (s : State (Unit {0}) Drawn) (r : Kept t s) where
   has_all id v at some_lane all x =
       let fit = r.fit id v at in
       let is : v.limits ≡ t = fit.limits some_lane in
-      let sum = total-alone (Fits t (get_or s.words 0 0)) (λ u. times x u.stamps) (λ u f e. times-none x u.stamps (empty_from u f e)) s.views id v r.fit blank at
+      let sum = total-alone (Fits t (get_or s.words 0 0)) (λ u. u.lanes) (λ u. times x u.stamps) (λ u f e. times-none x u.stamps (empty_from u f e)) spent blank refl s.views id v r.fit at
       (r.lanes ∙ (sym (ap (λ (u : RoundLimits). u.lanes) is) ∙ sym all)) in
       sym sum ∙ (r.each_once x ∙ (ap (λ (k : ℕ). times x (range_with_len t.first k)) (count_alone id v at is all) ∙ ap (λ (u : RoundLimits). times x (range_with_len u.first (length v.stamps))) (sym is)))
 

@@ -8,7 +8,8 @@ use Rattle.std.proofs.lemmas.List.Sorted.{IsPermutation-map, IsPermutation-trans
 use Rattle.fts_model.specs.declared.operation.Op.{Op}
 use Rattle.fts_model.specs.declared.operation.Stamped.{Stamped}
 use Rattle.std.specs.List.{range_with_len}
-use Rattle.fts_snapshots.specs.Rounds.{AllAbove, Held, Rises, stamps_of, times}
+use Rattle.fts_pool.specs.Totals.{times}
+use Rattle.fts_snapshots.specs.Rounds.{AllAbove, Held, Rises, stamps_of}
 use Rattle.fts_snapshots.specs.Shuffles.{IsShuffle, has_stamp, submissions}
 use Rattle.fts_snapshots.proofs.RoundsOrderLemmas.{AllFrom, Climbs, run_from_times, run-rises, times-permutation}
 use Rattle.fts_snapshots.proofs.RoundsMergingLemmas.{AllRise}

@@ -1,5 +1,5 @@
 -- What contracts see of a round, its lanes and its batch.
-use Rattle.std.specs.Prelude.{◌≡◌, ℕ, ◌+◌, ◌<◌, List, [], ◌∷◌, ◌==◌, if◌then◌else◌, map}
+use Rattle.std.specs.Prelude.{◌≡◌, ℕ, ◌<◌, List, [], ◌∷◌, map}
 use Rattle.atomic_table.specs.Seated.{TableId}
 use Rattle.fts_model.specs.declared.operation.Op.{Op}
 use Rattle.fts_model.specs.declared.operation.Stamped.{Stamped}
@@ -40,11 +40,6 @@ lanes_of ends = map (λ h. h.lane) ends
 
 abbrev pub stamps_of : List (Stamped Op) → List ℕ
 stamps_of ops = map (λ s. s.stamp) ops
-
--- how often x stands in the list
-abbrev pub times : ℕ → List ℕ → ℕ
-times x [] = 0
-times x (y ∷ ys) = (if x == y then 1 else 0) + times x ys
 
 -- each number is below n
 abbrev pub AllBelow : ℕ → List ℕ → Type 0

@@ -6,7 +6,8 @@ use lib.ListN.{get_elem?}
 use Rattle.atomic_table.specs.Table.{State, Me, Step}
 use Rattle.fts_snapshots.specs.declared.rounds.stamps.RoundLimits.{RoundLimits}
 use Rattle.fts_snapshots.specs.declared.rounds.stamps.Drawn.{Drawn}
-use Rattle.fts_snapshots.specs.Rounds.{times, AllBelow, Rises}
+use Rattle.fts_pool.specs.Totals.{times, total}
+use Rattle.fts_snapshots.specs.Rounds.{AllBelow, Rises}
 
 abbrev pub drawn : RoundLimits → ℕ → List ℕ → Drawn
 drawn t lanes stamps = record { limits = t; lanes = lanes; stamps = stamps }
@@ -26,11 +27,6 @@ joined v w = drawn w.limits (v.lanes + w.lanes) (v.stamps ++ w.stamps)
 
 abbrev pub spent : Drawn
 spent = drawn record { round = 0; first = 0; lanes = 0; cap = 0 } 0 []
-
--- f of each view, added up
-abbrev pub total : (Drawn → ℕ) → List Drawn → ℕ
-total f [] = 0
-total f (v ∷ vs) = f v + total f vs
 
 -- for how many lanes the views stand together
 abbrev pub lane_count : List Drawn → ℕ

@@ -3,7 +3,8 @@ use Rattle.std.specs.Prelude.{◌≡◌, ℕ, ◌<◌, Bool, List, ◌==◌, fil
 use Rattle.std.specs.List.{list_any, flat_map, range_with_len}
 use Rattle.fts_model.specs.declared.operation.Op.{Op}
 use Rattle.fts_model.specs.declared.operation.Stamped.{Stamped}
-use Rattle.fts_snapshots.specs.Rounds.{Held, stamps_of, times}
+use Rattle.fts_pool.specs.Totals.{times}
+use Rattle.fts_snapshots.specs.Rounds.{Held, stamps_of}
 
 -- the least lane that isn't among these
 abbrev pub IsLeastMissing : ℕ → List ℕ → ℕ → Type 0

@@ -1,7 +1,8 @@
 -- The rule of the deque in which the numbers of jobs lie, and what one step on it tells.
-use Rattle.std.specs.Prelude.{◌≡◌, ℕ, ◌+◌, ◌-◌, ◌<◌, List, [], ◌∷◌, ◌++◌, ◌==◌, nat_lt, if◌then◌else◌, All}
+use Rattle.std.specs.Prelude.{◌≡◌, ℕ, ◌+◌, ◌-◌, ◌<◌, List, [], ◌++◌, nat_lt, if◌then◌else◌, All}
 use mathlib.Core.Option.{some}
 use lib.ListN.{get_elem?}
+use Rattle.fts_pool.specs.Totals.{times, total}
 use Rattle.fts_pool.specs.declared.deque.Known.{Known}
 
 abbrev pub known : ℕ → ℕ → List ℕ → Known
@@ -19,19 +20,9 @@ joined v w = known (v.shares + w.shares) v.pushed (v.taken ++ w.taken)
 abbrev pub spent : Known
 spent = known 0 0 []
 
--- how often x stands in the list
-abbrev pub times : ℕ → List ℕ → ℕ
-times x [] = 0
-times x (y ∷ ys) = (if x == y then 1 else 0) + times x ys
-
 -- 1 for each number below n, and else 0
 abbrev pub once_below : ℕ → ℕ → ℕ
 once_below x n = if nat_lt x n then 1 else 0
-
--- f of each view, added up
-abbrev pub total : (Known → ℕ) → List Known → ℕ
-total f [] = 0
-total f (v ∷ vs) = f v + total f vs
 
 -- who has a share knows how many jobs were pushed, and who has none took nothing
 pub record Fits (pushed : ℕ) (v : Known) : Type 0 where

@@ -4,7 +4,7 @@ use Rattle.std.specs.Prelude.{Option, None, IsSome, IfSome, slice_index_or}
 use Rattle.std.specs.List.{AllZip, HoldsAt}
 use Rattle.fts_pool.specs.declared.deque.Known.{Known}
 use Rattle.fts_pool.specs.declared.slots.Done.{Done}
-use Rattle.fts_pool.specs.Internals.Deque.{times}
+use Rattle.fts_pool.specs.Totals.{times}
 
 abbrev pub numbers_of : {O : Type 0} → List (Done O) → List ℕ
 numbers_of done = map (λ d. d.number) done

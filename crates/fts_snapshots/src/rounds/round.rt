@@ -3,7 +3,8 @@ ghost use Rattle.std.specs.Prelude.{◌≡◌, ℕ, ◌+◌, ◌*◌, ◌^◌, �
 ghost use Rattle.std.specs.Prelude.{vec_len, All, IsTrue, IfOk, IfErr, IsErrAnd, IsOkUnless, MatchOption};
 ghost use Rattle.std.specs.List.{range_with_len};
 ghost use Rattle.std.specs.Vec.{vec_capacity};
-ghost use Rattle.fts_snapshots.specs.Rounds.{IsLaneOf, fresh, lanes_of, times};
+ghost use Rattle.fts_pool.specs.Totals.{times};
+ghost use Rattle.fts_snapshots.specs.Rounds.{IsLaneOf, fresh, lanes_of};
 ghost use Rattle.fts_snapshots.specs.Shuffles.{IsLeastMissing, IsShuffle, submissions};
 
 use crate::rounds::batch::Batch;

@@ -3,7 +3,7 @@ use Rattle.std.proofs.Common.{ℕ, ◌<◌, ◌⊎◌, length, sym, subst, arith
 use Rattle.std.proofs.lemmas.List.Elements.{All-head, All-same, All-rest}
 use Rattle.std.specs.Vec.Iter.{into_iter_items}
 use Rattle.fts_pool.specs.declared.slots.Done.{Done}
-use Rattle.fts_pool.specs.Internals.Deque.{times}
+use Rattle.fts_pool.specs.Totals.{times}
 use Rattle.fts_pool.specs.Internals.Slots.{AreSlots, IsFilled, IsOf, numbers_of}
 use Rattle.fts_pool.proofs.SlotsLemmas.{filled_still, placed, slots_len, slots_put}
 use Rattle.fts_pool.proofs.slots.put_all.Goals as goal

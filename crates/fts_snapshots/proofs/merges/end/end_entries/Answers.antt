@@ -1,5 +1,5 @@
 -- What is left of the proof of `merges::end::end_entries`.
-use Rattle.std.proofs.Common.{◌≡◌, ◌∙◌, ◌++◌, ◌∷◌, [], filter, Ok, List, inl, inr, ⊎_elim, sym, ap}
+use Rattle.std.proofs.Common.{◌∙◌, ◌++◌, ◌∷◌, [], filter, Ok, List, inl, inr, ⊎_elim, sym, ap}
 use Rattle.fts_base.specs.Results.{ok_unless}
 use Rattle.fts_snapshots.specs.Entries.{EntryValue, has_live}
 use Rattle.fts_snapshots.specs.Merges.{without}

@@ -1,6 +1,7 @@
 -- Each lower number is among the ends.
 use Rattle.std.proofs.Common.{ℕ, ◌<◌}
-use Rattle.fts_snapshots.specs.Rounds.{lanes_of, times}
+use Rattle.fts_pool.specs.Totals.{times}
+use Rattle.fts_snapshots.specs.Rounds.{lanes_of}
 use Rattle.fts_snapshots.proofs.rounds.round.least_missing.Given as goal
 
 abbrev pub invariant-loop-lane : goal.invariant-loop-lane

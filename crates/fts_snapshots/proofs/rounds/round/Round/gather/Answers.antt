@@ -2,7 +2,8 @@
 use Rattle.std.proofs.Common.{◌≡◌, ℕ, ◌*◌, ◌<◌, ◌≤◌, List, [], ◌∷◌, length, All, ap, sym, subst, ◌∙◌, arith}
 use Rattle.std.proofs.lemmas.List.{length-map}
 use Rattle.std.proofs.lemmas.List.Elements.{All-head, All-tail}
-use Rattle.fts_snapshots.specs.Rounds.{AllBelow, Held, IsLaneOf, Opened, lanes_of, times}
+use Rattle.fts_pool.specs.Totals.{times}
+use Rattle.fts_snapshots.specs.Rounds.{AllBelow, Held, IsLaneOf, Opened, lanes_of}
 use Rattle.fts_snapshots.proofs.RoundsOrderLemmas.{length_each_once}
 use Rattle.fts_snapshots.proofs.rounds.round.Round.gather.Goals as goal
 
