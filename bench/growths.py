@@ -11,14 +11,16 @@ too long for it. The last refuses nothing: it counts the growths of one script b
 shows, and each has to change their number.
 """
 import pathlib
+import re
 import sys
 
 import faults
 
 PROGRAM = "crates/fts/out/fts"
 
-# How a test tells that it ended for want of memory, of which a new thread needs some too.
-WANT_OF_MEMORY = (b"error: AllocError", b"error: AllocFailed", b"error: Memory", b"error: Error(out of memory)", b"error: SpawnError")
+# How a test tells that it ended for want of memory, of which a new thread needs some too: by an error that it hands on, or by
+# what it expected in its place, as "a commit: Memory".
+WANT_OF_MEMORY = re.compile(rb"[a-z ]+: (AllocError|AllocFailed|Memory|Error\(out of memory\)|SpawnError)")
 
 
 def refuse_in_script(shim, path):
@@ -61,7 +63,7 @@ def refuse_in_tests(shim, binary, word):
             if status == 0:
                 passed += 1
             else:
-                assert told.startswith(WANT_OF_MEMORY), (name, n, status, told)
+                assert WANT_OF_MEMORY.match(told), (name, n, status, told)
                 ended += 1
         print(f"{name}: {passed + ended} growths refused in turn: {ended} times it ended for memory, {passed} times it passed")
 

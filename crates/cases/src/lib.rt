@@ -7,9 +7,9 @@
 //! ```
 //!
 //! A driver is a program whose `args` name its files. It hands a [`Driver`] to [`run`], which asks it what the public
-//! calls give at each case and compares that with what the case says under `gives`. A case more costs no proof. A driver
-//! whose calls start threads goes over its files by itself, by [`case_on`], [`judged`] and [`Tally`]: what the runtime may do
-//! is known of a function's own parameters, and not behind a trait.
+//! calls give at each case and compares that with what the case says under `gives`. A case more costs no proof. A
+//! driver whose calls start threads goes over its files by itself, by [`case_on`], [`judged`] and [`Tally`]: what the
+//! runtime may do is known of a function's own parameters, and not behind a trait.
 //!
 //! - [`run`] prints `DIFFERS: FILE: sentence: what was given` for each case that differs, `FILE: N cases` at the end of
 //!   each file and `N cases` at the end of all. The exit status is 1 where a case failed, and a file without a case
@@ -22,15 +22,16 @@
 #![tactic(auto)]
 
 mod answers;
+mod driver;
 mod fields;
 mod judge;
 mod member;
 mod operations;
 mod trouble;
-mod trying;
 mod values;
 
 pub use answers::{answer_value, request_of};
+pub use driver::{Driver, Tally, Wanted, case_on, judged, run};
 pub use fields::{fields_of, schema_of};
 pub use judge::{fits, refused};
 pub use member::{
@@ -39,5 +40,4 @@ pub use member::{
 };
 pub use operations::{op_of, term_of};
 pub use trouble::Trouble;
-pub use trying::{Driver, Tally, Wanted, case_on, judged, run};
 pub use values::{documents, field_number, pair, put, some_number, stamps, two, words};

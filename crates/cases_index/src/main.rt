@@ -1,5 +1,5 @@
-// Tries cases of an index of many segments: scripts, each over a list of documents and over segments under eight kinds of options,
-// and walks, which are steps over a new writer.
+// Tries cases of an index of many segments: scripts, each over a list of documents and over segments under eight kinds
+// of options, and walks, which are steps over a new writer.
 #![tactic(auto)]
 
 mod asked;
@@ -20,7 +20,8 @@ use std::thread::Threads;
 use std::{env, fs, io};
 use ways::difference;
 
-/// What the steps of a walk give; of a script how many replies it has, or else what some way of running it gave in place of one.
+/// What the steps of a walk give; of a script how many replies it has, or else what some way of running it gave in
+/// place of one.
 fn given<R: AllocGlobal + Files + Threads + Wait + Sync>(
     rt: &R,
     case: &Value,

@@ -15,8 +15,11 @@ pub(crate) struct Script {
 }
 
 /// The fields `title` (text, default), `tag` (keyword, default), `price` (`u64`) and `temp` (`i64`).
-const SCHEMA: &str =
-    r#"{"schema":[{"name":"title","kind":"text","default":true},{"name":"tag","kind":"keyword","default":true},{"name":"price","kind":"u64"},{"name":"temp","kind":"i64"}]}"#;
+const SCHEMA: &str = "{\"schema\":[\
+    {\"name\":\"title\",\"kind\":\"text\",\"default\":true},\
+    {\"name\":\"tag\",\"kind\":\"keyword\",\"default\":true},\
+    {\"name\":\"price\",\"kind\":\"u64\"},\
+    {\"name\":\"temp\",\"kind\":\"i64\"}]}";
 
 /// The most that a line or a piece of it is repeated.
 const MOST: u64 = 10_000_000;

@@ -3,16 +3,16 @@
 #![tactic(auto)]
 
 mod bench;
-mod collecting;
+mod collectors;
 mod content;
-mod finding;
 mod indexed;
-mod merging;
-mod packing;
+mod matches;
+mod merges;
+mod numbers;
 mod queries;
 mod schemas;
 mod texts;
-mod walking;
+mod walks;
 
 use bench::{Bench, cleared, made};
 use cases::{Driver, Trouble, only_in_case, run, text, unknown};
@@ -107,7 +107,7 @@ fn looked_at(
     if let Some(given) = queries::given(alloc, word, case)? {
         return Ok(Some(given));
     }
-    if let Some(given) = packing::given(alloc, word, case)? {
+    if let Some(given) = numbers::given(alloc, word, case)? {
         return Ok(Some(given));
     }
     in_segments(alloc, word, case, made)
@@ -120,11 +120,11 @@ fn in_segments(
     case: &Value,
     made: &[Bench],
 ) -> Result<Option<Value>, Trouble> {
-    if let Some(given) = collecting::given(alloc, word, case, made)? {
+    if let Some(given) = collectors::given(alloc, word, case, made)? {
         return Ok(Some(given));
     }
     if word == "plan" {
-        return Ok(Some(merging::planned(alloc, case)?));
+        return Ok(Some(merges::planned(alloc, case)?));
     }
     let Some(bench) = made.first() else {
         return Ok(None);
@@ -132,13 +132,13 @@ fn in_segments(
     if let Some(given) = indexed::given(alloc, word, case, &bench.segment)? {
         return Ok(Some(given));
     }
-    if let Some(given) = finding::given(alloc, word, case, bench)? {
+    if let Some(given) = matches::given(alloc, word, case, bench)? {
         return Ok(Some(given));
     }
-    if let Some(given) = walking::given(alloc, word, case, bench)? {
+    if let Some(given) = walks::given(alloc, word, case, bench)? {
         return Ok(Some(given));
     }
-    merging::given(alloc, word, case, bench)
+    merges::given(alloc, word, case, bench)
 }
 
 impl Driver for Segments {

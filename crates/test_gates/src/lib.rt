@@ -1,8 +1,9 @@
-//! Gates for tests of jobs: one holds a job back until the others have passed, one counts how often each job is begun and ended.
+//! Gates for tests of jobs: one holds a job back until the others have passed, one counts how often each job is begun
+//! and ended.
 #![tactic(auto)]
 
-mod counting;
-mod holding;
+mod counter;
+mod holder;
 
-pub use counting::Counting;
-pub use holding::Holding;
+pub use counter::Counter;
+pub use holder::Holder;

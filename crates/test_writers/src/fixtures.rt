@@ -1,7 +1,9 @@
-// The schema of four fields, and documents of it.
+// The schema of four fields, and documents and a writer of it.
+use fts_index::Writer;
 use fts_model::{Document, Field, Kind, Refusal, Schema, Text};
 use serde_json::Value;
 use std::alloc::{AllocError, Global};
+use std::sync::Wait;
 
 /// The name and the kind of each field, and whether it is marked default.
 const FIELDS: [(&str, Kind, bool); 4] = [
@@ -27,6 +29,11 @@ pub fn schema(alloc: Global) -> Result<Schema, Refusal> {
         fields.push(field(alloc, name, kind, default)?)?;
     }
     Schema::new(alloc, fields).map_err(|e| e.1)
+}
+
+/// A new writer of that schema.
+pub fn writer<R: Wait>(rt: &R, alloc: Global) -> Result<Writer, Refusal> {
+    Writer::new(rt, alloc, &schema(alloc)?)
 }
 
 /// The document of a JSON text.

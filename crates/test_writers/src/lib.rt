@@ -1,5 +1,5 @@
-//! What the tests and cases of an index of many segments share: a schema of four fields, rounds of one lane, and what is seen
-//! of a writer.
+//! What the tests and cases of an index of many segments share: a schema of four fields, rounds of one lane, and what
+//! is seen of a writer.
 #![tactic(auto)]
 
 mod batches;
@@ -8,6 +8,6 @@ mod searches;
 mod shown;
 
 pub use batches::{add, batch, batch_of, delete};
-pub use fixtures::{document, schema};
+pub use fixtures::{document, schema, writer};
 pub use searches::count;
 pub use shown::{seen, tag_of, text_of};

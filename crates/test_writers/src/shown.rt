@@ -39,8 +39,8 @@ fn list_found(list: &mut String, searcher: &Searcher) -> Result<(), AllocError> 
     Ok(())
 }
 
-/// What is seen of a writer, as `3: (0,1,1) (1,1,1) 1p 2q`: its stamp, the number, the documents and the live documents of each
-/// segment, and then the stamp and the tag of each live document.
+/// What is seen of a writer, as `3: (0,1,1) (1,1,1) 1p 2q`: its stamp, the number, the documents and the live documents
+/// of each segment, and then the stamp and the tag of each live document.
 pub fn seen(alloc: Global, writer: &Writer) -> Result<String, Refusal> {
     let mut list = format!(in alloc; "{}:", writer.commit_stamp())?;
     for info in writer.segments(alloc)? {

@@ -6,4 +6,4 @@ mod growths;
 #[cfg(test)]
 mod readers;
 #[cfg(test)]
-mod searching;
+mod searches;

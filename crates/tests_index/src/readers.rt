@@ -218,7 +218,8 @@ fn finds_told<R: Threads + Wait + Sync + Abort>(
     Ok(())
 }
 
-// A commit of which one reader is told before a merge of all segments, and another one behind it, which finds it untold.
+// A commit of which one reader is told before a merge of all segments, and another one behind it, which finds it
+// untold.
 fn first_told<R: Threads + Wait + Sync + Abort>(
     rt: &R,
     alloc: Global,

@@ -1,8 +1,11 @@
-// fts_pool: each job is run once, between the gate's two calls, and its result stands in its place, whatever the workers do.
+// fts_pool: each job is run once, between the gate's two calls, and its result stands in its place, whatever the
+// workers do.
 use fts_pool::{Job, Open, run_all};
+use std::process::Abort;
+use std::sync::Wait;
 use std::sync::atomic::{AtomicU64, Ordering};
-use std::test::Fail;
-use test_gates::Holding;
+use std::thread::Threads;
+use test_gates::Holder;
 
 /// A number to be squared, and how often that was done.
 #[derive(Drop)]
@@ -31,53 +34,74 @@ impl Job for Square {
     }
 }
 
+/// Each job was run so often.
+fn each_ran(rt: &impl Abort, jobs: &[Square], times: u64) {
+    for job in jobs {
+        assert_eq!(rt; job.runs.load(Ordering::SeqCst), times);
+    }
+}
+
 #[test]
-fn a_held_job_waits_while_another_worker_runs_the_others(rt: HostRuntime) -> Result<(), Fail> {
+fn a_held_job_waits_while_another_worker_runs_the_others(rt: HostRuntime) {
     for held in 0..3usize {
         let jobs = [square_of(3), square_of(4), square_of(5)];
-        let gate = Holding::back(held, 3);
-        let squares = run_all(&rt, rt.alloc(), &jobs, 2, &gate)?;
+        let gate = Holder::new(held, 3);
+        let squares = run_all(&rt, rt.alloc(), &jobs, 2, &gate).expect(&rt, "squares");
         assert_eq!(rt; squares.as_slice(), [9, 16, 25].as_slice());
         assert!(rt; gate.was_held());
-        for job in &jobs {
-            assert_eq!(rt; job.runs.load(Ordering::SeqCst), 1);
-        }
+        each_ran(&rt, &jobs, 1);
     }
-    Ok(())
+}
+
+/// Jobs for the numbers below a thousand.
+fn thousand_jobs(rt: &(impl AllocGlobal + Abort)) -> Vec<Square> {
+    let mut jobs = Vec::new(rt.alloc());
+    for side in 0..1000u32 {
+        jobs.push(square_of(side)).expect(rt, "jobs");
+    }
+    jobs
+}
+
+/// These are the squares of the numbers below a thousand.
+fn are_thousand_squares(rt: &impl Abort, squares: &[u64]) {
+    assert_eq!(rt; squares.len(), 1000);
+    let mut side = 0u64;
+    for square in squares {
+        assert_eq!(rt; *square, side.wrapping_mul(side));
+        side = side.wrapping_add(1);
+    }
 }
 
 #[test]
-fn a_thousand_jobs(rt: HostRuntime) -> Result<(), Fail> {
+fn a_thousand_jobs(rt: HostRuntime) {
     for workers in [1, 2, 5, 64usize] {
-        let mut jobs = Vec::new(rt.alloc());
-        for side in 0..1000u32 {
-            jobs.push(square_of(side))?;
-        }
-        let squares = run_all(&rt, rt.alloc(), &jobs, workers, &Open)?;
-        assert_eq!(rt; squares.len(), 1000);
-        let mut side = 0u64;
-        for square in squares {
-            assert_eq!(rt; square, side.wrapping_mul(side));
-            side = side.wrapping_add(1);
-        }
-        for job in jobs {
-            assert_eq!(rt; job.runs.load(Ordering::SeqCst), 1);
+        let jobs = thousand_jobs(&rt);
+        let squares = run_all(&rt, rt.alloc(), &jobs, workers, &Open).expect(&rt, "squares");
+        are_thousand_squares(&rt, &squares);
+        each_ran(&rt, &jobs, 1);
+    }
+}
+
+#[test]
+fn no_job(rt: HostRuntime) {
+    let none: [Square; 0] = [];
+    let nothing = run_all(&rt, rt.alloc(), &none, 3, &Open).expect(&rt, "nothing");
+    assert!(rt; nothing.is_empty());
+}
+
+/// The squares of jobs. Where a growth was refused, that was before a job ran, and a second try has them all.
+fn squares<R: AllocGlobal + Threads + Wait + Sync + Abort>(rt: &R, jobs: &[Square]) -> Vec<u64> {
+    match run_all(rt, rt.alloc(), jobs, 3, &Open) {
+        Ok(squares) => squares,
+        Err(_) => {
+            each_ran(rt, jobs, 0);
+            run_all(rt, rt.alloc(), jobs, 3, &Open).expect(rt, "squares")
         }
     }
-    Ok(())
 }
 
 #[test]
-fn no_job(rt: HostRuntime) -> Result<(), Fail> {
-    let none: [Square; 0] = [];
-    let nothing = run_all(&rt, rt.alloc(), &none, 3, &Open)?;
-    assert_eq!(rt; nothing.len(), 0);
-    Ok(())
-}
-
-// Whichever growth is refused: all results, or a refusal before a job ran, after which a second try has all results.
-#[test]
-fn a_refusal_comes_before_the_first_job(rt: HostRuntime) -> Result<(), Fail> {
+fn a_refusal_comes_before_the_first_job(rt: HostRuntime) {
     let jobs = [
         square_of(1),
         square_of(2),
@@ -85,18 +109,7 @@ fn a_refusal_comes_before_the_first_job(rt: HostRuntime) -> Result<(), Fail> {
         square_of(4),
         square_of(5),
     ];
-    let squares = match run_all(&rt, rt.alloc(), &jobs, 3, &Open) {
-        Ok(squares) => squares,
-        Err(_) => {
-            for job in &jobs {
-                assert_eq!(rt; job.runs.load(Ordering::SeqCst), 0);
-            }
-            run_all(&rt, rt.alloc(), &jobs, 3, &Open)?
-        }
-    };
+    let squares = squares(&rt, &jobs);
     assert_eq!(rt; squares.as_slice(), [1, 4, 9, 16, 25].as_slice());
-    for job in &jobs {
-        assert_eq!(rt; job.runs.load(Ordering::SeqCst), 1);
-    }
-    Ok(())
+    each_ran(&rt, &jobs, 1);
 }

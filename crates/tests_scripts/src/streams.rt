@@ -26,8 +26,11 @@ static SCRIPT: [(&str, &str); 10] = [
 ];
 
 /// The fields `title` (text, default), `tag` (keyword, default), `price` (`u64`) and `temp` (`i64`).
-const SCHEMA: &str =
-    "{\"schema\":[{\"name\":\"title\",\"kind\":\"text\",\"default\":true},{\"name\":\"tag\",\"kind\":\"keyword\",\"default\":true},{\"name\":\"price\",\"kind\":\"u64\"},{\"name\":\"temp\",\"kind\":\"i64\"}]}";
+const SCHEMA: &str = "{\"schema\":[\
+    {\"name\":\"title\",\"kind\":\"text\",\"default\":true},\
+    {\"name\":\"tag\",\"kind\":\"keyword\",\"default\":true},\
+    {\"name\":\"price\",\"kind\":\"u64\"},\
+    {\"name\":\"temp\",\"kind\":\"i64\"}]}";
 
 /// The input of the script.
 fn input(rt: &impl AllocGlobal) -> Result<Vec<u8>, Fail> {

@@ -1,5 +1,5 @@
-// Calls of segments, cursors, collectors and merges of which a growth was refused: nothing has changed, and the second try
-// succeeds.
+// Calls of segments, cursors, collectors and merges of which a growth was refused: nothing has changed, and the second
+// try succeeds.
 use crate::fixtures::example;
 use fts_bits::Bits;
 use fts_collect::{Part, collect};

@@ -5,10 +5,10 @@ use Rattle.tests_rounds.proofs.rounds.gathered.Goals as goal
 
 pub gather-requires-clause-lanes : goal.gather-requires-clause-lanes
 gather-requires-clause-lanes g c =
-    let ends = c.in_ok-ends.ensures in
-    all_of_round c.args.round c.args.lanes.items c.in_ok-ends.ends.items c.args.round.limits.lanes c.requires refl ends.len ends.same
+    let ends = c.all_filled-ends.ensures in
+    all_of_round c.args.round c.args.lanes.items c.all_filled-ends.result.items c.args.round.limits.lanes c.requires refl ends.len ends.same
 
 pub gather-requires-clause-each_once : goal.gather-requires-clause-each_once
 gather-requires-clause-each_once g c =
-    let ends = c.in_ok-ends.ensures in
-    all_once c.args.round c.args.lanes.items c.in_ok-ends.ends.items c.args.round.limits.lanes c.requires refl ends.len ends.same
+    let ends = c.all_filled-ends.ensures in
+    all_once c.args.round c.args.lanes.items c.all_filled-ends.result.items c.args.round.limits.lanes c.requires refl ends.len ends.same

@@ -1,6 +1,6 @@
 // Cases of walks of a cursor over the first segment that was made: `walk`.
 use crate::bench::Bench;
-use crate::finding::cursor;
+use crate::matches::cursor;
 use crate::texts::text_of;
 use cases::{Trouble, documents, nonempty, number, only, some_number, unknown};
 use fts_cursor::{Cursor, DocSet};

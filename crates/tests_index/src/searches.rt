@@ -2,7 +2,7 @@
 ghost use Rattle.std.specs.Prelude.{◌≤◌};
 ghost use Rattle.fts_snapshots.specs.Cuts.{IsCut};
 
-mod held;
+mod workers;
 
 use fts_index::{Cut, Found, Searcher, Writer};
 use fts_model::{
@@ -18,7 +18,7 @@ use std::process::Abort;
 use std::sync::Wait;
 use std::test::Fail;
 use std::thread::Threads;
-use test_gates::Counting;
+use test_gates::Counter;
 use test_writers::{batch_of, document, schema};
 
 /// The stamps of the operations of two commits. The stamp between them is that of the first commit.
@@ -29,8 +29,8 @@ const SECOND: (u64, u64) = (122, 200);
 /// The stamp of the one delete.
 const DELETE: u64 = 160;
 
-/// The document of a stamp: one to three words, of `a`, `b` and `c`, and a price and a temp, each the least or the greatest of its
-/// kind for some, and none for others.
+/// The document of a stamp: one to three words, of `a`, `b` and `c`, and a price and a temp, each the least or the
+/// greatest of its kind for some, and none for others.
 fn document_at(alloc: Global, schema: &Schema, stamp: u64) -> Result<Document, Fail> {
     let title = match stamp % 5 {
         0 => "a",
@@ -151,7 +151,7 @@ fn check_workers<R: Threads + Wait + Sync + Abort>(
 ) -> Result<(), Fail>
     requires { (1 ≤ workers) × (workers ≤ 64) }
 {
-    let counts = Counting::new();
+    let counts = Counter::new();
     let found = search(rt, alloc, searcher, asked.0, asked.1, workers, &counts)?;
     assert!(rt; counts.ran_each_once(searcher.snapshot().entries().len()));
     assert_eq!(rt; found.answer.count, wanted.count);

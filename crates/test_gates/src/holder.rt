@@ -8,7 +8,7 @@ const TURNS: u64 = 1_000_000_000;
 
 /// Holds one of up to three jobs back until the others have passed, and counts its calls.
 #[derive(Drop)]
-pub struct Holding {
+pub struct Holder {
     jobs: usize,
     held: usize,
     before: [AtomicU64; 3],
@@ -26,10 +26,10 @@ fn count(counts: &[AtomicU64; 3], job: usize) {
     }
 }
 
-impl Holding {
+impl Holder {
     /// A gate that holds this one of so many jobs.
-    pub fn back(held: usize, jobs: usize) -> Holding {
-        Holding {
+    pub fn new(held: usize, jobs: usize) -> Holder {
+        Holder {
             jobs,
             held,
             before: zeros(),
@@ -59,7 +59,7 @@ impl Holding {
     }
 }
 
-impl Gate for Holding {
+impl Gate for Holder {
     fn before(&self, job: usize) {
         count(&self.before, job);
         if job != self.held {

@@ -40,15 +40,21 @@ fn asked(alloc: Global, case: &Value, made: &[Bench]) -> Result<Request, Trouble
     }
 }
 
+/// What each segment tells of the query of a case.
+fn told(
+    alloc: Global,
+    case: &Value,
+    made: &[Bench],
+    request: &Request,
+) -> Result<Vec<Part>, Trouble> {
+    let query = text_of(alloc, case, "query")?;
+    parts_of(alloc, made, query.as_str(), request)
+}
+
 /// What all segments tell together.
 fn answered(alloc: Global, case: &Value, made: &[Bench]) -> Result<Value, Trouble> {
     let request = asked(alloc, case, made)?;
-    let parts = parts_of(
-        alloc,
-        made,
-        text_of(alloc, case, "query")?.as_str(),
-        &request,
-    )?;
+    let parts = told(alloc, case, made, &request)?;
     match Part::join(alloc, parts, &request) {
         Ok(answer) => answer_value(alloc, &answer),
         Err((_, refusal)) => Err(Trouble::from(refusal)),
@@ -58,12 +64,7 @@ fn answered(alloc: Global, case: &Value, made: &[Bench]) -> Result<Value, Troubl
 /// How many blocks are opened for an answer.
 fn openings(alloc: Global, case: &Value, made: &[Bench]) -> Result<Value, Trouble> {
     let request = asked(alloc, case, made)?;
-    let parts = parts_of(
-        alloc,
-        made,
-        text_of(alloc, case, "query")?.as_str(),
-        &request,
-    )?;
+    let parts = told(alloc, case, made, &request)?;
     Ok(Value::from(openings_of(&parts)))
 }
 

@@ -7,7 +7,7 @@ const JOBS: usize = 8;
 
 /// Counts how often each job began and, once it began, ended.
 #[derive(Drop)]
-pub struct Counting {
+pub struct Counter {
     begun: [AtomicU64; 9],
     ended: [AtomicU64; 9],
 }
@@ -30,10 +30,10 @@ fn zeros() -> [AtomicU64; 9] {
     ]
 }
 
-impl Counting {
+impl Counter {
     /// No job was counted yet.
-    pub fn new() -> Counting {
-        Counting {
+    pub fn new() -> Counter {
+        Counter {
             begun: zeros(),
             ended: zeros(),
         }
@@ -52,7 +52,7 @@ impl Counting {
     }
 }
 
-impl Gate for Counting {
+impl Gate for Counter {
     fn before(&self, job: usize) {
         self.begun[job.min(JOBS)].fetch_add(1, Ordering::SeqCst);
     }

@@ -6,7 +6,7 @@ use std::process::Abort;
 use std::sync::Wait;
 use std::test::Fail;
 use std::thread::Threads;
-use test_gates::Holding;
+use test_gates::Holder;
 use test_writers::{batch, schema};
 
 /// Commits two documents in segments of their own.
@@ -14,7 +14,7 @@ fn committed<R: Threads + Wait + Sync>(
     rt: &R,
     alloc: Global,
     writer: &mut Writer,
-    gate: &Holding,
+    gate: &Holder,
 ) -> Result<Searcher, Refusal> {
     let batch = batch(alloc, writer, &["+p", "+q"])?;
     writer.commit(rt, alloc, &batch, Cut::Runs(1), 2, gate)?;
@@ -26,7 +26,7 @@ fn count<R: Threads + Wait + Sync>(
     rt: &R,
     alloc: Global,
     searcher: &Searcher,
-    gate: &Holding,
+    gate: &Holder,
 ) -> Result<u64, Refusal> {
     let request = Request::new(searcher.snapshot().schema(), None, None)?;
     let found = searcher.search(rt, alloc, &Query::All, &request, 2, gate)?;
@@ -40,10 +40,10 @@ fn check_jobs<R: Threads + Wait + Sync + Abort>(
     writer: &mut Writer,
     held: usize,
 ) -> Result<(), Refusal> {
-    let gate = Holding::back(held, 2);
+    let gate = Holder::new(held, 2);
     let searcher = committed(rt, alloc, writer, &gate)?;
     assert!(rt; gate.was_held());
-    let gate = Holding::back(held, 2);
+    let gate = Holder::new(held, 2);
     assert_eq!(rt; count(rt, alloc, &searcher, &gate)?, 2);
     assert!(rt; gate.was_held());
     Ok(())
