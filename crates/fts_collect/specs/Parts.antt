@@ -18,7 +18,7 @@ pub record PartValue : Type 0 where
 
 -- how many blocks a search opens: so many for one term, and for a conjunction of terms so many at least and at most
 pub record AreOpenings
-  (query : QueryValue) (blocks : Term → ℕ) (least most : List Term → ℕ) (openings : ℕ) : Type 0 where
+    (query : QueryValue) (blocks : Term → ℕ) (least most : List Term → ℕ) (openings : ℕ) : Type 0 where
   pub one_term : (t : Term) → IsOfOneTerm query t → openings ≡ blocks t
   pub opened : (terms : List Term) → HasMusts query terms → least terms ≤ openings
   pub musts : (terms : List Term) → HasMusts query terms → openings ≤ most terms
@@ -27,7 +27,7 @@ pub record AreOpenings
 abbrev pub OpensIn : SegmentValue → QueryValue → PartValue → Type 0
 OpensIn segment query part =
     AreOpenings query (blocks_with segment) (λ terms. if nat_lt 0 part.answer.count then length terms else 0)
-      (most_for_musts segment) part.openings
+    (most_for_musts segment) part.openings
 
 -- each list of hits behind the one before it
 abbrev pub joined : List (List (Stamped DocumentValue)) → List (Stamped DocumentValue)

@@ -65,7 +65,7 @@ pub record HasSeen (segment : SegmentValue) (request : Request) (docs : List ℕ
 
 -- of all these documents some were seen, some are at hand and the others remain
 pub record IsUnderWay
-  (segment : SegmentValue) (request : Request) (all docs remaining : List ℕ) (seen : Seen) : Type 0 where
+    (segment : SegmentValue) (request : Request) (all docs remaining : List ℕ) (seen : Seen) : Type 0 where
   pub before : List ℕ
   pub seen_is : HasSeen segment request before seen
   pub rest : before ++ (docs ++ remaining) ≡ all

@@ -22,9 +22,9 @@ abbrev pub add_group : List (Number × ℕ) → Number × ℕ → List (Number �
 add_group [] more = more ∷ []
 add_group (group ∷ groups) more =
     match_ordering (number_cmp more.0 group.0)
-      (more ∷ group ∷ groups)
-      ((group.0, counts_added group.1 more.1) ∷ groups)
-      (group ∷ add_group groups more)
+    (more ∷ group ∷ groups)
+    ((group.0, counts_added group.1 more.1) ∷ groups)
+    (group ∷ add_group groups more)
 
 -- the numbers of groups rise
 abbrev pub NumbersRise : List (Number × ℕ) → Type 0

@@ -29,7 +29,7 @@ document_at documents doc = option_map_or (λ d. d.value) (slice_get documents d
 abbrev pub key_at : Order → List (Stamped DocumentValue) → List (Option ℕ) → ℕ → Option Key
 key_at order documents column doc =
     option_map (λ x. record { rank = rank_in order x; stamp = stamp_at documents doc; doc = doc })
-      (slice_index_or column doc None)
+    (slice_index_or column doc None)
 
 -- the keys of those hits that have one
 abbrev pub keys_at : Order → List (Stamped DocumentValue) → List (Option ℕ) → List ℕ → List Key
