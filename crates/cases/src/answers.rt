@@ -1,38 +1,38 @@
 // What a search is asked by values, and its answer.
-use crate::member::{number, only, optional_text, text, unknown};
+use crate::member::{number, only, optional_text, text};
 use crate::trouble::Trouble;
 use crate::values::{field_number, pair, put};
 use fts_model::{Answer, Hit, Number, Order, Request, Schema};
 use serde_json::{Map, Value};
 use std::alloc::{AllocError, Global};
 
-fn order_named(alloc: Global, name: &str) -> Result<Order, Trouble> {
+fn order_named(name: &str) -> Result<Order, Trouble> {
     match name {
         "rising" => Ok(Order::Rising),
         "falling" => Ok(Order::Falling),
-        _ => Err(unknown(alloc, name)),
+        _ => Err(Trouble::UnknownWord),
     }
 }
 
 /// The top list that an object `{"by":FIELD,"k":K,"order":ORDER}` asks for.
-fn top_of(alloc: Global, top: &Value) -> Result<(&str, u64, Order), Trouble> {
-    only(alloc, top, &["by", "k", "order"])?;
-    let order = order_named(alloc, text(top, "order")?)?;
+fn top_of(top: &Value) -> Result<(&str, u64, Order), Trouble> {
+    only(top, &["by", "k", "order"])?;
+    let order = order_named(text(top, "order")?)?;
     Ok((text(top, "by")?, number(top, "k")?, order))
 }
 
 /// The top list that a case asks for, if it does.
-fn optional_top(alloc: Global, case: &Value) -> Result<Option<(&str, u64, Order)>, Trouble> {
+fn optional_top(case: &Value) -> Result<Option<(&str, u64, Order)>, Trouble> {
     match case.get("top") {
-        Some(top) => Ok(Some(top_of(alloc, top)?)),
+        Some(top) => Ok(Some(top_of(top)?)),
         None => Ok(None),
     }
 }
 
 /// What a case asks by values: `groups`, a field, and `top`, an object `{"by":FIELD,"k":K,"order":ORDER}`.
-pub fn request_of(alloc: Global, schema: &Schema, case: &Value) -> Result<Request, Trouble> {
+pub fn request_of(schema: &Schema, case: &Value) -> Result<Request, Trouble> {
     let groups = optional_text(case, "groups")?;
-    let top = optional_top(alloc, case)?;
+    let top = optional_top(case)?;
     Ok(Request::new(schema, groups, top)?)
 }
 

@@ -1,17 +1,17 @@
 // The schema of a case.
-use crate::member::{flag, only, optional_list, text, unknown};
+use crate::member::{flag, only, optional_list, text};
 use crate::trouble::Trouble;
 use fts_model::{Field, Kind, Schema, Text};
 use serde_json::Value;
 use std::alloc::{AllocError, Global};
 
-fn kind_named(alloc: Global, name: &str) -> Result<Kind, Trouble> {
+fn kind_named(name: &str) -> Result<Kind, Trouble> {
     match name {
         "text" => Ok(Kind::Text),
         "keyword" => Ok(Kind::Keyword),
         "u64" => Ok(Kind::U64),
         "i64" => Ok(Kind::I64),
-        _ => Err(unknown(alloc, name)),
+        _ => Err(Trouble::UnknownWord),
     }
 }
 
@@ -25,8 +25,8 @@ fn field(alloc: Global, name: &str, kind: Kind, default: bool) -> Result<Field, 
 }
 
 fn field_of(alloc: Global, json: &Value) -> Result<Field, Trouble> {
-    only(alloc, json, &["name", "kind", "default"])?;
-    let kind = kind_named(alloc, text(json, "kind")?)?;
+    only(json, &["name", "kind", "default"])?;
+    let kind = kind_named(text(json, "kind")?)?;
     let default = flag(json, "default")?;
     Ok(field(alloc, text(json, "name")?, kind, default)?)
 }

@@ -16,7 +16,7 @@
 //!   fails. Behind the word `--wrong` each case of a file must differ: such a file shows that the driver sees faults.
 //! - [`text`], [`list`], [`number`] and their like read the members of a case. One that is missing, of another kind
 //!   or empty where it may not be is a [`Trouble`], which fails this case alone. [`only`] refuses every member that the
-//!   driver doesn't know, and [`unknown`] is for a word that it doesn't know.
+//!   driver doesn't know.
 //! - [`fits`] compares: `{"at_most":8}` stands for each number up to 8, and nothing else is loose.
 //! - A [`Refusal`](fts_model::Refusal) is a value like others, as `{"error":"StaleBatch"}`: see [`refused`].
 #![tactic(auto)]
@@ -36,7 +36,7 @@ pub use fields::{fields_of, schema_of};
 pub use judge::{fits, refused};
 pub use member::{
     entry, flag, ids, list, nonempty, number, numbers, only, only_in_case, optional_flag,
-    optional_list, optional_number, optional_text, size, text, unknown,
+    optional_list, optional_number, optional_text, size, text,
 };
 pub use operations::{op_of, term_of};
 pub use trouble::Trouble;

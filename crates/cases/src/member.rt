@@ -1,7 +1,7 @@
 // The members of a case, each read strictly: nothing stands in for one that is missing or of another kind.
 use crate::trouble::Trouble;
 use serde_json::Value;
-use std::alloc::{AllocError, Global};
+use std::alloc::Global;
 
 /// The member of a name, whatever it is.
 pub fn entry<'a>(case: &'a Value, name: &'static str) -> Result<&'a Value, Trouble> {
@@ -100,32 +100,24 @@ pub fn optional_list<'a>(
 }
 
 /// Refuses each member of an object that isn't of these names.
-pub fn only(alloc: Global, object: &Value, names: &[&str]) -> Result<(), Trouble> {
-    only_of(alloc, object, &[], names)
+pub fn only(object: &Value, names: &[&str]) -> Result<(), Trouble> {
+    only_of(object, &[], names)
 }
 
 /// Refuses each member of a case that isn't of these names, or its sentence, its word or what it gives.
-pub fn only_in_case(alloc: Global, case: &Value, names: &[&str]) -> Result<(), Trouble> {
-    only_of(alloc, case, &["case", "do", "gives"], names)
+pub fn only_in_case(case: &Value, names: &[&str]) -> Result<(), Trouble> {
+    only_of(case, &["case", "do", "gives"], names)
 }
 
-fn only_of(alloc: Global, object: &Value, names: &[&str], more: &[&str]) -> Result<(), Trouble> {
+fn only_of(object: &Value, names: &[&str], more: &[&str]) -> Result<(), Trouble> {
     let Value::Object(members) = object else {
         return Err(Trouble::NoObject);
     };
     for (name, _) in members.iter() {
         let name = name.as_str();
-        if !names.contains(&name) && !more.contains(&name) {
-            return Err(Trouble::UnknownMember(String::from_str(alloc, name)?));
+        if !(&*names).contains(&name) && !(&*more).contains(&name) {
+            return Err(Trouble::UnknownMember);
         }
     }
     Ok(())
-}
-
-/// The trouble of a word that the driver doesn't know.
-pub fn unknown(alloc: Global, word: &str) -> Trouble {
-    match String::from_str(alloc, word) {
-        Ok(word) => Trouble::UnknownWord(word),
-        Err(AllocError) => Trouble::Memory,
-    }
 }

@@ -1,5 +1,5 @@
 // The terms and operations of a case.
-use crate::member::{entry, only, text, unknown};
+use crate::member::{entry, only, text};
 use crate::trouble::Trouble;
 use fts_model::{Document, Op, Schema, Term};
 use serde_json::Value;
@@ -7,7 +7,7 @@ use std::alloc::Global;
 
 /// The term of an object `{"field":NAME,"is":VALUE}`.
 pub fn term_of(alloc: Global, schema: &Schema, json: &Value) -> Result<Term, Trouble> {
-    only(alloc, json, &["field", "is"])?;
+    only(json, &["field", "is"])?;
     Ok(Term::new(alloc, schema, text(json, "field")?, entry(json, "is")?)?)
 }
 
@@ -16,16 +16,16 @@ pub fn op_of(alloc: Global, schema: &Schema, json: &Value) -> Result<Op, Trouble
     if let Some(word) = json.as_str() {
         return match word {
             "delete_all" => Ok(Op::DeleteAll),
-            _ => Err(unknown(alloc, word)),
+            _ => Err(Trouble::UnknownWord),
         };
     }
     match json.get("add") {
         Some(document) => {
-            only(alloc, json, &["add"])?;
+            only(json, &["add"])?;
             Ok(Op::Add(Document::from_json(alloc, schema, document)?))
         }
         None => {
-            only(alloc, json, &["delete"])?;
+            only(json, &["delete"])?;
             Ok(Op::Delete(term_of(alloc, schema, entry(json, "delete")?)?))
         }
     }

@@ -4,7 +4,7 @@ use std::alloc::{AllocError, AllocFailed};
 use thiserror::Error;
 
 /// Why a case gave no value.
-#[derive(Debug, Drop, Error)]
+#[derive(Clone, Copy, Debug, Error)]
 pub enum Trouble {
     /// The line is no JSON object.
     #[error("no JSON object")]
@@ -19,11 +19,11 @@ pub enum Trouble {
     #[error("the list {0:?} is empty")]
     Empty(&'static str),
     /// A member that no case of this word has.
-    #[error("a member {0:?} that nothing reads")]
-    UnknownMember(String),
+    #[error("a member that nothing reads")]
+    UnknownMember,
     /// A word that the driver doesn't know.
-    #[error("the word {0:?} is unknown")]
-    UnknownWord(String),
+    #[error("an unknown word")]
+    UnknownWord,
     /// The case can't be tried: what it wants breaks a condition of a call.
     #[error("{0}")]
     Impossible(&'static str),

@@ -23,7 +23,7 @@ fn found<R: Threads + Wait + Sync>(
 {
     let schema = searcher.snapshot().schema();
     let query = parse(alloc, schema, text(step, "query")?)?;
-    let request = request_of(alloc, schema, step)?;
+    let request = request_of(schema, step)?;
     if !request.fits(schema) {
         return Err(Trouble::Impossible("a request of another schema"));
     }
@@ -37,7 +37,7 @@ fn answered<R: Threads + Wait + Sync>(
     searcher: &Searcher,
     step: &Value,
 ) -> Result<Value, Trouble> {
-    only(alloc, step, &["do", "searcher", "query", "groups", "top"])?;
+    only(step, &["do", "searcher", "query", "groups", "top"])?;
     let one = answer_value(alloc, &found(rt, alloc, searcher, step, 1)?.answer)?;
     let three = answer_value(alloc, &found(rt, alloc, searcher, step, 3)?.answer)?;
     if one == three {
@@ -53,7 +53,7 @@ fn openings<R: Threads + Wait + Sync>(
     searcher: &Searcher,
     step: &Value,
 ) -> Result<Value, Trouble> {
-    only(alloc, step, &["do", "searcher", "query"])?;
+    only(step, &["do", "searcher", "query"])?;
     Ok(Value::from(found(rt, alloc, searcher, step, 1)?.openings))
 }
 
@@ -82,7 +82,7 @@ pub(crate) fn asked<R: AllocGlobal + Threads + Wait + Sync>(
 ) -> Result<Option<Value>, Trouble> {
     let alloc = rt.alloc();
     if word == "keep" {
-        only(alloc, step, &["do"])?;
+        only(step, &["do"])?;
         let searcher = writer.searcher()?;
         let stamp = searcher.commit_stamp();
         made.searchers.push(searcher)?;

@@ -16,20 +16,20 @@ use std::thread::Threads;
 use test_writers::batch_of;
 
 /// The cut of a step, `{"runs":N}` or `{"deal":N}`, and segments of one add without one.
-fn cut_of(alloc: Global, step: &Value) -> Result<Cut, Trouble>
+fn cut_of(step: &Value) -> Result<Cut, Trouble>
     ensures { IfOk result IsCut }
 {
     let Some(cut) = step.get("cut") else {
         return Ok(Cut::Runs(1));
     };
     if cut.get("deal").is_some() {
-        only(alloc, cut, &["deal"])?;
+        only(cut, &["deal"])?;
         return match size(cut, "deal")? {
             builders @ 1..=64 => Ok(Cut::Deal(builders)),
             _ => Err(Trouble::Impossible("a number of builders that isn't one of 1 to 64")),
         };
     }
-    only(alloc, cut, &["runs"])?;
+    only(cut, &["runs"])?;
     match size(cut, "runs")? {
         adds @ 1..=65_536 => Ok(Cut::Runs(adds)),
         _ => Err(Trouble::Impossible("a number of adds that isn't one of 1 to 65,536")),
@@ -66,7 +66,7 @@ fn gather(
 ) -> Result<Value, Trouble>
     ensures { Follows writer.old.front.snapshot writer.new.front.snapshot }
 {
-    only(alloc, step, &["do", "ops", "schema"])?;
+    only(step, &["do", "ops", "schema"])?;
     let batch = gathered(alloc, writer, step)?;
     let count = batch.ops().len();
     made.batches.push(batch)?;
@@ -99,8 +99,8 @@ fn commit<R: Threads + Wait + Sync>(
 ) -> Result<Value, Trouble>
     ensures { Follows writer.old.front.snapshot writer.new.front.snapshot }
 {
-    only(alloc, step, &["do", "ops", "cut"])?;
-    let cut = cut_of(alloc, step)?;
+    only(step, &["do", "ops", "cut"])?;
+    let cut = cut_of(step)?;
     let batch = gathered(alloc, writer, step)?;
     committed(rt, alloc, writer, &batch, cut)
 }
@@ -115,8 +115,8 @@ fn commit_batch<R: Threads + Wait + Sync>(
 ) -> Result<Value, Trouble>
     ensures { Follows writer.old.front.snapshot writer.new.front.snapshot }
 {
-    only(alloc, step, &["do", "batch", "cut"])?;
-    let cut = cut_of(alloc, step)?;
+    only(step, &["do", "batch", "cut"])?;
+    let cut = cut_of(step)?;
     match made.batches.get(size(step, "batch")?) {
         Some(batch) => committed(rt, alloc, writer, batch, cut),
         None => Err(Trouble::Impossible("no such batch")),
@@ -127,7 +127,7 @@ fn commit_batch<R: Threads + Wait + Sync>(
 fn open_round(alloc: Global, writer: &mut Writer, step: &Value) -> Result<Value, Trouble>
     ensures { Follows writer.old.front.snapshot writer.new.front.snapshot }
 {
-    only(alloc, step, &["do"])?;
+    only(step, &["do"])?;
     match writer.open_round(alloc, 1, 1) {
         Ok(_) => Ok(Value::Bool(true)),
         Err(refusal) => Err(Trouble::from(refusal)),
@@ -135,10 +135,10 @@ fn open_round(alloc: Global, writer: &mut Writer, step: &Value) -> Result<Value,
 }
 
 /// Gives up the open round, and gives the last commit's stamp.
-fn abandon(alloc: Global, writer: &mut Writer, step: &Value) -> Result<Value, Trouble>
+fn abandon(writer: &mut Writer, step: &Value) -> Result<Value, Trouble>
     ensures { Follows writer.old.front.snapshot writer.new.front.snapshot }
 {
-    only(alloc, step, &["do"])?;
+    only(step, &["do"])?;
     Ok(Value::from(writer.abandon()))
 }
 
@@ -151,7 +151,7 @@ fn merge<R: Wait>(
 ) -> Result<Value, Trouble>
     ensures { Follows writer.old.front.snapshot writer.new.front.snapshot }
 {
-    only(alloc, step, &["do", "ids"])?;
+    only(step, &["do", "ids"])?;
     match writer.merge(rt, alloc, &ids(alloc, step, "ids")?) {
         Ok(()) => Ok(Value::Null),
         Err(refusal) => Err(Trouble::from(refusal)),
@@ -174,7 +174,7 @@ pub(crate) fn changed<R: AllocGlobal + Threads + Wait + Sync>(
         "gather" => Ok(Some(gather(alloc, writer, made, step)?)),
         "commit_batch" => Ok(Some(commit_batch(rt, alloc, writer, made, step)?)),
         "open_round" => Ok(Some(open_round(alloc, writer, step)?)),
-        "abandon" => Ok(Some(abandon(alloc, writer, step)?)),
+        "abandon" => Ok(Some(abandon(writer, step)?)),
         "merge" => Ok(Some(merge(rt, alloc, writer, step)?)),
         _ => Ok(None),
     }

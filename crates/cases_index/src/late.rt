@@ -31,7 +31,7 @@ fn merge_later(
     requires { AllFit writer.now.front.snapshot late.old.items }
     ensures { AllFit writer.now.front.snapshot late.new.items }
 {
-    only(alloc, step, &["do", "ids"])?;
+    only(step, &["do", "ids"])?;
     let merged = merged(alloc, writer, &ids(alloc, step, "ids")?)?;
     late.push(merged)?;
     Ok(Value::Null)
@@ -48,7 +48,7 @@ fn end<R: Wait>(
     requires { AllFit writer.old.front.snapshot late.old.items }
     ensures { AllFit writer.new.front.snapshot late.new.items }
 {
-    only(alloc, step, &["do", "merge"])?;
+    only(step, &["do", "merge"])?;
     let which = size(step, "merge")?;
     if which >= late.len() {
         return Err(Trouble::Impossible("no such merge"));

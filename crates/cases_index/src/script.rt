@@ -1,5 +1,5 @@
 // The script of a case, and the replies that it should have.
-use cases::{Trouble, nonempty, only, text, unknown};
+use cases::{Trouble, nonempty, only, text};
 use serde_json::Value;
 use std::alloc::{AllocError, Global};
 use std::fs;
@@ -154,11 +154,7 @@ fn file_of<R: AllocGlobal + Files>(rt: &R, name: &str) -> Result<String, Trouble
 
 /// The script of a file, and the replies of another.
 fn of_files<R: AllocGlobal + Files>(rt: &R, case: &Value) -> Result<Script, Trouble> {
-    only(
-        rt.alloc(),
-        case,
-        &["case", "do", "script", "replies", "gives"],
-    )?;
+    only(case, &["case", "do", "script", "replies", "gives"])?;
     Ok(Script {
         over_segments: true,
         input: file_of(rt, text(case, "script")?)?,
@@ -173,7 +169,7 @@ fn of_lines(
     before: &[(&str, &str)],
     over_segments: bool,
 ) -> Result<Script, Trouble> {
-    only(alloc, case, &["case", "do", "lines", "gives"])?;
+    only(case, &["case", "do", "lines", "gives"])?;
     let mut script = Script {
         over_segments,
         input: String::new(alloc),
@@ -197,6 +193,6 @@ pub(crate) fn script_of<R: AllocGlobal + Files>(rt: &R, case: &Value) -> Result<
         "lines" => of_lines(alloc, case, &[], true),
         "lines under a schema" => of_lines(alloc, case, &[(SCHEMA, "{\"fields\":4}")], true),
         "lines without an index" => of_lines(alloc, case, &[], false),
-        other => Err(unknown(alloc, other)),
+        _ => Err(Trouble::UnknownWord),
     }
 }

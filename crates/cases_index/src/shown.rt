@@ -55,7 +55,7 @@ pub(crate) fn shown(
     if !["stamp", "segments", "stamps", "plan"].contains(&word) {
         return Ok(None);
     }
-    only(alloc, step, &["do"])?;
+    only(step, &["do"])?;
     match word {
         "stamp" => Ok(Some(Value::from(writer.commit_stamp()))),
         "segments" => Ok(Some(segments(alloc, writer)?)),

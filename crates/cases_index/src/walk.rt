@@ -5,7 +5,7 @@ use crate::asked::asked;
 use crate::changed::changed;
 use crate::late::ended;
 use crate::shown::shown;
-use cases::{Trouble, nonempty, only, refused, schema_of, text, unknown};
+use cases::{Trouble, nonempty, only, refused, schema_of, text};
 use fts_index::{Batch, MergedSegment, Searcher, Writer};
 use serde_json::Value;
 use std::alloc::Global;
@@ -44,7 +44,7 @@ fn stepped<R: AllocGlobal + Threads + Wait + Sync>(
     }
     match shown(rt.alloc(), writer, word, step)? {
         Some(given) => Ok(given),
-        None => Err(unknown(rt.alloc(), word)),
+        None => Err(Trouble::UnknownWord),
     }
 }
 
@@ -82,7 +82,7 @@ pub(crate) fn walk<R: AllocGlobal + Threads + Wait + Sync>(
     case: &Value,
 ) -> Result<Value, Trouble> {
     let alloc = rt.alloc();
-    only(alloc, case, &["case", "do", "gives", "schema", "steps"])?;
+    only(case, &["case", "do", "gives", "schema", "steps"])?;
     let schema = schema_of(alloc, case)?;
     let steps = nonempty(case, "steps")?;
     let mut writer = Writer::new(rt, alloc, &schema)?;

@@ -3,7 +3,6 @@ use crate::script::Script;
 use cases::Trouble;
 use fts_engine::IndexEngine;
 use fts_script::{Cut, Engine, ListEngine, Merge, Options, Plain, Streams, run_script};
-use std::alloc::Global;
 use std::sync::Wait;
 use std::thread::Threads;
 

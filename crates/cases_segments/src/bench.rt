@@ -6,7 +6,7 @@ use cases::{
     schema_of,
 };
 use fts_bits::Bits;
-use fts_model::{Document, Schema};
+use fts_model::{Document, Schema, Stamped};
 use fts_segment::{Builder, Segment};
 use serde_json::Value;
 use std::alloc::Global;
@@ -18,94 +18,80 @@ pub(crate) struct Bench {
     pub(crate) live: Bits,
 }
 
-/// Adds a document, if it fits.
-fn add(
-    builder: &mut Builder,
-    schema: &Schema,
-    stamp: u64,
-    document: &Document,
-) -> Result<(), Trouble>
-    requires { builder.old.segment.schema ≡ schema.now }
-    ensures { builder.new.segment.schema ≡ schema.now }
-{
-    if !document.fits(schema) || builder.docs() >= 1_048_576 {
-        return Err(Trouble::Impossible("a document that can't be added"));
-    }
-    Ok(builder.add(stamp, document)?)
-}
-
-/// Adds each document of a list. Its stamp is that of its place in `stamps`, and its number and one without these.
-fn add_all(
+/// Adds the documents of a list to those that a case has. The stamp of each is that of its place in `stamps`, and its
+/// number and one without these.
+fn push_all(
     alloc: Global,
-    builder: &mut Builder,
+    found: &mut Vec<Stamped<Document>>,
     schema: &Schema,
     stamps: &[u32],
     documents: &[Value],
-) -> Result<(), Trouble>
-    requires { builder.old.segment.schema ≡ schema.now }
-    ensures { builder.new.segment.schema ≡ schema.now }
-{
+) -> Result<(), Trouble> {
     for json in documents {
-        let document = Document::from_json(alloc, schema, json)?;
-        let docs = builder.docs();
-        let stamp = match stamps.get(docs) {
+        let value = Document::from_json(alloc, schema, json)?;
+        let stamp = match stamps.get(found.len()) {
             Some(stamp) => u64::from(*stamp),
-            None => (docs as u64).saturating_add(1),
+            None => (found.len() as u64).saturating_add(1),
         };
-        add(builder, schema, stamp, &document)?;
+        found.push(Stamped { stamp, value })?;
     }
     Ok(())
 }
 
 /// How often a run has its documents, and these.
-fn run_of(alloc: Global, run: &Value) -> Result<(u64, &[Value]), Trouble> {
-    only(alloc, run, &["times", "of"])?;
+fn run_of(run: &Value) -> Result<(u64, &[Value]), Trouble> {
+    only(run, &["times", "of"])?;
     Ok((number(run, "times")?, nonempty(run, "of")?))
 }
 
-/// Adds the documents of a run so often as it says.
-fn add_run(
+/// The documents of runs, each so often as its run says.
+fn documents_of_runs(
     alloc: Global,
-    builder: &mut Builder,
-    schema: &Schema,
-    run: &Value,
-) -> Result<(), Trouble>
-    requires { builder.old.segment.schema ≡ schema.now }
-    ensures { builder.new.segment.schema ≡ schema.now }
-{
-    let (times, documents) = run_of(alloc, run)?;
-    for _ in 0..times {
-        add_all(alloc, builder, schema, &[], documents)?;
-    }
-    Ok(())
-}
-
-fn add_runs(
-    alloc: Global,
-    builder: &mut Builder,
     schema: &Schema,
     runs: &[Value],
-) -> Result<(), Trouble>
-    requires { builder.old.segment.schema ≡ schema.now }
-    ensures { builder.new.segment.schema ≡ schema.now }
-{
+) -> Result<Vec<Stamped<Document>>, Trouble> {
+    let mut found = Vec::new(alloc);
     for run in runs {
-        add_run(alloc, builder, schema, run)?;
+        let (times, documents) = run_of(run)?;
+        for _ in 0..times {
+            push_all(alloc, &mut found, schema, &[], documents)?;
+        }
     }
-    Ok(())
+    Ok(found)
 }
 
-/// Adds what a case has under `runs`, or else the list under `documents`, at the stamps of its `stamps`.
-fn fill(alloc: Global, builder: &mut Builder, schema: &Schema, case: &Value) -> Result<(), Trouble>
-    requires { builder.old.segment.schema ≡ schema.now }
-{
+/// What a case has under `runs`, or else the list under `documents`, at the stamps of its `stamps`.
+fn documents_of(
+    alloc: Global,
+    schema: &Schema,
+    case: &Value,
+) -> Result<Vec<Stamped<Document>>, Trouble> {
     if let Some(runs) = optional_list(case, "runs")? {
-        only_in_case(alloc, case, &["schema", "merging", "runs"])?;
-        return add_runs(alloc, builder, schema, runs);
+        only_in_case(case, &["schema", "merging", "runs"])?;
+        return documents_of_runs(alloc, schema, runs);
     }
     let documents = list(case, "documents")?;
     let stamps = stamps_of(alloc, case, documents.len())?;
-    add_all(alloc, builder, schema, &stamps, documents)
+    let mut found = Vec::new(alloc);
+    push_all(alloc, &mut found, schema, &stamps, documents)?;
+    Ok(found)
+}
+
+/// Adds each document that fits.
+fn add_all(
+    builder: &mut Builder,
+    schema: &Schema,
+    documents: &[Stamped<Document>],
+) -> Result<(), Trouble>
+    requires { builder.old.segment.schema ≡ schema.now }
+{
+    for document in documents {
+        if !document.value.fits(schema) || builder.docs() >= 1_048_576 {
+            return Err(Trouble::Impossible("a document that can't be added"));
+        }
+        builder.add(document.stamp, &document.value)?;
+    }
+    Ok(())
 }
 
 /// The stamps of so many documents of a case, and none where it has no `stamps`.
@@ -133,8 +119,9 @@ fn builder_of(alloc: Global, case: &Value, schema: &Schema) -> Result<Builder, T
 /// The segment of a case's documents.
 fn segment_of(alloc: Global, case: &Value) -> Result<Segment, Trouble> {
     let schema = schema_of(alloc, case)?;
+    let documents = documents_of(alloc, &schema, case)?;
     let mut builder = builder_of(alloc, case, &schema)?;
-    fill(alloc, &mut builder, &schema, case)?;
+    add_all(&mut builder, &schema, &documents)?;
     match builder.finish(alloc) {
         Ok(segment) => Ok(segment),
         Err((_, refusal)) => Err(Trouble::from(refusal)),

@@ -35,7 +35,7 @@ fn parts_of(
 /// What is asked for beside the count, under the schema of the first segment.
 fn asked(alloc: Global, case: &Value, made: &[Bench]) -> Result<Request, Trouble> {
     match made.first() {
-        Some(bench) => request_of(alloc, bench.segment.schema(), case),
+        Some(bench) => request_of(bench.segment.schema(), case),
         None => Err(Trouble::Impossible("no documents were made")),
     }
 }

@@ -23,7 +23,7 @@ fn value_of(alloc: Global, json: &Value) -> Result<FieldValue, Trouble> {
 /// The term of an object that has the number of a field beside a value, whether it fits the schema or not.
 fn term_of(alloc: Global, case: &Value) -> Result<Term, Trouble> {
     let json = entry(case, "term")?;
-    only(alloc, json, &["field", "text", "u64", "i64"])?;
+    only(json, &["field", "text", "u64", "i64"])?;
     let field = size(json, "field")?;
     let value = value_of(alloc, json)?;
     Ok(Term { field, value })

@@ -15,7 +15,7 @@ mod texts;
 mod walks;
 
 use bench::{Bench, cleared, made};
-use cases::{Driver, Trouble, only_in_case, run, text, unknown};
+use cases::{Driver, Trouble, only_in_case, run, text};
 use serde_json::{Value, json};
 use std::alloc::Global;
 use std::io;
@@ -73,13 +73,13 @@ const MEMBERS: [(&str, &[&str]); 41] = [
 ];
 
 /// Refuses a word that isn't there, and a member that its cases don't have.
-fn check_members(alloc: Global, word: &str, case: &Value) -> Result<(), Trouble> {
+fn check_members(word: &str, case: &Value) -> Result<(), Trouble> {
     for (name, members) in &MEMBERS {
         if *name == word {
-            return only_in_case(alloc, case, members);
+            return only_in_case(case, members);
         }
     }
-    Err(unknown(alloc, word))
+    Err(Trouble::UnknownWord)
 }
 
 /// The segments that earlier cases of the file made.
@@ -148,7 +148,7 @@ impl Driver for Segments {
 
     fn give(&mut self, alloc: Global, case: &Value) -> Result<Value, Trouble> {
         let word = text(case, "do")?;
-        check_members(alloc, word, case)?;
+        check_members(word, case)?;
         if word == "make" || word == "and_make" {
             let bench = made(alloc, case)?;
             let docs = bench.segment.docs();
@@ -166,7 +166,7 @@ impl Driver for Segments {
         }
         match looked_at(alloc, word, case, &self.made)? {
             Some(given) => Ok(given),
-            None => Err(unknown(alloc, word)),
+            None => Err(Trouble::UnknownWord),
         }
     }
 }

@@ -11,7 +11,7 @@ use std::alloc::{AllocError, Global};
 
 /// The operation of an object `{"stamp":STAMP,"op":OPERATION}`.
 fn stamped_op(alloc: Global, schema: &Schema, item: &Value) -> Result<Stamped<Op>, Trouble> {
-    only(alloc, item, &["stamp", "op"])?;
+    only(item, &["stamp", "op"])?;
     let stamp = number(item, "stamp")?;
     let value = op_of(alloc, schema, entry(item, "op")?)?;
     Ok(Stamped { stamp, value })

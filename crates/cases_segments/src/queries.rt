@@ -47,7 +47,7 @@ fn scanned(alloc: Global, case: &Value) -> Result<Value, Trouble> {
     let schema = schema_of(alloc, case)?;
     let documents = stamped(alloc, &schema, nonempty(case, "documents")?)?;
     let query = parse(alloc, &schema, text_of(alloc, case, "query")?.as_str())?;
-    let request = request_of(alloc, &schema, case)?;
+    let request = request_of(&schema, case)?;
     answer_value(
         alloc,
         &answer(alloc, &schema, &query, &request, &documents)?,
@@ -78,7 +78,7 @@ fn with_pattern(alloc: Global, case: &Value) -> Result<Value, Trouble> {
     let schema = schema_of(alloc, case)?;
     let documents = stamped(alloc, &schema, nonempty(case, "documents")?)?;
     let pattern = pattern_of(alloc, nonempty(case, "pattern")?)?;
-    let request = request_of(alloc, &schema, case)?;
+    let request = request_of(&schema, case)?;
     let query = Query::Phrase { field: 0, pattern };
     if !query.fits(&schema) {
         return Err(Trouble::Impossible("a phrase of another schema"));
@@ -90,7 +90,7 @@ fn with_pattern(alloc: Global, case: &Value) -> Result<Value, Trouble> {
 /// Whether what is asked by values fits the schema.
 fn request(alloc: Global, case: &Value) -> Result<Value, Trouble> {
     let schema = schema_of(alloc, case)?;
-    let request = request_of(alloc, &schema, case)?;
+    let request = request_of(&schema, case)?;
     Ok(Value::Bool(request.fits(&schema)))
 }
 

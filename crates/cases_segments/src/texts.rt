@@ -5,11 +5,11 @@ use serde_json::{Value, json};
 use std::alloc::Global;
 
 /// Puts a piece of a text behind it: a text, or one that stands so many times.
-fn push_piece(alloc: Global, out: &mut String, piece: &Value) -> Result<(), Trouble> {
+fn push_piece(out: &mut String, piece: &Value) -> Result<(), Trouble> {
     if let Some(piece) = piece.as_str() {
         return Ok(out.push_str(piece)?);
     }
-    only(alloc, piece, &["times", "of"])?;
+    only(piece, &["times", "of"])?;
     let of = text(piece, "of")?;
     for _ in 0..number(piece, "times")? {
         out.push_str(of)?;
@@ -25,7 +25,7 @@ pub(crate) fn text_of(alloc: Global, case: &Value, name: &'static str) -> Result
         return Ok(out);
     }
     for piece in nonempty(case, name)? {
-        push_piece(alloc, &mut out, piece)?;
+        push_piece(&mut out, piece)?;
     }
     Ok(out)
 }

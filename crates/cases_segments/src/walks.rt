@@ -2,7 +2,7 @@
 use crate::bench::Bench;
 use crate::matches::cursor;
 use crate::texts::text_of;
-use cases::{Trouble, documents, nonempty, number, only, some_number, unknown};
+use cases::{Trouble, documents, nonempty, number, only, some_number};
 use fts_cursor::{Cursor, DocSet};
 use serde_json::Value;
 use std::alloc::Global;
@@ -33,19 +33,19 @@ fn stepped(alloc: Global, cursor: &mut Cursor, word: &str) -> Result<Option<Valu
             let count = cursor.fill(&mut out);
             Ok(Some(documents(alloc, out.get(..count).unwrap_or(&[]))?))
         }
-        _ => Err(unknown(alloc, word)),
+        _ => Err(Trouble::UnknownWord),
     }
 }
 
 /// What a step with a number gives: `{"seek":TARGET}` nothing, `{"count":MOST}` how many documents remain up to MOST.
-fn moved(alloc: Global, cursor: &mut Cursor, step: &Value) -> Result<Option<Value>, Trouble> {
+fn moved(cursor: &mut Cursor, step: &Value) -> Result<Option<Value>, Trouble> {
     if step.get("seek").is_some() {
-        only(alloc, step, &["seek"])?;
+        only(step, &["seek"])?;
         let target = u32::try_from(number(step, "seek")?).map_err(|_| Trouble::WrongKind("seek"))?;
         cursor.seek(target);
         return Ok(None);
     }
-    only(alloc, step, &["count"])?;
+    only(step, &["count"])?;
     Ok(Some(Value::from(counted(cursor, number(step, "count")?))))
 }
 
@@ -56,7 +56,7 @@ fn walked(alloc: Global, case: &Value, bench: &Bench) -> Result<Value, Trouble> 
     for step in nonempty(case, "steps")? {
         let given = match step.as_str() {
             Some(word) => stepped(alloc, &mut cursor, word)?,
-            None => moved(alloc, &mut cursor, step)?,
+            None => moved(&mut cursor, step)?,
         };
         if let Some(given) = given {
             list.push(given)?;

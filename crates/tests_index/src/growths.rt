@@ -1,5 +1,5 @@
 // Whichever growth is refused to a commit, a reader or a searcher, all is as before, and a second try succeeds.
-ghost use Rattle.std.specs.Prelude.{◌≡◌, IfOk};
+ghost use Rattle.std.specs.Prelude.{◌≡◌};
 
 use fts_index::{Batch, CommitSeen, Cut, Reader, Writer};
 use fts_model::{Refusal, Stamp};
@@ -7,74 +7,92 @@ use fts_pool::Open;
 use std::alloc::Global;
 use std::process::Abort;
 use std::sync::Wait;
-use std::test::Fail;
 use std::thread::Threads;
-use test_writers::{batch, count, schema, seen};
+use test_writers::{batch, count, seen, writer};
 
-/// Commits a batch in segments of one add, with two threads.
+/// Whether this is seen of a writer, and so many documents are found.
+fn shows<R: Threads + Wait + Sync + Abort>(
+    rt: &R,
+    alloc: Global,
+    writer: &Writer,
+    wanted: (&str, u64),
+) {
+    let searcher = writer.searcher().expect(rt, "a searcher");
+    let found = count(rt, alloc, &searcher, "*").expect(rt, "a count");
+    let seen = seen(alloc, writer).expect(rt, "a list");
+    assert_eq!(rt; (seen.as_str(), found), wanted);
+}
+
+/// Commits a batch in segments of one add, with two threads, behind a commit of two documents.
 fn commit_again<R: Threads + Wait + Sync + Abort>(
     rt: &R,
     alloc: Global,
     writer: &mut Writer,
     batch: &Batch,
-) -> Result<CommitSeen, Refusal>
-    ensures { IfOk result (λ seen. seen.of ≡ writer.old.front.seen.of) }
+) -> CommitSeen
+    ensures { result.of ≡ writer.old.front.seen.of }
 {
-    let before = seen(alloc, writer)?;
     match writer.commit(rt, alloc, batch, Cut::Runs(1), 2, &Open) {
-        Ok(committed) => Ok(committed.seen),
+        Ok(committed) => committed.seen,
         Err(refusal) => {
             assert_eq!(rt; refusal, Refusal::Memory);
-            assert_eq!(rt; seen(alloc, writer)?, before);
-            assert_eq!(rt; count(rt, alloc, &writer.searcher()?, "*")?, 2);
-            let committed = writer.commit(rt, alloc, batch, Cut::Runs(1), 2, &Open)?;
-            Ok(committed.seen)
+            shows(rt, alloc, writer, ("3: (0,1,1) (1,1,1) 1p 2q", 2));
+            let committed = writer.commit(rt, alloc, batch, Cut::Runs(1), 2, &Open);
+            committed.expect(rt, "a commit").seen
         }
     }
 }
 
 /// A reader of a writer.
-fn reader(rt: &impl Abort, writer: &mut Writer) -> Result<Reader, Refusal>
+fn reader(rt: &impl Abort, writer: &mut Writer) -> Reader
     ensures same { writer.new ≡ writer.old }
-    ensures reader { IfOk result (λ r. r.of ≡ writer.old.front.seen.of) }
+    ensures reader { result.of ≡ writer.old.front.seen.of }
 {
     match writer.reader() {
-        Ok(reader) => Ok(reader),
+        Ok(reader) => reader,
         Err(refusal) => {
             assert_eq!(rt; refusal, Refusal::Memory);
-            writer.reader()
+            writer.reader().expect(rt, "a reader")
         }
     }
 }
 
 /// The stamp that a reader finds.
-fn stamp_found(rt: &impl Abort, reader: &mut Reader) -> Result<Stamp, Refusal>
+fn stamp_found(rt: &impl Abort, reader: &mut Reader) -> Stamp
     ensures { reader.new.of ≡ reader.old.of }
 {
     match reader.searcher() {
-        Ok(searcher) => Ok(searcher.commit_stamp()),
+        Ok(searcher) => searcher.commit_stamp(),
         Err(refusal) => {
             assert_eq!(rt; refusal, Refusal::Memory);
-            Ok(reader.searcher()?.commit_stamp())
+            reader.searcher().expect(rt, "a searcher").commit_stamp()
         }
     }
 }
 
-/// Tells a reader of a commit.
-fn tell(
-    rt: &impl Abort,
-    reader: &mut Reader,
-    seen: &CommitSeen,
-    before: Stamp,
-) -> Result<(), Refusal>
+/// Whether a reader finds this stamp.
+fn finds(rt: &impl Abort, reader: &mut Reader, stamp: Stamp)
+    ensures { reader.new.of ≡ reader.old.of }
+{
+    assert_eq!(rt; stamp_found(rt, reader), stamp);
+}
+
+/// Tells a reader of a commit, which finds the one before where that is refused.
+fn tell(rt: &impl Abort, reader: &mut Reader, seen: &CommitSeen, before: Stamp)
     requires { seen.now.of ≡ reader.old.of }
 {
     if let Err(refusal) = reader.told(seen) {
         assert_eq!(rt; refusal, Refusal::Memory);
-        assert_eq!(rt; stamp_found(rt, reader)?, before);
-        reader.told(seen)?;
+        finds(rt, reader, before);
+        reader.told(seen).expect(rt, "a commit that is told");
     }
-    Ok(())
+}
+
+/// Commits two documents.
+fn commit_two<R: Threads + Wait + Sync + Abort>(rt: &R, alloc: Global, writer: &mut Writer) {
+    let batch = batch(alloc, writer, &["+p", "+q"]).expect(rt, "a batch");
+    let committed = writer.commit(rt, alloc, &batch, Cut::Runs(1), 2, &Open);
+    committed.expect(rt, "a commit");
 }
 
 /// Commits a delete and two documents without values, and answers a reader that knows the commit before.
@@ -82,31 +100,29 @@ fn committed<R: Threads + Wait + Sync + Abort>(
     rt: &R,
     alloc: Global,
     writer: &mut Writer,
-) -> Result<(Reader, CommitSeen), Refusal>
-    ensures { IfOk result (λ r. r.1.of ≡ r.0.of) }
+) -> (Reader, CommitSeen)
+    ensures { result.1.of ≡ result.0.of }
 {
-    let batch_of_two = batch(alloc, writer, &["+p", "+q"])?;
-    writer.commit(rt, alloc, &batch_of_two, Cut::Runs(1), 2, &Open)?;
-    let reader = reader(rt, writer)?;
-    let batch = batch(alloc, writer, &["-p", "+", "+"])?;
-    let told = commit_again(rt, alloc, writer, &batch)?;
-    assert_eq!(rt;
-        seen(alloc, writer)?.as_str(),
-        "7: (1,1,1) (2,1,1) (3,1,1) 2q 5 6"
-    );
-    assert_eq!(rt; count(rt, alloc, &writer.searcher()?, "*")?, 3);
-    Ok((reader, told))
+    commit_two(rt, alloc, writer);
+    let reader = reader(rt, writer);
+    let batch = batch(alloc, writer, &["-p", "+", "+"]).expect(rt, "a batch");
+    let seen = commit_again(rt, alloc, writer, &batch);
+    (reader, seen)
 }
 
 #[test]
-fn a_refused_growth_can_be_tried_again(rt: HostRuntime) -> Result<(), Fail> {
+fn a_refused_growth_can_be_tried_again(rt: HostRuntime) {
     let alloc = rt.alloc();
-    let mut writer = Writer::new(&rt, alloc, &schema(alloc)?)?;
-    let outcome = committed(&rt, alloc, &mut writer);
+    let mut writer = writer(&rt, alloc).expect(&rt, "a writer");
+    let (mut reader, seen) = committed(&rt, alloc, &mut writer);
+    shows(
+        &rt,
+        alloc,
+        &writer,
+        ("7: (1,1,1) (2,1,1) (3,1,1) 2q 5 6", 3),
+    );
     writer.close(&rt);
-    let (mut reader, seen) = outcome?;
-    assert_eq!(rt; stamp_found(&rt, &mut reader)?, 3);
-    tell(&rt, &mut reader, &seen, 3)?;
-    assert_eq!(rt; stamp_found(&rt, &mut reader)?, 7);
-    Ok(())
+    finds(&rt, &mut reader, 3);
+    tell(&rt, &mut reader, &seen, 3);
+    finds(&rt, &mut reader, 7);
 }

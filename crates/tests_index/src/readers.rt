@@ -1,6 +1,6 @@
 // Readers in threads beside a writer, and the places for them. The c-th commit adds one document, in a segment of
 // its own, and has stamp 2c.
-ghost use Rattle.std.specs.Prelude.{◌≡◌, IfOk};
+ghost use Rattle.std.specs.Prelude.{◌≡◌};
 
 use fts_index::{CommitSeen, Cut, Reader, Writer};
 use fts_model::{Refusal, Stamp};
@@ -9,106 +9,100 @@ use std::alloc::Global;
 use std::process::Abort;
 use std::sync::Wait;
 use std::sync::atomic::{AtomicU64, Ordering};
-use std::test::Fail;
 use std::thread::{Threads, join, yield_now};
-use test_writers::{batch, count, schema};
+use test_writers::{batch, count, writer};
 
-fn commit<R: Threads + Wait + Sync, G: Gate>(
+fn commit<R: Threads + Wait + Sync + Abort, G: Gate>(
     rt: &R,
     alloc: Global,
     writer: &mut Writer,
     gate: &G,
-) -> Result<CommitSeen, Refusal>
+) -> CommitSeen
     ensures of { writer.new.front.seen.of ≡ writer.old.front.seen.of }
-    ensures seen { IfOk result (λ seen. seen.of ≡ writer.old.front.seen.of) }
+    ensures seen { result.of ≡ writer.old.front.seen.of }
 {
-    let batch = batch(alloc, writer, &["+x"])?;
-    let committed = writer.commit(rt, alloc, &batch, Cut::Runs(1), 2, gate)?;
-    Ok(committed.seen)
+    let batch = batch(alloc, writer, &["+x"]).expect(rt, "a batch");
+    let committed = writer.commit(rt, alloc, &batch, Cut::Runs(1), 2, gate);
+    committed.expect(rt, "a commit").seen
 }
 
-fn commit_all<R: Threads + Wait + Sync>(
-    rt: &R,
-    alloc: Global,
-    writer: &mut Writer,
-) -> Result<(), Refusal> {
+fn commit_all<R: Threads + Wait + Sync + Abort>(rt: &R, alloc: Global, writer: &mut Writer) {
     for _ in 0..100 {
-        commit(rt, alloc, writer, &Open)?;
+        drop(commit(rt, alloc, writer, &Open));
     }
-    Ok(())
 }
 
 // The stamp of a searcher, if it is that of a commit with so many documents.
-fn stamp_found<R: Threads + Wait + Sync>(
+fn stamp_found<R: Threads + Wait + Sync + Abort>(
     rt: &R,
     alloc: Global,
     reader: &mut Reader,
-) -> Result<Option<Stamp>, Refusal>
+) -> Option<Stamp>
     ensures { reader.new.of ≡ reader.old.of }
 {
-    let searcher = reader.searcher()?;
+    let searcher = reader.searcher().expect(rt, "a searcher");
     let stamp = searcher.commit_stamp();
-    let found = count(rt, alloc, &searcher, "*")?;
-    Ok((stamp % 2 == 0 && stamp / 2 == found).then_some(stamp))
+    let found = count(rt, alloc, &searcher, "*").expect(rt, "a count");
+    (stamp % 2 == 0 && stamp / 2 == found).then_some(stamp)
+}
+
+// Whether a reader finds this stamp.
+fn finds<R: Threads + Wait + Sync + Abort>(rt: &R, alloc: Global, reader: &mut Reader, stamp: Stamp)
+    ensures { reader.new.of ≡ reader.old.of }
+{
+    assert_eq!(rt; stamp_found(rt, alloc, reader), Some(stamp));
 }
 
 // True if each of 1,000 searchers is of a commit, and none is older than the one before.
-fn search_all<R: Threads + Wait + Sync>(
+fn search_all<R: Threads + Wait + Sync + Abort>(
     rt: &R,
     alloc: Global,
     reader: &mut Reader,
-) -> Result<bool, Refusal> {
+) -> bool {
     let mut newest = 0;
     for _ in 0..1000 {
-        match stamp_found(rt, alloc, reader)? {
+        match stamp_found(rt, alloc, reader) {
             Some(stamp) if newest <= stamp => newest = stamp,
-            _ => return Ok(false),
+            _ => return false,
         }
     }
-    Ok(true)
+    true
 }
 
-// Commits a hundred times in one thread, and searches in two others: whether all went well.
-fn commit_and_search<R: Threads + Wait + Sync>(
+// Commits a hundred times in one thread, and searches in two others: whether both found what they should.
+fn commit_and_search<R: Threads + Wait + Sync + Abort>(
     rt: &R,
     alloc: Global,
     writer: &mut Writer,
     first: &mut Reader,
     second: &mut Reader,
 ) -> bool {
-    let (committed, (first, second)) = join(
+    let (_, (first, second)) = join(
         rt,
-        || commit_all(rt, alloc, writer).is_ok(),
+        || commit_all(rt, alloc, writer),
         || join(
             rt,
-            || search_all(rt, alloc, first) == Ok(true),
-            || search_all(rt, alloc, second) == Ok(true),
+            || search_all(rt, alloc, first),
+            || search_all(rt, alloc, second),
         ),
     );
-    committed && first && second
+    first && second
 }
 
 // Once the writer's thread was joined, readers that nobody told find the last commit.
-fn side_by_side<R: Threads + Wait + Sync + Abort>(
-    rt: &R,
-    alloc: Global,
-    writer: &mut Writer,
-) -> Result<(), Refusal> {
-    let mut first = writer.reader()?;
-    let mut second = writer.reader()?;
+fn side_by_side<R: Threads + Wait + Sync + Abort>(rt: &R, alloc: Global, writer: &mut Writer) {
+    let mut first = writer.reader().expect(rt, "a reader");
+    let mut second = writer.reader().expect(rt, "a reader");
     assert!(rt; commit_and_search(rt, alloc, writer, &mut first, &mut second));
-    assert_eq!(rt; stamp_found(rt, alloc, &mut first)?, Some(200));
-    assert_eq!(rt; stamp_found(rt, alloc, &mut second)?, Some(200));
-    Ok(())
+    finds(rt, alloc, &mut first, 200);
+    finds(rt, alloc, &mut second, 200);
 }
 
 #[test]
-fn two_readers_beside_a_hundred_commits(rt: HostRuntime) -> Result<(), Fail> {
-    let alloc = rt.alloc();
-    let mut writer = Writer::new(&rt, alloc, &schema(alloc)?)?;
-    let outcome = side_by_side(&rt, alloc, &mut writer);
+fn two_readers_beside_a_hundred_commits(rt: HostRuntime) {
+    let mut writer = writer(&rt, rt.alloc()).expect(&rt, "a writer");
+    side_by_side(&rt, rt.alloc(), &mut writer);
     writer.close(&rt);
-    Ok(outcome?)
 }
 
 /// Holds the first job of a commit until a reader found something.
@@ -144,31 +138,32 @@ impl Gate for UntilFound {
 }
 
 // What a reader finds while a commit is held.
-fn find_beside<R: Threads + Wait + Sync>(
+fn find_beside<R: Threads + Wait + Sync + Abort>(
     rt: &R,
     alloc: Global,
     gate: &UntilFound,
     reader: &mut Reader,
-) -> Result<Option<Stamp>, Refusal> {
+) -> Option<Stamp> {
     let began = becomes_set(&gate.began);
     let stamp = stamp_found(rt, alloc, reader);
     gate.found.store(1, Ordering::SeqCst);
-    if began { stamp } else { Ok(None) }
+    if began { stamp } else { None }
 }
 
 // Commits in one thread, and finds in another.
-fn commit_and_find<R: Threads + Wait + Sync>(
+fn commit_and_find<R: Threads + Wait + Sync + Abort>(
     rt: &R,
     alloc: Global,
     writer: &mut Writer,
     gate: &UntilFound,
     reader: &mut Reader,
-) -> (Result<(), Refusal>, Result<Option<Stamp>, Refusal>) {
-    join(
+) -> Option<Stamp> {
+    let (_, stamp) = join(
         rt,
-        || commit(rt, alloc, writer, gate).map(|_| ()),
+        || drop(commit(rt, alloc, writer, gate)),
         || find_beside(rt, alloc, gate, reader),
-    )
+    );
+    stamp
 }
 
 // A reader finds the commit before, beside a commit that is held, and this one after it.
@@ -177,29 +172,25 @@ fn held_commit<R: Threads + Wait + Sync + Abort>(
     alloc: Global,
     writer: &mut Writer,
     gate: &UntilFound,
-) -> Result<(), Refusal> {
-    let mut reader = writer.reader()?;
-    commit(rt, alloc, writer, &Open)?;
-    let (committed, beside) = commit_and_find(rt, alloc, writer, gate, &mut reader);
-    committed?;
-    assert_eq!(rt; beside, Ok(Some(2)));
-    assert_eq!(rt; stamp_found(rt, alloc, &mut reader)?, Some(4));
-    Ok(())
+) {
+    let mut reader = writer.reader().expect(rt, "a reader");
+    drop(commit(rt, alloc, writer, &Open));
+    let beside = commit_and_find(rt, alloc, writer, gate, &mut reader);
+    assert_eq!(rt; beside, Some(2));
+    finds(rt, alloc, &mut reader, 4);
 }
 
 #[test]
-fn a_reader_finds_the_commit_before_while_one_is_made(rt: HostRuntime) -> Result<(), Fail> {
-    let alloc = rt.alloc();
+fn a_reader_finds_the_commit_before_while_one_is_made(rt: HostRuntime) {
     let gate = UntilFound {
         began: AtomicU64::new(0),
         found: AtomicU64::new(0),
         released: AtomicU64::new(0),
     };
-    let mut writer = Writer::new(&rt, alloc, &schema(alloc)?)?;
-    let outcome = held_commit(&rt, alloc, &mut writer, &gate);
+    let mut writer = writer(&rt, rt.alloc()).expect(&rt, "a writer");
+    held_commit(&rt, rt.alloc(), &mut writer, &gate);
     writer.close(&rt);
     assert_eq!(rt; gate.released.load(Ordering::SeqCst), 1);
-    Ok(outcome?)
 }
 
 // Whether a reader that is told of a commit finds this.
@@ -209,13 +200,12 @@ fn finds_told<R: Threads + Wait + Sync + Abort>(
     reader: &mut Reader,
     seen: &CommitSeen,
     stamp: Stamp,
-) -> Result<(), Refusal>
+)
     requires { seen.now.of ≡ reader.old.of }
     ensures { reader.new.of ≡ reader.old.of }
 {
-    reader.told(seen)?;
-    assert_eq!(rt; stamp_found(rt, alloc, reader)?, Some(stamp));
-    Ok(())
+    reader.told(seen).expect(rt, "a commit that is told");
+    finds(rt, alloc, reader, stamp);
 }
 
 // A commit of which one reader is told before a merge of all segments, and another one behind it, which finds it
@@ -226,22 +216,22 @@ fn first_told<R: Threads + Wait + Sync + Abort>(
     writer: &mut Writer,
     reader: &mut Reader,
     other: &mut Reader,
-) -> Result<CommitSeen, Refusal>
+) -> CommitSeen
     requires reader { reader.old.of ≡ writer.old.front.seen.of }
     requires other { other.old.of ≡ writer.old.front.seen.of }
     ensures writer { writer.new.front.seen.of ≡ writer.old.front.seen.of }
     ensures reader { reader.new.of ≡ reader.old.of }
     ensures other { other.new.of ≡ other.old.of }
-    ensures seen { IfOk result (λ seen. seen.of ≡ writer.old.front.seen.of) }
+    ensures seen { result.of ≡ writer.old.front.seen.of }
 {
-    assert_eq!(rt; stamp_found(rt, alloc, reader)?, Some(0));
-    let first = commit(rt, alloc, writer, &Open)?;
-    finds_told(rt, alloc, reader, &first, 2)?;
-    writer.merge(rt, alloc, &[0])?;
-    assert_eq!(rt; stamp_found(rt, alloc, reader)?, Some(2));
-    assert_eq!(rt; stamp_found(rt, alloc, other)?, Some(2));
-    finds_told(rt, alloc, other, &first, 2)?;
-    Ok(first)
+    finds(rt, alloc, reader, 0);
+    let first = commit(rt, alloc, writer, &Open);
+    finds_told(rt, alloc, reader, &first, 2);
+    writer.merge(rt, alloc, &[0]).expect(rt, "a merge");
+    finds(rt, alloc, reader, 2);
+    finds(rt, alloc, other, 2);
+    finds_told(rt, alloc, other, &first, 2);
+    first
 }
 
 // A second commit: a reader that is told of it, and then of the first one, finds it.
@@ -251,40 +241,34 @@ fn second_told<R: Threads + Wait + Sync + Abort>(
     writer: &mut Writer,
     reader: &mut Reader,
     first: &CommitSeen,
-) -> Result<CommitSeen, Refusal>
+) -> CommitSeen
     requires reader { reader.old.of ≡ writer.old.front.seen.of }
     requires first { first.now.of ≡ writer.old.front.seen.of }
-    ensures { IfOk result (λ seen. seen.of ≡ writer.old.front.seen.of) }
+    ensures { result.of ≡ writer.old.front.seen.of }
 {
-    let second = commit(rt, alloc, writer, &Open)?;
-    finds_told(rt, alloc, reader, &second, 4)?;
-    finds_told(rt, alloc, reader, first, 4)?;
-    Ok(second)
+    let second = commit(rt, alloc, writer, &Open);
+    finds_told(rt, alloc, reader, &second, 4);
+    finds_told(rt, alloc, reader, first, 4);
+    second
 }
 
 // A reader that was told of both commits, each time after the other reader.
-fn told<R: Threads + Wait + Sync + Abort>(
-    rt: &R,
-    alloc: Global,
-    writer: &mut Writer,
-) -> Result<Reader, Refusal> {
-    let mut reader = writer.reader()?;
-    let mut other = writer.reader()?;
-    let first = first_told(rt, alloc, writer, &mut reader, &mut other)?;
-    let second = second_told(rt, alloc, writer, &mut reader, &first)?;
-    other.told(&second)?;
-    Ok(other)
+fn told<R: Threads + Wait + Sync + Abort>(rt: &R, alloc: Global, writer: &mut Writer) -> Reader {
+    let mut reader = writer.reader().expect(rt, "a reader");
+    let mut other = writer.reader().expect(rt, "a reader");
+    let first = first_told(rt, alloc, writer, &mut reader, &mut other);
+    let second = second_told(rt, alloc, writer, &mut reader, &first);
+    other.told(&second).expect(rt, "a commit that is told");
+    other
 }
 
 // Also once the writer was closed.
 #[test]
-fn what_was_told_stays_known(rt: HostRuntime) -> Result<(), Fail> {
-    let alloc = rt.alloc();
-    let mut writer = Writer::new(&rt, alloc, &schema(alloc)?)?;
-    let outcome = told(&rt, alloc, &mut writer);
+fn what_was_told_stays_known(rt: HostRuntime) {
+    let mut writer = writer(&rt, rt.alloc()).expect(&rt, "a writer");
+    let mut reader = told(&rt, rt.alloc(), &mut writer);
     writer.close(&rt);
-    assert_eq!(rt; stamp_found(&rt, alloc, &mut outcome?)?, Some(4));
-    Ok(())
+    finds(&rt, rt.alloc(), &mut reader, 4);
 }
 
 // How many readers there are at the first refusal, and that refusal.
@@ -304,15 +288,13 @@ fn crowd(writer: &mut Writer, readers: &mut Vec<Reader>) -> (usize, Option<Refus
 
 // A reader that is dropped leaves its place to another.
 #[test]
-fn there_are_64_places(rt: HostRuntime) -> Result<(), Fail> {
-    let alloc = rt.alloc();
-    let mut writer = Writer::new(&rt, alloc, &schema(alloc)?)?;
-    let mut readers = Vec::new(alloc);
+fn there_are_64_places(rt: HostRuntime) {
+    let mut writer = writer(&rt, rt.alloc()).expect(&rt, "a writer");
+    let mut readers = Vec::new(rt.alloc());
     let all = crowd(&mut writer, &mut readers);
     drop(readers.pop());
     let again = crowd(&mut writer, &mut readers);
     writer.close(&rt);
-    assert_eq!(rt; all, (64, Some(Refusal::NoReader)));
-    assert_eq!(rt; again, (64, Some(Refusal::NoReader)));
-    Ok(())
+    let full = (64, Some(Refusal::NoReader));
+    assert_eq!(rt; (all, again), (full, full));
 }

@@ -1,6 +1,5 @@
 // A search of a commit answers as the plain scan does, whoever runs it, and a searcher keeps its commit.
 ghost use Rattle.std.specs.Prelude.{◌≤◌};
-ghost use Rattle.fts_snapshots.specs.Cuts.{IsCut};
 
 mod workers;
 
@@ -16,10 +15,9 @@ use std::alloc::{AllocError, Global};
 use std::fmt::Write;
 use std::process::Abort;
 use std::sync::Wait;
-use std::test::Fail;
 use std::thread::Threads;
 use test_gates::Counter;
-use test_writers::{batch_of, document, schema};
+use test_writers::{batch_of, document, schema, writer};
 
 /// The stamps of the operations of two commits. The stamp between them is that of the first commit.
 const FIRST: (u64, u64) = (1, 120);
@@ -31,7 +29,7 @@ const DELETE: u64 = 160;
 
 /// The document of a stamp: one to three words, of `a`, `b` and `c`, and a price and a temp, each the least or the
 /// greatest of its kind for some, and none for others.
-fn document_at(alloc: Global, schema: &Schema, stamp: u64) -> Result<Document, Fail> {
+fn document_at(alloc: Global, schema: &Schema, stamp: u64) -> Result<Document, Refusal> {
     let title = match stamp % 5 {
         0 => "a",
         1 => "b",
@@ -52,11 +50,11 @@ fn document_at(alloc: Global, schema: &Schema, stamp: u64) -> Result<Document, F
         _ => r#","temp":9223372036854775807"#,
     };
     let json = format!(in alloc; "{{\"title\":\"{title}\"{price}{temp}}}")?;
-    Ok(document(alloc, schema, json.as_str())?)
+    document(alloc, schema, json.as_str())
 }
 
 /// Adds a document, but for one delete of those whose title has a `c`.
-fn op_at(alloc: Global, schema: &Schema, stamp: u64) -> Result<Op, Fail> {
+fn op_at(alloc: Global, schema: &Schema, stamp: u64) -> Result<Op, Refusal> {
     if stamp != DELETE {
         return Ok(Op::Add(document_at(alloc, schema, stamp)?));
     }
@@ -66,66 +64,64 @@ fn op_at(alloc: Global, schema: &Schema, stamp: u64) -> Result<Op, Fail> {
 
 /// Puts the operations of one commit behind others.
 fn push_ops(
+    rt: &impl Abort,
     alloc: Global,
     schema: &Schema,
     ops: &mut Vec<Stamped<Op>>,
     stamps: (u64, u64),
-) -> Result<(), Fail> {
+) {
     for stamp in stamps.0..=stamps.1 {
-        let value = op_at(alloc, schema, stamp)?;
-        ops.push(Stamped { stamp, value })?;
+        let value = op_at(alloc, schema, stamp).expect(rt, "an operation");
+        ops.push(Stamped { stamp, value }).expect(rt, "operations");
     }
-    Ok(())
 }
 
-/// Commits operations in segments of so many adds, and gives a searcher of that commit.
-fn committed<R: Threads + Wait + Sync>(
-    rt: &R,
-    alloc: Global,
-    writer: &mut Writer,
-    ops: Vec<Op>,
-    cut: Cut,
-) -> Result<Searcher, Refusal>
-    requires { IsCut cut }
-{
-    let batch = batch_of(alloc, writer, ops)?;
-    writer.commit(rt, alloc, &batch, cut, 2, &Open)?;
-    writer.searcher()
+/// The operations of one commit.
+fn ops_at(rt: &impl Abort, alloc: Global, schema: &Schema, stamps: (u64, u64)) -> Vec<Op> {
+    let mut ops = Vec::new(alloc);
+    for stamp in stamps.0..=stamps.1 {
+        let op = op_at(alloc, schema, stamp).expect(rt, "an operation");
+        ops.push(op).expect(rt, "operations");
+    }
+    ops
 }
 
-/// Commits the operations of these stamps in segments of thirty adds.
-fn commit_stamps<R: Threads + Wait + Sync>(
+/// Commits the operations of these stamps in segments of thirty adds, and gives a searcher of that commit.
+fn commit_stamps<R: Threads + Wait + Sync + Abort>(
     rt: &R,
     alloc: Global,
     writer: &mut Writer,
     stamps: (u64, u64),
-) -> Result<Searcher, Fail> {
-    let mut ops = Vec::new(alloc);
-    for stamp in stamps.0..=stamps.1 {
-        ops.push(op_at(alloc, writer.schema(), stamp)?)?;
-    }
-    Ok(committed(rt, alloc, writer, ops, Cut::Runs(30))?)
+) -> Searcher {
+    let ops = ops_at(rt, alloc, writer.schema(), stamps);
+    let batch = batch_of(alloc, writer, ops).expect(rt, "a batch");
+    let committed = writer.commit(rt, alloc, &batch, Cut::Runs(30), 2, &Open);
+    committed.expect(rt, "a commit");
+    writer.searcher().expect(rt, "a searcher")
 }
 
 /// What a search finds, if the commit may be asked. Where a growth was refused, the second try succeeds.
-fn search<R: Threads + Wait + Sync, G: Gate>(
+fn search<R: Threads + Wait + Sync + Abort, G: Gate>(
     rt: &R,
     alloc: Global,
     searcher: &Searcher,
-    query: &Query,
-    request: &Request,
+    asked: (&Query, &Request),
     workers: usize,
     gate: &G,
-) -> Result<Found, Fail>
+) -> Found
     requires { (1 ≤ workers) × (workers ≤ 64) }
 {
+    let (query, request) = asked;
     let schema = searcher.snapshot().schema();
     if !query.fits(schema) || !request.fits(schema) {
-        return Err("the commit can't be asked".into());
+        panic!(rt; "the commit can't be asked");
     }
     match searcher.search(rt, alloc, query, request, workers, gate) {
-        Ok(found) => Ok(found),
-        Err(_) => Ok(searcher.search(rt, alloc, query, request, workers, gate)?),
+        Ok(found) => found,
+        Err(_) => {
+            let found = searcher.search(rt, alloc, query, request, workers, gate);
+            found.expect(rt, "an answer")
+        }
     }
 }
 
@@ -140,6 +136,15 @@ fn ranked(alloc: Global, top: &Option<Vec<Hit>>) -> Result<String, AllocError> {
     Ok(list)
 }
 
+/// Whether two answers are the same.
+fn check_same(rt: &impl Abort, alloc: Global, found: &Answer, wanted: &Answer) {
+    assert_eq!(rt; found.count, wanted.count);
+    assert_eq!(rt; found.groups, wanted.groups);
+    let found = ranked(alloc, &found.top).expect(rt, "a list");
+    let wanted = ranked(alloc, &wanted.top).expect(rt, "a list");
+    assert_eq!(rt; found, wanted);
+}
+
 /// Whether so many workers find this, and run one job a segment.
 fn check_workers<R: Threads + Wait + Sync + Abort>(
     rt: &R,
@@ -148,19 +153,24 @@ fn check_workers<R: Threads + Wait + Sync + Abort>(
     asked: (&Query, &Request),
     wanted: &Answer,
     workers: usize,
-) -> Result<(), Fail>
+)
     requires { (1 ≤ workers) × (workers ≤ 64) }
 {
     let counts = Counter::new();
-    let found = search(rt, alloc, searcher, asked.0, asked.1, workers, &counts)?;
+    let found = search(rt, alloc, searcher, asked, workers, &counts);
     assert!(rt; counts.ran_each_once(searcher.snapshot().entries().len()));
-    assert_eq!(rt; found.answer.count, wanted.count);
-    assert_eq!(rt; found.answer.groups, wanted.groups);
-    assert_eq!(rt;
-        ranked(alloc, &found.answer.top)?,
-        ranked(alloc, &wanted.top)?
-    );
-    Ok(())
+    check_same(rt, alloc, &found.answer, wanted);
+}
+
+/// What the scan answers after these operations.
+fn scanned(
+    alloc: Global,
+    schema: &Schema,
+    ops: &[Stamped<Op>],
+    asked: (&Query, &Request),
+) -> Result<Answer, Refusal> {
+    let documents = alive(alloc, schema, ops)?;
+    answer(alloc, schema, asked.0, asked.1, &documents)
 }
 
 /// Whether one, three and four workers find what the scan does after these operations.
@@ -169,80 +179,85 @@ fn check_answers<R: Threads + Wait + Sync + Abort>(
     alloc: Global,
     searcher: &Searcher,
     ops: &[Stamped<Op>],
-    query: &Query,
-    request: &Request,
-) -> Result<(), Fail> {
+    asked: (&Query, &Request),
+) {
     let schema = searcher.snapshot().schema();
-    let documents = alive(alloc, schema, ops)?;
-    let wanted = answer(alloc, schema, query, request, &documents)?;
-    let asked = (query, request);
-    check_workers(rt, alloc, searcher, asked, &wanted, 1)?;
-    check_workers(rt, alloc, searcher, asked, &wanted, 3)?;
-    check_workers(rt, alloc, searcher, asked, &wanted, 4)
+    let wanted = scanned(alloc, schema, ops, asked).expect(rt, "an answer");
+    check_workers(rt, alloc, searcher, asked, &wanted, 1);
+    check_workers(rt, alloc, searcher, asked, &wanted, 3);
+    check_workers(rt, alloc, searcher, asked, &wanted, 4);
 }
 
-/// Whether a searcher answers what was there after these operations. Each number is shared by many documents.
+/// Whether a searcher answers a query as the scan does. Each number is shared by many documents.
+fn check_query<R: Threads + Wait + Sync + Abort>(
+    rt: &R,
+    alloc: Global,
+    searcher: &Searcher,
+    ops: &[Stamped<Op>],
+    text: &str,
+) {
+    let schema = searcher.snapshot().schema();
+    let query = parse(alloc, schema, text).expect(rt, "a query");
+    let rising = Some(("price", 25, Order::Rising));
+    let by_price = Request::new(schema, Some("temp"), rising).expect(rt, "a request");
+    check_answers(rt, alloc, searcher, ops, (&query, &by_price));
+    let falling = Some(("temp", 1_000, Order::Falling));
+    let by_temp = Request::new(schema, Some("price"), falling).expect(rt, "a request");
+    check_answers(rt, alloc, searcher, ops, (&query, &by_temp));
+}
+
+/// Whether a searcher has so many segments, and answers what was there after these operations.
 fn check_searcher<R: Threads + Wait + Sync + Abort>(
     rt: &R,
     alloc: Global,
     searcher: &Searcher,
     ops: &[Stamped<Op>],
-) -> Result<(), Fail> {
-    let schema = searcher.snapshot().schema();
-    let rising = Some(("price", 25, Order::Rising));
-    let by_price = Request::new(schema, Some("temp"), rising)?;
-    let falling = Some(("temp", 1_000, Order::Falling));
-    let by_temp = Request::new(schema, Some("price"), falling)?;
+    segments: usize,
+) {
+    assert_eq!(rt; searcher.snapshot().entries().len(), segments);
     for text in [
         "*",
         "title:a",
         "+title:a +title:b -title:c",
         "\"a b\" OR price:[3 TO *]",
     ] {
-        let query = parse(alloc, schema, text)?;
-        check_answers(rt, alloc, searcher, ops, &query, &by_price)?;
-        check_answers(rt, alloc, searcher, ops, &query, &by_temp)?;
+        check_query(rt, alloc, searcher, ops, text);
     }
-    Ok(())
 }
 
 /// Searchers of a first commit, of a second one that strikes documents of it, and of a merge of segments of both.
-fn searchers<R: Threads + Wait + Sync>(
+fn searchers<R: Threads + Wait + Sync + Abort>(
     rt: &R,
     alloc: Global,
     writer: &mut Writer,
-) -> Result<[Searcher; 3], Fail> {
-    let first = commit_stamps(rt, alloc, writer, FIRST)?;
-    let second = commit_stamps(rt, alloc, writer, SECOND)?;
-    writer.merge(rt, alloc, &[5, 0, 3])?;
-    Ok([first, second, writer.searcher()?])
+) -> [Searcher; 3] {
+    let first = commit_stamps(rt, alloc, writer, FIRST);
+    let second = commit_stamps(rt, alloc, writer, SECOND);
+    writer.merge(rt, alloc, &[5, 0, 3]).expect(rt, "a merge");
+    [first, second, writer.searcher().expect(rt, "a searcher")]
 }
 
-/// Whether each searcher has so many segments, and answers for its own commit.
+/// Whether each searcher answers for its own commit.
 fn check_searchers<R: Threads + Wait + Sync + Abort>(
     rt: &R,
     alloc: Global,
     searchers: &[Searcher; 3],
-) -> Result<(), Fail> {
-    let schema = schema(alloc)?;
+) {
+    let schema = schema(alloc).expect(rt, "a schema");
     let mut ops = Vec::new(alloc);
-    push_ops(alloc, &schema, &mut ops, FIRST)?;
     let [first, second, merged] = searchers;
-    assert_eq!(rt; first.snapshot().entries().len(), 4);
-    check_searcher(rt, alloc, first, &ops)?;
-    push_ops(alloc, &schema, &mut ops, SECOND)?;
-    assert_eq!(rt; second.snapshot().entries().len(), 7);
-    check_searcher(rt, alloc, second, &ops)?;
-    assert_eq!(rt; merged.snapshot().entries().len(), 5);
-    check_searcher(rt, alloc, merged, &ops)
+    push_ops(rt, alloc, &schema, &mut ops, FIRST);
+    check_searcher(rt, alloc, first, &ops, 4);
+    push_ops(rt, alloc, &schema, &mut ops, SECOND);
+    check_searcher(rt, alloc, second, &ops, 7);
+    check_searcher(rt, alloc, merged, &ops, 5);
 }
 
 /// They do so when all was committed and merged, and the writer is closed.
 #[test]
-fn searchers_answer_for_their_commits(rt: HostRuntime) -> Result<(), Fail> {
-    let alloc = rt.alloc();
-    let mut writer = Writer::new(&rt, alloc, &schema(alloc)?)?;
-    let searchers = searchers(&rt, alloc, &mut writer);
+fn searchers_answer_for_their_commits(rt: HostRuntime) {
+    let mut writer = writer(&rt, rt.alloc()).expect(&rt, "a writer");
+    let searchers = searchers(&rt, rt.alloc(), &mut writer);
     writer.close(&rt);
-    check_searchers(&rt, alloc, &searchers?)
+    check_searchers(&rt, rt.alloc(), &searchers);
 }

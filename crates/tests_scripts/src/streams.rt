@@ -1,11 +1,11 @@
 // Scripts over memory, by readers and writers that are slow or fail.
 use fts_script::{Fault, ListEngine, Options, Plain, Streams, run_script};
+use std::alloc::AllocError;
 use std::cell::Cell;
 use std::io;
 use std::io::{Read, Write};
 use std::process::Abort;
 use std::sync::Wait;
-use std::test::Fail;
 use std::thread::Threads;
 
 /// The lines of a script, each with its reply; the last line lacks its LF.
@@ -26,27 +26,37 @@ static SCRIPT: [(&str, &str); 10] = [
 ];
 
 /// The fields `title` (text, default), `tag` (keyword, default), `price` (`u64`) and `temp` (`i64`).
-const SCHEMA: &str = "{\"schema\":[\
-    {\"name\":\"title\",\"kind\":\"text\",\"default\":true},\
-    {\"name\":\"tag\",\"kind\":\"keyword\",\"default\":true},\
-    {\"name\":\"price\",\"kind\":\"u64\"},\
-    {\"name\":\"temp\",\"kind\":\"i64\"}]}";
+const SCHEMA: &str = concat!(
+    r#"{"schema":[{"name":"title","kind":"text","default":true},{"name":"tag","kind":"keyword","default":true},"#,
+    r#"{"name":"price","kind":"u64"},{"name":"temp","kind":"i64"}]}"#,
+);
+
+/// Puts a line behind others, with a begin before it.
+fn push_line(bytes: &mut Vec<u8>, begin: &str, line: &str) -> Result<(), AllocError> {
+    bytes.extend_from_slice(begin.as_bytes())?;
+    bytes.extend_from_slice(line.as_bytes())?;
+    bytes.extend_from_slice(b"\n")
+}
+
+/// The lines of the script, each with a begin before it and an LF behind it.
+fn lines_with(rt: &(impl AllocGlobal + Abort), begin: &str) -> Vec<u8> {
+    let mut bytes = Vec::new(rt.alloc());
+    for (line, _) in &SCRIPT {
+        push_line(&mut bytes, begin, line).expect(rt, "lines");
+    }
+    bytes
+}
 
 /// The input of the script.
-fn input(rt: &impl AllocGlobal) -> Result<Vec<u8>, Fail> {
-    let mut bytes = Vec::new(rt.alloc());
-    for (i, (line, _)) in SCRIPT.iter().enumerate() {
-        if i > 0 {
-            bytes.push(b'\n')?;
-        }
-        bytes.extend_from_slice(line.as_bytes())?;
-    }
-    Ok(bytes)
+fn input(rt: &(impl AllocGlobal + Abort)) -> Vec<u8> {
+    let mut bytes = lines_with(rt, "");
+    bytes.pop();
+    bytes
 }
 
 /// The replies to the lines that end within the first `count` bytes; at the end of the input the last line has ended
 /// too.
-fn replies(rt: &impl AllocGlobal, count: usize, ended: bool) -> Result<Vec<u8>, Fail> {
+fn replies(rt: &(impl AllocGlobal + Abort), count: usize, ended: bool) -> Vec<u8> {
     let mut bytes = Vec::new(rt.alloc());
     let mut left = count;
     for (line, reply) in &SCRIPT {
@@ -54,9 +64,11 @@ fn replies(rt: &impl AllocGlobal, count: usize, ended: bool) -> Result<Vec<u8>, 
             break;
         }
         left = left.saturating_sub(line.len()).saturating_sub(1);
-        bytes.extend_from_slice(reply.as_bytes())?;
+        bytes
+            .extend_from_slice(reply.as_bytes())
+            .expect(rt, "replies");
     }
-    Ok(bytes)
+    bytes
 }
 
 /// Runs a script, and hands the reader and the writer back.
@@ -172,36 +184,27 @@ fn replies_to(
     rt: &(impl AllocGlobal + Abort + Threads + Wait + Sync),
     script: &[u8],
     wanted: &[u8],
-) -> Result<(), Fail> {
+) {
     for step in [1, 2, 7, 1000] {
         let reader = reader_of(script, step, 0, io::ErrorKind::Other);
         let writer = writer_of(rt, step, 0, None);
         let (outcome, _, written) = run_over(rt, reader, writer, Options::default());
-        assert_eq!(rt; outcome, Ok(()));
+        assert_eq!(rt; (outcome, written.flushes), (Ok(()), 1));
         assert_eq!(rt; written.bytes.as_slice(), wanted);
-        assert_eq!(rt; written.flushes, 1);
     }
-    Ok(())
 }
 
 #[test]
-fn whole_script(rt: HostRuntime) -> Result<(), Fail> {
-    let script = input(&rt)?;
-    let wanted = replies(&rt, script.len(), true)?;
-    replies_to(&rt, script.as_slice(), wanted.as_slice())
+fn whole_script(rt: HostRuntime) {
+    let script = input(&rt);
+    replies_to(&rt, &script, &replies(&rt, script.len(), true));
 }
 
 // White space at the beginning of a line changes no reply, wherever a read cuts it.
 #[test]
-fn lines_behind_white_space(rt: HostRuntime) -> Result<(), Fail> {
-    let mut script = Vec::new(rt.alloc());
-    for (line, _) in &SCRIPT {
-        script.extend_from_slice(b"  \t\r ")?;
-        script.extend_from_slice(line.as_bytes())?;
-        script.push(b'\n')?;
-    }
-    let wanted = replies(&rt, script.len(), true)?;
-    replies_to(&rt, script.as_slice(), wanted.as_slice())
+fn lines_behind_white_space(rt: HostRuntime) {
+    let script = lines_with(&rt, "  \t\r ");
+    replies_to(&rt, &script, &replies(&rt, script.len(), true));
 }
 
 /// Runs the script over a writer with room for its replies. A run that ends for memory has written the replies to the
@@ -210,77 +213,82 @@ fn ends_for_memory(
     rt: &(impl AllocGlobal + Abort + Threads + Wait + Sync),
     script: &[u8],
     room: usize,
-) -> Result<bool, Fail> {
+) -> bool {
     let mut writer = writer_of(rt, 1000, 0, None);
-    writer.bytes.reserve(room)?;
+    writer.bytes.reserve(room).expect(rt, "room");
     let reader = reader_of(script, 1, 0, io::ErrorKind::Other);
     let (outcome, reader, written) = run_over(rt, reader, writer, Options::default());
     if outcome == Ok(()) {
-        let wanted = replies(rt, script.len(), true)?;
-        assert_eq!(rt; written.bytes.as_slice(), wanted.as_slice());
-        return Ok(false);
+        assert_eq!(rt; written.bytes, replies(rt, script.len(), true));
+        return false;
     }
     assert_eq!(rt; outcome, Err(Fault::Memory));
     let taken = script.len().wrapping_sub(reader.bytes.len());
-    let wanted = replies(rt, taken.saturating_sub(1), false)?;
-    assert_eq!(rt; written.bytes.as_slice(), wanted.as_slice(), "byte {taken}");
-    Ok(true)
+    let wanted = replies(rt, taken.saturating_sub(1), false);
+    assert_eq!(rt; written.bytes, wanted, "byte {taken}");
+    true
 }
 
 // Each growth is refused in turn from outside; the second run has its memory.
 #[test]
-fn a_refused_growth_keeps_whole_replies(rt: HostRuntime) -> Result<(), Fail> {
-    let script = input(&rt)?;
-    let room = replies(&rt, script.len(), true)?.len();
-    if ends_for_memory(&rt, script.as_slice(), room)? {
-        assert!(rt; !ends_for_memory(&rt, script.as_slice(), room)?);
+fn a_refused_growth_keeps_whole_replies(rt: HostRuntime) {
+    let script = input(&rt);
+    let room = replies(&rt, script.len(), true).len();
+    if ends_for_memory(&rt, &script, room) {
+        assert!(rt; !ends_for_memory(&rt, &script, room));
     }
-    Ok(())
+}
+
+/// Whether a script fails at this read, with the replies to the lines before it.
+fn read_fails(
+    rt: &(impl AllocGlobal + Abort + Threads + Wait + Sync),
+    script: &[u8],
+    fails: usize,
+    kind: io::ErrorKind,
+) {
+    let reader = reader_of(script, 1, fails, kind);
+    let writer = writer_of(rt, 5, 0, None);
+    let (outcome, _, written) = run_over(rt, reader, writer, Options::default());
+    assert_eq!(rt; outcome, Err(Fault::Read), "call {fails}");
+    let wanted = replies(rt, fails.saturating_sub(1), false);
+    assert_eq!(rt; written.bytes, wanted, "call {fails}");
 }
 
 #[test]
-fn each_read_fails(rt: HostRuntime) -> Result<(), Fail> {
-    let script = input(&rt)?;
+fn each_read_fails(rt: HostRuntime) {
+    let script = input(&rt);
     for kind in [io::ErrorKind::BrokenPipe, io::ErrorKind::Interrupted] {
         for fails in 1..script.len() + 2 {
-            let reader = reader_of(script.as_slice(), 1, fails, kind);
-            let writer = writer_of(&rt, 5, 0, None);
-            let (outcome, _, written) = run_over(&rt, reader, writer, Options::default());
-            assert_eq!(rt; outcome, Err(Fault::Read), "call {fails}");
-            let wanted = replies(&rt, fails - 1, false)?;
-            assert_eq!(rt; written.bytes.as_slice(), wanted.as_slice(), "call {fails}");
+            read_fails(&rt, &script, fails, kind);
         }
     }
-    Ok(())
 }
 
+/// Whether the script fails at this call of the writer, if it comes to it, with a beginning of the replies.
 fn write_fails(
     rt: &(impl AllocGlobal + Abort + Threads + Wait + Sync),
     step: usize,
     fails: usize,
     kind: Option<io::ErrorKind>,
-) -> Result<bool, Fail> {
-    let script = input(rt)?;
-    let whole = replies(rt, script.len(), true)?;
-    let reader = reader_of(script.as_slice(), step, 0, io::ErrorKind::Other);
+) -> bool {
+    let script = input(rt);
+    let reader = reader_of(&script, step, 0, io::ErrorKind::Other);
     let writer = writer_of(rt, step, fails, kind);
     let (outcome, _, written) = run_over(rt, reader, writer, Options::default());
+    let failed = fails <= written.calls && (kind.is_some() || written.flushes == 0);
+    let wanted = if failed { Err(Fault::Write) } else { Ok(()) };
+    assert_eq!(rt; outcome, wanted, "call {fails}");
+    let whole = replies(rt, script.len(), true);
     assert!(rt;
-        whole.as_slice().starts_with(written.bytes.as_slice()),
+        whole.as_slice().starts_with(&written.bytes),
         "call {fails}"
     );
-    if fails <= written.calls && (kind.is_some() || written.flushes == 0) {
-        assert_eq!(rt; outcome, Err(Fault::Write), "call {fails}");
-        Ok(true)
-    } else {
-        assert_eq!(rt; outcome, Ok(()), "call {fails}");
-        assert_eq!(rt; written.bytes.as_slice(), whole.as_slice());
-        Ok(false)
-    }
+    assert!(rt; failed || written.bytes == whole, "call {fails}");
+    failed
 }
 
 #[test]
-fn each_write_fails(rt: HostRuntime) -> Result<(), Fail> {
+fn each_write_fails(rt: HostRuntime) {
     for kind in [
         Some(io::ErrorKind::BrokenPipe),
         Some(io::ErrorKind::Interrupted),
@@ -289,14 +297,13 @@ fn each_write_fails(rt: HostRuntime) -> Result<(), Fail> {
         for step in [1, 4] {
             let mut failed = 0u32;
             for fails in 1..100 {
-                if write_fails(&rt, step, fails, kind)? {
+                if write_fails(&rt, step, fails, kind) {
                     failed = failed.wrapping_add(1);
                 }
             }
             assert!(rt; failed > 10);
         }
     }
-    Ok(())
 }
 
 /// Gives a line a call, and fails where the replies to the lines before are not written by then.
@@ -364,24 +371,14 @@ fn answers_come_before_the_next_read(rt: HostRuntime) {
     assert_eq!(rt; written.get(), reader.wanted);
 }
 
-/// A line of `count` times `byte`, and then `rest`.
-fn push_line(bytes: &mut Vec<u8>, byte: u8, count: usize, rest: &str) -> Result<(), Fail> {
-    bytes.resize(bytes.len().saturating_add(count), byte)?;
-    bytes.extend_from_slice(rest.as_bytes())?;
-    bytes.push(b'\n')?;
-    Ok(())
-}
-
 #[test]
-fn many_replies_in_a_block(rt: HostRuntime) -> Result<(), Fail> {
+fn many_replies_in_a_block(rt: HostRuntime) {
     let mut script = Vec::new(rt.alloc());
     for _ in 0..40_000 {
-        push_line(&mut script, b'x', 1, "")?;
+        script.extend_from_slice(b"x\n").expect(&rt, "lines");
     }
     let writer = Vec::new(rt.alloc());
     let (outcome, _, written) = run_over(&rt, script.as_slice(), writer, Options::default());
-    assert_eq!(rt; outcome, Ok(()));
     // 28 bytes around each number, and 188,894 digits.
-    assert_eq!(rt; written.len(), 1_308_894);
-    Ok(())
+    assert_eq!(rt; (outcome, written.len()), (Ok(()), 1_308_894));
 }

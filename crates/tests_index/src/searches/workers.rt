@@ -4,10 +4,9 @@ use fts_model::{Query, Refusal, Request};
 use std::alloc::Global;
 use std::process::Abort;
 use std::sync::Wait;
-use std::test::Fail;
 use std::thread::Threads;
 use test_gates::Holder;
-use test_writers::{batch, schema};
+use test_writers::{batch, writer};
 
 /// Commits two documents in segments of their own.
 fn committed<R: Threads + Wait + Sync>(
@@ -33,30 +32,37 @@ fn count<R: Threads + Wait + Sync>(
     Ok(found.answer.count)
 }
 
-/// Holds one job of a commit, and one of a search of it.
-fn check_jobs<R: Threads + Wait + Sync + Abort>(
+/// Holds one job of a commit.
+fn commit_held<R: Threads + Wait + Sync + Abort>(
     rt: &R,
     alloc: Global,
     writer: &mut Writer,
     held: usize,
-) -> Result<(), Refusal> {
+) -> Searcher {
     let gate = Holder::new(held, 2);
-    let searcher = committed(rt, alloc, writer, &gate)?;
+    let searcher = committed(rt, alloc, writer, &gate).expect(rt, "a searcher");
     assert!(rt; gate.was_held());
+    searcher
+}
+
+/// Holds one job of a search of two documents.
+fn search_held<R: Threads + Wait + Sync + Abort>(
+    rt: &R,
+    alloc: Global,
+    searcher: &Searcher,
+    held: usize,
+) {
     let gate = Holder::new(held, 2);
-    assert_eq!(rt; count(rt, alloc, &searcher, &gate)?, 2);
-    assert!(rt; gate.was_held());
-    Ok(())
+    let found = count(rt, alloc, searcher, &gate);
+    assert_eq!(rt; (found, gate.was_held()), (Ok(2), true));
 }
 
 #[test]
-fn one_of_two_jobs_is_held(rt: HostRuntime) -> Result<(), Fail> {
-    let alloc = rt.alloc();
+fn one_of_two_jobs_is_held(rt: HostRuntime) {
     for held in 0..2usize {
-        let mut writer = Writer::new(&rt, alloc, &schema(alloc)?)?;
-        let outcome = check_jobs(&rt, alloc, &mut writer, held);
+        let mut writer = writer(&rt, rt.alloc()).expect(&rt, "a writer");
+        let searcher = commit_held(&rt, rt.alloc(), &mut writer, held);
+        search_held(&rt, rt.alloc(), &searcher, held);
         writer.close(&rt);
-        outcome?;
     }
-    Ok(())
 }
