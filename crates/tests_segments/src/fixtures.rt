@@ -1,11 +1,11 @@
 // What the tests of several files begin with.
-ghost use Rattle.std.specs.Prelude.{◌≡◌, IfOk};
+ghost use Rattle.std.specs.Prelude.{◌≡◌};
 
 use fts_model::{Document, Field, Kind, Refusal, Schema, Text};
 use fts_segment::{Builder, Segment};
 use serde_json::Value;
 use std::alloc::{AllocError, Global};
-use std::test::Fail;
+use std::process::Abort;
 
 pub(crate) fn field(
     alloc: Global,
@@ -21,76 +21,81 @@ pub(crate) fn field(
     })
 }
 
-/// The fields `title` (text) and `tag` (keyword), both marked default, `price` (`u64`) and `temp`
-/// (`i64`).
-pub(crate) fn schema(alloc: Global) -> Result<Schema, Fail> {
+/// The fields `title` (text) and `tag` (keyword), both marked default, `price` (`u64`) and `temp` (`i64`).
+pub(crate) fn schema(rt: &impl Abort, alloc: Global) -> Schema {
     let mut fields = Vec::new(alloc);
-    fields.push(field(alloc, "title", Kind::Text, true)?)?;
-    fields.push(field(alloc, "tag", Kind::Keyword, true)?)?;
-    fields.push(field(alloc, "price", Kind::U64, false)?)?;
-    fields.push(field(alloc, "temp", Kind::I64, false)?)?;
-    Ok(Schema::new(alloc, fields).map_err(|e| e.1)?)
+    for (name, kind, default) in [
+        ("title", Kind::Text, true),
+        ("tag", Kind::Keyword, true),
+        ("price", Kind::U64, false),
+        ("temp", Kind::I64, false),
+    ] {
+        let field = field(alloc, name, kind, default).expect(rt, "a field");
+        fields.push(field).expect(rt, "fields");
+    }
+    Schema::new(alloc, fields)
+        .map_err(|e| e.1)
+        .expect(rt, "a schema")
 }
 
-pub(crate) fn document(alloc: Global, schema: &Schema, json: &str) -> Result<Document, Fail> {
-    let json = Value::from_str(alloc, json)?;
-    Ok(Document::from_json(alloc, schema, &json)?)
+pub(crate) fn document(rt: &impl Abort, alloc: Global, schema: &Schema, json: &str) -> Document {
+    let json = Value::from_str(alloc, json).expect(rt, "a value");
+    Document::from_json(alloc, schema, &json).expect(rt, "a document")
 }
 
 /// Adds a document, if it fits. Where a growth was refused, the builder is as before, and the second try succeeds.
 pub(crate) fn add(
+    rt: &impl Abort,
     builder: &mut Builder,
     schema: &Schema,
     stamp: u64,
     document: &Document,
-) -> Result<(), Fail>
+)
     requires { builder.old.segment.schema ≡ schema.now }
     ensures { builder.new.segment.schema ≡ schema.now }
 {
     let docs = builder.docs();
     if !document.fits(schema) || docs >= 1_048_576 {
-        return Err("a document that can't be added".into());
+        panic!(rt; "a document that can't be added");
     }
     if builder.add(stamp, document).is_err() {
-        if builder.docs() != docs {
-            return Err("a refused add left a document".into());
-        }
-        builder.add(stamp, document)?;
+        assert_eq!(rt; builder.docs(), docs);
+        builder.add(stamp, document).expect(rt, "an add");
     }
-    Ok(())
 }
 
 /// The segment of the documents. Where a growth was refused, the builder comes back, and the second try succeeds.
-pub(crate) fn finished(alloc: Global, builder: Builder) -> Result<Segment, Fail>
-    ensures { IfOk result (λ segment. segment.schema ≡ builder.segment.schema) }
+pub(crate) fn finished(rt: &impl Abort, alloc: Global, builder: Builder) -> Segment
+    ensures { result.schema ≡ builder.segment.schema }
 {
     let docs = builder.docs();
     match builder.finish(alloc) {
-        Ok(segment) => Ok(segment),
+        Ok(segment) => segment,
         Err((builder, refusal)) => {
-            if builder.docs() != docs || refusal != Refusal::Memory {
-                return Err("a refused finish changed the builder".into());
-            }
-            Ok(builder.finish(alloc).map_err(|e| e.1)?)
+            assert_eq!(rt; (builder.docs(), refusal), (docs, Refusal::Memory));
+            builder
+                .finish(alloc)
+                .map_err(|e| e.1)
+                .expect(rt, "a segment")
         }
     }
 }
 
 /// The documents `{"title":"a b a","price":4}`, `{"title":"b"}` and `{"tag":"a"}` at the stamps 1, 2 and 3.
-pub(crate) fn example(alloc: Global) -> Result<Segment, Fail> {
-    example_under(alloc, &schema(alloc)?)
+pub(crate) fn example(rt: &impl Abort, alloc: Global) -> Segment {
+    example_under(rt, alloc, &schema(rt, alloc))
 }
 
-fn example_under(alloc: Global, schema: &Schema) -> Result<Segment, Fail> {
-    let mut builder = Builder::new(alloc, schema)?;
+fn example_under(rt: &impl Abort, alloc: Global, schema: &Schema) -> Segment {
+    let mut builder = Builder::new(alloc, schema).expect(rt, "a builder");
     for json in [
         r#"{"title":"a b a","price":4}"#,
         r#"{"title":"b"}"#,
         r#"{"tag":"a"}"#,
     ] {
-        let document = document(alloc, schema, json)?;
-        let stamp = builder.docs() as u64 + 1;
-        add(&mut builder, schema, stamp, &document)?;
+        let document = document(rt, alloc, schema, json);
+        let stamp = (builder.docs() as u64).saturating_add(1);
+        add(rt, &mut builder, schema, stamp, &document);
     }
-    finished(alloc, builder)
+    finished(rt, alloc, builder)
 }

@@ -5,94 +5,119 @@ use fts_bits::Bits;
 use fts_collect::{Part, collect};
 use fts_cursor::{DocSet, cursor_of};
 use fts_merge::{Merged, Source, merge, strike};
-use fts_model::{FieldValue, Op, Order, Query, Refusal, Request, Stamped, Term, Text};
+use fts_model::{Answer, FieldValue, Op, Order, Query, Refusal, Request, Stamped, Term, Text};
 use fts_query::parse;
 use fts_segment::Segment;
 use std::alloc::{AllocError, Global};
 use std::process::Abort;
-use std::test::Fail;
+
+/// A copy of a segment. Where a growth was refused, the second try succeeds.
+fn copied(rt: &impl Abort, segment: &Segment) -> Segment {
+    match segment.clone() {
+        Ok(copy) => copy,
+        Err(AllocError) => segment.clone().expect(rt, "a copy"),
+    }
+}
 
 #[test]
-fn copies(rt: HostRuntime) -> Result<(), Fail> {
-    let segment = example(rt.alloc())?;
-    let copy = match segment.clone() {
-        Ok(copy) => copy,
-        Err(AllocError) => segment.clone()?,
-    };
+fn copies(rt: HostRuntime) {
+    let segment = example(&rt, rt.alloc());
+    let copy = copied(&rt, &segment);
     drop(segment);
     assert_eq!(rt; copy.docs(), 3);
     assert_eq!(rt; copy.stamp(2), 3);
-    Ok(())
+}
+
+/// The bits of all documents of a segment.
+fn all_set(rt: &impl Abort, alloc: Global, segment: &Segment) -> Bits {
+    let live = Bits::all_set(alloc, segment.docs());
+    live.expect(rt, "bits")
 }
 
 /// The first document that a query finds.
 fn first(
+    rt: &impl Abort,
     alloc: Global,
     segment: &Segment,
     live: &Bits,
     query: &Query,
-) -> Result<Option<u32>, Fail> {
+) -> Option<u32> {
     if live.len() != segment.docs() || !query.fits(segment.schema()) {
-        return Err("the segment can't be asked".into());
+        panic!(rt; "the segment can't be asked");
     }
     match cursor_of(alloc, segment, live, query) {
-        Err(Refusal::Memory) => Ok(cursor_of(alloc, segment, live, query)?.doc()),
-        cursor => Ok(cursor?.doc()),
+        Err(Refusal::Memory) => {
+            let cursor = cursor_of(alloc, segment, live, query);
+            cursor.expect(rt, "a cursor").doc()
+        }
+        cursor => cursor.expect(rt, "a cursor").doc(),
     }
 }
 
 #[test]
-fn cursors(rt: HostRuntime) -> Result<(), Fail> {
-    let alloc = rt.alloc();
-    let segment = example(alloc)?;
-    let live = Bits::all_set(alloc, segment.docs())?;
+fn cursors(rt: HostRuntime) {
+    let segment = example(&rt, rt.alloc());
+    let live = all_set(&rt, rt.alloc(), &segment);
     for (text, wanted) in [
         ("b -title:a", Some(1)),
         ("+title:a +title:b", Some(0)),
         ("\"b a\" OR price:[5 TO *]", Some(0)),
         ("tag:b", None),
     ] {
-        let query = parse(alloc, segment.schema(), text)?;
-        assert_eq!(rt; first(alloc, &segment, &live, &query)?, wanted, "{text}");
+        let query = parse(rt.alloc(), segment.schema(), text).expect(&rt, "a query");
+        let first = first(&rt, rt.alloc(), &segment, &live, &query);
+        assert_eq!(rt; first, wanted, "{text}");
     }
-    Ok(())
 }
 
-/// What a segment tells of all its documents.
-fn part_of(alloc: Global, segment: &Segment, request: &Request) -> Result<Part, Fail> {
-    let live = Bits::all_set(alloc, segment.docs())?;
-    if live.len() != segment.docs() || !request.fits(segment.schema()) {
-        return Err("the segment can't be asked".into());
+/// What a segment tells of its documents that match.
+fn part_of(
+    rt: &impl Abort,
+    alloc: Global,
+    segment: &Segment,
+    query: &Query,
+    request: &Request,
+) -> Part {
+    let live = all_set(rt, alloc, segment);
+    let schema = segment.schema();
+    if live.len() != segment.docs() || !query.fits(schema) || !request.fits(schema) {
+        panic!(rt; "the segment can't be asked");
     }
-    let query = parse(alloc, segment.schema(), "a b")?;
-    match collect(alloc, segment, &live, &query, request) {
-        Err(Refusal::Memory) => Ok(collect(alloc, segment, &live, &query, request)?),
-        part => Ok(part?),
+    match collect(alloc, segment, &live, query, request) {
+        Err(Refusal::Memory) => {
+            let part = collect(alloc, segment, &live, query, request);
+            part.expect(rt, "a part")
+        }
+        part => part.expect(rt, "a part"),
+    }
+}
+
+/// What two parts tell together. Where a growth was refused, they come back, and the second try succeeds.
+fn joined(rt: &impl Abort, alloc: Global, parts: Vec<Part>, request: &Request) -> Answer {
+    match Part::join(alloc, parts, request) {
+        Ok(answer) => answer,
+        Err((parts, refusal)) => {
+            assert_eq!(rt; refusal, Refusal::Memory);
+            Part::join(alloc, parts, request)
+                .map_err(|e| e.1)
+                .expect(rt, "an answer")
+        }
     }
 }
 
 #[test]
-fn collectors(rt: HostRuntime) -> Result<(), Fail> {
-    let alloc = rt.alloc();
-    let segment = example(alloc)?;
-    let request = Request::new(
-        segment.schema(),
-        Some("price"),
-        Some(("price", 2, Order::Rising)),
-    )?;
-    let mut parts = Vec::with_capacity(alloc, 2)?;
+fn collectors(rt: HostRuntime) {
+    let segment = example(&rt, rt.alloc());
+    let query = parse(rt.alloc(), segment.schema(), "a b").expect(&rt, "a query");
+    let rising = Some(("price", 2, Order::Rising));
+    let request = Request::new(segment.schema(), Some("price"), rising).expect(&rt, "a request");
+    let mut parts = Vec::with_capacity(rt.alloc(), 2).expect(&rt, "parts");
     for _ in 0..2 {
-        parts.push(part_of(alloc, &segment, &request)?)?;
+        let part = part_of(&rt, rt.alloc(), &segment, &query, &request);
+        parts.push(part).expect(&rt, "parts");
     }
-    let answer = match Part::join(alloc, parts, &request) {
-        Ok(answer) => answer,
-        Err((parts, refusal)) => {
-            assert_eq!(rt; refusal, Refusal::Memory);
-            Part::join(alloc, parts, &request).map_err(|e| e.1)?
-        }
-    };
+    let answer = joined(&rt, rt.alloc(), parts, &request);
     assert_eq!(rt; answer.count, 6);
-    Ok(())
 }
 
 /// A delete of the word b.
@@ -103,39 +128,49 @@ fn delete(alloc: Global, stamp: u64) -> Result<Stamped<Op>, AllocError> {
 }
 
 /// The bits after a delete.
-fn struck(alloc: Global, segment: &Segment, live: &Bits, stamp: u64) -> Result<Bits, Fail> {
-    let ops = [delete(alloc, stamp)?];
+fn struck(rt: &impl Abort, alloc: Global, segment: &Segment, live: &Bits, stamp: u64) -> Bits {
+    let ops = [delete(alloc, stamp).expect(rt, "a delete")];
     if live.len() != segment.docs() {
-        return Err("not one bit a document".into());
+        panic!(rt; "not one bit a document");
     }
     match strike(alloc, segment, live, &ops) {
-        Err(Refusal::Memory) => Ok(strike(alloc, segment, live, &ops)?),
-        struck => Ok(struck?),
+        Err(Refusal::Memory) => strike(alloc, segment, live, &ops).expect(rt, "bits"),
+        struck => struck.expect(rt, "bits"),
     }
 }
 
 /// The segment, with some of its documents live, before itself with others.
-fn merged(alloc: Global, segment: &Segment, first: &Bits, second: &Bits) -> Result<Merged, Fail> {
+fn merged(
+    rt: &impl Abort,
+    alloc: Global,
+    segment: &Segment,
+    first: &Bits,
+    second: &Bits,
+) -> Merged {
     if first.len() != segment.docs() || second.len() != segment.docs() {
-        return Err("not one bit a document".into());
+        panic!(rt; "not one bit a document");
     }
     let sources = [Source::new(segment, first), Source::new(segment, second)];
     match merge(alloc, &sources) {
-        Err(Refusal::Memory) => Ok(merge(alloc, &sources)?),
-        merged => Ok(merged?),
+        Err(Refusal::Memory) => merge(alloc, &sources).expect(rt, "a segment"),
+        merged => merged.expect(rt, "a segment"),
     }
 }
 
 #[test]
-fn deletes_and_merges(rt: HostRuntime) -> Result<(), Fail> {
-    let alloc = rt.alloc();
-    let segment = example(alloc)?;
-    let all = Bits::all_set(alloc, segment.docs())?;
-    let some = struck(alloc, &segment, &all, 2)?;
-    assert_eq!(rt; some.count_ones(), 2);
-    assert!(rt; struck(alloc, &segment, &some, 1)? == some);
-    let merged = merged(alloc, &segment, &some, &all)?;
-    assert_eq!(rt; merged.segment().docs(), 5);
-    assert_eq!(rt; merged.origins().len(), 5);
-    Ok(())
+fn deletes(rt: HostRuntime) {
+    let segment = example(&rt, rt.alloc());
+    let all = all_set(&rt, rt.alloc(), &segment);
+    let some = struck(&rt, rt.alloc(), &segment, &all, 2);
+    let same = struck(&rt, rt.alloc(), &segment, &some, 1);
+    assert_eq!(rt; (some.count_ones(), same == some), (2, true));
+}
+
+#[test]
+fn merges(rt: HostRuntime) {
+    let segment = example(&rt, rt.alloc());
+    let all = all_set(&rt, rt.alloc(), &segment);
+    let some = struck(&rt, rt.alloc(), &segment, &all, 2);
+    let merged = merged(&rt, rt.alloc(), &segment, &some, &all);
+    assert_eq!(rt; (merged.segment().docs(), merged.origins().len()), (5, 5));
 }

@@ -7,7 +7,6 @@ use fts_model::Refusal;
 use fts_pack::{BLOCK, Block, Blocks, List, Numbers};
 use std::alloc::{AllocError, Global};
 use std::process::Abort;
-use std::test::Fail;
 
 // Numbers of at most so many bits, the greatest of them first.
 fn numbers_of(width: u32) -> [u32; 128] {
@@ -22,34 +21,32 @@ fn numbers_of(width: u32) -> [u32; 128] {
 }
 
 #[test]
-fn every_width_and_count_comes_back(rt: HostRuntime) -> Result<(), Fail> {
+fn every_width_and_count_comes_back(rt: HostRuntime) {
     for width in 0..33u32 {
         let numbers = numbers_of(width);
         for count in 0..BLOCK + 1 {
-            let block = Block::pack(rt.alloc(), &numbers[..count])?;
+            let block = Block::pack(rt.alloc(), &numbers[..count]).expect(&rt, "a block");
             let mut out = [7; BLOCK];
             assert_eq!(rt; block.unpack(&mut out), count);
             assert_eq!(rt; &out[..count], &numbers[..count]);
         }
     }
-    Ok(())
 }
 
 // `unpack` asks for no memory, so that it serves where no growth is granted.
 #[test]
-fn a_refused_block_can_be_packed_again(rt: HostRuntime) -> Result<(), Fail> {
+fn a_refused_block_can_be_packed_again(rt: HostRuntime) {
     let numbers = [3, 1, 2];
     let block = match Block::pack(rt.alloc(), &numbers) {
         Ok(block) => block,
         Err(refusal) => {
             assert_eq!(rt; refusal, Refusal::Memory);
-            Block::pack(rt.alloc(), &numbers)?
+            Block::pack(rt.alloc(), &numbers).expect(&rt, "a block")
         }
     };
     let mut out = [0; BLOCK];
     assert_eq!(rt; block.unpack(&mut out), 3);
     assert_eq!(rt; &out[..3], numbers.as_slice());
-    Ok(())
 }
 
 // Each number by itself, and the blocks of them.
@@ -71,21 +68,19 @@ fn check_numbers(rt: &impl Abort, packed: &Numbers, numbers: &[u32]) {
 fn blocks_of(alloc: Global, width: u32) -> Result<Vec<u32>, AllocError> {
     let block = numbers_of(width);
     let mut numbers = Vec::new(alloc);
-    numbers.extend_from_slice(&block)?;
-    numbers.extend_from_slice(&[0; BLOCK])?;
-    numbers.extend_from_slice(&block)?;
-    numbers.extend_from_slice(&block[..3])?;
+    for block in [&block[..], &[0; BLOCK], &block, &block[..3]] {
+        numbers.extend_from_slice(block)?;
+    }
     Ok(numbers)
 }
 
 #[test]
-fn numbers_of_every_width_come_back(rt: HostRuntime) -> Result<(), Fail> {
+fn numbers_of_every_width_come_back(rt: HostRuntime) {
     for width in 0..33u32 {
-        let numbers = blocks_of(rt.alloc(), width)?;
-        let packed = Numbers::build(rt.alloc(), &numbers)?;
+        let numbers = blocks_of(rt.alloc(), width).expect(&rt, "numbers");
+        let packed = Numbers::build(rt.alloc(), &numbers).expect(&rt, "packed numbers");
         check_numbers(&rt, &packed, &numbers);
     }
-    Ok(())
 }
 
 // Opens the first block of any blocks; exactly one opening is counted.
@@ -104,66 +99,64 @@ fn carried<T: Send>(value: T) -> T
 }
 
 #[test]
-fn three_documents(rt: HostRuntime) -> Result<(), Fail> {
-    let list = List::build(rt.alloc(), &[5, 6, 133])?;
+fn three_documents(rt: HostRuntime) {
+    let list = List::build(rt.alloc(), &[5, 6, 133]).expect(&rt, "a list");
     let mut out = [0; 128];
-    assert_eq!(rt; list.len(), 3);
     let mut source = carried(list.source());
-    assert_eq!(rt; source.blocks(), 1);
-    assert_eq!(rt; source.last(0), 133);
+    assert_eq!(rt; (list.len(), source.blocks(), source.last(0)), (3, 1, 133));
     assert_eq!(rt; open_first(&mut source, &mut out), 3);
     assert_eq!(rt; &out[..3], [5, 6, 133].as_slice());
-    Ok(())
 }
 
 #[test]
-fn a_second_block_begins_above_the_first(rt: HostRuntime) -> Result<(), Fail> {
+fn a_second_block_begins_above_the_first(rt: HostRuntime) {
     let mut documents = [0; 129];
     for index in 0..129usize {
         documents[index] = index as u32;
     }
-    let list = List::build(rt.alloc(), &documents)?;
+    let list = List::build(rt.alloc(), &documents).expect(&rt, "a list");
     let mut source = list.source();
     let mut out = [0; 128];
-    assert_eq!(rt; source.blocks(), 2);
-    assert_eq!(rt; source.last(0), 127);
-    assert_eq!(rt; source.last(1), 128);
+    assert_eq!(rt;
+        (source.blocks(), source.last(0), source.last(1)),
+        (2, 127, 128)
+    );
     assert_eq!(rt; source.open(0, &mut out), 128);
     assert_eq!(rt; out.as_slice(), &documents[..128]);
     assert_eq!(rt; source.open(1, &mut out), 1);
     assert_eq!(rt; out[0], 128);
-    Ok(())
 }
 
 #[test]
-fn one_document_and_none(rt: HostRuntime) -> Result<(), Fail> {
-    let list = List::build(rt.alloc(), &[4294967295])?;
+fn one_document(rt: HostRuntime) {
+    let list = List::build(rt.alloc(), &[4294967295]).expect(&rt, "a list");
     let mut source = list.source();
     let mut out = [0; 128];
-    assert_eq!(rt; source.blocks(), 1);
-    assert_eq!(rt; source.last(0), 4294967295);
+    assert_eq!(rt; (source.blocks(), source.last(0)), (1, 4294967295));
     assert_eq!(rt; source.open(0, &mut out), 1);
     assert_eq!(rt; out[0], 4294967295);
-    let empty = List::build(rt.alloc(), &[])?;
-    assert!(rt; empty.is_empty());
-    assert_eq!(rt; empty.source().blocks(), 0);
-    Ok(())
 }
 
 #[test]
-fn a_refused_list_can_be_built_again(rt: HostRuntime) -> Result<(), Fail> {
+fn no_document(rt: HostRuntime) {
+    let empty = List::build(rt.alloc(), &[]).expect(&rt, "a list");
+    assert!(rt; empty.is_empty());
+    assert_eq!(rt; empty.source().blocks(), 0);
+}
+
+#[test]
+fn a_refused_list_can_be_built_again(rt: HostRuntime) {
     let documents = [2, 3, 70000, 4294967295];
     let list = match List::build(rt.alloc(), &documents) {
         Ok(list) => list,
         Err(refusal) => {
             assert_eq!(rt; refusal, Refusal::Memory);
-            List::build(rt.alloc(), &documents)?
+            List::build(rt.alloc(), &documents).expect(&rt, "a list")
         }
     };
     let mut out = [0; 128];
     assert_eq!(rt; list.source().open(0, &mut out), 4);
     assert_eq!(rt; &out[..4], documents.as_slice());
-    Ok(())
 }
 
 // 131 values of at most so many bits, of which each fifth is missing.
@@ -180,79 +173,89 @@ fn values_of(width: u32) -> [Option<u64>; 131] {
     values
 }
 
+// Each value by itself, and the blocks of them.
+fn check_values(rt: &impl Abort, column: &Column, values: &[Option<u64>; 131])
+    requires { length column.now ≡ 131 }
+{
+    let mut out = [0; 128];
+    let first = column.values(0, &mut out);
+    assert_eq!(rt; first.len, 128);
+    for index in 0..128usize {
+        assert_eq!(rt; column.get(index), values[index]);
+        assert_eq!(rt; first.present >> index & 1 == 1, values[index].is_some());
+        assert_eq!(rt; values[index].unwrap_or(out[index]), out[index]);
+    }
+    let last = column.values(128, &mut out);
+    assert_eq!(rt; (last.len, last.present), (3, 3));
+    assert_eq!(rt; (Some(out[0]), Some(out[1])), (values[128], values[129]));
+}
+
 #[test]
-fn every_width_of_values_comes_back(rt: HostRuntime) -> Result<(), Fail> {
+fn every_width_of_values_comes_back(rt: HostRuntime) {
     for width in 0..65u32 {
         let values = values_of(width);
-        let column = Column::build(rt.alloc(), &values)?;
-        let mut out = [0; 128];
-        let first = column.values(0, &mut out);
-        assert_eq!(rt; first.len, 128);
-        for index in 0..128usize {
-            assert_eq!(rt; column.get(index), values[index]);
-            assert_eq!(rt; first.present >> index & 1 == 1, values[index].is_some());
-            assert_eq!(rt; values[index].unwrap_or(out[index]), out[index]);
-        }
-        let last = column.values(128, &mut out);
-        assert_eq!(rt; (last.len, last.present), (3, 3));
-        assert_eq!(rt; (Some(out[0]), Some(out[1])), (values[128], values[129]));
+        let column = Column::build(rt.alloc(), &values).expect(&rt, "a column");
+        check_values(&rt, &column, &values);
     }
-    Ok(())
 }
 
 // A column of these values. Where a growth was refused, the second try succeeds.
-fn built(rt: &impl Abort, alloc: Global, values: &[Option<u64>]) -> Result<Column, Refusal>
+fn built(rt: &impl Abort, alloc: Global, values: &[Option<u64>]) -> Column
     requires { length values.now ≤ 2 ^ 32 }
 {
     match Column::build(alloc, values) {
-        Ok(column) => Ok(column),
+        Ok(column) => column,
         Err(refusal) => {
             assert_eq!(rt; refusal, Refusal::Memory);
-            Column::build(alloc, values)
+            Column::build(alloc, values).expect(rt, "a column")
         }
     }
 }
 
 #[test]
-fn a_refused_column_can_be_built_again(rt: HostRuntime) -> Result<(), Fail> {
-    let column = built(&rt, rt.alloc(), &[Some(5), None, Some(1)])?;
-    assert_eq!(rt; column.get(0), Some(5));
-    assert_eq!(rt; column.get(1), None);
-    assert_eq!(rt; column.get(2), Some(1));
-    Ok(())
+fn a_refused_column_can_be_built_again(rt: HostRuntime) {
+    let values = [Some(5), None, Some(1)];
+    let column = built(&rt, rt.alloc(), &values);
+    assert_eq!(rt; [column.get(0), column.get(1), column.get(2)], values);
+}
+
+// Bits, all of them set.
+fn all_set(rt: &impl Abort, alloc: Global, len: usize) -> Bits {
+    Bits::all_set(alloc, len).expect(rt, "bits")
 }
 
 #[test]
-fn a_copy_is_equal_and_apart(rt: HostRuntime) -> Result<(), Fail> {
-    let bits = Bits::all_set(rt.alloc(), 3)?;
-    let mut copy = bits.copied(rt.alloc())?;
-    assert!(rt; bits == copy);
+fn a_copy_is_equal_and_apart(rt: HostRuntime) {
+    let bits = all_set(&rt, rt.alloc(), 3);
+    let mut copy = bits.copied(rt.alloc()).expect(&rt, "bits");
+    assert!(rt; bits == copy && copy.len() == 3);
     copy.clear(1);
-    assert!(rt; bits != copy);
-    assert!(rt; bits.get(1));
-    assert!(rt; bits != Bits::all_set(rt.alloc(), 4)?);
-    assert!(rt; Bits::all_set(rt.alloc(), 0)?.is_empty());
-    Ok(())
+    assert!(rt; bits != copy && bits.get(1));
+    assert!(rt; bits != all_set(&rt, rt.alloc(), 4));
+    assert!(rt; all_set(&rt, rt.alloc(), 0).is_empty());
 }
 
-#[test]
-fn refused_bits_can_be_made_again(rt: HostRuntime) -> Result<(), Fail> {
-    let bits = match Bits::all_set(rt.alloc(), 65) {
-        Ok(bits) => bits,
-        Err(_) => Bits::all_set(rt.alloc(), 65)?,
-    };
-    let copy = match bits.copied(rt.alloc()) {
+// A copy of bits. Where a growth was refused, the second try succeeds.
+fn copied(rt: &impl Abort, alloc: Global, bits: &Bits) -> Bits {
+    match bits.copied(alloc) {
         Ok(copy) => copy,
         Err(refusal) => {
             assert_eq!(rt; refusal, Refusal::Memory);
-            bits.copied(rt.alloc())?
+            bits.copied(alloc).expect(rt, "bits")
         }
+    }
+}
+
+#[test]
+fn refused_bits_can_be_made_again(rt: HostRuntime) {
+    let bits = match Bits::all_set(rt.alloc(), 65) {
+        Ok(bits) => bits,
+        Err(_) => Bits::all_set(rt.alloc(), 65).expect(&rt, "bits"),
     };
     let clear = match Bits::all_clear(rt.alloc(), 65) {
         Ok(clear) => clear,
-        Err(_) => Bits::all_clear(rt.alloc(), 65)?,
+        Err(_) => Bits::all_clear(rt.alloc(), 65).expect(&rt, "bits"),
     };
-    assert_eq!(rt; bits.len(), 65);
-    assert!(rt; bits == copy && bits != clear);
-    Ok(())
+    assert!(rt; bits.len() == 65 && bits != clear);
+    assert!(rt; bits == copied(&rt, rt.alloc(), &bits));
 }
