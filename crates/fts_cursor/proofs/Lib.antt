@@ -12,4 +12,5 @@ pub mod OpensLemmas
 pub mod DepthLemmas
 pub mod PhraseHits
 pub mod RangeLemmas
+pub mod KeywordRangeLemmas
 pub mod CostLemmas

@@ -16,8 +16,8 @@ use Rattle.fts_model.specs.declared.value.FieldValue.TheVariants as values
 use Rattle.fts_model.specs.declared.value.Number.TheVariants as numbers
 use Rattle.fts_model.specs.Documents.{DocumentValue, fits_i64, is_of_kind, value_in_field}
 use Rattle.fts_model.specs.Operations.{kind_at}
-use Rattle.fts_model.specs.Schemas.{holds_numbers}
-use Rattle.fts_model.specs.Queries.{admits_from, admits_to, is_bound_of, is_range_of, value_le, value_lt}
+use Rattle.fts_model.specs.Schemas.{holds_numbers, is_ordered}
+use Rattle.fts_model.specs.Queries.{admits_from, admits_to, is_bound_of, is_number_field, is_range_of, value_le, value_lt}
 use Rattle.fts_bits.specs.Signed.{u64_of}
 use Rattle.fts_segment.specs.Numbers.{Fits64}
 use Rattle.fts_column.specs.Column.{IsRangeOf}
@@ -115,7 +115,7 @@ none_of kind (Included b) v ok holds none some = let h = apart kind b v ok holds
 none_of kind (Excluded b) v ok holds none some = let h = apart kind b v ok holds none in (h.lt, h.gt)
 none_of kind Unbounded v ok holds none some = absurd (false≢true some)
 
-and_false : (b : Bool) → (b && false) ≡ false
+pub and_false : (b : Bool) → (b && false) ≡ false
 and_false true = refl
 and_false false = refl
 
@@ -200,7 +200,7 @@ small_some column range d x is small at = omega (arith, within_range (get_or col
 pub small_none : (column : List (Option ℕ)) (d x : ℕ) → IsRangeOf column None → get_or column d None ≡ Some x → x < 2 ^ 64
 small_none column d x is at = absurd (let e : None ≡ Some x = sym (is d None (there column d x at)) ∙ at in cc)
 
-small_of : (o : Option ℕ) → ((x : ℕ) → o ≡ Some x → x < 2 ^ 64) → IfSome o (λ x. x < 2 ^ 64)
+pub small_of : (o : Option ℕ) → ((x : ℕ) → o ≡ Some x → x < 2 ^ 64) → IfSome o (λ x. x < 2 ^ 64)
 small_of None h = tt
 small_of (Some x) h = h x refl
 
@@ -239,9 +239,17 @@ pub kind_of : (o : Option Kind) (f : Kind → Bool) → option_map_or f o false 
 kind_of None f h = absurd (false≢true h)
 kind_of (Some kind) f h = (kind, refl, h)
 
+-- a kind whose values have an order, and are no numbers, is that of keywords
+pub keyword_kind : (kind : Kind) → is_ordered kind ≡ true → holds_numbers kind ≡ false → kind ≡ kinds.Keyword
+keyword_kind kinds.Text ordered other = absurd (false≢true ordered)
+keyword_kind kinds.Keyword ordered other = refl
+keyword_kind kinds.U64 ordered other = absurd (false≢true (sym other))
+keyword_kind kinds.I64 ordered other = absurd (false≢true (sym other))
+
 -- what a range over documents is to their column
 pub record Bounded (segment : SegmentValue) (field : ℕ) (lower upper : Bound FieldValue) : Type 0 where
   pub fits : option_map_or (is_range_of lower upper) (kind_at segment.schema field) false ≡ true
+  pub numbers : is_number_field segment.schema field ≡ true
   pub whole : IsWholeBound lower
   pub below : IsWholeBound upper
   pub some : (is_bounded lower || is_bounded upper) ≡ true
@@ -252,9 +260,10 @@ module _ (segment : SegmentValue) (field : ℕ) (lower upper : Bound FieldValue)
   key_hit : (d : ℕ) → test_at (Hit lower upper field) segment.documents d ≡ option_map_or (key_admits lower upper) (get_or (column segment field) d None) false
   key_hit d =
       let kind = kind_of (kind_at segment.schema field) (is_range_of lower upper) h.fits in
-      let front = and_parts (holds_numbers kind.0 && is_bound_of kind.0 lower) (is_bound_of kind.0 upper) kind.2 in
-      let both = and_parts (holds_numbers kind.0) (is_bound_of kind.0 lower) front.0 in
-      hit_by_key segment.schema field kind.0 lower upper kind.1 both.1 front.1 both.0 h.whole h.below h.some segment.documents (h.fit kind.0 kind.1) d
+      let front = and_parts (is_ordered kind.0 && is_bound_of kind.0 lower) (is_bound_of kind.0 upper) kind.2 in
+      let both = and_parts (is_ordered kind.0) (is_bound_of kind.0 lower) front.0 in
+      let numbers : holds_numbers kind.0 ≡ true = ap (λ o. option_map_or holds_numbers o false) (sym kind.1) ∙ h.numbers in
+      hit_by_key segment.schema field kind.0 lower upper kind.1 both.1 front.1 numbers h.whole h.below h.some segment.documents (h.fit kind.0 kind.1) d
 
   pub within_hits : (low high : ℕ) → IsLeastOf lower (Some low) → IsGreatestOf upper (Some high) →
       passing (has_within low high (column segment field)) 0 (length segment.documents) ≡ numbers_where (Hit lower upper field) 0 segment.documents

@@ -1,5 +1,5 @@
 -- Bounds on numbers, by the places of these in a column.
-use Rattle.std.specs.Prelude.{◌≡◌, ℕ, ◌^◌, ◌<◌, Bool, true, false, nat_le, nat_lt, Option}
+use Rattle.std.specs.Prelude.{◌≡◌, ℕ, ◌^◌, ◌<◌, Bool, true, false, nat_le, nat_lt, List, Option}
 use Rattle.std.specs.Option.{option_map_or}
 use Rattle.std.specs.declared.ops.Bound.{Bound}
 use Rattle.std.specs.declared.ops.Bound.TheVariants.{Included, Excluded, Unbounded}
@@ -8,6 +8,7 @@ use Rattle.fts_model.specs.declared.value.FieldValue.TheVariants as values
 use Rattle.fts_model.specs.declared.value.Number.TheVariants as numbers
 use Rattle.fts_model.specs.Documents.{fits_i64}
 use Rattle.fts_bits.specs.Signed.{u64_of}
+use Rattle.fts_segment.specs.Keywords.{before, up_to}
 
 -- a number as a column keeps it; a text is 0
 abbrev pub key_of : FieldValue → ℕ
@@ -44,6 +45,23 @@ IsLeastOf bound least =
 abbrev pub IsGreatestOf : Bound FieldValue → Option ℕ → Type 0
 IsGreatestOf bound greatest =
     (x : ℕ) → x < 2 ^ 64 → option_map_or (λ high. nat_le x high) greatest false ≡ key_to bound x
+
+-- the least ordinal among texts that a lower bound admits
+abbrev pub ordinal_from : List (List ℕ) → Bound FieldValue → ℕ
+ordinal_from texts (Included (values.Text text)) = before texts text
+ordinal_from texts (Excluded (values.Text text)) = up_to texts text
+ordinal_from texts bound = 0
+
+-- an upper bound admits an ordinal among texts
+abbrev pub ordinal_to : List (List ℕ) → Bound FieldValue → ℕ → Bool
+ordinal_to texts (Included (values.Text text)) x = nat_lt x (up_to texts text)
+ordinal_to texts (Excluded (values.Text text)) x = nat_lt x (before texts text)
+ordinal_to texts bound x = true
+
+-- the greatest ordinal of 64 bits that an upper bound admits, if it admits one
+abbrev pub IsLastOrdinal : List (List ℕ) → Bound FieldValue → Option ℕ → Type 0
+IsLastOrdinal texts bound last =
+    (x : ℕ) → x < 2 ^ 64 → option_map_or (λ high. nat_le x high) last false ≡ ordinal_to texts bound x
 
 -- a bound is one
 abbrev pub is_bounded : Bound FieldValue → Bool

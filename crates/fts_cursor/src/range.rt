@@ -1,11 +1,14 @@
-// Ranges of numbers, as what a column keeps.
-ghost use Rattle.std.specs.Prelude.{◌≡◌, ℕ, ◌^◌, ◌<◌, None, Some, false, not, slice_index_or, true};
+// Ranges, as what a column keeps: numbers, or ordinals of texts.
+ghost use Rattle.std.specs.Prelude.{◌≡◌, ℕ, ◌^◌, ◌<◌, ◌||◌, None, Some, false, not, slice_index_or, true};
 ghost use Rattle.std.specs.Option.{option_map_or};
 ghost use Rattle.fts_model.specs.Operations.{kind_at};
-ghost use Rattle.fts_model.specs.Queries.{is_range_of};
+ghost use Rattle.fts_model.specs.declared.schema.Kind.TheVariants as kinds;
+ghost use Rattle.fts_model.specs.Queries.{is_number_field, is_range_of};
 ghost use Rattle.fts_model.specs.QueryValues.{range};
 ghost use Rattle.fts_cursor.specs.Hits.{segment_hits};
-ghost use Rattle.fts_cursor.specs.Ranges.{IsGreatestOf, IsLeastOf, IsWhole, IsWholeBound, is_bounded, key_of};
+ghost use Rattle.fts_segment.specs.Segments.{keywords};
+ghost use Rattle.fts_cursor.specs.Ranges.{IsGreatestOf, IsLastOrdinal, IsLeastOf, IsWhole, IsWholeBound, is_bounded, key_of};
+ghost use Rattle.fts_cursor.specs.Ranges.{ordinal_from};
 
 use crate::kept::Kept;
 use crate::scan::ScanCursor;
@@ -16,7 +19,7 @@ use fts_model::{FieldValue, Number};
 use fts_segment::Segment;
 use std::ops::Bound;
 
-/// The documents with a value of a number field within bounds.
+/// The documents with a value of a keyword or number field within bounds.
 pub(crate) fn of_range<'a>(
     segment: &'a Segment,
     field: usize,
@@ -27,10 +30,30 @@ pub(crate) fn of_range<'a>(
         false ≡ true }
     ensures { result.remaining ≡ segment_hits segment.now (range field lower.now upper.now) }
 {
-    let docs = segment.docs();
     if is_open(lower) && is_open(upper) {
-        return Tree::scan(ScanCursor::new(Kept::Valued { segment, field }, docs));
+        let kept = Kept::Valued { segment, field };
+        return Tree::scan(ScanCursor::new(kept, segment.docs()));
     }
+    if segment.schema().kind(field).holds_numbers() {
+        of_numbers(segment, field, lower, upper)
+    } else {
+        of_keywords(segment, field, lower, upper)
+    }
+}
+
+// The documents with a number within bounds, of which one is one at least.
+fn of_numbers<'a>(
+    segment: &'a Segment,
+    field: usize,
+    lower: &Bound<FieldValue>,
+    upper: &Bound<FieldValue>,
+) -> Tree<'a>
+    requires range { option_map_or (is_range_of lower.now upper.now) (kind_at segment.now.schema field)
+        false ≡ true }
+    requires numbers { is_number_field segment.now.schema field ≡ true }
+    requires bounded { (is_bounded lower.now || is_bounded upper.now) ≡ true }
+    ensures { result.remaining ≡ segment_hits segment.now (range field lower.now upper.now) }
+{
     let column = segment.column(field);
     // Shows the proof that its numbers have 64 bits.
     let _ = most_of(column);
@@ -38,7 +61,63 @@ pub(crate) fn of_range<'a>(
         return Tree::nothing();
     };
     let kept = Kept::Within { column, low, high };
-    Tree::scan(ScanCursor::new(kept, docs))
+    Tree::scan(ScanCursor::new(kept, segment.docs()))
+}
+
+// The documents with a text within bounds, of which one is one at least: those with an ordinal among the ordinals of
+// these texts.
+fn of_keywords<'a>(
+    segment: &'a Segment,
+    field: usize,
+    lower: &Bound<FieldValue>,
+    upper: &Bound<FieldValue>,
+) -> Tree<'a>
+    requires range { is_range_of lower.now upper.now kinds.Keyword ≡ true }
+    requires keyword { kind_at segment.now.schema field ≡ Some kinds.Keyword }
+    requires bounded { (is_bounded lower.now || is_bounded upper.now) ≡ true }
+    ensures { result.remaining ≡ segment_hits segment.now (range field lower.now upper.now) }
+{
+    let column = segment.column(field);
+    // Shows the proof that its ordinals have 64 bits.
+    let _ = most_of(column);
+    let low = first_ordinal(segment, field, lower);
+    let Some(high) = last_ordinal(segment, field, upper) else {
+        return Tree::nothing();
+    };
+    let kept = Kept::Within { column, low, high };
+    Tree::scan(ScanCursor::new(kept, segment.docs()))
+}
+
+// The least ordinal that a lower bound of a text admits.
+fn first_ordinal(segment: &Segment, field: usize, bound: &Bound<FieldValue>) -> u64
+    requires { kind_at segment.now.schema field ≡ Some kinds.Keyword }
+    ensures { result ≡ ordinal_from (keywords segment.now field) bound.now }
+{
+    match bound {
+        Bound::Included(FieldValue::Text(text)) => segment.equal_range(field, text.as_str()).0,
+        Bound::Excluded(FieldValue::Text(text)) => segment.equal_range(field, text.as_str()).1,
+        Bound::Included(FieldValue::Number(_))
+        | Bound::Excluded(FieldValue::Number(_))
+        | Bound::Unbounded => 0,
+    }
+}
+
+// The greatest ordinal that an upper bound of a text admits.
+fn last_ordinal(segment: &Segment, field: usize, bound: &Bound<FieldValue>) -> Option<u64>
+    requires { kind_at segment.now.schema field ≡ Some kinds.Keyword }
+    ensures { IsLastOrdinal (keywords segment.now field) bound.now result }
+{
+    match bound {
+        Bound::Included(FieldValue::Text(text)) => {
+            segment.equal_range(field, text.as_str()).1.checked_sub(1)
+        }
+        Bound::Excluded(FieldValue::Text(text)) => {
+            segment.equal_range(field, text.as_str()).0.checked_sub(1)
+        }
+        Bound::Included(FieldValue::Number(_))
+        | Bound::Excluded(FieldValue::Number(_))
+        | Bound::Unbounded => Some(u64::MAX),
+    }
 }
 
 // The greatest number of a column.

@@ -1,6 +1,8 @@
 -- Which documents a query matches, and what may be asked of those.
 use Rattle.std.specs.Prelude.{◌≡◌, ℕ, ◌+◌, ◌==◌, ℤ, pos, ◌+ℤ◌, ◌&&◌, ◌||◌, not, nat_lt, nat_le, int_lt, Bool, true}
 use Rattle.std.specs.Prelude.{false, List, [], ◌∷◌, Option, Some, None, Result, Ok, Err, if◌then◌else◌, All, Contains}
+use Rattle.std.specs.Ordering.{nat_cmp, is_lt, is_le}
+use Rattle.std.specs.Cmp.Lexicographic.{slice_cmp}
 use Rattle.std.specs.List.{list_any, list_all, filter}
 use Rattle.std.specs.Option.{option_map_or}
 use Rattle.std.specs.Str.{bytes_eq}
@@ -21,7 +23,7 @@ use Rattle.fts_model.specs.declared.query.Order.{Order}
 use Rattle.fts_model.specs.declared.query.Top.{Top}
 use Rattle.fts_model.specs.declared.query.Request.{Request}
 use Rattle.fts_base.specs.Results.{result_and_then, result_map}
-use Rattle.fts_model.specs.Schemas.{field_named, holds_numbers}
+use Rattle.fts_model.specs.Schemas.{field_named, holds_numbers, is_ordered}
 use Rattle.fts_model.specs.Documents.{DocumentValue, value_in_field, is_of_kind}
 use Rattle.fts_model.specs.Operations.{has, kind_at, term_fits}
 use Rattle.fts_model.specs.QueryValues.{QueryValue, every, nothing, term, phrase, range, boolean, QueryValues}
@@ -63,14 +65,25 @@ number_le (U64 n) (U64 m) = nat_le n m
 number_le (I64 n) (I64 m) = not (int_lt m n)
 number_le a b = false
 
--- one value is a number below another of its kind, or one not above it
+-- one text is before another in the order of their bytes, where a beginning is before what it begins; or not behind it
+abbrev pub text_lt : List ℕ → List ℕ → Bool
+text_lt a b = is_lt (slice_cmp nat_cmp a b)
+
+abbrev pub text_le : List ℕ → List ℕ → Bool
+text_le a b = is_le (slice_cmp nat_cmp a b)
+
+-- one value is below another of its kind, or not above it: a number, or a text in the order of bytes
 abbrev pub value_lt : FieldValue → FieldValue → Bool
+value_lt (values.Text a) (values.Text b) = text_lt a b
+value_lt (values.Text a) (values.Number m) = false
+value_lt (values.Number n) (values.Text b) = false
 value_lt (values.Number n) (values.Number m) = number_lt n m
-value_lt a b = false
 
 abbrev pub value_le : FieldValue → FieldValue → Bool
+value_le (values.Text a) (values.Text b) = text_le a b
+value_le (values.Text a) (values.Number m) = false
+value_le (values.Number n) (values.Text b) = false
 value_le (values.Number n) (values.Number m) = number_le n m
-value_le a b = false
 
 -- a lower and an upper bound admit a value
 abbrev pub admits_from : Bound FieldValue → FieldValue → Bool
@@ -132,10 +145,10 @@ is_bound_of kind Unbounded = true
 
 -- whether a range fits fields of this kind
 abbrev pub is_range_of : Bound FieldValue → Bound FieldValue → Kind → Bool
-is_range_of lower upper kind = holds_numbers kind && is_bound_of kind lower && is_bound_of kind upper
+is_range_of lower upper kind = is_ordered kind && is_bound_of kind lower && is_bound_of kind upper
 
 -- whether a query fits a schema: a term's value is of its field's kind, a phrase is of a text field and has a member, a
--- range is of a number field and so are its bounds; whether all of some queries do
+-- range is of a field whose values have an order and so are its bounds; whether all of some queries do
 abbrev mutual
   pub query_fits : List Field → QueryValue → Bool
   query_fits schema every = true
@@ -154,6 +167,10 @@ abbrev mutual
 -- whether the field of this number holds numbers
 abbrev pub is_number_field : List Field → ℕ → Bool
 is_number_field schema field = option_map_or holds_numbers (kind_at schema field) false
+
+-- a field is there, and its values have an order
+abbrev pub is_ordered_field : List Field → ℕ → Bool
+is_ordered_field schema field = option_map_or is_ordered (kind_at schema field) false
 
 -- whether a top list may have at most so many members
 abbrev pub is_limit : ℕ → Bool

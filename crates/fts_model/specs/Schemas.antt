@@ -39,6 +39,13 @@ holds_numbers Keyword = false
 holds_numbers U64 = true
 holds_numbers I64 = true
 
+-- whether the values of fields of this kind have an order, by which ranges go
+abbrev pub is_ordered : Kind → Bool
+is_ordered Text = false
+is_ordered Keyword = true
+is_ordered U64 = true
+is_ordered I64 = true
+
 -- whether the field has this name
 abbrev pub is_named : List ℕ → Field → Bool
 is_named name field = bytes_eq field.name name

@@ -36,7 +36,7 @@ fn bound_fits(kind: Kind, bound: &Bound<FieldValue>) -> bool
 fn range_fits(kind: Kind, lower: &Bound<FieldValue>, upper: &Bound<FieldValue>) -> bool
     ensures { result ≡ is_range_of lower.now upper.now kind }
 {
-    kind.holds_numbers() && bound_fits(kind, lower) && bound_fits(kind, upper)
+    kind.is_ordered() && bound_fits(kind, lower) && bound_fits(kind, upper)
 }
 
 /// A query: which documents are hits.
@@ -53,7 +53,8 @@ pub enum Query {
         field: usize,
         pattern: Vec<(u32, Text)>,
     },
-    /// The documents with a value of a number field within the bounds.
+    /// The documents with a value of a keyword or number field within the bounds: keywords go by their bytes, numbers by
+    /// their values.
     Range {
         field: usize,
         lower: Bound<FieldValue>,
@@ -70,7 +71,7 @@ pub enum Query {
 
 impl Query {
     /// Whether the query fits the schema: a term's value is of its field's kind, a phrase is of a
-    /// text field and has a member, a range is of a number field and so are its bounds.
+    /// text field and has a member, a range is of a keyword or number field and so are its bounds.
     #[cycle(query_fits)]
     pub fn fits(&self, schema: &Schema) -> bool
         ensures { result ≡ query_fits schema.now (query_value self.now) }

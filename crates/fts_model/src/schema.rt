@@ -3,7 +3,8 @@ ghost use Rattle.std.specs.Prelude.{◌≡◌, ◌<◌, ◌≤◌, List, ℕ, So
 ghost use Rattle.std.specs.Prelude.{vec_len, option_map};
 ghost use Rattle.fts_base.specs.Results.{first_of};
 ghost use Rattle.fts_model.specs.Schemas.{is_name, is_reserved, starts_name, goes_on_name, has_name_start};
-ghost use Rattle.fts_model.specs.Schemas.{holds_numbers, is_named, field_fault, first_fault, schema_fault, field_named};
+ghost use Rattle.fts_model.specs.Schemas.{holds_numbers, is_ordered, is_named, field_fault, first_fault, schema_fault};
+ghost use Rattle.fts_model.specs.Schemas.{field_named};
 ghost use Rattle.fts_base.specs.declared.refusal.Refusal.TheVariants.{Memory};
 ghost use Rattle.std.specs.Arc.{arc_value};
 ghost use Rattle.std.specs.List.{list_all, list_any};
@@ -38,6 +39,17 @@ impl Kind {
         match self {
             Kind::Text | Kind::Keyword => false,
             Kind::U64 | Kind::I64 => true,
+        }
+    }
+
+    /// Whether the values of fields of this kind have an order, so that there are ranges of them: keywords go by their
+    /// bytes, numbers by their values.
+    pub fn is_ordered(self) -> bool
+        ensures { result ≡ is_ordered self }
+    {
+        match self {
+            Kind::Text => false,
+            Kind::Keyword | Kind::U64 | Kind::I64 => true,
         }
     }
 

@@ -11,7 +11,7 @@ use Rattle.fts_model.specs.declared.schema.Kind.{Kind}
 use Rattle.fts_model.specs.declared.schema.Field.{Field}
 use Rattle.fts_model.specs.declared.value.FieldValue.{FieldValue}
 use Rattle.fts_base.specs.Results.{result_and_then, result_map}
-use Rattle.fts_model.specs.Schemas.{field_named, holds_numbers}
+use Rattle.fts_model.specs.Schemas.{field_named, is_ordered}
 use Rattle.fts_model.specs.Documents.{is_of_kind}
 use Rattle.fts_model.specs.Operations.{kind_at}
 use Rattle.fts_model.specs.Queries.{query_fits, all_fit, holds_phrases, is_range_of, is_bound_of}
@@ -19,8 +19,8 @@ use Rattle.fts_query.specs.declared.error.QueryError.{QueryError}
 use Rattle.fts_query.specs.declared.error.QueryError.TheVariants.{BadNumber, UnknownField}
 use Rattle.fts_query.specs.declared.clauses.Occur.{Occur}
 use Rattle.fts_query.specs.declared.clauses.Occur.TheVariants.{Must, MustNot, Should}
-use Rattle.fts_model.specs.QueryValues.{QueryValue, range, query_list}
-use Rattle.fts_query.specs.Meanings.{Meaning, Factor, Clause, members, musts, must_nots, shoulds, boolean_of, node, conjunction, disjunction, disjunction_clause, list_meaning, occur_in_conjunction, number_below, value_in, begins_minus, with_value, with_tokens, literal_in, default_clauses, some_default, literal_anywhere, bound_in, Value, literal, between, meaning_in, meaning_at, field_meaning}
+use Rattle.fts_model.specs.QueryValues.{QueryValue, query_list}
+use Rattle.fts_query.specs.Meanings.{Meaning, Factor, Clause, members, musts, must_nots, shoulds, boolean_of, node, conjunction, disjunction, disjunction_clause, list_meaning, occur_in_conjunction, number_below, value_in, begins_minus, with_value, with_tokens, literal_in, default_clauses, some_default, literal_anywhere, bound_in, within, Value, literal, between, meaning_in, meaning_at, field_meaning}
 use Rattle.fts_query.specs.Grammar.{IsUnit, IsFactor, IsConjunction, IsDisjunction, IsList, IsQuery}
 use Rattle.fts_model.specs.declared.schema.Kind.TheVariants as kinds
 use Rattle.fts_model.specs.declared.value.Number.TheVariants as numbers
@@ -148,7 +148,7 @@ module _ (schema : List Field) where
   unfolding list_meaning
   list_meaning_fits cs h = node_fits _ (disjunction_clauses_fit cs h)
 
-  -- the value of a number field is of its kind
+  -- a value of a field is of its kind
   abbrev ValueFits : Kind → Result FieldValue QueryError → Type 0
   ValueFits kind (Ok v) = is_of_kind kind v ≡ true
   ValueFits kind (Err e) = Unit {0}
@@ -170,10 +170,10 @@ module _ (schema : List Field) where
   signed_fits false o None = tt
   signed_fits false o (Some n) = refl
 
-  -- a value of a number field fits
+  -- what a text is in a field fits
   value_fits : (kind : Kind) (text : List ℕ) → ValueFits kind (value_in kind text)
   value_fits kinds.Text text = tt
-  value_fits kinds.Keyword text = tt
+  value_fits kinds.Keyword text = refl
   value_fits kinds.U64 text = unsigned_fits (number_below (2 ^ 64) text)
   value_fits kinds.I64 text = signed_fits (begins_minus text) (number_below (2 ^ 63 + 1) (drop 1 text)) (number_below (2 ^ 63) text)
 
@@ -237,8 +237,8 @@ module _ (schema : List Field) where
   bound_fits kind Unbounded = refl
 
   -- two bounds fit
-  bounds_fit : (field : ℕ) (kind : Kind) → kind_at schema field ≡ Some kind → holds_numbers kind ≡ true → (low high : Result (Bound FieldValue) QueryError) → BoundFits kind low → BoundFits kind high
-      → MeaningFits (result_and_then (λ l. result_map (range field l) high) low)
+  bounds_fit : (field : ℕ) (kind : Kind) → kind_at schema field ≡ Some kind → is_ordered kind ≡ true → (low high : Result (Bound FieldValue) QueryError) → BoundFits kind low → BoundFits kind high
+      → MeaningFits (within field low high)
   unfolding BoundFits
   bounds_fit field kind e n (Err f) high a b = tt
   bounds_fit field kind e n (Ok l) (Err f) a b = tt
@@ -248,7 +248,7 @@ module _ (schema : List Field) where
   meaning_fits : (field : ℕ) (kind : Kind) (v : Value) → kind_at schema field ≡ Some kind → MeaningFits (meaning_in field kind v)
   meaning_fits field kind (literal text) e = literal_fits field kind text e
   meaning_fits field kind (between lower upper) e =
-      elim (cases_Bool (holds_numbers kind)) [
+      elim (cases_Bool (is_ordered kind)) [
         | inl n ↦ rw n (bounds_fit field kind e n (bound_in kind lower) (bound_in kind upper) (bound_fits kind lower) (bound_fits kind upper))
         | inr n ↦ rw n tt
       ]

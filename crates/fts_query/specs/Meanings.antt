@@ -14,7 +14,7 @@ use Rattle.fts_model.specs.declared.value.Number.TheVariants as numbers
 use Rattle.fts_model.specs.declared.value.FieldValue.{FieldValue}
 use Rattle.fts_model.specs.declared.value.FieldValue.TheVariants as values
 use Rattle.fts_base.specs.Results.{result_and_then, result_map}
-use Rattle.fts_model.specs.Schemas.{field_named, holds_numbers}
+use Rattle.fts_model.specs.Schemas.{field_named, is_ordered}
 use Rattle.fts_model.specs.Operations.{kind_at}
 use Rattle.fts_query.specs.declared.error.QueryError.{QueryError}
 use Rattle.fts_query.specs.declared.error.QueryError.TheVariants.{UnknownField, BadNumber, RangeOnText, NoDefaultField}
@@ -135,8 +135,15 @@ number_in kinds.I64 text =
     else option_map (λ n. numbers.I64 (pos n)) (number_below (2 ^ 63) text)
 
 -- the value of a number field that a text is
+abbrev pub number_value : Kind → List ℕ → Result FieldValue QueryError
+number_value kind text = option_map_or (λ n. Ok (values.Number n)) (number_in kind text) (Err BadNumber)
+
+-- the value that a text is in a field whose values have an order: a keyword as it is written, or a number
 abbrev pub value_in : Kind → List ℕ → Result FieldValue QueryError
-value_in kind text = option_map_or (λ n. Ok (values.Number n)) (number_in kind text) (Err BadNumber)
+value_in kinds.Text text = Err RangeOnText
+value_in kinds.Keyword text = Ok (values.Text text)
+value_in kinds.U64 text = number_value kinds.U64 text
+value_in kinds.I64 text = number_value kinds.I64 text
 
 -- the documents with a value in a field
 abbrev pub with_value : ℕ → FieldValue → QueryValue
@@ -172,11 +179,15 @@ some_default (c ∷ cs) = node (c ∷ cs)
 unfoldable pub literal_anywhere : List Field → List ℕ → Meaning
 literal_anywhere schema text = some_default (default_clauses 0 schema text)
 
--- a bound in a number field
+-- a bound in a field whose values have an order
 abbrev pub bound_in : Kind → Bound (List ℕ) → Result (Bound FieldValue) QueryError
 bound_in kind (Included text) = result_map Included (value_in kind text)
 bound_in kind (Excluded text) = result_map Excluded (value_in kind text)
 bound_in kind Unbounded = Ok Unbounded
+
+-- the documents with a value of a field within bounds, or the first error in these
+abbrev pub within : ℕ → Result (Bound FieldValue) QueryError → Result (Bound FieldValue) QueryError → Meaning
+within field lower upper = result_and_then (λ low. result_map (range field low) upper) lower
 
 -- what may stand after a field: a literal, or bounds
 pub data Value : Type 0 where
@@ -187,9 +198,7 @@ pub data Value : Type 0 where
 abbrev pub meaning_in : ℕ → Kind → Value → Meaning
 meaning_in field kind (literal text) = literal_in field kind text
 meaning_in field kind (between lower upper) =
-    if holds_numbers kind
-    then result_and_then (λ low. result_map (range field low) (bound_in kind upper)) (bound_in kind lower)
-    else Err RangeOnText
+    if is_ordered kind then within field (bound_in kind lower) (bound_in kind upper) else Err RangeOnText
 
 abbrev pub meaning_at : List Field → Value → ℕ → Meaning
 meaning_at schema value field =

@@ -39,7 +39,7 @@ pub enum QueryError {
     UnknownField,
     /// A literal or a bound of a number field is no number of its kind.
     BadNumber,
-    /// A range or a comparison on a text or keyword field.
+    /// A range or a comparison on a text field.
     RangeOnText,
     /// A literal without a field, and no default field.
     NoDefaultField,

@@ -6,8 +6,8 @@ ghost use Rattle.fts_text.specs.Places.{IsPlaceIn, token_at};
 ghost use Rattle.fts_base.specs.Results.{result_map};
 ghost use Rattle.fts_model.specs.QueryValues.{query_value};
 ghost use Rattle.fts_query.specs.Values.{value_seen, bound_seen, IsShort};
-ghost use Rattle.fts_query.specs.Meanings.{between, with_value, value_in, with_tokens, literal_in, literal_anywhere};
-ghost use Rattle.fts_query.specs.Meanings.{bound_in, meaning_in, field_meaning};
+ghost use Rattle.fts_query.specs.Meanings.{between, with_value, number_value, value_in, with_tokens, literal_in};
+ghost use Rattle.fts_query.specs.Meanings.{literal_anywhere, bound_in, within, meaning_in, field_meaning};
 
 use crate::clauses::{Clauses, Meaning, Occur};
 use crate::error::QueryError;
@@ -62,9 +62,9 @@ fn with_tokens(alloc: Global, field: usize, text: &str) -> Result<Query, AllocEr
     }
 }
 
-/// The number that a text is in a field of this kind.
-fn value_in(kind: Kind, text: &str) -> Result<FieldValue, QueryError>
-    ensures { result ≡ value_in kind text.now }
+/// The number that a text is in a number field of this kind.
+fn number_value(kind: Kind, text: &str) -> Result<FieldValue, QueryError>
+    ensures { result ≡ number_value kind text.now }
 {
     match number_in(kind, text) {
         Some(number) => Ok(FieldValue::Number(number)),
@@ -72,11 +72,29 @@ fn value_in(kind: Kind, text: &str) -> Result<FieldValue, QueryError>
     }
 }
 
-/// The documents with a number in a number field.
-fn with_number(field: usize, kind: Kind, text: &str) -> Meaning
-    ensures { result_map query_value result ≡ result_map (λ v. with_value field v) (value_in kind text.now) }
+/// The value that a text is in a field whose values have an order: a keyword as it is written, or a number.
+fn value_in(
+    alloc: Global,
+    kind: Kind,
+    text: &str,
+) -> Result<Result<FieldValue, QueryError>, AllocError>
+    ensures { IfOk result (λ v. v ≡ value_in kind text.now) }
 {
-    let value = value_in(kind, text)?;
+    match kind {
+        Kind::Text => Ok(Err(QueryError::RangeOnText)),
+        Kind::Keyword => {
+            let keyword = Text::new(String::from_str(alloc, text)?);
+            Ok(Ok(FieldValue::Text(keyword)))
+        }
+        Kind::U64 | Kind::I64 => Ok(number_value(kind, text)),
+    }
+}
+
+/// The documents with a value in a field.
+fn with_value(field: usize, value: Result<FieldValue, QueryError>) -> Meaning
+    ensures { result_map query_value result ≡ result_map (λ v. with_value field v) value }
+{
+    let value = value?;
     Ok(Query::Term(Term { field, value }))
 }
 
@@ -87,11 +105,10 @@ fn literal_in(alloc: Global, field: usize, kind: Kind, text: &str) -> Result<Mea
 {
     match kind {
         Kind::Text => Ok(Ok(with_tokens(alloc, field, text)?)),
-        Kind::Keyword => {
-            let value = FieldValue::Text(Text::new(String::from_str(alloc, text)?));
-            Ok(Ok(Query::Term(Term { field, value })))
+        Kind::Keyword | Kind::U64 | Kind::I64 => {
+            let value = value_in(alloc, kind, text)?;
+            Ok(with_value(field, value))
         }
-        Kind::U64 | Kind::I64 => Ok(with_number(field, kind, text)),
     }
 }
 
@@ -124,32 +141,55 @@ pub(crate) fn literal_anywhere(
     Ok(clauses.into_node())
 }
 
-/// A bound in a number field.
-fn bound_in(kind: Kind, bound: Bound<&str>) -> Result<Bound<FieldValue>, QueryError>
-    ensures { result ≡ bound_in kind (bound_seen bound.entry) }
+/// A bound in a field whose values have an order.
+fn bound_in(
+    alloc: Global,
+    kind: Kind,
+    bound: Bound<&str>,
+) -> Result<Result<Bound<FieldValue>, QueryError>, AllocError>
+    ensures { IfOk result (λ b. b ≡ bound_in kind (bound_seen bound.entry)) }
 {
     match bound {
-        Bound::Included(text) => Ok(Bound::Included(value_in(kind, text)?)),
-        Bound::Excluded(text) => Ok(Bound::Excluded(value_in(kind, text)?)),
-        Bound::Unbounded => Ok(Bound::Unbounded),
+        Bound::Included(text) => Ok(value_in(alloc, kind, text)?.map(Bound::Included)),
+        Bound::Excluded(text) => Ok(value_in(alloc, kind, text)?.map(Bound::Excluded)),
+        Bound::Unbounded => Ok(Ok(Bound::Unbounded)),
     }
 }
 
-/// What bounds mean in a field.
-fn range_in(field: usize, kind: Kind, lower: Bound<&str>, upper: Bound<&str>) -> Meaning
-    ensures { result_map query_value result
-        ≡ meaning_in field kind (between (bound_seen lower.entry) (bound_seen upper.entry)) }
+/// The documents with a value of a field within bounds.
+fn within(
+    field: usize,
+    lower: Result<Bound<FieldValue>, QueryError>,
+    upper: Result<Bound<FieldValue>, QueryError>,
+) -> Meaning
+    ensures { result_map query_value result ≡ within field lower upper }
 {
-    if !kind.holds_numbers() {
-        return Err(QueryError::RangeOnText);
-    }
-    let lower = bound_in(kind, lower)?;
-    let upper = bound_in(kind, upper)?;
+    let lower = lower?;
+    let upper = upper?;
     Ok(Query::Range {
         field,
         lower,
         upper,
     })
+}
+
+/// What bounds mean in a field.
+fn range_in(
+    alloc: Global,
+    field: usize,
+    kind: Kind,
+    lower: Bound<&str>,
+    upper: Bound<&str>,
+) -> Result<Meaning, AllocError>
+    ensures { IfOk result (λ m. result_map query_value m
+        ≡ meaning_in field kind (between (bound_seen lower.entry) (bound_seen upper.entry))) }
+{
+    if !kind.is_ordered() {
+        return Ok(Err(QueryError::RangeOnText));
+    }
+    let lower = bound_in(alloc, kind, lower)?;
+    let upper = bound_in(alloc, kind, upper)?;
+    Ok(within(field, lower, upper))
 }
 
 /// What stands after a field, in the field of this number and kind.
@@ -165,7 +205,7 @@ fn meaning_in(
     match value {
         Value::Word(word) => literal_in(alloc, field, kind, word),
         Value::Quoted(text) => literal_in(alloc, field, kind, text.as_str()),
-        Value::Range(lower, upper) => Ok(range_in(field, kind, lower, upper)),
+        Value::Range(lower, upper) => range_in(alloc, field, kind, lower, upper),
     }
 }
 

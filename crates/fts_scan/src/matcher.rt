@@ -7,7 +7,7 @@ ghost use Rattle.fts_text.specs.Tokens.{tokens};
 ghost use Rattle.fts_text.specs.Places.{IsPlaceIn, token_at};
 ghost use Rattle.fts_model.specs.QueryValues.{query_value};
 ghost use Rattle.fts_model.specs.Queries.{stands_with, leads, phrase_in, value_has_phrase, number_lt, number_le};
-ghost use Rattle.fts_model.specs.Queries.{value_lt, value_le};
+ghost use Rattle.fts_model.specs.Queries.{text_lt, text_le, value_lt, value_le};
 ghost use Rattle.fts_model.specs.Queries.{admits_from, admits_to, matches};
 ghost use Rattle.fts_scan.specs.Scans.{one_is};
 
@@ -149,23 +149,41 @@ fn number_le(a: Number, b: Number) -> bool
     }
 }
 
-/// Whether one value is a number below another.
+/// Whether one text is before another in the order of their bytes.
+fn text_lt(a: &str, b: &str) -> bool
+    ensures { result ≡ text_lt a.now b.now }
+{
+    a < b
+}
+
+/// Whether one text is not behind another in the order of their bytes.
+fn text_le(a: &str, b: &str) -> bool
+    ensures { result ≡ text_le a.now b.now }
+{
+    a <= b
+}
+
+/// Whether one value is below another of its kind.
 fn value_lt(a: &FieldValue, b: &FieldValue) -> bool
     ensures { result ≡ value_lt a.now b.now }
 {
     match (a, b) {
+        (FieldValue::Text(a), FieldValue::Text(b)) => text_lt(a.as_str(), b.as_str()),
         (FieldValue::Number(n), FieldValue::Number(m)) => number_lt(*n, *m),
-        (FieldValue::Text(_), _) | (_, FieldValue::Text(_)) => false,
+        (FieldValue::Text(_), FieldValue::Number(_))
+        | (FieldValue::Number(_), FieldValue::Text(_)) => false,
     }
 }
 
-/// Whether one value is a number not above another.
+/// Whether one value is not above another of its kind.
 fn value_le(a: &FieldValue, b: &FieldValue) -> bool
     ensures { result ≡ value_le a.now b.now }
 {
     match (a, b) {
+        (FieldValue::Text(a), FieldValue::Text(b)) => text_le(a.as_str(), b.as_str()),
         (FieldValue::Number(n), FieldValue::Number(m)) => number_le(*n, *m),
-        (FieldValue::Text(_), _) | (_, FieldValue::Text(_)) => false,
+        (FieldValue::Text(_), FieldValue::Number(_))
+        | (FieldValue::Number(_), FieldValue::Text(_)) => false,
     }
 }
 

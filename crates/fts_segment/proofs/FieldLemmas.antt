@@ -4,6 +4,7 @@ use Rattle.std.specs.Prelude.{slice_get, option_copied, option_map, option_and_t
 use Rattle.std.specs.Ordering.{int_eq}
 use Rattle.std.specs.Cmp.{signed_Decides}
 use Rattle.std.specs.List.{list_any}
+use Rattle.std.specs.Option.{option_map_or}
 use Rattle.std.specs.Str.{bytes_eq}
 use Rattle.std.proofs.lemmas.Bool.{cases_Bool, eqb-true, false≢true, ltb-true}
 use Rattle.std.proofs.lemmas.Bool.Decides.{nat_tests}
@@ -23,11 +24,12 @@ use Rattle.fts_model.specs.Documents.{DocumentValue, value_in_field, fits_i64}
 use Rattle.fts_model.specs.Operations.{has, field_has}
 use Rattle.fts_bits.specs.Signed.{u64_of}
 use Rattle.fts_segment.specs.declared.field_index.FieldIndex.{FieldIndex}
-use Rattle.fts_segment.specs.declared.field_index.FieldIndex.TheVariants.{Numbers, Terms}
+use Rattle.fts_segment.specs.declared.field_index.FieldIndex.TheVariants.{Numbers, Terms, Keywords}
 use Rattle.fts_segment.specs.declared.dictionary.Dictionary.{Dictionary}
 use Rattle.fts_segment.specs.declared.number_index.NumberIndex.{NumberIndex}
-use Rattle.fts_segment.specs.Segments.{SegmentValue, postings, column, numbers_where, number_of}
+use Rattle.fts_segment.specs.Segments.{SegmentValue, postings, column, keywords, ordinals, numbers_where, number_of}
 use Rattle.fts_segment.specs.Occurrences.{occurrences, docs_with, is_token, tokens_of, holds, values_in}
+use Rattle.fts_segment.specs.Keywords.{ordinals_of, texts_of}
 use Rattle.fts_segment.specs.Numbers.{Fits64, is_number, numbers_of}
 use Rattle.fts_segment.specs.FieldIndexes.{AreTerms, AreNumbers, IsFieldIndex, AreIndexes}
 use Rattle.fts_segment.proofs.TermsLemmas.{slice_get_push_cases}
@@ -279,13 +281,39 @@ index_found {schema} {documents} {indexes} f kind index a here within is =
     let P : Kind → Type 0 = λ k. IsFieldIndex k (values_in f documents) index in
     subst P field.2 (a.each f field.0 index field.1 (slice_get-get_or indexes f index within ∙ ap Some (sym is)))
 
+pub stored_index : {schema : List Field} {documents : List (Stamped DocumentValue)} {indexes : List FieldIndex} (f : ℕ) (kind : Kind) (index : FieldIndex) → AreIndexes schema documents indexes →
+    option_map (λ f. f.kind) (slice_get schema f) ≡ Some kind → index ≡ get_or indexes f index → IsFieldIndex kind (values_in f documents) index
+stored_index {schema} {documents} {indexes} f kind index a here is =
+    let field = field_at (slice_get schema f) kind here in
+    index_found f kind index a here (omega (arith, slice_get_within schema f field.0 field.1, a.count)) is
+
 -- the numbers of the values of a field are those of the documents
 pub numbers_of-values : (segment : SegmentValue) (f : ℕ) (kind : Kind) → option_map (λ f. f.kind) (slice_get segment.schema f) ≡ Some kind → numbers_of kind (values_in f segment.documents) ≡ column segment f
 numbers_of-values segment f kind here =
     sym (map-map (number_of kind) (λ (d : Stamped DocumentValue). value_in_field d.value f) segment.documents)
     ∙ ap (λ k. map (λ (d : Stamped DocumentValue). option_and_then (λ kind. number_of kind (value_in_field d.value f)) k) segment.documents) (sym here)
 
--- the numbers of a number field fit
-pub numbers_fit : (kind : Kind) (vs : List (Option FieldValue)) (index : FieldIndex) → IsFieldIndex kind vs index → holds_numbers kind ≡ true → All (λ v. IfSome v (Fits64 kind)) vs
-numbers_fit kind vs (Terms index) h numbers = absurd (false≢true (sym h.kind_is ∙ numbers))
-numbers_fit kind vs (Numbers index) h numbers = h.fit
+-- and the ordinals of these are those of the documents
+pub ordinals_of-values : (segment : SegmentValue) (f : ℕ) (kind : Kind) → option_map (λ f. f.kind) (slice_get segment.schema f) ≡ Some kind → ordinals_of kind (values_in f segment.documents) ≡ ordinals segment f
+ordinals_of-values segment f kind here = ap (λ k. option_map_or (λ kind. ordinals_of kind (values_in f segment.documents)) k []) (sym here)
+
+-- and so are their texts
+pub texts_of-values : (segment : SegmentValue) (f : ℕ) (kind : Kind) → option_map (λ f. f.kind) (slice_get segment.schema f) ≡ Some kind → texts_of kind (values_in f segment.documents) ≡ keywords segment f
+texts_of-values segment f kind here = ap (λ k. option_map_or (λ kind. texts_of kind (values_in f segment.documents)) k []) (sym here)
+
+no_number_fits : (vs : List (Option FieldValue)) → All (λ v. IfSome v (Fits64 kinds.Text)) vs × All (λ v. IfSome v (Fits64 kinds.Keyword)) vs
+no_number_fits vs = (λ k d less. text (get_or vs k d), λ k d less. keyword (get_or vs k d))
+  where
+    text : (v : Option FieldValue) → IfSome v (Fits64 kinds.Text)
+    text None = tt
+    text (Some v) = tt
+
+    keyword : (v : Option FieldValue) → IfSome v (Fits64 kinds.Keyword)
+    keyword None = tt
+    keyword (Some v) = tt
+
+-- the numbers of a field fit
+pub numbers_fit : (kind : Kind) (vs : List (Option FieldValue)) (index : FieldIndex) → IsFieldIndex kind vs index → All (λ v. IfSome v (Fits64 kind)) vs
+numbers_fit kind vs (Terms index) h = subst (λ k. All (λ v. IfSome v (Fits64 k)) vs) (sym h.0) (no_number_fits vs).0
+numbers_fit kind vs (Keywords index) h = subst (λ k. All (λ v. IfSome v (Fits64 k)) vs) (sym h.kind_is) (no_number_fits vs).1
+numbers_fit kind vs (Numbers index) h = h.fit

@@ -1,14 +1,17 @@
 -- A search by halving.
 use Rattle.std.proofs.Common.{◌≡◌, ◌+◌, ◌<◌, ◌≤◌, ℕ, List, [], length, get_or, sym, ap, subst, ◌∙◌, inl, inr, arith, Ordering, Less, Equal, Greater}
 use Rattle.std.specs.Prelude.{slice_get, Some}
-use Rattle.std.specs.Ordering.{nat_cmp, is_eq, ordering_reverse}
+use Rattle.std.specs.Ordering.{nat_cmp, is_eq, is_lt, is_le, ordering_reverse}
 use Rattle.std.specs.Cmp.Lexicographic.{slice_cmp}
 use Rattle.std.proofs.lemmas.Bool.{cases_lt}
 use Rattle.std.proofs.lemmas.Cmp.{nat_list_cmp_total, tied_itself}
 use Rattle.std.specs.Cmp.Lexicographic.{texts_ties}
 use Rattle.std.proofs.lemmas.Slice.Eq.{bytes_eq-Decides}
 use Rattle.std.proofs.lemmas.Option.{slice_get_within, slice_get-get_or, get_or_from_slice_get}
+use Rattle.fts_model.specs.Queries.{text_lt, text_le}
 use Rattle.fts_segment.specs.Sorted.{Ascends}
+use Rattle.fts_segment.specs.Keywords.{before, up_to}
+use Rattle.fts_segment.proofs.KeywordsLemmas.{count_front}
 
 -- what is below `low` is before the term, and what is from `high` on behind it
 pub record Narrows (names : List (List ℕ)) (term : List ℕ) (low high : ℕ) : Type 0 where
@@ -60,3 +63,24 @@ Narrows-none {names} {term} {low} {high} n met i found =
 
 pub Narrows-found : (names : List (List ℕ)) (term : List ℕ) (middle : ℕ) → middle < length names → slice_cmp nat_cmp (get_or names middle []) term ≡ Equal → slice_get names middle ≡ Some term
 Narrows-found names term middle within equal = slice_get-get_or names middle [] within ∙ ap Some (same_from_equal (get_or names middle []) term equal)
+
+-- where nothing is left between them, `low` names are before the term, and none is the term
+pub Narrows-before : {names : List (List ℕ)} {term : List ℕ} {low high : ℕ} → Narrows names term low high → high ≤ low → before names term ≡ low
+Narrows-before {names} {term} {low} {high} n met =
+    count_front (λ t. text_lt t term) names low (omega (arith, n.ordered, n.within, met)) (λ i h. ap is_lt (n.before i h)) (λ i h within. ap is_lt (n.behind i (omega (arith, met, h)) within))
+
+pub Narrows-up_to : {names : List (List ℕ)} {term : List ℕ} {low high : ℕ} → Narrows names term low high → high ≤ low → up_to names term ≡ low
+Narrows-up_to {names} {term} {low} {high} n met =
+    count_front (λ t. text_le t term) names low (omega (arith, n.ordered, n.within, met)) (λ i h. ap is_le (n.before i h)) (λ i h within. ap is_le (n.behind i (omega (arith, met, h)) within))
+
+-- a name that is there isn't behind itself, nor are those before it
+pub up_to-found : (names : List (List ℕ)) (term : List ℕ) (i : ℕ) → Ascends names → slice_get names i ≡ Some term → up_to names term ≡ i + 1
+up_to-found names term i up found =
+    let within : i < length names = slice_get_within names i term found in
+    let here : get_or names i [] ≡ term = get_or_from_slice_get names i term [] found in
+    count_front (λ t. text_le t term) names (i + 1) (omega (arith, within))
+    (λ k h. elim (cases_lt k i) [
+      | inl lower ↦ ap is_le (ap (slice_cmp nat_cmp (get_or names k [])) (sym here) ∙ up k i lower within)
+      | inr higher ↦ let same : i ≡ k = omega (arith, h, higher) in ap is_le (ap (λ k. slice_cmp nat_cmp (get_or names k []) term) (sym same) ∙ ap (λ t. slice_cmp nat_cmp t term) here ∙ tied_itself nat_list_cmp_total term)
+    ])
+    (λ k h inside. ap is_le (ap (slice_cmp nat_cmp (get_or names k [])) (sym here) ∙ turned (get_or names i []) (get_or names k []) Less (up i k (omega (arith, h)) inside)))

@@ -9,6 +9,8 @@ pub mod HoldingLemmas
 pub mod DictionaryLemmas
 pub mod SegmentLemmas
 pub mod StoredLemmas
+pub mod KeywordsLemmas
+pub mod KeywordIndexLemmas
 pub mod FieldLemmas
 pub mod NumberLemmas
 pub mod PositionListsLemmas

@@ -1,18 +1,21 @@
 -- What the indexes of fields say of documents.
 use Rattle.std.specs.Prelude.{◌≡◌, ℕ, ◌^◌, ◌≤◌, true, false, List, length, Option, Some, IfSome, All, slice_get}
 use Rattle.fts_model.specs.declared.schema.Kind.{Kind}
+use Rattle.fts_model.specs.declared.schema.Kind.TheVariants as kinds
 use Rattle.fts_model.specs.declared.schema.Field.{Field}
 use Rattle.fts_model.specs.declared.value.FieldValue.{FieldValue}
 use Rattle.fts_model.specs.declared.operation.Stamped.{Stamped}
 use Rattle.fts_model.specs.Schemas.{holds_numbers}
 use Rattle.fts_model.specs.Documents.{DocumentValue}
 use Rattle.fts_segment.specs.declared.field_index.FieldIndex.{FieldIndex}
-use Rattle.fts_segment.specs.declared.field_index.FieldIndex.TheVariants.{Terms, Numbers}
+use Rattle.fts_segment.specs.declared.field_index.FieldIndex.TheVariants.{Terms, Keywords, Numbers}
 use Rattle.fts_segment.specs.declared.dictionary.Dictionary.{Dictionary}
+use Rattle.fts_segment.specs.declared.keyword_index.KeywordIndex.{KeywordIndex}
 use Rattle.fts_segment.specs.declared.number_index.NumberIndex.{NumberIndex}
 use Rattle.fts_segment.specs.Occurrences.{occurrences, values_in}
 use Rattle.fts_segment.specs.Dictionaries.{IsDictionaryOf}
 use Rattle.fts_segment.specs.TermPositionLists.{term_position_lists}
+use Rattle.fts_segment.specs.Keywords.{ordinals_of, texts_of}
 use Rattle.fts_segment.specs.Numbers.{Fits64, numbers_of, IsNumberIndex}
 
 -- the terms of a text or keyword field
@@ -20,6 +23,13 @@ pub record AreTerms (kind : Kind) (vs : List (Option FieldValue)) (dictionary : 
   pub kind_is : holds_numbers kind ≡ false
   pub dictionary_is : IsDictionaryOf (occurrences kind 0 vs)
       dictionary.names dictionary.lists.items (term_position_lists dictionary.positions)
+
+-- the texts of a keyword field
+pub record AreKeywords (kind : Kind) (vs : List (Option FieldValue)) (index : KeywordIndex) : Type 0 where
+  pub kind_is : kind ≡ kinds.Keyword
+  pub terms : AreTerms kind vs index.dictionary
+  pub texts : index.dictionary.names ≡ texts_of kind vs
+  pub ordinals : index.ordinals ≡ ordinals_of kind vs
 
 -- the numbers of a number field
 pub record AreNumbers (kind : Kind) (vs : List (Option FieldValue)) (index : NumberIndex) : Type 0 where
@@ -30,7 +40,8 @@ pub record AreNumbers (kind : Kind) (vs : List (Option FieldValue)) (index : Num
 
 -- the index of a field of this kind in which the documents have these values
 abbrev pub IsFieldIndex : Kind → List (Option FieldValue) → FieldIndex → Type 0
-IsFieldIndex kind vs (Terms dictionary) = AreTerms kind vs dictionary
+IsFieldIndex kind vs (Terms dictionary) = (kind ≡ kinds.Text) × AreTerms kind vs dictionary
+IsFieldIndex kind vs (Keywords index) = AreKeywords kind vs index
 IsFieldIndex kind vs (Numbers index) = AreNumbers kind vs index
 
 -- the numbers that documents have in a field of this kind fit 64 bits

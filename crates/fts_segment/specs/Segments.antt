@@ -14,7 +14,8 @@ use Rattle.fts_model.specs.declared.value.Number.TheVariants as numbers
 use Rattle.fts_model.specs.Documents.{DocumentValue, IsDocument, fits, value_in_field}
 use Rattle.fts_model.specs.Operations.{has, kind_at}
 use Rattle.fts_bits.specs.Signed.{u64_of}
-use Rattle.fts_segment.specs.Occurrences.{tokens_of, is_token}
+use Rattle.fts_segment.specs.Keywords.{ordinals_of, texts_of}
+use Rattle.fts_segment.specs.Occurrences.{tokens_of, is_token, values_in}
 
 -- a schema, and documents with their stamps
 pub record SegmentValue : Type 0 where
@@ -75,6 +76,16 @@ abbrev pub column : SegmentValue → ℕ → List (Option ℕ)
 column segment field =
     map (λ d. option_and_then (λ kind. number_of kind (value_in_field d.value field)) (kind_at segment.schema field))
     segment.documents
+
+-- the different texts of the documents in a keyword field, in the order of their bytes
+abbrev pub keywords : SegmentValue → ℕ → List (List ℕ)
+keywords segment field =
+    option_map_or (λ kind. texts_of kind (values_in field segment.documents)) (kind_at segment.schema field) []
+
+-- the ordinals of the documents in a keyword field: how many of its texts are before a document's own
+abbrev pub ordinals : SegmentValue → ℕ → List (Option ℕ)
+ordinals segment field =
+    option_map_or (λ kind. ordinals_of kind (values_in field segment.documents)) (kind_at segment.schema field) []
 
 -- no documents yet
 abbrev pub no_documents : List Field → SegmentValue

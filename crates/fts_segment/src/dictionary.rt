@@ -1,9 +1,12 @@
 // The dictionary: the terms that occur, in order, each with the list of its documents and its positions in them.
 use crate::find::find_name;
 use crate::names::Names;
+use crate::occurrences::logged;
 use crate::segment::ListId;
 use crate::term_positions::TermPositions;
+use fts_model::{Document, Kind, Stamped};
 use fts_pack::List;
+use std::alloc::{AllocError, Global};
 
 /// The terms that occur, the documents of each, and its positions in them.
 #[derive(Drop)]
@@ -14,10 +17,27 @@ pub(crate) struct Dictionary {
 }
 
 impl Dictionary {
-    ghost use Rattle.std.specs.Prelude.{◌≡◌, [], ℕ, Some, MatchOption, length, slice_get, slice_index_or};
+    ghost use Rattle.std.specs.Prelude.{◌≡◌, ◌≤◌, ◌^◌, [], ℕ, Some, IfOk, MatchOption, length, slice_get, slice_index_or};
+    ghost use Rattle.fts_segment.specs.Dictionaries.{IsDictionaryOf};
+    ghost use Rattle.fts_segment.specs.Occurrences.{occurrences, values_in};
     ghost use Rattle.fts_segment.specs.Sorted.{Ascends};
     ghost use Rattle.fts_segment.specs.ListIds.{documents_in, positions_in};
     ghost use Rattle.fts_segment.specs.TermPositionLists.{term_position_lists};
+
+    /// The terms of the documents in a text or keyword field.
+    pub(crate) fn new(
+        alloc: Global,
+        documents: &[Stamped<Document>],
+        field: usize,
+        kind: Kind,
+    ) -> Result<Dictionary, AllocError>
+        requires { length documents.now ≤ 2 ^ 32 }
+        ensures { IfOk result (λ dictionary. IsDictionaryOf (occurrences kind 0 (values_in field documents.now))
+            dictionary.names dictionary.lists.items (term_position_lists dictionary.positions)) }
+    {
+        let log = logged(alloc, documents, field, kind)?;
+        log.dictionary(alloc)
+    }
 
     /// The list of a term, where it is one of the names.
     pub(crate) fn find(&self, term: &str) -> Option<ListId<'_>>

@@ -1,5 +1,5 @@
-// What is looked up in a field: the terms of its texts, or its numbers.
-ghost use Rattle.std.specs.Prelude.{◌≡◌, ◌≢◌, [], List, Option, ◌≤◌, ◌^◌, length, IfOk, IfNone, IfSome, true};
+// What is looked up in a field: the terms of its texts, its keywords or its numbers.
+ghost use Rattle.std.specs.Prelude.{◌≡◌, ◌≢◌, [], List, Option, ◌≤◌, ◌^◌, length, IfOk, IfNone, IfSome, true, false};
 ghost use Rattle.fts_model.specs.declared.value.FieldValue.{FieldValue};
 ghost use Rattle.fts_segment.specs.FieldIndexes.{IsFieldIndex, AreTerms};
 ghost use Rattle.fts_segment.specs.ListIds.{documents_in, positions_in};
@@ -7,11 +7,14 @@ ghost use Rattle.fts_segment.specs.Occurrences.{holds, values_in};
 ghost use Rattle.fts_segment.specs.Segments.{numbers_where};
 ghost use Rattle.fts_segment.specs.Positions.{value_position_lists};
 ghost use Rattle.fts_segment.specs.Numbers.{numbers_of};
-ghost use Rattle.fts_model.specs.Schemas.{holds_numbers};
+ghost use Rattle.fts_model.specs.declared.schema.Kind.TheVariants as kinds;
+ghost use Rattle.fts_segment.specs.Keywords.{before, ordinals_of, texts_of, up_to};
+ghost use Rattle.fts_model.specs.Schemas.{holds_numbers, is_ordered};
 
 use crate::dictionary::Dictionary;
+use crate::find::equal_range;
+use crate::keyword_index::KeywordIndex;
 use crate::number_index::{NumberIndex, number_in};
-use crate::occurrences::logged;
 use crate::segment::ListId;
 use fts_column::Column;
 use fts_model::{Document, FieldValue, Kind, Stamped};
@@ -21,6 +24,7 @@ use std::alloc::{AllocError, Global};
 #[derive(Drop)]
 pub(crate) enum FieldIndex {
     Terms(Dictionary),
+    Keywords(KeywordIndex),
     Numbers(NumberIndex),
 }
 
@@ -35,24 +39,50 @@ impl FieldIndex {
         requires { length documents.now ≤ 2 ^ 32 }
         ensures { IfOk result (λ index. IsFieldIndex kind (values_in field documents.now) index) }
     {
-        if kind.holds_numbers() {
-            let index = NumberIndex::new(alloc, documents, field, kind)?;
-            return Ok(FieldIndex::Numbers(index));
+        match kind {
+            Kind::Text => {
+                let dictionary = Dictionary::new(alloc, documents, field, kind)?;
+                Ok(FieldIndex::Terms(dictionary))
+            }
+            Kind::Keyword => {
+                let index = KeywordIndex::new(alloc, documents, field)?;
+                Ok(FieldIndex::Keywords(index))
+            }
+            Kind::U64 | Kind::I64 => {
+                let index = NumberIndex::new(alloc, documents, field, kind)?;
+                Ok(FieldIndex::Numbers(index))
+            }
         }
-        let log = logged(alloc, documents, field, kind)?;
-        Ok(FieldIndex::Terms(log.dictionary(alloc)?))
     }
 
-    /// The numbers of the documents in a number field.
+    /// The numbers of the documents in a number field, or their ordinals in a keyword field.
     pub(crate) fn column(&self, kind: Kind) -> &Column
-        requires numbers { holds_numbers kind ≡ true }
+        requires ordered { is_ordered kind ≡ true }
         requires is { (vs : List (Option FieldValue)) × IsFieldIndex kind vs self.now }
-        ensures { (vs : List (Option FieldValue)) → IsFieldIndex kind vs self.now
-            → result.now ≡ numbers_of kind vs }
+        ensures numbers { (vs : List (Option FieldValue)) → IsFieldIndex kind vs self.now
+            → holds_numbers kind ≡ true → result.now ≡ numbers_of kind vs }
+        ensures ordinals { (vs : List (Option FieldValue)) → IsFieldIndex kind vs self.now
+            → holds_numbers kind ≡ false → result.now ≡ ordinals_of kind vs }
     {
         match self {
+            FieldIndex::Keywords(index) => &index.ordinals,
             FieldIndex::Numbers(index) => &index.column,
             FieldIndex::Terms(_) => unreachable!(),
+        }
+    }
+
+    /// How many texts of a keyword field are before a text, and how many aren't behind it.
+    pub(crate) fn equal_range(&self, kind: Kind, text: &str) -> (usize, usize)
+        requires keyword { kind ≡ kinds.Keyword }
+        requires is { (vs : List (Option FieldValue)) × IsFieldIndex kind vs self.now }
+        ensures before { (vs : List (Option FieldValue)) → IsFieldIndex kind vs self.now
+            → result.0 ≡ before (texts_of kind vs) text.now }
+        ensures up_to { (vs : List (Option FieldValue)) → IsFieldIndex kind vs self.now
+            → result.1 ≡ up_to (texts_of kind vs) text.now }
+    {
+        match self {
+            FieldIndex::Keywords(index) => equal_range(&index.dictionary.names, text.as_bytes()),
+            FieldIndex::Terms(_) | FieldIndex::Numbers(_) => unreachable!(),
         }
     }
 
@@ -69,6 +99,7 @@ impl FieldIndex {
     {
         match self {
             FieldIndex::Terms(dictionary) => find_text(dictionary, kind, term),
+            FieldIndex::Keywords(index) => find_text(&index.dictionary, kind, term),
             FieldIndex::Numbers(index) => index.find(number_in(kind, Some(term))?),
         }
     }

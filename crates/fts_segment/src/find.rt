@@ -1,16 +1,20 @@
 // Looks a name up among sorted names, and a number among rising numbers, by halving.
-ghost use Rattle.std.specs.Prelude.{◌≡◌, ◌<◌, slice_get, MatchOption, Some, ℕ};
+ghost use Rattle.std.specs.Prelude.{◌≡◌, ◌<◌, ◌+◌, ◌^◌, slice_get, MatchOption, IfOk, IfErr, Some, ℕ};
+ghost use Rattle.fts_segment.specs.Keywords.{before, up_to};
 ghost use Rattle.std.specs.List.Sorted.{IsStrictlyIncreasing};
 ghost use Rattle.fts_segment.specs.Sorted.{Ascends};
 
 use crate::names::Names;
 use std::cmp::Ordering;
 
-/// The number of a name.
-pub(crate) fn find_name(names: &Names, name: &[u8]) -> Option<usize>
+/// The number of a name; or, where it isn't there, how many names are before it.
+fn place_of_name(names: &Names, name: &[u8]) -> Result<usize, usize>
     requires { Ascends names.now }
-    ensures { MatchOption result ((i : ℕ) → slice_get names.now i ≡ Some name.now → ⊥)
-        (λ i. slice_get names.now i ≡ Some name.now) }
+    ensures found { IfOk result (λ i. slice_get names.now i ≡ Some name.now) }
+    ensures room { IfOk result (λ i. i + 1 < 2 ^ 64) }
+    ensures absent { IfErr result (λ i. (k : ℕ) → slice_get names.now k ≡ Some name.now → ⊥) }
+    ensures before { IfErr result (λ i. i ≡ before names.now name.now) }
+    ensures up_to { IfErr result (λ i. i ≡ up_to names.now name.now) }
 {
     let mut low = 0;
     let mut high = names.len();
@@ -19,10 +23,34 @@ pub(crate) fn find_name(names: &Names, name: &[u8]) -> Option<usize>
         match names.get(middle).cmp(name) {
             Ordering::Less => low = middle + 1,
             Ordering::Greater => high = middle,
-            Ordering::Equal => return Some(middle),
+            Ordering::Equal => return Ok(middle),
         }
     }
-    None
+    Err(low)
+}
+
+/// The number of a name.
+pub(crate) fn find_name(names: &Names, name: &[u8]) -> Option<usize>
+    requires { Ascends names.now }
+    ensures { MatchOption result ((i : ℕ) → slice_get names.now i ≡ Some name.now → ⊥)
+        (λ i. slice_get names.now i ≡ Some name.now) }
+{
+    match place_of_name(names, name) {
+        Ok(place) => Some(place),
+        Err(_) => None,
+    }
+}
+
+/// How many names are before a text, and how many aren't behind it.
+pub(crate) fn equal_range(names: &Names, text: &[u8]) -> (usize, usize)
+    requires { Ascends names.now }
+    ensures before { result.0 ≡ before names.now text.now }
+    ensures up_to { result.1 ≡ up_to names.now text.now }
+{
+    match place_of_name(names, text) {
+        Ok(place) => (place, place + 1),
+        Err(place) => (place, place),
+    }
 }
 
 /// The index of a number.

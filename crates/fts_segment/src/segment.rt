@@ -1,12 +1,14 @@
 // Documents that never change, with the terms that they have.
 ghost use Rattle.std.specs.Prelude.{◌≡◌, ◌≢◌, ◌^◌, ◌<◌, ◌≤◌, [], length, slice_get, option_map, Some, IfNone, IfSome};
-ghost use Rattle.std.specs.Prelude.{All, true};
+ghost use Rattle.std.specs.Prelude.{All, true, false};
 ghost use Rattle.fts_model.specs.Documents.{IsDocument, fits};
-ghost use Rattle.fts_model.specs.Queries.{is_number_field};
+ghost use Rattle.fts_model.specs.Queries.{is_number_field, is_ordered_field};
 ghost use Rattle.fts_model.specs.Operations.{kind_at};
 ghost use Rattle.fts_model.specs.declared.schema.Kind.{Kind};
 ghost use Rattle.fts_segment.specs.FieldIndexes.{NumbersFit};
-ghost use Rattle.fts_segment.specs.Segments.{postings, positions, column};
+ghost use Rattle.fts_segment.specs.Segments.{postings, positions, column, keywords, ordinals};
+ghost use Rattle.fts_segment.specs.Keywords.{before, up_to};
+ghost use Rattle.fts_model.specs.declared.schema.Kind.TheVariants as kinds;
 ghost use Rattle.fts_segment.specs.ListIds.{documents_in, positions_in};
 
 use crate::field_index::FieldIndex;
@@ -114,15 +116,29 @@ impl Segment {
         PositionReader::new(list.positions)
     }
 
-    /// The numbers of the documents in a number field, where an `i64` is the `u64` in its place.
+    /// The numbers of the documents in a number field, where an `i64` is the `u64` in its place; or the ordinals of the
+    /// documents in a keyword field: how many of the segment's different texts of the field are before a document's own.
     pub fn column(&self, field: usize) -> &Column
-        requires { is_number_field self.now.schema field ≡ true }
-        ensures values { result.now ≡ column self.now field }
+        requires { is_ordered_field self.now.schema field ≡ true }
+        ensures numbers { is_number_field self.now.schema field ≡ true → result.now ≡ column self.now field }
+        ensures ordinals { is_number_field self.now.schema field ≡ false → result.now ≡ ordinals self.now field }
         ensures fit { (kind : Kind) → kind_at self.now.schema field ≡ Some kind
             → NumbersFit kind field self.now.documents }
     {
         let stored: &Stored = &self.stored;
         stored.indexes[field].column(stored.schema.kind(field))
+    }
+
+    /// Between which ordinals of a keyword field a text stands: how many of the segment's different texts of the field
+    /// are before it, and how many aren't behind it. The two are equal where no document has the text.
+    pub fn equal_range(&self, field: usize, text: &str) -> (u64, u64)
+        requires { kind_at self.now.schema field ≡ Some kinds.Keyword }
+        ensures before { result.0 ≡ before (keywords self.now field) text.now }
+        ensures up_to { result.1 ≡ up_to (keywords self.now field) text.now }
+    {
+        let stored: &Stored = &self.stored;
+        let (before, up_to) = stored.indexes[field].equal_range(stored.schema.kind(field), text);
+        (before as u64, up_to as u64)
     }
 }
 

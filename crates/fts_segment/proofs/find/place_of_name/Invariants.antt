@@ -1,6 +1,6 @@
 use Rattle.std.proofs.Common.{◌-◌}
 use Rattle.fts_segment.proofs.FindLemmas.{Narrows}
-use Rattle.fts_segment.proofs.find.find_name.Given as goal
+use Rattle.fts_segment.proofs.find.place_of_name.Given as goal
 
 abbrev pub invariant-loop-low : goal.invariant-loop-low
 invariant-loop-low l = Narrows l.names l.name l.low l.high

@@ -5,7 +5,7 @@ use Rattle.fts_segment.specs.Positions.{position_lists_with}
 use Rattle.fts_segment.specs.PositionLists.{IsPositionList}
 use Rattle.fts_segment.proofs.HoldingLemmas.{docs_with-rise}
 use Rattle.fts_segment.proofs.PositionsLemmas.{ArePositionLists-occurrences}
-use Rattle.fts_segment.proofs.field_index.FieldIndex.new.Goals as goal
+use Rattle.fts_segment.proofs.dictionary.Dictionary.new.Goals as goal
 
 pub dictionary-requires-clause-rise : goal.dictionary-requires-clause-rise
 dictionary-requires-clause-rise c q =

@@ -1,0 +1,18 @@
+-- The index of one field more stands behind the others.
+use Rattle.std.proofs.Common.{◌+◌, sym, subst}
+use Rattle.std.specs.Prelude.{slice_get}
+use Rattle.fts_model.specs.declared.schema.Kind.{Kind}
+use Rattle.fts_segment.specs.FieldIndexes.{IsFieldIndex}
+use Rattle.fts_segment.specs.Occurrences.{values_in}
+use Rattle.fts_segment.proofs.FieldLemmas.{AreFirst, AreFirst-push, field_at}
+use Rattle.fts_segment.proofs.builder.indexed.Goals as goal
+
+pub loop-field-preserved : goal.loop-field-preserved
+loop-field-preserved c =
+    let schema = c.args.schema.now in
+    let documents = c.args.documents.now in
+    let number = c.loop-field.field in
+    let field = field_at (slice_get schema number) c.kind-kind.result c.kind-kind.ensures in
+    let index = c.in_ok-new.field-0 in
+    subst (AreFirst schema documents (number + 1)) (sym c.in_ok-push.ensures.items)
+    (AreFirst-push index field.0 field.1 (subst (λ (k : Kind). IsFieldIndex k (values_in number documents) index) (sym field.2) c.in_ok-new.ensures) c.loop-field.invariant)

@@ -1,0 +1,45 @@
+-- The different texts of a field in the order of their bytes, and what stands before a text among them.
+use Rattle.std.specs.Prelude.{ℕ, Bool, List, [], ◌∷◌, Option, Some, None, length, filter, fold, map, option_map}
+use Rattle.std.specs.Ordering.{nat_cmp, match_ordering}
+use Rattle.std.specs.Cmp.Lexicographic.{slice_cmp}
+use Rattle.fts_model.specs.Queries.{text_lt, text_le}
+use Rattle.fts_model.specs.declared.schema.Kind.{Kind}
+use Rattle.fts_model.specs.declared.schema.Kind.TheVariants as kinds
+use Rattle.fts_model.specs.declared.value.FieldValue.{FieldValue}
+use Rattle.fts_model.specs.declared.value.FieldValue.TheVariants as values
+
+-- texts in order with one text more, unless it is among them
+abbrev pub with_text : List (List ℕ) → List ℕ → List (List ℕ)
+with_text [] text = text ∷ []
+with_text (t ∷ ts) text =
+    match_ordering (slice_cmp nat_cmp text t) (text ∷ t ∷ ts) (t ∷ ts) (t ∷ with_text ts text)
+
+-- the different ones of some texts, in order
+abbrev pub in_order : List (List ℕ) → List (List ℕ)
+in_order texts = fold with_text [] texts
+
+-- how many of them are before a text, and how many aren't behind it
+abbrev pub before : List (List ℕ) → List ℕ → ℕ
+before texts text = length (filter (λ t. text_lt t text) texts)
+
+abbrev pub up_to : List (List ℕ) → List ℕ → ℕ
+up_to texts text = length (filter (λ t. text_le t text) texts)
+
+-- the text of a value in a keyword field
+abbrev pub keyword_of : Kind → Option FieldValue → Option (List ℕ)
+keyword_of kinds.Keyword (Some (values.Text text)) = Some text
+keyword_of kind value = None
+
+-- the texts that are there
+abbrev pub texts_in : List (Option (List ℕ)) → List (List ℕ)
+texts_in [] = []
+texts_in (None ∷ ts) = texts_in ts
+texts_in (Some t ∷ ts) = t ∷ texts_in ts
+
+-- the different texts of values in a keyword field, in order
+abbrev pub texts_of : Kind → List (Option FieldValue) → List (List ℕ)
+texts_of kind vs = in_order (texts_in (map (keyword_of kind) vs))
+
+-- of each value how many of these texts are before its own
+abbrev pub ordinals_of : Kind → List (Option FieldValue) → List (Option ℕ)
+ordinals_of kind vs = map (λ v. option_map (before (texts_of kind vs)) (keyword_of kind v)) vs

@@ -1,0 +1,75 @@
+// The texts of a keyword field: a dictionary, and for each document the ordinal of its text.
+ghost use Rattle.std.specs.Prelude.{◌≡◌, ◌≤◌, ◌^◌, ℕ, [], Contains, IfOk, IfSome, Some, length, option_copied, option_map};
+ghost use Rattle.fts_model.specs.declared.schema.Kind.TheVariants as kinds;
+ghost use Rattle.fts_segment.specs.FieldIndexes.{AreKeywords};
+ghost use Rattle.fts_segment.specs.Keywords.{before, keyword_of, ordinals_of, texts_of, up_to};
+ghost use Rattle.fts_segment.specs.Occurrences.{values_in};
+ghost use Rattle.fts_segment.specs.Sorted.{Ascends};
+
+use crate::dictionary::Dictionary;
+use crate::find::find_name;
+use crate::names::Names;
+use fts_column::Column;
+use fts_model::{Document, FieldValue, Kind, Stamped};
+use std::alloc::{AllocError, Global};
+
+/// The texts of a keyword field.
+#[derive(Drop)]
+pub(crate) struct KeywordIndex {
+    /// The different texts in order, each with its documents.
+    pub(crate) dictionary: Dictionary,
+    /// Of each document how many different texts are before its own.
+    pub(crate) ordinals: Column,
+}
+
+impl KeywordIndex {
+    /// The texts of the documents in a keyword field.
+    pub(crate) fn new(
+        alloc: Global,
+        documents: &[Stamped<Document>],
+        field: usize,
+    ) -> Result<KeywordIndex, AllocError>
+        requires { length documents.now ≤ 2 ^ 32 }
+        ensures { IfOk result (AreKeywords kinds.Keyword (values_in field documents.now)) }
+    {
+        let dictionary = Dictionary::new(alloc, documents, field, Kind::Keyword)?;
+        let ordinals = ordinals_of(alloc, documents, field, &dictionary.names)?;
+        let Ok(ordinals) = Column::build(alloc, &ordinals) else {
+            return Err(AllocError);
+        };
+        Ok(KeywordIndex {
+            dictionary,
+            ordinals,
+        })
+    }
+}
+
+// How many names are before the text of a document, which is among them.
+fn ordinal(names: &Names, value: Option<&FieldValue>) -> Option<u64>
+    requires ascends { Ascends names.now }
+    requires among { IfSome (keyword_of kinds.Keyword (option_copied value)) (Contains names.now) }
+    ensures { result ≡ option_map (before names.now) (keyword_of kinds.Keyword (option_copied value.entry)) }
+{
+    match value? {
+        FieldValue::Text(text) => Some(find_name(names, text.as_str().as_bytes())? as u64),
+        FieldValue::Number(_) => None,
+    }
+}
+
+// The ordinals of the documents in a keyword field of these texts.
+fn ordinals_of(
+    alloc: Global,
+    documents: &[Stamped<Document>],
+    field: usize,
+    names: &Names,
+) -> Result<Vec<Option<u64>>, AllocError>
+    requires ascends { Ascends names.now }
+    requires whole { names.now ≡ texts_of kinds.Keyword (values_in field documents.now) }
+    ensures { IfOk result (λ v. v.items ≡ ordinals_of kinds.Keyword (values_in field documents.now)) }
+{
+    let mut ordinals = Vec::with_capacity(alloc, documents.len())?;
+    for document in documents {
+        ordinals.push(ordinal(names, document.value.value(field)))?;
+    }
+    Ok(ordinals)
+}
