@@ -3,6 +3,7 @@ use Rattle.std.specs.Prelude.{◌≡◌, ◌↔◌, ℕ, ◌+◌, ◌<◌, nat_l
 use Rattle.std.specs.Prelude.{Option, Some, None, if◌then◌else◌, option_map, option_and_then, count_by, All, AllPairs}
 use Rattle.std.specs.Prelude.{Contains}
 use Rattle.std.specs.Ordering.{nat_cmp, int_cmp, match_ordering, is_eq}
+use Rattle.std.specs.Cmp.Lexicographic.{slice_cmp}
 use Rattle.std.specs.List.{filter_map}
 use Rattle.std.specs.Option.{option_map_or}
 use Rattle.std.specs.declared.cmp.Ordering.{Ordering}
@@ -12,6 +13,8 @@ use Rattle.fts_model.specs.declared.value.Number.{Number}
 use Rattle.fts_model.specs.declared.value.Number.TheVariants.{U64, I64}
 use Rattle.fts_model.specs.declared.value.FieldValue.{FieldValue}
 use Rattle.fts_model.specs.declared.value.FieldValue.TheVariants as values
+use Rattle.fts_model.specs.declared.value.GroupValue.{GroupValue}
+use Rattle.fts_model.specs.declared.value.GroupValue.TheVariants as group_values
 use Rattle.fts_model.specs.declared.operation.Stamped.{Stamped}
 use Rattle.fts_model.specs.declared.query.Order.{Order}
 use Rattle.fts_model.specs.declared.query.Order.TheVariants.{Rising, Falling}
@@ -24,7 +27,7 @@ use Rattle.fts_model.specs.Queries.{hits}
 -- an answer: the number of hits, the groups if they were asked for, and the top list if it was
 pub record AnswerValue : Type 0 where
   pub count : ℕ
-  pub groups : Option (List (Number × ℕ))
+  pub groups : Option (List (GroupValue × ℕ))
   pub top : Option (List Hit)
 
 -- the number that a value is, if it is one
@@ -43,35 +46,58 @@ number_cmp (U64 n) (I64 m) = Less
 number_cmp (I64 n) (U64 m) = Greater
 number_cmp (I64 n) (I64 m) = int_cmp n m
 
--- the numbers that the hits have in a field
-abbrev pub numbers_in : ℕ → List (Stamped DocumentValue) → List Number
-numbers_in field hits = filter_map (λ hit. number_in_field hit.value field) hits
+-- the value by which a hit with this value in a field is counted
+abbrev pub group_of : FieldValue → GroupValue
+group_of (values.Text text) = group_values.Keyword text
+group_of (values.Number (U64 n)) = group_values.U64 n
+group_of (values.Number (I64 n)) = group_values.I64 n
 
--- groups of rising numbers, with one more hit that has this number
-abbrev pub count_number : List (Number × ℕ) → Number → List (Number × ℕ)
-count_number [] n = (n, 1) ∷ []
-count_number (group ∷ groups) n =
-    match_ordering (number_cmp n group.0)
-    ((n, 1) ∷ group ∷ groups)
+-- the value by which a document is counted in a field, if it has one there
+abbrev pub group_in : DocumentValue → ℕ → Option GroupValue
+group_in document field = option_map group_of (value_in_field document field)
+
+-- the order of the values of groups: numbers by their values, keywords by their bytes; those of fields of different kinds,
+-- which don't meet, are kept apart
+abbrev pub group_cmp : GroupValue → GroupValue → Ordering
+group_cmp (group_values.U64 n) (group_values.U64 m) = nat_cmp n m
+group_cmp (group_values.U64 n) (group_values.I64 m) = Less
+group_cmp (group_values.U64 n) (group_values.Keyword text) = Less
+group_cmp (group_values.I64 n) (group_values.U64 m) = Greater
+group_cmp (group_values.I64 n) (group_values.I64 m) = int_cmp n m
+group_cmp (group_values.I64 n) (group_values.Keyword text) = Less
+group_cmp (group_values.Keyword text) (group_values.U64 m) = Greater
+group_cmp (group_values.Keyword text) (group_values.I64 m) = Greater
+group_cmp (group_values.Keyword text) (group_values.Keyword other) = slice_cmp nat_cmp text other
+
+-- the values that the hits have in a field
+abbrev pub groups_in : ℕ → List (Stamped DocumentValue) → List GroupValue
+groups_in field hits = filter_map (λ hit. group_in hit.value field) hits
+
+-- counts of values that rise in an order, with one more of this value
+abbrev pub count_one : {V : Type 0} → (V → V → Ordering) → List (V × ℕ) → V → List (V × ℕ)
+count_one cmp [] v = (v, 1) ∷ []
+count_one cmp (group ∷ groups) v =
+    match_ordering (cmp v group.0)
+    ((v, 1) ∷ group ∷ groups)
     ((group.0, group.1 + 1) ∷ groups)
-    (group ∷ count_number groups n)
+    (group ∷ count_one cmp groups v)
 
--- each number that a hit has in a field, rising, with the number of hits that have it
-abbrev pub groups : ℕ → List (Stamped DocumentValue) → List (Number × ℕ)
-groups field hits = fold count_number [] (numbers_in field hits)
+-- each value that a hit has in a field, rising, with the number of hits that have it
+abbrev pub groups : ℕ → List (Stamped DocumentValue) → List (GroupValue × ℕ)
+groups field hits = fold (count_one group_cmp) [] (groups_in field hits)
 
--- whether a document has this number in a field
-abbrev pub has_number : ℕ → Number → DocumentValue → Bool
-has_number field n document = option_map_or (λ m. is_eq (number_cmp n m)) (number_in_field document field) false
+-- whether a document has this value in a field
+abbrev pub is_in_group : ℕ → GroupValue → DocumentValue → Bool
+is_in_group field v document = option_map_or (λ w. is_eq (group_cmp v w)) (group_in document field) false
 
--- how many hits have this number in a field
-abbrev pub hits_with : ℕ → Number → List (Stamped DocumentValue) → ℕ
-hits_with field n hits = count_by (λ hit. has_number field n hit.value) hits
+-- how many hits have this value in a field
+abbrev pub hits_with : ℕ → GroupValue → List (Stamped DocumentValue) → ℕ
+hits_with field v hits = count_by (λ hit. is_in_group field v hit.value) hits
 
--- the groups: the numbers rise, and one stands there with a count exactly where so many hits have it, and not none
-pub record IsGroups (field : ℕ) (hits : List (Stamped DocumentValue)) (list : List (Number × ℕ)) : Type 0 where
-  pub rising : AllPairs (λ a b. number_cmp a.0 b.0 ≡ Less) list
-  pub counted : (n : Number) (count : ℕ) → Contains list (n, count) ↔ ((count ≡ hits_with field n hits) × (0 < count))
+-- the groups: the values rise, and one stands there with a count exactly where so many hits have it, and not none
+pub record IsGroups (field : ℕ) (hits : List (Stamped DocumentValue)) (list : List (GroupValue × ℕ)) : Type 0 where
+  pub rising : AllPairs (λ a b. group_cmp a.0 b.0 ≡ Less) list
+  pub counted : (v : GroupValue) (count : ℕ) → Contains list (v, count) ↔ ((count ≡ hits_with field v hits) × (0 < count))
 
 -- a hit with its number in a field, if it has one
 abbrev pub hit_in : ℕ → Stamped DocumentValue → Option Hit

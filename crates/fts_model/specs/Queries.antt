@@ -176,22 +176,31 @@ is_ordered_field schema field = option_map_or is_ordered (kind_at schema field) 
 abbrev pub is_limit : ℕ → Bool
 is_limit k = nat_le 1 k && nat_le k 10000
 
--- whether a request fits a schema: it is about number fields, and its limit is one
+-- whether a request fits a schema: its groups are by a field whose values have an order, its top list is by a number field,
+-- and its limit is one
 abbrev pub request_fits : List Field → Request → Bool
 request_fits schema request =
-    option_map_or (is_number_field schema) request.groups true
+    option_map_or (is_ordered_field schema) request.groups true
     && option_map_or (λ top. is_number_field schema top.by && is_limit top.k) request.top true
+
+-- the number of the field of this name, if it is one of these
+abbrev pub field_of : (ℕ → Bool) → List Field → List ℕ → Result ℕ Refusal
+field_of is_one schema name =
+    option_map_or (λ field. if is_one field then Ok field else Err NotANumberField)
+    (field_named name schema) (Err UnknownField)
 
 -- the number of the number field of this name
 abbrev pub number_field_named : List Field → List ℕ → Result ℕ Refusal
-number_field_named schema name =
-    option_map_or (λ field. if is_number_field schema field then Ok field else Err NotANumberField)
-    (field_named name schema) (Err UnknownField)
+number_field_named schema name = field_of (is_number_field schema) schema name
+
+-- the number of the field of this name whose values have an order
+abbrev pub ordered_field_named : List Field → List ℕ → Result ℕ Refusal
+ordered_field_named schema name = field_of (is_ordered_field schema) schema name
 
 -- the field of the groups that are asked for, if they are
 abbrev pub groups_of : List Field → Option (List ℕ) → Result (Option ℕ) Refusal
 groups_of schema None = Ok None
-groups_of schema (Some name) = result_map Some (number_field_named schema name)
+groups_of schema (Some name) = result_map Some (ordered_field_named schema name)
 
 -- the top list that is asked for, if it is
 abbrev pub top_of : List Field → Option (List ℕ × ℕ × Order) → Result (Option Top) Refusal

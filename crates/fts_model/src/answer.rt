@@ -1,7 +1,7 @@
 // What a search answers.
 use crate::document::Document;
 use crate::operation::Stamp;
-use crate::value::Number;
+use crate::value::{GroupValue, Number};
 use std::marker::Model;
 
 /// A hit of a top list.
@@ -19,7 +19,7 @@ pub struct Answer {
     /// The number of hits.
     pub count: u64,
     /// Each value that a hit has, rising, with the number of hits that have it.
-    pub groups: Option<Vec<(Number, u64)>>,
+    pub groups: Option<Vec<(GroupValue, u64)>>,
     /// The first hits that have a value, by value and then by stamp.
     pub top: Option<Vec<Hit>>,
 }

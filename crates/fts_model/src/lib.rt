@@ -38,4 +38,4 @@ pub use operation::{Op, Stamp, Stamped, Term};
 pub use query::{Order, Query, Request, Top};
 pub use schema::{Field, Kind, Schema};
 pub use text::Text;
-pub use value::{FieldValue, Number};
+pub use value::{FieldValue, GroupValue, Number};

@@ -5,7 +5,7 @@ ghost use Rattle.fts_base.specs.Results.{Gives};
 ghost use Rattle.fts_model.specs.Answers.{cmp_by};
 ghost use Rattle.fts_model.specs.QueryValues.{query_value};
 ghost use Rattle.fts_model.specs.Queries.{query_fits, is_bound_of, is_range_of, holds_phrases, is_number_field};
-ghost use Rattle.fts_model.specs.Queries.{is_limit, number_field_named, groups_of, top_of};
+ghost use Rattle.fts_model.specs.Queries.{is_limit, is_ordered_field, number_field_named, ordered_field_named, groups_of, top_of};
 
 use crate::operation::{Term, kind_at};
 use crate::schema::{Kind, Schema};
@@ -144,7 +144,7 @@ pub struct Top {
 /// What is told of the hits besides their number.
 #[derive(Clone, Copy, Debug, PartialEq, Eq)]
 pub struct Request {
-    /// The number field by whose values the hits are counted in groups.
+    /// The keyword or number field by whose values the hits are counted in groups.
     pub groups: Option<usize>,
     pub top: Option<Top>,
 }
@@ -159,6 +159,16 @@ fn is_number_field(schema: &Schema, field: usize) -> bool
     match kind_at(schema, field) {
         None => false,
         Some(kind) => kind.holds_numbers(),
+    }
+}
+
+/// Whether the field of this number holds values that have an order.
+fn is_ordered_field(schema: &Schema, field: usize) -> bool
+    ensures { result ≡ is_ordered_field schema.now field }
+{
+    match kind_at(schema, field) {
+        None => false,
+        Some(kind) => kind.is_ordered(),
     }
 }
 
@@ -182,13 +192,26 @@ fn number_field(schema: &Schema, name: &str) -> Result<usize, Refusal>
     Ok(field)
 }
 
+/// The number of the keyword or number field of this name.
+fn ordered_field(schema: &Schema, name: &str) -> Result<usize, Refusal>
+    ensures { result ≡ ordered_field_named schema.now name.now }
+{
+    let Some(field) = schema.field(name) else {
+        return Err(Refusal::UnknownField);
+    };
+    if !is_ordered_field(schema, field) {
+        return Err(Refusal::NotANumberField);
+    }
+    Ok(field)
+}
+
 /// The field of the groups that are asked for.
 fn groups_in(schema: &Schema, groups: Option<&str>) -> Result<Option<usize>, Refusal>
     ensures { result ≡ groups_of schema.now (option_copied groups.entry) }
 {
     match groups {
         None => Ok(None),
-        Some(name) => Ok(Some(number_field(schema, name)?)),
+        Some(name) => Ok(Some(ordered_field(schema, name)?)),
     }
 }
 
@@ -213,8 +236,8 @@ impl Request {
     /// The request for groups by the field of a name, and for a top list of so many hits by the
     /// field of a name.
     ///
-    /// It is refused by its groups as `UnknownField` or `NotANumberField`, or else by its top list
-    /// as one of these or as `BadLimit` (not within 1..=10,000).
+    /// It is refused by its groups as `UnknownField` or, for a text field, `NotANumberField`, or else by its top list
+    /// as `UnknownField`, for a text or keyword field `NotANumberField`, or `BadLimit` (not within 1..=10,000).
     pub fn new(
         schema: &Schema,
         groups: Option<&str>,
@@ -228,13 +251,14 @@ impl Request {
         Ok(Request { groups, top })
     }
 
-    /// Whether it is about number fields of the schema, and its limit is one.
+    /// Whether its groups are by a keyword or number field of the schema, its top list by a number field, and its limit is
+    /// one.
     pub fn fits(&self, schema: &Schema) -> bool
         ensures { result ≡ request_fits schema.now self.now }
     {
         let groups = match self.groups {
             None => true,
-            Some(field) => is_number_field(schema, field),
+            Some(field) => is_ordered_field(schema, field),
         };
         let top = match self.top {
             None => true,

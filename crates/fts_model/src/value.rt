@@ -37,3 +37,60 @@ pub enum FieldValue {
     /// The value of a number field.
     Number(Number),
 }
+
+/// The value of a group: one of a keyword or number field.
+#[derive(Debug, Drop, PartialEq, Eq)]
+pub enum GroupValue {
+    /// A number of a `u64` field.
+    U64(u64),
+    /// A number of an `i64` field.
+    I64(i64),
+    /// A keyword.
+    Keyword(Text),
+}
+
+impl GroupValue {
+    ghost use Rattle.std.specs.Prelude.{◌≡◌, IfOk};
+    ghost use Rattle.fts_model.specs.Answers.{group_of, group_cmp};
+
+    /// The value of the group of a field's value.
+    pub fn of(value: &FieldValue) -> Result<GroupValue, AllocError>
+        ensures { IfOk result (λ group. group ≡ group_of value.now) }
+    {
+        match value {
+            FieldValue::Text(text) => Ok(GroupValue::Keyword(text.clone()?)),
+            FieldValue::Number(Number::U64(n)) => Ok(GroupValue::U64(*n)),
+            FieldValue::Number(Number::I64(n)) => Ok(GroupValue::I64(*n)),
+        }
+    }
+
+    /// How a value stands to another: numbers by their values, keywords by their bytes; one of a `u64` field before one of
+    /// an `i64` field, and both before a keyword.
+    pub fn compare(&self, other: &GroupValue) -> Ordering
+        ensures { result ≡ group_cmp self.now other.now }
+    {
+        match (self, other) {
+            (GroupValue::U64(n), GroupValue::U64(m)) => n.cmp(m),
+            (GroupValue::I64(n), GroupValue::I64(m)) => n.cmp(m),
+            (GroupValue::Keyword(text), GroupValue::Keyword(other)) => {
+                text.as_str().cmp(other.as_str())
+            }
+            (GroupValue::U64(_), _) => Ordering::Less,
+            (_, GroupValue::U64(_)) => Ordering::Greater,
+            (GroupValue::I64(_), GroupValue::Keyword(_)) => Ordering::Less,
+            (GroupValue::Keyword(_), GroupValue::I64(_)) => Ordering::Greater,
+        }
+    }
+}
+
+impl Clone for GroupValue {
+    ghost is_clone = { λ value copy. copy ≡ value };
+
+    fn clone(&self) -> Result<Self, AllocError> {
+        match self {
+            GroupValue::U64(n) => Ok(GroupValue::U64(*n)),
+            GroupValue::I64(n) => Ok(GroupValue::I64(*n)),
+            GroupValue::Keyword(text) => Ok(GroupValue::Keyword(text.clone()?)),
+        }
+    }
+}
