@@ -1,9 +1,8 @@
 -- Numbers stand in one order.
-use Rattle.std.proofs.Common.{◌≡◌, refl, ap, ◌∙◌}
+use Rattle.std.proofs.Common.{◌≡◌, refl}
 use Rattle.std.specs.Cmp.{IsTotalOrder}
-use Rattle.std.specs.FinMap.{nat_cmp-IsAntisymmetric, int_cmp-IsAntisymmetric}
 use Rattle.std.specs.Ordering.{ordering_reverse}
-use Rattle.std.specs.declared.cmp.Ordering.TheVariants.{Less, Equal, Greater}
+use Rattle.std.specs.declared.cmp.Ordering.TheVariants.{Less, Equal}
 use Rattle.std.proofs.lemmas.Cmp.{nat_cmp_total, int_cmp_total}
 use Rattle.fts_model.specs.declared.value.Number.{Number}
 use Rattle.fts_model.specs.declared.value.Number.TheVariants.{U64, I64}
@@ -38,18 +37,3 @@ number_congr (I64 n) (I64 m) (I64 k) h = int_cmp_total.congr n m k h
 -- the order of numbers is a total order
 pub number_total : IsTotalOrder number_cmp
 number_total = record { antisymm = number_antisymm; trans = number_trans; congr = number_congr }
-
--- numbers that compare as equal are one
-pub number_same : (x y : Number) → number_cmp x y ≡ Equal → x ≡ y
-number_same (U64 n) (U64 m) h = ap U64 (nat_cmp-IsAntisymmetric n m h)
-number_same (U64 n) (I64 m) h = cc
-number_same (I64 n) (U64 m) h = cc
-number_same (I64 n) (I64 m) h = ap I64 (int_cmp-IsAntisymmetric n m h)
-
--- where one number is below another, that one is above it
-pub number_above : (x y : Number) → number_cmp x y ≡ Less → number_cmp y x ≡ Greater
-number_above x y h = number_antisymm y x ∙ ap ordering_reverse h
-
--- where one number is above another, that one is below it
-pub number_below : (x y : Number) → number_cmp x y ≡ Greater → number_cmp y x ≡ Less
-number_below x y h = number_antisymm y x ∙ ap ordering_reverse h

@@ -1,6 +1,7 @@
 -- Values that are counted in an order: each as often as it comes, and there is but one list of such counts.
-use Rattle.std.proofs.Common.{◌≡◌, ℕ, ◌+◌, ◌<◌, ⊥, Bool, true, false, cond, List, [], ◌∷◌, length, refl, sym, ap, subst, ◌∙◌, ⊎_elim, arith, absurd, All, AllPairs, Contains, fold, count_by}
+use Rattle.std.proofs.Common.{◌≡◌, ℕ, ◌+◌, ◌<◌, Bool, true, false, cond, List, [], ◌∷◌, length, refl, sym, ap, subst, ◌∙◌, ⊎_elim, arith, All, AllPairs, Contains, fold, count_by}
 use Rattle.std.specs.Cmp.{IsTotalOrder}
+use Rattle.std.specs.FinMap.{IsAntisymmetric}
 use Rattle.std.specs.Ordering.{match_ordering, is_eq, ordering_reverse}
 use Rattle.std.specs.declared.cmp.Ordering.{Ordering}
 use Rattle.std.specs.declared.cmp.Ordering.TheVariants.{Less, Equal, Greater}
@@ -15,7 +16,7 @@ use Rattle.fts_scan.specs.Scans.{hits_counted}
 -- an order in which values that compare as equal are one
 pub record IsOneOrder {V : Type 0} (cmp : V → V → Ordering) : Type 0 where
   pub total : IsTotalOrder cmp
-  pub same : (x y : V) → cmp x y ≡ Equal → x ≡ y
+  pub same : IsAntisymmetric cmp
 
 -- how often a value was counted
 abbrev pub count_in : {V : Type 0} → (V → V → Ordering) → List (V × ℕ) → V → ℕ

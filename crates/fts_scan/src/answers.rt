@@ -5,13 +5,14 @@ ghost use Rattle.std.specs.Prelude.{fold, take};
 ghost use Rattle.fts_base.specs.Results.{Gives};
 ghost use Rattle.fts_model.specs.QueryValues.{query_value};
 ghost use Rattle.fts_model.specs.Queries.{hits};
-ghost use Rattle.fts_model.specs.Answers.{answer, number_in_field, count_number, groups, comes_before, hit_in, put_hit};
-ghost use Rattle.fts_model.specs.Answers.{top};
+ghost use Rattle.fts_model.specs.Answers.{answer, number_in_field, group_cmp, group_in, count_one, groups, comes_before, hit_in};
+ghost use Rattle.fts_model.specs.Answers.{put_hit, top};
 ghost use Rattle.fts_scan.specs.Scans.{hits_counted, group_place, is_group_at, hit_place};
 
 use crate::matcher::query_matches;
 use fts_model::{
-    Answer, Document, FieldValue, Hit, Number, Order, Query, Refusal, Request, Schema, Stamped, Top,
+    Answer, Document, FieldValue, GroupValue, Hit, Number, Order, Query, Refusal, Request, Schema,
+    Stamped, Top,
 };
 use std::alloc::{AllocError, Global};
 use std::cmp::Ordering;
@@ -74,65 +75,65 @@ fn number_in_field(document: &Document, field: usize) -> Option<Number>
     }
 }
 
-/// How many groups are below a number, up to the first that is not.
-fn group_place(groups: &[(Number, u64)], number: Number) -> usize
-    ensures { result ≡ group_place groups.now number }
+/// How many groups are below a value, up to the first that is not.
+fn group_place(groups: &[(GroupValue, u64)], value: &GroupValue) -> usize
+    ensures { result ≡ group_place groups.now value.now }
 {
     for (i, group) in groups.iter().enumerate() {
-        if number.compare(group.0) != Ordering::Greater {
+        if value.compare(&group.0) != Ordering::Greater {
             return i;
         }
     }
     groups.len()
 }
 
-/// Whether the group at this place is of a number.
-fn is_group_at(groups: &[(Number, u64)], place: usize, number: Number) -> bool
-    ensures { result ≡ is_group_at groups.now place number }
+/// Whether the group at this place is of a value.
+fn is_group_at(groups: &[(GroupValue, u64)], place: usize, value: &GroupValue) -> bool
+    ensures { result ≡ is_group_at groups.now place value.now }
 {
     match groups.get(place) {
         None => false,
-        Some(group) => number.compare(group.0) == Ordering::Equal,
+        Some(group) => value.compare(&group.0) == Ordering::Equal,
     }
 }
 
-/// Counts one more hit that has this number.
-fn count_number(groups: &mut Vec<(Number, u64)>, number: Number) -> Result<(), AllocError>
+/// Counts one more hit that has this value.
+fn count_value(groups: &mut Vec<(GroupValue, u64)>, value: GroupValue) -> Result<(), AllocError>
     requires { hits_counted groups.old.items + 1 < 2 ^ 64 }
-    ensures { OnOk result (groups.new.items ≡ count_number groups.old.items number) }
+    ensures { OnOk result (groups.new.items ≡ count_one group_cmp groups.old.items value) }
 {
-    let place = group_place(groups, number);
-    if is_group_at(groups, place, number) {
+    let place = group_place(groups, &value);
+    if is_group_at(groups, place, &value) {
         groups[place].1 += 1;
         return Ok(());
     }
-    groups.insert(place, (number, 1))?;
+    groups.insert(place, (value, 1))?;
     Ok(())
 }
 
-/// Counts one more hit, if it has a number in a field.
+/// Counts one more hit, if it has a value in a field.
 fn count_hit(
-    groups: &mut Vec<(Number, u64)>,
+    groups: &mut Vec<(GroupValue, u64)>,
     field: usize,
     hit: &Stamped<Document>,
 ) -> Result<(), AllocError>
     requires { hits_counted groups.old.items + 1 < 2 ^ 64 }
     ensures { OnOk result (groups.new.items
-        ≡ fold count_number groups.old.items
-        (option_to_list (number_in_field hit.now.value field))) }
+        ≡ fold (count_one group_cmp) groups.old.items
+        (option_to_list (group_in hit.now.value field))) }
 {
-    match number_in_field(&hit.value, field) {
+    match hit.value.value(field) {
         None => Ok(()),
-        Some(number) => count_number(groups, number),
+        Some(value) => count_value(groups, GroupValue::of(value)?),
     }
 }
 
-/// The numbers that hits have in a field, rising, each with the number of hits that have it.
+/// The values that hits have in a field, rising, each with the number of hits that have it.
 fn groups(
     alloc: Global,
     field: usize,
     hits: &[Stamped<Document>],
-) -> Result<Vec<(Number, u64)>, AllocError>
+) -> Result<Vec<(GroupValue, u64)>, AllocError>
     ensures { IfOk result (λ found. found.items ≡ groups field hits.now) }
 {
     let mut groups = Vec::new(alloc);
@@ -219,7 +220,7 @@ fn asked_groups(
     alloc: Global,
     request: &Request,
     hits: &[Stamped<Document>],
-) -> Result<Option<Vec<(Number, u64)>>, AllocError>
+) -> Result<Option<Vec<(GroupValue, u64)>>, AllocError>
     ensures { IfOk result
         (λ found. option_map (λ g. g.items) found
         ≡ option_map (λ field. groups field hits.now) request.now.groups) }

@@ -12,7 +12,7 @@ ghost use Rattle.fts_model.specs.Answers.{IsGroups, groups, IsTop, top};
 ghost use Rattle.fts_model.specs.Documents.{DocumentValue, NamesRise};
 ghost use Rattle.fts_model.specs.declared.answer.Hit.{Hit};
 ghost use Rattle.fts_model.specs.declared.query.Order.{Order};
-ghost use Rattle.fts_model.specs.declared.value.Number.{Number};
+ghost use Rattle.fts_model.specs.declared.value.GroupValue.{GroupValue};
 
 /// The members of an object that a text is read as stand in the order of their names, so the first
 /// fault of a document is the first in that order.
@@ -72,7 +72,7 @@ pub fn groups_are_groups()
 
 /// There is one list of groups.
 pub fn there_is_one_list_of_groups()
-    ensures { (field : ℕ) (hits : List (Stamped DocumentValue)) (a b : List (Number × ℕ)) →
+    ensures { (field : ℕ) (hits : List (Stamped DocumentValue)) (a b : List (GroupValue × ℕ)) →
         IsGroups field hits a → IsGroups field hits b → a ≡ b }
 {}
 

@@ -81,6 +81,23 @@ pub numbers_where-cons : {X : Type 0} (p : X → Bool) (n : ℕ) (x : X) (xs : L
 numbers_where-cons {X} p n x xs = elim (p x) as (λ b. map (λ (y : ℕ × X). y.0) (cond b ((n, x) ∷ filter (λ y. p y.1) (enumerate_from (n + 1) xs)) (filter (λ y. p y.1) (enumerate_from (n + 1) xs)))
     ≡ cond b (n ∷ numbers_where p (n + 1) xs) (numbers_where p (n + 1) xs)) [ true ↦ refl | false ↦ refl ]
 
+-- a number of an element that passes a test is that of one
+pub numbers_where-holds : {X : Type 0} (p : X → Bool) (n : ℕ) (xs : List X) (k : ℕ) → Contains (numbers_where p n xs) k →
+    (i : ℕ) × (k ≡ n + i) × (x : X) × (slice_get xs i ≡ Some x) × (p x ≡ true)
+numbers_where-holds p n [] k at = absurd (omega (arith, at.1))
+numbers_where-holds {X} p n (x ∷ xs) k at = by (p x) refl (subst (λ ns. Contains ns k) (numbers_where-cons p n x xs) at)
+  where
+    Found : List X → ℕ → Type 0
+    Found ys m = (i : ℕ) × (k ≡ m + i) × (y : X) × (slice_get ys i ≡ Some y) × (p y ≡ true)
+
+    later : Contains (numbers_where p (n + 1) xs) k → Found (x ∷ xs) n
+    later at = let rest = numbers_where-holds p (n + 1) xs k at in (suc rest.0, omega (arith, rest.1), rest.2)
+
+    by : (b : Bool) → p x ≡ b → Contains (cond b (n ∷ numbers_where p (n + 1) xs) (numbers_where p (n + 1) xs)) k → Found (x ∷ xs) n
+    by true is at = ⊎_elim (λ (same : n ≡ k). (0, omega (arith, same), x, refl, is)) later (Contains-cases n (numbers_where p (n + 1) xs) k at)
+    by false is at = later at
+
+
 pub numbers_where-map : {X Y : Type 0} (p : X → Bool) (q : Y → Bool) (f : X → Y) → ((x : X) → p x ≡ q (f x)) → (n : ℕ) (xs : List X) → numbers_where p n xs ≡ numbers_where q n (map f xs)
 numbers_where-map p q f same n [] = refl
 numbers_where-map p q f same n (x ∷ xs) =

@@ -4,6 +4,7 @@ use Rattle.fts_model.specs.declared.schema.Kind.{Kind}
 use Rattle.fts_model.specs.declared.schema.Kind.TheVariants as kinds
 use Rattle.fts_model.specs.declared.schema.Field.{Field}
 use Rattle.fts_model.specs.declared.value.FieldValue.{FieldValue}
+use Rattle.fts_model.specs.declared.value.FieldValue.TheVariants as values
 use Rattle.fts_model.specs.declared.operation.Stamped.{Stamped}
 use Rattle.fts_model.specs.Schemas.{holds_numbers}
 use Rattle.fts_model.specs.Documents.{DocumentValue}
@@ -30,6 +31,12 @@ pub record AreKeywords (kind : Kind) (vs : List (Option FieldValue)) (index : Ke
   pub terms : AreTerms kind vs index.dictionary
   pub texts : index.dictionary.names ≡ texts_of kind vs
   pub ordinals : index.ordinals ≡ ordinals_of kind vs
+
+-- a document of this number has the text of an ordinal
+pub record HasKeywordAt (vs : List (Option FieldValue)) (ordinal doc : ℕ) : Type 0 where
+  pub text : List ℕ
+  pub is : slice_get (texts_of kinds.Keyword vs) ordinal ≡ Some text
+  pub has : slice_get vs doc ≡ Some (Some (values.Text text))
 
 -- the numbers of a number field
 pub record AreNumbers (kind : Kind) (vs : List (Option FieldValue)) (index : NumberIndex) : Type 0 where

@@ -30,6 +30,11 @@ abbrev pub keyword_of : Kind → Option FieldValue → Option (List ℕ)
 keyword_of kinds.Keyword (Some (values.Text text)) = Some text
 keyword_of kind value = None
 
+-- the text that a value is, if it is one
+abbrev pub text_in_value : FieldValue → Option (List ℕ)
+text_in_value (values.Text text) = Some text
+text_in_value (values.Number n) = None
+
 -- the texts that are there
 abbrev pub texts_in : List (Option (List ℕ)) → List (List ℕ)
 texts_in [] = []

@@ -1,7 +1,8 @@
 // What is looked up in a field: the terms of its texts, its keywords or its numbers.
-ghost use Rattle.std.specs.Prelude.{◌≡◌, ◌≢◌, [], List, Option, ◌≤◌, ◌^◌, length, IfOk, IfNone, IfSome, true, false};
+ghost use Rattle.std.specs.Prelude.{◌≡◌, ◌≢◌, [], List, Option, None, ◌≤◌, ◌^◌, length, IfOk, IfNone, IfSome, MatchOption};
+ghost use Rattle.std.specs.Prelude.{true, false, slice_get};
 ghost use Rattle.fts_model.specs.declared.value.FieldValue.{FieldValue};
-ghost use Rattle.fts_segment.specs.FieldIndexes.{IsFieldIndex, AreTerms};
+ghost use Rattle.fts_segment.specs.FieldIndexes.{IsFieldIndex, AreTerms, HasKeywordAt};
 ghost use Rattle.fts_segment.specs.ListIds.{documents_in, positions_in};
 ghost use Rattle.fts_segment.specs.Occurrences.{holds, values_in};
 ghost use Rattle.fts_segment.specs.Segments.{numbers_where};
@@ -82,6 +83,20 @@ impl FieldIndex {
     {
         match self {
             FieldIndex::Keywords(index) => equal_range(&index.dictionary.names, text.as_bytes()),
+            FieldIndex::Terms(_) | FieldIndex::Numbers(_) => unreachable!(),
+        }
+    }
+
+    /// A document that has the text of an ordinal in a keyword field.
+    pub(crate) fn document_with(&self, kind: Kind, ordinal: usize) -> Option<u32>
+        requires keyword { kind ≡ kinds.Keyword }
+        requires is { (vs : List (Option FieldValue)) × IsFieldIndex kind vs self.now }
+        ensures { (vs : List (Option FieldValue)) → IsFieldIndex kind vs self.now
+            → MatchOption result (slice_get (texts_of kind vs) ordinal ≡ None)
+            (λ doc. HasKeywordAt vs ordinal doc) }
+    {
+        match self {
+            FieldIndex::Keywords(index) => index.document_with(ordinal),
             FieldIndex::Terms(_) | FieldIndex::Numbers(_) => unreachable!(),
         }
     }

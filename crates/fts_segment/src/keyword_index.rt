@@ -1,7 +1,9 @@
 // The texts of a keyword field: a dictionary, and for each document the ordinal of its text.
-ghost use Rattle.std.specs.Prelude.{◌≡◌, ◌≤◌, ◌^◌, ℕ, [], Contains, IfOk, IfSome, Some, length, option_copied, option_map};
+ghost use Rattle.std.specs.Prelude.{◌≡◌, ◌≤◌, ◌^◌, ℕ, [], Contains, IfOk, IfSome, List, MatchOption, None, Option, Some};
+ghost use Rattle.std.specs.Prelude.{length, option_copied, option_map, slice_get};
+ghost use Rattle.fts_model.specs.declared.value.FieldValue.{FieldValue};
 ghost use Rattle.fts_model.specs.declared.schema.Kind.TheVariants as kinds;
-ghost use Rattle.fts_segment.specs.FieldIndexes.{AreKeywords};
+ghost use Rattle.fts_segment.specs.FieldIndexes.{AreKeywords, HasKeywordAt};
 ghost use Rattle.fts_segment.specs.Keywords.{before, keyword_of, ordinals_of, texts_of, up_to};
 ghost use Rattle.fts_segment.specs.Occurrences.{values_in};
 ghost use Rattle.fts_segment.specs.Sorted.{Ascends};
@@ -11,6 +13,7 @@ use crate::find::find_name;
 use crate::names::Names;
 use fts_column::Column;
 use fts_model::{Document, FieldValue, Kind, Stamped};
+use fts_pack::{Blocks, List};
 use std::alloc::{AllocError, Global};
 
 /// The texts of a keyword field.
@@ -42,6 +45,25 @@ impl KeywordIndex {
             ordinals,
         })
     }
+
+    /// A document that has the text of an ordinal.
+    pub(crate) fn document_with(&self, ordinal: usize) -> Option<u32>
+        ensures { (vs : List (Option FieldValue)) → AreKeywords kinds.Keyword vs self.now
+            → MatchOption result (slice_get (texts_of kinds.Keyword vs) ordinal ≡ None)
+            (λ doc. HasKeywordAt vs ordinal doc) }
+    {
+        some_document(self.dictionary.lists.get(ordinal)?)
+    }
+}
+
+// A document of a list. No block is opened.
+fn some_document(list: &List) -> Option<u32>
+    ensures { MatchOption result (list.now ≡ []) (Contains list.now) }
+{
+    if list.is_empty() {
+        return None;
+    }
+    Some(list.source().last(0))
 }
 
 // How many names are before the text of a document, which is among them.

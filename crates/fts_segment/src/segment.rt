@@ -1,13 +1,13 @@
 // Documents that never change, with the terms that they have.
-ghost use Rattle.std.specs.Prelude.{◌≡◌, ◌≢◌, ◌^◌, ◌<◌, ◌≤◌, [], length, slice_get, option_map, Some, IfNone, IfSome};
-ghost use Rattle.std.specs.Prelude.{All, true, false};
+ghost use Rattle.std.specs.Prelude.{◌≡◌, ◌≢◌, ◌^◌, ◌<◌, ◌≤◌, [], length, slice_get, option_copied, option_map, Some};
+ghost use Rattle.std.specs.Prelude.{All, IfNone, IfSome, true, false};
 ghost use Rattle.fts_model.specs.Documents.{IsDocument, fits};
 ghost use Rattle.fts_model.specs.Queries.{is_number_field, is_ordered_field};
 ghost use Rattle.fts_model.specs.Operations.{kind_at};
 ghost use Rattle.fts_model.specs.declared.schema.Kind.{Kind};
 ghost use Rattle.fts_segment.specs.FieldIndexes.{NumbersFit};
 ghost use Rattle.fts_segment.specs.Segments.{postings, positions, column, keywords, ordinals};
-ghost use Rattle.fts_segment.specs.Keywords.{before, up_to};
+ghost use Rattle.fts_segment.specs.Keywords.{before, text_in_value, up_to};
 ghost use Rattle.fts_model.specs.declared.schema.Kind.TheVariants as kinds;
 ghost use Rattle.fts_segment.specs.ListIds.{documents_in, positions_in};
 
@@ -15,7 +15,7 @@ use crate::field_index::FieldIndex;
 use crate::position_reader::PositionReader;
 use crate::term_positions::TermPositionLists;
 use fts_column::Column;
-use fts_model::{Document, Schema, Stamp, Stamped, Term};
+use fts_model::{Document, FieldValue, Schema, Stamp, Stamped, Term};
 use fts_pack::List;
 use std::alloc::AllocError;
 use std::marker::Model;
@@ -129,6 +129,18 @@ impl Segment {
         stored.indexes[field].column(stored.schema.kind(field))
     }
 
+    /// The keyword of this ordinal in a keyword field: the one before which so many different ones of the segment stand.
+    /// None where there are not so many. Nothing is copied.
+    pub fn keyword(&self, field: usize, ordinal: u64) -> Option<&str>
+        requires { kind_at self.now.schema field ≡ Some kinds.Keyword }
+        ensures { option_copied result ≡ slice_get (keywords self.now field) ordinal }
+    {
+        let stored: &Stored = &self.stored;
+        let index = &stored.indexes[field];
+        let doc = index.document_with(stored.schema.kind(field), ordinal as usize)?;
+        text_of(stored.documents[doc as usize].value.value(field)?)
+    }
+
     /// Between which ordinals of a keyword field a text stands: how many of the segment's different texts of the field
     /// are before it, and how many aren't behind it. The two are equal where no document has the text.
     pub fn equal_range(&self, field: usize, text: &str) -> (u64, u64)
@@ -149,5 +161,15 @@ impl Clone for Segment {
         Ok(Segment {
             stored: Arc::try_clone(&self.stored)?,
         })
+    }
+}
+
+// The text that a value is, if it is one.
+fn text_of(value: &FieldValue) -> Option<&str>
+    ensures { option_copied result ≡ text_in_value value.now }
+{
+    match value {
+        FieldValue::Text(text) => Some(text.as_str()),
+        FieldValue::Number(_) => None,
     }
 }

@@ -3,4 +3,4 @@ use Rattle.fts_scan.specs.Scans.{group_place}
 use Rattle.fts_scan.proofs.answers.group_place.Given as goal
 
 abbrev pub invariant-loop-i : goal.invariant-loop-i
-invariant-loop-i l = group_place l.groups l.number ≡ l.i + group_place (drop l.i l.groups) l.number
+invariant-loop-i l = group_place l.groups l.value ≡ l.i + group_place (drop l.i l.groups) l.value

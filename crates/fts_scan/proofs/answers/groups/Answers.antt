@@ -1,10 +1,10 @@
 use Rattle.std.proofs.Common.{◌<◌, ◌≤◌, ℕ, List, ◌++◌, ◌∷◌, [], length, take, fold, sym, ap, ◌∙◌, arith, length-take}
 use Rattle.std.specs.Option.{option_to_list}
 use Rattle.std.proofs.lemmas.List.{take_more}
-use Rattle.fts_model.specs.declared.value.Number.{Number}
+use Rattle.fts_model.specs.declared.value.GroupValue.{GroupValue}
 use Rattle.fts_model.specs.declared.operation.Stamped.{Stamped}
 use Rattle.fts_model.specs.Documents.{DocumentValue}
-use Rattle.fts_model.specs.Answers.{groups, count_number, number_in_field}
+use Rattle.fts_model.specs.Answers.{groups, count_one, group_cmp, group_in}
 use Rattle.fts_scan.specs.Scans.{hits_counted}
 use Rattle.fts_scan.proofs.AnswersSteps.{groups-more, hits_counted-groups}
 use Rattle.fts_scan.proofs.answers.groups.Goals as goal
@@ -23,7 +23,7 @@ loop-hit-preserved c =
     let hit = c.hit-item.result in
     let within : i < length hits = omega arith in
     let behind = λ (x : Stamped DocumentValue). groups c.args.field (take i hits ++ x ∷ []) in
-    let counted = λ (gs : List (Number × ℕ)). fold count_number gs (option_to_list (number_in_field hit.value c.args.field)) in
+    let counted = λ (gs : List (GroupValue × ℕ)). fold (count_one group_cmp) gs (option_to_list (group_in hit.value c.args.field)) in
     c.in_ok-count_hit.ensures
     ∙ ap counted c.loop-hit.invariant
     ∙ sym (groups-more c.args.field (take i hits) hit)
