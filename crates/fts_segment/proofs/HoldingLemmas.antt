@@ -1,8 +1,10 @@
 -- The documents that hold a term.
-use Rattle.std.proofs.Common.{◌≡◌, ◌+◌, ◌<◌, ◌≤◌, ◌||◌, ℕ, suc, Bool, true, false, cond, List, [], ◌∷◌, ◌++◌, Option, map, filter, length, refl, sym, ap, subst, ◌∙◌, arith, All, nat_eq}
+use Rattle.std.proofs.Common.{◌≡◌, ◌+◌, ◌<◌, ◌≤◌, ◌||◌, ℕ, suc, Bool, true, false, cond, List, [], ◌∷◌, ◌++◌, Option, Some, Contains, ⊎_elim, map, filter, length, refl, sym, ap, subst, ◌∙◌, arith, All, nat_eq}
 use Rattle.std.specs.List.{list_any, dedup, dedup_from, AllPairs, enumerate_from}
 use Rattle.std.specs.List.Sorted.{IsStrictlyIncreasing}
 use Rattle.std.specs.Str.{bytes_eq}
+use Rattle.std.specs.Prelude.{slice_get}
+use Rattle.fts_model.proofs.Lists.{Contains-cases}
 use Rattle.std.proofs.lemmas.Bool.Decides.{nat_tests}
 use Rattle.std.proofs.lemmas.List.{map-append}
 use Rattle.std.proofs.lemmas.List.Elements.{filter-append, All-append, All-cons, All-nil, All-map, All-filter, All-weaker, All-tail, All-head}
@@ -85,18 +87,18 @@ numbers_where-cons {X} p n x xs = elim (p x) as (λ b. map (λ (y : ℕ × X). y
 pub numbers_where-holds : {X : Type 0} (p : X → Bool) (n : ℕ) (xs : List X) (k : ℕ) → Contains (numbers_where p n xs) k →
     (i : ℕ) × (k ≡ n + i) × (x : X) × (slice_get xs i ≡ Some x) × (p x ≡ true)
 numbers_where-holds p n [] k at = absurd (omega (arith, at.1))
-numbers_where-holds {X} p n (x ∷ xs) k at = by (p x) refl (subst (λ ns. Contains ns k) (numbers_where-cons p n x xs) at)
+numbers_where-holds {X} p n (x ∷ xs) k at = by (p x) refl (numbers_where-holds p (n + 1) xs k) (subst (λ ns. Contains ns k) (numbers_where-cons p n x xs) at)
   where
     Found : List X → ℕ → Type 0
     Found ys m = (i : ℕ) × (k ≡ m + i) × (y : X) × (slice_get ys i ≡ Some y) × (p y ≡ true)
 
-    later : Contains (numbers_where p (n + 1) xs) k → Found (x ∷ xs) n
-    later at = let rest = numbers_where-holds p (n + 1) xs k at in (suc rest.0, omega (arith, rest.1), rest.2)
-
-    by : (b : Bool) → p x ≡ b → Contains (cond b (n ∷ numbers_where p (n + 1) xs) (numbers_where p (n + 1) xs)) k → Found (x ∷ xs) n
-    by true is at = ⊎_elim (λ (same : n ≡ k). (0, omega (arith, same), x, refl, is)) later (Contains-cases n (numbers_where p (n + 1) xs) k at)
-    by false is at = later at
-
+    by : (b : Bool) → p x ≡ b → (Contains (numbers_where p (n + 1) xs) k → Found xs (n + 1)) →
+        Contains (cond b (n ∷ numbers_where p (n + 1) xs) (numbers_where p (n + 1) xs)) k → Found (x ∷ xs) n
+    by true is rest at =
+        ⊎_elim (λ (same : n ≡ k). (0, omega (arith, same), x, refl, is))
+        (λ (at : Contains (numbers_where p (n + 1) xs) k). let r = rest at in (suc r.0, omega (arith, r.1), r.2, r.3, r.4))
+        (Contains-cases n (numbers_where p (n + 1) xs) k at)
+    by false is rest at = let r = rest at in (suc r.0, omega (arith, r.1), r.2, r.3, r.4)
 
 pub numbers_where-map : {X Y : Type 0} (p : X → Bool) (q : Y → Bool) (f : X → Y) → ((x : X) → p x ≡ q (f x)) → (n : ℕ) (xs : List X) → numbers_where p n xs ≡ numbers_where q n (map f xs)
 numbers_where-map p q f same n [] = refl

@@ -12,6 +12,7 @@ pub mod StoredLemmas
 pub mod KeywordsLemmas
 pub mod KeywordIndexLemmas
 pub mod FieldLemmas
+pub mod OrdinalLemmas
 pub mod NumberLemmas
 pub mod PositionListsLemmas
 pub mod PackedLemmas

@@ -13,7 +13,7 @@ use crate::find::find_name;
 use crate::names::Names;
 use fts_column::Column;
 use fts_model::{Document, FieldValue, Kind, Stamped};
-use fts_pack::{Blocks, List};
+use fts_pack::Blocks;
 use std::alloc::{AllocError, Global};
 
 /// The texts of a keyword field.
@@ -57,7 +57,7 @@ impl KeywordIndex {
 }
 
 // A document of a list. No block is opened.
-fn some_document(list: &List) -> Option<u32>
+fn some_document(list: &fts_pack::List) -> Option<u32>
     ensures { MatchOption result (list.now ≡ []) (Contains list.now) }
 {
     if list.is_empty() {

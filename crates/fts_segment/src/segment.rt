@@ -136,9 +136,9 @@ impl Segment {
         ensures { option_copied result ≡ slice_get (keywords self.now field) ordinal }
     {
         let stored: &Stored = &self.stored;
-        let index = &stored.indexes[field];
-        let doc = index.document_with(stored.schema.kind(field), ordinal as usize)?;
-        text_of(stored.documents[doc as usize].value.value(field)?)
+        let kind = stored.schema.kind(field);
+        let doc = stored.indexes[field].document_with(kind, ordinal as usize)?;
+        text_of(self.document(doc as usize).value(field)?)
     }
 
     /// Between which ordinals of a keyword field a text stands: how many of the segment's different texts of the field
