@@ -15,7 +15,7 @@ use Rattle.fts_model.specs.declared.query.Request.{Request}
 use Rattle.fts_model.specs.declared.answer.Hit.{Hit}
 use Rattle.fts_model.specs.Documents.{DocumentValue}
 use Rattle.fts_model.specs.Operations.{HasEachStampOnce}
-use Rattle.fts_model.specs.Answers.{AnswerValue, answer_of, groups, has_number, hits_with, hit_in, top}
+use Rattle.fts_model.specs.Answers.{AnswerValue, answer_of, groups, is_in_group, hits_with, hit_in, top}
 use Rattle.fts_model.specs.Answers as answers
 use Rattle.fts_model.proofs.Lists.{Contains-cases, Contains-first, Contains-behind, Contains-none}
 use Rattle.fts_scan.proofs.AnswersGroups.{count_in-groups}
@@ -24,7 +24,9 @@ use Rattle.fts_collect.specs.Parts.{PartValue, joined, ArePartsOf}
 use Rattle.fts_collect.specs.Internals.Joins.{AreApart, AreGroupsOf, first_of, hits_in, all_hits}
 use Rattle.fts_collect.proofs.ApartLemmas.{once-permuted}
 use Rattle.fts_collect.proofs.FirstLemmas.{first_of-members, first_of-firsts, firsts_apart}
-use Rattle.fts_collect.proofs.GroupsLemmas.{groups-rise, groups-positive, one_list_of_groups}
+use Rattle.fts_scan.proofs.AnswersOrder.{group_order}
+use Rattle.fts_scan.proofs.Counts.{one_list_of_groups}
+use Rattle.fts_collect.proofs.GroupsLemmas.{groups-rise, groups-positive}
 
 -- the hits of several lists with a number are those of each
 hits_in-joined : (field : ℕ) (lists : List (List (Stamped DocumentValue))) →
@@ -99,8 +101,8 @@ top-permuted k order field hits others is once =
 -- so are the groups
 groups-permuted : (field : ℕ) (hits others : List (Stamped DocumentValue)) → IsPermutation hits others → groups field hits ≡ groups field others
 groups-permuted field hits others is =
-    one_list_of_groups (groups field hits) (groups field others) (groups-rise field hits) (groups-positive field hits) (groups-rise field others) (groups-positive field others)
-    (λ n. count_in-groups field n hits ∙ sym (sum_by-IsPermutation (λ (h : Stamped DocumentValue). cond (has_number field n h.value) 1 0) hits others is) ∙ sym (count_in-groups field n others))
+    one_list_of_groups group_order (groups field hits) (groups field others) (groups-rise field hits) (groups-positive field hits) (groups-rise field others) (groups-positive field others)
+    (λ n. count_in-groups field n hits ∙ sym (sum_by-IsPermutation (λ (h : Stamped DocumentValue). cond (is_in_group field n h.value) 1 0) hits others is) ∙ sym (count_in-groups field n others))
 
 -- what parts tell, seen by one of their fields
 told_by : {Y : Type 0} (f : AnswerValue → Y) (request : Request) (parts : List PartValue) (lists : List (List (Stamped DocumentValue))) →

@@ -1,8 +1,7 @@
 // Hits counted by their numbers in a column.
 ghost use Rattle.std.specs.Prelude.{◌≡◌, ◌≤◌, ◌<◌, ◌+◌, ◌-◌, ◌++◌, ◌^◌, ℕ, List, IfOk, OnOk, length, min, None};
 ghost use Rattle.std.specs.Prelude.{option_to_list, slice_index, slice_index_or, slice_set};
-ghost use Rattle.fts_model.specs.declared.schema.Kind.{Kind};
-ghost use Rattle.fts_collect.specs.Internals.Tallies.{AreCounts, AreWithin, groups_from, groups_of_sorted, number_at};
+ghost use Rattle.fts_collect.specs.Internals.Tallies.{AreCounts, AreWithin, counts_from, counts_of_sorted, number_at};
 ghost use Rattle.fts_collect.specs.Internals.Tallies.{present_at};
 
 use fts_bits::u64_to_i64;
@@ -21,36 +20,27 @@ pub(crate) fn number_at(kind: Kind, number: u64) -> Number
     }
 }
 
-/// The groups of numbers that stand in order: each run of one number is one.
-fn groups_of_sorted(
-    alloc: Global,
-    kind: Kind,
-    numbers: &[u64],
-) -> Result<Vec<(Number, u64)>, AllocError>
-    ensures { IfOk result (λ list. list.items ≡ groups_of_sorted kind numbers.now) }
+/// The counts of numbers that stand in order: each run of one number is one.
+fn counts_of_sorted(alloc: Global, numbers: &[u64]) -> Result<Vec<(u64, u64)>, AllocError>
+    ensures { IfOk result (λ list. list.items ≡ counts_of_sorted numbers.now) }
 {
     numbers
         .iter()
         .copied()
         .dedup_with_count()
-        .map(|(count, number)| (number_at(kind, number), count as u64))
+        .map(|(count, number)| (number, count as u64))
         .collect(alloc)
 }
 
-/// The groups of numbers that were counted, of which the first is the least.
-fn groups_of_counts(
-    alloc: Global,
-    kind: Kind,
-    least: u64,
-    counts: &[u64],
-) -> Result<Vec<(Number, u64)>, AllocError>
+/// The numbers that were counted, of which the first is the least, with their counts.
+fn counts_from(alloc: Global, least: u64, counts: &[u64]) -> Result<Vec<(u64, u64)>, AllocError>
     requires { least + length counts.now ≤ 2 ^ 64 }
-    ensures { IfOk result (λ list. list.items ≡ groups_from kind least counts.now) }
+    ensures { IfOk result (λ list. list.items ≡ counts_from least counts.now) }
 {
     let mut list = Vec::new(alloc);
     for (i, count) in counts.iter().enumerate() {
         if *count > 0 {
-            list.push((number_at(kind, least + i as u64), *count))?;
+            list.push((least + i as u64, *count))?;
         }
     }
     Ok(list)
@@ -68,9 +58,8 @@ fn count_number(counts: &mut [u64], place: usize)
 /// Counts the number of a document in a column, if it has one.
 fn count_doc(column: &Column, doc: u32, least: u64, counts: &mut [u64])
     requires { AreWithin column.now least (length counts.old) }
-    ensures counted { (kind : Kind) (numbers : List ℕ) → AreCounts kind numbers least counts.old →
-        AreCounts kind (numbers ++ option_to_list (slice_index_or column.now doc None))
-        least counts.new }
+    ensures counted { (numbers : List ℕ) → AreCounts numbers least counts.old →
+        AreCounts (numbers ++ option_to_list (slice_index_or column.now doc None)) least counts.new }
     ensures long { length counts.new ≡ length counts.old }
 {
     match column.get(doc as usize) {
@@ -82,8 +71,8 @@ fn count_doc(column: &Column, doc: u32, least: u64, counts: &mut [u64])
 /// Counts the numbers of documents in a column.
 fn count_docs(column: &Column, docs: &[u32], least: u64, counts: &mut [u64])
     requires { AreWithin column.now least (length counts.old) }
-    ensures counted { (kind : Kind) (numbers : List ℕ) → AreCounts kind numbers least counts.old →
-        AreCounts kind (numbers ++ present_at column.now docs.now) least counts.new }
+    ensures counted { (numbers : List ℕ) → AreCounts numbers least counts.old →
+        AreCounts (numbers ++ present_at column.now docs.now) least counts.new }
     ensures long { length counts.new ≡ length counts.old }
 {
     for doc in docs {
@@ -130,12 +119,11 @@ const MOST_COUNTS: u64 = 65_536;
 
 impl Tally {
     ghost use Rattle.std.specs.Prelude.{◌≡◌, ◌<◌, ◌++◌, ◌^◌, ℕ, List, [], IfOk, OnOk, length};
-    ghost use Rattle.fts_model.specs.declared.schema.Kind.{Kind};
-    ghost use Rattle.fts_collect.specs.Internals.Tallies.{IsTally, IsTallyFor, groups_of, present_at};
+    ghost use Rattle.fts_collect.specs.Internals.Tallies.{IsTally, IsTallyFor, counts_of, present_at};
 
     /// Of no hits. There is a place for each number where they lie close together.
     pub(crate) fn new(alloc: Global, column: &Column) -> Result<Tally, AllocError>
-        ensures none { IfOk result (λ tally. (kind : Kind) → IsTally kind [] tally) }
+        ensures none { IfOk result (IsTally []) }
         ensures for_column { IfOk result (IsTallyFor column.now) }
     {
         match column.range() {
@@ -150,9 +138,8 @@ impl Tally {
     /// Takes the numbers of more hits.
     pub(crate) fn take(&mut self, column: &Column, docs: &[u32]) -> Result<(), AllocError>
         requires { IsTallyFor column.now self.old }
-        ensures taken { OnOk result ((kind : Kind) (numbers : List ℕ) →
-            IsTally kind numbers self.old →
-            IsTally kind (numbers ++ present_at column.now docs.now) self.new) }
+        ensures taken { OnOk result ((numbers : List ℕ) → IsTally numbers self.old →
+            IsTally (numbers ++ present_at column.now docs.now) self.new) }
         ensures for_column { OnOk result (IsTallyFor column.now self.new) }
     {
         match self {
@@ -164,21 +151,17 @@ impl Tally {
         }
     }
 
-    /// The groups of the numbers, under the kind of their field.
-    pub(crate) fn into_groups(
-        self,
-        alloc: Global,
-        kind: Kind,
-    ) -> Result<Vec<(Number, u64)>, AllocError>
+    /// The numbers, rising, each with how often it came.
+    pub(crate) fn into_counts(self, alloc: Global) -> Result<Vec<(u64, u64)>, AllocError>
         requires { IsTallyFor [] self }
-        ensures { (numbers : List ℕ) → IsTally kind numbers self → length numbers < 2 ^ 64 →
-            IfOk result (λ list. list.items ≡ groups_of kind numbers) }
+        ensures { (numbers : List ℕ) → IsTally numbers self → length numbers < 2 ^ 64 →
+            IfOk result (λ list. list.items ≡ counts_of numbers) }
     {
         match self {
-            Tally::Counts { least, counts } => groups_of_counts(alloc, kind, least, &counts),
+            Tally::Counts { least, counts } => counts_from(alloc, least, &counts),
             Tally::Numbers(mut numbers) => {
                 numbers.sort_unstable();
-                groups_of_sorted(alloc, kind, &numbers)
+                counts_of_sorted(alloc, &numbers)
             }
         }
     }

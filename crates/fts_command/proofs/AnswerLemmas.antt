@@ -7,7 +7,8 @@ use Rattle.serde_json.specs.View.{view, items_view}
 use Rattle.serde_json.specs.Written.{has_float, items_have_float, members_have_float}
 use Rattle.serde_json.specs.declared.value.Value.{Value}
 use Rattle.fts_model.specs.declared.schema.Field.{Field}
-use Rattle.fts_model.specs.declared.value.Number.{Number}
+use Rattle.fts_model.specs.declared.value.GroupValue.{GroupValue}
+use Rattle.fts_model.specs.declared.value.GroupValue.TheVariants as group_values
 use Rattle.fts_model.specs.declared.value.Number.TheVariants as numbers
 use Rattle.fts_model.specs.declared.value.FieldValue.{FieldValue}
 use Rattle.fts_model.specs.declared.value.FieldValue.TheVariants as values
@@ -15,7 +16,7 @@ use Rattle.fts_model.specs.declared.answer.Hit.{Hit}
 use Rattle.fts_model.specs.Documents.{data_of, with_value, with_values}
 use Rattle.fts_model.specs.Answers.{AnswerValue}
 use Rattle.fts_model.proofs.DocumentsFields.{or_false}
-use Rattle.fts_command.specs.AnswerData.{groups_data, hits_data, list_member, answer_data}
+use Rattle.fts_command.specs.AnswerData.{value_data, groups_data, hits_data, list_member, answer_data}
 
 -- what values are, in front of others
 abbrev pub items_before : List Value → Items → Items
@@ -62,9 +63,14 @@ all_plain ms [] vs h = h
 all_plain ms (field ∷ fields) [] h = h
 all_plain ms (field ∷ fields) (v ∷ vs) h = all_plain (with_value ms field v) fields vs (one_plain ms field v h)
 
-groups_plain : (groups : List (Number × ℕ)) → items_have_float (groups_data groups) ≡ false
+group_plain : (v : GroupValue) → has_float (value_data v) ≡ false
+group_plain (group_values.U64 n) = value_plain (values.Number (numbers.U64 n))
+group_plain (group_values.I64 n) = value_plain (values.Number (numbers.I64 n))
+group_plain (group_values.Keyword text) = refl
+
+groups_plain : (groups : List (GroupValue × ℕ)) → items_have_float (groups_data groups) ≡ false
 groups_plain [] = refl
-groups_plain (group ∷ groups) = neither (neither (value_plain (values.Number group.0)) refl) (groups_plain groups)
+groups_plain (group ∷ groups) = neither (neither (group_plain group.0) refl) (groups_plain groups)
 
 hits_plain : (hits : List Hit) → items_have_float (hits_data hits) ≡ false
 hits_plain [] = refl
@@ -76,7 +82,7 @@ list_plain : (name : List ℕ) (items : Option Items) (ms : Members) → ((is : 
 list_plain name None ms h p = p
 list_plain name (Some is) ms h p = neither (h is refl) p
 
-some_groups : (groups : Option (List (Number × ℕ))) (is : Items) → option_map groups_data groups ≡ Some is → items_have_float is ≡ false
+some_groups : (groups : Option (List (GroupValue × ℕ))) (is : Items) → option_map groups_data groups ≡ Some is → items_have_float is ≡ false
 some_groups None is e = cc
 some_groups (Some groups) is e = let p = groups_plain groups in cc
 

@@ -3,7 +3,10 @@ use Rattle.std.specs.Prelude.{ℕ, List, [], ◌∷◌, codes, Option, Some, Non
 use Rattle.serde_json.specs.Data.{Data, number, unsigned, array, Items, item, no_items, object, Members}
 use Rattle.serde_json.specs.Data.{member, no_members}
 use Rattle.fts_model.specs.declared.value.Number.{Number}
+use Rattle.fts_model.specs.declared.value.Number.TheVariants.{U64, I64}
 use Rattle.fts_model.specs.declared.value.FieldValue.TheVariants as values
+use Rattle.fts_model.specs.declared.value.GroupValue.{GroupValue}
+use Rattle.fts_model.specs.declared.value.GroupValue.TheVariants as group_values
 use Rattle.fts_model.specs.declared.answer.Hit.{Hit}
 use Rattle.fts_model.specs.Documents.{data_of, json_of}
 use Rattle.fts_model.specs.Answers.{AnswerValue}
@@ -12,11 +15,17 @@ use Rattle.fts_model.specs.Answers.{AnswerValue}
 abbrev pub number_data : Number → Data
 number_data n = data_of (values.Number n)
 
--- a value and how many hits have it, as JSON
-abbrev pub group_data : Number × ℕ → Data
-group_data group = array (item (number_data group.0) (item (number (unsigned group.1)) no_items))
+-- the value of a group as JSON
+abbrev pub value_data : GroupValue → Data
+value_data (group_values.U64 n) = number_data (U64 n)
+value_data (group_values.I64 n) = number_data (I64 n)
+value_data (group_values.Keyword text) = data_of (values.Text text)
 
-abbrev pub groups_data : List (Number × ℕ) → Items
+-- a value and how many hits have it, as JSON
+abbrev pub group_data : GroupValue × ℕ → Data
+group_data group = array (item (value_data group.0) (item (number (unsigned group.1)) no_items))
+
+abbrev pub groups_data : List (GroupValue × ℕ) → Items
 groups_data [] = no_items
 groups_data (group ∷ groups) = item (group_data group) (groups_data groups)
 

@@ -4,9 +4,10 @@ ghost use Rattle.serde_json.specs.Data.{array, put};
 ghost use Rattle.serde_json.specs.View.{view, members_view};
 ghost use Rattle.serde_json.specs.Written.{has_float};
 ghost use Rattle.fts_model.specs.Documents.{json_of};
-ghost use Rattle.fts_command.specs.AnswerData.{number_data, group_data, groups_data, hit_data, hits_data, answer_data};
+ghost use Rattle.fts_command.specs.AnswerData.{number_data, value_data, group_data, groups_data, hit_data, hits_data};
+ghost use Rattle.fts_command.specs.AnswerData.{answer_data};
 
-use fts_model::{Answer, Hit, Number};
+use fts_model::{Answer, GroupValue, Hit, Number};
 use serde_json::{Map, Value, put};
 use std::alloc::{AllocError, Global};
 
@@ -19,15 +20,26 @@ fn number_value(number: Number) -> Value
     }
 }
 
+/// The value of a group.
+fn value_of(alloc: Global, value: &GroupValue) -> Result<Value, AllocError>
+    ensures { IfOk result (λ json. view json ≡ value_data value.now) }
+{
+    Ok(match value {
+        GroupValue::U64(n) => number_value(Number::U64(*n)),
+        GroupValue::I64(n) => number_value(Number::I64(*n)),
+        GroupValue::Keyword(text) => Value::String(String::from_str(alloc, text.as_str())?),
+    })
+}
+
 /// A value and how many hits have it.
-fn group_value(alloc: Global, group: &(Number, u64)) -> Result<Value, AllocError>
+fn group_value(alloc: Global, group: &(GroupValue, u64)) -> Result<Value, AllocError>
     ensures { IfOk result (λ value. view value ≡ group_data group.now) }
 {
-    let pair = vec![in alloc; number_value(group.0), Value::from(group.1)]?;
+    let pair = vec![in alloc; value_of(alloc, &group.0)?, Value::from(group.1)]?;
     Ok(Value::Array(pair))
 }
 
-fn groups_value(alloc: Global, groups: &[(Number, u64)]) -> Result<Value, AllocError>
+fn groups_value(alloc: Global, groups: &[(GroupValue, u64)]) -> Result<Value, AllocError>
     ensures { IfOk result (λ value. view value ≡ array (groups_data groups.now)) }
 {
     let mut list = Vec::with_capacity(alloc, groups.len())?;
@@ -71,7 +83,7 @@ fn hits_value(alloc: Global, hits: &[Hit]) -> Result<Value, AllocError>
 fn put_groups(
     alloc: Global,
     members: &mut Map<String, Value>,
-    groups: &[(Number, u64)],
+    groups: &[(GroupValue, u64)],
 ) -> Result<(), AllocError>
     ensures { OnOk result (members_view members.new.entries
         ≡ put (codes "groups") (array (groups_data groups.now)) (members_view members.old.entries)) }

@@ -1,11 +1,11 @@
 -- Values that are counted in an order: each as often as it comes, and there is but one list of such counts.
 use Rattle.std.proofs.Common.{◌≡◌, ℕ, ◌+◌, ◌<◌, Bool, true, false, cond, List, [], ◌∷◌, length, refl, sym, ap, subst, ◌∙◌, ⊎_elim, arith, All, AllPairs, Contains, fold, count_by}
 use Rattle.std.specs.Cmp.{IsTotalOrder}
-use Rattle.std.specs.FinMap.{IsAntisymmetric}
-use Rattle.std.specs.Ordering.{match_ordering, is_eq, ordering_reverse}
+use Rattle.std.specs.FinMap.{IsAntisymmetric, nat_cmp-IsAntisymmetric}
+use Rattle.std.specs.Ordering.{match_ordering, is_eq, nat_cmp, ordering_reverse}
 use Rattle.std.specs.declared.cmp.Ordering.{Ordering}
 use Rattle.std.specs.declared.cmp.Ordering.TheVariants.{Less, Equal, Greater}
-use Rattle.std.proofs.lemmas.Cmp.{tied_itself}
+use Rattle.std.proofs.lemmas.Cmp.{nat_cmp_total, tied_itself}
 use Rattle.std.proofs.lemmas.List.Elements.{All-nil, All-cons, All-head, All-tail, All-contains}
 use Rattle.std.proofs.lemmas.List.Kept.{AllPairs-cons}
 use Rattle.std.proofs.lemmas.List.Sums.{sum_by-cons}
@@ -199,3 +199,7 @@ module _ {V : Type 0} {cmp : V → V → Ordering} (order : IsOneOrder cmp) wher
   pub hits_counted-fold : (others : List (V × ℕ)) (ns : List V) → hits_counted (fold (count_one cmp) others ns) ≡ hits_counted others + length ns
   hits_counted-fold others [] = omega arith
   hits_counted-fold others (n ∷ ns) = omega (arith, hits_counted-fold (count_one cmp others n) ns, hits_counted-one others n)
+
+-- the order of natural numbers is one
+pub nat_order : IsOneOrder nat_cmp
+nat_order = record { total = nat_cmp_total; same = nat_cmp-IsAntisymmetric }

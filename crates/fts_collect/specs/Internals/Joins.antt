@@ -1,4 +1,4 @@
--- How parts are joined: their groups number by number, and their top lists as one list of hits.
+-- How parts are joined: their groups value by value, and their top lists as one list of hits.
 use Rattle.std.specs.Prelude.{◌≡◌, ◌≢◌, ℕ, ◌+◌, ◌-◌, ◌^◌, min, List, [], ◌∷◌, map, take, fold, AllPairs, unwrap_or}
 use Rattle.std.specs.Prelude.{Some}
 use Rattle.std.specs.List.{flat_map}
@@ -6,29 +6,29 @@ use Rattle.std.specs.Ordering.{match_ordering, ordering_then, nat_cmp}
 use Rattle.std.specs.declared.cmp.Ordering.{Ordering}
 use Rattle.std.specs.declared.cmp.Ordering.TheVariants.{Less}
 use Rattle.fts_model.specs.declared.operation.Stamped.{Stamped}
-use Rattle.fts_model.specs.declared.value.Number.{Number}
+use Rattle.fts_model.specs.declared.value.GroupValue.{GroupValue}
 use Rattle.fts_model.specs.declared.query.Order.{Order}
 use Rattle.fts_model.specs.declared.answer.Hit.{Hit}
 use Rattle.fts_model.specs.Documents.{DocumentValue}
-use Rattle.fts_model.specs.Answers.{number_cmp, cmp_by, put_hit, groups}
+use Rattle.fts_model.specs.Answers.{group_cmp, cmp_by, put_hit, groups}
 use Rattle.fts_collect.specs.Parts.{PartValue}
 
 -- two counts together, which stay at the greatest number of 64 bits
 abbrev pub counts_added : ℕ → ℕ → ℕ
 counts_added n m = min (n + m) (2 ^ 64 - 1)
 
--- groups of rising numbers, with one more
-abbrev pub add_group : List (Number × ℕ) → Number × ℕ → List (Number × ℕ)
+-- groups of rising values, with one more
+abbrev pub add_group : List (GroupValue × ℕ) → GroupValue × ℕ → List (GroupValue × ℕ)
 add_group [] more = more ∷ []
 add_group (group ∷ groups) more =
-    match_ordering (number_cmp more.0 group.0)
+    match_ordering (group_cmp more.0 group.0)
     (more ∷ group ∷ groups)
     ((group.0, counts_added group.1 more.1) ∷ groups)
     (group ∷ add_group groups more)
 
--- the numbers of groups rise
-abbrev pub NumbersRise : List (Number × ℕ) → Type 0
-NumbersRise groups = AllPairs (λ a b. number_cmp a.0 b.0 ≡ Less) groups
+-- the values of groups rise
+abbrev pub GroupsRise : List (GroupValue × ℕ) → Type 0
+GroupsRise groups = AllPairs (λ a b. group_cmp a.0 b.0 ≡ Less) groups
 
 -- the groups of a part are those of these hits
 abbrev pub AreGroupsOf : ℕ → List (List (Stamped DocumentValue)) → List PartValue → Type 0

@@ -2,11 +2,12 @@
 use Rattle.std.specs.Prelude.{◌≡◌, ℕ, ◌+◌, ◌^◌, ◌<◌, ◌≤◌, nat_lt, nat_eq, List, [], ◌∷◌, Option, None, if◌then◌else◌}
 use Rattle.std.specs.Prelude.{length, map, slice_index_or, fold, All, IfSome}
 use Rattle.std.specs.List.{filter_map}
+use Rattle.std.specs.Ordering.{nat_cmp}
 use Rattle.fts_model.specs.declared.schema.Kind.{Kind}
 use Rattle.fts_model.specs.declared.schema.Kind.TheVariants as kinds
 use Rattle.fts_model.specs.declared.value.Number.{Number}
 use Rattle.fts_model.specs.declared.value.Number.TheVariants.{U64, I64}
-use Rattle.fts_model.specs.Answers.{count_number}
+use Rattle.fts_model.specs.Answers.{count_one}
 use Rattle.fts_collect.specs.declared.tally.Tally.{Tally}
 use Rattle.fts_collect.specs.declared.tally.Tally.TheVariants.{Counts, Numbers}
 use Rattle.fts_bits.specs.Signed.{i64_of}
@@ -25,29 +26,28 @@ present_at column docs = filter_map (λ doc. slice_index_or column doc None) doc
 abbrev pub AreWithin : List (Option ℕ) → ℕ → ℕ → Type 0
 AreWithin column least count = All (λ v. IfSome v (λ x. (least ≤ x) × (x < least + count))) column
 
--- the groups of numbers that were counted, from the number `x` on
-abbrev pub groups_from : Kind → ℕ → List ℕ → List (Number × ℕ)
-groups_from kind x [] = []
-groups_from kind x (count ∷ counts) =
-    if nat_lt 0 count then (number_at kind x, count) ∷ groups_from kind (x + 1) counts
-    else groups_from kind (x + 1) counts
+-- the numbers that were counted with their counts, from the number `x` on
+abbrev pub counts_from : ℕ → List ℕ → List (ℕ × ℕ)
+counts_from x [] = []
+counts_from x (count ∷ counts) =
+    if nat_lt 0 count then (x, count) ∷ counts_from (x + 1) counts else counts_from (x + 1) counts
 
--- the groups of numbers in order: each run of one number
-abbrev pub groups_of_sorted : Kind → List ℕ → List (Number × ℕ)
-groups_of_sorted kind numbers = map (λ same. (number_at kind same.1, same.0)) (dedup_with_count nat_eq numbers)
+-- the counts of numbers in order: each run of one number
+abbrev pub counts_of_sorted : List ℕ → List (ℕ × ℕ)
+counts_of_sorted numbers = map (λ same. (same.1, same.0)) (dedup_with_count nat_eq numbers)
 
--- the groups of numbers, each counted as it comes
-abbrev pub groups_of : Kind → List ℕ → List (Number × ℕ)
-groups_of kind numbers = fold count_number [] (map (number_at kind) numbers)
+-- the counts of numbers, each counted as it comes
+abbrev pub counts_of : List ℕ → List (ℕ × ℕ)
+counts_of numbers = fold (count_one nat_cmp) [] numbers
 
 -- numbers were counted, each at its place from the least on; a count stays at the greatest of 64 bits
-abbrev pub AreCounts : Kind → List ℕ → ℕ → List ℕ → Type 0
-AreCounts kind numbers least counts = length numbers < 2 ^ 64 → groups_from kind least counts ≡ groups_of kind numbers
+abbrev pub AreCounts : List ℕ → ℕ → List ℕ → Type 0
+AreCounts numbers least counts = length numbers < 2 ^ 64 → counts_from least counts ≡ counts_of numbers
 
 -- these numbers were counted
-abbrev pub IsTally : Kind → List ℕ → Tally → Type 0
-IsTally kind numbers (Counts least counts) = AreCounts kind numbers least counts.items
-IsTally kind numbers (Numbers held) = held.items ≡ numbers
+abbrev pub IsTally : List ℕ → Tally → Type 0
+IsTally numbers (Counts least counts) = AreCounts numbers least counts.items
+IsTally numbers (Numbers held) = held.items ≡ numbers
 
 -- there is a place for each number of a column, where there are places
 abbrev pub IsTallyFor : List (Option ℕ) → Tally → Type 0

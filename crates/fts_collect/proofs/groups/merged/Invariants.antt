@@ -1,12 +1,12 @@
 use Rattle.std.proofs.Common.{◌≡◌, ◌≤◌, ◌+◌, ◌-◌, ◌++◌, length, drop, fold}
-use Rattle.fts_collect.specs.Internals.Joins.{NumbersRise, add_group}
+use Rattle.fts_collect.specs.Internals.Joins.{GroupsRise, add_group}
 use Rattle.fts_collect.proofs.groups.merged.Given as goal
 
 abbrev pub invariant-loop-i : goal.invariant-loop-i
 invariant-loop-i l = record {
   front_in : l.i ≤ length l.front;
   back_in : l.j ≤ length l.back;
-  so_far : NumbersRise l.back → l.list.items ++ fold add_group (drop l.i l.front) (drop l.j l.back) ≡ fold add_group l.front l.back;
+  so_far : GroupsRise l.back → l.list.items ++ fold add_group (drop l.i l.front) (drop l.j l.back) ≡ fold add_group l.front l.back;
 }
 
 abbrev pub decreases-loop-i : goal.decreases-loop-i

@@ -6,8 +6,8 @@ use Rattle.fts_collect.proofs.TallyLemmas.{AreCounts-doc}
 use Rattle.fts_collect.proofs.tally.count_doc.Goals as goal
 
 pub returns-in-Some-clause-counted : goal.returns-in-Some-clause-counted
-returns-in-Some-clause-counted c = λ kind numbers counted.
+returns-in-Some-clause-counted c = λ numbers counted.
     let column = c.args.column.now in
-    let P : List ℕ → Type 0 = λ counts. AreCounts kind (numbers ++ option_to_list (slice_index_or column c.args.doc None)) c.args.least counts in
+    let P : List ℕ → Type 0 = λ counts. AreCounts (numbers ++ option_to_list (slice_index_or column c.args.doc None)) c.args.least counts in
     subst P (sym c.count_number.ensures)
-    (AreCounts-doc kind numbers column c.args.doc c.args.least c.args.counts.now c.in-Some.number c.requires (sym c.get.ensures ∙ c.in-Some.is) counted)
+    (AreCounts-doc numbers column c.args.doc c.args.least c.args.counts.now c.in-Some.number c.requires (sym c.get.ensures ∙ c.in-Some.is) counted)

@@ -2,8 +2,8 @@ use Rattle.std.proofs.Common.{◌+◌, ◌<◌, ◌≤◌, ℕ, List, length, dr
 use Rattle.std.proofs.lemmas.List.{drop_more, drop_all}
 use Rattle.serde_json.specs.Data.{Data, item, array}
 use Rattle.serde_json.proofs.Views.{view-Array}
-use Rattle.fts_model.specs.declared.value.Number.{Number}
-use Rattle.fts_model.specs.declared.value.Number.TheVariants.{U64}
+use Rattle.fts_model.specs.declared.value.GroupValue.{GroupValue}
+use Rattle.fts_model.specs.declared.value.GroupValue.TheVariants.{U64}
 use Rattle.fts_command.specs.AnswerData.{groups_data}
 use Rattle.fts_command.proofs.AnswerLemmas.{items_before, items_pushed, items_alone}
 use Rattle.fts_command.proofs.answer.groups_value.Goals as goal
@@ -17,7 +17,7 @@ loop-group-preserved c =
     rw c.in_ok-push.ensures.items
     (items_pushed items _ _
     ∙ ap (λ (d : Data). items_before items (item d (groups_data (drop (i + 1) groups)))) c.in_ok-group_value.ensures
-    ∙ ap (λ (xs : List (Number × ℕ)). items_before items (groups_data xs)) (sym (drop_more groups i (U64 0, 0) within))
+    ∙ ap (λ (xs : List (GroupValue × ℕ)). items_before items (groups_data xs)) (sym (drop_more groups i (U64 0, 0) within))
     ∙ c.loop-group.invariant)
 
 pub returns : goal.returns
@@ -27,4 +27,4 @@ returns c =
     let done : length groups ≤ c.loop-group.group-index = omega arith in
     view-Array c.loop-group.list
     ∙ ap array
-    (sym (items_alone items) ∙ ap (λ (xs : List (Number × ℕ)). items_before items (groups_data xs)) (sym (drop_all c.loop-group.group-index groups done)) ∙ c.loop-group.invariant)
+    (sym (items_alone items) ∙ ap (λ (xs : List (GroupValue × ℕ)). items_before items (groups_data xs)) (sym (drop_all c.loop-group.group-index groups done)) ∙ c.loop-group.invariant)

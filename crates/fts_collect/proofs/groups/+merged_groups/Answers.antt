@@ -2,9 +2,9 @@ use Rattle.std.proofs.Common.{◌≡◌, ◌∙◌, ◌/◌, ℕ, List, IfOk, sy
 use Rattle.fts_model.specs.declared.value.Number.{Number}
 use Rattle.fts_model.specs.Answers.{groups}
 use Rattle.fts_collect.specs.Parts.{PartValue, joined}
-use Rattle.fts_collect.specs.Internals.Joins.{AreGroupsOf, NumbersRise, add_group}
+use Rattle.fts_collect.specs.Internals.Joins.{AreGroupsOf, GroupsRise, add_group}
 use Rattle.fts_collect.proofs.GroupsLemmas.{only_one, groups-alone, groups-halves, few-halves, groups-rise, AreGroupsOf-take, AreGroupsOf-drop}
-use Rattle.fts_collect.proofs.groups.+joined_groups.Goals as goal
+use Rattle.fts_collect.proofs.groups.+merged_groups.Goals as goal
 
 pub returns-in-len1 : goal.returns-in-len1
 returns-in-len1 t c = λ field lists are few.
@@ -24,7 +24,7 @@ returns-in_ok-back-in_default t c = λ field lists are few.
     let back = c.in_ok-back-in_default.ensures field (drop n lists) (subst R (sym c.split_at.ensures.back) (AreGroupsOf-drop field n lists parts are)) (omega (arith, halves, few)) in
     let first = c.deref.ensures.value ∙ front in
     let second = c.deref-in_default.ensures.value ∙ back in
-    let S : List (Number × ℕ) → Type 0 = NumbersRise in
+    let S : List (Number × ℕ) → Type 0 = GroupsRise in
     let Q : List (Number × ℕ) → Type 0 = λ xs. IfOk c.merged.result (λ list. list.items ≡ xs) in
     subst Q
     (ap (λ xs. fold add_group xs c.deref-in_default.result.now) first ∙ ap (fold add_group (groups field (joined (take n lists)))) second ∙ groups-halves field n lists few)
