@@ -3,23 +3,24 @@ ghost use Rattle.std.specs.Prelude.{◌≡◌, ◌<◌, ◌≤◌, ◌++◌, ◌
 ghost use Rattle.std.specs.Prelude.{length, min, option_map, ◌-◌};
 ghost use Rattle.fts_cursor.specs.Standing.{Walked};
 ghost use Rattle.fts_model.specs.declared.operation.Term.{Term};
-ghost use Rattle.fts_model.specs.Queries.{is_number_field, query_fits, request_fits};
+ghost use Rattle.fts_model.specs.Queries.{is_number_field, is_ordered_field, query_fits, request_fits};
 ghost use Rattle.fts_model.specs.QueryValues.{query_value};
 ghost use Rattle.fts_model.specs.Answers.{answer, answer_of, groups, top};
 ghost use Rattle.fts_segment.specs.Contents.{content_of};
 ghost use Rattle.fts_postings.specs.Bounds.{most_at};
 ghost use Rattle.fts_cursor.specs.Openings.{HasMusts};
 ghost use Rattle.fts_collect.specs.Parts.{OpensIn};
-ghost use Rattle.fts_collect.specs.Internals.Collected.{AreHits, HasCounted, HasNumbers, HasRanked, HasSeen};
-ghost use Rattle.fts_collect.specs.Internals.Collected.{IsTallyOf, KeysWithin, hits_at};
+ghost use Rattle.fts_collect.specs.Internals.Collected.{AreHits, HasCounted, HasNumbers, HasRanked, HasSeen, HasValues};
+ghost use Rattle.fts_collect.specs.Internals.Collected.{IsTallyOf, KeysWithin, column_of, hits_at, named_by, value_at};
 
 use crate::part::Part;
 use crate::ranks::{hits_of, offer_hits};
 use crate::tally::Tally;
 use crate::top_k::TopK;
-use fts_bits::Bits;
+use fts_bits::{Bits, u64_to_i64};
+use fts_column::Column;
 use fts_cursor::{Cursor, DocSet, cursor_of};
-use fts_model::{Answer, Hit, Number, Query, Refusal, Request, Top};
+use fts_model::{Answer, GroupValue, Hit, Kind, Query, Refusal, Request, Text, Top};
 use fts_segment::Segment;
 use std::alloc::{AllocError, Global};
 
@@ -33,26 +34,71 @@ pub(crate) struct Seen {
     pub(crate) top_k: TopK,
 }
 
+/// The column of a field whose values have an order.
+fn column_of(segment: &Segment, field: usize) -> &Column
+    requires { is_ordered_field segment.now.schema field ≡ true }
+    ensures { result.now ≡ column_of segment.now field }
+{
+    segment.column(field)
+}
+
+/// The value that the column of a field keeps as a number. A keyword is copied.
+fn value_at(
+    alloc: Global,
+    segment: &Segment,
+    field: usize,
+    number: u64,
+) -> Result<GroupValue, AllocError>
+    requires { is_ordered_field segment.now.schema field ≡ true }
+    ensures { IfOk result (λ value. value ≡ value_at segment.now field number) }
+{
+    match segment.schema().kind(field) {
+        Kind::U64 | Kind::Text => Ok(GroupValue::U64(number)),
+        Kind::I64 => Ok(GroupValue::I64(u64_to_i64(number))),
+        Kind::Keyword => {
+            let keyword = segment.keyword(field, number).unwrap_or("");
+            Ok(GroupValue::Keyword(Text::new(String::from_str(alloc, keyword)?)))
+        }
+    }
+}
+
+/// Counts of the numbers of a column, with the values that it keeps as these.
+fn named(
+    alloc: Global,
+    segment: &Segment,
+    field: usize,
+    counts: &[(u64, u64)],
+) -> Result<Vec<(GroupValue, u64)>, AllocError>
+    requires { is_ordered_field segment.now.schema field ≡ true }
+    ensures { IfOk result (λ list. list.items ≡ named_by (value_at segment.now field) counts.now) }
+{
+    let mut list = Vec::with_capacity(alloc, counts.len())?;
+    for count in counts {
+        list.push((value_at(alloc, segment, field, count.0)?, count.1))?;
+    }
+    Ok(list)
+}
+
 /// The tally of no hits, for the field of the groups.
 fn empty_tally(alloc: Global, segment: &Segment, field: Option<usize>) -> Result<Tally, AllocError>
-    requires { IfSome field (λ f. is_number_field segment.now.schema f ≡ true) }
+    requires { IfSome field (λ f. is_ordered_field segment.now.schema f ≡ true) }
     ensures places { IfOk result (IsTallyOf segment.now field) }
     ensures none { IfOk result (HasCounted segment.now field []) }
 {
     match field {
         None => Ok(Tally::Numbers(Vec::new(alloc))),
-        Some(field) => Tally::new(alloc, segment.column(field)),
+        Some(field) => Tally::new(alloc, column_of(segment, field)),
     }
 }
 
-/// Counts hits by their numbers in the field of the groups.
+/// Counts hits by what the column of the field of the groups keeps for them.
 fn count_hits(
     segment: &Segment,
     field: Option<usize>,
     docs: &[u32],
     tally: &mut Tally,
 ) -> Result<(), AllocError>
-    requires fits { IfSome field (λ f. is_number_field segment.now.schema f ≡ true) }
+    requires fits { IfSome field (λ f. is_ordered_field segment.now.schema f ≡ true) }
     requires places { IsTallyOf segment.now field tally.old }
     ensures places { OnOk result (IsTallyOf segment.now field tally.new) }
     ensures counted { OnOk result ((before : List ℕ) →
@@ -61,7 +107,7 @@ fn count_hits(
 {
     match field {
         None => Ok(()),
-        Some(field) => tally.take(segment.column(field), docs),
+        Some(field) => tally.take(column_of(segment, field), docs),
     }
 }
 
@@ -71,9 +117,9 @@ fn groups_told(
     segment: &Segment,
     field: Option<usize>,
     tally: Tally,
-) -> Result<Option<Vec<(Number, u64)>>, AllocError>
-    requires fits { IfSome field (λ f. is_number_field segment.now.schema f ≡ true) }
-    requires documents { HasNumbers segment.now }
+) -> Result<Option<Vec<(GroupValue, u64)>>, AllocError>
+    requires fits { IfSome field (λ f. is_ordered_field segment.now.schema f ≡ true) }
+    requires documents { HasValues segment.now }
     requires places { IsTallyOf segment.now field tally }
     ensures { (docs : List ℕ) → HasCounted segment.now field docs tally → length docs < 2 ^ 64 →
         IfOk result (λ found. option_map (λ g. g.items) found
@@ -82,8 +128,8 @@ fn groups_told(
     match field {
         None => Ok(None),
         Some(field) => {
-            let kind = segment.schema().kind(field);
-            Ok(Some(tally.into_groups(alloc, kind)?))
+            let counts = tally.into_counts(alloc)?;
+            Ok(Some(named(alloc, segment, field, &counts)?))
         }
     }
 }
@@ -196,7 +242,7 @@ fn told(
     seen: Seen,
 ) -> Result<Answer, AllocError>
     requires fits { request_fits segment.now.schema request.now ≡ true }
-    requires documents { HasNumbers segment.now }
+    requires documents { HasValues segment.now }
     requires places { IsTallyOf segment.now request.now.groups seen.tally }
     requires within { KeysWithin segment.now request.now.top seen.top_k }
     ensures { (docs : List ℕ) →
@@ -221,7 +267,7 @@ fn part_of(
     cursor: &mut Cursor<'_>,
 ) -> Result<Part, AllocError>
     requires fits { request_fits segment.now.schema request.now ≡ true }
-    requires documents { HasNumbers segment.now }
+    requires documents { HasValues segment.now }
     requires hits { AreHits segment.now cursor.old.remaining }
     ensures answer { IfOk result (λ part. part.answer
         ≡ answer_of request.now (hits_at segment.now cursor.old.remaining)) }

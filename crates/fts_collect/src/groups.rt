@@ -19,7 +19,7 @@ struct Lent<'a> {
     count: u64,
 }
 
-impl Model for Lent<'_> {
+impl<'a> Model for Lent<'a> {
     ghost use Rattle.std.specs.Prelude.{ℕ};
     ghost use Rattle.fts_model.specs.declared.value.GroupValue.{GroupValue};
 

@@ -9,7 +9,7 @@ ghost use Rattle.fts_collect.specs.Internals.Joins.{all_hits};
 
 use crate::groups::joined_groups;
 use crate::top::{joined_top, room_for_hits};
-use fts_model::{Answer, Hit, Number, Refusal, Request};
+use fts_model::{Answer, GroupValue, Hit, Refusal, Request};
 use std::alloc::{AllocError, Global};
 use std::marker::Model;
 

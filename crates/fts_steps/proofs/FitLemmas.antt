@@ -18,7 +18,7 @@ use Rattle.fts_base.specs.declared.refusal.Refusal.{Refusal}
 use Rattle.fts_base.specs.declared.refusal.Refusal.TheVariants.{WrongKind, TextTooLong, KeywordTooLong, UnknownField, NotANumberField, BadLimit}
 use Rattle.fts_model.specs.Documents.{DocumentValue, is_of_kind, value_in, value_at, members_fault, document_of, may_stand, fits_fields, fits}
 use Rattle.fts_model.specs.Operations.{kind_at, term_value, term_at, term_of, term_fits}
-use Rattle.fts_model.specs.Queries.{is_number_field, is_limit, number_field_named, groups_of, top_of, request_of, request_fits}
+use Rattle.fts_model.specs.Queries.{is_number_field, is_ordered_field, is_limit, field_of, number_field_named, ordered_field_named, groups_of, top_of, request_of, request_fits}
 use Rattle.fts_base.specs.Results.{Gives, value_if_ok, ok_unless, result_and_then, result_map}
 use Rattle.fts_model.specs.Schemas.{field_named}
 
@@ -126,29 +126,30 @@ term_of_fits schema name d term h =
     elim (field_named name schema) as (λ o. option_map_or (λ field. term_at schema field d) o (Err UnknownField) ≡ Ok term → term_fits schema term ≡ true)
     [ None ↦ λ is. cc | Some field ↦ λ is. at_field schema field d term is ] h
 
--- a number field, if there is one
-abbrev IsNumberField : List Field → Option ℕ → Type 0
-IsNumberField schema field = option_map_or (is_number_field schema) field true ≡ true
+-- one of these fields, if there is one
+abbrev IsOne : (ℕ → Bool) → Option ℕ → Type 0
+IsOne is_one field = option_map_or is_one field true ≡ true
 
-named_holds : (schema : List Field) (name : List ℕ) → IsNumberField schema (value_if_ok (number_field_named schema name))
-named_holds schema name =
-    elim (field_named name schema) as (λ o. IsNumberField schema (value_if_ok (option_map_or (λ field. cond (is_number_field schema field) (Ok field) (Err NotANumberField)) o (Err UnknownField)))) [
+named_holds : (is_one : ℕ → Bool) (schema : List Field) (name : List ℕ) → IsOne is_one (value_if_ok (field_of is_one schema name))
+named_holds is_one schema name =
+    elim (field_named name schema) as (λ o. IsOne is_one (value_if_ok (option_map_or (λ field. cond (is_one field) (Ok field) (Err NotANumberField)) o (Err UnknownField)))) [
       | None ↦ refl
       | Some field ↦
-          elim (is_number_field schema field) as (λ b. is_number_field schema field ≡ b → IsNumberField schema (value_if_ok (cond b (Ok field) (Err NotANumberField))))
+          elim (is_one field) as (λ b. is_one field ≡ b → IsOne is_one (value_if_ok (cond b (Ok field) (Err NotANumberField))))
           [ true ↦ λ e. e | false ↦ λ _. refl ] refl
     ]
 
 abbrev TopHolds : List Field → Option Top → Type 0
 TopHolds schema top = option_map_or (λ (t : Top). is_number_field schema t.by && is_limit t.k) top true ≡ true
 
-groups_hold : (schema : List Field) (groups : Option (List ℕ)) (field : Option ℕ) → groups_of schema groups ≡ Ok field → IsNumberField schema field
-groups_hold schema None field h = let same : None ≡ field = cc in subst (IsNumberField schema) same refl
+groups_hold : (schema : List Field) (groups : Option (List ℕ)) (field : Option ℕ) → groups_of schema groups ≡ Ok field → IsOne (is_ordered_field schema) field
+groups_hold schema None field h = let same : None ≡ field = cc in subst (IsOne (is_ordered_field schema)) same refl
 groups_hold schema (Some name) field h =
-    elim (number_field_named schema name) as (λ r. IsNumberField schema (value_if_ok r) → result_map Some r ≡ Ok field → IsNumberField schema field) [
+    let P : Option ℕ → Type 0 = IsOne (is_ordered_field schema) in
+    elim (ordered_field_named schema name) as (λ r. P (value_if_ok r) → result_map Some r ≡ Ok field → P field) [
       | Err e ↦ λ _ is. cc
-      | Ok n ↦ λ holds is. let same : Some n ≡ field = cc in subst (IsNumberField schema) same holds
-    ] (named_holds schema name) h
+      | Ok n ↦ λ holds is. let same : Some n ≡ field = cc in subst P same holds
+    ] (named_holds (is_ordered_field schema) schema name) h
 
 limited : (schema : List Field) (n k : ℕ) (order : Order) (top : Option Top) → is_number_field schema n ≡ true →
     cond (is_limit k) (Ok (Some (record { by = n; k = k; order = order }))) (Err BadLimit) ≡ Ok top → TopHolds schema top
@@ -162,11 +163,11 @@ limited schema n k order top holds h =
 top_holds : (schema : List Field) (asked : Option (List ℕ × ℕ × Order)) (top : Option Top) → top_of schema asked ≡ Ok top → TopHolds schema top
 top_holds schema None top h = let same : None ≡ top = cc in subst (TopHolds schema) same refl
 top_holds schema (Some (name, k, order)) top h =
-    elim (number_field_named schema name) as (λ r. IsNumberField schema (value_if_ok r) →
+    elim (number_field_named schema name) as (λ r. IsOne (is_number_field schema) (value_if_ok r) →
     result_and_then (λ field. cond (is_limit k) (Ok (Some (record { by = field; k = k; order = order }))) (Err BadLimit)) r ≡ Ok top → TopHolds schema top) [
       | Err e ↦ λ _ is. cc
       | Ok n ↦ λ holds is. limited schema n k order top holds is
-    ] (named_holds schema name) h
+    ] (named_holds (is_number_field schema) schema name) h
 
 parts_fit : (schema : List Field) (groups : Option (List ℕ)) (asked : Option (List ℕ × ℕ × Order)) (request : Request) (g : Result (Option ℕ) Refusal) (t : Result (Option Top) Refusal) →
     groups_of schema groups ≡ g → top_of schema asked ≡ t → result_and_then (λ field. result_map (λ list. record { groups = field; top = list }) t) g ≡ Ok request → request_fits schema request ≡ true

@@ -3,8 +3,7 @@ use Rattle.std.proofs.lemmas.List.{drop_more, drop_all}
 use Rattle.serde_json.specs.Data.{Data, item, array}
 use Rattle.serde_json.proofs.Views.{view-Array}
 use Rattle.fts_model.specs.declared.value.GroupValue.{GroupValue}
-use Rattle.fts_model.specs.declared.value.GroupValue.TheVariants.{U64}
-use Rattle.fts_command.specs.AnswerData.{groups_data}
+use Rattle.fts_command.specs.AnswerData.{group_data, groups_data}
 use Rattle.fts_command.proofs.AnswerLemmas.{items_before, items_pushed, items_alone}
 use Rattle.fts_command.proofs.answer.groups_value.Goals as goal
 
@@ -17,7 +16,8 @@ loop-group-preserved c =
     rw c.in_ok-push.ensures.items
     (items_pushed items _ _
     ∙ ap (λ (d : Data). items_before items (item d (groups_data (drop (i + 1) groups)))) c.in_ok-group_value.ensures
-    ∙ ap (λ (xs : List (GroupValue × ℕ)). items_before items (groups_data xs)) (sym (drop_more groups i (U64 0, 0) within))
+    ∙ ap (λ (g : GroupValue × ℕ). items_before items (item (group_data g) (groups_data (drop (i + 1) groups)))) c.group-item.is
+    ∙ ap (λ (xs : List (GroupValue × ℕ)). items_before items (groups_data xs)) (sym (drop_more groups i c.group-item.result within))
     ∙ c.loop-group.invariant)
 
 pub returns : goal.returns
