@@ -3,8 +3,10 @@ pub mod CollectLemmas
 pub mod FirstLemmas
 pub mod FitLemmas
 pub mod GroupsLemmas
+pub mod KeptLemmas
 pub mod KeysLemmas
 pub mod LiveLemmas
+pub mod NamesLemmas
 pub mod NumbersLemmas
 pub mod OpeningsLemmas
 pub mod PartsLemmas

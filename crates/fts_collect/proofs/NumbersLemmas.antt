@@ -35,7 +35,7 @@ signed_at x y true false h l = below_above x y (ltb-true x (2 ^ 63) h) (ltb-fals
 signed_at x y false true h l = above_below x y (ltb-false x (2 ^ 63) h) (ltb-true y (2 ^ 63) l)
 signed_at x y false false h l = both_above x y (ltb-false x (2 ^ 63) h) (ltb-false y (2 ^ 63) l)
 
-signed_order : (x y : ℕ) → int_cmp (i64_of x) (i64_of y) ≡ nat_cmp x y
+pub signed_order : (x y : ℕ) → int_cmp (i64_of x) (i64_of y) ≡ nat_cmp x y
 signed_order x y = signed_at x y (nat_lt x (2 ^ 63)) (nat_lt y (2 ^ 63)) refl refl
 
 -- two numbers of a column stand as the numbers that they are

@@ -28,7 +28,7 @@ back_again : (n : ℕ) → n < 2 ^ 63 → 2 ^ 63 - 1 - (2 ^ 63 - 1 - n) ≡ n
 back_again n h = omega (arith, h)
 
 -- a signed number comes back from its place
-signed_back : (z : ℤ) → fits_i64 z ≡ true → i64_of (u64_of z) ≡ z
+pub signed_back : (z : ℤ) → fits_i64 z ≡ true → i64_of (u64_of z) ≡ z
 signed_back (pos n) fits =
     let above : nat_lt (n + 2 ^ 63) (2 ^ 63) ≡ false = le-ltb (n + 2 ^ 63) (2 ^ 63) (omega arith) in
     ap (λ b. cond b (negsuc (2 ^ 63 - 1 - (n + 2 ^ 63))) (pos (n + 2 ^ 63 - 2 ^ 63))) above ∙ ap pos (moved n)
@@ -52,7 +52,7 @@ number_kept kinds.I64 (Some (values.Number (numbers.U64 n))) h can = cc
 number_kept kinds.I64 (Some (values.Number (numbers.I64 z))) h can = ap (λ x. Some (numbers.I64 x)) (sym (signed_back z can))
 
 -- and has 64 bits
-number_fits : (kind : Kind) (value : Option FieldValue) → CanHave kind value → IfSome (number_of kind value) (λ x. x < 2 ^ 64)
+pub number_fits : (kind : Kind) (value : Option FieldValue) → CanHave kind value → IfSome (number_of kind value) (λ x. x < 2 ^ 64)
 number_fits kind None can = tt
 number_fits kinds.Text (Some (values.Text text)) can = tt
 number_fits kinds.Text (Some (values.Number n)) can = tt
@@ -111,16 +111,3 @@ kept-cons k (Some x) rest = refl
 pub map-cons : {X Y : Type 0} (f : X → Y) (o : Option X) (rest : List X) → map f (cons_option o rest) ≡ cons_option (option_map f o) (map f rest)
 map-cons f None rest = refl
 map-cons f (Some x) rest = refl
-
--- the numbers of documents are those that a column keeps
-pub numbers_kept : (segment : SegmentValue) (field : ℕ) (kind : Kind) (docs : List ℕ) → kind_at segment.schema field ≡ Some kind → holds_numbers kind ≡ true →
-    All (λ d. CanHave kind (value_in_field d.value field)) segment.documents →
-    numbers_in field (filter_map (slice_get segment.documents) docs) ≡ map (number_at kind) (present_at (column segment field) docs)
-numbers_kept segment field kind [] known h can = refl
-numbers_kept segment field kind (doc ∷ docs) known h can =
-    let g : Stamped DocumentValue → Option Number = λ d. number_in_field d.value field in
-    let rest = filter_map (slice_get segment.documents) docs in
-    kept-cons g (slice_get segment.documents doc) rest
-    ∙ ap (λ o. cons_option o (filter_map g rest)) (kept_at segment field kind doc known h can)
-    ∙ ap (cons_option (option_map (number_at kind) (slice_index_or (column segment field) doc None))) (numbers_kept segment field kind docs known h can)
-    ∙ sym (map-cons (number_at kind) (slice_index_or (column segment field) doc None) (present_at (column segment field) docs))

@@ -7,6 +7,7 @@ ghost use Rattle.fts_model.specs.Queries.{is_number_field, is_ordered_field, que
 ghost use Rattle.fts_model.specs.QueryValues.{query_value};
 ghost use Rattle.fts_model.specs.Answers.{answer, answer_of, groups, top};
 ghost use Rattle.fts_segment.specs.Contents.{content_of};
+ghost use Rattle.fts_segment.specs.Segments.{column};
 ghost use Rattle.fts_postings.specs.Bounds.{most_at};
 ghost use Rattle.fts_cursor.specs.Openings.{HasMusts};
 ghost use Rattle.fts_collect.specs.Parts.{OpensIn};
@@ -38,6 +39,14 @@ pub(crate) struct Seen {
 fn column_of(segment: &Segment, field: usize) -> &Column
     requires { is_ordered_field segment.now.schema field ≡ true }
     ensures { result.now ≡ column_of segment.now field }
+{
+    segment.column(field)
+}
+
+/// The column of a number field.
+fn numbers_of(segment: &Segment, field: usize) -> &Column
+    requires { is_number_field segment.now.schema field ≡ true }
+    ensures { result.now ≡ column segment.now field }
 {
     segment.column(field)
 }
@@ -148,7 +157,7 @@ fn rank_hits(
 {
     match wanted {
         None => Ok(()),
-        Some(top) => offer_hits(segment, segment.column(top.by), top.order, docs, top_k),
+        Some(top) => offer_hits(segment, numbers_of(segment, top.by), top.order, docs, top_k),
     }
 }
 

@@ -1,5 +1,5 @@
 // The groups of several parts as one.
-ghost use Rattle.std.specs.Prelude.{◌≡◌, ◌<◌, ◌×◌, ◌^◌, ℕ, List, [], IfOk, OnOk, ◌++◌, drop, fold, length, unwrap_or};
+ghost use Rattle.std.specs.Prelude.{◌≡◌, ◌<◌, ◌^◌, ℕ, List, [], IfOk, OnOk, ◌++◌, drop, fold, length, unwrap_or};
 ghost use Rattle.fts_model.specs.declared.operation.Stamped.{Stamped};
 ghost use Rattle.fts_model.specs.Documents.{DocumentValue};
 ghost use Rattle.fts_model.specs.Answers.{groups};
@@ -102,7 +102,7 @@ fn merged<'a>(
 }
 
 /// Groups, lent.
-fn lent(alloc: Global, groups: &[(GroupValue, u64)]) -> Result<Vec<Lent<'_>>, AllocError>
+fn lend(alloc: Global, groups: &[(GroupValue, u64)]) -> Result<Vec<Lent<'_>>, AllocError>
     ensures { IfOk result (λ list. list.items ≡ groups.now) }
 {
     let mut list = Vec::with_capacity(alloc, groups.len())?;
@@ -130,7 +130,7 @@ fn merged_groups(alloc: Global, parts: &[Part]) -> Result<Vec<Lent<'_>>, AllocEr
 {
     match parts {
         [] => Ok(Vec::new(alloc)),
-        [part] => lent(alloc, groups_of(part)),
+        [part] => lend(alloc, groups_of(part)),
         _ => {
             let (front, back) = parts.split_at(parts.len() / 2);
             let front = merged_groups(alloc, front)?;

@@ -5,13 +5,13 @@ use Rattle.fts_model.specs.QueryValues.{query_value}
 use Rattle.fts_model.specs.Queries.{matches}
 use Rattle.fts_model.specs.Answers.{answer_of}
 use Rattle.fts_collect.specs.Internals.Collected.{AreHits, hits_at}
-use Rattle.fts_collect.proofs.FitLemmas.{has_numbers}
+use Rattle.fts_collect.proofs.FitLemmas.{has_values}
 use Rattle.fts_collect.proofs.LiveLemmas.{live_hits-at, hits_are}
 use Rattle.fts_collect.proofs.OpeningsLemmas.{at_most, blocks-few, some_hits, where_some}
 use Rattle.fts_collect.proofs.collector.collect.Goals as goal
 
 pub part_of-requires-clause-documents : goal.part_of-requires-clause-documents
-part_of-requires-clause-documents c = has_numbers c.args.segment.now c.docs-documents.ensures.documents c.docs-documents.ensures.fit
+part_of-requires-clause-documents c = has_values c.args.segment.now c.docs-documents.ensures.documents c.docs-documents.ensures.fit
 
 pub part_of-requires-clause-hits : goal.part_of-requires-clause-hits
 part_of-requires-clause-hits c =

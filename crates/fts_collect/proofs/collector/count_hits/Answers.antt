@@ -1,6 +1,5 @@
 use Rattle.std.proofs.Common.{◌++◌, ℕ, List}
 use Rattle.std.proofs.lemmas.Result.{IfOk-weaker}
-use Rattle.fts_model.specs.declared.schema.Kind.{Kind}
 use Rattle.fts_collect.specs.Internals.Collected.{HasCounted}
 use Rattle.fts_collect.specs.Internals.Tallies.{IsTally, present_at}
 use Rattle.fts_collect.proofs.CollectLemmas.{counted-more}
@@ -9,6 +8,6 @@ use Rattle.fts_collect.proofs.collector.count_hits.Goals as goal
 pub returns-in-Some-clause-counted : goal.returns-in-Some-clause-counted
 returns-in-Some-clause-counted c =
     IfOk-weaker c.take.result
-    (λ _. (kind : Kind) (numbers : List ℕ) → IsTally kind numbers c.args.tally.now → IsTally kind (numbers ++ present_at c.column.result.now c.args.docs.now) c.take.new.self)
+    (λ _. (numbers : List ℕ) → IsTally numbers c.args.tally.now → IsTally (numbers ++ present_at c.column_of.result.now c.args.docs.now) c.take.new.self)
     (λ _. (before : List ℕ) → HasCounted c.args.segment.now c.args.field before c.args.tally.now → HasCounted c.args.segment.now c.args.field (before ++ c.args.docs.now) c.take.new.self)
-    (λ _ more. counted-more c.args.segment.now c.args.field c.in-Some.field c.column.result.now c.args.docs.now c.args.tally.now c.take.new.self c.in-Some.is c.column.ensures.values more) c.take.ensures.taken
+    (λ _ more. counted-more c.args.segment.now c.args.field c.in-Some.field c.column_of.result.now c.args.docs.now c.args.tally.now c.take.new.self c.in-Some.is c.column_of.ensures more) c.take.ensures.taken
