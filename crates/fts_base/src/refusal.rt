@@ -35,7 +35,7 @@ pub enum Refusal {
     KeywordTooLong,
     /// 11: the length of a top list isn't within 1..=10,000.
     BadLimit,
-    /// 12: groups or a top list are wanted by a text or keyword field.
+    /// 12: groups are wanted by a text field, or a top list by a text or keyword field.
     NotANumberField,
     /// 13: the builder holds 65,536 documents.
     SegmentFull,
@@ -47,7 +47,7 @@ pub enum Refusal {
     TooDeep,
     /// 17: a literal or a bound of a number field is no number of its kind.
     BadNumber,
-    /// 18: a range or a comparison on a text or keyword field.
+    /// 18: a range or a comparison on a text field.
     RangeOnText,
     /// 19: a literal without a field, and the schema has no default field.
     NoDefaultField,

@@ -1,5 +1,5 @@
 -- What is read under a schema fits it.
-use Rattle.std.proofs.Common.{◌≡◌, ◌&&◌, ◌∷◌, ◌∙◌, ℕ, true, false, cond, List, [], length, Option, None, Some, Result, Ok, Err, IfOk, map, refl, ap, subst, option_map, nat_le}
+use Rattle.std.proofs.Common.{Bool, ◌≡◌, ◌&&◌, ◌∷◌, ◌∙◌, ℕ, true, false, cond, List, [], length, Option, None, Some, Result, Ok, Err, IfOk, map, refl, ap, subst, option_map, nat_le}
 use Rattle.std.specs.Option.{ok_or, option_and_then, option_map_or}
 use Rattle.std.proofs.lemmas.Slice.Eq.{bytes_eq-Decides}
 use Rattle.serde_json.specs.Data.{Data, null, boolean, number, string, array, object, Members}
