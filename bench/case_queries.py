@@ -46,6 +46,15 @@ NUMBERS = [("A negative zero is zero", "temp:-0", 1), ("A negative number is one
            ("Blanks may stand in a range, and a star is no upper end", "price:{ 4 TO * ]", 2),
            ("Two stars are every value", "price:[* TO *]", 4),
            ("Greater leaves the number out", "price:>5", 1), ("At least has the number", "price:>=5", 2)]
+KEYWORDS = [("Keywords go by their bytes, and a range has what its bounds begin", "tag:[a TO b]", 2),
+            ("A brace leaves its keyword out", "tag:{a TO b]", 1), ("Equal bounds have their keyword", "tag:[b TO b]", 1),
+            ("A brace at one of two equal bounds leaves nothing", "tag:{b TO b]", 0),
+            ("The empty keyword, signs and capitals are before small letters", "tag:<a", 3),
+            ("Letters outside of ASCII are behind the others", "tag:>z", 1),
+            ("Two stars are every keyword", "tag:[* TO *]", 10), ("A range backwards is empty", "tag:[b TO a]", 0),
+            ("A bound isn't folded", "tag:[r TO s]", 1), ("A bound of a capital isn't either", "tag:[R TO S]", 1),
+            ("A bound needn't be a keyword that there is", "tag:>=xx", 3), ("TO may be a bound", "tag:[TO TO TO]", 0),
+            ("AND and OR may be bounds", "tag:[AND TO OR]", 0), ("Digits are characters", "tag:<0", 2)]
 REFUSED = [("nope:a", "UnknownField"), ("nope:[a TO b]", "UnknownField"), ("a:>==5", "UnknownField"),
            ("price:>==5", "BadNumber"),
            ("price:-1", "BadNumber"), ("price:+1", "BadNumber"), ("price:a", "BadNumber"), ('price:""', "BadNumber"),
@@ -53,8 +62,8 @@ REFUSED = [("nope:a", "UnknownField"), ("nope:[a TO b]", "UnknownField"), ("a:>=
            ("temp:-9223372036854775809", "BadNumber"),
            ("temp:--1", "BadNumber"), ("temp:-", "BadNumber"), ("price:[TO TO TO]", "BadNumber"),
            ("title:>a", "RangeOnText"),
-           ("tag:[a TO b]", "RangeOnText"), ("tag:[TO TO TO]", "RangeOnText"), ("-a", "AllNegative"),
-           ("a OR -b", "AllNegative"),
+           ("title:[a TO b]", "RangeOnText"), ("title:[TO TO TO]", "RangeOnText"), ("title:[* TO *]", "RangeOnText"),
+           ("-a", "AllNegative"), ("a OR -b", "AllNegative"), ("-tag:>a", "AllNegative"),
            ("a (-b)", "AllNegative"), ('a -b OR "c d"', "AllNegative"), ("NOT a AND NOT b", "AllNegative")]
 WHY = {"UnknownField": "names a field that the schema lacks", "BadNumber": "holds no number of the field's kind",
        "RangeOnText": "asks a range of a field of words", "AllNegative": "has a node of must-nots alone"}
@@ -62,15 +71,16 @@ SYNTAX = ["--a", "++a", "+ a", "a - b", "a(b)", "()", "( )", "title:*", "a:b:c",
           "title:", "a OR",
           "a AND", "AND", "NOT", "NOT(a)", "AND:x", '"a', '"a\\b"', '"a"b', "a)", "(a", "price:>", "price:>=",
           "price:> 5", "price:[1 TO]",
-          "price:[1 TO 2", "price:[1 2]", "price:[1TO 2]", "price:[1 TO 2]b", "a^2", "a~", "a*", "nope:a b:c:d"]
+          "price:[1 TO 2", "price:[1 2]", "price:[1TO 2]", "price:[1 TO 2]b", 'tag:["a" TO b]', 'tag:>"a"', "a^2", "a~", "a*", "nope:a b:c:d"]
 FIRST = [("nope:a price:b", "UnknownField"), ("price:b nope:a", "BadNumber"), ("(-tag:a) nope:a", "AllNegative"),
-         ("-nope:a", "UnknownField"), ("title:>a nope:a", "RangeOnText"), ("tag:a OR -tag:b nope:a", "AllNegative")]
+         ("-nope:a", "UnknownField"), ("title:>a nope:a", "RangeOnText"), ("tag:>a nope:a", "UnknownField"),
+         ("tag:a OR -tag:b nope:a", "AllNegative")]
 
 
 def write_queries():
     s = Subject("queries")
     s.case("The shelf has ten documents", "make", 10, documents=SHELF)
-    for sentence, query, count in LITERALS + BOOLEAN + NUMBERS:
+    for sentence, query, count in LITERALS + BOOLEAN + NUMBERS + KEYWORDS:
         s.case(sentence, "count", count, query=query)
     s.case("4,096 bytes of a word are a query, which finds nothing", "count", 0, query=[{"times": 4096, "of": "a"}])
     s.case("32 parentheses may stand in one another", "count", 4,
