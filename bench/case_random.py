@@ -95,13 +95,18 @@ def tag(text):
     return lambda d: has(d, "tag", text)
 
 
+def tags(admits):
+    return lambda d: "tag" in d and admits(d["tag"])
+
+
 LEAVES = [("title:a", title("a")), ("title:b", title("b")), ("title:c", title("c")), ("title:none", title("none")),
           ("tag:x", tag("x")), ("tag:y", tag("y")), ('"a b"', lambda d: phrase(d, ["a", "b"]) or has(d, "tag", "a b")),
           ('title:"b a"', lambda d: phrase(d, ["b", "a"])), ('title:"a c b"', lambda d: phrase(d, ["a", "c", "b"])),
           ("price:[3 TO 7}", lambda d: within(d, "price", 3, 6)), ("price:{2 TO *]", lambda d: within(d, "price", 3, 99)),
           ("price:[* TO *]", lambda d: "price" in d), ("price:{10 TO *]", lambda d: within(d, "price", 11, 99)),
           ("temp:[-3 TO 2}", lambda d: within(d, "temp", -3, 1)), ("temp:<0", lambda d: within(d, "temp", -99, -1)),
-          ("*", lambda d: True)]
+          ("tag:[x TO y]", tags(lambda t: "x" <= t <= "y")), ("tag:{x TO *]", tags(lambda t: t > "x")),
+          ("tag:<z", tags(lambda t: t < "z")), ("*", lambda d: True)]
 
 
 def query(chance, depth):
@@ -185,7 +190,8 @@ def write_cuttings():
     for cutting in range(25):
         asked, most = query(chance, 3), chance.below(400) + 1
         groups, top = chance.one_of([(None, ("price", "falling")), ("price", ("temp", "rising")), ("temp", ("price", "rising")),
-                                     ("temp", ("temp", "falling")), ("price", None)])
+                                     ("temp", ("temp", "falling")), ("price", None), ("tag", None),
+                                     ("tag", ("price", "rising"))])
         documents = [document(chance) for _ in range(chance.below(400) + 1)]
         parts = [[] for _ in range(chance.below(6) + 1)]
         for n in range(len(documents)):

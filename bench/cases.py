@@ -163,6 +163,11 @@ def write_scan():
            documents=some[:3] + [{}], query="*", groups="price", top={"by": "price", "k": 2, "order": "falling"})
     s.case("One document is one hit and one group", "scan", {"count": 1, "groups": [[30, 1]]},
            documents=[{"title": "Rust book", "price": 30}], query="*", groups="price")
+    s.case("Groups by keywords rise by their bytes, from the empty one up", "scan",
+           {"count": 6, "groups": [["", 1], ["a", 1], ["b", 2], ["é", 1]]}, documents=TAGGED, query="*", groups="tag")
+    s.case("A keyword is before those that it begins", "scan", {"count": 3, "groups": [["a", 1], ["aa", 1], ["b", 1]]},
+           documents=[{"tag": "b"}, {"tag": "aa"}, {"tag": "a"}], query="*", groups="tag")
+    s.case("A range of keywords leaves out what has none", "scan", {"count": 5}, documents=TAGGED, query="tag:[* TO *]")
     add, delete = (lambda d: {"add": d}), (lambda t: {"delete": {"field": "title", "is": t}})
     x, rust = {"title": "x"}, {"title": "Rust"}
     s.case("A delete strikes what came before it, and not what comes after", "alive", [3],
@@ -181,6 +186,9 @@ def write_scan():
     s.case("A term fits its schema, and so does its delete", "term", True, term=term("title", "rust"))
     top = lambda by, k: {"by": by, "k": k, "order": "rising"}
     s.case("A top list may have 10,000 hits", "request", True, groups="temp", top=top("price", 10_000))
+    s.case("Groups may be by a keyword field", "request", True, groups="tag", top=top("price", 1))
+    s.case("A top list by a keyword is refused before its length", "request", error("NotANumberField"), groups="tag",
+           top=top("tag", 0))
     s.case("A top list has no 10,001 hits", "request", error("BadLimit"), top=top("price", 10_001))
     s.case("Groups by a text are refused before the top list", "request", error("NotANumberField"), groups="title",
            top=top("none", 0))
@@ -192,6 +200,7 @@ def write_scan():
     s.write()
 
 
+TAGGED = [{"tag": "b"}, {"tag": "a"}, {"tag": "b"}, {}, {"tag": "é"}, {"tag": ""}]
 EXAMPLE = [{"title": "a b a", "price": 4}, {"title": "b"}, {"tag": "a"}]
 
 
@@ -224,6 +233,8 @@ def write_segments():
         s.case(sentence, "positions", places, term=term, posting=posting)
     s.case("A price is in its document's place of the column, and the others have none", "column", [4, None, None],
            field=2)
+    s.case("So is the ordinal of a tag", "column", [None, None, 0], field=1)
+    s.case("A field that the schema lacks has no column", "column", None, field=4)
     s.case("A copy keeps the stamps", "stamps", [3, 5, 9])
     s.case("A segment of a merge is made of the same documents", "make", 3, documents=EXAMPLE, stamps=[3, 5, 9],
            merging=True)
@@ -234,6 +245,20 @@ def write_segments():
     s.case("A u64 is kept as it is, and a missing one is missing", "column", [4, None], field=2)
     s.case("An i64 is kept as the u64 in its place", "column", [2**63 - 1, None], field=3)
     s.case("A negative number is found", "postings", [0], term={"field": 3, "i64": -1})
+    s.case("Six documents are made of which five have a tag", "make", 6, documents=TAGGED)
+    s.case("Of each document it is kept how many different tags are before its own", "column", [2, 1, 2, None, 3, 0], field=1)
+    for sentence, field, ordinal, keyword in [
+            ("The first ordinal is that of the empty tag", 1, 0, ""), ("A tag of two documents has one ordinal", 1, 2, "b"),
+            ("The last ordinal is that of the last tag by bytes", 1, 3, "é"), ("No tag has an ordinal behind these", 1, 4, None),
+            ("None has the greatest", 1, GREATEST, None), ("A text field has no keywords", 0, 0, None),
+            ("A number field has none", 2, 0, None), ("A field that the schema lacks has none", 4, 0, None)]:
+        s.case(sentence, "keyword", keyword, field=field, ordinal=ordinal)
+    for sentence, text, between in [
+            ("A tag stands between the ordinals before and behind it", "b", [2, 3]), ("So does the empty one", "", [0, 1]),
+            ("A text between two tags stands before the next", "aa", [2, 2]), ("A text behind all stands behind them", "ê", [4, 4]),
+            ("A text of 300 bytes may be asked for", "a" * 300, [2, 2]), ("The order is that of bytes", "😀", [4, 4])]:
+        s.case(sentence, "equal_range", between, field=1, text=text)
+    s.case("In a text field nothing stands between ordinals", "equal_range", None, field=0, text="b")
     tagged, bare = {"tag": "x"}, {"title": "y"}
     s.case("134 documents are made, of which the 6th, the 7th and the last have a tag", "make", 134,
            runs=[{"times": 5, "of": [bare]}, {"times": 2, "of": [tagged]}, {"times": 126, "of": [bare]},
@@ -242,6 +267,7 @@ def write_segments():
     s.case("129 documents of one tag are made", "make", 129, runs=[{"times": 129, "of": [tagged]}])
     s.case("A list of one block and a document comes back", "postings", list(range(129)),
            term={"field": 1, "text": "x"})
+    s.case("Its tag comes back from a list of two blocks", "keyword", "x", field=1, ordinal=0)
     empty = lambda times: [{"times": times, "of": [{}]}]
     s.case("A segment takes 65,536 documents", "make", 65_536, runs=empty(65_536))
     s.case("A segment takes no 65,537th document", "make", error("SegmentFull"), runs=empty(65_537))
@@ -333,6 +359,9 @@ def write_merges():
            term=word("b"))
     s.case("A word is found under the new numbers", "merged_postings", [0, 1], first=[0], second=[1, 2], term=word("b"))
     s.case("A merge of nothing live is empty", "merge", [], first=[], second=[])
+    s.case("Documents are made of which each has a tag", "make", 4, documents=[{"tag": tag} for tag in ["c", "a", "b", "a"]])
+    s.case("Ordinals are those of the tags that are left", "merged_column", [1, 0, 2], first=[2, 3], second=[0], field=1)
+    s.case("A tag that both sources have has one ordinal", "merged_column", [1, 1, 0], first=[0], second=[0, 2], field=1)
     whole = [list(range(8))]
     two = [400_000 if n % 2 == 0 else 20_000 for n in range(16)]
     two[2] = 500_000

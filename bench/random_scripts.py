@@ -3,7 +3,8 @@ import json
 import random
 
 WORDS = ["a", "b", "c", "Rust", "rust", "straße", "STRASSE", "index"]
-TAGS = ["p", "q", "r s", "Rust"]
+TAGS = ["p", "q", "r s", "Rust", "", "é", "😀"]
+BOUNDS = ["p", "q", "r", "Rust", "*", "z", "é", "～", "pp"]
 SCHEMA = {"schema": [
     {"name": "title", "kind": "text", "default": True}, {"name": "tag", "kind": "keyword", "default": True},
     {"name": "price", "kind": "u64"}, {"name": "temp", "kind": "i64"},
@@ -42,6 +43,9 @@ def query(chance, depth):
     if kind == 1:
         low, high = sorted((chance.randrange(-3, 4), chance.randrange(-3, 4)))
         return chance.choice([f"temp:[{low} TO {high}]", f"temp:{{{low} TO *]", f"temp:>={low}", f"price:<{high + 3}", "price:[* TO *]"])
+    if kind == 2 and chance.random() < 0.4:
+        low, high = chance.choice(BOUNDS), chance.choice(BOUNDS)
+        return chance.choice([f"tag:[{low} TO {high}]", f"tag:{{{low} TO {high}]", f"tag:[{low} TO {high}}}", f"tag:>{high}", f"tag:<={low}"])
     if kind == 2:
         return chance.choice(["*", "tag:p", 'tag:"r s"', "price:3", "temp:-1", f"title:{chance.choice(WORDS)}"])
     if kind < 5:
@@ -57,7 +61,7 @@ def query(chance, depth):
 def search(chance):
     asked = {"query": query(chance, 3) if chance.random() < 0.95 else chance.choice(["rust OR", "(a", "colour:a", 'title:"'])}
     if chance.random() < 0.4:
-        asked["groups"] = chance.choice(["price", "temp"])
+        asked["groups"] = chance.choice(["price", "temp", "tag"])
     if chance.random() < 0.4:
         asked["top"] = {"by": chance.choice(["price", "temp"]), "k": chance.randint(1, 6), "order": chance.choice(["rising", "falling"])}
     return {"search": asked}

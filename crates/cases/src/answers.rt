@@ -1,8 +1,8 @@
 // What a search is asked by values, and its answer.
 use crate::member::{number, only, optional_text, text};
 use crate::trouble::Trouble;
-use crate::values::{field_number, pair, put};
-use fts_model::{Answer, Hit, Number, Order, Request, Schema};
+use crate::values::{field_number, pair, put, words};
+use fts_model::{Answer, GroupValue, Hit, Order, Request, Schema};
 use serde_json::{Map, Value};
 use std::alloc::{AllocError, Global};
 
@@ -36,11 +36,20 @@ pub fn request_of(schema: &Schema, case: &Value) -> Result<Request, Trouble> {
     Ok(Request::new(schema, groups, top)?)
 }
 
+/// The value of a group.
+fn group_value(alloc: Global, value: &GroupValue) -> Result<Value, AllocError> {
+    match value {
+        GroupValue::U64(number) => Ok(Value::from(*number)),
+        GroupValue::I64(number) => Ok(Value::from(*number)),
+        GroupValue::Keyword(keyword) => words(alloc, keyword.as_str()),
+    }
+}
+
 /// Groups as pairs of a value and a count.
-fn groups_value(alloc: Global, groups: &[(Number, u64)]) -> Result<Value, AllocError> {
+fn groups_value(alloc: Global, groups: &[(GroupValue, u64)]) -> Result<Value, AllocError> {
     let mut list = Vec::new(alloc);
     for (value, count) in groups {
-        list.push(pair(alloc, field_number(*value), Value::from(*count))?)?;
+        list.push(pair(alloc, group_value(alloc, value)?, Value::from(*count))?)?;
     }
     Ok(Value::Array(list))
 }

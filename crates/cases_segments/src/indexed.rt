@@ -1,6 +1,11 @@
-// Cases of what a segment holds: `postings`, `positions`, `all_positions`, `column`, `stored` and `stamps`.
-use cases::{Trouble, documents, entry, only, size, some_number, stamps, text};
-use fts_model::{FieldValue, Number, Term, Text};
+// Cases of what a segment holds: `postings`, `positions`, `all_positions`, `column`, `keyword`, `equal_range`, `stored` and
+// `stamps`.
+ghost use Rattle.std.specs.Prelude.{◌≡◌, Some, true};
+ghost use Rattle.fts_model.specs.declared.schema.Kind.TheVariants as kinds;
+ghost use Rattle.fts_model.specs.Operations.{kind_at};
+
+use cases::{Trouble, documents, entry, number, only, pair, size, some_number, stamps, text, words};
+use fts_model::{FieldValue, Kind, Number, Term, Text};
 use fts_pack::{Blocks, List};
 use fts_segment::{ListId, Segment};
 use serde_json::{Value, json};
@@ -86,12 +91,20 @@ fn positions(alloc: Global, case: &Value, segment: &Segment) -> Result<Value, Tr
     places(alloc, segment, list, posting)
 }
 
-/// The numbers of a field, as they are kept, or `null` where it is no number field.
-fn column(alloc: Global, case: &Value, segment: &Segment) -> Result<Value, Trouble> {
+/// The kind of a field, if it is there.
+fn kind_of(segment: &Segment, field: usize) -> Option<Kind>
+    ensures { result ≡ kind_at segment.now.schema field }
+{
+    Some(segment.schema().fields().get(field)?.kind)
+}
+
+/// The numbers of a field, as they are kept, or the ordinals of its keywords, or `null` where it is neither a number field
+/// nor a keyword field.
+pub(crate) fn column(alloc: Global, case: &Value, segment: &Segment) -> Result<Value, Trouble> {
     let field = size(case, "field")?;
-    let schema = segment.schema();
-    if field >= schema.fields().len() || !schema.kind(field).holds_numbers() {
-        return Ok(Value::Null);
+    match kind_of(segment, field) {
+        Some(kind) if kind.is_ordered() => {}
+        _ => return Ok(Value::Null),
     }
     let column = segment.column(field);
     let mut values = Vec::new(alloc);
@@ -99,6 +112,41 @@ fn column(alloc: Global, case: &Value, segment: &Segment) -> Result<Value, Troub
         values.push(some_number(column.get(doc)))?;
     }
     Ok(Value::Array(values))
+}
+
+/// Whether a field of this number is a keyword field.
+fn holds_keywords(segment: &Segment, field: usize) -> bool
+    ensures { result ≡ true → kind_at segment.now.schema field ≡ Some kinds.Keyword }
+{
+    match kind_of(segment, field) {
+        Some(Kind::Keyword) => true,
+        _ => false,
+    }
+}
+
+/// The keyword of an ordinal in a field, or `null` where there is none.
+fn keyword(alloc: Global, case: &Value, segment: &Segment) -> Result<Value, Trouble> {
+    let field = size(case, "field")?;
+    let ordinal = number(case, "ordinal")?;
+    if !holds_keywords(segment, field) {
+        return Ok(Value::Null);
+    }
+    match segment.keyword(field, ordinal) {
+        Some(keyword) => Ok(words(alloc, keyword)?),
+        None => Ok(Value::Null),
+    }
+}
+
+/// How many different keywords of a field are before a text, and how many aren't behind it, or `null` where the field has
+/// no keywords.
+fn equal_range(alloc: Global, case: &Value, segment: &Segment) -> Result<Value, Trouble> {
+    let field = size(case, "field")?;
+    let text = text(case, "text")?;
+    if !holds_keywords(segment, field) {
+        return Ok(Value::Null);
+    }
+    let (before, up_to) = segment.equal_range(field, text);
+    Ok(pair(alloc, Value::from(before), Value::from(up_to))?)
 }
 
 /// A document and its stamp.
@@ -138,6 +186,8 @@ pub(crate) fn given(
         "positions" => Ok(Some(positions(alloc, case, segment)?)),
         "all_positions" => Ok(Some(all_positions(alloc, case, segment)?)),
         "column" => Ok(Some(column(alloc, case, segment)?)),
+        "keyword" => Ok(Some(keyword(alloc, case, segment)?)),
+        "equal_range" => Ok(Some(equal_range(alloc, case, segment)?)),
         "stored" => Ok(Some(stored(alloc, case, segment)?)),
         "stamps" => Ok(Some(copied(alloc, segment)?)),
         _ => Ok(None),

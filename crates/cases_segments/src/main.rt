@@ -62,6 +62,8 @@ const MEMBERS: [(&str, &[&str]); 41] = [
     ("positions", &["term", "posting"]),
     ("all_positions", &["term"]),
     ("column", &["field"]),
+    ("keyword", &["field", "ordinal"]),
+    ("equal_range", &["field", "text"]),
     ("stored", &["doc"]),
     ("stamps", &[]),
     ("found", &["query"]),
@@ -70,6 +72,7 @@ const MEMBERS: [(&str, &[&str]); 41] = [
     ("strike", &["ops"]),
     ("merge", &["first", "second"]),
     ("merged_postings", &["first", "second", "term"]),
+    ("merged_column", &["first", "second", "field"]),
 ];
 
 /// Refuses a word that isn't there, and a member that its cases don't have.

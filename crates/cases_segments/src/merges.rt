@@ -1,6 +1,7 @@
-// Cases of deletes and merges of the first segment that was made: `strike`, `merge` and `merged_postings`; and `plan`.
+// Cases of deletes and merges of the first segment that was made: `strike`, `merge`, `merged_postings` and
+// `merged_column`; and `plan`.
 use crate::bench::Bench;
-use crate::indexed::postings;
+use crate::indexed::{column, postings};
 use cases::{Trouble, documents, entry, list, number, numbers, only, op_of, stamps};
 use fts_bits::Bits;
 use fts_merge::{Merged, Source, merge, plan, strike};
@@ -105,6 +106,12 @@ fn merged_postings(alloc: Global, case: &Value, bench: &Bench) -> Result<Value, 
     postings(alloc, case, merged.segment())
 }
 
+/// The column of a field of the merged documents.
+fn merged_column(alloc: Global, case: &Value, bench: &Bench) -> Result<Value, Trouble> {
+    let merged = merged_of(alloc, case, bench)?;
+    column(alloc, case, merged.segment())
+}
+
 /// What is to be merged of segments of these sizes: their places, by candidates.
 pub(crate) fn planned(alloc: Global, case: &Value) -> Result<Value, Trouble> {
     let sizes = numbers(alloc, case, "sizes")?;
@@ -134,6 +141,7 @@ pub(crate) fn given(
         "strike" => struck(alloc, case, bench)?,
         "merge" => merged_documents(alloc, case, bench)?,
         "merged_postings" => merged_postings(alloc, case, bench)?,
+        "merged_column" => merged_column(alloc, case, bench)?,
         _ => return Ok(None),
     };
     Ok(Some(given))
