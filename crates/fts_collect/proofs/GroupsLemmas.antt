@@ -260,10 +260,6 @@ merged-end front back list i j all end rising is =
     ap (λ xs. (list ++ drop i front) ++ xs) none ∙ append-nil (list ++ drop i front) ∙ ap (λ xs. list ++ fold add_group (drop i front) xs) (sym none) ∙ is)
     end
 
--- the rest of a list, as a slice to its end gives it
-pub rest_is : (xs : List (GroupValue × ℕ)) (i : ℕ) → take (length xs - i) (drop i xs) ≡ drop i xs
-rest_is xs i = take_all (length xs - i) (drop i xs) (omega (arith, length-drop i xs))
-
 -- the lists of the parts in front, and those of the parts behind
 pub AreGroupsOf-take : (field n : ℕ) (lists : List (List (Stamped DocumentValue))) (parts : List PartValue) → AreGroupsOf field lists parts → AreGroupsOf field (take n lists) (take n parts)
 AreGroupsOf-take field n lists parts are =

@@ -1,6 +1,6 @@
 -- What the column of a field keeps stands for the values of its documents, and in their order.
-use Rattle.std.proofs.Common.{◌≡◌, ℕ, zero, suc, ◌+◌, ◌^◌, ◌<◌, ◌≤◌, true, false, cond, ⊎_elim, List, [], ◌∷◌, length, map, Option, Some, None, refl, sym, ap, subst, ◌∙◌, arith, All, Contains, IfSome, get_or, option_map}
-use Rattle.std.specs.Prelude.{slice_get, slice_index_or, option_and_then}
+use Rattle.std.proofs.Common.{Bor, unwrap_or, ◌≡◌, ℕ, zero, suc, ◌+◌, ◌^◌, ◌<◌, ◌≤◌, true, false, cond, ⊎_elim, List, [], ◌∷◌, length, map, Option, Some, None, refl, sym, ap, subst, ◌∙◌, arith, All, Contains, IfSome, get_or, option_map}
+use Rattle.std.specs.Prelude.{slice_get, slice_index_or, option_and_then, option_copied}
 use Rattle.std.specs.Cmp.Lexicographic.{slice_cmp, nat_list_cmp_total}
 use Rattle.std.specs.List.{filter_map, cons_option}
 use Rattle.std.specs.Option.{option_map_or}
@@ -10,7 +10,7 @@ use Rattle.std.proofs.lemmas.Bool.{cases_lt, cases_order}
 use Rattle.std.proofs.lemmas.Cmp.{tied_itself}
 use Rattle.std.proofs.lemmas.List.{get_or_past, get_or-map, get_or_default, length-map}
 use Rattle.std.proofs.lemmas.List.Elements.{All-cons, All-nil}
-use Rattle.std.proofs.lemmas.Option.{slice_get-get_or, slice_get_past}
+use Rattle.std.proofs.lemmas.Option.{get_or_from_slice_get, slice_get-get_or, slice_get_past}
 use Rattle.fts_bits.specs.Signed.{i64_of}
 use Rattle.fts_model.specs.declared.schema.Kind.{Kind}
 use Rattle.fts_model.specs.declared.schema.Kind.TheVariants as kinds
@@ -156,7 +156,7 @@ ordinals_are_kept documents field are =
     let ts = texts_of kinds.Keyword vs in
     let keep : Option FieldValue → Option ℕ = λ v. option_map (before ts) (keyword_of kinds.Keyword v) in
     let P : List (Option ℕ) → Type 0 = λ column. IsKept documents field (length ts) column (value_in kinds.Keyword ts) in
-    subst P (sym (map-map keep (λ (d : Stamped DocumentValue). value_in_field d.value field) documents))
+    subst P (map-map keep (λ (d : Stamped DocumentValue). value_in_field d.value field) documents)
     (is_kept documents field (length ts) keep (value_in kinds.Keyword ts)
     (λ k d within. ordinal_kept vs (value_in_field (get_or documents k d).value field) (value_among field documents k d within) (are k d within))
     (λ k d within. ordinal_within vs (value_in_field (get_or documents k d).value field) (value_among field documents k d within))
@@ -212,3 +212,12 @@ pub present_within : (documents : List (Stamped DocumentValue)) (field bound : �
 present_within documents field bound column value [] is = All-nil (λ x. x < bound)
 present_within documents field bound column value (doc ∷ docs) is =
     within_with bound (slice_index_or column doc None) (present_at column docs) (is.within doc) (present_within documents field bound column value docs is)
+
+-- what is read of an ordinal, or nothing
+pub keyword_read : (keywords : List (List ℕ)) (ordinal : ℕ) (found : Option (Bor (List ℕ))) (nothing : Bor (List ℕ)) → option_copied found ≡ slice_get keywords ordinal → nothing.now ≡ [] →
+    (unwrap_or found nothing).now ≡ slice_index_or keywords ordinal []
+keyword_read keywords ordinal None nothing is empty =
+    ⊎_elim
+    (λ (inside : ordinal < length keywords). let clash : None ≡ Some (get_or keywords ordinal []) = is ∙ slice_get-get_or keywords ordinal [] inside in absurd (let no : None ≡ Some (get_or keywords ordinal []) = clash in cc))
+    (λ (past : length keywords ≤ ordinal). empty ∙ sym (get_or_past keywords ordinal [] past)) (cases_lt ordinal (length keywords))
+keyword_read keywords ordinal (Some keyword) nothing is empty = sym (get_or_from_slice_get keywords ordinal keyword.now [] (sym is))

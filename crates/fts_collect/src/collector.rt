@@ -1,13 +1,15 @@
 // What a segment tells of its live hits.
 ghost use Rattle.std.specs.Prelude.{◌≡◌, ◌<◌, ◌≤◌, ◌++◌, ◌^◌, ℕ, List, [], true, All, IfOk, IfSome, OnOk, IsOkUnless};
-ghost use Rattle.std.specs.Prelude.{length, min, option_map, ◌-◌};
+ghost use Rattle.std.specs.Prelude.{Some, length, min, option_map, slice_index_or, ◌-◌};
 ghost use Rattle.fts_cursor.specs.Standing.{Walked};
 ghost use Rattle.fts_model.specs.declared.operation.Term.{Term};
 ghost use Rattle.fts_model.specs.Queries.{is_number_field, is_ordered_field, query_fits, request_fits};
 ghost use Rattle.fts_model.specs.QueryValues.{query_value};
 ghost use Rattle.fts_model.specs.Answers.{answer, answer_of, groups, top};
 ghost use Rattle.fts_segment.specs.Contents.{content_of};
-ghost use Rattle.fts_segment.specs.Segments.{column};
+ghost use Rattle.fts_segment.specs.Segments.{column, keywords};
+ghost use Rattle.fts_model.specs.Operations.{kind_at};
+ghost use Rattle.fts_model.specs.declared.schema.Kind.TheVariants as kinds;
 ghost use Rattle.fts_postings.specs.Bounds.{most_at};
 ghost use Rattle.fts_cursor.specs.Openings.{HasMusts};
 ghost use Rattle.fts_collect.specs.Parts.{OpensIn};
@@ -51,6 +53,14 @@ fn numbers_of(segment: &Segment, field: usize) -> &Column
     segment.column(field)
 }
 
+/// The keyword of an ordinal in a field, and no text where there is none.
+fn keyword_at(segment: &Segment, field: usize, ordinal: u64) -> &str
+    requires { kind_at segment.now.schema field ≡ Some kinds.Keyword }
+    ensures { result.now ≡ slice_index_or (keywords segment.now field) ordinal [] }
+{
+    segment.keyword(field, ordinal).unwrap_or("")
+}
+
 /// The value that the column of a field keeps as a number. A keyword is copied.
 fn value_at(
     alloc: Global,
@@ -65,7 +75,7 @@ fn value_at(
         Kind::U64 | Kind::Text => Ok(GroupValue::U64(number)),
         Kind::I64 => Ok(GroupValue::I64(u64_to_i64(number))),
         Kind::Keyword => {
-            let keyword = segment.keyword(field, number).unwrap_or("");
+            let keyword = keyword_at(segment, field, number);
             Ok(GroupValue::Keyword(Text::new(String::from_str(alloc, keyword)?)))
         }
     }

@@ -1,9 +1,13 @@
 use Rattle.std.proofs.Common.{◌≡◌, length, arith}
 use Rattle.fts_model.specs.Answers.{answer_of}
 use Rattle.fts_collect.specs.Internals.Collected.{hits_at}
+use Rattle.fts_collect.proofs.CollectLemmas.{fits-top}
 use Rattle.fts_collect.proofs.PartsLemmas.{same_answer}
 use Rattle.fts_collect.proofs.SeenLemmas.{length-hits_at}
 use Rattle.fts_collect.proofs.collector.told.Goals as goal
+
+pub top_told-requires-clause-fits : goal.top_told-requires-clause-fits
+top_told-requires-clause-fits c = fits-top c.args.segment.now.schema c.args.request.now c.requires.fits
 
 pub returns : goal.returns
 returns c = λ docs seen are.

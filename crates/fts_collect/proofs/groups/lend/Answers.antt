@@ -1,19 +1,17 @@
-use Rattle.std.proofs.Common.{rules, ◌≡◌, ◌<◌, ◌^◌, ℕ, List, [], IfOk, OnOk, ◌++◌, drop, fold, length, unwrap_or, ◌+◌, ◌-◌, ◌*◌, ◌≤◌, ◌/◌, ◌%◌, Bool, true, false, nat_eq, nat_lt, ◌∷◌, slice_index_or, slice_set, bit_and, bit_or, Fits, w8, w32, w64, Bor, MutBor}
-use Rattle.fts_model.specs.declared.operation.Stamped.{Stamped}
-use Rattle.fts_model.specs.Documents.{DocumentValue}
-use Rattle.fts_model.specs.Answers.{groups}
-use Rattle.fts_collect.specs.Parts.{joined}
-use Rattle.fts_collect.specs.Internals.Joins.{AreGroupsOf, GroupsRise, add_group}
+use Rattle.std.proofs.Common.{◌<◌, ℕ, ◌++◌, ◌∷◌, [], length, get_or, sym, ap, ◌∙◌, arith}
+use Rattle.std.proofs.lemmas.List.{take_all, take_more}
+use Rattle.fts_model.specs.declared.value.GroupValue.{GroupValue}
 use Rattle.fts_collect.proofs.groups.lend.Goals as goal
 
--- src/groups.rt:109:5
-pub loop-group-init : goal.loop-group-init
-loop-group-init c = ?
-
--- src/groups.rt:109:5
 pub loop-group-preserved : goal.loop-group-preserved
-loop-group-preserved c = ?
+loop-group-preserved c =
+    let groups = c.args.groups.now in
+    let i = c.loop-group.group-index in
+    let within : i < length groups = omega arith in
+    c.in_ok-push.ensures.items
+    ∙ ap (λ (g : GroupValue × ℕ). c.loop-group.list.items ++ g ∷ []) (c.new.ensures ∙ c.group-item.is)
+    ∙ ap (λ gs. gs ++ get_or groups i c.group-item.result ∷ []) c.loop-group.invariant
+    ∙ sym (take_more groups i c.group-item.result within)
 
--- src/groups.rt:105:1
 pub returns : goal.returns
-returns c = ?
+returns c = c.loop-group.invariant ∙ take_all c.loop-group.group-index c.args.groups.now c.loop-group-test.false
