@@ -22,7 +22,7 @@ use std::io;
 use std::process::ExitCode;
 
 /// What a case of each word may have beside its sentence, its word and what it gives.
-const MEMBERS: [(&str, &[&str]); 41] = [
+const MEMBERS: [(&str, &[&str]); 44] = [
     ("tokens", &["text"]),
     ("places", &["text"]),
     ("fold", &["text", "behind"]),

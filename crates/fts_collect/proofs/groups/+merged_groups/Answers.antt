@@ -1,5 +1,5 @@
 use Rattle.std.proofs.Common.{◌≡◌, ◌∙◌, ◌/◌, ℕ, List, IfOk, sym, ap, subst, arith, length, take, drop, fold}
-use Rattle.fts_model.specs.declared.value.Number.{Number}
+use Rattle.fts_model.specs.declared.value.GroupValue.{GroupValue}
 use Rattle.fts_model.specs.Answers.{groups}
 use Rattle.fts_collect.specs.Parts.{PartValue, joined}
 use Rattle.fts_collect.specs.Internals.Joins.{AreGroupsOf, GroupsRise, add_group}
@@ -10,8 +10,8 @@ pub returns-in-len1 : goal.returns-in-len1
 returns-in-len1 t c = λ field lists are few.
     let one = only_one c.args.parts.now c.part-item.result c.part-item.is c.in-len1.len_at_least c.in-len1.len_below in
     let P : List PartValue → Type 0 = AreGroupsOf field lists in
-    let Q : List (Number × ℕ) → Type 0 = λ xs. IfOk c.from_slice.result (λ list. list.items ≡ xs) in
-    subst Q (c.groups_of.ensures ∙ groups-alone field lists c.part-item.result (subst P one are)) c.from_slice.ensures.items
+    let Q : List (GroupValue × ℕ) → Type 0 = λ xs. IfOk c.lend.result (λ list. list.items ≡ xs) in
+    subst Q (c.groups_of.ensures ∙ groups-alone field lists c.part-item.result (subst P one are)) c.lend.ensures
 
 pub returns-in_ok-back-in_default : goal.returns-in_ok-back-in_default
 returns-in_ok-back-in_default t c = λ field lists are few.
@@ -24,8 +24,8 @@ returns-in_ok-back-in_default t c = λ field lists are few.
     let back = c.in_ok-back-in_default.ensures field (drop n lists) (subst R (sym c.split_at.ensures.back) (AreGroupsOf-drop field n lists parts are)) (omega (arith, halves, few)) in
     let first = c.deref.ensures.value ∙ front in
     let second = c.deref-in_default.ensures.value ∙ back in
-    let S : List (Number × ℕ) → Type 0 = GroupsRise in
-    let Q : List (Number × ℕ) → Type 0 = λ xs. IfOk c.merged.result (λ list. list.items ≡ xs) in
+    let S : List (GroupValue × ℕ) → Type 0 = GroupsRise in
+    let Q : List (GroupValue × ℕ) → Type 0 = λ xs. IfOk c.merged.result (λ list. list.items ≡ xs) in
     subst Q
     (ap (λ xs. fold add_group xs c.deref-in_default.result.now) first ∙ ap (fold add_group (groups field (joined (take n lists)))) second ∙ groups-halves field n lists few)
     (c.merged.ensures (subst S (sym second) (groups-rise field (joined (drop n lists)))))
