@@ -4,7 +4,9 @@ ghost use Rattle.std.specs.Prelude.{◌≡◌, Some, true};
 ghost use Rattle.fts_model.specs.declared.schema.Kind.TheVariants as kinds;
 ghost use Rattle.fts_model.specs.Operations.{kind_at};
 
-use cases::{Trouble, documents, entry, number, only, pair, size, some_number, stamps, text, words};
+use cases::{
+    Trouble, documents, entry, number, only, pair, size, some_number, stamps, text, words,
+};
 use fts_model::{FieldValue, Kind, Number, Term, Text};
 use fts_pack::{Blocks, List};
 use fts_segment::{ListId, Segment};

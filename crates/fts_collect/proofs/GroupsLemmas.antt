@@ -1,11 +1,11 @@
 -- The groups of parts, put together.
-use Rattle.std.proofs.Common.{◌≡◌, ℕ, ◌+◌, ◌-◌, ◌^◌, ◌<◌, ◌≤◌, Bool, true, false, cond, ◌⊎◌, ⊎_elim, List, [], ◌∷◌, ◌++◌, length, take, drop, fold, Some, refl, sym, ap, subst, ◌∙◌, arith, append_assoc, append-nil, length-append, add-one, All, Contains, get_or, unwrap_or}
+use Rattle.std.proofs.Common.{◌≡◌, ℕ, ◌+◌, ◌^◌, ◌<◌, ◌≤◌, Bool, true, false, cond, ◌⊎◌, ⊎_elim, List, [], ◌∷◌, ◌++◌, length, take, drop, fold, Some, refl, sym, ap, subst, ◌∙◌, arith, append_assoc, append-nil, length-append, add-one, All, get_or, unwrap_or}
 use Rattle.std.specs.Ordering.{match_ordering, is_eq}
 use Rattle.std.specs.declared.cmp.Ordering.{Ordering}
 use Rattle.std.specs.declared.cmp.Ordering.TheVariants.{Less, Equal, Greater}
-use Rattle.std.proofs.lemmas.List.{get_or-drop, length-drop, take-append-drop, take_all, drop_all, take-map, drop-map}
+use Rattle.std.proofs.lemmas.List.{get_or-drop, length-drop, take-append-drop, drop_all, take-map, drop-map}
 use Rattle.std.proofs.Math.Seq.{drop-cons}
-use Rattle.std.proofs.lemmas.List.Elements.{All-nil, All-cons, All-head, All-tail, All-contains}
+use Rattle.std.proofs.lemmas.List.Elements.{All-nil, All-cons, All-head, All-tail}
 use Rattle.std.proofs.lemmas.List.Kept.{AllPairs-cons}
 use Rattle.std.proofs.lemmas.List.Sums.{sum_by-append}
 use Rattle.std.proofs.lemmas.List.Concat.{flat_map-append}
@@ -14,7 +14,7 @@ use Rattle.fts_model.specs.declared.operation.Stamped.{Stamped}
 use Rattle.fts_model.specs.Documents.{DocumentValue}
 use Rattle.fts_model.specs.Answers.{group_cmp, groups_in, groups, is_in_group}
 use Rattle.fts_scan.specs.Scans.{hits_counted}
-use Rattle.fts_model.proofs.Lists.{pairs_none, pairs_front, pairs_behind, one_order}
+use Rattle.fts_model.proofs.Lists.{pairs_none, pairs_front, pairs_behind}
 use Rattle.fts_scan.proofs.AnswersOrder.{group_order}
 use Rattle.fts_scan.proofs.AnswersSteps.{hits_counted-groups}
 use Rattle.fts_scan.proofs.AnswersGroups.{count_in-groups}

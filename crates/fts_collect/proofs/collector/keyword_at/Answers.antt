@@ -1,4 +1,4 @@
-use Rattle.std.proofs.Common.{◌≡◌, refl, sym, ap, subst, ◌∙◌}
+use Rattle.std.proofs.Common.{refl, ap, ◌∙◌}
 use Rattle.fts_segment.specs.Segments.{keywords}
 use Rattle.fts_collect.proofs.KeptLemmas.{keyword_read}
 use Rattle.fts_collect.proofs.collector.keyword_at.Goals as goal
