@@ -359,9 +359,15 @@ def write_merges():
            term=word("b"))
     s.case("A word is found under the new numbers", "merged_postings", [0, 1], first=[0], second=[1, 2], term=word("b"))
     s.case("A merge of nothing live is empty", "merge", [], first=[], second=[])
-    s.case("Documents are made of which each has a tag", "make", 4, documents=[{"tag": tag} for tag in ["c", "a", "b", "a"]])
-    s.case("Ordinals are those of the tags that are left", "merged_column", [1, 0, 2], first=[2, 3], second=[0], field=1)
-    s.case("A tag that both sources have has one ordinal", "merged_column", [1, 1, 0], first=[0], second=[0, 2], field=1)
+    tagged = lambda *tags: [{"tag": tag} for tag in tags]
+    s.case("A segment has the tags a and c", "make", 2, documents=tagged("a", "c"))
+    s.case("Their ordinals are 0 and 1", "column", [0, 1], field=1)
+    s.case("Another has the tag b", "make", 1, documents=tagged("b"))
+    s.case("Its ordinal is 0", "column", [0], field=1)
+    s.case("One has the tags a, c and b", "make", 3, documents=tagged("a", "c", "b"))
+    s.case("Behind a merge each has its ordinal among all", "merged_column", [0, 2, 1], first=[0, 1], second=[2], field=1)
+    s.case("A tag that was struck takes none", "merged_column", [0, 1], first=[0, 1], second=[], field=1)
+    s.case("A tag that both sources have has one", "merged_column", [1, 1, 0], first=[1], second=[1, 2], field=1)
     whole = [list(range(8))]
     two = [400_000 if n % 2 == 0 else 20_000 for n in range(16)]
     two[2] = 500_000

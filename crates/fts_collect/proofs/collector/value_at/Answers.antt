@@ -9,11 +9,11 @@ use Rattle.fts_segment.specs.Segments.{keywords}
 use Rattle.fts_collect.specs.Internals.Collected.{value_in}
 use Rattle.fts_collect.proofs.collector.value_at.Goals as goal
 
-pub returns-in_ok-from_str-in-Keyword : goal.returns-in_ok-from_str-in-Keyword
-returns-in_ok-from_str-in-Keyword c =
+pub returns-in_ok-text-in-Keyword : goal.returns-in_ok-text-in-Keyword
+returns-in_ok-text-in-Keyword c =
     let segment = c.args.segment.now in
     let f = c.args.field in
     let known : kind_at segment.schema f ≡ Some kinds.Keyword =
     ap (λ (s : List Field). option_map (λ g. g.kind) (slice_get s f)) (sym c.schema.ensures) ∙ c.kind.ensures ∙ ap Some c.in-Keyword.is in
-    ap Keyword (c.new.ensures ∙ c.in_ok-from_str-in-Keyword.ensures.ok ∙ c.keyword_at-keyword.ensures)
+    ap Keyword (c.new.ensures ∙ c.in_ok-text-in-Keyword.ensures.ok ∙ c.keyword_at.ensures)
     ∙ ap (λ o. option_map_or (λ kind. value_in kind (keywords segment f) c.args.number) o (U64 c.args.number)) (sym known)
