@@ -3,8 +3,8 @@
     python3 bench/script.py [DOCUMENTS] [SEARCHES]
 
 Build the program first (README.md). Prints milliseconds a search for each kind of query, and seconds for building. The
-documents have 30 words each of a vocabulary of 50,000 with Zipf's law, a keyword, a `u64` and an `i64`. Each count is
-compared: with FTS5's for queries of words, with a loop over the documents for the others.
+documents have 30 words each of a vocabulary of 50,000 with Zipf's law, a keyword and a `u64` of 1,000 values each, and an
+`i64`. Each answer is compared with that of FTS5 and of SQL over columns beside it.
 """
 import bisect
 import itertools
@@ -31,7 +31,7 @@ def word():
 
 
 DOCUMENTS = [
-    {"body": " ".join(word() for _ in range(30)), "tag": f"t{random.randrange(100)}", "n": random.randrange(1000), "z": i - COUNT // 2}
+    {"body": " ".join(word() for _ in range(30)), "tag": f"t{random.randrange(1000):03}", "n": random.randrange(1000), "z": i - COUNT // 2}
     for i in range(COUNT)
 ]
 SCHEMA = {"schema": [
@@ -39,7 +39,7 @@ SCHEMA = {"schema": [
     {"name": "n", "kind": "u64"}, {"name": "z", "kind": "i64"},
 ]}
 PAIRS = [(word(), word()) for _ in range(SEARCHES)]
-LOWS = [random.randrange(900) for _ in range(SEARCHES)]
+LOWS = [random.randrange(899) for _ in range(SEARCHES)]
 
 
 def of(name, make):
@@ -52,7 +52,9 @@ KINDS = [
     of("a b", lambda i: {"query": "{} {}".format(*PAIRS[i])}),
     of("phrase", lambda i: {"query": '"{} {}"'.format(*PAIRS[i])}),
     of("range", lambda i: {"query": f"n:[{LOWS[i]} TO {LOWS[i] + 100}]"}),
+    of("keyword range", lambda i: {"query": f"tag:[t{LOWS[i]:03} TO t{LOWS[i] + 100:03}]"}),
     of("groups", lambda i: {"query": PAIRS[i][0], "groups": "n"}),
+    of("keyword groups", lambda i: {"query": PAIRS[i][0], "groups": "tag"}),
     of("top 10", lambda i: {"query": PAIRS[i][0], "top": {"by": "z", "k": 10, "order": "falling"}}),
 ]
 
@@ -102,6 +104,7 @@ base.execute("create table columns (tag text, n integer, z integer)")
 base.executemany("insert into docs(body) values (?)", ((d["body"],) for d in DOCUMENTS))
 base.executemany("insert into columns values (?, ?, ?)", ((d["tag"], d["n"], d["z"]) for d in DOCUMENTS))
 base.execute("create index by_n on columns(n)")
+base.execute("create index by_tag on columns(tag)")
 base.commit()
 sqlite_built = time.perf_counter() - began
 
@@ -112,6 +115,11 @@ SQL = {
     "a b": lambda i: (MATCH, ('"{}" OR "{}"'.format(*PAIRS[i]),)),
     "phrase": lambda i: (MATCH, ('"{} {}"'.format(*PAIRS[i]),)),
     "range": lambda i: ("select count(*) from columns where n between ? and ?", (LOWS[i], LOWS[i] + 100)),
+    "keyword range": lambda i: (
+        "select count(*) from columns where tag between ? and ?", (f"t{LOWS[i]:03}", f"t{LOWS[i] + 100:03}")),
+    "keyword groups": lambda i: (
+        "select tag, count(*) from docs join columns on columns.rowid = docs.rowid where docs match ? group by tag order by tag",
+        (f'"{PAIRS[i][0]}"',)),
     "groups": lambda i: (
         "select n, count(*) from docs join columns on columns.rowid = docs.rowid where docs match ? group by n order by n",
         (f'"{PAIRS[i][0]}"',)),
@@ -121,6 +129,7 @@ SQL = {
 }
 TOLD = {
     "groups": lambda reply: [tuple(g) for g in reply["groups"]],
+    "keyword groups": lambda reply: [tuple(g) for g in reply["groups"]],
     "top 10": lambda reply: [(hit["value"],) for hit in reply["top"]],
 }
 
