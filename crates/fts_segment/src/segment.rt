@@ -117,7 +117,7 @@ impl Segment {
     }
 
     /// The numbers of the documents in a number field, where an `i64` is the `u64` in its place; or the ordinals of the
-    /// documents in a keyword field: how many of the segment's different texts of the field are before a document's own.
+    /// documents in a keyword field: how many of the segment's different texts of the field are before each one's own.
     pub fn column(&self, field: usize) -> &Column
         requires { is_ordered_field self.now.schema field ≡ true }
         ensures numbers { is_number_field self.now.schema field ≡ true → result.now ≡ column self.now field }
@@ -129,8 +129,8 @@ impl Segment {
         stored.indexes[field].column(stored.schema.kind(field))
     }
 
-    /// The keyword of this ordinal in a keyword field: the one before which so many different ones of the segment stand.
-    /// None where there are not so many. Nothing is copied.
+    /// The keyword of this ordinal in a keyword field: the one before which so many different ones of the segment
+    /// stand. None where there are not so many. Nothing is copied.
     pub fn keyword(&self, field: usize, ordinal: u64) -> Option<&str>
         requires { kind_at self.now.schema field ≡ Some kinds.Keyword }
         ensures { option_copied result ≡ slice_get (keywords self.now field) ordinal }
