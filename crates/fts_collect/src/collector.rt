@@ -75,8 +75,8 @@ fn value_at(
         Kind::U64 | Kind::Text => Ok(GroupValue::U64(number)),
         Kind::I64 => Ok(GroupValue::I64(u64_to_i64(number))),
         Kind::Keyword => {
-            let keyword = keyword_at(segment, field, number);
-            Ok(GroupValue::Keyword(Text::new(String::from_str(alloc, keyword)?)))
+            let text = String::from_str(alloc, keyword_at(segment, field, number))?;
+            Ok(GroupValue::Keyword(Text::new(text)))
         }
     }
 }
