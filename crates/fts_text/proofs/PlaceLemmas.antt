@@ -1,10 +1,12 @@
 -- The places that are left, one after another.
-use Rattle.std.proofs.Common.{◌≡◌, ◌<◌, ◌≤◌, ◌-◌, ◌+◌, ℕ, Bool, true, false, cond, nat_lt, List, [], ◌∷◌, map, Some, refl, sym, ap, ◌∙◌, arith}
+use Rattle.std.proofs.Common.{◌≡◌, ◌<◌, ◌≤◌, ◌-◌, ◌+◌, ℕ, Bool, true, false, cond, nat_lt, List, [], ◌∷◌, map, length, Some, None, refl, sym, ap, ◌∙◌, inl, inr, arith}
+use Rattle.std.specs.Prelude.{nat_eq}
+use Rattle.std.proofs.lemmas.Bool.{cases_Bool, eq-eqb, eqb-true}
 use Rattle.std.proofs.lemmas.Bool.Decides.{nat_tests}
 use Rattle.fts_text.specs.declared.tokenizer.Token.{Token}
 use Rattle.fts_text.specs.declared.tokenizer.Tokens.{Tokens}
-use Rattle.fts_text.specs.Tokens.{Span, kept, byte_len}
-use Rattle.fts_text.specs.Places.{place_of, places_left, spans_left, YieldsSpan}
+use Rattle.fts_text.specs.Tokens.{Span, behind_spans, kept, byte_len}
+use Rattle.fts_text.specs.Places.{following_left, place_of, places_left, spans_left, YieldsSpan}
 
 -- a span is short enough for a token
 abbrev is_kept : ℕ × Span → Bool
@@ -56,3 +58,33 @@ places_left-dropped s t token h long =
 pub places_left-none : (s : Tokens) → spans_left s ≡ [] → places_left s ≡ []
 unfolding places_left kept
 places_left-none s h = ap (λ rs. map place_of (kept s.next_position rs)) h
+
+-- what follows stays with a span that comes
+pub following_left-next : (s t : Tokens) (token : Token) → YieldsSpan s (Some token) t → following_left t ≡ following_left s
+unfolding following_left
+following_left-next s t token h =
+    let counts : t.next_position + length (spans_left t) ≡ s.next_position + length (spans_left s) = omega (arith, h.3, ap length h.1) in
+    ap (λ n. behind_spans t.first n) counts ∙ ap (λ f. behind_spans f (s.next_position + length (spans_left s))) h.5
+
+-- and where none came
+pub following_left-none : (s t : Tokens) → YieldsSpan s None t → following_left t ≡ following_left s
+unfolding following_left
+following_left-none s t h =
+    ap (λ spans. behind_spans t.first (t.next_position + length spans)) (h.1 ∙ sym h.0)
+    ∙ ap (λ n. behind_spans t.first (n + length (spans_left s))) h.2 ∙ ap (λ f. behind_spans f (s.next_position + length (spans_left s))) h.3
+
+-- where no span is left, the number is at hand
+pub following_left-end : (s : Tokens) → spans_left s ≡ [] → following_left s ≡ behind_spans s.first s.next_position
+unfolding following_left
+following_left-end s h = ap (λ spans. behind_spans s.first (s.next_position + length spans)) h ∙ ap (behind_spans s.first) (omega arith)
+
+-- two above the last span, or the first number where there was none
+pub behind-same : (first next : ℕ) → next ≡ first → behind_spans first next ≡ first
+behind-same first next same = ap (λ b. cond b first (next + 1)) (eq-eqb next first same)
+
+pub behind-other : (first next : ℕ) → (next ≡ first → ⊥) → behind_spans first next ≡ next + 1
+behind-other first next other =
+    elim (cases_Bool (nat_eq next first)) [
+      | inl equal ↦ absurd (other (eqb-true next first equal))
+      | inr differ ↦ ap (λ b. cond b first (next + 1)) differ
+    ]

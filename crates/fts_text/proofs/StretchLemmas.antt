@@ -1,5 +1,5 @@
 -- Each span stands in its text.
-use Rattle.std.proofs.Common.{◌≡◌, ◌<◌, ◌≤◌, ◌-◌, ℕ, zero, suc, ◌+◌, Bool, true, false, cond, ◌&&◌, List, [], ◌∷◌, ◌++◌, length, take, drop, map, filter, refl, sym, ap, subst, ◌∙◌, arith, inl, inr, not, nat_lt, length-append, append_assoc}
+use Rattle.std.proofs.Common.{◌≡◌, ◌<◌, ◌≤◌, ◌-◌, ℕ, zero, suc, ◌+◌, Bool, true, false, cond, ◌&&◌, List, [], ◌∷◌, ◌++◌, length, take, drop, map, filter, refl, sym, ap, subst, ◌∙◌, arith, inl, inr, not, nat_eq, nat_lt, length-append, append_assoc}
 use Rattle.std.proofs.Math.Seq.{take-append_seam, drop-append_seam}
 use Rattle.std.proofs.lemmas.Bool.{and_parts, cases_lt}
 use Rattle.std.proofs.lemmas.List.{length-map}
@@ -12,8 +12,8 @@ use Rattle.std.specs.List.{All, AllByRecursion, enumerate_from, slice_range, ont
 use Rattle.std.specs.Str.{chars, IsUtf8, IsCharBoundary}
 use lib.Utf8.{encodes, scalar, scalars}
 use Rattle.fts_text.specs.Characters.{is_alphanumeric, front_len, fold_chars, folded}
-use Rattle.fts_text.specs.Tokens.{Span, char_indices, chars_of, byte_len, spans, kept, tokens}
-use Rattle.fts_text.specs.Places.{start_of, place_of, places, IsPlaceIn, token_at}
+use Rattle.fts_text.specs.Tokens.{Span, behind_spans, char_indices, chars_of, byte_len, following, spans, kept, tokens_from}
+use Rattle.fts_text.specs.Places.{places_from, IsPlaceFrom, start_of, place_of, IsPlaceIn, token_at}
 use Rattle.fts_text.specs.declared.tokenizer.Token.{Token}
 use Rattle.fts_text.proofs.FrontLemmas.{front, after, length-front}
 use Rattle.fts_text.proofs.SpanLemmas.{is_nonempty, parts, chars_of-char_indices, byte_len-char_indices, start_of-char_indices, spans-gap, spans-front, spans-nil, after-gap}
@@ -131,9 +131,9 @@ map-map f g [] = refl
 map-map f g (x ∷ xs) = ap (λ l. f (g x) ∷ l) (map-map f g xs)
 
 -- each span that is kept stands in its text
-Stands-kept : (cs : List ℕ) → AllByRecursion (Stands 0 0 cs) (kept 0 (spans 0 cs))
+Stands-kept : (first : ℕ) (cs : List ℕ) → AllByRecursion (Stands first 0 cs) (kept first (spans 0 cs))
 unfolding kept
-Stands-kept cs = AllByRecursion-filter (Stands 0 0 cs) _ (enumerate_from 0 (spans 0 cs)) (Stands-all (length cs) 0 0 cs (omega arith))
+Stands-kept first cs = AllByRecursion-filter (Stands first 0 cs) _ (enumerate_from first (spans 0 cs)) (Stands-all (length cs) first 0 cs (omega arith))
 
 -- characters of two lists are characters of each
 scalars-both : (xs ys : List ℕ) → scalars (xs ++ ys) ≡ true → (scalars xs ≡ true) × (scalars ys ≡ true)
@@ -144,7 +144,7 @@ scalars-both (x ∷ xs) ys all =
     (ap (λ b. b && scalars xs) parts.0 ∙ rest.0, rest.1)
 
 -- a span that stands in a text, as bytes
-record StandsInBytes (text : List ℕ) (r : ℕ × Span) : Type 0 where
+record StandsInBytes (first : ℕ) (text : List ℕ) (r : ℕ × Span) : Type 0 where
   before : List ℕ
   here : List ℕ
   behind : List ℕ
@@ -156,11 +156,11 @@ record StandsInBytes (text : List ℕ) (r : ℕ × Span) : Type 0 where
   bytes : byte_len r.1 ≡ length (encodes here)
   spelled : chars_of r.1 ≡ here
   some : 0 < length (encodes here)
-  numbered : r.0 ≤ length (encodes before)
+  numbered : r.0 ≤ first + length (encodes before)
 
 -- a span of a text's characters stands in its bytes
-StandsInBytes-from : (text : List ℕ) → IsUtf8 text → (r : ℕ × Span) → Stands 0 0 (chars text) r → StandsInBytes text r
-StandsInBytes-from text utf8 r s =
+StandsInBytes-from : (first : ℕ) (text : List ℕ) → IsUtf8 text → (r : ℕ × Span) → Stands first 0 (chars text) r → StandsInBytes first text r
+StandsInBytes-from first text utf8 r s =
     let all : scalars (s.before ++ (s.here ++ s.behind)) ≡ true = ap scalars (sym s.whole) ∙ scalars-chars text utf8 in
     let rest = (scalars-both s.before (s.here ++ s.behind) all).1 in
     let parts = scalars-both s.here s.behind rest in
@@ -182,8 +182,8 @@ StandsInBytes-from text utf8 r s =
     }
 
 -- the place of a span that stands in a text stands there
-IsPlaceIn-from : (text : List ℕ) (r : ℕ × Span) → StandsInBytes text r → IsPlaceIn text (place_of r)
-IsPlaceIn-from text r s =
+IsPlaceFrom-from : (first : ℕ) (text : List ℕ) (r : ℕ × Span) → StandsInBytes first text r → IsPlaceFrom first text (place_of r)
+IsPlaceFrom-from first text r s =
     let here = encodes s.here in
     let behind = encodes s.behind in
     let long = ap length s.whole ∙ length-append (encodes s.before) (here ++ behind) in
@@ -192,10 +192,12 @@ IsPlaceIn-from text r s =
     let P : ℕ → Type 0 = IsCharBoundary text in
     let last : length (encodes s.before ++ here) ≡ start_of r.1 + byte_len r.1 = omega (arith, s.starts, s.bytes) in
     record {
-      nonempty = omega (arith, s.bytes, s.some);
-      within = omega (arith, s.starts, s.bytes);
-      begins = subst P (sym s.starts) (IsCharBoundary-at_seam text (encodes s.before) (here ++ behind) s.whole s.rest_text);
-      ends = subst P last (IsCharBoundary-at_seam text (encodes s.before ++ here) behind (s.whole ∙ sym (append_assoc (encodes s.before) here behind)) s.behind_text);
+      place = record {
+        nonempty = omega (arith, s.bytes, s.some);
+        within = omega (arith, s.starts, s.bytes);
+        begins = subst P (sym s.starts) (IsCharBoundary-at_seam text (encodes s.before) (here ++ behind) s.whole s.rest_text);
+        ends = subst P last (IsCharBoundary-at_seam text (encodes s.before ++ here) behind (s.whole ∙ sym (append_assoc (encodes s.before) here behind)) s.behind_text);
+      };
       numbered = omega (arith, s.starts, s.numbered);
     }
 
@@ -210,32 +212,35 @@ slice_range-seam text before here behind a b whole starts ends =
     ∙ take-append_seam here behind
 
 -- the token at a span's place is the span, folded
-token_at-from : (text : List ℕ) (r : ℕ × Span) → StandsInBytes text r → token_at text (place_of r) ≡ (r.0, fold_chars (chars_of r.1))
+token_at-from : (first : ℕ) (text : List ℕ) (r : ℕ × Span) → StandsInBytes first text r → token_at text (place_of r) ≡ (r.0, fold_chars (chars_of r.1))
 unfolding folded
-token_at-from text r s =
+token_at-from first text r s =
     let ends : start_of r.1 + byte_len r.1 ≡ start_of r.1 + length (encodes s.here) = omega (arith, s.bytes) in
     let bytes = slice_range-seam text (encodes s.before) (encodes s.here) (encodes s.behind) (start_of r.1) (start_of r.1 + byte_len r.1) s.whole s.starts ends in
     let spelled = ap chars bytes ∙ chars-encodes s.here s.here_text ∙ sym s.spelled in
     ap (λ cs. (r.0, fold_chars cs)) spelled
 
 -- the kept spans stand in the text's bytes
-StandsInBytes-all : (text : List ℕ) → IsUtf8 text → AllByRecursion (StandsInBytes text) (kept 0 (spans 0 (chars text)))
-StandsInBytes-all text utf8 =
-    AllByRecursion-weaker (Stands 0 0 (chars text)) (StandsInBytes text) (kept 0 (spans 0 (chars text))) (StandsInBytes-from text utf8) (Stands-kept (chars text))
+StandsInBytes-all : (first : ℕ) (text : List ℕ) → IsUtf8 text → AllByRecursion (StandsInBytes first text) (kept first (spans 0 (chars text)))
+StandsInBytes-all first text utf8 =
+    AllByRecursion-weaker (Stands first 0 (chars text)) (StandsInBytes first text) (kept first (spans 0 (chars text))) (StandsInBytes-from first text utf8) (Stands-kept first (chars text))
 
 -- each place of a text stands in it
-pub All-IsPlaceIn : (text : List ℕ) → IsUtf8 text → All (IsPlaceIn text) (places text)
-unfolding places
-All-IsPlaceIn text utf8 =
-    All-from_recursion (IsPlaceIn text) (places text)
-    (AllByRecursion-map (StandsInBytes text) (IsPlaceIn text) place_of (kept 0 (spans 0 (chars text))) (IsPlaceIn-from text) (StandsInBytes-all text utf8))
+pub All-IsPlaceFrom : (first : ℕ) (text : List ℕ) → IsUtf8 text → All (IsPlaceFrom first text) (places_from first text)
+unfolding places_from
+All-IsPlaceFrom first text utf8 =
+    All-from_recursion (IsPlaceFrom first text) (places_from first text)
+    (AllByRecursion-map (StandsInBytes first text) (IsPlaceFrom first text) place_of (kept first (spans 0 (chars text))) (IsPlaceFrom-from first text) (StandsInBytes-all first text utf8))
+
+pub All-IsPlaceIn : (first : ℕ) (text : List ℕ) → IsUtf8 text → All (IsPlaceIn text) (places_from first text)
+All-IsPlaceIn first text utf8 = λ k d lt. (All-IsPlaceFrom first text utf8 k d lt).place
 
 -- the tokens of a text are what stands at its places
-pub tokens-places : (text : List ℕ) → IsUtf8 text → map (token_at text) (places text) ≡ tokens text
-unfolding places tokens
-tokens-places text utf8 =
-    map-map (token_at text) place_of (kept 0 (spans 0 (chars text)))
-    ∙ map-same (StandsInBytes text) (λ r. token_at text (place_of r)) (λ r. (r.0, fold_chars (chars_of r.1))) (kept 0 (spans 0 (chars text))) (token_at-from text) (StandsInBytes-all text utf8)
+pub tokens-places : (first : ℕ) (text : List ℕ) → IsUtf8 text → map (token_at text) (places_from first text) ≡ tokens_from first text
+unfolding places_from tokens_from
+tokens-places first text utf8 =
+    map-map (token_at text) place_of (kept first (spans 0 (chars text)))
+    ∙ map-same (StandsInBytes first text) (λ r. token_at text (place_of r)) (λ r. (r.0, fold_chars (chars_of r.1))) (kept first (spans 0 (chars text))) (token_at-from first text) (StandsInBytes-all first text utf8)
 
 -- a list with one in front or not is no shorter, and at most one longer
 length-cond : {X : Type 0} (b : Bool) (x : X) (xs : List X) → (length xs ≤ length (cond b (x ∷ xs) xs)) × (length (cond b (x ∷ xs) xs) ≤ length xs + 1)
@@ -270,18 +275,30 @@ length-filter-le test (x ∷ xs) =
     omega (arith, most, length-filter-le test xs)
 
 -- a text has no more tokens than bytes
-pub length-places : (text : List ℕ) → IsUtf8 text → length (places text) ≤ length text
-unfolding places kept
-length-places text utf8 =
-    let numbered = enumerate_from 0 (spans 0 (chars text)) in
+pub length-places : (first : ℕ) (text : List ℕ) → IsUtf8 text → length (places_from first text) ≤ length text
+unfolding places_from kept
+length-places first text utf8 =
+    let numbered = enumerate_from first (spans 0 (chars text)) in
     let short = λ (r : ℕ × Span). nat_lt (byte_len r.1) 40 in
     let bytes = length-le-encodes (chars text) in
     let same = ap length (encodes-chars text utf8) in
     let of_spans = length-spans 0 (chars text) in
-    let of_numbered = length-enumerate_from 0 (spans 0 (chars text)) in
+    let of_numbered = length-enumerate_from first (spans 0 (chars text)) in
     let of_kept = length-filter-le short numbered in
     let of_places = length-map (filter short numbered) place_of in
     omega arith
+
+-- the text behind begins at most one number above what the bytes come to
+behind-le : (first n : ℕ) → behind_spans first (first + n) ≤ first + n + 1
+behind-le first n =
+    elim (nat_eq (first + n) first) as (λ b. cond b first (first + n + 1) ≤ first + n + 1) [ true ↦ omega arith | false ↦ omega arith ]
+
+pub following-le : (first : ℕ) (text : List ℕ) → IsUtf8 text → following first text ≤ first + length text + 1
+unfolding following
+following-le first text utf8 =
+    let bytes = length-le-encodes (chars text) in
+    let same = ap length (encodes-chars text utf8) in
+    omega (arith, behind-le first (length (spans 0 (chars text))), length-spans 0 (chars text), bytes, same)
 
 -- the place that comes next, and those after it
 pub IsPlaceIn-first : (text : List ℕ) (token : Token) (left rest : List Token) → left ≡ token ∷ rest → All (IsPlaceIn text) left → IsPlaceIn text token × All (IsPlaceIn text) rest

@@ -4,7 +4,7 @@ use Rattle.std.specs.Str.{chars, IsCharBoundary}
 use Rattle.fts_text.specs.declared.tokenizer.Token.{Token}
 use Rattle.fts_text.specs.declared.tokenizer.Tokens.{Tokens}
 use Rattle.fts_text.specs.Characters.{folded}
-use Rattle.fts_text.specs.Tokens.{Span, spans, kept, byte_len}
+use Rattle.fts_text.specs.Tokens.{Span, behind_spans, spans, kept, byte_len}
 
 -- the byte at which a span begins
 abbrev pub start_of : Span → ℕ
@@ -15,18 +15,25 @@ start_of (p ∷ ps) = p.0
 abbrev pub place_of : ℕ × Span → Token
 place_of r = record { position = r.0; start = start_of r.1; end = start_of r.1 + byte_len r.1 }
 
--- the places of the tokens of a text
-unfoldable pub places : List ℕ → List Token
-places text = map place_of (kept 0 (spans 0 (chars text)))
+-- the places of the tokens of a text whose spans are numbered from `first` on
+unfoldable pub places_from : ℕ → List ℕ → List Token
+places_from first text = map place_of (kept first (spans 0 (chars text)))
 
--- the place stands in the text: it has a byte or more, begins and ends between characters, and begins no earlier than
--- its number says
+-- the places of the tokens of a text
+abbrev pub places : List ℕ → List Token
+places text = places_from 0 text
+
+-- the place stands in the text: it has a byte or more, and begins and ends between characters
 pub record IsPlaceIn (text : List ℕ) (token : Token) : Type 0 where
   pub nonempty : token.start < token.end
   pub within : token.end ≤ length text
   pub begins : IsCharBoundary text token.start
   pub ends : IsCharBoundary text token.end
-  pub numbered : token.position ≤ token.start
+
+-- so does this one, and it begins no earlier than its number says, where the first span has the number `first`
+pub record IsPlaceFrom (first : ℕ) (text : List ℕ) (token : Token) : Type 0 where
+  pub place : IsPlaceIn text token
+  pub numbered : token.position ≤ first + token.start
 
 -- the token at a place: its number, and the folding of its bytes
 abbrev pub token_at : List ℕ → Token → ℕ × List ℕ
@@ -40,8 +47,12 @@ spans_left s = spans s.at (chars s.rest.now)
 unfoldable pub places_left : Tokens → List Token
 places_left s = map place_of (kept s.next_position (spans_left s))
 
+-- the number of the first span of the text behind this one, when all spans have come
+unfoldable pub following_left : Tokens → ℕ
+following_left s = behind_spans s.first (s.next_position + length (spans_left s))
+
 -- the first of the spans that were left came, by its place, or none was left
 abbrev pub YieldsSpan : Tokens → Option Token → Tokens → Type 0
-YieldsSpan s r t = MatchOption r ((spans_left s ≡ []) × (spans_left t ≡ []))
+YieldsSpan s r t = MatchOption r ((spans_left s ≡ []) × (spans_left t ≡ []) × (t.next_position ≡ s.next_position) × (t.first ≡ s.first))
     (λ token. (span : Span) × (spans_left s ≡ span ∷ spans_left t) × (token ≡ place_of (s.next_position, span))
-    × (t.next_position ≡ s.next_position + 1) × (length t.rest.now < length s.rest.now))
+    × (t.next_position ≡ s.next_position + 1) × (length t.rest.now < length s.rest.now) × (t.first ≡ s.first))

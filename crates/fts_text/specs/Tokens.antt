@@ -1,5 +1,5 @@
 -- What the tokens of a text are.
-use Rattle.std.specs.Prelude.{ℕ, ◌+◌, not, nat_lt, List, [], ◌∷◌, length, map, filter, encode_utf8_all}
+use Rattle.std.specs.Prelude.{ℕ, ◌+◌, not, nat_eq, nat_lt, if◌then◌else◌, List, [], ◌∷◌, ◌++◌, length, map, filter, encode_utf8_all}
 use Rattle.std.specs.List.{slice_split, enumerate_from}
 use Rattle.std.specs.Char.{len_utf8}
 use Rattle.std.specs.Str.{chars}
@@ -30,6 +30,24 @@ spans at cs =
 unfoldable pub kept : ℕ → List Span → List (ℕ × Span)
 kept first rs = filter (λ r. nat_lt (byte_len r.1) 40) (enumerate_from first rs)
 
--- the tokens of a text: each span that is kept, folded, after its number
-unfoldable pub tokens : List ℕ → List (ℕ × List ℕ)
-tokens text = map (λ r. (r.0, fold_chars (chars_of r.1))) (kept 0 (spans 0 (chars text)))
+-- the tokens of a text whose spans are numbered from `first` on: each span that is kept, folded, after its number
+unfoldable pub tokens_from : ℕ → List ℕ → List (ℕ × List ℕ)
+tokens_from first text = map (λ r. (r.0, fold_chars (chars_of r.1))) (kept first (spans 0 (chars text)))
+
+-- the tokens of a text
+abbrev pub tokens : List ℕ → List (ℕ × List ℕ)
+tokens text = tokens_from 0 text
+
+-- the number of the first span behind spans of which the last has the number before `next`: two above it, and the same
+-- where there are none
+abbrev pub behind_spans : ℕ → ℕ → ℕ
+behind_spans first next = if nat_eq next first then first else next + 1
+
+-- the number of the first span of the text behind this one
+unfoldable pub following : ℕ → List ℕ → ℕ
+following first text = behind_spans first (first + length (spans 0 (chars text)))
+
+-- the tokens of texts of which the first span of the first has the number `first`
+abbrev pub tokens_of_texts : ℕ → List (List ℕ) → List (ℕ × List ℕ)
+tokens_of_texts first [] = []
+tokens_of_texts first (text ∷ texts) = tokens_from first text ++ tokens_of_texts (following first text) texts

@@ -1,12 +1,14 @@
 //! What ties the definitions to each other: each contract is a law, and the body is empty.
-ghost use Rattle.std.specs.Prelude.{◌≡◌, ◌≤◌, All, length, map};
-ghost use Rattle.fts_text.specs.Tokens.{tokens};
-ghost use Rattle.fts_text.specs.Places.{places, token_at, IsPlaceIn};
+ghost use Rattle.std.specs.Prelude.{◌≡◌, ◌≤◌, ◌+◌, All, length, map};
+ghost use Rattle.fts_text.specs.Tokens.{following, tokens_from};
+ghost use Rattle.fts_text.specs.Places.{places_from, token_at, IsPlaceFrom};
 
-/// The tokens of a text are the foldings of what stands at its places. Each place stands in the
-/// text, and there are no more of them than bytes.
-pub fn places_have_tokens(text: &str)
-    ensures tokens { map (token_at text.now) (places text.now) ≡ tokens text.now }
-    ensures within { All (IsPlaceIn text.now) (places text.now) }
-    ensures few { length (places text.now) ≤ length text.now }
+/// The tokens of a text whose spans are numbered from `first` on are the foldings of what stands at its places. Each place
+/// stands in the text, and there are no more of them than bytes. The text behind it begins at most one number above what
+/// its bytes come to.
+pub fn places_have_tokens(text: &str, first: usize)
+    ensures tokens { map (token_at text.now) (places_from first text.now) ≡ tokens_from first text.now }
+    ensures within { All (IsPlaceFrom first text.now) (places_from first text.now) }
+    ensures few { length (places_from first text.now) ≤ length text.now }
+    ensures following { following first text.now ≤ first + length text.now + 1 }
 {}

@@ -40,24 +40,59 @@ pub struct Tokens<'a> {
     rest: &'a str,
     /// The byte of the text at which the rest begins.
     at: usize,
-    /// The number of the next span.
+    /// The number of the first span, and of the next.
+    first: usize,
     next_position: usize,
     ghost at_fits: { at + length rest.now < 2 ^ 64 },
     ghost position_fits: { next_position + length rest.now < 2 ^ 64 },
 }
 
 impl<'a> Tokens<'a> {
-    ghost use Rattle.std.specs.Prelude.{◌≡◌};
-    ghost use Rattle.fts_text.specs.Places.{places, places_left, YieldsSpan};
+    ghost use Rattle.std.specs.Prelude.{◌≡◌, ◌+◌, ◌^◌, ◌<◌, length};
+    ghost use Rattle.fts_text.specs.Tokens.{following};
+    ghost use Rattle.fts_text.specs.Places.{following_left, places, places_from, places_left, YieldsSpan};
 
     /// The tokens of a text, from its first on.
     pub fn new(text: &'a str) -> Tokens<'a>
         ensures { places_left result ≡ places text.now }
     {
+        Tokens::over(text, 0)
+    }
+
+    /// The tokens of a text whose first span has this number, as one of several texts of a field. Takes no memory.
+    pub fn starting(text: &'a str, first: usize) -> Tokens<'a>
+        requires { first + length text.now + 2 < 2 ^ 64 }
+        ensures tokens { places_left result ≡ places_from first text.now }
+        ensures following { following_left result ≡ following first text.now }
+    {
+        Tokens::over(text, first)
+    }
+
+    // The tokens of a text whose first span has this number.
+    fn over(text: &'a str, first: usize) -> Tokens<'a>
+        requires { first + length text.now < 2 ^ 64 }
+        ensures tokens { places_left result ≡ places_from first text.now }
+        ensures following { following_left result ≡ following first text.now }
+    {
         Tokens {
             rest: text,
             at: 0,
-            next_position: 0,
+            first,
+            next_position: first,
+        }
+    }
+
+    /// The number of the first span of the text behind this one: two above that of the last span, long ones among them, or
+    /// the text's own first number where it has no span. What is left of the text is gone over. Takes no memory.
+    pub fn following(mut self) -> usize
+        requires { following_left self < 2 ^ 64 }
+        ensures { result ≡ following_left self.entry }
+    {
+        while let Some(_) = self.next_span() {}
+        if self.next_position == self.first {
+            self.first
+        } else {
+            self.next_position + 1
         }
     }
 

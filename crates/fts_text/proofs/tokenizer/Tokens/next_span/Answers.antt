@@ -19,8 +19,9 @@ range_from-self-requires c = λ _.
 
 pub returns-then-len-eq0 : goal.returns-then-len-eq0
 returns-then-len-eq0 c =
-    spans-end c.args.self.now.at c.front_len-gap.result c.front_len-len.result c.args.self.now.rest.now c.range_from-rest.result.now c.range_from-self.result.now
-    c.front_len-gap.ensures.utf8 c.front_len-gap.ensures.len c.range_from-rest.ensures.value c.front_len-len.ensures.utf8 c.front_len-len.ensures.len c.range_from-self.ensures.value c.if-len-eq0.true
+    let ended = spans-end c.args.self.now.at c.front_len-gap.result c.front_len-len.result c.args.self.now.rest.now c.range_from-rest.result.now c.range_from-self.result.now
+    c.front_len-gap.ensures.utf8 c.front_len-gap.ensures.len c.range_from-rest.ensures.value c.front_len-len.ensures.utf8 c.front_len-len.ensures.len c.range_from-self.ensures.value c.if-len-eq0.true in
+    (ended.0, ended.1, refl, refl)
 
 pub returns : goal.returns
 returns c =
@@ -33,4 +34,5 @@ returns c =
       place_of-front c.args.self.now.next_position at c.front_len-len.result (chars mid) c.front_len-len.ensures.len some,
       refl,
       omega arith,
+      refl,
     )
