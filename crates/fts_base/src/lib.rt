@@ -2,11 +2,13 @@
 //!
 //! [`Refusal`] is the one enum of all refusals of the index; its `specs/` also say how what a call
 //! answers stands to what a definition says (`Gives`: that, or for want of memory nothing). Crates
-//! that know no document stand on this crate alone.
+//! that know no document stand on this crate alone. [`piece`] reads one of several lists that lie one behind the other in a buffer.
 #![tactic(auto)]
 
 mod ghosts;
+mod pieces;
 mod refusal;
 
 pub use ghosts::{GhostBytes, GhostCount};
+pub use pieces::{piece, start_of};
 pub use refusal::Refusal;

@@ -1,4 +1,3 @@
-pub mod PiecesLemmas
 pub mod TermsLemmas
 pub mod TermLogsLemmas
 pub mod OccurrencesLemmas

@@ -1,7 +1,6 @@
 pub mod Occurrences
 pub mod Segments
 pub mod Contents
-pub mod Pieces
 pub mod Numberings
 pub mod TermLogs
 pub mod Sorted

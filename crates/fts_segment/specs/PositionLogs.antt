@@ -1,7 +1,7 @@
 -- The positions of terms that are to be packed.
 use Rattle.std.specs.Prelude.{ℕ, List, length}
 use Rattle.fts_segment.specs.declared.term_positions.PositionLog.{PositionLog}
-use Rattle.fts_segment.specs.Pieces.{pieces, AreEnds}
+use Rattle.fts_base.specs.Pieces.{pieces, AreEnds}
 use Rattle.fts_segment.specs.PositionListLogs.{logged_position_lists, IsPositionListLog}
 
 -- for each term the positions of its postings

@@ -2,7 +2,7 @@
 use Rattle.std.specs.Prelude.{ℕ, List, slice_range}
 use Rattle.fts_segment.specs.declared.term_positions.TermPositions.{TermPositions}
 use Rattle.fts_segment.specs.declared.term_positions.TermPositionLists.{TermPositionLists}
-use Rattle.fts_segment.specs.Pieces.{pieces}
+use Rattle.fts_base.specs.Pieces.{pieces}
 
 -- for each term the positions of its postings
 abbrev pub term_position_lists : TermPositions → List (List (List ℕ))

@@ -26,7 +26,6 @@ mod names;
 mod number_index;
 mod numbering;
 mod occurrences;
-mod pieces;
 mod position_lists;
 mod position_reader;
 mod positions;

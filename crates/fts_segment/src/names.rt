@@ -1,7 +1,7 @@
 // Names, one behind the other in one buffer of bytes.
 ghost use Rattle.std.specs.Prelude.{◌≡◌, ◌<◌, ◌++◌, ◌∷◌, [], length, OnOk, OnErr, slice_index_or};
 
-use crate::pieces::piece;
+use fts_base::piece;
 use std::alloc::{AllocError, Global};
 use std::marker::Model;
 
@@ -15,7 +15,7 @@ pub(crate) struct Names {
 
 impl Model for Names {
     ghost use Rattle.std.specs.Prelude.{List, ℕ, length};
-    ghost use Rattle.fts_segment.specs.Pieces.{pieces, AreEnds};
+    ghost use Rattle.fts_base.specs.Pieces.{pieces, AreEnds};
 
     ghost Value = { List (List ℕ) };
 

@@ -4,7 +4,7 @@ ghost use Rattle.fts_segment.specs.Positions.{position_lists_of};
 ghost use Rattle.fts_segment.specs.PositionLists.{IsPositionList};
 ghost use Rattle.fts_segment.specs.PositionListLogs.{IsPositionListLog, logged_position_lists};
 
-use crate::pieces::start_of;
+use fts_base::start_of;
 use crate::position_lists::{Bounds, PositionListLog, PositionLists};
 use crate::positions::Positions;
 use crate::term_groups::Place;

@@ -1,5 +1,5 @@
 use Rattle.std.proofs.Common.{length, ap, arith}
-use Rattle.fts_segment.proofs.PiecesLemmas.{length-pieces}
+use Rattle.fts_base.proofs.PiecesLemmas.{length-pieces}
 use Rattle.fts_segment.proofs.names.Names.len.Goals as goal
 
 pub returns : goal.returns

@@ -1,5 +1,5 @@
 use Rattle.std.proofs.Common.{◌≡◌, ◌≤◌, [], ◌∷◌, ◌++◌, length, ap, arith, length-append}
-use Rattle.fts_segment.proofs.PiecesLemmas.{AreEnds-push, pieces-push}
+use Rattle.fts_base.proofs.PiecesLemmas.{AreEnds-push, pieces-push}
 use Rattle.fts_segment.proofs.names.Names.push.Goals as goal
 
 pub invariant_of-self-else-is_err : goal.invariant_of-self-else-is_err

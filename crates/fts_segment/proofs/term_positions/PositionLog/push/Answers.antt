@@ -1,7 +1,7 @@
 use Rattle.std.proofs.Common.{◌≤◌, length, ap, arith, length-append}
 use Rattle.fts_segment.specs.Positions.{position_lists_of}
 use Rattle.fts_segment.specs.PositionListLogs.{logged_position_lists}
-use Rattle.fts_segment.proofs.PiecesLemmas.{AreEnds-push, pieces-push}
+use Rattle.fts_base.proofs.PiecesLemmas.{AreEnds-push, pieces-push}
 use Rattle.fts_segment.proofs.term_positions.PositionLog.push.Goals as goal
 
 pub returns-clause-is : goal.returns-clause-is

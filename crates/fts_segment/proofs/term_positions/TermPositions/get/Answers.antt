@@ -1,7 +1,7 @@
 use Rattle.std.proofs.Common.{◌<◌, ◌∷◌, get_or, length, ap, sym, ◌∙◌, arith}
 use Rattle.std.specs.Prelude.{slice_range}
 use Rattle.std.proofs.lemmas.List.{get_or_read}
-use Rattle.fts_segment.proofs.PiecesLemmas.{length-pieces, get_or-pieces}
+use Rattle.fts_base.proofs.PiecesLemmas.{length-pieces, get_or-pieces}
 use Rattle.fts_segment.proofs.term_positions.TermPositions.get.Goals as goal
 
 pub start_of-requires : goal.start_of-requires

@@ -2,7 +2,7 @@
 use Rattle.std.proofs.Common.{◌≡◌, ℕ, suc, zero, ◌-◌, ◌<◌, ◌≤◌, List, [], ◌∷◌, ◌++◌, length, get_or, take, drop, refl, sym, ◌∙◌, ap, arith, length-append, length-drop}
 use Rattle.std.specs.Prelude.{slice_range}
 use Rattle.std.proofs.lemmas.List.{take-append-le, drop-append-le, take_all, drop_at}
-use Rattle.fts_segment.specs.Pieces.{pieces, AreEnds}
+use Rattle.fts_base.specs.Pieces.{pieces, AreEnds}
 
 pub length-pieces : {X : Type 0} (start : ℕ) (bytes : List X) (ends : List ℕ) → length (pieces start bytes ends) ≡ length ends
 length-pieces start bytes [] = refl

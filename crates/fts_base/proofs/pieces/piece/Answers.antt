@@ -1,7 +1,7 @@
 use Rattle.std.proofs.Common.{length, sym, arith}
 use Rattle.std.proofs.lemmas.List.{get_or_past}
-use Rattle.fts_segment.proofs.PiecesLemmas.{length-pieces, get_or-pieces, end_at}
-use Rattle.fts_segment.proofs.pieces.piece.Goals as goal
+use Rattle.fts_base.proofs.PiecesLemmas.{length-pieces, get_or-pieces, end_at}
+use Rattle.fts_base.proofs.pieces.piece.Goals as goal
 
 pub returns-then-number-ends : goal.returns-then-number-ends
 returns-then-number-ends g c =
