@@ -9,7 +9,7 @@ use Rattle.fts_base.specs.declared.refusal.Refusal.TheVariants.{RangeOnText, NoD
 use Rattle.fts_base.specs.declared.refusal.Refusal.TheVariants.{RoundOpen, StampsUsedUp, LaneFull, LaneMissing}
 use Rattle.fts_base.specs.declared.refusal.Refusal.TheVariants.{StaleBatch, OtherSchema, UnknownSegment, SegmentTwice}
 use Rattle.fts_base.specs.declared.refusal.Refusal.TheVariants.{NoSegments, SourceGone, BadJson, BadCommand, NoSchema}
-use Rattle.fts_base.specs.declared.refusal.Refusal.TheVariants.{SchemaTwice, LineTooLong, NoReader}
+use Rattle.fts_base.specs.declared.refusal.Refusal.TheVariants.{SchemaTwice, LineTooLong, NoReader, TooManyTexts}
 
 -- the number of a refusal
 abbrev pub number_of : Refusal → ℕ
@@ -51,6 +51,7 @@ number_of NoSchema = 34
 number_of SchemaTwice = 35
 number_of LineTooLong = 36
 number_of NoReader = 37
+number_of TooManyTexts = 38
 
 -- its name, as scripts print it
 abbrev pub name_of : Refusal → List ℕ
@@ -92,3 +93,4 @@ name_of NoSchema = codes "NoSchema"
 name_of SchemaTwice = codes "SchemaTwice"
 name_of LineTooLong = codes "LineTooLong"
 name_of NoReader = codes "NoReader"
+name_of TooManyTexts = codes "TooManyTexts"

@@ -29,7 +29,7 @@ pub enum Refusal {
     UnknownField,
     /// 8: the value isn't of the field's kind, or is null where a term is wanted.
     WrongKind,
-    /// 9: a text has more than 1,048,576 bytes.
+    /// 9: a text, or a list of texts together, has more than 1,048,576 bytes.
     TextTooLong,
     /// 10: a keyword has more than 256 bytes.
     KeywordTooLong,
@@ -87,6 +87,8 @@ pub enum Refusal {
     LineTooLong,
     /// 37: the writer gives no further place for a reader.
     NoReader,
+    /// 38: a list of more than 1,024 texts.
+    TooManyTexts,
 }
 
 impl From<AllocError> for Refusal {
@@ -98,7 +100,7 @@ impl From<AllocError> for Refusal {
 }
 
 impl Refusal {
-    /// The number of the cause, 0 to 37.
+    /// The number of the cause, 0 to 38.
     pub fn number(&self) -> u8
         ensures { result ≡ number_of self.now }
     {
@@ -141,6 +143,7 @@ impl Refusal {
             Refusal::SchemaTwice => 35,
             Refusal::LineTooLong => 36,
             Refusal::NoReader => 37,
+            Refusal::TooManyTexts => 38,
         }
     }
 
@@ -187,6 +190,7 @@ impl Refusal {
             Refusal::SchemaTwice => "SchemaTwice",
             Refusal::LineTooLong => "LineTooLong",
             Refusal::NoReader => "NoReader",
+            Refusal::TooManyTexts => "TooManyTexts",
         }
     }
 }

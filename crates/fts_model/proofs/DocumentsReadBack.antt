@@ -7,11 +7,13 @@ use Rattle.std.specs.Cmp.Lexicographic.{slice_cmp}
 use Rattle.std.specs.Ordering.{match_ordering}
 use Rattle.std.specs.List.{find, list_any, slice_get}
 use Rattle.std.specs.Option.{option_and_then}
-use Rattle.serde_json.specs.Data.{Data, Members, no_members, member, put}
+use Rattle.serde_json.specs.View.{items_of}
+use Rattle.std.specs.Prelude.{length, nat_le, nat_lt, not, ◌&&◌}
+use Rattle.serde_json.specs.Data.{Data, string, Members, no_members, member, put}
 use Rattle.serde_json.specs.Find.{get_member}
 use Rattle.serde_json.proofs.Views.{get_member-put, get_member-put_other}
 use Rattle.fts_base.specs.declared.refusal.Refusal.{Refusal}
-use Rattle.fts_base.specs.declared.refusal.Refusal.TheVariants.{TextTooLong, KeywordTooLong}
+use Rattle.fts_base.specs.declared.refusal.Refusal.TheVariants.{TextTooLong, KeywordTooLong, TooManyTexts}
 use Rattle.fts_model.specs.declared.schema.Kind.{Kind}
 use Rattle.fts_model.specs.declared.schema.Kind.TheVariants as kinds
 use Rattle.fts_model.specs.declared.schema.Field.{Field}
@@ -20,12 +22,32 @@ use Rattle.fts_model.specs.declared.value.FieldValue.{FieldValue}
 use Rattle.fts_model.specs.declared.value.FieldValue.TheVariants as values
 use Rattle.fts_base.specs.Results.{value_if_ok, error_if_err, first_of}
 use Rattle.fts_model.specs.Schemas.{is_named, field_fault, first_fault}
-use Rattle.fts_model.specs.Documents.{DocumentValue, value_in, fault_in_field, member_fault, members_fault, value_at, document_of, data_of, with_value, with_values, json_of, is_value_of, CanHave, AreValuesOf, IsDocument}
+use Rattle.fts_model.specs.Documents.{DocumentValue, bytes_of, list_in, strings_in, texts_in, value_in, fault_in_field, member_fault, members_fault, value_at, document_of, data_of, with_value, with_values, json_of, is_value_of, CanHave, AreValuesOf, IsDocument}
 use Rattle.fts_model.proofs.DocumentsFields.{none_of_two, not_taken, both_false, or_false, none_of_more, others_before, no_field_fault, find_by_name}
+
+-- texts are read from their JSON
+strings_back : (texts : List (List ℕ)) → strings_in (items_of (map string texts)) ≡ Some texts
+strings_back [] = refl
+strings_back (text ∷ texts) = ap (option_map (λ ts. text ∷ ts)) (strings_back texts)
+
+-- so is a list that a text field can have
+list_back : (text : List ℕ) (texts : List (List ℕ)) → (not (nat_lt 1024 (length (text ∷ texts))) && nat_le (bytes_of (text ∷ texts)) 1048576) ≡ true →
+    texts_in (text ∷ texts) ≡ Ok (Some (values.Texts (text ∷ texts)))
+list_back text texts h =
+    elim (nat_lt 1024 (length (text ∷ texts))) as (λ b. (not b && nat_le (bytes_of (text ∷ texts)) 1048576) ≡ true →
+    cond b (Err TooManyTexts) (cond (nat_le (bytes_of (text ∷ texts)) 1048576) (Ok (Some (values.Texts (text ∷ texts)))) (Err TextTooLong)) ≡ Ok (Some (values.Texts (text ∷ texts)))) [
+      | true ↦ λ g. cc
+      | false ↦ λ g. ap (λ b. cond b (Ok (Some (values.Texts (text ∷ texts)))) (Err TextTooLong)) g
+    ] h
 
 -- a value that a field can have is read from its JSON
 value_back : (kind : Kind) (v : FieldValue) → is_value_of kind v ≡ true → value_in kind (data_of v) ≡ Ok (Some v)
 value_back kinds.Text (values.Text text) h = ap (λ b. cond b (Ok (Some (values.Text text))) (Err TextTooLong)) h
+value_back kinds.Text (values.Texts []) h = cc
+value_back kinds.Text (values.Texts (text ∷ texts)) h = ap (list_in kinds.Text) (strings_back (text ∷ texts)) ∙ list_back text texts h
+value_back kinds.Keyword (values.Texts texts) h = cc
+value_back kinds.U64 (values.Texts texts) h = cc
+value_back kinds.I64 (values.Texts texts) h = cc
 value_back kinds.Keyword (values.Text text) h = ap (λ b. cond b (Ok (Some (values.Text text))) (Err KeywordTooLong)) h
 value_back kinds.U64 (values.Number (numbers.U64 n)) h = refl
 value_back kinds.I64 (values.Number (numbers.I64 (pos n))) h = rw h refl

@@ -1,9 +1,12 @@
 pub mod DocumentsFields
 pub mod DocumentsReadBack
 pub mod DocumentsZips
+pub mod ItemsLemmas
 pub mod Lists
+pub mod ListsLemmas
 pub mod OperationsAlive
 pub mod OperationsByStamps
 pub mod QueriesBoolean
 pub mod ResultsRefused
 pub mod ShortLemmas
+pub mod TextsLemmas

@@ -33,6 +33,7 @@ pub record AnswerValue : Type 0 where
 -- the number that a value is, if it is one
 abbrev pub number_in_value : FieldValue → Option Number
 number_in_value (values.Text text) = None
+number_in_value (values.Texts texts) = None
 number_in_value (values.Number n) = Some n
 
 -- the number that a document has in a field, if it has one
@@ -46,15 +47,16 @@ number_cmp (U64 n) (I64 m) = Less
 number_cmp (I64 n) (U64 m) = Greater
 number_cmp (I64 n) (I64 m) = int_cmp n m
 
--- the value by which a hit with this value in a field is counted
-abbrev pub group_of : FieldValue → GroupValue
-group_of (values.Text text) = group_values.Keyword text
-group_of (values.Number (U64 n)) = group_values.U64 n
-group_of (values.Number (I64 n)) = group_values.I64 n
+-- the value by which a hit with this value in a field is counted, if it is one
+abbrev pub group_of : FieldValue → Option GroupValue
+group_of (values.Text text) = Some (group_values.Keyword text)
+group_of (values.Texts texts) = None
+group_of (values.Number (U64 n)) = Some (group_values.U64 n)
+group_of (values.Number (I64 n)) = Some (group_values.I64 n)
 
 -- the value by which a document is counted in a field, if it has one there
 abbrev pub group_in : DocumentValue → ℕ → Option GroupValue
-group_in document field = option_map group_of (value_in_field document field)
+group_in document field = option_and_then group_of (value_in_field document field)
 
 -- the order of the values of groups: numbers by their values, keywords by their bytes; those of fields of different kinds,
 -- which don't meet, are kept apart

@@ -1,7 +1,7 @@
 -- What a document is: a value, or none, for each field of a schema, and what a JSON value says of it.
 use Rattle.std.specs.Prelude.{◌≡◌, ℕ, ◌^◌, ℤ, pos, negsuc, ◌&&◌, nat_le, nat_lt, Bool, true, false, List, [], ◌∷◌}
 use Rattle.std.specs.Prelude.{length, map, Result, Ok, Err, Option, Some, None, IfSome, AllPairs, drop, if◌then◌else◌}
-use Rattle.std.specs.Prelude.{option_map, option_and_then, slice_get}
+use Rattle.std.specs.Prelude.{not, option_map, option_and_then, slice_get, sum_by}
 use Rattle.std.specs.List.{AllZip, find}
 use Rattle.std.specs.Str.{bytes_eq}
 use Rattle.std.specs.Ordering.{nat_cmp}
@@ -9,11 +9,12 @@ use Rattle.std.specs.Cmp.Lexicographic.{slice_cmp}
 use Rattle.std.specs.declared.cmp.Ordering.TheVariants.{Less}
 use Rattle.std.specs.Option.{ok_or}
 use Rattle.serde_json.specs.Data.{Num, unsigned, Data, null, boolean, number, string, array, object, Members}
-use Rattle.serde_json.specs.Data.{no_members, member, put}
+use Rattle.serde_json.specs.Data.{Items, no_items, item, no_members, member, put}
+use Rattle.serde_json.specs.View.{items_of}
 use Rattle.serde_json.specs.Find.{as_u64, as_i64, of_integer, get_member}
 use Rattle.fts_base.specs.declared.refusal.Refusal.{Refusal}
 use Rattle.fts_base.specs.declared.refusal.Refusal.TheVariants.{NotAnObject, UnknownField, WrongKind, TextTooLong}
-use Rattle.fts_base.specs.declared.refusal.Refusal.TheVariants.{KeywordTooLong}
+use Rattle.fts_base.specs.declared.refusal.Refusal.TheVariants.{KeywordTooLong, TooManyTexts}
 use Rattle.fts_model.specs.declared.value.Number.TheVariants as numbers
 use Rattle.fts_model.specs.declared.schema.Kind.{Kind}
 use Rattle.fts_model.specs.declared.schema.Kind.TheVariants as kinds
@@ -28,13 +29,18 @@ pub record DocumentValue : Type 0 where
   pub schema : List Field
   pub values : List (Option FieldValue)
 
--- whether a field of this kind holds such a value
+-- whether such a value is a term of fields of this kind, or a bound
+abbrev pub is_term_of : Kind → FieldValue → Bool
+is_term_of kinds.Text (values.Text text) = true
+is_term_of kinds.Keyword (values.Text text) = true
+is_term_of kinds.U64 (values.Number (numbers.U64 n)) = true
+is_term_of kinds.I64 (values.Number (numbers.I64 n)) = true
+is_term_of kind value = false
+
+-- whether a field of this kind holds such a value: a text field holds lists of texts too
 abbrev pub is_of_kind : Kind → FieldValue → Bool
-is_of_kind kinds.Text (values.Text text) = true
-is_of_kind kinds.Keyword (values.Text text) = true
-is_of_kind kinds.U64 (values.Number (numbers.U64 n)) = true
-is_of_kind kinds.I64 (values.Number (numbers.I64 n)) = true
-is_of_kind kind value = false
+is_of_kind kinds.Text (values.Texts texts) = true
+is_of_kind kind value = is_term_of kind value
 
 -- the value that a JSON string is in a field of this kind: a text of at most 1,048,576 bytes, a keyword of at most 256
 abbrev pub text_in : Kind → List ℕ → Result (Option FieldValue) Refusal
@@ -50,13 +56,39 @@ number_in kinds.Keyword n = Err WrongKind
 number_in kinds.U64 n = ok_or (option_map (λ x. Some (values.Number (numbers.U64 x))) (as_u64 n)) WrongKind
 number_in kinds.I64 n = ok_or (option_map (λ x. Some (values.Number (numbers.I64 x))) (as_i64 n)) WrongKind
 
+-- the texts that the members of a JSON array are, if each is one
+abbrev pub strings_in : Items → Option (List (List ℕ))
+strings_in no_items = Some []
+strings_in (item (string text) items) = option_map (λ texts. text ∷ texts) (strings_in items)
+strings_in (item value items) = None
+
+-- the bytes of texts together
+abbrev pub bytes_of : List (List ℕ) → ℕ
+bytes_of texts = sum_by length texts
+
+-- a list of texts as a value; an empty one is none
+abbrev pub some_texts : List (List ℕ) → Option FieldValue
+some_texts [] = None
+some_texts (text ∷ texts) = Some (values.Texts (text ∷ texts))
+
+-- the value that a list of texts is in a text field: at most 1,024 texts, of at most 1,048,576 bytes together
+abbrev pub texts_in : List (List ℕ) → Result (Option FieldValue) Refusal
+texts_in texts =
+    if nat_lt 1024 (length texts) then Err TooManyTexts
+    else if nat_le (bytes_of texts) 1048576 then Ok (some_texts texts) else Err TextTooLong
+
+-- the value that a JSON array is in a field of this kind
+abbrev pub list_in : Kind → Option (List (List ℕ)) → Result (Option FieldValue) Refusal
+list_in kinds.Text (Some texts) = texts_in texts
+list_in kind texts = Err WrongKind
+
 -- the value that a JSON value is there; null is no value
 abbrev pub value_in : Kind → Data → Result (Option FieldValue) Refusal
 value_in kind null = Ok None
 value_in kind (string text) = text_in kind text
 value_in kind (number n) = number_in kind n
 value_in kind (boolean b) = Err WrongKind
-value_in kind (array items) = Err WrongKind
+value_in kind (array items) = list_in kind (strings_in items)
 value_in kind (object ms) = Err WrongKind
 
 -- what is wrong with a value of a field, if there is such a field
@@ -102,6 +134,7 @@ document_of fields (array items) = Err NotAnObject
 -- a value as JSON
 abbrev pub data_of : FieldValue → Data
 data_of (values.Text text) = string text
+data_of (values.Texts texts) = array (items_of (map string texts))
 data_of (values.Number (numbers.U64 n)) = number (unsigned n)
 data_of (values.Number (numbers.I64 z)) = number (of_integer z)
 
@@ -128,6 +161,9 @@ fits_i64 (negsuc n) = nat_lt n (2 ^ 63)
 -- whether a field of this kind can have the value
 abbrev pub is_value_of : Kind → FieldValue → Bool
 is_value_of kinds.Text (values.Text text) = nat_le (length text) 1048576
+is_value_of kinds.Text (values.Texts []) = false
+is_value_of kinds.Text (values.Texts (text ∷ texts)) =
+    not (nat_lt 1024 (length (text ∷ texts))) && nat_le (bytes_of (text ∷ texts)) 1048576
 is_value_of kinds.Keyword (values.Text text) = nat_le (length text) 256
 is_value_of kinds.U64 (values.Number (numbers.U64 n)) = nat_lt n (2 ^ 64)
 is_value_of kinds.I64 (values.Number (numbers.I64 z)) = fits_i64 z

@@ -6,7 +6,7 @@ use Rattle.std.specs.List.{list_any}
 use Rattle.std.specs.Option.{ok_or, option_map_or}
 use Rattle.std.specs.Str.{bytes_eq}
 use Rattle.serde_json.specs.Data.{Data, string}
-use Rattle.fts_text.specs.Tokens.{tokens}
+use Rattle.fts_text.specs.Tokens.{tokens, tokens_of_texts}
 use Rattle.fts_base.specs.declared.refusal.Refusal.{Refusal}
 use Rattle.fts_base.specs.declared.refusal.Refusal.TheVariants.{UnknownField, WrongKind}
 use Rattle.fts_model.specs.declared.schema.Kind.{Kind}
@@ -21,7 +21,7 @@ use Rattle.fts_model.specs.declared.operation.Op.TheVariants.{Add, Delete, Delet
 use Rattle.fts_model.specs.declared.operation.Stamped.{Stamped}
 use Rattle.fts_base.specs.Results.{result_and_then, result_map}
 use Rattle.fts_model.specs.Schemas.{field_named}
-use Rattle.fts_model.specs.Documents.{DocumentValue, value_in, value_in_field, is_of_kind, fits}
+use Rattle.fts_model.specs.Documents.{DocumentValue, value_in, value_in_field, is_term_of, fits}
 
 -- the kind of the field of this number, if there is one
 abbrev pub kind_at : List Field → ℕ → Option Kind
@@ -31,9 +31,10 @@ kind_at schema field = option_map (λ f. f.kind) (slice_get schema field)
 abbrev pub some_value_in : Kind → Data → Result FieldValue Refusal
 some_value_in kind value = result_and_then (λ v. ok_or v WrongKind) (value_in kind value)
 
--- the value of a term there: a token of any length, or else a value of the field
+-- the value of a term there: in a text field a token of any length, and else a value of the field
 abbrev pub term_value : Kind → Data → Result FieldValue Refusal
 term_value kinds.Text (string token) = Ok (values.Text token)
+term_value kinds.Text value = Err WrongKind
 term_value kind value = some_value_in kind value
 
 -- the term that a JSON value is in the field of this number
@@ -49,7 +50,7 @@ term_of schema name value =
 
 -- whether a term fits a schema: its value is of its field's kind
 abbrev pub term_fits : List Field → Term → Bool
-term_fits schema term = option_map_or (λ kind. is_of_kind kind term.value) (kind_at schema term.field) false
+term_fits schema term = option_map_or (λ kind. is_term_of kind term.value) (kind_at schema term.field) false
 
 -- whether an operation fits a schema
 abbrev pub op_fits : List Field → Op → Bool
@@ -57,13 +58,14 @@ op_fits schema (Add document) = fits schema document
 op_fits schema (Delete term) = term_fits schema term
 op_fits schema DeleteAll = true
 
--- a text has a token
-abbrev pub has_token : List ℕ → List ℕ → Bool
-has_token text token = list_any (λ t. bytes_eq t.1 token) (tokens text)
+-- one of these tokens, which stand after their numbers, is this one
+abbrev pub has_token : List (ℕ × List ℕ) → List ℕ → Bool
+has_token ts token = list_any (λ t. bytes_eq t.1 token) ts
 
--- a value of a field of this kind has a term: a text has it as a token, a keyword is it, a number is it
+-- a value of a field of this kind has a term: a text or a list of texts has it as a token, a keyword is it, a number is it
 abbrev pub value_has : Kind → FieldValue → FieldValue → Bool
-value_has kinds.Text (values.Text text) (values.Text token) = has_token text token
+value_has kinds.Text (values.Text text) (values.Text token) = has_token (tokens text) token
+value_has kinds.Text (values.Texts texts) (values.Text token) = has_token (tokens_of_texts 0 texts) token
 value_has kinds.Keyword (values.Text text) (values.Text whole) = bytes_eq text whole
 value_has kinds.U64 (values.Number (numbers.U64 n)) (values.Number (numbers.U64 m)) = n == m
 value_has kinds.I64 (values.Number (numbers.I64 n)) (values.Number (numbers.I64 m)) = int_eq n m

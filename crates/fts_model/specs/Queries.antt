@@ -8,7 +8,7 @@ use Rattle.std.specs.Option.{option_map_or}
 use Rattle.std.specs.Str.{bytes_eq}
 use Rattle.std.specs.declared.ops.Bound.{Bound}
 use Rattle.std.specs.declared.ops.Bound.TheVariants.{Included, Excluded, Unbounded}
-use Rattle.fts_text.specs.Tokens.{tokens}
+use Rattle.fts_text.specs.Tokens.{tokens, tokens_of_texts}
 use Rattle.fts_base.specs.declared.refusal.Refusal.{Refusal}
 use Rattle.fts_base.specs.declared.refusal.Refusal.TheVariants.{UnknownField, NotANumberField, BadLimit}
 use Rattle.fts_model.specs.declared.schema.Kind.{Kind}
@@ -24,7 +24,7 @@ use Rattle.fts_model.specs.declared.query.Top.{Top}
 use Rattle.fts_model.specs.declared.query.Request.{Request}
 use Rattle.fts_base.specs.Results.{result_and_then, result_map}
 use Rattle.fts_model.specs.Schemas.{field_named, holds_numbers, is_ordered}
-use Rattle.fts_model.specs.Documents.{DocumentValue, value_in_field, is_of_kind}
+use Rattle.fts_model.specs.Documents.{DocumentValue, value_in_field, is_term_of}
 use Rattle.fts_model.specs.Operations.{has, kind_at, term_fits}
 use Rattle.fts_model.specs.QueryValues.{QueryValue, every, nothing, term, phrase, range, boolean, QueryValues}
 use Rattle.fts_model.specs.QueryValues.{no_queries, queries}
@@ -37,21 +37,22 @@ stands_with ts member token other = list_any (λ t. (t.0 + member.0 == token.0 +
 abbrev pub leads : List (ℕ × List ℕ) → ℕ × List ℕ → List (ℕ × List ℕ) → ℕ × List ℕ → Bool
 leads ts first others token = bytes_eq token.1 first.1 && list_all (stands_with ts first token) others
 
--- a phrase stands in a text: some token leads its pattern
-abbrev pub phrase_in : List ℕ → List (ℕ × List ℕ) → Bool
-phrase_in text [] = true
-phrase_in text (first ∷ others) = list_any (leads (tokens text) first others) (tokens text)
+-- a phrase stands among tokens: some token leads its pattern
+abbrev pub phrase_in : List (ℕ × List ℕ) → List (ℕ × List ℕ) → Bool
+phrase_in ts [] = true
+phrase_in ts (first ∷ others) = list_any (leads ts first others) ts
 
 -- for some whole number, below 0 or not, each member is a token whose position is that number and the member's offset
 -- together
-abbrev pub PhraseIn : List ℕ → List (ℕ × List ℕ) → Type 0
-PhraseIn text pattern =
+abbrev pub PhraseIn : List (ℕ × List ℕ) → List (ℕ × List ℕ) → Type 0
+PhraseIn ts pattern =
     (shift : ℤ) ×
-    All (λ m. (position : ℕ) × (pos position ≡ shift +ℤ pos m.0) × Contains (tokens text) (position, m.1)) pattern
+    All (λ m. (position : ℕ) × (pos position ≡ shift +ℤ pos m.0) × Contains ts (position, m.1)) pattern
 
 -- a value has a phrase
 abbrev pub value_has_phrase : List (ℕ × List ℕ) → FieldValue → Bool
-value_has_phrase pattern (values.Text text) = phrase_in text pattern
+value_has_phrase pattern (values.Text text) = phrase_in (tokens text) pattern
+value_has_phrase pattern (values.Texts texts) = phrase_in (tokens_of_texts 0 texts) pattern
 value_has_phrase pattern (values.Number n) = false
 
 -- one number is below another of its kind, or not above it
@@ -75,15 +76,13 @@ text_le a b = is_le (slice_cmp nat_cmp a b)
 -- one value is below another of its kind, or not above it: a number, or a text in the order of bytes
 abbrev pub value_lt : FieldValue → FieldValue → Bool
 value_lt (values.Text a) (values.Text b) = text_lt a b
-value_lt (values.Text a) (values.Number m) = false
-value_lt (values.Number n) (values.Text b) = false
 value_lt (values.Number n) (values.Number m) = number_lt n m
+value_lt a b = false
 
 abbrev pub value_le : FieldValue → FieldValue → Bool
 value_le (values.Text a) (values.Text b) = text_le a b
-value_le (values.Text a) (values.Number m) = false
-value_le (values.Number n) (values.Text b) = false
 value_le (values.Number n) (values.Number m) = number_le n m
+value_le a b = false
 
 -- a lower and an upper bound admit a value
 abbrev pub admits_from : Bound FieldValue → FieldValue → Bool
@@ -139,8 +138,8 @@ holds_phrases kind = false
 
 -- whether a bound is one of a field of this kind
 abbrev pub is_bound_of : Kind → Bound FieldValue → Bool
-is_bound_of kind (Included bound) = is_of_kind kind bound
-is_bound_of kind (Excluded bound) = is_of_kind kind bound
+is_bound_of kind (Included bound) = is_term_of kind bound
+is_bound_of kind (Excluded bound) = is_term_of kind bound
 is_bound_of kind Unbounded = true
 
 -- whether a range fits fields of this kind

@@ -1,13 +1,16 @@
 // Documents: a value, or none, for each field of a schema.
 ghost use Rattle.std.specs.Prelude.{◌≡◌, ◌<◌, ◌≤◌, List, ℕ, Some, None, Ok, Err, IfSome, IfOk, IfErr, IsErrOf, OnOk};
-ghost use Rattle.std.specs.Prelude.{map, length, slice_get, unwrap_or, option_map, option_copied};
+ghost use Rattle.std.specs.Prelude.{◌++◌, ◌∷◌, [], map, length, slice_get, unwrap_or, option_map, option_copied};
 ghost use Rattle.std.specs.Arc.{arc_value};
 ghost use Rattle.std.specs.List.{find};
-ghost use Rattle.serde_json.specs.View.{view, members_view};
+ghost use Rattle.serde_json.specs.View.{items_of, items_view, view, members_view};
 ghost use Rattle.fts_base.specs.Results.{Gives, error_if_err};
-ghost use Rattle.serde_json.specs.Data.{object, no_members};
+ghost use Rattle.serde_json.specs.Data.{array, object, no_members, string};
 ghost use Rattle.fts_model.specs.Schemas.{schema_fault, is_named};
-ghost use Rattle.fts_model.specs.Documents.{value_in, value_at, members_fault, member_fault, document_of, data_of};
+ghost use Rattle.fts_model.specs.Documents.{list_in, strings_in, value_in, value_at};
+ghost use Rattle.fts_model.specs.Internals.Lists.{bytes_behind};
+ghost use Rattle.fts_model.specs.declared.schema.Kind.TheVariants as Kind;
+ghost use Rattle.fts_model.specs.Documents.{members_fault, member_fault, document_of, data_of};
 ghost use Rattle.fts_model.specs.Documents.{with_value, with_values, json_of, CanHave, AreValuesOf, IsDocument};
 ghost use Rattle.fts_model.specs.Documents.{may_stand, fits_fields, fits, value_in_field};
 ghost use Rattle.fts_model.specs.Shorts.{IsShort};
@@ -15,6 +18,7 @@ ghost use Rattle.fts_base.specs.declared.refusal.Refusal.TheVariants.{Memory};
 
 use crate::schema::{Field, Kind, Schema};
 use crate::text::Text;
+use crate::texts::Texts;
 use crate::value::{FieldValue, Number};
 use fts_base::Refusal;
 use serde_json::{Map, Value};
@@ -25,8 +29,38 @@ use std::sync::Arc;
 /// The most bytes of a text.
 const LONGEST_TEXT: usize = 1_048_576;
 
+/// The most texts of a list.
+const MOST_TEXTS: usize = 1_024;
+
 /// The most bytes of a keyword.
 const LONGEST_KEYWORD: usize = 256;
+
+/// How many bytes the texts of a list have together, if each of its members is a text.
+fn bytes_of(items: &[Value]) -> Option<usize>
+    ensures { result ≡ bytes_behind 0 (items_view items.now) }
+{
+    let mut bytes = 0usize;
+    for item in items {
+        bytes = bytes.saturating_add(item.as_str()?.len());
+    }
+    Some(bytes)
+}
+
+/// What is wrong with a JSON array in a text field.
+fn fault_of_list(items: &[Value]) -> Option<Refusal>
+    ensures { result ≡ error_if_err (list_in Kind.Text (strings_in (items_view items.now))) }
+{
+    let Some(bytes) = bytes_of(items) else {
+        return Some(Refusal::WrongKind);
+    };
+    if items.len() > MOST_TEXTS {
+        return Some(Refusal::TooManyTexts);
+    }
+    if bytes > LONGEST_TEXT {
+        return Some(Refusal::TextTooLong);
+    }
+    None
+}
 
 /// What is wrong with a JSON value in a field of this kind.
 pub(crate) fn fault_of_value(kind: Kind, json: &Value) -> Option<Refusal>
@@ -44,6 +78,12 @@ pub(crate) fn fault_of_value(kind: Kind, json: &Value) -> Option<Refusal>
             Kind::U64 | Kind::I64 => Some(Refusal::WrongKind),
         };
     }
+    if let Some(items) = json.as_array() {
+        return match kind {
+            Kind::Text => fault_of_list(items),
+            Kind::Keyword | Kind::U64 | Kind::I64 => Some(Refusal::WrongKind),
+        };
+    }
     let Some(number) = json.as_number() else {
         return Some(Refusal::WrongKind);
     };
@@ -53,6 +93,42 @@ pub(crate) fn fault_of_value(kind: Kind, json: &Value) -> Option<Refusal>
         Kind::I64 => number.is_i64(),
     };
     if fits { None } else { Some(Refusal::WrongKind) }
+}
+
+/// The texts of a JSON array of texts, in one block of memory.
+fn texts_of(alloc: Global, items: &[Value]) -> Result<Texts, AllocError>
+    ensures { IfOk result (λ texts. (ts : List (List ℕ)) →
+        strings_in (items_view items.now) ≡ Some ts → texts ≡ ts) }
+{
+    let bytes = bytes_of(items).unwrap_or(0);
+    let mut texts = Texts::with_capacity(alloc, items.len(), bytes)?;
+    for item in items {
+        push_text(&mut texts, item)?;
+    }
+    Ok(texts)
+}
+
+/// Puts a JSON string behind other texts.
+fn push_text(texts: &mut Texts, json: &Value) -> Result<(), AllocError>
+    ensures { OnOk result ((text : List ℕ) → view json.now ≡ string text →
+        texts.new ≡ texts.old ++ text ∷ []) }
+{
+    match json.as_str() {
+        Some(text) => texts.push(text),
+        None => Ok(()),
+    }
+}
+
+/// The value that a JSON array without a fault is in a text field.
+fn list_of(alloc: Global, items: &[Value]) -> Result<Option<FieldValue>, AllocError>
+    requires { error_if_err (list_in Kind.Text (strings_in (items_view items.now))) ≡ None }
+    ensures value { IfOk result (λ value. list_in Kind.Text (strings_in (items_view items.now)) ≡ Ok value) }
+    ensures in_range { IfOk result (λ value. CanHave Kind.Text value) }
+{
+    if items.is_empty() {
+        return Ok(None);
+    }
+    Ok(Some(FieldValue::Texts(texts_of(alloc, items)?)))
 }
 
 /// The value that a JSON value is in a field of this kind.
@@ -68,6 +144,9 @@ pub(crate) fn value_of(
     if let Some(text) = json.as_str() {
         let text = Text::new(String::from_str(alloc, text)?);
         return Ok(Some(FieldValue::Text(text)));
+    }
+    if let Some(items) = json.as_array() {
+        return list_of(alloc, items);
     }
     let Some(number) = json.as_number() else {
         return Ok(None);
@@ -186,8 +265,10 @@ impl Document {
     ///
     /// It is refused as `NotAnObject`, or else by the first fault of its members, which are looked
     /// at in the order of their names' bytes: `UnknownField`, `WrongKind` (a text or keyword field
-    /// takes a string, a `u64` or `i64` field a whole number in its range; any takes null, which is
-    /// no value), `TextTooLong` (over 1,048,576 bytes) or `KeywordTooLong` (over 256 bytes).
+    /// takes a string, a text field also a list of strings, a `u64` or `i64` field a whole number in
+    /// its range; any takes null, which is no value, as is an empty list), `TooManyTexts` (over 1,024
+    /// in a list), `TextTooLong` (over 1,048,576 bytes, those of a list together) or `KeywordTooLong`
+    /// (over 256 bytes).
     pub fn from_json(alloc: Global, schema: &Schema, json: &Value) -> Result<Document, Refusal>
         ensures document { Gives (λ document. document) result
             (document_of schema.now (view json.now)) }
@@ -257,12 +338,24 @@ impl Clone for Document {
     }
 }
 
+/// Texts as a JSON array.
+fn json_of_texts(alloc: Global, texts: &Texts) -> Result<Value, AllocError>
+    ensures { IfOk result (λ json. view json ≡ array (items_of (map string texts.now))) }
+{
+    let mut items = Vec::with_capacity(alloc, texts.len())?;
+    for number in 0..texts.len() {
+        items.push(Value::String(String::from_str(alloc, texts.get(number))?))?;
+    }
+    Ok(Value::Array(items))
+}
+
 /// A value as JSON.
 pub(crate) fn json_of_value(alloc: Global, value: &FieldValue) -> Result<Value, AllocError>
     ensures { IfOk result (λ json. view json ≡ data_of value.now) }
 {
     Ok(match value {
         FieldValue::Text(text) => Value::String(String::from_str(alloc, text.as_str())?),
+        FieldValue::Texts(texts) => json_of_texts(alloc, texts)?,
         FieldValue::Number(Number::U64(n)) => Value::from(*n),
         FieldValue::Number(Number::I64(n)) => Value::from(*n),
     })

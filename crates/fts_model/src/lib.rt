@@ -27,6 +27,7 @@ mod operation;
 mod query;
 mod schema;
 mod text;
+mod texts;
 mod value;
 
 pub use answer::{Answer, Hit};
@@ -38,4 +39,5 @@ pub use operation::{Op, Stamp, Stamped, Term};
 pub use query::{Order, Query, Request, Top};
 pub use schema::{Field, Kind, Schema};
 pub use text::Text;
+pub use texts::Texts;
 pub use value::{FieldValue, GroupValue, Number};

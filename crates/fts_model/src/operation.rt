@@ -1,7 +1,8 @@
 // What is done to an index: documents are added, and those with a term are deleted.
-ghost use Rattle.std.specs.Prelude.{◌≡◌, Err, IsErrOf, option_copied};
+ghost use Rattle.std.specs.Prelude.{◌≡◌, ◌≢◌, Err, IsErrOf, option_copied};
 ghost use Rattle.serde_json.specs.View.{view};
 ghost use Rattle.fts_base.specs.Results.{Gives};
+ghost use Rattle.fts_model.specs.declared.schema.Kind.TheVariants as kinds;
 ghost use Rattle.fts_model.specs.Operations.{kind_at, some_value_in, term_value};
 
 use crate::document::{Document, fault_of_value, value_of};
@@ -22,8 +23,9 @@ pub(crate) fn kind_at(schema: &Schema, field: usize) -> Option<Kind>
     Some(schema.fields().get(field)?.kind)
 }
 
-/// The value that a JSON value is in a field of this kind, where null is none.
+/// The value that a JSON value is in a keyword or number field, where null is none.
 fn some_value_of(alloc: Global, kind: Kind, json: &Value) -> Result<FieldValue, Refusal>
+    requires { kind ≢ kinds.Text }
     ensures value { Gives (λ value. value) result (some_value_in kind (view json.now)) }
     ensures refused { (fault : Refusal) →
         some_value_in kind (view json.now) ≡ Err fault → IsErrOf result fault }
@@ -101,13 +103,13 @@ impl Term {
         Ok(Term { field, value })
     }
 
-    /// Whether the value is of its field's kind.
+    /// Whether the value is a term of its field's kind.
     pub fn fits(&self, schema: &Schema) -> bool
         ensures { result ≡ term_fits schema.now self.now }
     {
         match kind_at(schema, self.field) {
             None => false,
-            Some(kind) => kind.holds(&self.value),
+            Some(kind) => kind.has_term(&self.value),
         }
     }
 }

@@ -27,7 +27,7 @@ fn bound_fits(kind: Kind, bound: &Bound<FieldValue>) -> bool
     ensures { result ≡ is_bound_of kind bound.now }
 {
     match bound {
-        Bound::Included(value) | Bound::Excluded(value) => kind.holds(value),
+        Bound::Included(value) | Bound::Excluded(value) => kind.has_term(value),
         Bound::Unbounded => true,
     }
 }

@@ -30,7 +30,7 @@ pub enum Kind {
 }
 
 impl Kind {
-    ghost use Rattle.fts_model.specs.Documents.{is_of_kind};
+    ghost use Rattle.fts_model.specs.Documents.{is_of_kind, is_term_of};
 
     /// Whether a field of this kind holds numbers.
     pub fn holds_numbers(self) -> bool
@@ -56,6 +56,13 @@ impl Kind {
     /// Whether a field of this kind holds such values.
     pub fn holds(self, value: &FieldValue) -> bool
         ensures { result ≡ is_of_kind self value.now }
+    {
+        matches!((self, value), (Kind::Text, FieldValue::Texts(_))) || self.has_term(value)
+    }
+
+    /// Whether such values are terms of fields of this kind, or bounds: lists of texts are neither.
+    pub fn has_term(self, value: &FieldValue) -> bool
+        ensures { result ≡ is_term_of self value.now }
     {
         matches!(
             (self, value),

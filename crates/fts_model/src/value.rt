@@ -3,6 +3,7 @@ ghost use Rattle.std.specs.Prelude.{◌≡◌};
 ghost use Rattle.fts_model.specs.Answers.{number_cmp};
 
 use crate::text::Text;
+use crate::texts::Texts;
 use std::alloc::AllocError;
 use std::cmp::Ordering;
 
@@ -34,6 +35,8 @@ impl Number {
 pub enum FieldValue {
     /// The value of a text or keyword field.
     Text(Text),
+    /// The texts of a text field that has a list of them. No term and no bound is one.
+    Texts(Texts),
     /// The value of a number field.
     Number(Number),
 }
@@ -53,15 +56,16 @@ impl GroupValue {
     ghost use Rattle.std.specs.Prelude.{◌≡◌, IfOk};
     ghost use Rattle.fts_model.specs.Answers.{group_of, group_cmp};
 
-    /// The value of the group of a field's value.
-    pub fn of(value: &FieldValue) -> Result<GroupValue, AllocError>
+    /// The value of the group of a field's value. A list of texts has none.
+    pub fn of(value: &FieldValue) -> Result<Option<GroupValue>, AllocError>
         ensures { IfOk result (λ group. group ≡ group_of value.now) }
     {
-        match value {
-            FieldValue::Text(text) => Ok(GroupValue::Keyword(text.clone()?)),
-            FieldValue::Number(Number::U64(n)) => Ok(GroupValue::U64(*n)),
-            FieldValue::Number(Number::I64(n)) => Ok(GroupValue::I64(*n)),
-        }
+        Ok(match value {
+            FieldValue::Text(text) => Some(GroupValue::Keyword(text.clone()?)),
+            FieldValue::Texts(_) => None,
+            FieldValue::Number(Number::U64(n)) => Some(GroupValue::U64(*n)),
+            FieldValue::Number(Number::I64(n)) => Some(GroupValue::I64(*n)),
+        })
     }
 
     /// How a value stands to another: numbers by their values, keywords by their bytes; one of a `u64` field before one of

@@ -1,0 +1,115 @@
+// The texts of a list, one behind the other in one block of memory.
+ghost use Rattle.std.specs.Prelude.{◌≡◌, [], length, slice_index_or};
+ghost use Rattle.std.specs.Cmp.{partial_equiv_from_equiv};
+ghost use Rattle.std.specs.Cmp.Lexicographic.{lists_equiv, nat_list_eq_equiv, pointwise};
+ghost use Rattle.std.specs.Str.{bytes_eq};
+
+use fts_base::start_of;
+use std::alloc::{AllocError, Global};
+use std::marker::Model;
+
+/// A list of texts. Contracts see the list of their UTF-8 bytes.
+#[derive(Debug, Drop)]
+pub struct Texts {
+    joined: String,
+    /// Where each text ends.
+    ends: Vec<usize>,
+}
+
+impl Model for Texts {
+    ghost use Rattle.std.specs.Prelude.{List, ℕ, string_bytes};
+    ghost use Rattle.fts_base.specs.Pieces.{pieces};
+    ghost use Rattle.fts_model.specs.Internals.Joined.{AreTextEnds};
+
+    ghost Value = { List (List ℕ) };
+
+    ghost view = { λ t. pieces 0 (string_bytes t.joined) t.ends.items };
+
+    ghost invariant = { λ t. AreTextEnds (string_bytes t.joined) t.ends.items };
+}
+
+impl Texts {
+    ghost use Rattle.std.specs.Prelude.{◌≡◌, ◌++◌, ◌∷◌, [], IfOk, OnErr, OnOk, length, nat_eq, slice_index_or};
+
+    /// No texts yet, with room for so many of so many bytes together.
+    pub fn with_capacity(alloc: Global, count: usize, bytes: usize) -> Result<Texts, AllocError>
+        ensures { IfOk result (λ texts. texts ≡ []) }
+    {
+        let joined = String::with_capacity(alloc, bytes)?;
+        let ends = Vec::with_capacity(alloc, count)?;
+        Ok(Texts { joined, ends })
+    }
+
+    /// How many texts there are.
+    pub fn len(&self) -> usize
+        ensures { result ≡ length self.now }
+    {
+        self.ends.len()
+    }
+
+    /// Whether there are none.
+    pub fn is_empty(&self) -> bool
+        ensures { result ≡ nat_eq (length self.now) 0 }
+    {
+        self.len() == 0
+    }
+
+    /// The text of this number, and no bytes where there is none.
+    pub fn get(&self, number: usize) -> &str
+        ensures { result.now ≡ slice_index_or self.now number [] }
+    {
+        if number >= self.ends.len() {
+            return "";
+        }
+        let start = start_of(&self.ends, number);
+        let end = self.ends[number];
+        &self.joined[start..end]
+    }
+
+    /// Puts a text behind the others.
+    pub fn push(&mut self, text: &str) -> Result<(), AllocError>
+        ensures ok { OnOk result (self.new ≡ self.old ++ text.now ∷ []) }
+        ensures err { OnErr result (self.new ≡ self.old) }
+    {
+        let len = self.joined.len();
+        self.joined.push_str(text)?;
+        if self.ends.push(self.joined.len()).is_err() {
+            self.joined.truncate(len);
+            return Err(AllocError);
+        }
+        Ok(())
+    }
+}
+
+impl Clone for Texts {
+    ghost is_clone = { λ t u. u ≡ t };
+
+    fn clone(&self) -> Result<Self, AllocError> {
+        Ok(Texts {
+            joined: self.joined.clone()?,
+            ends: self.ends.clone()?,
+        })
+    }
+}
+
+impl PartialEq for Texts {
+    ghost eq = { pointwise bytes_eq };
+
+    ghost laws = { partial_equiv_from_equiv (lists_equiv nat_list_eq_equiv) };
+
+    fn eq(&self, other: &Self) -> bool {
+        if self.len() != other.len() {
+            return false;
+        }
+        for number in 0..self.len() {
+            if self.get(number) != other.get(number) {
+                return false;
+            }
+        }
+        true
+    }
+}
+
+impl Eq for Texts {
+    ghost laws = { lists_equiv nat_list_eq_equiv };
+}
