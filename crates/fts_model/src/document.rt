@@ -338,13 +338,20 @@ impl Clone for Document {
     }
 }
 
+/// A text as a JSON string.
+fn json_of_text(alloc: Global, text: &str) -> Result<Value, AllocError>
+    ensures { IfOk result (λ json. view json ≡ string text.now) }
+{
+    Ok(Value::String(String::from_str(alloc, text)?))
+}
+
 /// Texts as a JSON array.
 fn json_of_texts(alloc: Global, texts: &Texts) -> Result<Value, AllocError>
     ensures { IfOk result (λ json. view json ≡ array (items_of (map string texts.now))) }
 {
     let mut items = Vec::with_capacity(alloc, texts.len())?;
     for number in 0..texts.len() {
-        items.push(Value::String(String::from_str(alloc, texts.get(number))?))?;
+        items.push(json_of_text(alloc, texts.get(number))?)?;
     }
     Ok(Value::Array(items))
 }
@@ -354,7 +361,7 @@ pub(crate) fn json_of_value(alloc: Global, value: &FieldValue) -> Result<Value, 
     ensures { IfOk result (λ json. view json ≡ data_of value.now) }
 {
     Ok(match value {
-        FieldValue::Text(text) => Value::String(String::from_str(alloc, text.as_str())?),
+        FieldValue::Text(text) => json_of_text(alloc, text.as_str())?,
         FieldValue::Texts(texts) => json_of_texts(alloc, texts)?,
         FieldValue::Number(Number::U64(n)) => Value::from(*n),
         FieldValue::Number(Number::I64(n)) => Value::from(*n),

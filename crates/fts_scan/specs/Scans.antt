@@ -1,8 +1,10 @@
 -- What the steps of the plain search are.
-use Rattle.std.specs.Prelude.{ℕ, suc, ◌+◌, Bool, false, not, List, [], ◌∷◌, if◌then◌else◌, slice_get}
+use Rattle.std.specs.Prelude.{◌≡◌, ℕ, suc, ◌+◌, ◌^◌, ◌<◌, Bool, true, false, not, List, [], ◌∷◌, Option, Some, None, if◌then◌else◌, length, slice_get, sum_by}
 use Rattle.std.specs.List.{list_all, list_any}
 use Rattle.std.specs.Ordering.{match_ordering, is_eq}
 use Rattle.std.specs.Option.{option_map_or}
+use Rattle.fts_scan.specs.declared.strings.Strings.{Strings}
+use Rattle.fts_scan.specs.declared.strings.Strings.TheVariants.{One, Many}
 use Rattle.fts_model.specs.declared.value.GroupValue.{GroupValue}
 use Rattle.fts_model.specs.declared.query.Order.{Order}
 use Rattle.fts_model.specs.declared.answer.Hit.{Hit}
@@ -26,6 +28,20 @@ is_group_at groups place v = option_map_or (λ group. is_eq (group_cmp v group.0
 abbrev pub hit_place : Order → List Hit → Hit → ℕ
 hit_place order [] hit = 0
 hit_place order (other ∷ others) hit = if comes_before order hit other then 0 else suc (hit_place order others hit)
+
+-- the texts of a value of a text field
+abbrev pub strings : Strings → List (List ℕ)
+strings (One text) = text.now ∷ []
+strings (Many texts) = texts.now
+
+-- a number counts the spans of these texts, where the first has the number `first`
+abbrev pub HasRoom : ℕ → List (List ℕ) → Type 0
+HasRoom first texts = first + sum_by (λ text. length text + 1) texts + 2 < 2 ^ 63
+
+-- something was found among the tokens of a text, or it wasn't, and the text behind it begins at this number
+abbrev pub IsSought : Bool → ℕ → Option ℕ → Type 0
+IsSought found next None = found ≡ true
+IsSought found next (Some n) = (found ≡ false) × (n ≡ next)
 
 -- whether a test finds one of these to be `wanted`
 abbrev pub one_is : {X : Type 0} → Bool → (X → Bool) → List X → Bool

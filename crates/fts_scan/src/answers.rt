@@ -71,7 +71,7 @@ fn number_in_field(document: &Document, field: usize) -> Option<Number>
 {
     match document.value(field)? {
         FieldValue::Number(number) => Some(*number),
-        FieldValue::Text(_) => None,
+        FieldValue::Text(_) | FieldValue::Texts(_) => None,
     }
 }
 
@@ -122,9 +122,12 @@ fn count_hit(
         ≡ fold (count_one group_cmp) groups.old.items
         (option_to_list (group_in hit.now.value field))) }
 {
-    match hit.value.value(field) {
+    let Some(value) = hit.value.value(field) else {
+        return Ok(());
+    };
+    match GroupValue::of(value)? {
         None => Ok(()),
-        Some(value) => count_value(groups, GroupValue::of(value)?),
+        Some(value) => count_value(groups, value),
     }
 }
 

@@ -57,11 +57,11 @@ pub fn each_document_alive_was_added_and_not_struck()
         × All (λ op. document.stamp < op.stamp → strikes schema op.value document.value ≡ false) ops) }
 {}
 
-/// A phrase stands in a text where each of its members is a token, at its offset from some one
-/// position, which may be before the text.
+/// A phrase stands among tokens where each of its members is a token, at its offset from some one
+/// position, which may be before the first.
 pub fn phrase_stands_at_its_offsets()
-    ensures { (text : List ℕ) (pattern : List (ℕ × List ℕ)) →
-        IsTrue (phrase_in text pattern) ↔ PhraseIn text pattern }
+    ensures { (tokens : List (ℕ × List ℕ)) (pattern : List (ℕ × List ℕ)) →
+        IsTrue (phrase_in tokens pattern) ↔ PhraseIn tokens pattern }
 {}
 
 /// The groups that are folded hit by hit are the groups.

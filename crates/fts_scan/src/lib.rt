@@ -17,6 +17,7 @@ mod answers;
 pub mod laws;
 mod matcher;
 mod operations;
+mod strings;
 mod terms;
 
 pub use answers::answer;

@@ -1,16 +1,18 @@
 // Whether a query matches a document. A text is gone over once for each term or member of a phrase.
-ghost use Rattle.std.specs.Prelude.{◌≡◌, ◌+◌, ◌==◌, ◌&&◌, IfOk, Ok};
+ghost use Rattle.std.specs.Prelude.{◌≡◌, ◌+◌, ◌^◌, ◌<◌, ◌≤◌, ◌==◌, ◌&&◌, ℕ, List, IfOk, IfSome, Ok, length};
 ghost use Rattle.std.specs.List.{list_any};
 ghost use Rattle.std.specs.Str.{bytes_eq};
 ghost use Rattle.fts_base.specs.Results.{Gives};
-ghost use Rattle.fts_text.specs.Tokens.{tokens};
+ghost use Rattle.fts_text.specs.Tokens.{following, tokens_from, tokens_of_texts};
 ghost use Rattle.fts_text.specs.Places.{IsPlaceIn, token_at};
 ghost use Rattle.fts_model.specs.QueryValues.{query_value};
 ghost use Rattle.fts_model.specs.Queries.{stands_with, leads, phrase_in, value_has_phrase, number_lt, number_le};
 ghost use Rattle.fts_model.specs.Queries.{text_lt, text_le, value_lt, value_le};
 ghost use Rattle.fts_model.specs.Queries.{admits_from, admits_to, matches};
-ghost use Rattle.fts_scan.specs.Scans.{one_is};
+ghost use Rattle.fts_model.specs.Shorts.{IsShort};
+ghost use Rattle.fts_scan.specs.Scans.{HasRoom, IsSought, one_is, strings};
 
+use crate::strings::Strings;
 use crate::terms::{document_has, is_token};
 use fts_model::{Document, FieldValue, Number, Query, Refusal, Schema, Text};
 use fts_text::{Token, Tokens};
@@ -26,7 +28,8 @@ fn is_token_at(
     token: &str,
     scratch: &mut String,
 ) -> Result<bool, AllocError>
-    requires { IsPlaceIn text.now place }
+    requires place { IsPlaceIn text.now place }
+    requires near { place.position < 2 ^ 63 }
     ensures { IfOk result
         (λ same. same
         ≡ (((token_at text.now place).0 + offset == sum)
@@ -38,78 +41,147 @@ fn is_token_at(
     is_token(text, place, token, scratch)
 }
 
-/// Whether another member of a pattern is a token, as far behind a member's place as their offsets
+/// Looks for a token of a text whose first span has this number, whose position with an offset makes this sum. Where it
+/// isn't there, the text behind begins at the number that comes back.
+fn seek_token_at(
+    text: &str,
+    first: usize,
+    offset: u32,
+    sum: usize,
+    token: &str,
+    scratch: &mut String,
+) -> Result<Option<usize>, AllocError>
+    requires { first + length text.now + 2 < 2 ^ 63 }
+    ensures sought { IfOk result
+        (IsSought (list_any (λ t. (t.0 + offset == sum) && bytes_eq t.1 token.now)
+        (tokens_from first text.now)) (following first text.now)) }
+    ensures near { IfOk result (λ next. IfSome next (λ n. n ≤ first + length text.now + 1)) }
+{
+    let mut tokens = Tokens::starting(text, first);
+    while let Some(place) = tokens.next_token() {
+        if is_token_at(text, place, offset, sum, token, scratch)? {
+            return Ok(None);
+        }
+    }
+    Ok(Some(tokens.following()))
+}
+
+/// Whether another member of a pattern is a token of these texts, as far behind the position of a member as their offsets
 /// are apart.
 fn stands_with(
-    text: &str,
+    texts: Strings<'_>,
     member: &(u32, Text),
-    place: Token,
+    position: usize,
     other: &(u32, Text),
     scratch: &mut String,
 ) -> Result<bool, AllocError>
-    requires { IsPlaceIn text.now place }
+    requires room { HasRoom 0 (strings texts) }
+    requires near { position < 2 ^ 63 }
     ensures { IfOk result
-        (λ stands. stands
-        ≡ stands_with (tokens text.now) member.now (token_at text.now place) other.now) }
+        (λ stands. (bytes : List ℕ) → stands
+        ≡ stands_with (tokens_of_texts 0 (strings texts)) member.now (position, bytes) other.now) }
 {
-    let sum = place.position + other.0 as usize;
-    for there in Tokens::new(text) {
-        if is_token_at(text, there, member.0, sum, other.1.as_str(), scratch)? {
-            return Ok(true);
+    let sum = position + other.0 as usize;
+    let mut first = 0;
+    for number in 0..texts.len() {
+        let text = texts.get(number);
+        match seek_token_at(text, first, member.0, sum, other.1.as_str(), scratch)? {
+            None => return Ok(true),
+            Some(next) => first = next,
         }
     }
     Ok(false)
 }
 
-/// Whether the token at a place is the first member of a pattern, and the others stand with it.
+/// Whether the token at a place of one of these texts is the first member of a pattern, and the others stand with it.
 fn leads(
+    texts: Strings<'_>,
     text: &str,
+    place: Token,
     first: &(u32, Text),
     others: &[(u32, Text)],
-    place: Token,
     scratch: &mut String,
 ) -> Result<bool, AllocError>
-    requires { IsPlaceIn text.now place }
+    requires room { HasRoom 0 (strings texts) }
+    requires place { IsPlaceIn text.now place }
+    requires near { place.position < 2 ^ 63 }
     ensures { IfOk result
-        (λ found. found ≡ leads (tokens text.now) first.now others.now (token_at text.now place)) }
+        (λ found. found ≡ leads (tokens_of_texts 0 (strings texts)) first.now others.now
+        (token_at text.now place)) }
 {
     if !is_token(text, place, first.1.as_str(), scratch)? {
         return Ok(false);
     }
     for other in others {
-        if !stands_with(text, first, place, other, scratch)? {
+        if !stands_with(texts, first, place.position, other, scratch)? {
             return Ok(false);
         }
     }
     Ok(true)
 }
 
-/// Whether some token of a text is the first member of a pattern, and the others stand with it.
-fn any_leads(
+/// Looks in one of these texts, whose first span has this number, for a token that is the first member of a pattern, and
+/// the others stand with it. Where none is there, the text behind begins at the number that comes back.
+fn seek_lead(
+    texts: Strings<'_>,
     text: &str,
+    start: usize,
+    first: &(u32, Text),
+    others: &[(u32, Text)],
+    scratch: &mut String,
+) -> Result<Option<usize>, AllocError>
+    requires room { HasRoom 0 (strings texts) }
+    requires near { start + length text.now + 2 < 2 ^ 63 }
+    ensures sought { IfOk result
+        (IsSought (list_any (leads (tokens_of_texts 0 (strings texts)) first.now others.now)
+        (tokens_from start text.now)) (following start text.now)) }
+    ensures near { IfOk result (λ next. IfSome next (λ n. n ≤ start + length text.now + 1)) }
+{
+    let mut tokens = Tokens::starting(text, start);
+    while let Some(place) = tokens.next_token() {
+        if leads(texts, text, place, first, others, scratch)? {
+            return Ok(None);
+        }
+    }
+    Ok(Some(tokens.following()))
+}
+
+/// Whether some token of these texts is the first member of a pattern, and the others stand with it.
+fn any_leads(
+    texts: Strings<'_>,
     first: &(u32, Text),
     others: &[(u32, Text)],
     scratch: &mut String,
 ) -> Result<bool, AllocError>
+    requires { HasRoom 0 (strings texts) }
     ensures { IfOk result
         (λ stands. stands
-        ≡ list_any (leads (tokens text.now) first.now others.now) (tokens text.now)) }
+        ≡ list_any (leads (tokens_of_texts 0 (strings texts)) first.now others.now)
+        (tokens_of_texts 0 (strings texts))) }
 {
-    for place in Tokens::new(text) {
-        if leads(text, first, others, place, scratch)? {
-            return Ok(true);
+    let mut start = 0;
+    for number in 0..texts.len() {
+        match seek_lead(texts, texts.get(number), start, first, others, scratch)? {
+            None => return Ok(true),
+            Some(next) => start = next,
         }
     }
     Ok(false)
 }
 
-/// Whether a phrase stands in a text.
-fn has_phrase(text: &str, pattern: &[(u32, Text)], scratch: &mut String) -> Result<bool, AllocError>
-    ensures { IfOk result (λ stands. stands ≡ phrase_in text.now pattern.now) }
+/// Whether a phrase stands in these texts.
+fn has_phrase(
+    texts: Strings<'_>,
+    pattern: &[(u32, Text)],
+    scratch: &mut String,
+) -> Result<bool, AllocError>
+    requires { HasRoom 0 (strings texts) }
+    ensures { IfOk result
+        (λ stands. stands ≡ phrase_in (tokens_of_texts 0 (strings texts)) pattern.now) }
 {
     match pattern {
         [] => Ok(true),
-        [first, others @ ..] => any_leads(text, first, others, scratch),
+        [first, others @ ..] => any_leads(texts, first, others, scratch),
     }
 }
 
@@ -119,10 +191,12 @@ fn value_has_phrase(
     pattern: &[(u32, Text)],
     scratch: &mut String,
 ) -> Result<bool, AllocError>
+    requires { IsShort value.now }
     ensures { IfOk result (λ stands. stands ≡ value_has_phrase pattern.now value.now) }
 {
     match value {
-        FieldValue::Text(text) => has_phrase(text.as_str(), pattern, scratch),
+        FieldValue::Text(text) => has_phrase(Strings::One(text), pattern, scratch),
+        FieldValue::Texts(texts) => has_phrase(Strings::Many(texts), pattern, scratch),
         FieldValue::Number(_) => Ok(false),
     }
 }
@@ -170,8 +244,7 @@ fn value_lt(a: &FieldValue, b: &FieldValue) -> bool
     match (a, b) {
         (FieldValue::Text(a), FieldValue::Text(b)) => text_lt(a.as_str(), b.as_str()),
         (FieldValue::Number(n), FieldValue::Number(m)) => number_lt(*n, *m),
-        (FieldValue::Text(_), FieldValue::Number(_))
-        | (FieldValue::Number(_), FieldValue::Text(_)) => false,
+        (FieldValue::Text(_) | FieldValue::Texts(_) | FieldValue::Number(_), _) => false,
     }
 }
 
@@ -182,8 +255,7 @@ fn value_le(a: &FieldValue, b: &FieldValue) -> bool
     match (a, b) {
         (FieldValue::Text(a), FieldValue::Text(b)) => text_le(a.as_str(), b.as_str()),
         (FieldValue::Number(n), FieldValue::Number(m)) => number_le(*n, *m),
-        (FieldValue::Text(_), FieldValue::Number(_))
-        | (FieldValue::Number(_), FieldValue::Text(_)) => false,
+        (FieldValue::Text(_) | FieldValue::Texts(_) | FieldValue::Number(_), _) => false,
     }
 }
 

@@ -1,10 +1,14 @@
 // Whether a document has a term. Its text is gone over once, and its tokens are folded, one at a time, into one buffer.
-ghost use Rattle.std.specs.Prelude.{◌≡◌, IfOk, Ok};
+ghost use Rattle.std.specs.Prelude.{◌≡◌, ◌+◌, ◌^◌, ◌<◌, ◌≤◌, IfOk, IfSome, Ok, length};
 ghost use Rattle.std.specs.Str.{bytes_eq};
 ghost use Rattle.fts_base.specs.Results.{Gives};
+ghost use Rattle.fts_text.specs.Tokens.{following, tokens_from, tokens_of_texts};
 ghost use Rattle.fts_text.specs.Places.{IsPlaceIn, token_at};
+ghost use Rattle.fts_model.specs.Shorts.{IsShort};
+ghost use Rattle.fts_scan.specs.Scans.{HasRoom, IsSought, strings};
 ghost use Rattle.fts_model.specs.Operations.{has_token, value_has, has};
 
+use crate::strings::Strings;
 use fts_model::{Document, FieldValue, Kind, Number, Refusal, Schema, Term};
 use fts_text::{Token, Tokens, fold_into};
 use std::alloc::{AllocError, Global};
@@ -24,13 +28,38 @@ pub(crate) fn is_token(
     Ok(scratch.as_str() == token)
 }
 
-/// Whether a text has a token.
-fn has_token(text: &str, token: &str, scratch: &mut String) -> Result<bool, AllocError>
-    ensures { IfOk result (λ found. found ≡ has_token text.now token.now) }
+/// Looks for a token in a text whose first span has this number. Where it isn't there, the text behind begins at the
+/// number that comes back.
+fn seek_token(
+    text: &str,
+    first: usize,
+    token: &str,
+    scratch: &mut String,
+) -> Result<Option<usize>, AllocError>
+    requires { first + length text.now + 2 < 2 ^ 63 }
+    ensures sought { IfOk result
+        (IsSought (has_token (tokens_from first text.now) token.now) (following first text.now)) }
+    ensures near { IfOk result (λ next. IfSome next (λ n. n ≤ first + length text.now + 1)) }
 {
-    for place in Tokens::new(text) {
+    let mut tokens = Tokens::starting(text, first);
+    while let Some(place) = tokens.next_token() {
         if is_token(text, place, token, scratch)? {
-            return Ok(true);
+            return Ok(None);
+        }
+    }
+    Ok(Some(tokens.following()))
+}
+
+/// Whether one of these texts has a token.
+fn has_token(texts: Strings<'_>, token: &str, scratch: &mut String) -> Result<bool, AllocError>
+    requires { HasRoom 0 (strings texts) }
+    ensures { IfOk result (λ found. found ≡ has_token (tokens_of_texts 0 (strings texts)) token.now) }
+{
+    let mut first = 0;
+    for number in 0..texts.len() {
+        match seek_token(texts.get(number), first, token, scratch)? {
+            None => return Ok(true),
+            Some(next) => first = next,
         }
     }
     Ok(false)
@@ -60,19 +89,23 @@ fn value_has(
     term: &FieldValue,
     scratch: &mut String,
 ) -> Result<bool, AllocError>
+    requires { IsShort value.now }
     ensures { IfOk result (λ found. found ≡ value_has kind value.now term.now) }
 {
     match (value, term) {
         (FieldValue::Text(text), FieldValue::Text(term)) => match kind {
-            Kind::Text => has_token(text.as_str(), term.as_str(), scratch),
+            Kind::Text => has_token(Strings::One(text), term.as_str(), scratch),
             Kind::Keyword => Ok(text == term),
             Kind::U64 | Kind::I64 => Ok(false),
+        },
+        (FieldValue::Texts(texts), FieldValue::Text(term)) => match kind {
+            Kind::Text => has_token(Strings::Many(texts), term.as_str(), scratch),
+            Kind::Keyword | Kind::U64 | Kind::I64 => Ok(false),
         },
         (FieldValue::Number(number), FieldValue::Number(term)) => {
             Ok(number_has(kind, *number, *term))
         }
-        (FieldValue::Text(_), FieldValue::Number(_))
-        | (FieldValue::Number(_), FieldValue::Text(_)) => Ok(false),
+        (FieldValue::Text(_) | FieldValue::Texts(_) | FieldValue::Number(_), _) => Ok(false),
     }
 }
 

@@ -48,7 +48,7 @@ pub struct Tokens<'a> {
 }
 
 impl<'a> Tokens<'a> {
-    ghost use Rattle.std.specs.Prelude.{◌≡◌, ◌+◌, ◌^◌, ◌<◌, length};
+    ghost use Rattle.std.specs.Prelude.{◌≡◌, ◌+◌, ◌^◌, ◌<◌, ◌∷◌, [], MatchOption, length};
     ghost use Rattle.fts_text.specs.Tokens.{following};
     ghost use Rattle.fts_text.specs.Places.{following_left, places, places_from, places_left, YieldsSpan};
 
@@ -96,6 +96,21 @@ impl<'a> Tokens<'a> {
         }
     }
 
+    /// The next token.
+    pub fn next_token(&mut self) -> Option<Token>
+        ensures steps { MatchOption result
+            ((places_left self.old ≡ []) × (places_left self.new ≡ []))
+            (λ token. places_left self.old ≡ token ∷ places_left self.new) }
+        ensures following { following_left self.new ≡ following_left self.old }
+    {
+        while let Some(span) = self.next_span() {
+            if span.end - span.start < LIMIT {
+                return Some(span);
+            }
+        }
+        None
+    }
+
     // The next span, of any length.
     fn next_span(&mut self) -> Option<Token>
         ensures { YieldsSpan self.old result self.new }
@@ -130,12 +145,7 @@ impl Iterator for Tokens<'_> {
     ghost remaining = { item_count places_left };
 
     fn next(&mut self) -> Option<Token> {
-        while let Some(span) = self.next_span() {
-            if span.end - span.start < LIMIT {
-                return Some(span);
-            }
-        }
-        None
+        self.next_token()
     }
 }
 

@@ -14,7 +14,7 @@ loop-number-preserved c =
     let within : n < length texts = omega (arith, c.loop-number-test.true, c.len-number-end.ensures) in
     rw c.in_ok-push.ensures.items
     (items_pushed items _ _
-    ∙ ap (λ (bytes : List ℕ). items_before items (item (string bytes) (items_of (map string (drop (n + 1) texts))))) (c.in_ok-from_str.ensures.ok ∙ c.get.ensures)
+    ∙ ap (λ (d : Data). items_before items (item d (items_of (map string (drop (n + 1) texts))))) (c.in_ok-json_of_text.ensures ∙ ap string c.get.ensures)
     ∙ ap (λ (ts : List (List ℕ)). items_before items (items_of (map string ts))) (sym (drop_more texts n [] within))
     ∙ c.loop-number.invariant)
 

@@ -1,9 +1,0 @@
-use Rattle.std.proofs.Common.{◌≡◌, length}
-use Rattle.fts_text.specs.Places.{places_left}
-use Rattle.fts_text.proofs.tokenizer.TokensIterator.next.Given as goal
-
-abbrev pub invariant-loop-span : goal.invariant-loop-span
-invariant-loop-span l = places_left l.self ≡ places_left l.initial.self
-
-abbrev pub decreases-loop-span : goal.decreases-loop-span
-decreases-loop-span l = length l.self.rest.now
