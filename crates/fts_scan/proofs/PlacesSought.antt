@@ -1,40 +1,120 @@
--- A loop over the tokens of a text that looks for one which passes a test.
-use Rattle.std.proofs.Common.{◌≡◌, ℕ, Bool, false, ◌||◌, List, ◌∷◌, map, sym, ap, subst, ◌∙◌, All}
+-- Loops over the tokens of texts that look for one which passes a test.
+use Rattle.std.proofs.Common.{◌≡◌, ◌≤◌, ◌<◌, ◌^◌, ℕ, suc, ◌+◌, Bool, true, false, ◌||◌, List, [], ◌∷◌, ◌++◌, length, map, drop, get_or, refl, sym, ap, subst, ◌∙◌, arith, All, Option, Some, None}
 use Rattle.std.specs.List.{list_any}
+use Rattle.std.specs.Prelude.{sum_by}
 use Rattle.std.specs.Str.{IsUtf8}
+use Rattle.std.proofs.lemmas.List.{drop_all, drop_more}
+use Rattle.std.proofs.lemmas.List.Folds.{list_any-append}
+use Rattle.std.proofs.lemmas.List.Sums.{sum_by-cons}
 use Rattle.fts_text.specs.declared.tokenizer.Token.{Token}
-use Rattle.fts_text.specs.Tokens.{tokens}
-use Rattle.fts_text.specs.Places.{places, token_at, IsPlaceIn}
-use Rattle.fts_text.proofs.StretchLemmas.{All-IsPlaceIn, IsPlaceIn-first, tokens-places}
+use Rattle.fts_text.specs.declared.tokenizer.Tokens.{Tokens}
+use Rattle.fts_text.specs.Tokens.{following, tokens_from, tokens_of_texts}
+use Rattle.fts_text.specs.Places.{places_from, places_left, following_left, token_at, IsPlaceFrom}
+use Rattle.fts_text.proofs.StretchLemmas.{All-IsPlaceFrom, following-le, tokens-places}
+use Rattle.fts_model.specs.Documents.{bytes_of}
+use Rattle.fts_scan.specs.Scans.{HasRoom, IsSought}
 
--- the places that are left stand in the text, and a token passes the test where one that is left does
-pub record Seeks (text : List ℕ) (test : ℕ × List ℕ → Bool) (left : List Token) : Type 0 where
-  pub within : All (IsPlaceIn text) left
-  pub passes : list_any test (map (token_at text) left) ≡ list_any test (tokens text)
+-- what is left of a text: its places stand in it, a token passes the test where one that is left does, and what follows is
+-- known
+pub record Seeks (first : ℕ) (text : List ℕ) (test : ℕ × List ℕ → Bool) (left : Tokens) : Type 0 where
+  pub within : All (IsPlaceFrom first text) (places_left left)
+  pub passes : list_any test (map (token_at text) (places_left left)) ≡ list_any test (tokens_from first text)
+  pub follows : following_left left ≡ following first text
 
 -- at first all places are left
-pub Seeks-start : (text : List ℕ) (test : ℕ × List ℕ → Bool) (left : List Token) → IsUtf8 text → left ≡ places text → Seeks text test left
-Seeks-start text test left utf8 start =
-    let P : List Token → Type 0 = All (IsPlaceIn text) in
+pub Seeks-start : (first : ℕ) (text : List ℕ) (test : ℕ × List ℕ → Bool) (left : Tokens) → IsUtf8 text → places_left left ≡ places_from first text → following_left left ≡ following first text →
+    Seeks first text test left
+Seeks-start first text test left utf8 start follows =
+    let P : List Token → Type 0 = All (IsPlaceFrom first text) in
     record {
-      within = subst P (sym start) (All-IsPlaceIn text utf8);
-      passes = ap (λ ps. list_any test (map (token_at text) ps)) start ∙ ap (list_any test) (tokens-places text utf8);
+      within = subst P (sym start) (All-IsPlaceFrom first text utf8);
+      passes = ap (λ ps. list_any test (map (token_at text) ps)) start ∙ ap (list_any test) (tokens-places first text utf8);
+      follows = follows;
     }
 
 -- the next place stands in the text
-pub Seeks-place : (text : List ℕ) (test : ℕ × List ℕ → Bool) (token : Token) (left rest : List Token) → left ≡ token ∷ rest → Seeks text test left → IsPlaceIn text token
-Seeks-place text test token left rest first s = (IsPlaceIn-first text token left rest first s.within).0
+pub Seeks-place : (first : ℕ) (text : List ℕ) (test : ℕ × List ℕ → Bool) (token : Token) (left rest : Tokens) → places_left left ≡ token ∷ places_left rest → Seeks first text test left →
+    IsPlaceFrom first text token
+Seeks-place first text test token left rest next s =
+    let P : List Token → Type 0 = All (IsPlaceFrom first text) in
+    subst P next s.within 0 token (omega arith)
 
 -- a token passes where the next does, or one behind it
-any_of_first : (text : List ℕ) (test : ℕ × List ℕ → Bool) (token : Token) (left rest : List Token) (b : Bool) → left ≡ token ∷ rest → test (token_at text token) ≡ b →
-    Seeks text test left → (b || list_any test (map (token_at text) rest)) ≡ list_any test (tokens text)
-any_of_first text test token left rest b first e s =
-    ap (λ b. b || list_any test (map (token_at text) rest)) (sym e) ∙ ap (λ ps. list_any test (map (token_at text) ps)) (sym first) ∙ s.passes
+any_of_first : (first : ℕ) (text : List ℕ) (test : ℕ × List ℕ → Bool) (token : Token) (left rest : Tokens) (b : Bool) → places_left left ≡ token ∷ places_left rest → test (token_at text token) ≡ b →
+    Seeks first text test left → (b || list_any test (map (token_at text) (places_left rest))) ≡ list_any test (tokens_from first text)
+any_of_first first text test token left rest b next e s =
+    ap (λ b. b || list_any test (map (token_at text) (places_left rest))) (sym e) ∙ ap (λ ps. list_any test (map (token_at text) ps)) (sym next) ∙ s.passes
 
--- where the next doesn't pass, it is sought behind it
-pub Seeks-next : (text : List ℕ) (test : ℕ × List ℕ → Bool) (token : Token) (left rest : List Token) → left ≡ token ∷ rest → test (token_at text token) ≡ false →
-    Seeks text test left → Seeks text test rest
-Seeks-next text test token left rest first e s = record {
-  within = (IsPlaceIn-first text token left rest first s.within).1;
-  passes = any_of_first text test token left rest false first e s;
-}
+-- where the next passes, one does
+pub Seeks-found : (first : ℕ) (text : List ℕ) (test : ℕ × List ℕ → Bool) (token : Token) (left rest : Tokens) → places_left left ≡ token ∷ places_left rest → test (token_at text token) ≡ true →
+    Seeks first text test left → list_any test (tokens_from first text) ≡ true
+Seeks-found first text test token left rest next e s = sym (any_of_first first text test token left rest true next e s)
+
+-- where it doesn't, one is sought behind it
+pub Seeks-next : (first : ℕ) (text : List ℕ) (test : ℕ × List ℕ → Bool) (token : Token) (left rest : Tokens) → places_left left ≡ token ∷ places_left rest → following_left rest ≡ following_left left →
+    test (token_at text token) ≡ false → Seeks first text test left → Seeks first text test rest
+Seeks-next first text test token left rest next same e s =
+    let P : List Token → Type 0 = All (IsPlaceFrom first text) in
+    record {
+      within = λ k d lt. subst P next s.within (suc k) d (omega arith);
+      passes = any_of_first first text test token left rest false next e s;
+      follows = same ∙ s.follows;
+    }
+
+-- where none is left, none passes
+pub Seeks-end : (first : ℕ) (text : List ℕ) (test : ℕ × List ℕ → Bool) (left : Tokens) → places_left left ≡ [] → Seeks first text test left → list_any test (tokens_from first text) ≡ false
+Seeks-end first text test left none s = sym s.passes ∙ ap (λ ps. list_any test (map (token_at text) ps)) none
+
+-- what is left of texts, from number `n` on, of which the next begins at `first`: a token passes the test where one of theirs
+-- does
+pub record SeeksOn (texts : List (List ℕ)) (test : ℕ × List ℕ → Bool) (n first : ℕ) : Type 0 where
+  pub room : HasRoom first (drop n texts)
+  pub passes : list_any test (tokens_of_texts first (drop n texts)) ≡ list_any test (tokens_of_texts 0 texts)
+
+-- at first all texts are left
+pub SeeksOn-start : (texts : List (List ℕ)) (test : ℕ × List ℕ → Bool) → HasRoom 0 texts → SeeksOn texts test 0 0
+SeeksOn-start texts test room = record { room = room; passes = refl; }
+
+-- the next of them has room
+pub SeeksOn-room : (texts : List (List ℕ)) (test : ℕ × List ℕ → Bool) (n first : ℕ) → n < length texts → SeeksOn texts test n first → first + length (get_or texts n []) + 2 < 2 ^ 63
+SeeksOn-room texts test n first inside s =
+    let here : HasRoom first (get_or texts n [] ∷ drop (n + 1) texts) = subst (HasRoom first) (drop_more texts n [] inside) s.room in
+    omega (arith, here, sum_by-cons {X = List ℕ} (λ text. length text + 1) (get_or texts n []) (drop (n + 1) texts))
+
+-- a token passes where one of the next text does, or one of those behind it
+any_of_text : (texts : List (List ℕ)) (test : ℕ × List ℕ → Bool) (n first : ℕ) → n < length texts → SeeksOn texts test n first →
+    list_any test (tokens_from first (get_or texts n [])) || list_any test (tokens_of_texts (following first (get_or texts n [])) (drop (n + 1) texts)) ≡ list_any test (tokens_of_texts 0 texts)
+any_of_text texts test n first inside s =
+    sym (list_any-append test (tokens_from first (get_or texts n [])) (tokens_of_texts (following first (get_or texts n [])) (drop (n + 1) texts)))
+    ∙ ap (λ ts. list_any test (tokens_of_texts first ts)) (sym (drop_more texts n [] inside)) ∙ s.passes
+
+-- where one of the next text does, one does
+pub SeeksOn-found : (texts : List (List ℕ)) (test : ℕ × List ℕ → Bool) (n first : ℕ) → n < length texts → SeeksOn texts test n first →
+    IsSought (list_any test (tokens_from first (get_or texts n []))) (following first (get_or texts n [])) None → true ≡ list_any test (tokens_of_texts 0 texts)
+SeeksOn-found texts test n first inside s found =
+    ap (λ b. b || list_any test (tokens_of_texts (following first (get_or texts n [])) (drop (n + 1) texts))) (sym found) ∙ any_of_text texts test n first inside s
+
+-- where none does, one is sought behind it
+pub SeeksOn-next : (texts : List (List ℕ)) (test : ℕ × List ℕ → Bool) (n first next : ℕ) → n < length texts → SeeksOn texts test n first →
+    IsSought (list_any test (tokens_from first (get_or texts n []))) (following first (get_or texts n [])) (Some next) → next ≤ first + length (get_or texts n []) + 1 → SeeksOn texts test (n + 1) next
+SeeksOn-next texts test n first next inside s sought near =
+    let here : HasRoom first (get_or texts n [] ∷ drop (n + 1) texts) = subst (HasRoom first) (drop_more texts n [] inside) s.room in
+    record {
+      room = omega (arith, here, near, sum_by-cons {X = List ℕ} (λ text. length text + 1) (get_or texts n []) (drop (n + 1) texts));
+      passes = ap (λ m. list_any test (tokens_of_texts m (drop (n + 1) texts))) sought.1
+          ∙ ap (λ b. b || list_any test (tokens_of_texts (following first (get_or texts n [])) (drop (n + 1) texts))) (sym sought.0) ∙ any_of_text texts test n first inside s;
+    }
+
+-- where no text is left, none passes
+pub SeeksOn-end : (texts : List (List ℕ)) (test : ℕ × List ℕ → Bool) (n first : ℕ) → length texts ≤ n → SeeksOn texts test n first → false ≡ list_any test (tokens_of_texts 0 texts)
+SeeksOn-end texts test n first past s = ap (λ ts. list_any test (tokens_of_texts first ts)) (sym (drop_all n texts past)) ∙ s.passes
+
+-- a number for each text beside its bytes
+sum_and_count : (texts : List (List ℕ)) → sum_by (λ text. length text + 1) texts ≡ bytes_of texts + length texts
+sum_and_count [] = refl
+sum_and_count (text ∷ texts) =
+    omega (arith, sum_by-cons {X = List ℕ} (λ text. length text + 1) text texts, sum_by-cons {X = List ℕ} length text texts, sum_and_count texts)
+
+-- so the texts of a document have room
+pub HasRoom-short : (texts : List (List ℕ)) → (length texts ≤ 1024) × (bytes_of texts ≤ 1048576) → HasRoom 0 texts
+HasRoom-short texts short = omega (arith, sum_and_count texts, short.0, short.1)

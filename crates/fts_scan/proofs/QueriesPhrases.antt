@@ -6,7 +6,6 @@ use Rattle.std.proofs.lemmas.Int.{ints}
 use Rattle.std.proofs.lemmas.List.Folds.{Any-from_list_any, list_any-from_Any}
 use Rattle.std.proofs.lemmas.List.Elements.{All-nil, All-cons, All-head, All-tail}
 use Rattle.std.proofs.lemmas.Slice.Eq.{bytes_eq-Decides}
-use Rattle.fts_text.specs.Tokens.{tokens}
 use Rattle.fts_model.specs.Queries.{stands_with, leads, phrase_in, PhraseIn}
 
 -- a member that passes
@@ -56,10 +55,9 @@ all_from ts first (other ∷ others) position shift e h =
     (all_from ts first others position shift e (All-tail (StandsAt ts shift) other others h))
 
 -- a phrase that passes the test is in the relation
-relation : (text : List ℕ) (pattern : List (ℕ × List ℕ)) → phrase_in text pattern ≡ true → PhraseIn text pattern
-relation text [] h = (pos 0, All-nil (StandsAt (tokens text) (pos 0)))
-relation text (first ∷ others) h =
-    let ts = tokens text in
+relation : (ts pattern : List (ℕ × List ℕ)) → phrase_in ts pattern ≡ true → PhraseIn ts pattern
+relation ts [] h = (pos 0, All-nil (StandsAt ts (pos 0)))
+relation ts (first ∷ others) h =
     let at = some (leads ts first others) ts h in
     let token = at.0 in
     let both = and_parts (bytes_eq token.1 first.1) (list_all (stands_with ts first token) others) at.2 in
@@ -69,10 +67,9 @@ relation text (first ∷ others) h =
     (shift, All-cons (StandsAt ts shift) first others here (all_stand ts first token others both.1))
 
 -- a phrase in the relation passes the test
-test : (text : List ℕ) (pattern : List (ℕ × List ℕ)) → PhraseIn text pattern → phrase_in text pattern ≡ true
-test text [] h = refl
-test text (first ∷ others) h =
-    let ts = tokens text in
+test : (ts pattern : List (ℕ × List ℕ)) → PhraseIn ts pattern → phrase_in ts pattern ≡ true
+test ts [] h = refl
+test ts (first ∷ others) h =
     let here = All-head (StandsAt ts h.0) first others h.1 in
     let token : ℕ × List ℕ = (here.0, first.1) in
     found (leads ts first others) ts token here.2
@@ -80,5 +77,5 @@ test text (first ∷ others) h =
     (all_from ts first others here.0 h.0 here.1 (All-tail (StandsAt ts h.0) first others h.1)))
 
 -- the test is the relation
-pub phrase_in-PhraseIn : (text : List ℕ) (pattern : List (ℕ × List ℕ)) → IsTrue (phrase_in text pattern) ↔ PhraseIn text pattern
-phrase_in-PhraseIn text pattern = (relation text pattern, test text pattern)
+pub phrase_in-PhraseIn : (ts pattern : List (ℕ × List ℕ)) → IsTrue (phrase_in ts pattern) ↔ PhraseIn ts pattern
+phrase_in-PhraseIn ts pattern = (relation ts pattern, test ts pattern)

@@ -79,7 +79,7 @@ fn stands_with(
     requires near { position < 2 ^ 63 }
     ensures { IfOk result
         (λ stands. (bytes : List ℕ) → stands
-        ≡ stands_with (tokens_of_texts 0 (strings texts)) member.now (position, bytes) other.now) }
+        ≡ stands_with (tokens_of_texts 0 (strings texts.entry)) member.now (position, bytes) other.now) }
 {
     let sum = position + other.0 as usize;
     let mut first = 0;
@@ -106,7 +106,7 @@ fn leads(
     requires place { IsPlaceIn text.now place }
     requires near { place.position < 2 ^ 63 }
     ensures { IfOk result
-        (λ found. found ≡ leads (tokens_of_texts 0 (strings texts)) first.now others.now
+        (λ found. found ≡ leads (tokens_of_texts 0 (strings texts.entry)) first.now others.now
         (token_at text.now place)) }
 {
     if !is_token(text, place, first.1.as_str(), scratch)? {
@@ -133,7 +133,7 @@ fn seek_lead(
     requires room { HasRoom 0 (strings texts) }
     requires near { start + length text.now + 2 < 2 ^ 63 }
     ensures sought { IfOk result
-        (IsSought (list_any (leads (tokens_of_texts 0 (strings texts)) first.now others.now)
+        (IsSought (list_any (leads (tokens_of_texts 0 (strings texts.entry)) first.now others.now)
         (tokens_from start text.now)) (following start text.now)) }
     ensures near { IfOk result (λ next. IfSome next (λ n. n ≤ start + length text.now + 1)) }
 {
@@ -156,8 +156,8 @@ fn any_leads(
     requires { HasRoom 0 (strings texts) }
     ensures { IfOk result
         (λ stands. stands
-        ≡ list_any (leads (tokens_of_texts 0 (strings texts)) first.now others.now)
-        (tokens_of_texts 0 (strings texts))) }
+        ≡ list_any (leads (tokens_of_texts 0 (strings texts.entry)) first.now others.now)
+        (tokens_of_texts 0 (strings texts.entry))) }
 {
     let mut start = 0;
     for number in 0..texts.len() {
@@ -177,7 +177,7 @@ fn has_phrase(
 ) -> Result<bool, AllocError>
     requires { HasRoom 0 (strings texts) }
     ensures { IfOk result
-        (λ stands. stands ≡ phrase_in (tokens_of_texts 0 (strings texts)) pattern.now) }
+        (λ stands. stands ≡ phrase_in (tokens_of_texts 0 (strings texts.entry)) pattern.now) }
 {
     match pattern {
         [] => Ok(true),

@@ -14,7 +14,7 @@ pub(crate) enum Strings<'a> {
 impl<'a> Strings<'a> {
     /// How many texts there are.
     pub(crate) fn len(self) -> usize
-        ensures { result ≡ length (strings self) }
+        ensures { result ≡ length (strings self.entry) }
     {
         match self {
             Strings::One(_) => 1,
@@ -24,7 +24,7 @@ impl<'a> Strings<'a> {
 
     /// The text of this number, and no bytes where there is none.
     pub(crate) fn get(self, number: usize) -> &'a str
-        ensures { result.now ≡ slice_index_or (strings self) number [] }
+        ensures { result.now ≡ slice_index_or (strings self.entry) number [] }
     {
         match self {
             Strings::One(text) if number == 0 => text.as_str(),

@@ -53,7 +53,7 @@ fn seek_token(
 /// Whether one of these texts has a token.
 fn has_token(texts: Strings<'_>, token: &str, scratch: &mut String) -> Result<bool, AllocError>
     requires { HasRoom 0 (strings texts) }
-    ensures { IfOk result (λ found. found ≡ has_token (tokens_of_texts 0 (strings texts)) token.now) }
+    ensures { IfOk result (λ found. found ≡ has_token (tokens_of_texts 0 (strings texts.entry)) token.now) }
 {
     let mut first = 0;
     for number in 0..texts.len() {

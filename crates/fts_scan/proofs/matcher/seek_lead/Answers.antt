@@ -1,0 +1,23 @@
+use Rattle.std.proofs.Common.{◌≡◌, sym, ◌∙◌, arith}
+use Rattle.fts_text.specs.Tokens.{tokens_of_texts}
+use Rattle.fts_text.proofs.StretchLemmas.{following-le}
+use Rattle.fts_model.specs.Queries.{leads}
+use Rattle.fts_scan.specs.Scans.{strings}
+use Rattle.fts_scan.proofs.PlacesSought.{Seeks-start, Seeks-next}
+use Rattle.fts_scan.proofs.matcher.seek_lead.Goals as goal
+
+pub loop-place-init : goal.loop-place-init
+loop-place-init c =
+    Seeks-start c.args.start c.args.text.now (leads (tokens_of_texts 0 (strings c.args.texts)) c.args.first.now c.args.others.now) c.starting-tokens.result c.utf8.text c.starting-tokens.ensures.tokens
+    c.starting-tokens.ensures.following
+
+pub loop-place-preserved : goal.loop-place-preserved
+loop-place-preserved c =
+    Seeks-next c.args.start c.args.text.now (leads (tokens_of_texts 0 (strings c.args.texts)) c.args.first.now c.args.others.now) c.in-Some.place c.loop-place.tokens c.next_token.new.self
+    c.in-Some.ensures.steps c.in-Some.ensures.following (sym c.in_ok-leads.ensures ∙ c.if-branch.false) c.loop-place.invariant
+
+pub following-requires : goal.following-requires
+following-requires c = omega (arith, c.in_default.ensures.following, c.loop-place.invariant.follows, following-le c.args.start c.args.text.now c.utf8.text, c.requires.near)
+
+pub returns-clause-near : goal.returns-clause-near
+returns-clause-near c = omega (arith, c.following.ensures, c.in_default.ensures.following, c.loop-place.invariant.follows, following-le c.args.start c.args.text.now c.utf8.text)
