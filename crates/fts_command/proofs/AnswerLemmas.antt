@@ -1,11 +1,10 @@
 -- Answers as JSON.
-use Rattle.std.proofs.Common.{◌≡◌, Bool, false, ◌||◌, List, [], ◌∷◌, ◌++◌, ℕ, pos, negsuc, Option, Some, None, Ordering, Less, Equal, Greater, refl, ap, option_map, nat_cmp}
+use Rattle.std.proofs.Common.{◌≡◌, Bool, false, ◌||◌, List, [], ◌∷◌, map, ℕ, pos, negsuc, Option, Some, None, Ordering, Less, Equal, Greater, refl, option_map, nat_cmp}
 use Rattle.std.specs.Cmp.Lexicographic.{slice_cmp}
 use Rattle.std.specs.Ordering.{match_ordering}
-use Rattle.serde_json.specs.Data.{Data, Items, no_items, item, Members, no_members, member, put}
-use Rattle.serde_json.specs.View.{view, items_view}
+use Rattle.serde_json.specs.Data.{Data, string, Items, Members, no_members, member, put}
+use Rattle.serde_json.specs.View.{items_of}
 use Rattle.serde_json.specs.Written.{has_float, items_have_float, members_have_float}
-use Rattle.serde_json.specs.declared.value.Value.{Value}
 use Rattle.fts_model.specs.declared.schema.Field.{Field}
 use Rattle.fts_model.specs.declared.value.GroupValue.{GroupValue}
 use Rattle.fts_model.specs.declared.value.GroupValue.TheVariants as group_values
@@ -18,25 +17,17 @@ use Rattle.fts_model.specs.Answers.{AnswerValue}
 use Rattle.fts_model.proofs.DocumentsFields.{or_false}
 use Rattle.fts_command.specs.AnswerData.{value_data, groups_data, hits_data, list_member, answer_data}
 
--- what values are, in front of others
-abbrev pub items_before : List Value → Items → Items
-items_before [] rest = rest
-items_before (v ∷ vs) rest = item (view v) (items_before vs rest)
-
-pub items_pushed : (vs : List Value) (v : Value) (rest : Items) → items_before (vs ++ v ∷ []) rest ≡ items_before vs (item (view v) rest)
-items_pushed [] v rest = refl
-items_pushed (w ∷ vs) v rest = ap (item (view w)) (items_pushed vs v rest)
-
-pub items_alone : (vs : List Value) → items_before vs no_items ≡ items_view vs
-items_alone [] = refl
-items_alone (v ∷ vs) = ap (item (view v)) (items_alone vs)
-
 neither : {a b : Bool} → a ≡ false → b ≡ false → (a || b) ≡ false
 neither p q = cc
+
+texts_plain : (texts : List (List ℕ)) → items_have_float (items_of (map string texts)) ≡ false
+texts_plain [] = refl
+texts_plain (text ∷ texts) = texts_plain texts
 
 -- nothing of an answer is a float
 value_plain : (v : FieldValue) → has_float (data_of v) ≡ false
 value_plain (values.Text text) = refl
+value_plain (values.Texts texts) = texts_plain texts
 value_plain (values.Number (numbers.U64 n)) = refl
 value_plain (values.Number (numbers.I64 (pos n))) = refl
 value_plain (values.Number (numbers.I64 (negsuc n))) = refl

@@ -31,28 +31,49 @@ from_text : (ts : List (List ℕ)) (bound : Bound FieldValue) (t : List ℕ) →
 from_text ts (Included (values.Text b)) t ok h = from_included ts b t h
 from_text ts (Excluded (values.Text b)) t ok h = from_excluded ts b t h
 from_text ts (Included (values.Number n)) t ok h = absurd (false≢true ok)
+from_text ts (Included (values.Texts us)) t ok h = absurd (false≢true ok)
 from_text ts (Excluded (values.Number n)) t ok h = absurd (false≢true ok)
+from_text ts (Excluded (values.Texts us)) t ok h = absurd (false≢true ok)
 from_text ts Unbounded t ok h = le-leb 0 (before ts t) (omega arith)
 
 to_text : (ts : List (List ℕ)) (bound : Bound FieldValue) (t : List ℕ) → is_bound_of kinds.Keyword bound ≡ true → Contains ts t → ordinal_to ts bound (before ts t) ≡ admits_to bound (values.Text t)
 to_text ts (Included (values.Text b)) t ok h = to_included ts b t h
 to_text ts (Excluded (values.Text b)) t ok h = to_excluded ts b t h
 to_text ts (Included (values.Number n)) t ok h = absurd (false≢true ok)
+to_text ts (Included (values.Texts us)) t ok h = absurd (false≢true ok)
 to_text ts (Excluded (values.Number n)) t ok h = absurd (false≢true ok)
+to_text ts (Excluded (values.Texts us)) t ok h = absurd (false≢true ok)
 to_text ts Unbounded t ok h = refl
 
--- bounds of texts, of which one is one, admit no number
-no_number : (lower upper : Bound FieldValue) (v : FieldValue) → keyword_of kinds.Keyword (Some v) ≡ None → is_bound_of kinds.Keyword lower ≡ true → is_bound_of kinds.Keyword upper ≡ true → (is_bounded lower || is_bounded upper) ≡ true → admits lower upper v ≡ false
-no_number lower upper (values.Text t) is low high some = absurd (let e : Some t ≡ None = is in cc)
-no_number (Included (values.Text b)) upper (values.Number n) is low high some = refl
-no_number (Excluded (values.Text b)) upper (values.Number n) is low high some = refl
-no_number (Included (values.Number b)) upper (values.Number n) is low high some = absurd (false≢true low)
-no_number (Excluded (values.Number b)) upper (values.Number n) is low high some = absurd (false≢true low)
-no_number Unbounded (Included (values.Text b)) (values.Number n) is low high some = refl
-no_number Unbounded (Excluded (values.Text b)) (values.Number n) is low high some = refl
-no_number Unbounded (Included (values.Number b)) (values.Number n) is low high some = absurd (false≢true high)
-no_number Unbounded (Excluded (values.Number b)) (values.Number n) is low high some = absurd (false≢true high)
-no_number Unbounded Unbounded (values.Number n) is low high some = absurd (false≢true some)
+-- bounds of texts, of which one is one, admit neither a number nor a list
+no_other : (lower upper : Bound FieldValue) (v : FieldValue) → keyword_of kinds.Keyword (Some v) ≡ None → is_bound_of kinds.Keyword lower ≡ true → is_bound_of kinds.Keyword upper ≡ true → (is_bounded lower || is_bounded upper) ≡ true → admits lower upper v ≡ false
+no_other lower upper (values.Text t) is low high some = absurd (let e : Some t ≡ None = is in cc)
+no_other (Included (values.Text b)) upper (values.Texts us) is low high some = refl
+no_other (Included (values.Texts bs)) upper (values.Texts us) is low high some = absurd (false≢true low)
+no_other (Included (values.Number b)) upper (values.Texts us) is low high some = absurd (false≢true low)
+no_other (Excluded (values.Text b)) upper (values.Texts us) is low high some = refl
+no_other (Excluded (values.Texts bs)) upper (values.Texts us) is low high some = absurd (false≢true low)
+no_other (Excluded (values.Number b)) upper (values.Texts us) is low high some = absurd (false≢true low)
+no_other Unbounded (Included (values.Text b)) (values.Texts us) is low high some = refl
+no_other Unbounded (Included (values.Texts bs)) (values.Texts us) is low high some = absurd (false≢true high)
+no_other Unbounded (Included (values.Number b)) (values.Texts us) is low high some = absurd (false≢true high)
+no_other Unbounded (Excluded (values.Text b)) (values.Texts us) is low high some = refl
+no_other Unbounded (Excluded (values.Texts bs)) (values.Texts us) is low high some = absurd (false≢true high)
+no_other Unbounded (Excluded (values.Number b)) (values.Texts us) is low high some = absurd (false≢true high)
+no_other Unbounded Unbounded (values.Texts us) is low high some = absurd (false≢true some)
+no_other (Included (values.Text b)) upper (values.Number n) is low high some = refl
+no_other (Included (values.Texts bs)) upper (values.Number n) is low high some = absurd (false≢true low)
+no_other (Included (values.Number b)) upper (values.Number n) is low high some = absurd (false≢true low)
+no_other (Excluded (values.Text b)) upper (values.Number n) is low high some = refl
+no_other (Excluded (values.Texts bs)) upper (values.Number n) is low high some = absurd (false≢true low)
+no_other (Excluded (values.Number b)) upper (values.Number n) is low high some = absurd (false≢true low)
+no_other Unbounded (Included (values.Text b)) (values.Number n) is low high some = refl
+no_other Unbounded (Included (values.Texts bs)) (values.Number n) is low high some = absurd (false≢true high)
+no_other Unbounded (Included (values.Number b)) (values.Number n) is low high some = absurd (false≢true high)
+no_other Unbounded (Excluded (values.Text b)) (values.Number n) is low high some = refl
+no_other Unbounded (Excluded (values.Texts bs)) (values.Number n) is low high some = absurd (false≢true high)
+no_other Unbounded (Excluded (values.Number b)) (values.Number n) is low high some = absurd (false≢true high)
+no_other Unbounded Unbounded (values.Number n) is low high some = absurd (false≢true some)
 
 -- what a range over documents is to the ordinals of a keyword field
 pub record Ranked (segment : SegmentValue) (field : ℕ) (lower upper : Bound FieldValue) : Type 0 where
@@ -86,7 +107,8 @@ module _ (segment : SegmentValue) (field : ℕ) (lower upper : Bound FieldValue)
   by_value : (o : Option FieldValue) → Contains (values_in field segment.documents) o → IfSome (ordinal o) (λ x. x < 2 ^ 64) →
       option_map_or (admits lower upper) o false ≡ option_map_or (ordinal_admits texts lower last) (ordinal o) false
   by_value None there small = refl
-  by_value (Some (values.Number n)) there small = no_number lower upper (values.Number n) refl h.low h.high h.some
+  by_value (Some (values.Texts us)) there small = no_other lower upper (values.Texts us) refl h.low h.high h.some
+  by_value (Some (values.Number n)) there small = no_other lower upper (values.Number n) refl h.low h.high h.some
   by_value (Some (values.Text t)) there small =
       let among : Contains texts t = text_among (values_in field segment.documents) t there in
       sym (ap₂ (λ a b. a && b) (from_text texts lower t h.low among)

@@ -138,6 +138,7 @@ ranked p f k (x ∷ xs) (suc n) e is passes =
 -- what a value of a text field has is one of its tokens
 value_token : (v : FieldValue) (text : List ℕ) → value_has kinds.Text v (values.Text text) ≡ token_in (tokens_of kinds.Text (Some v)) text
 value_token (values.Text t) text = refl
+value_token (values.Texts ts) text = refl
 value_token (values.Number n) text = refl
 
 field_token : (s : Option Field) (v : Option FieldValue) (text : List ℕ) → option_map (λ f. f.kind) s ≡ Some kinds.Text → field_has s v (values.Text text) ≡ token_in (tokens_of kinds.Text v) text
@@ -150,6 +151,7 @@ field_token (Some f) (Some v) text is =
 phrase_lead : (v : Option FieldValue) (first : ℕ × List ℕ) (others : List (ℕ × List ℕ)) → option_map_or (value_has_phrase (first ∷ others)) v false ≡ list_any (leads (tokens_of kinds.Text v) first others) (tokens_of kinds.Text v)
 phrase_lead None first others = refl
 phrase_lead (Some (values.Text text)) first others = refl
+phrase_lead (Some (values.Texts ts)) first others = refl
 phrase_lead (Some (values.Number n)) first others = refl
 
 module _ (segment : SegmentValue) (field : ℕ) (kind : kind_at segment.schema field ≡ Some kinds.Text) where

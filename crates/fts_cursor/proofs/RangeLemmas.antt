@@ -14,7 +14,7 @@ use Rattle.fts_model.specs.declared.schema.Kind.TheVariants as kinds
 use Rattle.fts_model.specs.declared.value.FieldValue.{FieldValue}
 use Rattle.fts_model.specs.declared.value.FieldValue.TheVariants as values
 use Rattle.fts_model.specs.declared.value.Number.TheVariants as numbers
-use Rattle.fts_model.specs.Documents.{DocumentValue, fits_i64, is_of_kind, value_in_field}
+use Rattle.fts_model.specs.Documents.{DocumentValue, fits_i64, is_term_of, value_in_field}
 use Rattle.fts_model.specs.Operations.{kind_at}
 use Rattle.fts_model.specs.Schemas.{holds_numbers, is_ordered}
 use Rattle.fts_model.specs.Queries.{admits_from, admits_to, is_bound_of, is_number_field, is_range_of, value_le, value_lt}
@@ -59,15 +59,17 @@ record IsPlaced (b v : FieldValue) (x : ℕ) : Type 0 where
   ge : value_le v b ≡ nat_le x (key_of b)
   gt : value_lt v b ≡ nat_lt x (key_of b)
 
-placed_u64 : (b : FieldValue) (n : ℕ) → is_of_kind kinds.U64 b ≡ true → IsPlaced b (values.Number (numbers.U64 n)) n
+placed_u64 : (b : FieldValue) (n : ℕ) → is_term_of kinds.U64 b ≡ true → IsPlaced b (values.Number (numbers.U64 n)) n
 placed_u64 (values.Number (numbers.U64 b)) n ok = record { le = refl; lt = refl; ge = refl; gt = refl }
 placed_u64 (values.Number (numbers.I64 b)) n ok = absurd (false≢true ok)
 placed_u64 (values.Text t) n ok = absurd (false≢true ok)
+placed_u64 (values.Texts ts) n ok = absurd (false≢true ok)
 
-placed_i64 : (b : FieldValue) (z : ℤ) → is_of_kind kinds.I64 b ≡ true → IsWhole b → fits_i64 z ≡ true → IsPlaced b (values.Number (numbers.I64 z)) (u64_of z)
+placed_i64 : (b : FieldValue) (z : ℤ) → is_term_of kinds.I64 b ≡ true → IsWhole b → fits_i64 z ≡ true → IsPlaced b (values.Number (numbers.I64 z)) (u64_of z)
 placed_i64 (values.Number (numbers.I64 b)) z ok whole fits = record { le = int_order_le b z whole fits; lt = int_order b z whole fits; ge = int_order_le z b fits whole; gt = int_order z b fits whole }
 placed_i64 (values.Number (numbers.U64 b)) z ok whole fits = absurd (false≢true ok)
 placed_i64 (values.Text t) z ok whole fits = absurd (false≢true ok)
+placed_i64 (values.Texts ts) z ok whole fits = absurd (false≢true ok)
 
 -- bounds of a kind admit a number of that kind by its place
 by_u64 : (bound : Bound FieldValue) (n : ℕ) → is_bound_of kinds.U64 bound ≡ true → (admits_from bound (values.Number (numbers.U64 n)) ≡ key_from bound n) × (admits_to bound (values.Number (numbers.U64 n)) ≡ key_to bound n)
@@ -95,17 +97,21 @@ record IsApart (b v : FieldValue) : Type 0 where
   ge : value_le v b ≡ false
   gt : value_lt v b ≡ false
 
-apart : (kind : Kind) (b v : FieldValue) → is_of_kind kind b ≡ true → holds_numbers kind ≡ true → number_in kind v ≡ None → IsApart b v
+apart : (kind : Kind) (b v : FieldValue) → is_term_of kind b ≡ true → holds_numbers kind ≡ true → number_in kind v ≡ None → IsApart b v
 apart kinds.U64 (values.Number (numbers.U64 b)) (values.Number (numbers.U64 n)) ok holds none = absurd (let e : Some n ≡ None = none in cc)
 apart kinds.U64 (values.Number (numbers.U64 b)) (values.Number (numbers.I64 z)) ok holds none = record { le = refl; lt = refl; ge = refl; gt = refl }
 apart kinds.U64 (values.Number (numbers.U64 b)) (values.Text t) ok holds none = record { le = refl; lt = refl; ge = refl; gt = refl }
+apart kinds.U64 (values.Number (numbers.U64 b)) (values.Texts ts) ok holds none = record { le = refl; lt = refl; ge = refl; gt = refl }
 apart kinds.U64 (values.Number (numbers.I64 b)) v ok holds none = absurd (false≢true ok)
 apart kinds.U64 (values.Text b) v ok holds none = absurd (false≢true ok)
+apart kinds.U64 (values.Texts bs) v ok holds none = absurd (false≢true ok)
 apart kinds.I64 (values.Number (numbers.I64 b)) (values.Number (numbers.I64 z)) ok holds none = absurd (let e : Some (u64_of z) ≡ None = none in cc)
 apart kinds.I64 (values.Number (numbers.I64 b)) (values.Number (numbers.U64 n)) ok holds none = record { le = refl; lt = refl; ge = refl; gt = refl }
 apart kinds.I64 (values.Number (numbers.I64 b)) (values.Text t) ok holds none = record { le = refl; lt = refl; ge = refl; gt = refl }
+apart kinds.I64 (values.Number (numbers.I64 b)) (values.Texts ts) ok holds none = record { le = refl; lt = refl; ge = refl; gt = refl }
 apart kinds.I64 (values.Number (numbers.U64 b)) v ok holds none = absurd (false≢true ok)
 apart kinds.I64 (values.Text b) v ok holds none = absurd (false≢true ok)
+apart kinds.I64 (values.Texts bs) v ok holds none = absurd (false≢true ok)
 apart kinds.Text b v ok holds none = absurd (false≢true holds)
 apart kinds.Keyword b v ok holds none = absurd (false≢true holds)
 
@@ -134,9 +140,11 @@ pub admits_by_key : (kind : Kind) (lower upper : Bound FieldValue) (v : FieldVal
 admits_by_key kinds.U64 lower upper (values.Number (numbers.U64 n)) low high holds whole below fits some = ap₂ (λ a b. a && b) (by_u64 lower n low).0 (by_u64 upper n high).1
 admits_by_key kinds.U64 lower upper (values.Number (numbers.I64 z)) low high holds whole below fits some = other kinds.U64 lower upper (values.Number (numbers.I64 z)) low high holds refl some
 admits_by_key kinds.U64 lower upper (values.Text t) low high holds whole below fits some = other kinds.U64 lower upper (values.Text t) low high holds refl some
+admits_by_key kinds.U64 lower upper (values.Texts ts) low high holds whole below fits some = other kinds.U64 lower upper (values.Texts ts) low high holds refl some
 admits_by_key kinds.I64 lower upper (values.Number (numbers.I64 z)) low high holds whole below fits some = ap₂ (λ a b. a && b) (by_i64 lower z low whole fits).0 (by_i64 upper z high below fits).1
 admits_by_key kinds.I64 lower upper (values.Number (numbers.U64 n)) low high holds whole below fits some = other kinds.I64 lower upper (values.Number (numbers.U64 n)) low high holds refl some
 admits_by_key kinds.I64 lower upper (values.Text t) low high holds whole below fits some = other kinds.I64 lower upper (values.Text t) low high holds refl some
+admits_by_key kinds.I64 lower upper (values.Texts ts) low high holds whole below fits some = other kinds.I64 lower upper (values.Texts ts) low high holds refl some
 admits_by_key kinds.Text lower upper v low high holds whole below fits some = absurd (false≢true holds)
 admits_by_key kinds.Keyword lower upper v low high holds whole below fits some = absurd (false≢true holds)
 

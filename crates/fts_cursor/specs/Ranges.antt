@@ -14,7 +14,7 @@ use Rattle.fts_segment.specs.Keywords.{before, up_to}
 abbrev pub key_of : FieldValue → ℕ
 key_of (values.Number (numbers.U64 n)) = n
 key_of (values.Number (numbers.I64 z)) = u64_of z
-key_of (values.Text text) = 0
+key_of value = 0
 
 -- a number with a sign has 64 bits
 abbrev pub IsWhole : FieldValue → Type 0

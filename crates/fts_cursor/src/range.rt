@@ -96,8 +96,8 @@ fn first_ordinal(segment: &Segment, field: usize, bound: &Bound<FieldValue>) -> 
     match bound {
         Bound::Included(FieldValue::Text(text)) => segment.equal_range(field, text.as_str()).0,
         Bound::Excluded(FieldValue::Text(text)) => segment.equal_range(field, text.as_str()).1,
-        Bound::Included(FieldValue::Number(_))
-        | Bound::Excluded(FieldValue::Number(_))
+        Bound::Included(FieldValue::Texts(_) | FieldValue::Number(_))
+        | Bound::Excluded(FieldValue::Texts(_) | FieldValue::Number(_))
         | Bound::Unbounded => 0,
     }
 }
@@ -114,8 +114,8 @@ fn last_ordinal(segment: &Segment, field: usize, bound: &Bound<FieldValue>) -> O
         Bound::Excluded(FieldValue::Text(text)) => {
             segment.equal_range(field, text.as_str()).0.checked_sub(1)
         }
-        Bound::Included(FieldValue::Number(_))
-        | Bound::Excluded(FieldValue::Number(_))
+        Bound::Included(FieldValue::Texts(_) | FieldValue::Number(_))
+        | Bound::Excluded(FieldValue::Texts(_) | FieldValue::Number(_))
         | Bound::Unbounded => Some(u64::MAX),
     }
 }
@@ -145,7 +145,7 @@ fn key(value: &FieldValue) -> u64
     match value {
         FieldValue::Number(Number::U64(number)) => *number,
         FieldValue::Number(Number::I64(number)) => i64_to_u64(*number),
-        FieldValue::Text(_) => 0,
+        FieldValue::Text(_) | FieldValue::Texts(_) => 0,
     }
 }
 

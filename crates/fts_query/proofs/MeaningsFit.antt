@@ -12,7 +12,7 @@ use Rattle.fts_model.specs.declared.schema.Field.{Field}
 use Rattle.fts_model.specs.declared.value.FieldValue.{FieldValue}
 use Rattle.fts_base.specs.Results.{result_and_then, result_map}
 use Rattle.fts_model.specs.Schemas.{field_named, is_ordered}
-use Rattle.fts_model.specs.Documents.{is_of_kind}
+use Rattle.fts_model.specs.Documents.{is_term_of}
 use Rattle.fts_model.specs.Operations.{kind_at}
 use Rattle.fts_model.specs.Queries.{query_fits, all_fit, holds_phrases, is_range_of, is_bound_of}
 use Rattle.fts_query.specs.declared.error.QueryError.{QueryError}
@@ -150,7 +150,7 @@ module _ (schema : List Field) where
 
   -- a value of a field is of its kind
   abbrev ValueFits : Kind → Result FieldValue QueryError → Type 0
-  ValueFits kind (Ok v) = is_of_kind kind v ≡ true
+  ValueFits kind (Ok v) = is_term_of kind v ≡ true
   ValueFits kind (Err e) = Unit {0}
 
   -- a `u64` value fits
@@ -161,7 +161,7 @@ module _ (schema : List Field) where
   -- a value fits a field of its kind
   field_fits : (field : ℕ) (kind : Kind) → kind_at schema field ≡ Some kind → (r : Result FieldValue QueryError) → ValueFits kind r → MeaningFits (result_map (with_value field) r)
   field_fits field kind e (Err f) h = tt
-  field_fits field kind e (Ok v) h = ap (λ (o : Option Kind). option_map_or (λ k. is_of_kind k v) o false) e ∙ h
+  field_fits field kind e (Ok v) h = ap (λ (o : Option Kind). option_map_or (λ k. is_term_of k v) o false) e ∙ h
 
   -- an `i64` value fits
   signed_fits : (b : Bool) (o p : Option ℕ) → ValueFits kinds.I64 (option_map_or (λ n. Ok (values.Number n)) (if b then option_map (λ n. numbers.I64 (neg_ℤ (pos n))) o else option_map (λ n. numbers.I64 (pos n)) p) (Err BadNumber))
@@ -180,13 +180,13 @@ module _ (schema : List Field) where
   -- a literal in a field of the schema
   tokens_fit : (field : ℕ) (ts : List (ℕ × List ℕ)) → kind_at schema field ≡ Some kinds.Text → fits (with_tokens field ts)
   tokens_fit field [] e = refl
-  tokens_fit field (t ∷ []) e = ap (λ (o : Option Kind). option_map_or (λ k. is_of_kind k (values.Text t.1)) o false) e
+  tokens_fit field (t ∷ []) e = ap (λ (o : Option Kind). option_map_or (λ k. is_term_of k (values.Text t.1)) o false) e
   tokens_fit field (t ∷ u ∷ ts) e = both_true (ap (λ (o : Option Kind). option_map_or holds_phrases o false) e) refl
 
   -- a literal fits a field
   literal_fits : (field : ℕ) (kind : Kind) (text : List ℕ) → kind_at schema field ≡ Some kind → MeaningFits (literal_in field kind text)
   literal_fits field kinds.Text text e = tokens_fit field (tokens text) e
-  literal_fits field kinds.Keyword text e = ap (λ (o : Option Kind). option_map_or (λ k. is_of_kind k (values.Text text)) o false) e
+  literal_fits field kinds.Keyword text e = ap (λ (o : Option Kind). option_map_or (λ k. is_term_of k (values.Text text)) o false) e
   literal_fits field kinds.U64 text e = field_fits field kinds.U64 e (value_in kinds.U64 text) (value_fits kinds.U64 text)
   literal_fits field kinds.I64 text e = field_fits field kinds.I64 e (value_in kinds.I64 text) (value_fits kinds.I64 text)
 

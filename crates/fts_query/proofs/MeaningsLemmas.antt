@@ -1,13 +1,13 @@
 -- What literals mean: tokens, default fields, numbers.
-use Rattle.std.proofs.Common.{◌≡◌, ℕ, ◌+◌, ◌-◌, ◌<◌, ◌≤◌, ◌^◌, Bool, true, false, List, [], ◌∷◌, ◌++◌, length, drop, map, refl, sym, ap, subst, ◌∙◌, append_assoc, All, arith, Err, inl, inr, ◌*◌, ◌&&◌, Some, None, ltb}
+use Rattle.std.proofs.Common.{◌≡◌, ℕ, suc, ◌+◌, ◌-◌, ◌<◌, ◌≤◌, ◌^◌, Bool, true, false, List, [], ◌∷◌, ◌++◌, length, drop, map, refl, sym, ap, subst, ◌∙◌, append_assoc, All, arith, Err, inl, inr, ◌*◌, ◌&&◌, Some, None, ltb}
 use Rattle.std.specs.List.{list_any, list_all}
 use Rattle.std.specs.Str.{IsUtf8}
 use Rattle.std.proofs.lemmas.Bool.{cases_Bool, le-ltb, lt-ltb, ltb-false, and_right, and_parts}
 use Rattle.std.proofs.lemmas.List.{append-nil, drop_all}
 use Rattle.fts_text.specs.declared.tokenizer.Token.{Token}
 use Rattle.fts_text.specs.Tokens.{tokens}
-use Rattle.fts_text.specs.Places.{places, token_at, IsPlaceIn}
-use Rattle.fts_text.proofs.StretchLemmas.{All-IsPlaceIn, IsPlaceIn-first, tokens-places}
+use Rattle.fts_text.specs.Places.{places, token_at, IsPlaceIn, IsPlaceFrom}
+use Rattle.fts_text.proofs.StretchLemmas.{All-IsPlaceFrom, All-IsPlaceIn, IsPlaceIn-first, tokens-places}
 use Rattle.fts_model.specs.declared.schema.Field.{Field}
 use Rattle.fts_query.specs.declared.error.QueryError.TheVariants.{NoDefaultField}
 use Rattle.fts_model.specs.QueryValues.{phrase, nothing}
@@ -31,28 +31,35 @@ map-member : (text : List ℕ) (from : ℕ) (ps : List Token) → map (member te
 map-member text from [] = refl
 map-member text from (p ∷ ps) = ap (λ (l : List (ℕ × List ℕ)). member text from p ∷ l) (map-member text from ps)
 
+-- the place that comes next, and those after it
+places-first : (text : List ℕ) (place : Token) (left rest : List Token) → left ≡ place ∷ rest → All (IsPlaceFrom 0 text) left → IsPlaceFrom 0 text place × All (IsPlaceFrom 0 text) rest
+places-first text place left rest first all =
+    let P : List Token → Type 0 = All (IsPlaceFrom 0 text) in
+    let each = subst P first all in
+    (each 0 place (omega arith), λ k d lt. each (suc k) d (omega arith))
+
 -- a pattern so far, and the places that are left
 pub record Gathers (text : List ℕ) (from : ℕ) (done : List (ℕ × List ℕ)) (left : List Token) : Type 0 where
-  pub within : All (IsPlaceIn text) left
+  pub within : All (IsPlaceFrom 0 text) left
   pub members : done ++ map (member text from) left ≡ distances from (tokens text)
 
 -- no member is gathered at first
 pub Gathers-start : (text : List ℕ) (from : ℕ) (done : List (ℕ × List ℕ)) (left : List Token) → IsUtf8 text → done ≡ [] → left ≡ places text → Gathers text from done left
 Gathers-start text from done left u e start =
-    let P : List Token → Type 0 = All (IsPlaceIn text) in
+    let P : List Token → Type 0 = All (IsPlaceFrom 0 text) in
     record {
-      within = subst P (sym start) (All-IsPlaceIn text u);
-      members = ap (λ (d : List (ℕ × List ℕ)). d ++ map (member text from) left) e ∙ ap (map (member text from)) start ∙ map-member text from (places text) ∙ ap (distances from) (tokens-places text u);
+      within = subst P (sym start) (All-IsPlaceFrom 0 text u);
+      members = ap (λ (d : List (ℕ × List ℕ)). d ++ map (member text from) left) e ∙ ap (map (member text from)) start ∙ map-member text from (places text) ∙ ap (distances from) (tokens-places 0 text u);
     }
 
 -- the next place is one of the text
-pub Gathers-place : (text : List ℕ) (from : ℕ) (done : List (ℕ × List ℕ)) (place : Token) (left rest : List Token) → left ≡ place ∷ rest → Gathers text from done left → IsPlaceIn text place
-Gathers-place text from done place left rest first g = (IsPlaceIn-first text place left rest first g.within).0
+pub Gathers-place : (text : List ℕ) (from : ℕ) (done : List (ℕ × List ℕ)) (place : Token) (left rest : List Token) → left ≡ place ∷ rest → Gathers text from done left → IsPlaceFrom 0 text place
+Gathers-place text from done place left rest first g = (places-first text place left rest first g.within).0
 
 -- a member more
 pub Gathers-next : (text : List ℕ) (from : ℕ) (done more : List (ℕ × List ℕ)) (place : Token) (left rest : List Token) → left ≡ place ∷ rest → more ≡ done ++ member text from place ∷ [] → Gathers text from done left → Gathers text from more rest
 Gathers-next text from done more place left rest first e g = record {
-  within = (IsPlaceIn-first text place left rest first g.within).1;
+  within = (places-first text place left rest first g.within).1;
   members = ap (λ (d : List (ℕ × List ℕ)). d ++ map (member text from) rest) e ∙ append_assoc done (member text from place ∷ []) (map (member text from) rest)
       ∙ ap (λ (l : List Token). done ++ map (member text from) l) (sym first) ∙ g.members;
 }
@@ -62,12 +69,12 @@ pub Gathers-none : (text : List ℕ) (from : ℕ) (done : List (ℕ × List ℕ)
 Gathers-none text from done left none g = sym (append-nil done) ∙ ap (λ (l : List Token). done ++ map (member text from) l) (sym none) ∙ g.members
 
 -- a position in a text of a query fits 32 bits
-pub position_fits : (text : List ℕ) (place : Token) (from : ℕ) → length text ≤ 4096 → IsPlaceIn text place → place.position - from < 2 ^ 32
-position_fits text place from short at = omega (arith, at.nonempty, at.within, at.numbered)
+pub position_fits : (text : List ℕ) (place : Token) (from : ℕ) → length text ≤ 4096 → IsPlaceFrom 0 text place → place.position - from < 2 ^ 32
+position_fits text place from short at = omega (arith, at.place.nonempty, at.place.within, at.numbered)
 
 -- the tokens of a text are at its places
 tokens_of : (text : List ℕ) (left : List Token) → IsUtf8 text → left ≡ places text → tokens text ≡ map (token_at text) left
-tokens_of text left u start = sym (tokens-places text u) ∙ ap (map (token_at text)) (sym start)
+tokens_of text left u start = sym (tokens-places 0 text u) ∙ ap (map (token_at text)) (sym start)
 
 -- a text without a token
 pub no_token : (field : ℕ) (text : List ℕ) (left : List Token) → IsUtf8 text → left ≡ places text → left ≡ [] → with_tokens field (tokens text) ≡ nothing
@@ -88,7 +95,7 @@ more_tokens field text left rest others first second u start cons more =
 pub first_place : (text : List ℕ) (left rest : List Token) (first : Token) → IsUtf8 text → left ≡ places text → left ≡ first ∷ rest → IsPlaceIn text first
 first_place text left rest first u start cons =
     let P : List Token → Type 0 = All (IsPlaceIn text) in
-    (IsPlaceIn-first text first left rest cons (subst P (sym start) (All-IsPlaceIn text u))).0
+    (IsPlaceIn-first text first left rest cons (subst P (sym start) (All-IsPlaceIn 0 text u))).0
 
 -- the default fields
 abbrev pub is_default : Field → Bool

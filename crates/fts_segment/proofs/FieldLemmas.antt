@@ -6,7 +6,7 @@ use Rattle.std.specs.Cmp.{signed_Decides}
 use Rattle.std.specs.List.{list_any}
 use Rattle.std.specs.Option.{option_map_or}
 use Rattle.std.specs.Str.{bytes_eq}
-use Rattle.std.proofs.lemmas.Bool.{cases_Bool, eqb-true, false≢true, ltb-true}
+use Rattle.std.proofs.lemmas.Bool.{cases_Bool, eqb-true, ltb-true}
 use Rattle.std.proofs.lemmas.Bool.Decides.{nat_tests}
 use Rattle.std.proofs.lemmas.Option.{slice_get_within, slice_get-get_or, get_or_from_slice_get}
 use Rattle.std.proofs.lemmas.List.{get_or-map, get_or_default, length-map, length-take-le, take_more, map_push}
@@ -69,6 +69,10 @@ holds-tokens kinds.Text text (Some (values.Text t)) = refl
 holds-tokens kinds.Keyword text (Some (values.Text t)) = or_false (bytes_eq t text)
 holds-tokens kinds.U64 text (Some (values.Text t)) = refl
 holds-tokens kinds.I64 text (Some (values.Text t)) = refl
+holds-tokens kinds.Text text (Some (values.Texts ts)) = refl
+holds-tokens kinds.Keyword text (Some (values.Texts ts)) = refl
+holds-tokens kinds.U64 text (Some (values.Texts ts)) = refl
+holds-tokens kinds.I64 text (Some (values.Texts ts)) = refl
 holds-tokens kinds.Text text (Some (values.Number n)) = refl
 holds-tokens kinds.Keyword text (Some (values.Number n)) = refl
 holds-tokens kinds.U64 text (Some (values.Number (numbers.U64 n))) = refl
@@ -97,10 +101,33 @@ number_in_text : (kind : Kind) (n : Number) (v : Option FieldValue) → holds_nu
 number_in_text kind n None h = refl
 number_in_text kinds.Text n (Some (values.Text t)) h = refl
 number_in_text kinds.Keyword n (Some (values.Text t)) h = refl
+number_in_text kinds.Text n (Some (values.Texts ts)) h = refl
+number_in_text kinds.Keyword n (Some (values.Texts ts)) h = refl
 number_in_text kinds.Text n (Some (values.Number m)) h = refl
 number_in_text kinds.Keyword n (Some (values.Number m)) h = refl
 number_in_text kinds.U64 n (Some v) h = absurd (let clash : true ≡ false = h in cc)
 number_in_text kinds.I64 n (Some v) h = absurd (let clash : true ≡ false = h in cc)
+
+-- no value has a list of texts as a term
+texts_in_value : (kind : Kind) (texts : List (List ℕ)) (v : Option FieldValue) → holds kind (values.Texts texts) v ≡ false
+texts_in_value kind texts None = refl
+texts_in_value kinds.Text texts (Some (values.Text t)) = refl
+texts_in_value kinds.Text texts (Some (values.Texts ts)) = refl
+texts_in_value kinds.Text texts (Some (values.Number n)) = refl
+texts_in_value kinds.Keyword texts (Some (values.Text t)) = refl
+texts_in_value kinds.Keyword texts (Some (values.Texts ts)) = refl
+texts_in_value kinds.Keyword texts (Some (values.Number n)) = refl
+texts_in_value kinds.U64 texts (Some (values.Text t)) = refl
+texts_in_value kinds.U64 texts (Some (values.Texts ts)) = refl
+texts_in_value kinds.U64 texts (Some (values.Number (numbers.U64 n))) = refl
+texts_in_value kinds.U64 texts (Some (values.Number (numbers.I64 n))) = refl
+texts_in_value kinds.I64 texts (Some (values.Text t)) = refl
+texts_in_value kinds.I64 texts (Some (values.Texts ts)) = refl
+texts_in_value kinds.I64 texts (Some (values.Number (numbers.U64 n))) = refl
+texts_in_value kinds.I64 texts (Some (values.Number (numbers.I64 n))) = refl
+
+pub texts_without : (kind : Kind) (vs : List (Option FieldValue)) (texts : List (List ℕ)) → numbers_where (holds kind (values.Texts texts)) 0 vs ≡ []
+texts_without kind vs texts = numbers_where-none (holds kind (values.Texts texts)) 0 vs (λ k d h. texts_in_value kind texts (get_or vs k d))
 
 pub text_without : {kind : Kind} {vs : List (Option FieldValue)} {dictionary : Dictionary} (n : Number) → AreTerms kind vs dictionary → numbers_where (holds kind (values.Number n)) 0 vs ≡ []
 text_without {kind} {vs} n a = numbers_where-none (holds kind (values.Number n)) 0 vs (λ k d h. number_in_text kind n (get_or vs k d) a.kind_is)
@@ -131,14 +158,20 @@ number_test kinds.U64 (values.Number (numbers.U64 m)) x (Some (values.Number (nu
 number_test kinds.I64 (values.Number (numbers.I64 m)) x (Some (values.Number (numbers.I64 n))) is f g = sym (int_test n m g f) ∙ ap (λ k. u64_of n == k) (let same : u64_of m ≡ x = cc in same)
 number_test kinds.U64 (values.Number (numbers.U64 m)) x (Some (values.Number (numbers.I64 n))) is f g = refl
 number_test kinds.I64 (values.Number (numbers.I64 m)) x (Some (values.Number (numbers.U64 n))) is f g = refl
+number_test kinds.U64 (values.Number (numbers.U64 m)) x (Some (values.Texts ts)) is f g = refl
+number_test kinds.I64 (values.Number (numbers.I64 m)) x (Some (values.Texts ts)) is f g = refl
 number_test kinds.U64 (values.Number (numbers.U64 m)) x (Some (values.Text t)) is f g = refl
 number_test kinds.I64 (values.Number (numbers.I64 m)) x (Some (values.Text t)) is f g = refl
 number_test kinds.U64 (values.Number (numbers.I64 m)) x (Some v) is f g = absurd (let clash : None ≡ Some x = is in cc)
 number_test kinds.I64 (values.Number (numbers.U64 m)) x (Some v) is f g = absurd (let clash : None ≡ Some x = is in cc)
 number_test kinds.U64 (values.Text t) x (Some v) is f g = absurd (let clash : None ≡ Some x = is in cc)
+number_test kinds.U64 (values.Texts ts) x (Some v) is f g = absurd (let clash : None ≡ Some x = is in cc)
 number_test kinds.I64 (values.Text t) x (Some v) is f g = absurd (let clash : None ≡ Some x = is in cc)
+number_test kinds.I64 (values.Texts ts) x (Some v) is f g = absurd (let clash : None ≡ Some x = is in cc)
 number_test kinds.Text (values.Text t) x (Some v) is f g = absurd (let clash : None ≡ Some x = is in cc)
+number_test kinds.Text (values.Texts ts) x (Some v) is f g = absurd (let clash : None ≡ Some x = is in cc)
 number_test kinds.Keyword (values.Text t) x (Some v) is f g = absurd (let clash : None ≡ Some x = is in cc)
+number_test kinds.Keyword (values.Texts ts) x (Some v) is f g = absurd (let clash : None ≡ Some x = is in cc)
 number_test kinds.Text (values.Number (numbers.U64 m)) x (Some v) is f g = absurd (let clash : None ≡ Some x = is in cc)
 number_test kinds.Keyword (values.Number (numbers.U64 m)) x (Some v) is f g = absurd (let clash : None ≡ Some x = is in cc)
 number_test kinds.Text (values.Number (numbers.I64 m)) x (Some v) is f g = absurd (let clash : None ≡ Some x = is in cc)
@@ -197,17 +230,23 @@ no_number kinds.Keyword term (Some v) h is = absurd (let clash : false ≡ true 
 no_number kinds.U64 (values.Number (numbers.U64 m)) (Some v) h is = absurd (let clash : Some m ≡ None = is in cc)
 no_number kinds.I64 (values.Number (numbers.I64 m)) (Some v) h is = absurd (let clash : Some (u64_of m) ≡ None = is in cc)
 no_number kinds.U64 (values.Number (numbers.I64 m)) (Some (values.Text t)) h is = refl
+no_number kinds.U64 (values.Number (numbers.I64 m)) (Some (values.Texts ts)) h is = refl
 no_number kinds.U64 (values.Number (numbers.I64 m)) (Some (values.Number (numbers.U64 n))) h is = refl
 no_number kinds.U64 (values.Number (numbers.I64 m)) (Some (values.Number (numbers.I64 n))) h is = refl
 no_number kinds.I64 (values.Number (numbers.U64 m)) (Some (values.Text t)) h is = refl
+no_number kinds.I64 (values.Number (numbers.U64 m)) (Some (values.Texts ts)) h is = refl
 no_number kinds.I64 (values.Number (numbers.U64 m)) (Some (values.Number (numbers.U64 n))) h is = refl
 no_number kinds.I64 (values.Number (numbers.U64 m)) (Some (values.Number (numbers.I64 n))) h is = refl
 no_number kinds.U64 (values.Text t) (Some (values.Text u)) h is = refl
+no_number kinds.U64 (values.Text t) (Some (values.Texts us)) h is = refl
 no_number kinds.U64 (values.Text t) (Some (values.Number (numbers.U64 n))) h is = refl
 no_number kinds.U64 (values.Text t) (Some (values.Number (numbers.I64 n))) h is = refl
 no_number kinds.I64 (values.Text t) (Some (values.Text u)) h is = refl
+no_number kinds.I64 (values.Text t) (Some (values.Texts us)) h is = refl
 no_number kinds.I64 (values.Text t) (Some (values.Number (numbers.U64 n))) h is = refl
 no_number kinds.I64 (values.Text t) (Some (values.Number (numbers.I64 n))) h is = refl
+no_number kinds.U64 (values.Texts ts) (Some v) h is = texts_in_value kinds.U64 ts (Some v)
+no_number kinds.I64 (values.Texts ts) (Some v) h is = texts_in_value kinds.I64 ts (Some v)
 
 pub none_without : {kind : Kind} {vs : List (Option FieldValue)} {index : NumberIndex} (term : FieldValue) → AreNumbers kind vs index → number_of kind (Some term) ≡ None → numbers_where (holds kind term) 0 vs ≡ []
 none_without {kind} {vs} term a is = numbers_where-none (holds kind term) 0 vs (λ k d h. no_number kind term (get_or vs k d) a.kind_is is)

@@ -1,8 +1,8 @@
 -- The dictionary of a keyword field has the texts of its documents, in order, each once.
 use Rattle.std.proofs.lemmas.Bool.{lt-ltb}
-use Rattle.std.proofs.lemmas.Option.{slice_get_within, get_or_from_slice_get, slice_get-get_or}
+use Rattle.std.proofs.lemmas.Option.{slice_get_within, get_or_from_slice_get}
 use Rattle.std.proofs.lemmas.Slice.Eq.{bytes_eq-Decides}
-use Rattle.std.proofs.Common.{cond, ◌≡◌, ◌<◌, ◌+◌, ℕ, zero, suc, Bool, true, false, List, [], ◌∷◌, ◌++◌, Option, Some, None, length, map, All, Contains, IfSome, get_or, refl, sym, ap, subst, ◌∙◌, inl, inr, ⊎_elim, arith}
+use Rattle.std.proofs.Common.{◌≡◌, ◌<◌, ◌+◌, ℕ, zero, suc, Bool, true, false, List, [], ◌∷◌, Option, Some, None, length, map, Contains, IfSome, get_or, refl, sym, ap, subst, ◌∙◌, ⊎_elim, arith}
 use Rattle.std.proofs.lemmas.List.{get_or-map, length-map}
 use Rattle.std.specs.Prelude.{slice_get, nat_lt}
 use Rattle.fts_model.specs.declared.schema.Kind.TheVariants as kinds
@@ -28,6 +28,7 @@ occurring : (doc : ℕ) (vs : List (Option FieldValue)) (q : List ℕ) → occur
 occurring doc [] q h = cc
 occurring doc (None ∷ vs) q h = occurring (doc + 1) vs q h
 occurring doc (Some (values.Number n) ∷ vs) q h = occurring (doc + 1) vs q h
+occurring doc (Some (values.Texts ts) ∷ vs) q h = occurring (doc + 1) vs q h
 occurring doc (Some (values.Text t) ∷ vs) q h = by (is_term q (occurrence_at doc (0, t))) refl (occurring (doc + 1) vs q)
   where
     os : List OccurrenceValue
@@ -42,6 +43,7 @@ occurs_there : (doc : ℕ) (vs : List (Option FieldValue)) (q : List ℕ) → Co
 occurs_there doc [] q h = absurd (none q h)
 occurs_there doc (None ∷ vs) q h = occurs_there (doc + 1) vs q h
 occurs_there doc (Some (values.Number n) ∷ vs) q h = occurs_there (doc + 1) vs q h
+occurs_there doc (Some (values.Texts ts) ∷ vs) q h = occurs_there (doc + 1) vs q h
 occurs_there doc (Some (values.Text t) ∷ vs) q h = by (is_term q (occurrence_at doc (0, t))) refl (occurs_there (doc + 1) vs q)
   where
     os : List OccurrenceValue
@@ -68,6 +70,7 @@ text_among vs t h = in_order-has (texts vs) t (there_is vs h)
     there_is (v ∷ vs) (zero, less, is) = subst (λ v. Contains (texts (v ∷ vs)) t) (sym is) (here t (texts vs))
     there_is (None ∷ vs) (suc k, less, is) = there_is vs (k, omega (arith, less), is)
     there_is (Some (values.Number n) ∷ vs) (suc k, less, is) = there_is vs (k, omega (arith, less), is)
+    there_is (Some (values.Texts ts) ∷ vs) (suc k, less, is) = there_is vs (k, omega (arith, less), is)
     there_is (Some (values.Text s) ∷ vs) (suc k, less, is) = there s t (texts vs) (there_is vs (k, omega (arith, less), is))
 
 -- a text that stands at a number has as many texts before it
@@ -79,6 +82,7 @@ number_of_text names i t up found =
 keyword_among : (vs : List (Option FieldValue)) (v : Option FieldValue) → Contains vs v → IfSome (keyword_of kinds.Keyword v) (Contains (texts_of kinds.Keyword vs))
 keyword_among vs None h = tt
 keyword_among vs (Some (values.Number n)) h = tt
+keyword_among vs (Some (values.Texts ts)) h = tt
 keyword_among vs (Some (values.Text t)) h = text_among vs t h
 
 pub document_among : (field : ℕ) (ds : List (Stamped DocumentValue)) (i : ℕ) (d : Stamped DocumentValue) → i < length ds → d ≡ get_or ds i d →

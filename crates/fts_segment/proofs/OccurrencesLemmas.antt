@@ -1,49 +1,110 @@
--- A loop over the tokens of a text that puts each behind the occurrences so far.
-use Rattle.std.proofs.Common.{◌≡◌, ℕ, ◌+◌, List, [], ◌∷◌, ◌++◌, Option, map, length, refl, sym, ap, subst, ◌∙◌, All, append_assoc, append-nil, arith}
+-- Loops over the tokens of texts that put each behind the occurrences so far.
+use Rattle.std.proofs.Common.{◌≡◌, ◌<◌, ◌≤◌, ◌^◌, ℕ, suc, ◌+◌, List, [], ◌∷◌, ◌++◌, Option, map, drop, get_or, length, refl, sym, ap, subst, ◌∙◌, All, append_assoc, append-nil, arith, length-append}
 use Rattle.std.specs.Str.{IsUtf8}
+use Rattle.std.proofs.lemmas.List.{drop_all, drop_more, map-append}
+use Rattle.std.proofs.lemmas.List.Sums.{sum_by-cons}
 use Rattle.fts_text.specs.declared.tokenizer.Token.{Token}
-use Rattle.fts_text.specs.Tokens.{tokens}
-use Rattle.fts_text.specs.Places.{places, token_at, IsPlaceIn}
-use Rattle.fts_text.proofs.StretchLemmas.{All-IsPlaceIn, IsPlaceIn-first, tokens-places}
+use Rattle.fts_text.specs.declared.tokenizer.Tokens.{Tokens}
+use Rattle.fts_text.specs.Tokens.{following, tokens_from, tokens_of_texts}
+use Rattle.fts_text.specs.Places.{places_from, places_left, following_left, token_at, IsPlaceFrom}
+use Rattle.fts_text.proofs.StretchLemmas.{All-IsPlaceFrom, tokens-places}
 use Rattle.fts_model.specs.declared.schema.Kind.{Kind}
 use Rattle.fts_model.specs.declared.value.FieldValue.{FieldValue}
-use Rattle.fts_segment.specs.Occurrences.{OccurrenceValue, occurrence_at, occurrences_at, occurrences}
-
--- the places that are left stand in the text; with the tokens that are left the log has all of them behind what it had
-pub record Logs (text : List ℕ) (doc : ℕ) (before now : List OccurrenceValue) (left : List Token) : Type 0 where
-  pub within : All (IsPlaceIn text) left
-  pub whole : now ++ map (λ token. occurrence_at doc (token_at text token)) left ≡ before ++ map (occurrence_at doc) (tokens text)
+use Rattle.fts_model.specs.Documents.{bytes_of}
+use Rattle.fts_segment.specs.Occurrences.{OccurrenceValue, occurrence_at, occurrences_at, occurrences, HasRoom}
 
 pub map-map : {A B C : Type 0} (f : B → C) (g : A → B) (xs : List A) → map (λ x. f (g x)) xs ≡ map f (map g xs)
 map-map f g [] = refl
 map-map f g (x ∷ xs) = ap (λ ys. f (g x) ∷ ys) (map-map f g xs)
 
-pub Logs-start : (text : List ℕ) (doc : ℕ) (before : List OccurrenceValue) (left : List Token) → IsUtf8 text → left ≡ places text → Logs text doc before before left
-Logs-start text doc before left utf8 start =
-    let P : List Token → Type 0 = All (IsPlaceIn text) in
+-- what is left of a text: its places stand in it; with its tokens the log has all of them behind what it had; what follows is
+-- known
+pub record Logs (first : ℕ) (text : List ℕ) (doc : ℕ) (before now : List OccurrenceValue) (left : Tokens) : Type 0 where
+  pub within : All (IsPlaceFrom first text) (places_left left)
+  pub whole : now ++ map (λ token. occurrence_at doc (token_at text token)) (places_left left) ≡ before ++ map (occurrence_at doc) (tokens_from first text)
+  pub follows : following_left left ≡ following first text
+
+pub Logs-start : (first : ℕ) (text : List ℕ) (doc : ℕ) (before : List OccurrenceValue) (left : Tokens) → IsUtf8 text → places_left left ≡ places_from first text →
+    following_left left ≡ following first text → Logs first text doc before before left
+Logs-start first text doc before left utf8 start follows =
+    let P : List Token → Type 0 = All (IsPlaceFrom first text) in
     record {
-      within = subst P (sym start) (All-IsPlaceIn text utf8);
-      whole = ap (λ os. before ++ os) (ap (map (λ token. occurrence_at doc (token_at text token))) start ∙ map-map (occurrence_at doc) (token_at text) (places text)
-          ∙ ap (map (occurrence_at doc)) (tokens-places text utf8));
+      within = subst P (sym start) (All-IsPlaceFrom first text utf8);
+      whole = ap (λ os. before ++ os) (ap (map (λ token. occurrence_at doc (token_at text token))) start ∙ map-map (occurrence_at doc) (token_at text) (places_from first text)
+          ∙ ap (map (occurrence_at doc)) (tokens-places first text utf8));
+      follows = follows;
     }
 
-pub Logs-place : {text : List ℕ} {doc : ℕ} {before now : List OccurrenceValue} (token : Token) (left rest : List Token) → left ≡ token ∷ rest → Logs text doc before now left → IsPlaceIn text token
-Logs-place {text} token left rest first s = (IsPlaceIn-first text token left rest first s.within).0
+pub Logs-place : {first : ℕ} {text : List ℕ} {doc : ℕ} {before now : List OccurrenceValue} (token : Token) (left rest : Tokens) → places_left left ≡ token ∷ places_left rest →
+    Logs first text doc before now left → IsPlaceFrom first text token
+Logs-place {first} {text} token left rest next s =
+    let P : List Token → Type 0 = All (IsPlaceFrom first text) in
+    subst P next s.within 0 token (omega arith)
 
-pub Logs-next : {text : List ℕ} {doc : ℕ} {before now : List OccurrenceValue} (token : Token) (left rest : List Token) (after : List OccurrenceValue) → left ≡ token ∷ rest →
-    after ≡ now ++ occurrence_at doc (token_at text token) ∷ [] → Logs text doc before now left → Logs text doc before after rest
-Logs-next {text} {doc} {before} {now} token left rest after first put s =
+pub Logs-next : {first : ℕ} {text : List ℕ} {doc : ℕ} {before now : List OccurrenceValue} (token : Token) (left rest : Tokens) (after : List OccurrenceValue) → places_left left ≡ token ∷ places_left rest →
+    following_left rest ≡ following_left left → after ≡ now ++ occurrence_at doc (token_at text token) ∷ [] → Logs first text doc before now left → Logs first text doc before after rest
+Logs-next {first} {text} {doc} {before} {now} token left rest after next same put s =
+    let P : List Token → Type 0 = All (IsPlaceFrom first text) in
     let o = occurrence_at doc (token_at text token) in
-    let others = map (λ t. occurrence_at doc (token_at text t)) rest in
+    let others = map (λ t. occurrence_at doc (token_at text t)) (places_left rest) in
     record {
-      within = (IsPlaceIn-first text token left rest first s.within).1;
+      within = λ k d lt. subst P next s.within (suc k) d (omega arith);
       whole = ap (λ os. os ++ others) put ∙ append_assoc now (o ∷ []) others
-          ∙ sym (ap (λ ps. now ++ map (λ t. occurrence_at doc (token_at text t)) ps) first) ∙ s.whole;
+          ∙ sym (ap (λ ps. now ++ map (λ t. occurrence_at doc (token_at text t)) ps) next) ∙ s.whole;
+      follows = same ∙ s.follows;
     }
 
-pub Logs-end : {text : List ℕ} {doc : ℕ} {before now : List OccurrenceValue} (left : List Token) → left ≡ [] → Logs text doc before now left → now ≡ before ++ map (occurrence_at doc) (tokens text)
-Logs-end {text} {doc} {before} {now} left none s =
+pub Logs-end : {first : ℕ} {text : List ℕ} {doc : ℕ} {before now : List OccurrenceValue} (left : Tokens) → places_left left ≡ [] → Logs first text doc before now left →
+    now ≡ before ++ map (occurrence_at doc) (tokens_from first text)
+Logs-end {first} {text} {doc} {before} {now} left none s =
     sym (append-nil now) ∙ sym (ap (λ ps. now ++ map (λ t. occurrence_at doc (token_at text t)) ps) none) ∙ s.whole
+
+-- what is left of a list of texts, from number `n` on, of which the next begins at `first`
+pub record LogsOn (texts : List (List ℕ)) (doc : ℕ) (before now : List OccurrenceValue) (n first : ℕ) : Type 0 where
+  pub room : HasRoom first (drop n texts)
+  pub whole : now ++ map (occurrence_at doc) (tokens_of_texts first (drop n texts)) ≡ before ++ map (occurrence_at doc) (tokens_of_texts 0 texts)
+  pub few : length (tokens_of_texts 0 texts) + bytes_of (drop n texts) ≤ bytes_of texts + length (tokens_of_texts first (drop n texts))
+
+pub LogsOn-start : (texts : List (List ℕ)) (doc : ℕ) (before : List OccurrenceValue) → HasRoom 0 texts → LogsOn texts doc before before 0 0
+LogsOn-start texts doc before room = record { room = room; whole = refl; few = omega arith; }
+
+-- the next text, and those behind it
+here_first : (texts : List (List ℕ)) (n first : ℕ) → n < length texts → HasRoom first (drop n texts) →
+    first + length (get_or texts n []) + bytes_of (drop (n + 1) texts) + suc (length (drop (n + 1) texts)) + 2 < 2 ^ 32
+here_first texts n first inside room =
+    let here : HasRoom first (get_or texts n [] ∷ drop (n + 1) texts) = subst (HasRoom first) (drop_more texts n [] inside) room in
+    omega (arith, here, sum_by-cons {X = List ℕ} length (get_or texts n []) (drop (n + 1) texts))
+
+pub LogsOn-room : {texts : List (List ℕ)} {doc : ℕ} {before now : List OccurrenceValue} (n first : ℕ) → n < length texts → LogsOn texts doc before now n first →
+    first + length (get_or texts n []) + 2 < 2 ^ 32
+LogsOn-room {texts} n first inside s = omega (arith, here_first texts n first inside s.room)
+
+pub LogsOn-next : {texts : List (List ℕ)} {doc : ℕ} {before now : List OccurrenceValue} (n first next : ℕ) (after : List OccurrenceValue) → n < length texts → LogsOn texts doc before now n first →
+    after ≡ now ++ map (occurrence_at doc) (tokens_from first (get_or texts n [])) → length (tokens_from first (get_or texts n [])) ≤ length (get_or texts n []) →
+    next ≡ following first (get_or texts n []) → next ≤ first + length (get_or texts n []) + 1 → LogsOn texts doc before after (n + 1) next
+LogsOn-next {texts} {doc} {before} {now} n first next after inside s put few is near =
+    let text = get_or texts n [] in
+    let rest = drop (n + 1) texts in
+    let at : List (List ℕ) → List OccurrenceValue = λ ts. now ++ map (occurrence_at doc) (tokens_of_texts first ts) in
+    let bytes = ap bytes_of (drop_more texts n [] inside) ∙ sum_by-cons {X = List ℕ} length text rest in
+    let count = ap (λ ts. length (tokens_of_texts first ts)) (drop_more texts n [] inside) ∙ length-append (tokens_from first text) (tokens_of_texts (following first text) rest) in
+    let same = ap (λ m. length (tokens_of_texts m rest)) is in
+    record {
+      room = omega (arith, near, here_first texts n first inside s.room);
+      whole = ap (λ m. after ++ map (occurrence_at doc) (tokens_of_texts m rest)) is
+          ∙ ap (λ os. os ++ map (occurrence_at doc) (tokens_of_texts (following first text) rest)) put
+          ∙ append_assoc now (map (occurrence_at doc) (tokens_from first text)) (map (occurrence_at doc) (tokens_of_texts (following first text) rest))
+          ∙ ap (λ os. now ++ os) (sym (map-append (occurrence_at doc) (tokens_from first text) (tokens_of_texts (following first text) rest)))
+          ∙ ap at (sym (drop_more texts n [] inside)) ∙ s.whole;
+      few = omega (arith, s.few, bytes, count, same, few);
+    }
+
+pub LogsOn-end : {texts : List (List ℕ)} {doc : ℕ} {before now : List OccurrenceValue} (n first : ℕ) → length texts ≤ n → LogsOn texts doc before now n first →
+    (now ≡ before ++ map (occurrence_at doc) (tokens_of_texts 0 texts)) × (length (tokens_of_texts 0 texts) ≤ bytes_of texts)
+LogsOn-end {texts} {doc} {before} {now} n first past s = (
+  sym (append-nil now) ∙ sym (ap (λ ts. now ++ map (occurrence_at doc) (tokens_of_texts first ts)) (drop_all n texts past)) ∙ s.whole,
+  omega (arith, s.few, ap (λ ts. length (tokens_of_texts first ts)) (drop_all n texts past)),
+)
 
 -- one value more
 pub occurrences-push : (kind : Kind) (doc n : ℕ) (vs : List (Option FieldValue)) (v : Option FieldValue) → n ≡ doc + length vs →

@@ -14,7 +14,7 @@ use Rattle.fts_pack.specs.SourceLaws.{length-block_at, get_or-blocks_of}
 use Rattle.fts_segment.specs.declared.keyword_index.KeywordIndex.{KeywordIndex}
 use Rattle.fts_segment.specs.FieldIndexes.{AreKeywords, HasKeywordAt}
 use Rattle.fts_segment.specs.Keywords.{texts_of}
-use Rattle.fts_segment.specs.Occurrences.{OccurrenceValue, docs_with, holds, occurrences, values_in}
+use Rattle.fts_segment.specs.Occurrences.{docs_with, holds, occurrences, values_in}
 use Rattle.fts_segment.specs.Segments.{numbers_where}
 use Rattle.fts_segment.proofs.FieldLemmas.{text_found}
 use Rattle.fts_segment.proofs.HoldingLemmas.{numbers_where-holds}
@@ -41,6 +41,7 @@ holds_text : (text : List ℕ) (v : Option FieldValue) → holds kinds.Keyword (
 holds_text text None h = cc
 holds_text text (Some (values.Text t)) h = ap (λ x. Some (values.Text x)) ((bytes_eq-Decides t text).0 h)
 holds_text text (Some (values.Number n)) h = cc
+holds_text text (Some (values.Texts ts)) h = cc
 
 -- a document that was picked from the list of an ordinal has its text, and none is picked where there is no such text
 pub keyword_there : (vs : List (Option FieldValue)) (index : KeywordIndex) (ordinal : ℕ) (lists : List (List ℕ)) (list d : List ℕ) (o : Option ℕ) → AreKeywords kinds.Keyword vs index →

@@ -95,6 +95,7 @@ map_filter-map f h p q g same test (x ∷ xs) =
 value_positions : (segment : SegmentValue) (term : Term) (value : FieldValue) (field : Field) → slice_get segment.schema term.field ≡ Some field → term.value ≡ value →
     value_position_lists field.kind value (values_in term.field segment.documents) ≡ positions_of segment term value
 value_positions segment term (values.Number n) field here is = refl
+value_positions segment term (values.Texts ts) field here is = refl
 value_positions segment term (values.Text text) field here is =
     map_filter-map (λ (d : Stamped DocumentValue). positions_among text (document_tokens segment.schema term.field d.value)) (λ v. positions_among text (tokens_of field.kind v))
     (λ (d : Stamped DocumentValue). has segment.schema d.value term) (holds field.kind (values.Text text)) (λ d. value_in_field d.value term.field)

@@ -1,5 +1,5 @@
 -- The different texts of a field in the order of their bytes, and what stands before a text among them.
-use Rattle.std.specs.Prelude.{ℕ, Bool, List, [], ◌∷◌, Option, Some, None, length, filter, fold, map, option_map}
+use Rattle.std.specs.Prelude.{ℕ, List, [], ◌∷◌, Option, Some, None, length, filter, fold, map, option_map}
 use Rattle.std.specs.Ordering.{nat_cmp, match_ordering}
 use Rattle.std.specs.Cmp.Lexicographic.{slice_cmp}
 use Rattle.fts_model.specs.Queries.{text_lt, text_le}
@@ -33,7 +33,7 @@ keyword_of kind value = None
 -- the text that a value is, if it is one
 abbrev pub text_in_value : FieldValue → Option (List ℕ)
 text_in_value (values.Text text) = Some text
-text_in_value (values.Number n) = None
+text_in_value value = None
 
 -- the texts that are there
 abbrev pub texts_in : List (Option (List ℕ)) → List (List ℕ)

@@ -3,13 +3,13 @@ use Rattle.std.specs.Prelude.{ℕ, ◌+◌, ◌^◌, ◌<◌, length, Bool, fals
 use Rattle.std.specs.Prelude.{Some, None}
 use Rattle.std.specs.List.{dedup}
 use Rattle.std.specs.Str.{bytes_eq}
-use Rattle.fts_text.specs.Tokens.{tokens}
+use Rattle.fts_text.specs.Tokens.{tokens, tokens_of_texts}
 use Rattle.fts_model.specs.declared.schema.Kind.{Kind}
 use Rattle.fts_model.specs.declared.schema.Kind.TheVariants as kinds
 use Rattle.fts_model.specs.declared.value.FieldValue.{FieldValue}
 use Rattle.fts_model.specs.declared.value.FieldValue.TheVariants as values
 use Rattle.fts_model.specs.declared.operation.Stamped.{Stamped}
-use Rattle.fts_model.specs.Documents.{DocumentValue, value_in_field}
+use Rattle.fts_model.specs.Documents.{DocumentValue, bytes_of, value_in_field}
 use Rattle.fts_model.specs.Operations.{value_has}
 
 -- a term stands in a document at a position
@@ -22,9 +22,11 @@ pub record OccurrenceValue : Type 0 where
 abbrev pub occurrence_at : ℕ → ℕ × List ℕ → OccurrenceValue
 occurrence_at doc token = record { term = token.1; doc = doc; position = token.0 }
 
--- the tokens of a value, each after its position: those of a text, and a keyword as one token, at 0
+-- the tokens of a value, each after its position: those of a text or of a list of texts, and a keyword
+-- as one token, at 0
 abbrev pub value_tokens : Kind → FieldValue → List (ℕ × List ℕ)
 value_tokens kinds.Text (values.Text text) = tokens text
+value_tokens kinds.Text (values.Texts texts) = tokens_of_texts 0 texts
 value_tokens kinds.Keyword (values.Text text) = (0, text) ∷ []
 value_tokens kind value = []
 
@@ -36,6 +38,10 @@ tokens_of kind (Some value) = value_tokens kind value
 -- 32 bits count the tokens
 abbrev pub HasFewTokens : Kind → Option FieldValue → Type 0
 HasFewTokens kind value = length (tokens_of kind value) < 2 ^ 32
+
+-- 32 bits count the spans of these texts, where the first has the number `first`
+abbrev pub HasRoom : ℕ → List (List ℕ) → Type 0
+HasRoom first texts = first + bytes_of texts + length texts + 2 < 2 ^ 32
 
 -- the occurrences of a document's value
 abbrev pub occurrences_at : Kind → ℕ → Option FieldValue → List OccurrenceValue

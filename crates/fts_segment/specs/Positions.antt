@@ -30,8 +30,9 @@ places_with term os = map place_of (filter (is_term term) os)
 abbrev pub position_lists_with : List ℕ → List OccurrenceValue → List (List ℕ)
 position_lists_with term os = position_lists_of (places_with term os)
 
--- the positions of a text, in each of the values that have it as a token; a number has none
+-- the positions of a text, in each of the values that have it as a token; another has none
 abbrev pub value_position_lists : Kind → FieldValue → List (Option FieldValue) → List (List ℕ)
 value_position_lists kind (values.Text text) vs =
     map (λ v. positions_among text (tokens_of kind v)) (filter (holds kind (values.Text text)) vs)
+value_position_lists kind (values.Texts texts) vs = []
 value_position_lists kind (values.Number n) vs = []

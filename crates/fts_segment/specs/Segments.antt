@@ -52,11 +52,12 @@ abbrev pub document_tokens : List Field → ℕ → DocumentValue → List (ℕ 
 document_tokens schema field document =
     option_map_or (λ kind. tokens_of kind (value_in_field document field)) (kind_at schema field) []
 
--- the positions of a term in each of the documents that have it, where its value is a text; a number has none
+-- the positions of a term in each of the documents that have it, where its value is a text; another has none
 abbrev pub positions_of : SegmentValue → Term → FieldValue → List (List ℕ)
 positions_of segment term (values.Text text) =
     map (λ d. positions_among text (document_tokens segment.schema term.field d.value))
     (filter (λ d. has segment.schema d.value term) segment.documents)
+positions_of segment term (values.Texts texts) = []
 positions_of segment term (values.Number n) = []
 
 abbrev pub positions : SegmentValue → Term → List (List ℕ)

@@ -133,6 +133,6 @@ fn find_text<'a>(dictionary: &'a Dictionary, kind: Kind, term: &FieldValue) -> O
 {
     match term {
         FieldValue::Text(text) => dictionary.find(text.as_str()),
-        FieldValue::Number(_) => None,
+        FieldValue::Texts(_) | FieldValue::Number(_) => None,
     }
 }

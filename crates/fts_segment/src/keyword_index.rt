@@ -74,7 +74,7 @@ fn ordinal(names: &Names, value: Option<&FieldValue>) -> Option<u64>
 {
     match value? {
         FieldValue::Text(text) => Some(find_name(names, text.as_str().as_bytes())? as u64),
-        FieldValue::Number(_) => None,
+        FieldValue::Texts(_) | FieldValue::Number(_) => None,
     }
 }
 

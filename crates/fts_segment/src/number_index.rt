@@ -90,11 +90,11 @@ pub(crate) fn number_in(kind: Kind, value: Option<&FieldValue>) -> Option<u64>
     match kind {
         Kind::U64 => match value {
             FieldValue::Number(Number::U64(number)) => Some(*number),
-            FieldValue::Number(Number::I64(_)) | FieldValue::Text(_) => None,
+            FieldValue::Number(Number::I64(_)) | FieldValue::Text(_) | FieldValue::Texts(_) => None,
         },
         Kind::I64 => match value {
             FieldValue::Number(Number::I64(number)) => Some(i64_to_u64(*number)),
-            FieldValue::Number(Number::U64(_)) | FieldValue::Text(_) => None,
+            FieldValue::Number(Number::U64(_)) | FieldValue::Text(_) | FieldValue::Texts(_) => None,
         },
         Kind::Text | Kind::Keyword => None,
     }

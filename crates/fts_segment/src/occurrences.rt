@@ -1,27 +1,29 @@
 // Puts the tokens of a field into a log, document by document.
-ghost use Rattle.std.specs.Prelude.{◌≡◌, ◌<◌, ◌≤◌, ◌++◌, ◌∷◌, [], ◌^◌, length, OnOk, IfOk, All, map, IfSome};
+ghost use Rattle.std.specs.Prelude.{◌≡◌, ◌+◌, ◌<◌, ◌≤◌, ◌++◌, ◌∷◌, [], ◌^◌, length, OnOk, IfOk, All, map, IfSome};
 ghost use Rattle.std.specs.Prelude.{option_copied};
-ghost use Rattle.fts_text.specs.Places.{IsPlaceIn, token_at};
+ghost use Rattle.fts_text.specs.Places.{IsPlaceFrom, token_at};
 ghost use Rattle.fts_model.specs.Shorts.{IsShort};
 ghost use Rattle.fts_model.specs.declared.schema.Kind.TheVariants.{Text};
-ghost use Rattle.fts_segment.specs.Occurrences.{occurrence_at, occurrences_at, occurrences, values_in, HasFewTokens};
-ghost use Rattle.fts_text.specs.Tokens.{tokens};
+ghost use Rattle.fts_segment.specs.Occurrences.{occurrence_at, occurrences_at, occurrences, values_in, HasFewTokens, HasRoom};
+ghost use Rattle.fts_text.specs.Tokens.{following, tokens_from, tokens_of_texts};
 
 use crate::term_log::TermLog;
-use fts_model::{Document, FieldValue, Kind, Stamped};
+use fts_model::{Document, FieldValue, Kind, Stamped, Texts};
 use fts_text::{Token, Tokens, fold_into};
 use std::alloc::{AllocError, Global};
 
-// Puts a token of a document's text behind the occurrences so far. `term` is room for it.
+// Puts a token of one of a document's texts, whose first span has the number `first`, behind the occurrences so far. `term`
+// is room for it.
 fn push_token(
     log: &mut TermLog,
     term: &mut String,
     doc: u32,
     text: &str,
+    first: usize,
     token: Token,
 ) -> Result<(), AllocError>
-    requires short { length text.now < 2 ^ 32 }
-    requires within { IsPlaceIn text.now token }
+    requires short { first + length text.now + 2 < 2 ^ 32 }
+    requires within { IsPlaceFrom first text.now token }
     ensures { OnOk result (log.new ≡ log.old ++ occurrence_at doc (token_at text.now token) ∷ []) }
 {
     term.clear();
@@ -29,14 +31,39 @@ fn push_token(
     log.push(term.as_str(), doc, token.position as u32)
 }
 
-// Puts the tokens of a document's text behind the occurrences so far.
-fn push_tokens(log: &mut TermLog, term: &mut String, doc: u32, text: &str) -> Result<(), AllocError>
-    requires { length text.now < 2 ^ 32 }
-    ensures logged { OnOk result (log.new ≡ log.old ++ map (occurrence_at doc) (tokens text.now)) }
-    ensures few { length (tokens text.now) < 2 ^ 32 }
+// Puts the tokens of one of a document's texts, whose first span has the number `first`, behind the occurrences so far, and
+// gives the number of the first span of the text behind it.
+fn push_tokens(
+    log: &mut TermLog,
+    term: &mut String,
+    doc: u32,
+    text: &str,
+    first: usize,
+) -> Result<usize, AllocError>
+    requires { first + length text.now + 2 < 2 ^ 32 }
+    ensures logged { OnOk result
+        (log.new ≡ log.old ++ map (occurrence_at doc) (tokens_from first text.now)) }
+    ensures few { length (tokens_from first text.now) ≤ length text.now }
+    ensures next { IfOk result (λ next. next ≡ following first text.now) }
+    ensures near { IfOk result (λ next. next ≤ first + length text.now + 1) }
 {
-    for token in Tokens::new(text) {
-        push_token(log, term, doc, text, token)?;
+    let mut tokens = Tokens::starting(text, first);
+    while let Some(token) = tokens.next_token() {
+        push_token(log, term, doc, text, first, token)?;
+    }
+    Ok(tokens.following())
+}
+
+// Puts the tokens of a list of texts of a document behind the occurrences so far.
+fn push_texts(log: &mut TermLog, term: &mut String, doc: u32, texts: &Texts) -> Result<(), AllocError>
+    requires { HasRoom 0 texts.now }
+    ensures logged { OnOk result
+        (log.new ≡ log.old ++ map (occurrence_at doc) (tokens_of_texts 0 texts.now)) }
+    ensures few { OnOk result (length (tokens_of_texts 0 texts.now) < 2 ^ 32) }
+{
+    let mut first = 0;
+    for number in 0..texts.len() {
+        first = push_tokens(log, term, doc, texts.get(number), first)?;
     }
     Ok(())
 }
@@ -52,16 +79,20 @@ fn push_value(
     requires { IfSome value (λ v. IsShort v.now) }
     ensures logged { OnOk result (log.new
         ≡ log.old ++ occurrences_at kind doc (option_copied value.entry)) }
-    ensures few { HasFewTokens kind (option_copied value.entry) }
+    ensures few { OnOk result (HasFewTokens kind (option_copied value.entry)) }
 {
     match kind {
         Kind::Text => match value {
-            Some(FieldValue::Text(text)) => push_tokens(log, term, doc, text.as_str()),
+            Some(FieldValue::Text(text)) => {
+                push_tokens(log, term, doc, text.as_str(), 0)?;
+                Ok(())
+            }
+            Some(FieldValue::Texts(texts)) => push_texts(log, term, doc, texts),
             Some(FieldValue::Number(_)) | None => Ok(()),
         },
         Kind::Keyword => match value {
             Some(FieldValue::Text(text)) => log.push(text.as_str(), doc, 0),
-            Some(FieldValue::Number(_)) | None => Ok(()),
+            Some(FieldValue::Texts(_) | FieldValue::Number(_)) | None => Ok(()),
         },
         Kind::U64 | Kind::I64 => Ok(()),
     }

@@ -170,6 +170,6 @@ fn text_of(value: &FieldValue) -> Option<&str>
 {
     match value {
         FieldValue::Text(text) => Some(text.as_str()),
-        FieldValue::Number(_) => None,
+        FieldValue::Texts(_) | FieldValue::Number(_) => None,
     }
 }

@@ -1,5 +1,5 @@
 -- What is read under a schema fits it.
-use Rattle.std.proofs.Common.{Bool, ◌≡◌, ◌&&◌, ◌∷◌, ◌∙◌, ℕ, true, false, cond, List, [], length, Option, None, Some, Result, Ok, Err, IfOk, map, refl, ap, subst, option_map, nat_le}
+use Rattle.std.proofs.Common.{Bool, ◌≡◌, ◌&&◌, ◌∷◌, ◌∙◌, ℕ, true, false, cond, List, [], length, Option, None, Some, Result, Ok, Err, IfOk, map, refl, ap, subst, option_map, nat_le, nat_lt}
 use Rattle.std.specs.Option.{ok_or, option_and_then, option_map_or}
 use Rattle.std.proofs.lemmas.Slice.Eq.{bytes_eq-Decides}
 use Rattle.serde_json.specs.Data.{Data, null, boolean, number, string, array, object, Members}
@@ -15,8 +15,8 @@ use Rattle.fts_model.specs.declared.query.Order.{Order}
 use Rattle.fts_model.specs.declared.query.Request.{Request}
 use Rattle.fts_model.specs.declared.query.Top.{Top}
 use Rattle.fts_base.specs.declared.refusal.Refusal.{Refusal}
-use Rattle.fts_base.specs.declared.refusal.Refusal.TheVariants.{WrongKind, TextTooLong, KeywordTooLong, UnknownField, NotANumberField, BadLimit}
-use Rattle.fts_model.specs.Documents.{DocumentValue, is_of_kind, value_in, value_at, members_fault, document_of, may_stand, fits_fields, fits}
+use Rattle.fts_base.specs.declared.refusal.Refusal.TheVariants.{WrongKind, TextTooLong, KeywordTooLong, TooManyTexts, UnknownField, NotANumberField, BadLimit}
+use Rattle.fts_model.specs.Documents.{DocumentValue, is_of_kind, is_term_of, strings_in, bytes_of, some_texts, list_in, value_in, value_at, members_fault, document_of, may_stand, fits_fields, fits}
 use Rattle.fts_model.specs.Operations.{kind_at, term_value, term_at, term_of, term_fits}
 use Rattle.fts_model.specs.Queries.{is_number_field, is_ordered_field, is_limit, field_of, number_field_named, ordered_field_named, groups_of, top_of, request_of, request_fits}
 use Rattle.fts_base.specs.Results.{Gives, value_if_ok, ok_unless, result_and_then, result_map}
@@ -29,11 +29,27 @@ Holds kind value = option_map_or (is_of_kind kind) value true ≡ true
 abbrev flat : Option (Option FieldValue) → Option FieldValue
 flat value = option_and_then (λ v. v) value
 
+some_texts_hold : (texts : List (List ℕ)) → Holds kinds.Text (some_texts texts)
+some_texts_hold [] = refl
+some_texts_hold (text ∷ texts) = refl
+
+lists_hold : (texts : Option (List (List ℕ))) → Holds kinds.Text (flat (value_if_ok (list_in kinds.Text texts)))
+lists_hold None = refl
+lists_hold (Some texts) =
+    elim (nat_lt 1024 (length texts)) as (λ b. Holds kinds.Text (flat (value_if_ok (cond b (Err TooManyTexts) (cond (nat_le (bytes_of texts) 1048576) (Ok (some_texts texts)) (Err TextTooLong)))))) [
+      | true ↦ refl
+      | false ↦
+          elim (nat_le (bytes_of texts) 1048576) as (λ b. Holds kinds.Text (flat (value_if_ok (cond b (Ok (some_texts texts)) (Err TextTooLong))))) [ true ↦ some_texts_hold texts | false ↦ refl ]
+    ]
+
 values_hold : (kind : Kind) (d : Data) → Holds kind (flat (value_if_ok (value_in kind d)))
 values_hold kind null = refl
 values_hold kind (boolean b) = refl
-values_hold kind (array items) = refl
 values_hold kind (object ms) = refl
+values_hold kinds.Text (array items) = lists_hold (strings_in items)
+values_hold kinds.Keyword (array items) = refl
+values_hold kinds.U64 (array items) = refl
+values_hold kinds.I64 (array items) = refl
 values_hold kinds.Text (string text) =
     elim (nat_le (length text) 1048576) as (λ b. Holds kinds.Text (flat (value_if_ok (cond b (Ok (Some (values.Text text))) (Err TextTooLong))))) [ true ↦ refl | false ↦ refl ]
 values_hold kinds.Keyword (string text) =
@@ -76,7 +92,11 @@ document_fits fields (string text) document h = cc
 document_fits fields (array items) document h = cc
 document_fits fields (object ms) document h = whole fields ms (members_fault fields ms) document h
 
-terms_hold : (kind : Kind) (d : Data) → Holds kind (value_if_ok (term_value kind d))
+-- a value, if there is one, is a term of a kind
+abbrev IsTerm : Kind → Option FieldValue → Type 0
+IsTerm kind value = option_map_or (is_term_of kind) value true ≡ true
+
+terms_hold : (kind : Kind) (d : Data) → IsTerm kind (value_if_ok (term_value kind d))
 terms_hold kinds.Text (string text) = refl
 terms_hold kinds.Text null = refl
 terms_hold kinds.Text (boolean b) = refl
@@ -84,7 +104,7 @@ terms_hold kinds.Text (number n) = refl
 terms_hold kinds.Text (array items) = refl
 terms_hold kinds.Text (object ms) = refl
 terms_hold kinds.Keyword (string text) =
-    elim (nat_le (length text) 256) as (λ b. Holds kinds.Keyword (value_if_ok (result_and_then (λ v. ok_or v WrongKind) (cond b (Ok (Some (values.Text text))) (Err KeywordTooLong))))) [ true ↦ refl | false ↦ refl ]
+    elim (nat_le (length text) 256) as (λ b. IsTerm kinds.Keyword (value_if_ok (result_and_then (λ v. ok_or v WrongKind) (cond b (Ok (Some (values.Text text))) (Err KeywordTooLong))))) [ true ↦ refl | false ↦ refl ]
 terms_hold kinds.Keyword null = refl
 terms_hold kinds.Keyword (boolean b) = refl
 terms_hold kinds.Keyword (number n) = refl
@@ -94,24 +114,24 @@ terms_hold kinds.U64 (string text) = refl
 terms_hold kinds.U64 null = refl
 terms_hold kinds.U64 (boolean b) = refl
 terms_hold kinds.U64 (number n) =
-    elim (as_u64 n) as (λ o. Holds kinds.U64 (value_if_ok (result_and_then (λ v. ok_or v WrongKind) (ok_or (option_map (λ x. Some (values.Number (numbers.U64 x))) o) WrongKind)))) [ None ↦ refl | Some x ↦ refl ]
+    elim (as_u64 n) as (λ o. IsTerm kinds.U64 (value_if_ok (result_and_then (λ v. ok_or v WrongKind) (ok_or (option_map (λ x. Some (values.Number (numbers.U64 x))) o) WrongKind)))) [ None ↦ refl | Some x ↦ refl ]
 terms_hold kinds.U64 (array items) = refl
 terms_hold kinds.U64 (object ms) = refl
 terms_hold kinds.I64 (string text) = refl
 terms_hold kinds.I64 null = refl
 terms_hold kinds.I64 (boolean b) = refl
 terms_hold kinds.I64 (number n) =
-    elim (as_i64 n) as (λ o. Holds kinds.I64 (value_if_ok (result_and_then (λ v. ok_or v WrongKind) (ok_or (option_map (λ x. Some (values.Number (numbers.I64 x))) o) WrongKind)))) [ None ↦ refl | Some x ↦ refl ]
+    elim (as_i64 n) as (λ o. IsTerm kinds.I64 (value_if_ok (result_and_then (λ v. ok_or v WrongKind) (ok_or (option_map (λ x. Some (values.Number (numbers.I64 x))) o) WrongKind)))) [ None ↦ refl | Some x ↦ refl ]
 terms_hold kinds.I64 (array items) = refl
 terms_hold kinds.I64 (object ms) = refl
 
-made : (schema : List Field) (field : ℕ) (kind : Kind) (value : Result FieldValue Refusal) (term : Term) → kind_at schema field ≡ Some kind → Holds kind (value_if_ok value) →
+made : (schema : List Field) (field : ℕ) (kind : Kind) (value : Result FieldValue Refusal) (term : Term) → kind_at schema field ≡ Some kind → IsTerm kind (value_if_ok value) →
     result_map (λ v. record { field = field; value = v }) value ≡ Ok term → term_fits schema term ≡ true
 made schema field kind (Err e) term there h is = cc
 made schema field kind (Ok v) term there h is =
     let here : Term = record { field = field; value = v } in
     let same : here ≡ term = cc in
-    subst (λ t. term_fits schema t ≡ true) same (ap (λ k. option_map_or (λ kind. is_of_kind kind v) k false) there ∙ h)
+    subst (λ t. term_fits schema t ≡ true) same (ap (λ k. option_map_or (λ kind. is_term_of kind v) k false) there ∙ h)
 
 at_field : (schema : List Field) (field : ℕ) (d : Data) (term : Term) → term_at schema field d ≡ Ok term → term_fits schema term ≡ true
 at_field schema field d term h =

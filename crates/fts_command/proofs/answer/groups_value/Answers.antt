@@ -4,7 +4,7 @@ use Rattle.serde_json.specs.Data.{Data, item, array}
 use Rattle.serde_json.proofs.Views.{view-Array}
 use Rattle.fts_model.specs.declared.value.GroupValue.{GroupValue}
 use Rattle.fts_command.specs.AnswerData.{group_data, groups_data}
-use Rattle.fts_command.proofs.AnswerLemmas.{items_before, items_pushed, items_alone}
+use Rattle.fts_model.proofs.ItemsLemmas.{items_before, items_pushed, items_alone}
 use Rattle.fts_command.proofs.answer.groups_value.Goals as goal
 
 pub loop-group-preserved : goal.loop-group-preserved

@@ -1,6 +1,6 @@
 use Rattle.std.proofs.Common.{◌≡◌, drop}
 use Rattle.fts_command.specs.AnswerData.{groups_data}
-use Rattle.fts_command.proofs.AnswerLemmas.{items_before}
+use Rattle.fts_model.proofs.ItemsLemmas.{items_before}
 use Rattle.fts_command.proofs.answer.groups_value.Given as goal
 
 -- the groups so far, and those that are left

@@ -4,7 +4,7 @@ use Rattle.serde_json.specs.Data.{Data, item, array}
 use Rattle.serde_json.proofs.Views.{view-Array}
 use Rattle.fts_model.specs.declared.answer.Hit.{Hit}
 use Rattle.fts_command.specs.AnswerData.{hits_data}
-use Rattle.fts_command.proofs.AnswerLemmas.{items_before, items_pushed, items_alone}
+use Rattle.fts_model.proofs.ItemsLemmas.{items_before, items_pushed, items_alone}
 use Rattle.fts_command.proofs.answer.hits_value.Goals as goal
 
 pub loop-hit-preserved : goal.loop-hit-preserved

@@ -1,6 +1,6 @@
 use Rattle.std.proofs.Common.{◌≡◌, drop}
 use Rattle.fts_command.specs.AnswerData.{hits_data}
-use Rattle.fts_command.proofs.AnswerLemmas.{items_before}
+use Rattle.fts_model.proofs.ItemsLemmas.{items_before}
 use Rattle.fts_command.proofs.answer.hits_value.Given as goal
 
 -- the hits so far, and those that are left

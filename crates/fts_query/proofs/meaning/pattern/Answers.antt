@@ -15,7 +15,7 @@ overflow_cast-offset c =
     omega (arith, fits, c.saturating_sub-offset.ensures)
 
 pub token-requires : goal.token-requires
-token-requires c = Gathers-place c.args.text.now c.args.from c.loop-place.pattern.items c.in-Some.place _ (places_left c.next.new.self) c.in-Some.ensures.steps c.loop-place.invariant.2
+token-requires c = (Gathers-place c.args.text.now c.args.from c.loop-place.pattern.items c.in-Some.place _ (places_left c.next.new.self) c.in-Some.ensures.steps c.loop-place.invariant.2).place
 
 pub loop-place-preserved : goal.loop-place-preserved
 loop-place-preserved c =

@@ -1,5 +1,5 @@
-use Rattle.std.proofs.Common.{Some, ap, sym, ◌∙◌}
-use Rattle.fts_segment.proofs.FieldLemmas.{if_none, if_some, text_absent, text_found, text_without}
+use Rattle.std.proofs.Common.{Some, ap, inl, inr, sym, ◌∙◌}
+use Rattle.fts_segment.proofs.FieldLemmas.{if_none, if_some, text_absent, text_found, text_without, texts_without}
 use Rattle.fts_segment.proofs.PositionsLemmas.{position_lists_found}
 use Rattle.fts_segment.proofs.field_index.find_text.Goals as goal
 
@@ -14,9 +14,12 @@ pub returns-in-Text-clause-documents : goal.returns-in-Text-clause-documents
 returns-in-Text-clause-documents c vs a = rw c.in-Text.is (if_some _ _ _ c.find.result c.find.ensures (λ list found.
     found.2 ∙ (text_found c.in-Text.text found.0 a (found.1 ∙ ap Some c.as_str.ensures)).0))
 
-pub returns-in-Number-clause-none : goal.returns-in-Number-clause-none
-returns-in-Number-clause-none c vs a = rw c.in-Number.is (text_without c.in-Number.field-0 a)
-
 pub returns-in-Text-clause-positions : goal.returns-in-Text-clause-positions
 returns-in-Text-clause-positions c vs a = rw c.in-Text.is (if_some _ _ _ c.find.result c.find.ensures (λ list found.
     found.3 ∙ position_lists_found c.in-Text.text found.0 a (found.1 ∙ ap Some c.as_str.ensures)))
+
+pub returns-in-Texts-clause-none : goal.returns-in-Texts-clause-none
+returns-in-Texts-clause-none c vs a = elim c.in-Texts.is [
+  | inl texts ↦ rw texts.1 (texts_without c.args.kind vs texts.0)
+  | inr number ↦ rw number.1 (text_without number.0 a)
+]

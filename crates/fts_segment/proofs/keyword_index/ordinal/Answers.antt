@@ -1,5 +1,5 @@
 -- The number of a text among the names is how many are before it.
-use Rattle.std.proofs.Common.{◌≡◌, Some, List, ℕ, option_copied, option_map, sym, ap, ◌∙◌}
+use Rattle.std.proofs.Common.{◌≡◌, Some, option_copied, option_map, sym, ap, ◌∙◌}
 use Rattle.fts_model.specs.declared.schema.Kind.TheVariants as kinds
 use Rattle.fts_model.specs.declared.value.FieldValue.TheVariants as values
 use Rattle.fts_segment.specs.Keywords.{before, keyword_of}

@@ -1,5 +1,5 @@
 -- The last document of the first block is one of the list.
-use Rattle.std.proofs.Common.{◌≡◌, ◌==◌, ◌<◌, ℕ, false, [], Contains, length, get_or, sym, ap, subst, ◌∙◌, arith}
+use Rattle.std.proofs.Common.{◌≡◌, ◌==◌, ◌<◌, false, [], Contains, length, get_or, sym, ap, subst, ◌∙◌, arith}
 use Rattle.std.proofs.lemmas.Bool.{eqb-false}
 use Rattle.fts_pack.specs.Documents.{blocks_of, last_of}
 use Rattle.fts_segment.proofs.OrdinalLemmas.{last_of_first}

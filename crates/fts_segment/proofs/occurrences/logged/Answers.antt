@@ -19,5 +19,5 @@ loop-doc-preserved c =
       c.in_ok-push_value.ensures.logged ∙ ap (λ os. os ++ occurrences_at kind i (option_copied c.value-value.result)) c.loop-doc.invariant.0
           ∙ ap (λ v. occurrences kind 0 vs ++ occurrences_at kind i v) c.value-value.ensures.value
           ∙ sym (occurrences-push kind 0 i vs v (omega (arith, length-values c.args.field ds i (omega arith)))),
-      All-push (HasFewTokens kind) vs v c.loop-doc.invariant.1 (subst (HasFewTokens kind) c.value-value.ensures.value c.push_value.ensures.few),
+      All-push (HasFewTokens kind) vs v c.loop-doc.invariant.1 (subst (HasFewTokens kind) c.value-value.ensures.value c.in_ok-push_value.ensures.few),
     )

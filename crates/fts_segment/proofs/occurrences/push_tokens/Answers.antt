@@ -1,26 +1,23 @@
-use Rattle.std.proofs.Common.{◌≡◌}
-use Rattle.fts_text.specs.Places.{places, places_left}
-use Rattle.fts_segment.proofs.OccurrencesLemmas.{Logs-start, Logs-place, Logs-next}
+use Rattle.std.proofs.Common.{arith}
+use Rattle.fts_text.proofs.StretchLemmas.{following-le}
+use Rattle.fts_segment.proofs.OccurrencesLemmas.{Logs-start, Logs-next}
 use Rattle.fts_segment.proofs.TokenLemmas.{few_tokens}
 use Rattle.fts_segment.proofs.occurrences.push_tokens.Goals as goal
 
 pub loop-token-init : goal.loop-token-init
-loop-token-init c =
-    let start : places_left c.into_iter-token-iterator.result ≡ places c.args.text.now = cc in
-    (tt, tt, Logs-start c.args.text.now c.args.doc c.args.log.now _ c.utf8.text start)
-
-pub push_token-requires-clause-within : goal.push_token-requires-clause-within
-push_token-requires-clause-within c = Logs-place c.in-Some.token _ (places_left c.next.new.self) c.in-Some.ensures.steps c.loop-token.invariant.2
+loop-token-init c = Logs-start c.args.first c.args.text.now c.args.doc c.args.log.now c.starting-tokens.result c.utf8.text c.starting-tokens.ensures.tokens c.starting-tokens.ensures.following
 
 pub loop-token-preserved : goal.loop-token-preserved
-loop-token-preserved c = (
-  tt,
-  tt,
-  Logs-next c.in-Some.token _ (places_left c.next.new.self) _ c.in-Some.ensures.steps c.in_ok-push_token.ensures c.loop-token.invariant.2,
-)
+loop-token-preserved c = Logs-next c.in-Some.token c.loop-token.tokens c.next_token.new.self _ c.in-Some.ensures.steps c.in-Some.ensures.following c.in_ok-push_token.ensures c.loop-token.invariant
 
 pub returns-in_err-push_token-clause-few : goal.returns-in_err-push_token-clause-few
-returns-in_err-push_token-clause-few c = few_tokens c.args.text.now c.utf8.text c.requires
+returns-in_err-push_token-clause-few c = few_tokens c.args.first c.args.text.now c.utf8.text
+
+pub following-requires : goal.following-requires
+following-requires c = omega (arith, c.in_default.ensures.following, c.loop-token.invariant.follows, following-le c.args.first c.args.text.now c.utf8.text, c.requires)
 
 pub returns-clause-few : goal.returns-clause-few
-returns-clause-few c = few_tokens c.args.text.now c.utf8.text c.requires
+returns-clause-few c = few_tokens c.args.first c.args.text.now c.utf8.text
+
+pub returns-clause-near : goal.returns-clause-near
+returns-clause-near c = omega (arith, c.following.ensures, c.in_default.ensures.following, c.loop-token.invariant.follows, following-le c.args.first c.args.text.now c.utf8.text)
