@@ -27,12 +27,14 @@ value_can : (kind other : Kind) (v : FieldValue) → holds_numbers kind ≡ true
 value_can kinds.Text other v holds is can = cc
 value_can kinds.Keyword other v holds is can = cc
 value_can kinds.U64 other (values.Text text) holds is can = cc
+value_can kinds.U64 other (values.Texts texts) holds is can = cc
 value_can kinds.U64 other (values.Number (numbers.I64 z)) holds is can = cc
 value_can kinds.U64 kinds.Text (values.Number (numbers.U64 n)) holds is can = cc
 value_can kinds.U64 kinds.Keyword (values.Number (numbers.U64 n)) holds is can = cc
 value_can kinds.U64 kinds.U64 (values.Number (numbers.U64 n)) holds is can = can
 value_can kinds.U64 kinds.I64 (values.Number (numbers.U64 n)) holds is can = cc
 value_can kinds.I64 other (values.Text text) holds is can = cc
+value_can kinds.I64 other (values.Texts texts) holds is can = cc
 value_can kinds.I64 other (values.Number (numbers.U64 n)) holds is can = cc
 value_can kinds.I64 kinds.Text (values.Number (numbers.I64 z)) holds is can = cc
 value_can kinds.I64 kinds.Keyword (values.Number (numbers.I64 z)) holds is can = cc

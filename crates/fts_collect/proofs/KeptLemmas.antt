@@ -40,15 +40,17 @@ use Rattle.fts_collect.proofs.ValuesLemmas.{kept-cons, map-cons, number_fits, si
 
 -- what a column of numbers keeps of a value stands for it
 number_kept : (kind : Kind) (keywords : List (List ℕ)) (v : Option FieldValue) → holds_numbers kind ≡ true → CanHave kind v →
-    option_map group_of v ≡ option_map (value_in kind keywords) (number_of kind v)
+    option_and_then group_of v ≡ option_map (value_in kind keywords) (number_of kind v)
 number_kept kinds.Text keywords v h can = cc
 number_kept kinds.Keyword keywords v h can = cc
 number_kept kinds.U64 keywords None h can = refl
 number_kept kinds.U64 keywords (Some (values.Text text)) h can = cc
+number_kept kinds.U64 keywords (Some (values.Texts texts)) h can = cc
 number_kept kinds.U64 keywords (Some (values.Number (numbers.U64 n))) h can = refl
 number_kept kinds.U64 keywords (Some (values.Number (numbers.I64 z))) h can = cc
 number_kept kinds.I64 keywords None h can = refl
 number_kept kinds.I64 keywords (Some (values.Text text)) h can = cc
+number_kept kinds.I64 keywords (Some (values.Texts texts)) h can = cc
 number_kept kinds.I64 keywords (Some (values.Number (numbers.U64 n))) h can = cc
 number_kept kinds.I64 keywords (Some (values.Number (numbers.I64 z))) h can = ap (λ x. Some (group_values.I64 x)) (sym (signed_back z can))
 
@@ -88,9 +90,10 @@ texts_climb vs = in_order-climbs (texts_in (map (keyword_of kinds.Keyword) vs))
 
 -- the ordinal of a text stands for it
 ordinal_kept : (vs : List (Option FieldValue)) (v : Option FieldValue) → Contains vs v → IfSome v (λ v. is_of_kind kinds.Keyword v ≡ true) →
-    option_map group_of v ≡ option_map (value_in kinds.Keyword (texts_of kinds.Keyword vs)) (option_map (before (texts_of kinds.Keyword vs)) (keyword_of kinds.Keyword v))
+    option_and_then group_of v ≡ option_map (value_in kinds.Keyword (texts_of kinds.Keyword vs)) (option_map (before (texts_of kinds.Keyword vs)) (keyword_of kinds.Keyword v))
 ordinal_kept vs None at is = refl
 ordinal_kept vs (Some (values.Text t)) at is = ap (λ x. Some (group_values.Keyword x)) (sym (text_at (texts_of kinds.Keyword vs) t (texts_climb vs) (text_among vs t at)).1)
+ordinal_kept vs (Some (values.Texts ts)) at is = cc
 ordinal_kept vs (Some (values.Number n)) at is = cc
 
 -- and is one of so many
@@ -98,6 +101,7 @@ ordinal_within : (vs : List (Option FieldValue)) (v : Option FieldValue) → Con
     IfSome (option_map (before (texts_of kinds.Keyword vs)) (keyword_of kinds.Keyword v)) (λ x. x < length (texts_of kinds.Keyword vs))
 ordinal_within vs None at = tt
 ordinal_within vs (Some (values.Text t)) at = (text_at (texts_of kinds.Keyword vs) t (texts_climb vs) (text_among vs t at)).0
+ordinal_within vs (Some (values.Texts ts)) at = tt
 ordinal_within vs (Some (values.Number n)) at = tt
 
 -- a column keeps numbers below a bound for the values of documents, in their order
@@ -108,7 +112,7 @@ pub record IsKept (documents : List (Stamped DocumentValue)) (field bound : ℕ)
 
 -- a column of what is kept of each value is one
 is_kept : (documents : List (Stamped DocumentValue)) (field bound : ℕ) (keep : Option FieldValue → Option ℕ) (value : ℕ → GroupValue) →
-    All (λ d. option_map group_of (value_in_field d.value field) ≡ option_map value (keep (value_in_field d.value field))) documents →
+    All (λ d. option_and_then group_of (value_in_field d.value field) ≡ option_map value (keep (value_in_field d.value field))) documents →
     All (λ d. IfSome (keep (value_in_field d.value field)) (λ x. x < bound)) documents → KeepsOrder group_cmp value bound →
     IsKept documents field bound (map (λ d. keep (value_in_field d.value field)) documents) value
 is_kept documents field bound keep value kept within keeps =

@@ -44,10 +44,12 @@ number_kept kinds.Text value h can = cc
 number_kept kinds.Keyword value h can = cc
 number_kept kinds.U64 None h can = refl
 number_kept kinds.U64 (Some (values.Text text)) h can = cc
+number_kept kinds.U64 (Some (values.Texts texts)) h can = cc
 number_kept kinds.U64 (Some (values.Number (numbers.U64 n))) h can = refl
 number_kept kinds.U64 (Some (values.Number (numbers.I64 z))) h can = cc
 number_kept kinds.I64 None h can = refl
 number_kept kinds.I64 (Some (values.Text text)) h can = cc
+number_kept kinds.I64 (Some (values.Texts texts)) h can = cc
 number_kept kinds.I64 (Some (values.Number (numbers.U64 n))) h can = cc
 number_kept kinds.I64 (Some (values.Number (numbers.I64 z))) h can = ap (λ x. Some (numbers.I64 x)) (sym (signed_back z can))
 
@@ -55,13 +57,17 @@ number_kept kinds.I64 (Some (values.Number (numbers.I64 z))) h can = ap (λ x. S
 pub number_fits : (kind : Kind) (value : Option FieldValue) → CanHave kind value → IfSome (number_of kind value) (λ x. x < 2 ^ 64)
 number_fits kind None can = tt
 number_fits kinds.Text (Some (values.Text text)) can = tt
+number_fits kinds.Text (Some (values.Texts texts)) can = tt
 number_fits kinds.Text (Some (values.Number n)) can = tt
 number_fits kinds.Keyword (Some (values.Text text)) can = tt
+number_fits kinds.Keyword (Some (values.Texts texts)) can = tt
 number_fits kinds.Keyword (Some (values.Number n)) can = tt
 number_fits kinds.U64 (Some (values.Text text)) can = tt
+number_fits kinds.U64 (Some (values.Texts texts)) can = tt
 number_fits kinds.U64 (Some (values.Number (numbers.U64 n))) can = ltb-true n (2 ^ 64) can
 number_fits kinds.U64 (Some (values.Number (numbers.I64 z))) can = tt
 number_fits kinds.I64 (Some (values.Text text)) can = tt
+number_fits kinds.I64 (Some (values.Texts texts)) can = tt
 number_fits kinds.I64 (Some (values.Number (numbers.U64 n))) can = tt
 number_fits kinds.I64 (Some (values.Number (numbers.I64 (pos n)))) can = let within = ltb-true n (2 ^ 63) can in omega (arith, within)
 number_fits kinds.I64 (Some (values.Number (numbers.I64 (negsuc n)))) can = omega arith

@@ -7,7 +7,7 @@ use std::fmt::Write;
 pub fn text_of(value: &FieldValue) -> &str {
     match value {
         FieldValue::Text(text) => text.as_str(),
-        FieldValue::Number(_) => "",
+        FieldValue::Texts(_) | FieldValue::Number(_) => "",
     }
 }
 
