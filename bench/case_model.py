@@ -27,10 +27,15 @@ class Subject:
         print(self.name, len(self.lines))
 
 
-def tokens(text):
-    """Runs of letters and digits, folded, each with its number; those of 40 bytes or more are dropped."""
-    found = [(place, run.lower()) for place, run in enumerate(re.findall(r"[^\W_]+", text))]
-    return [[place, run] for place, run in found if len(run.encode()) < 40]
+def tokens(value):
+    """Runs of letters and digits, folded, each with its number; those of 40 bytes or more are dropped. Of a list the first run
+    of a text is numbered two above the last of the texts before it."""
+    found, first = [], 0
+    for text in value if isinstance(value, list) else [value]:
+        runs = re.findall(r"[^\W_]+", text)
+        found += [[first + place, run.lower()] for place, run in enumerate(runs) if len(run.encode()) < 40]
+        first += len(runs) + 1 if runs else 0
+    return found
 
 
 def has(document, field, text):

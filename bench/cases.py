@@ -3,7 +3,7 @@ bench/case_model.py, which shares nothing with the index."""
 import json
 import os
 
-from case_model import GREATEST, HERE, Subject, answer, error, named
+from case_model import GREATEST, HERE, Subject, answer, error, named, tokens
 from case_queries import LONG, t, write_cursors, write_queries
 from case_random import write_cuttings, write_generated, write_walks
 
@@ -274,6 +274,59 @@ def write_segments():
     s.write()
 
 
+DROPPED = "x" * 40
+LISTED = [{"title": ["a b", "c"]}, {"title": ["!!!", "a"]}, {"title": [DROPPED, "a"]}, {"title": ["a", "!!", "b"]}, {"title": []}]
+MORE_LISTED = [{"title": ["b", "a b"]}, {"title": "a b"}, {"title": ["b"]}, {"title": ["c", "c c"]}, {"title": ["a", "b c"]}]
+
+
+def write_lists():
+    s = Subject("lists")
+    for sentence, document, gives in [
+            ("A text field keeps a list of texts", {"title": ["a b", "c"]}, None),
+            ("A list of one text is kept as a list", {"title": ["a"]}, None),
+            ("Texts of a list may be empty and stand twice", {"title": ["", "a", "", "a"]}, None),
+            ("Texts of a list are kept with quotes, breaks and characters outside of ASCII", {"title": ["\"\\\n", "é😀"]}, None),
+            ("An empty list is no value", {"title": []}, {}),
+            ("A number in a list is no text", {"title": ["a", 1]}, error("WrongKind")),
+            ("A null in a list is no text", {"title": ["a", None]}, error("WrongKind")),
+            ("A list in a list is no text", {"title": ["a", ["b"]]}, error("WrongKind")),
+            ("A keyword is no list", {"tag": ["a"]}, error("WrongKind")),
+            ("A keyword is no empty list", {"tag": []}, error("WrongKind")),
+            ("A number is no list", {"price": [1]}, error("WrongKind"))]:
+        s.case(sentence, "document", document if gives is None else gives, document=document)
+    for kind, fits in [("text", True), ("keyword", False)]:
+        s.case(f"A list {'fits a' if fits else 'fits no'} {kind} field", "fits", fits, document={"title": ["a", "b"]},
+               fields=[{"name": "title", "kind": kind, "default": False}])
+    s.case("A document has the tokens of each of its texts", "has", True, document={"title": ["Rust book", "!", "The end"]},
+           term={"field": "title", "is": "end"})
+    s.case("A document has no token of two texts", "has", False, document={"title": ["Rust", "book"]},
+           term={"field": "title", "is": "rustbook"})
+    s.case("A term is no list", "term", error("WrongKind"), term={"field": "title", "is": ["a"]})
+    s.case("Five documents with lists make a segment", "make", 5, documents=LISTED, stamps=[1, 2, 3, 4, 5])
+
+    def stands(sentence, documents, text):
+        places = [[place for place, run in tokens(document["title"]) if run == text] for document in documents]
+        s.case(sentence, "all_positions", [at for at in places if at], term=word(text))
+
+    stands("A first text begins at 0, behind one without a run too, and two behind a dropped run", LISTED, "a")
+    stands("A text without a run between two changes nothing", LISTED, "b")
+    stands("The second text begins two behind the last run of the first", LISTED, "c")
+    for sentence, query, docs in [
+            ("A phrase stands within a text", '"a b"', [0]), ("A phrase doesn't run into the next text", '"b c"', []),
+            ("A phrase with the gap of a dropped run does", f'"b {DROPPED} c"', [0]),
+            ("And over a text without a run", f'"a {DROPPED} b"', [3]), ("A word is found in each text of a list", "c", [0]),
+            ("A document with an empty list is one of all", "*", [0, 1, 2, 3, 4])]:
+        s.case(sentence, "found", docs, query=query)
+    s.case("A delete strikes by a token of a list", "strike", [1, 2, 4],
+           ops=[{"stamp": 9, "op": {"delete": {"field": "title", "is": "b"}}}])
+    s.case("Five more documents make another", "make", 5, documents=MORE_LISTED, stamps=[6, 7, 8, 9, 10])
+    stands("Words stand in a text and in lists", MORE_LISTED, "b")
+    stands("A word that stands twice in a list", MORE_LISTED, "c")
+    s.case("Lists and texts are merged in the order of their sources", "merged_postings", [0, 2, 3, 4], first=[0, 3],
+           second=[1, 2, 4], term=word("b"))
+    s.write()
+
+
 def drawn(number, most):
     return ((number * 6364136223846793005 % 2**64) >> 33) % most if most else 0
 
@@ -474,5 +527,5 @@ if __name__ == "__main__":
     os.makedirs(HERE, exist_ok=True)
     for write in [write_tokens, write_schemas, write_documents, write_scan, write_queries, write_segments,
                   write_cursors, write_collectors,
-                  write_merges, write_packing, write_generated, write_walks, write_cuttings, write_wrong]:
+                  write_merges, write_packing, write_generated, write_walks, write_cuttings, write_lists, write_wrong]:
         write()

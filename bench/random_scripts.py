@@ -4,6 +4,7 @@ import random
 
 WORDS = ["a", "b", "c", "Rust", "rust", "straße", "STRASSE", "index"]
 TAGS = ["p", "q", "r s", "Rust", "", "é", "😀"]
+LONG = "y" * 40
 BOUNDS = ["p", "q", "r", "Rust", "*", "z", "é", "～", "pp"]
 SCHEMA = {"schema": [
     {"name": "title", "kind": "text", "default": True}, {"name": "tag", "kind": "keyword", "default": True},
@@ -25,8 +26,10 @@ def words(chance, most):
 
 def document(chance):
     made = {}
-    if chance.random() < 0.9:
+    if chance.random() < 0.6:
         made["title"] = words(chance, 5)
+    elif chance.random() < 0.75:
+        made["title"] = [chance.choice([words(chance, 3), words(chance, 3), "", "!", LONG, f"a {LONG}"]) for _ in range(chance.randint(0, 4))]
     if chance.random() < 0.6:
         made["tag"] = chance.choice(TAGS)
     if chance.random() < 0.7:
@@ -39,7 +42,7 @@ def document(chance):
 def query(chance, depth):
     kind = chance.randrange(9 if depth > 0 else 5)
     if kind == 0:
-        return f'"{words(chance, 3)}"'
+        return f'"{words(chance, 3)}"' if chance.random() < 0.7 else f'"{chance.choice(WORDS)} {LONG} {chance.choice(WORDS)}"'
     if kind == 1:
         low, high = sorted((chance.randrange(-3, 4), chance.randrange(-3, 4)))
         return chance.choice([f"temp:[{low} TO {high}]", f"temp:{{{low} TO *]", f"temp:>={low}", f"price:<{high + 3}", "price:[* TO *]"])
