@@ -1,5 +1,5 @@
 -- Loops over the tokens of texts that look for one which passes a test.
-use Rattle.std.proofs.Common.{◌≡◌, ◌≤◌, ◌<◌, ◌^◌, ℕ, suc, ◌+◌, Bool, true, false, ◌||◌, List, [], ◌∷◌, ◌++◌, length, map, drop, get_or, refl, sym, ap, subst, ◌∙◌, arith, All, Option, Some, None}
+use Rattle.std.proofs.Common.{◌≡◌, ◌≤◌, ◌<◌, ◌^◌, ℕ, suc, ◌+◌, Bool, true, false, ◌||◌, List, [], ◌∷◌, length, map, drop, get_or, refl, sym, ap, subst, ◌∙◌, arith, All, Some, None}
 use Rattle.std.specs.List.{list_any}
 use Rattle.std.specs.Prelude.{sum_by}
 use Rattle.std.specs.Str.{IsUtf8}
@@ -10,7 +10,7 @@ use Rattle.fts_text.specs.declared.tokenizer.Token.{Token}
 use Rattle.fts_text.specs.declared.tokenizer.Tokens.{Tokens}
 use Rattle.fts_text.specs.Tokens.{following, tokens_from, tokens_of_texts}
 use Rattle.fts_text.specs.Places.{places_from, places_left, following_left, token_at, IsPlaceFrom}
-use Rattle.fts_text.proofs.StretchLemmas.{All-IsPlaceFrom, following-le, tokens-places}
+use Rattle.fts_text.proofs.StretchLemmas.{All-IsPlaceFrom, tokens-places}
 use Rattle.fts_model.specs.Documents.{bytes_of}
 use Rattle.fts_scan.specs.Scans.{HasRoom, IsSought}
 

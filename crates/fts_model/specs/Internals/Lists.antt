@@ -1,6 +1,6 @@
 -- How a JSON array is read as a list of texts.
 use Rattle.std.specs.Prelude.{ℕ, ◌+◌, ◌-◌, ◌^◌, min, length, Option, Some, None}
-use Rattle.serde_json.specs.Data.{Data, string, Items, no_items, item}
+use Rattle.serde_json.specs.Data.{string, Items, no_items, item}
 
 -- the bytes of texts behind so many others, which stay at the greatest number of 64 bits, if each item is a text
 abbrev pub bytes_behind : ℕ → Items → Option ℕ

@@ -1,6 +1,5 @@
-use Rattle.std.proofs.Common.{◌≡◌, ◌<◌, ◌≤◌, ◌+◌, ◌++◌, ◌∷◌, ℕ, List, [], Some, length, drop, sym, ap, ◌∙◌, arith, append-nil, option_map}
+use Rattle.std.proofs.Common.{◌≡◌, ◌<◌, ◌+◌, ◌++◌, ◌∷◌, ℕ, List, [], Some, length, drop, sym, ap, ◌∙◌, arith, append-nil, option_map}
 use Rattle.std.proofs.lemmas.List.{drop_all, drop_more}
-use Rattle.serde_json.specs.Data.{item}
 use Rattle.serde_json.specs.View.{items_view, view}
 use Rattle.serde_json.specs.declared.value.Value.{Value}
 use Rattle.fts_model.specs.Documents.{strings_in}

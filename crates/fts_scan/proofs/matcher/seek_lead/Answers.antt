@@ -1,4 +1,4 @@
-use Rattle.std.proofs.Common.{◌≡◌, sym, ◌∙◌, arith}
+use Rattle.std.proofs.Common.{sym, ◌∙◌, arith}
 use Rattle.fts_text.specs.Tokens.{tokens_of_texts}
 use Rattle.fts_text.proofs.StretchLemmas.{following-le}
 use Rattle.fts_model.specs.Queries.{leads}

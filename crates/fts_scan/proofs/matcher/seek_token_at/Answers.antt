@@ -1,7 +1,7 @@
-use Rattle.std.proofs.Common.{◌≡◌, ◌+◌, ◌==◌, ◌&&◌, ℕ, Bool, sym, ◌∙◌, arith}
+use Rattle.std.proofs.Common.{◌+◌, ◌==◌, ◌&&◌, sym, ◌∙◌, arith}
 use Rattle.std.specs.Str.{bytes_eq}
 use Rattle.fts_text.proofs.StretchLemmas.{following-le}
-use Rattle.fts_scan.proofs.PlacesSought.{Seeks-start, Seeks-place, Seeks-next}
+use Rattle.fts_scan.proofs.PlacesSought.{Seeks-start, Seeks-next}
 use Rattle.fts_scan.proofs.matcher.seek_token_at.Goals as goal
 
 pub loop-place-init : goal.loop-place-init

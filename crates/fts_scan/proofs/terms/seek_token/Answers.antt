@@ -1,4 +1,4 @@
-use Rattle.std.proofs.Common.{◌≡◌, sym, ◌∙◌, arith}
+use Rattle.std.proofs.Common.{sym, ◌∙◌, arith}
 use Rattle.std.specs.Str.{bytes_eq}
 use Rattle.fts_text.proofs.StretchLemmas.{following-le}
 use Rattle.fts_scan.proofs.PlacesSought.{Seeks-start, Seeks-next}

@@ -1,4 +1,4 @@
-use Rattle.std.proofs.Common.{◌≡◌, ◌<◌, ◌≤◌, ℕ, List, [], ◌∷◌, length, get_or, sym, ap, ◌∙◌, arith, string_bytes}
+use Rattle.std.proofs.Common.{◌<◌, [], ◌∷◌, length, get_or, sym, ap, ◌∙◌, arith, string_bytes}
 use Rattle.std.specs.Prelude.{slice_index_or, slice_range}
 use Rattle.std.proofs.lemmas.List.{get_or_past, get_or_default}
 use Rattle.fts_base.proofs.PiecesLemmas.{length-pieces, get_or-pieces, end_at}

@@ -1,9 +1,8 @@
-use Rattle.std.proofs.Common.{◌≡◌, ◌++◌, ◌∷◌, ℕ, List, [], length, refl, sym, ap, subst, ◌∙◌, arith, length-append, string_bytes}
+use Rattle.std.proofs.Common.{◌≡◌, ◌++◌, ◌∷◌, [], length, ap, subst, ◌∙◌, arith, string_bytes}
 use Rattle.std.specs.Str.{IsCharBoundary}
 use Rattle.fts_base.specs.Pieces.{pieces}
 use Rattle.fts_base.proofs.PiecesLemmas.{pieces-push}
 use Rattle.std.proofs.lemmas.Str.{IsCharBoundary-at_seam}
-use Rattle.fts_model.specs.Internals.Joined.{AreTextEnds}
 use Rattle.fts_model.proofs.TextsLemmas.{AreTextEnds-push}
 use Rattle.fts_model.proofs.texts.Texts.push.Goals as goal
 

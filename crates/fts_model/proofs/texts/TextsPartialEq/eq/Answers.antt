@@ -1,8 +1,8 @@
-use Rattle.std.proofs.Common.{◌≡◌, ◌<◌, ◌≤◌, ◌+◌, ◌&&◌, Bool, true, false, not, ℕ, List, [], length, get_or, drop, refl, sym, ap, ◌∙◌, arith}
+use Rattle.std.proofs.Common.{◌≡◌, ◌<◌, ◌≤◌, ◌+◌, ◌&&◌, Bool, true, false, not, [], length, get_or, drop, refl, sym, ap, ◌∙◌, arith}
 use Rattle.std.specs.Cmp.Lexicographic.{pointwise}
 use Rattle.std.specs.Str.{bytes_eq}
 use Rattle.std.proofs.lemmas.List.{drop_all}
-use Rattle.fts_model.proofs.TextsLemmas.{pointwise-lengths, pointwise-step}
+use Rattle.fts_model.proofs.TextsLemmas.{pointwise-step}
 use Rattle.fts_model.proofs.texts.TextsPartialEq.eq.Goals as goal
 
 -- what isn't true is false

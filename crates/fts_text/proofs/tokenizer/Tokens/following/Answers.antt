@@ -1,4 +1,4 @@
-use Rattle.std.proofs.Common.{◌≡◌, ◌+◌, ℕ, sym, ◌∙◌, arith}
+use Rattle.std.proofs.Common.{◌≡◌, sym, ◌∙◌, arith}
 use Rattle.fts_text.specs.declared.tokenizer.Tokens.{Tokens}
 use Rattle.fts_text.specs.Places.{YieldsSpan, following_left}
 use Rattle.fts_text.proofs.PlaceLemmas.{behind-other, behind-same, following_left-end, following_left-next, following_left-none}
