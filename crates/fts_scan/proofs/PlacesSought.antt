@@ -73,7 +73,7 @@ pub record SeeksOn (texts : List (List ℕ)) (test : ℕ × List ℕ → Bool) (
 
 -- at first all texts are left
 pub SeeksOn-start : (texts : List (List ℕ)) (test : ℕ × List ℕ → Bool) → HasRoom 0 texts → SeeksOn texts test 0 0
-SeeksOn-start texts test room = record { room = room; passes = refl; }
+SeeksOn-start texts test room = record { room = room; passes = refl }
 
 -- the next of them has room
 pub SeeksOn-room : (texts : List (List ℕ)) (test : ℕ × List ℕ → Bool) (n first : ℕ) → n < length texts → SeeksOn texts test n first → first + length (get_or texts n []) + 2 < 2 ^ 63

@@ -66,7 +66,7 @@ pub record LogsOn (texts : List (List ℕ)) (doc : ℕ) (before now : List Occur
   pub few : length (tokens_of_texts 0 texts) + bytes_of (drop n texts) ≤ bytes_of texts + length (tokens_of_texts first (drop n texts))
 
 pub LogsOn-start : (texts : List (List ℕ)) (doc : ℕ) (before : List OccurrenceValue) → HasRoom 0 texts → LogsOn texts doc before before 0 0
-LogsOn-start texts doc before room = record { room = room; whole = refl; few = omega arith; }
+LogsOn-start texts doc before room = record { room = room; whole = refl; few = omega arith }
 
 -- the next text, and those behind it
 here_first : (texts : List (List ℕ)) (n first : ℕ) → n < length texts → HasRoom first (drop n texts) →

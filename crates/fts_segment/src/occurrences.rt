@@ -55,7 +55,12 @@ fn push_tokens(
 }
 
 // Puts the tokens of a list of texts of a document behind the occurrences so far.
-fn push_texts(log: &mut TermLog, term: &mut String, doc: u32, texts: &Texts) -> Result<(), AllocError>
+fn push_texts(
+    log: &mut TermLog,
+    term: &mut String,
+    doc: u32,
+    texts: &Texts,
+) -> Result<(), AllocError>
     requires { HasRoom 0 texts.now }
     ensures logged { OnOk result
         (log.new ≡ log.old ++ map (occurrence_at doc) (tokens_of_texts 0 texts.now)) }

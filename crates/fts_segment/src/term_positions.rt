@@ -4,10 +4,10 @@ ghost use Rattle.fts_segment.specs.Positions.{position_lists_of};
 ghost use Rattle.fts_segment.specs.PositionLists.{IsPositionList};
 ghost use Rattle.fts_segment.specs.PositionListLogs.{IsPositionListLog, logged_position_lists};
 
-use fts_base::start_of;
 use crate::position_lists::{Bounds, PositionListLog, PositionLists};
 use crate::positions::Positions;
 use crate::term_groups::Place;
+use fts_base::start_of;
 use std::alloc::{AllocError, Global};
 
 /// The positions of terms.
