@@ -9,7 +9,7 @@ pub loop-token-init : goal.loop-token-init
 loop-token-init c =
     let start : places_left c.into_iter-token-iterator.result ≡ places c.args.text.now = cc in
     let P : List Token → Type 0 = All (IsPlaceIn c.args.text.now) in
-    (tt, tt, subst P (sym start) (All-IsPlaceIn c.args.text.now c.utf8.text))
+    (tt, tt, subst P (sym start) (All-IsPlaceIn 0 c.args.text.now c.utf8.text))
 
 pub span-requires : goal.span-requires
 span-requires c =
