@@ -98,7 +98,7 @@ def write_documents():
     refuses("A negative zero is no i64", '{"temp":-0}', "WrongKind")
     refuses("2 to the power of 63 is no i64", '{"temp":9223372036854775808}', "WrongKind")
     refuses("One below the least i64 is none", '{"temp":-9223372036854775809}', "WrongKind")
-    refuses("A list is no text", '{"title":["a"]}', "WrongKind")
+    refuses("A list is no signed number", '{"temp":[-1]}', "WrongKind")
     refuses("A number is no keyword", '{"tag":1}', "WrongKind")
     refuses("Of a key that stands twice the last value is refused", '{"price":1,"price":"x"}', "WrongKind")
     refuses("The first fault in the order of the names counts, and not in that of the text", '{"zzz":1,"price":-1}',
