@@ -8,24 +8,92 @@ use fts_base::start_of;
 use std::alloc::{AllocError, Global};
 use std::marker::Model;
 
-/// A list of texts. Contracts see the list of their UTF-8 bytes.
+// The texts, one behind the other.
 #[derive(Debug, Drop)]
-pub struct Texts {
-    joined: String,
-    /// Where each text ends.
+struct Joined {
+    bytes: String,
+    // Where each text ends.
     ends: Vec<usize>,
 }
 
-impl Model for Texts {
+impl Model for Joined {
     ghost use Rattle.std.specs.Prelude.{List, ℕ, string_bytes};
     ghost use Rattle.fts_base.specs.Pieces.{pieces};
     ghost use Rattle.fts_model.specs.Internals.Joined.{AreTextEnds};
 
     ghost Value = { List (List ℕ) };
 
-    ghost view = { λ t. pieces 0 (string_bytes t.joined) t.ends.items };
+    ghost view = { λ t. pieces 0 (string_bytes t.bytes) t.ends.items };
 
-    ghost invariant = { λ t. AreTextEnds (string_bytes t.joined) t.ends.items };
+    ghost invariant = { λ t. AreTextEnds (string_bytes t.bytes) t.ends.items };
+}
+
+impl Joined {
+    ghost use Rattle.std.specs.Prelude.{◌≡◌, ◌++◌, ◌∷◌, [], IfOk, OnErr, OnOk, length, slice_index_or};
+
+    fn with_capacity(alloc: Global, count: usize, bytes: usize) -> Result<Joined, AllocError>
+        ensures { IfOk result (λ texts. texts ≡ []) }
+    {
+        let bytes = String::with_capacity(alloc, bytes)?;
+        let ends = Vec::with_capacity(alloc, count)?;
+        Ok(Joined { bytes, ends })
+    }
+
+    fn len(&self) -> usize
+        ensures { result ≡ length self.now }
+    {
+        self.ends.len()
+    }
+
+    fn get(&self, number: usize) -> &str
+        ensures { result.now ≡ slice_index_or self.now number [] }
+    {
+        if number >= self.ends.len() {
+            return "";
+        }
+        let start = start_of(&self.ends, number);
+        let end = self.ends[number];
+        &self.bytes[start..end]
+    }
+
+    fn push(&mut self, text: &str) -> Result<(), AllocError>
+        ensures ok { OnOk result (self.new ≡ self.old ++ text.now ∷ []) }
+        ensures err { OnErr result (self.new ≡ self.old) }
+    {
+        let len = self.bytes.len();
+        self.bytes.push_str(text)?;
+        if self.ends.push(self.bytes.len()).is_err() {
+            self.bytes.truncate(len);
+            return Err(AllocError);
+        }
+        Ok(())
+    }
+}
+
+impl Clone for Joined {
+    ghost is_clone = { λ t u. u ≡ t };
+
+    fn clone(&self) -> Result<Self, AllocError> {
+        Ok(Joined {
+            bytes: self.bytes.clone()?,
+            ends: self.ends.clone()?,
+        })
+    }
+}
+
+/// A list of texts. Contracts see the list of their UTF-8 bytes.
+#[derive(Debug, Drop)]
+pub struct Texts {
+    // Behind a handle, so that the value of a field takes no more room where it is one text.
+    joined: Box<Joined>,
+}
+
+impl Model for Texts {
+    ghost use Rattle.std.specs.Prelude.{List, ℕ};
+
+    ghost Value = { List (List ℕ) };
+
+    ghost view = { λ t. t.joined.value };
 }
 
 impl Texts {
@@ -35,16 +103,16 @@ impl Texts {
     pub fn with_capacity(alloc: Global, count: usize, bytes: usize) -> Result<Texts, AllocError>
         ensures { IfOk result (λ texts. texts ≡ []) }
     {
-        let joined = String::with_capacity(alloc, bytes)?;
-        let ends = Vec::with_capacity(alloc, count)?;
-        Ok(Texts { joined, ends })
+        let joined = Joined::with_capacity(alloc, count, bytes)?;
+        let joined = Box::new(alloc, joined)?;
+        Ok(Texts { joined })
     }
 
     /// How many texts there are.
     pub fn len(&self) -> usize
         ensures { result ≡ length self.now }
     {
-        self.ends.len()
+        self.joined.len()
     }
 
     /// Whether there are none.
@@ -58,12 +126,7 @@ impl Texts {
     pub fn get(&self, number: usize) -> &str
         ensures { result.now ≡ slice_index_or self.now number [] }
     {
-        if number >= self.ends.len() {
-            return "";
-        }
-        let start = start_of(&self.ends, number);
-        let end = self.ends[number];
-        &self.joined[start..end]
+        self.joined.get(number)
     }
 
     /// Puts a text behind the others.
@@ -71,13 +134,7 @@ impl Texts {
         ensures ok { OnOk result (self.new ≡ self.old ++ text.now ∷ []) }
         ensures err { OnErr result (self.new ≡ self.old) }
     {
-        let len = self.joined.len();
-        self.joined.push_str(text)?;
-        if self.ends.push(self.joined.len()).is_err() {
-            self.joined.truncate(len);
-            return Err(AllocError);
-        }
-        Ok(())
+        self.joined.push(text)
     }
 }
 
@@ -87,7 +144,6 @@ impl Clone for Texts {
     fn clone(&self) -> Result<Self, AllocError> {
         Ok(Texts {
             joined: self.joined.clone()?,
-            ends: self.ends.clone()?,
         })
     }
 }
