@@ -7,7 +7,7 @@ use Rattle.serde_json.specs.Data.{Data}
 use Rattle.serde_json.specs.Read.{read}
 use Rattle.fts_base.specs.declared.refusal.Refusal.TheVariants.{BadJson}
 use Rattle.fts_command.specs.Commands.{json_in}
-use Rattle.fts_session.proofs.session.json_of.Goals as goal
+use Rattle.fts_session.proofs.commands.json_of.Goals as goal
 
 chosen : (b : Bool) (o : Option Data) (d : Data) → b ≡ true → o ≡ Some d → cond b o None ≡ Some d
 chosen true o d h e = e

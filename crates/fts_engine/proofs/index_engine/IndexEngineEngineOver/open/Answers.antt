@@ -3,7 +3,7 @@ use Rattle.fts_index.specs.Writers.{WriterValue}
 use Rattle.fts_engine.specs.declared.uncommitted.Uncommitted.TheVariants.{Nothing}
 use Rattle.fts_engine.specs.WriterIndexes.{IsReaderOf, IsIndexEngine}
 use Rattle.fts_engine.proofs.EngineLemmas.{opened}
-use Rattle.fts_engine.proofs.index_engine.IndexEngineEngine.open.Goals as goal
+use Rattle.fts_engine.proofs.index_engine.IndexEngineEngineOver.open.Goals as goal
 
 pub invariant_of-result : goal.invariant_of-result
 invariant_of-result g c =

@@ -3,7 +3,7 @@ use Rattle.serde_json.specs.View.{view}
 use Rattle.fts_base.specs.Results.{Gives}
 use Rattle.fts_model.specs.Documents.{DocumentValue, document_of, fits}
 use Rattle.fts_steps.proofs.FitLemmas.{if_given, document_fits}
-use Rattle.fts_session.proofs.session.document_in.Goals as goal
+use Rattle.fts_session.proofs.commands.document_in.Goals as goal
 
 pub returns-clause-document : goal.returns-clause-document
 returns-clause-document g c = subst (λ schema. Gives (λ document. document) c.from_json.result (document_of schema (view c.args.json.now))) c.schema.ensures c.from_json.ensures.document

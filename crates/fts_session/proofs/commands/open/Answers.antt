@@ -5,7 +5,7 @@ use Rattle.fts_base.specs.Results.{ok_unless}
 use Rattle.fts_model.specs.Schemas.{schema_fault}
 use Rattle.fts_steps.specs.Indexes.{Index}
 use Rattle.fts_session.specs.Replies.{Outcome}
-use Rattle.fts_session.proofs.session.open.Goals as goal
+use Rattle.fts_session.proofs.commands.open.Goals as goal
 
 cause : (o : Option Refusal) (x : Outcome Index) (e : Refusal) → ((fault : Refusal) → o ≡ Some fault → e ≡ fault) → (o ≡ None → e ≡ Memory)
     → (e ≡ Memory) ⊎ (ok_unless o x ≡ Err e)

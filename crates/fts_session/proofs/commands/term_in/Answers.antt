@@ -4,7 +4,7 @@ use Rattle.fts_model.specs.declared.operation.Term.{Term}
 use Rattle.fts_base.specs.Results.{Gives}
 use Rattle.fts_model.specs.Operations.{term_fits, term_of}
 use Rattle.fts_steps.proofs.FitLemmas.{if_given, term_of_fits}
-use Rattle.fts_session.proofs.session.term_in.Goals as goal
+use Rattle.fts_session.proofs.commands.term_in.Goals as goal
 
 pub returns-clause-term : goal.returns-clause-term
 returns-clause-term g c = subst (λ schema. Gives (λ term. term) c.new.result (term_of schema c.args.name.now (view c.args.json.now))) c.schema.ensures c.new.ensures.term

@@ -2,7 +2,7 @@ use Rattle.std.proofs.Common.{◌≡◌, ◌∙◌, true, sym}
 use Rattle.fts_model.specs.declared.query.Request.{Request}
 use Rattle.fts_model.specs.Queries.{request_fits}
 use Rattle.fts_steps.proofs.FitLemmas.{if_ok, request_of_fits}
-use Rattle.fts_session.proofs.session.request_of.Goals as goal
+use Rattle.fts_session.proofs.commands.request_of.Goals as goal
 
 pub returns-clause-fits : goal.returns-clause-fits
 returns-clause-fits c =
