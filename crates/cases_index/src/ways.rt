@@ -2,7 +2,7 @@
 use crate::script::Script;
 use cases::Trouble;
 use fts_engine::IndexEngine;
-use fts_script::{Cut, Engine, ListEngine, Merge, Options, Plain, Streams, run_script};
+use fts_script::{Cut, EngineOver, ListEngine, Merge, Options, Plain, Streams, run_script};
 use std::sync::Wait;
 use std::thread::Threads;
 
@@ -30,8 +30,8 @@ fn first_other<'a>(given: &'a str, wanted: &str) -> &'a str {
 }
 
 /// What a run over an engine gives that it shouldn't, if it does.
-fn run<E: Engine>(
-    rt: &(impl AllocGlobal + Threads + Wait + Sync),
+fn run<R: AllocGlobal + Threads + Wait + Sync, E: EngineOver<R>>(
+    rt: &R,
     input: &str,
     wanted: &str,
     options: Options,
@@ -41,7 +41,7 @@ fn run<E: Engine>(
         reader: Plain::new(input.as_bytes()),
         writer: Plain::new(Vec::new(alloc)),
     };
-    let outcome = run_script::<E, _, _>(rt, &mut streams, options);
+    let outcome = run_script::<_, E, _, _>(rt, &mut streams, options);
     if outcome.is_err() {
         return Ok(Some(format!(in alloc; "ended by {outcome:?} at {options:?}")?));
     }
@@ -62,7 +62,7 @@ pub(crate) fn difference(
     let input = script.input.as_str();
     let wanted = script.wanted.as_str();
     let unended = input.strip_suffix('\n').unwrap_or(input);
-    if let Some(other) = run::<ListEngine>(rt, input, wanted, Options::default())? {
+    if let Some(other) = run::<_, ListEngine>(rt, input, wanted, Options::default())? {
         return Ok(Some(format!(in rt.alloc(); "over a list {other}")?));
     }
     if !script.over_segments {
@@ -73,7 +73,7 @@ pub(crate) fn difference(
             return Err(Trouble::Impossible("options beyond their limits"));
         };
         let input = if i % 2 == 0 { input } else { unended };
-        if let Some(other) = run::<IndexEngine>(rt, input, wanted, options)? {
+        if let Some(other) = run::<_, IndexEngine>(rt, input, wanted, options)? {
             return Ok(Some(format!(in rt.alloc(); "over segments {other}")?));
         }
     }
