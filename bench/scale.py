@@ -2,10 +2,11 @@
 
     python3 bench/scale.py [DOCUMENTS] [SEARCHES]
 
-Build the program first (README.md). The documents are of the kind of bench/script.py: 30 words, a keyword, a `u64` and an
-`i64`; 1,000,000 of them without an argument, committed 100,000 at a time. Seconds are those from the start of the
-processes to the end of the last one, and megabytes (10^6 bytes) the most that was resident. A search's time is that of
-a run with searches, less that of a run without. The shards' scripts are split by the keyword before anything is timed.
+Build the program first (README.md). The documents are of the kind of bench/script.py: 30 words, a keyword, a `u64`
+and an `i64`; 1,000,000 of them without an argument, committed 100,000 at a time. Seconds are those from the start of
+the processes to the end of the last one, and megabytes (10^6 bytes) the most that was resident. A search's time is
+that of a run with searches, less that of a run without. The shards' scripts are split by the keyword before anything
+is timed.
 """
 import itertools
 import json

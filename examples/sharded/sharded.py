@@ -4,15 +4,15 @@
     python3 examples/sharded/sharded.py --key isbn < script.jsonl
     python3 examples/sharded/sharded.py --key isbn 'ssh one fts run' 'ssh two fts run' < script.jsonl
 
-Each argument is the command of a shard; without one, there are four of the program as README.md builds it. An add goes to
-the shard of its key, and so does a delete by the key; every other line goes to all shards. docs/SCALE.md says what the
-joined answers mean.
+Each argument is the command of a shard; without one, there are four of the program as README.md builds it. An add
+goes to the shard of its key, and so does a delete by the key; every other line goes to all shards. docs/SCALE.md says
+what the joined answers mean.
 
     python3 examples/sharded/sharded.py --key isbn --split 4 part < script.jsonl
     python3 examples/sharded/sharded.py --key isbn --join part.*.replies < script.jsonl
 
-The first writes the lines of each shard into part.0.jsonl and so on, for a runner of batches; the second joins what they
-replied.
+The first writes the lines of each shard into part.0.jsonl and so on, for a runner of batches; the second joins what
+they replied.
 """
 import argparse
 import contextlib
