@@ -1,11 +1,11 @@
-"""Times an index within a C and a Python program, beside `fts run` over the same lines.
+"""Times an index within a C and a Python program, beside the program over the same plain list.
 
     python3 bench/embed.py [DOCUMENTS] [SEARCHES]
 
-Build the program and the library first (README.md, docs/EMBEDDING.md). The documents are those of bench/scale.py,
-100,000 without an argument, in one commit by one worker, and 2,000 searches a kind. Each number is microseconds a
-line, the least of three runs; that of `fts run` is the time of a run with the lines, less that of a run without, so
-its reads and writes count there.
+Build the library first (docs/EMBEDDING.md), and fts_list by `rt run` in crates/fts_list. The documents are those of
+bench/scale.py, 5,000 without an argument, in one commit, and 100 searches a kind. Each number is microseconds a line,
+the least of three runs; that of the program is the time of a run with the lines, less that of a run without, so its
+reads and writes count there.
 """
 import pathlib
 import subprocess
@@ -14,8 +14,9 @@ import tempfile
 import time
 
 ROOT = pathlib.Path(__file__).resolve().parent.parent
-DOCUMENTS = int(sys.argv[1]) if len(sys.argv) > 1 else 100_000
-SEARCHES = int(sys.argv[2]) if len(sys.argv) > 2 else 2_000
+PROGRAM = str(ROOT / "crates/fts_list/out/fts_list")
+DOCUMENTS = int(sys.argv[1]) if len(sys.argv) > 1 else 5_000
+SEARCHES = int(sys.argv[2]) if len(sys.argv) > 2 else 100
 sys.argv[1:] = [str(DOCUMENTS)]
 sys.path[:0] = [str(ROOT / "bindings/python")]
 
@@ -52,7 +53,7 @@ def by_program(folder, name, count):
     with open(f"{folder}/both", "wb") as both:
         for part in ("documents", name) if name != "documents" else ("documents",):
             both.write(pathlib.Path(folder, part).read_bytes())
-    return least(lambda: seconds([scale.PROGRAM, "run"], stdin=open(f"{folder}/both"))) / count * 1e6
+    return least(lambda: seconds([PROGRAM], stdin=open(f"{folder}/both"))) / count * 1e6
 
 
 def by_c(program, folder, names):
@@ -90,7 +91,7 @@ def main():
         lines = sum(1 for _ in open(f"{folder}/documents"))
         alone = by_program(folder, "documents", lines)
         print(f"{DOCUMENTS:,} documents, {SEARCHES:,} searches a kind; microseconds a line")
-        print(f"{'':14}{'fts run':>10}{'C':>10}{'Python':>10}")
+        print(f"{'':14}{'program':>10}{'C':>10}{'Python':>10}")
         print(f"{'an add':14}{alone:10.2f}{c[0]:10.2f}{python[0]:10.2f}")
         for place, kind in enumerate(KINDS, 1):
             whole = by_program(folder, str(place - 1), SEARCHES)
