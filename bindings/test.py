@@ -61,7 +61,7 @@ def compiled(name):
 
 def in_c():
     strictly = ["-std=c99", "-pedantic", "-Wall", "-Wextra", "-Werror", "-fsyntax-only"]
-    step("C, the header alone", CC, *strictly, HERE / "c/fts.h")
+    step("C, the header alone", CC, *strictly, "-include", HERE / "c/fts.h", "-x", "c", "/dev/null")
     step("C, handles", compiled("handles"), counts=r"(\d+) passed, (\d+) failed")
     step("C, four threads", compiled("threads"))
     lines = compiled("lines")
