@@ -1,6 +1,5 @@
 // A session and its last reply.
-ghost use Rattle.std.specs.Prelude.{◌≡◌, ◌≢◌, [], IfSome, pos, string_bytes};
-ghost use Rattle.fts_session.specs.Finds.{at_commit, reply_to_search};
+ghost use Rattle.std.specs.Prelude.{◌≡◌, ◌≢◌, [], pos, string_bytes};
 ghost use Rattle.fts_session.specs.Outputs.{start, reply_to, after_line};
 
 use fts_engine::LocalEngine;
@@ -56,41 +55,6 @@ impl State {
             Err(AllocError) => 1,
         };
         (State { session, reply }, code)
-    }
-
-    /// The state behind a search, and a code: 0, or 1 where memory was refused, 2 where the line is too long, 3 where
-    /// there were 2^61 lines. The session is as it was, and at any but 0 there is no reply.
-    pub(crate) fn after_search(self, alloc: Global, line: &[u8]) -> (State, i32)
-        ensures reply { result.1 ≡ pos 0 → string_bytes result.0.reply ≡ reply_to_search self.session line.now }
-        ensures same { result.0.session ≡ self.session }
-    {
-        let State {
-            mut session,
-            mut reply,
-        } = self;
-        reply.clear();
-        if line.len() > LONGEST {
-            return (State { session, reply }, 2);
-        }
-        if session.lines() >= MOST_LINES {
-            return (State { session, reply }, 3);
-        }
-        let code = match session.find(&((), alloc), line, &mut reply) {
-            Ok(()) => 0,
-            Err(AllocError) => 1,
-        };
-        (State { session, reply }, code)
-    }
-
-    /// A state of its own over the last commit, before its first line.
-    pub(crate) fn fork(&self, alloc: Global) -> Option<State>
-        ensures { IfSome result (λ fork. fork.session ≡ at_commit self.now.session) }
-    {
-        let session = self.session.fork().ok()?;
-        Some(State {
-            session,
-            reply: String::new(alloc),
-        })
     }
 }
 

@@ -13,6 +13,7 @@
 #![tactic(auto)]
 
 mod index_engine;
+mod local_changes;
 mod local_commit;
 mod local_engine;
 mod local_search;

@@ -1,7 +1,8 @@
 // An index over segments that needs nothing but memory: no other thread, and nothing to wait for.
 ghost use Rattle.std.specs.Prelude.{◌≡◌};
 
-use crate::local_commit::{LocalCommit, merge_all, next_commit};
+use crate::local_changes::{merge_all, next_commit};
+use crate::local_commit::LocalCommit;
 use crate::local_search::search_alone;
 use fts_index::Snapshot;
 use fts_model::{Answer, Cut, Op, Query, Refusal, Request, Schema, Stamp, Stamped};

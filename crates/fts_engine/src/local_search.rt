@@ -13,6 +13,16 @@ use fts_index::Entry;
 use fts_model::{Answer, Query, Refusal, Request};
 use std::alloc::Global;
 
+/// What a segment tells of its live hits.
+fn part_of(alloc: Global, entry: &Entry, query: &Query, request: &Request) -> Result<Part, Refusal>
+    requires query { query_fits entry.now.segment.schema (query_value query.now) ≡ true }
+    requires request { request_fits entry.now.segment.schema request.now ≡ true }
+    ensures part { IfOk result (IsPartOf (query_value query.now) request.now entry.now) }
+    ensures memory { IsOkUnless result Refusal.Memory }
+{
+    collect(alloc, entry.segment(), entry.live(), query, request)
+}
+
 /// What each segment tells of its live hits, in the order of the segments.
 fn parts_in_turn(
     alloc: Global,
@@ -30,7 +40,7 @@ fn parts_in_turn(
 {
     let mut parts = Vec::with_capacity(alloc, entries.len())?;
     for entry in entries {
-        let part = collect(alloc, entry.segment(), entry.live(), query, request)?;
+        let part = part_of(alloc, entry, query, request)?;
         parts.push(part)?;
     }
     Ok(parts)

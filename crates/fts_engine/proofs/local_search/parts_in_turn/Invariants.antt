@@ -6,4 +6,4 @@ use Rattle.fts_index.specs.Searches.{IsPartOf}
 use Rattle.fts_engine.proofs.local_search.parts_in_turn.Given as goal
 
 abbrev pub invariant-loop-entry : goal.invariant-loop-entry
-invariant-loop-entry l = AllZip (IsPartOf (query_value l.fn.query.now) l.fn.request.now) (take l.entry-index l.entries) l.parts.items
+invariant-loop-entry l = AllZip (IsPartOf (query_value l.fn.query) l.fn.request) (take l.entry-index l.entries) l.parts.items
