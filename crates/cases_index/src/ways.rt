@@ -1,7 +1,7 @@
 // The ways of running a script: over a plain list of documents, and over segments under each kind of options.
 use crate::script::Script;
 use cases::Trouble;
-use fts_engine::IndexEngine;
+use fts_engine::{IndexEngine, LocalEngine};
 use fts_script::{Cut, EngineOver, ListEngine, Merge, Options, Plain, Streams, run_script};
 use std::sync::Wait;
 use std::thread::Threads;
@@ -75,6 +75,9 @@ pub(crate) fn difference(
         let input = if i % 2 == 0 { input } else { unended };
         if let Some(other) = run::<_, IndexEngine>(rt, input, wanted, options)? {
             return Ok(Some(format!(in rt.alloc(); "over segments {other}")?));
+        }
+        if let Some(other) = run::<_, LocalEngine>(rt, input, wanted, options)? {
+            return Ok(Some(format!(in rt.alloc(); "over segments in one thread {other}")?));
         }
     }
     Ok(None)
