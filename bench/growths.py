@@ -54,24 +54,35 @@ def count_by_options(shim):
           f"{merged} where these are merged, {shared} with four workers")
 
 
-def refuse_in_tests(shim, binary, word):
+def tests(shim, binary, word):
+    """The tests whose names have the word."""
     listed = faults.run(shim, [binary, "--list"])[1].decode().splitlines()
-    for name in (line.removesuffix(": test") for line in listed if line.endswith(": test") and word in line):
-        passed = ended = 0
-        for n in range(1, faults.growths(shim, [binary, name]) + 1):
-            status, _, told = faults.run(shim, [binary, name], FAIL_GROWTH=n)
-            if status == 0:
-                passed += 1
-            else:
-                assert WANT_OF_MEMORY.match(told), (name, n, status, told)
-                ended += 1
-        print(f"{name}: {passed + ended} growths refused in turn: {ended} times it ended for memory, {passed} times it passed")
+    return [line.removesuffix(": test") for line in listed if line.endswith(": test") and word in line]
 
 
-with faults.shim() as shim:
-    if sys.argv[1] == "options":
-        count_by_options(shim)
-    elif sys.argv[1].endswith("_tests"):
-        refuse_in_tests(shim, sys.argv[1], sys.argv[2] if len(sys.argv) > 2 else "")
-    else:
-        refuse_in_script(shim, sys.argv[1])
+def passes_without(shim, binary, name, n):
+    """Whether a test passes whose nth growth is refused; else it ends for want of memory."""
+    status, _, told = faults.run(shim, [binary, name], FAIL_GROWTH=n)
+    assert status == 0 or WANT_OF_MEMORY.match(told), (name, n, status, told)
+    return status == 0
+
+
+def refuse_in_tests(shim, binary, word):
+    for name in tests(shim, binary, word):
+        count = faults.growths(shim, [binary, name])
+        passed = sum(passes_without(shim, binary, name, n) for n in range(1, count + 1))
+        print(f"{name}: {count} growths refused in turn: {count - passed} times it ended for memory, {passed} times it passed")
+
+
+def main():
+    with faults.shim() as shim:
+        if sys.argv[1] == "options":
+            count_by_options(shim)
+        elif sys.argv[1].endswith("_tests"):
+            refuse_in_tests(shim, sys.argv[1], sys.argv[2] if len(sys.argv) > 2 else "")
+        else:
+            refuse_in_script(shim, sys.argv[1])
+
+
+if __name__ == "__main__":
+    main()

@@ -4,8 +4,9 @@
     python3 bench/sweeps.py [SCRIPTS]
 
 10,000 damaged scripts, or so many. `.ci/run` does this behind the proofs, over the programs that these built; else build them first: fts
-(README.md), and fts_list, which runs a script over a plain list of documents, by `rt run` in crates/fts_list. The sweeps that have
-calls fail take a C compiler, and where there is none they are left out, and that is said. The last line is 'N passed, M failed'.
+(README.md), and fts_list, which runs a script over a plain list of documents, by `rt run` in crates/fts_list; and by `rt test` the tests
+of tests_segments, tests_rounds, tests_index and tests_late. The sweeps that have calls fail take a C compiler, and where there is none
+they are left out, and that is said. The last line is 'N passed, M failed'.
 """
 import concurrent.futures
 import json
@@ -16,6 +17,7 @@ import subprocess
 import sys
 
 import faults
+import growths as refusals
 import random_scripts
 
 ROOT = pathlib.Path(__file__).resolve().parent.parent
@@ -37,6 +39,14 @@ SCRIPTS = {
     "ties": (ROOT / "examples/ties.jsonl").read_bytes(),
     "a dropped run": DROPPED,
     "eight segments": EIGHT,
+}
+
+# The tests that try refused calls again, by words in their names.
+AGAIN = {
+    "tests_segments": ["growths::", "again", "a_refused_growth"],
+    "tests_rounds": ["a_batch_is_in_the_order", "a_full_lane", "a_lane_is_missing"],
+    "tests_index": ["growths::"],
+    "tests_late": ["growths::"],
 }
 
 
@@ -76,6 +86,17 @@ def growths(shim):
         assert status == 3 and out in beginnings or status == 0 and out == beginnings[-1], (name, workers, n, status, out)
 
     return side_by_side(look, cases)
+
+
+def calls(shim):
+    """Each growth refused in the tests that try refused calls again: these pass, or end for want of memory outside of such a call."""
+    cases = []
+    for crate, words in AGAIN.items():
+        binary = str(ROOT / f"crates/{crate}/out/{crate}_tests")
+        names = {name for word in words for name in refusals.tests(shim, binary, word)}
+        assert names, (crate, "has no such test")
+        cases += [(shim, binary, name, n) for name in sorted(names) for n in range(1, faults.growths(shim, [binary, name]) + 1)]
+    return side_by_side(refusals.passes_without, cases)
 
 
 def streams(shim):
@@ -147,6 +168,7 @@ def main():
     if faults.compiler():
         with faults.shim() as shim:
             sweep("growths refused in turn", growths, shim)
+            sweep("growths refused in turn in tests that try refused calls again", calls, shim)
             sweep("reads and writes that fail or come short", streams, shim)
     else:
         print("sweeps: no C compiler, so no growth was refused, and no read or write failed")

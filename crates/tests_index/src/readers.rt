@@ -27,7 +27,7 @@ fn commit<R: Threads + Wait + Sync + Abort, G: Gate>(
 }
 
 fn commit_all<R: Threads + Wait + Sync + Abort>(rt: &R, alloc: Global, writer: &mut Writer) {
-    for _ in 0..100 {
+    for _ in 0..1000 {
         drop(commit(rt, alloc, writer, &Open));
     }
 }
@@ -69,37 +69,56 @@ fn search_all<R: Threads + Wait + Sync + Abort>(
     true
 }
 
-// Commits a hundred times in one thread, and searches in two others: whether both found what they should.
+// Searches in three threads: whether all found what they should.
+fn search_in_three<R: Threads + Wait + Sync + Abort>(
+    rt: &R,
+    alloc: Global,
+    first: &mut Reader,
+    second: &mut Reader,
+    third: &mut Reader,
+) -> bool {
+    let (first, (second, third)) = join(
+        rt,
+        || search_all(rt, alloc, first),
+        || join(
+            rt,
+            || search_all(rt, alloc, second),
+            || search_all(rt, alloc, third),
+        ),
+    );
+    first && second && third
+}
+
+// Commits a thousand times in one thread, and searches in three others: whether all found what they should.
 fn commit_and_search<R: Threads + Wait + Sync + Abort>(
     rt: &R,
     alloc: Global,
     writer: &mut Writer,
     first: &mut Reader,
     second: &mut Reader,
+    third: &mut Reader,
 ) -> bool {
-    let (_, (first, second)) = join(
+    let (_, found) = join(
         rt,
         || commit_all(rt, alloc, writer),
-        || join(
-            rt,
-            || search_all(rt, alloc, first),
-            || search_all(rt, alloc, second),
-        ),
+        || search_in_three(rt, alloc, first, second, third),
     );
-    first && second
+    found
 }
 
 // Once the writer's thread was joined, readers that nobody told find the last commit.
 fn side_by_side<R: Threads + Wait + Sync + Abort>(rt: &R, alloc: Global, writer: &mut Writer) {
     let mut first = writer.reader().expect(rt, "a reader");
     let mut second = writer.reader().expect(rt, "a reader");
-    assert!(rt; commit_and_search(rt, alloc, writer, &mut first, &mut second));
-    finds(rt, alloc, &mut first, 200);
-    finds(rt, alloc, &mut second, 200);
+    let mut third = writer.reader().expect(rt, "a reader");
+    assert!(rt; commit_and_search(rt, alloc, writer, &mut first, &mut second, &mut third));
+    finds(rt, alloc, &mut first, 2000);
+    finds(rt, alloc, &mut second, 2000);
+    finds(rt, alloc, &mut third, 2000);
 }
 
 #[test]
-fn two_readers_beside_a_hundred_commits(rt: HostRuntime) {
+fn three_readers_beside_a_thousand_commits(rt: HostRuntime) {
     let mut writer = writer(&rt, rt.alloc()).expect(&rt, "a writer");
     side_by_side(&rt, rt.alloc(), &mut writer);
     writer.close(&rt);

@@ -1,5 +1,5 @@
-// Whichever growth is refused to a merge that ends later, or to a searcher, all is as before, and a second try
-// succeeds.
+// Whichever growth is refused to a merge that ends later, to one at once, or to a searcher, all is as before, and a second
+// try succeeds.
 ghost use Rattle.std.specs.Prelude.{◌≡◌, IfOk};
 ghost use Rattle.fts_snapshots.specs.MergedSegments.{merged_of};
 ghost use Rattle.fts_snapshots.specs.Successors.{Fits};
@@ -115,6 +115,18 @@ fn merged<R: Threads + Wait + Sync + Abort>(
     end(rt, alloc, writer, merged)
 }
 
+/// Merges what is left at once.
+fn merge<R: Wait + Abort>(rt: &R, alloc: Global, writer: &mut Writer) -> Result<(), Refusal> {
+    match writer.merge(rt, alloc, &[2, 3]) {
+        Ok(()) => Ok(()),
+        Err(refusal) => {
+            assert_eq!(rt; refusal, Refusal::Memory);
+            shows(rt, alloc, writer, "4: (2,1,1) (3,2,2) 3r 1p 2q")?;
+            writer.merge(rt, alloc, &[2, 3])
+        }
+    }
+}
+
 /// What becomes of them is seen of the writer, and by a searcher.
 fn shown<R: Threads + Wait + Sync + Abort>(
     rt: &R,
@@ -125,7 +137,8 @@ fn shown<R: Threads + Wait + Sync + Abort>(
     shows(rt, alloc, writer, "4: (2,1,1) (3,2,2) 3r 1p 2q")?;
     let searcher = searcher(rt, writer)?;
     assert_eq!(rt; searcher.snapshot().entries().len(), 2);
-    Ok(())
+    merge(rt, alloc, writer)?;
+    shows(rt, alloc, writer, "4: (4,3,3) 3r 1p 2q")
 }
 
 #[test]

@@ -189,11 +189,11 @@ fn two_threads_draw_each_stamp_once(rt: HostRuntime) {
 }
 
 #[test]
-fn full_lanes_draw_nothing(rt: HostRuntime) {
+fn sixty_four_full_lanes_draw_nothing(rt: HostRuntime) {
     let schema = schema(rt.alloc()).expect(&rt, "a schema");
-    let (round, lanes) = open_round(rt.alloc(), 7, 1, 3, 10).expect(&rt, "a round");
+    let (round, lanes) = open_round(rt.alloc(), 7, 1, 64, 10).expect(&rt, "a round");
     let batch = gathered(&rt, rt.alloc(), &schema, round, lanes, 20);
-    assert_eq!(rt; (batch.round(), batch.ops().len()), (7, 30));
+    assert_eq!(rt; (batch.round(), batch.ops().len()), (7, 640));
 }
 
 /// Fills a lane that takes one operation, and hands back the next.
