@@ -3,6 +3,7 @@
 //! [`IndexEngine`] is an engine of scripts over a writer of segments: it submits to rounds of one lane, commits them
 //! cut as its options say, merges as they say, and searches the last commit through a reader. For every cutting,
 //! merging and number of workers it takes the same steps as a plain list of documents, so no option changes a reply.
+//! Where the segments are small, one thread searches them, whatever the number of workers.
 //!
 //! ```text
 //! run_script::<IndexEngine, _, _>(rt, &mut streams, options)?;
@@ -11,6 +12,7 @@
 
 mod index_engine;
 mod segments;
+mod threads;
 mod uncommitted;
 
 pub use index_engine::IndexEngine;
