@@ -9,12 +9,10 @@ ghost use Rattle.fts_cli.specs.Arguments.{run_status_of};
 use fts_cli::args::{ArgFault, Asked, args};
 use fts_cli::status::{arg_status, run_status, status};
 use fts_engine::IndexEngine;
-use fts_script::{Fault, Options, Plain, Streams, run_script};
+use fts_script::{EngineOver, Fault, Options, Plain, Streams, run_script};
 use std::env::Env;
 use std::io::{Eprint, Stdin, Stdout};
 use std::process::ExitCode;
-use std::sync::Wait;
-use std::thread::Threads;
 use std::{env, io};
 
 /// What the process's own command line asks for.
@@ -32,8 +30,8 @@ fn asked(rt: &(impl Env + AllocGlobal)) -> Result<Asked, ArgFault> {
 /// Runs the script over the standard streams, which buffer nothing: the run reads and writes in blocks.
 ///
 /// The exit status, and the outcome that it stands for.
-fn run_standard(
-    rt: &(impl AllocGlobal + Threads + Wait + Sync + Eprint),
+fn run_standard<R: AllocGlobal + Sync + Eprint, E: EngineOver<R>>(
+    rt: &R,
     streams: &mut Streams<Plain<Stdin>, Plain<Stdout>>,
     options: Options,
 ) -> (u8, Result<(), Fault>)
@@ -50,7 +48,7 @@ fn run_standard(
         ⊎ (FailsRead streams.old streams.new × WritesEnded streams.old streams.new) }
     ensures used_up { result.0 ≡ 5 → ReadsTooMuch streams.old streams.new }
 {
-    let outcome = run_script::<_, IndexEngine, _, _>(rt, streams, options);
+    let outcome = run_script::<_, E, _, _>(rt, streams, options);
     if let Err(fault) = &outcome {
         let _ = rt.eprintln(format_args!("fts: {fault}"));
     }
@@ -64,7 +62,7 @@ fn main(rt: HostRuntime) -> ExitCode {
                 reader: Plain::new(rt.stdin()),
                 writer: Plain::new(rt.stdout()),
             };
-            run_standard(&rt, &mut streams, options).0
+            run_standard::<_, IndexEngine>(&rt, &mut streams, options).0
         }
         Ok(Asked::Help(text)) => match rt.print(text) {
             Ok(()) => 0,

@@ -1,12 +1,10 @@
 // Scripts over memory, by readers and writers that are slow or fail.
-use fts_script::{Fault, ListEngine, Options, Plain, Streams, run_script};
+use fts_script::{EngineOver, Fault, ListEngine, Options, Plain, Streams, run_script};
 use std::alloc::AllocError;
 use std::cell::Cell;
 use std::io;
 use std::io::{Read, Write};
 use std::process::Abort;
-use std::sync::Wait;
-use std::thread::Threads;
 
 /// The lines of a script, each with its reply; the last line lacks its LF.
 static SCRIPT: [(&str, &str); 10] = [
@@ -72,8 +70,8 @@ fn replies(rt: &(impl AllocGlobal + Abort), count: usize, ended: bool) -> Vec<u8
 }
 
 /// Runs a script, and hands the reader and the writer back.
-fn run_over<R: Read, W: Write>(
-    rt: &(impl AllocGlobal + Threads + Wait + Sync),
+fn run_over<G: AllocGlobal + Sync, E: EngineOver<G>, R: Read, W: Write>(
+    rt: &G,
     reader: R,
     writer: W,
     options: Options,
@@ -82,7 +80,7 @@ fn run_over<R: Read, W: Write>(
         reader: Plain::new(reader),
         writer: Plain::new(writer),
     };
-    let outcome = run_script::<_, ListEngine, _, _>(rt, &mut streams, options);
+    let outcome = run_script::<_, E, _, _>(rt, &mut streams, options);
     let Streams { reader, writer } = streams;
     (outcome, reader.into_inner(), writer.into_inner())
 }
@@ -180,15 +178,15 @@ fn writer_of(
 }
 
 /// Whether a script has these replies, whatever the size of its reads.
-fn replies_to(
-    rt: &(impl AllocGlobal + Abort + Threads + Wait + Sync),
+fn replies_to<G: AllocGlobal + Abort + Sync, E: EngineOver<G>>(
+    rt: &G,
     script: &[u8],
     wanted: &[u8],
 ) {
     for step in [1, 2, 7, 1000] {
         let reader = reader_of(script, step, 0, io::ErrorKind::Other);
         let writer = writer_of(rt, step, 0, None);
-        let (outcome, _, written) = run_over(rt, reader, writer, Options::default());
+        let (outcome, _, written) = run_over::<_, E, _, _>(rt, reader, writer, Options::default());
         assert_eq!(rt; (outcome, written.flushes), (Ok(()), 1));
         assert_eq!(rt; written.bytes.as_slice(), wanted);
     }
@@ -197,27 +195,27 @@ fn replies_to(
 #[test]
 fn whole_script(rt: HostRuntime) {
     let script = input(&rt);
-    replies_to(&rt, &script, &replies(&rt, script.len(), true));
+    replies_to::<_, ListEngine>(&rt, &script, &replies(&rt, script.len(), true));
 }
 
 // White space at the beginning of a line changes no reply, wherever a read cuts it.
 #[test]
 fn lines_behind_white_space(rt: HostRuntime) {
     let script = lines_with(&rt, "  \t\r ");
-    replies_to(&rt, &script, &replies(&rt, script.len(), true));
+    replies_to::<_, ListEngine>(&rt, &script, &replies(&rt, script.len(), true));
 }
 
 /// Runs the script over a writer with room for its replies. A run that ends for memory has written the replies to the
 /// lines before the one that the last byte belongs to.
-fn ends_for_memory(
-    rt: &(impl AllocGlobal + Abort + Threads + Wait + Sync),
+fn ends_for_memory<G: AllocGlobal + Abort + Sync, E: EngineOver<G>>(
+    rt: &G,
     script: &[u8],
     room: usize,
 ) -> bool {
     let mut writer = writer_of(rt, 1000, 0, None);
     writer.bytes.reserve(room).expect(rt, "room");
     let reader = reader_of(script, 1, 0, io::ErrorKind::Other);
-    let (outcome, reader, written) = run_over(rt, reader, writer, Options::default());
+    let (outcome, reader, written) = run_over::<_, E, _, _>(rt, reader, writer, Options::default());
     if outcome == Ok(()) {
         assert_eq!(rt; written.bytes, replies(rt, script.len(), true));
         return false;
@@ -234,21 +232,21 @@ fn ends_for_memory(
 fn a_refused_growth_keeps_whole_replies(rt: HostRuntime) {
     let script = input(&rt);
     let room = replies(&rt, script.len(), true).len();
-    if ends_for_memory(&rt, &script, room) {
-        assert!(rt; !ends_for_memory(&rt, &script, room));
+    if ends_for_memory::<_, ListEngine>(&rt, &script, room) {
+        assert!(rt; !ends_for_memory::<_, ListEngine>(&rt, &script, room));
     }
 }
 
 /// Whether a script fails at this read, with the replies to the lines before it.
-fn read_fails(
-    rt: &(impl AllocGlobal + Abort + Threads + Wait + Sync),
+fn read_fails<G: AllocGlobal + Abort + Sync, E: EngineOver<G>>(
+    rt: &G,
     script: &[u8],
     fails: usize,
     kind: io::ErrorKind,
 ) {
     let reader = reader_of(script, 1, fails, kind);
     let writer = writer_of(rt, 5, 0, None);
-    let (outcome, _, written) = run_over(rt, reader, writer, Options::default());
+    let (outcome, _, written) = run_over::<_, E, _, _>(rt, reader, writer, Options::default());
     assert_eq!(rt; outcome, Err(Fault::Read), "call {fails}");
     let wanted = replies(rt, fails.saturating_sub(1), false);
     assert_eq!(rt; written.bytes, wanted, "call {fails}");
@@ -259,14 +257,14 @@ fn each_read_fails(rt: HostRuntime) {
     let script = input(&rt);
     for kind in [io::ErrorKind::BrokenPipe, io::ErrorKind::Interrupted] {
         for fails in 1..script.len() + 2 {
-            read_fails(&rt, &script, fails, kind);
+            read_fails::<_, ListEngine>(&rt, &script, fails, kind);
         }
     }
 }
 
 /// Whether the script fails at this call of the writer, if it comes to it, with a beginning of the replies.
-fn write_fails(
-    rt: &(impl AllocGlobal + Abort + Threads + Wait + Sync),
+fn write_fails<G: AllocGlobal + Abort + Sync, E: EngineOver<G>>(
+    rt: &G,
     step: usize,
     fails: usize,
     kind: Option<io::ErrorKind>,
@@ -274,7 +272,7 @@ fn write_fails(
     let script = input(rt);
     let reader = reader_of(&script, step, 0, io::ErrorKind::Other);
     let writer = writer_of(rt, step, fails, kind);
-    let (outcome, _, written) = run_over(rt, reader, writer, Options::default());
+    let (outcome, _, written) = run_over::<_, E, _, _>(rt, reader, writer, Options::default());
     let failed = fails <= written.calls && (kind.is_some() || written.flushes == 0);
     let wanted = if failed { Err(Fault::Write) } else { Ok(()) };
     assert_eq!(rt; outcome, wanted, "call {fails}");
@@ -297,7 +295,7 @@ fn each_write_fails(rt: HostRuntime) {
         for step in [1, 4] {
             let mut failed = 0u32;
             for fails in 1..100 {
-                if write_fails(&rt, step, fails, kind) {
+                if write_fails::<_, ListEngine>(&rt, step, fails, kind) {
                     failed = failed.wrapping_add(1);
                 }
             }
@@ -360,7 +358,7 @@ fn answers_come_before_the_next_read(rt: HostRuntime) {
         wanted: 0,
         written: &written,
     };
-    let (outcome, reader, _) = run_over(
+    let (outcome, reader, _) = run_over::<_, ListEngine, _, _>(
         &rt,
         reader,
         Counter { written: &written },
@@ -378,7 +376,12 @@ fn many_replies_in_a_block(rt: HostRuntime) {
         script.extend_from_slice(b"x\n").expect(&rt, "lines");
     }
     let writer = Vec::new(rt.alloc());
-    let (outcome, _, written) = run_over(&rt, script.as_slice(), writer, Options::default());
+    let (outcome, _, written) = run_over::<_, ListEngine, _, _>(
+        &rt,
+        script.as_slice(),
+        writer,
+        Options::default(),
+    );
     // 28 bytes around each number, and 188,894 digits.
     assert_eq!(rt; (outcome, written.len()), (Ok(()), 1_308_894));
 }
