@@ -10,7 +10,7 @@ mod shown;
 mod walk;
 mod ways;
 
-use cases::{Tally, Trouble, Wanted, case_on, judged, text};
+use cases::{Tally, Trial, Wanted, case_on, judged, text};
 use script::script_of;
 use serde_json::Value;
 use std::process::ExitCode;
@@ -18,21 +18,17 @@ use std::rt::{Env, Files};
 use std::sync::Wait;
 use std::thread::Threads;
 use std::{env, fs, io};
-use ways::difference;
+use ways::give_replies;
 
-/// What the steps of a walk give; of a script how many replies it has, or else what some way of running it gave in
+/// Gives what the steps of a walk give; of a script how many replies it has, or else what some way of running it gave in
 /// place of one.
-fn given<R: AllocGlobal + Files + Threads + Wait + Sync>(
-    rt: &R,
-    case: &Value,
-) -> Result<Value, Trouble> {
-    if text(case, "do")? == "walk" {
-        return walk::walk(rt, case);
+fn give<R: AllocGlobal + Files + Threads + Wait + Sync>(rt: &R, trial: &mut Trial, case: &Value) {
+    if text(trial, case, "do") == "walk" {
+        return walk::walk(rt, trial, case);
     }
-    let script = script_of(rt, case)?;
-    match difference(rt, &script)? {
-        Some(difference) => Ok(Value::String(difference)),
-        None => Ok(Value::from(script.replies())),
+    let script = script_of(rt, trial, case);
+    if !trial.has_failed() {
+        give_replies(rt, trial, &script);
     }
 }
 
@@ -42,10 +38,12 @@ fn holds<R: AllocGlobal + Files + Print + Threads + Wait + Sync>(
     name: &str,
     line: &str,
 ) -> io::Result<bool> {
-    match case_on(rt, name, line)? {
-        Some(case) => judged(rt, name, &case, given(rt, &case)),
-        None => Ok(false),
-    }
+    let Some(case) = case_on(rt, name, line)? else {
+        return Ok(false);
+    };
+    let mut trial = Trial::new(rt.alloc());
+    give(rt, &mut trial, &case);
+    judged(rt, name, &case, &mut trial)
 }
 
 /// Tries the cases of a file.

@@ -1,8 +1,9 @@
 // The ways of running a script: over a plain list of documents, and over segments under each kind of options.
 use crate::script::Script;
-use cases::Trouble;
+use cases::{Trial, Trouble};
 use fts_engine::IndexEngine;
 use fts_script::{Cut, Engine, ListEngine, Merge, Options, Plain, Streams, run_script};
+use std::alloc::{AllocError, Global};
 use std::sync::Wait;
 use std::thread::Threads;
 
@@ -29,13 +30,30 @@ fn first_other<'a>(given: &'a str, wanted: &str) -> &'a str {
     "too few replies"
 }
 
+/// What was given over an engine, if it isn't what is wanted.
+fn other(
+    alloc: Global,
+    over: &str,
+    given: Vec<u8>,
+    wanted: &str,
+    options: Options,
+) -> Result<Option<String>, AllocError> {
+    if given.as_slice() == wanted.as_bytes() {
+        return Ok(None);
+    }
+    let given = String::from_utf8(given).unwrap_or(String::new(alloc));
+    let other = first_other(given.as_str(), wanted);
+    Ok(Some(format!(in alloc; "over {over} gave {other} at {options:?}")?))
+}
+
 /// What a run over an engine gives that it shouldn't, if it does.
 fn run<E: Engine>(
     rt: &(impl AllocGlobal + Threads + Wait + Sync),
+    over: &str,
     input: &str,
     wanted: &str,
     options: Options,
-) -> Result<Option<String>, Trouble> {
+) -> Result<Option<String>, AllocError> {
     let alloc = rt.alloc();
     let mut streams = Streams {
         reader: Plain::new(input.as_bytes()),
@@ -43,39 +61,55 @@ fn run<E: Engine>(
     };
     let outcome = run_script::<E, _, _>(rt, &mut streams, options);
     if outcome.is_err() {
-        return Ok(Some(format!(in alloc; "ended by {outcome:?} at {options:?}")?));
+        return Ok(Some(format!(in alloc; "over {over} ended by {outcome:?} at {options:?}")?));
     }
-    let given = streams.writer.into_inner();
-    if given.as_slice() == wanted.as_bytes() {
-        return Ok(None);
-    }
-    let given = String::from_utf8(given).unwrap_or(String::new(alloc));
-    let other = first_other(given.as_str(), wanted);
-    Ok(Some(format!(in alloc; "gave {other} at {options:?}")?))
+    other(alloc, over, streams.writer.into_inner(), wanted, options)
 }
 
-/// What some way of running a script gives that it shouldn't, if one does. Half of the ways run it without its last LF.
-pub(crate) fn difference(
+/// What some way of running a script over segments gives that it shouldn't, if one does. Half of the ways run it without
+/// its last LF.
+fn difference_over_segments(
     rt: &(impl AllocGlobal + Threads + Wait + Sync),
-    script: &Script,
-) -> Result<Option<String>, Trouble> {
-    let input = script.input.as_str();
-    let wanted = script.wanted.as_str();
+    input: &str,
+    wanted: &str,
+) -> Result<Option<String>, AllocError> {
     let unended = input.strip_suffix('\n').unwrap_or(input);
-    if let Some(other) = run::<ListEngine>(rt, input, wanted, Options::default())? {
-        return Ok(Some(format!(in rt.alloc(); "over a list {other}")?));
-    }
-    if !script.over_segments {
-        return Ok(None);
-    }
     for (i, (workers, cut, merge)) in WAYS.iter().enumerate() {
         let Some(options) = Options::new(*workers, *cut, *merge) else {
-            return Err(Trouble::Impossible("options beyond their limits"));
+            return Ok(Some(String::from_str(rt.alloc(), "options beyond their limits")?));
         };
         let input = if i % 2 == 0 { input } else { unended };
-        if let Some(other) = run::<IndexEngine>(rt, input, wanted, options)? {
-            return Ok(Some(format!(in rt.alloc(); "over segments {other}")?));
+        let other = run::<IndexEngine>(rt, "segments", input, wanted, options)?;
+        if other.is_some() {
+            return Ok(other);
         }
     }
     Ok(None)
+}
+
+/// What some way of running a script gives that it shouldn't, if one does.
+fn difference(
+    rt: &(impl AllocGlobal + Threads + Wait + Sync),
+    script: &Script,
+) -> Result<Option<String>, AllocError> {
+    let input = script.input.as_str();
+    let wanted = script.wanted.as_str();
+    let other = run::<ListEngine>(rt, "a list", input, wanted, Options::default())?;
+    if other.is_some() || !script.over_segments {
+        return Ok(other);
+    }
+    difference_over_segments(rt, input, wanted)
+}
+
+/// Gives how many replies a script has, or else what some way of running it gives in place of one.
+pub(crate) fn give_replies(
+    rt: &(impl AllocGlobal + Threads + Wait + Sync),
+    trial: &mut Trial,
+    script: &Script,
+) {
+    match difference(rt, script) {
+        Ok(None) => trial.give_number(script.replies()),
+        Ok(Some(other)) => trial.give_text(other.as_str()),
+        Err(_) => trial.fail(Trouble::Memory),
+    }
 }
