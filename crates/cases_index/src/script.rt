@@ -89,7 +89,9 @@ fn line_of(trial: &mut Trial, json: &Value) -> String {
         Value::String(text) => push_times(trial, &mut line, text.as_str(), 1),
         Value::Object(_) => push_compact(trial, &mut line, json),
         Value::Array(pieces) => push_pieces(trial, &mut line, pieces),
-        _ => trial.fail(Trouble::Impossible("a line that is no text, object or list of pieces")),
+        _ => trial.fail(Trouble::Impossible(
+            "a line that is neither a text, an object nor a list of pieces",
+        )),
     }
     push_times(trial, &mut line, "\n", 1);
     line

@@ -4,10 +4,28 @@ use crate::queries::query_of;
 use crate::texts::text_of;
 use cases::{Trial, Trouble, give_answer, request_of};
 use fts_collect::{Part, collect};
-use fts_model::Request;
+use fts_model::{Query, Request};
 use serde_json::Value;
 
-/// Puts what one segment tells behind what others told.
+/// Puts what one segment tells of a query behind what others told.
+fn push_told(
+    trial: &mut Trial,
+    parts: &mut Vec<Part>,
+    bench: &Bench,
+    query: &Query,
+    request: &Request,
+) {
+    let schema = bench.segment.schema();
+    if bench.live.len() != bench.segment.docs() || !query.fits(schema) || !request.fits(schema) {
+        return trial.fail(Trouble::Impossible("the segment can't be asked"));
+    }
+    let part = collect(trial.alloc(), &bench.segment, &bench.live, query, request);
+    if let Some(part) = trial.kept(part) {
+        trial.push(parts, part);
+    }
+}
+
+/// Puts what one segment tells of a text behind what others told.
 fn push_part(
     trial: &mut Trial,
     parts: &mut Vec<Part>,
@@ -15,16 +33,8 @@ fn push_part(
     text: &str,
     request: &Request,
 ) {
-    let schema = bench.segment.schema();
-    if bench.live.len() != bench.segment.docs() || !request.fits(schema) {
-        return trial.fail(Trouble::Impossible("the segment can't be asked"));
-    }
-    let Some(query) = query_of(trial, schema, text) else {
-        return;
-    };
-    let part = collect(trial.alloc(), &bench.segment, &bench.live, &query, request);
-    if let Some(part) = trial.kept(part) {
-        trial.push(parts, part);
+    if let Some(query) = query_of(trial, bench.segment.schema(), text) {
+        push_told(trial, parts, bench, &query, request);
     }
 }
 

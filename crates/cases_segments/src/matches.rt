@@ -7,23 +7,35 @@ use fts_cursor::{Cursor, DocSet, cursor_of};
 use fts_model::Query;
 use serde_json::Value;
 
-/// The cursor of a query's text.
-pub(crate) fn cursor<'a>(trial: &mut Trial, bench: &'a Bench, text: &str) -> Option<Cursor<'a>> {
-    if bench.live.len() != bench.segment.docs() {
-        trial.fail(Trouble::Impossible("not one bit a document"));
+/// The cursor of a query.
+fn cursor<'a>(trial: &mut Trial, bench: &'a Bench, query: &Query) -> Option<Cursor<'a>> {
+    let (segment, live) = (&bench.segment, &bench.live);
+    if live.len() != segment.docs() || !query.fits(segment.schema()) {
+        trial.fail(Trouble::Impossible("the segment can't be asked"));
         return None;
     }
-    let query = query_of(trial, bench.segment.schema(), text)?;
-    let cursor = cursor_of(trial.alloc(), &bench.segment, &bench.live, &query);
+    let cursor = cursor_of(trial.alloc(), segment, live, query);
     trial.kept(cursor)
+}
+
+/// The cursor of a query's text.
+pub(crate) fn cursor_over<'a>(
+    trial: &mut Trial,
+    bench: &'a Bench,
+    text: &str,
+) -> Option<Cursor<'a>> {
+    match query_of(trial, bench.segment.schema(), text) {
+        Some(query) => cursor(trial, bench, &query),
+        None => None,
+    }
 }
 
 /// Whether a document is live and matches.
 fn is_found(trial: &mut Trial, bench: &Bench, query: &Query, doc: usize) -> bool {
-    if doc >= bench.live.len() || !bench.live.get(doc) {
+    let segment = &bench.segment;
+    if doc >= segment.docs() || doc >= bench.live.len() || !bench.live.get(doc) {
         return false;
     }
-    let segment = &bench.segment;
     let matches = fts_scan::matches(
         trial.alloc(),
         segment.schema(),
@@ -34,7 +46,7 @@ fn is_found(trial: &mut Trial, bench: &Bench, query: &Query, doc: usize) -> bool
 }
 
 /// The live documents that match, each looked at.
-fn by_scan(trial: &mut Trial, bench: &Bench, query: &Query) -> Vec<u32> {
+fn scanned(trial: &mut Trial, bench: &Bench, query: &Query) -> Vec<u32> {
     let mut found = Vec::new(trial.alloc());
     for doc in 0..bench.segment.docs() {
         if is_found(trial, bench, query, doc) {
@@ -44,55 +56,45 @@ fn by_scan(trial: &mut Trial, bench: &Bench, query: &Query) -> Vec<u32> {
     found
 }
 
-/// The documents that a look at each finds.
-fn scanned(trial: &mut Trial, bench: &Bench, text: &str) -> Vec<u32> {
-    match query_of(trial, bench.segment.schema(), text) {
-        Some(query) => by_scan(trial, bench, &query),
-        None => Vec::new(trial.alloc()),
+/// Puts the documents that a cursor goes over one by one into a list.
+fn push_steps(trial: &mut Trial, found: &mut Vec<u32>, cursor: &mut Cursor, most: usize) {
+    for _ in 0..most {
+        match cursor.doc() {
+            Some(doc) => trial.push(found, doc),
+            None => return,
+        }
+        cursor.advance();
     }
 }
 
-/// The documents that a cursor goes over one by one.
-fn by_steps(trial: &mut Trial, cursor: &mut Cursor, most: usize) -> Vec<u32> {
+/// The documents that a cursor's steps find.
+fn stepped(trial: &mut Trial, bench: &Bench, query: &Query) -> Vec<u32> {
     let mut found = Vec::new(trial.alloc());
-    for _ in 0..most {
-        match cursor.doc() {
-            Some(doc) => trial.push(&mut found, doc),
-            None => return found,
-        }
-        cursor.advance();
+    let most = bench.segment.docs().saturating_add(1);
+    if let Some(mut cursor) = cursor(trial, bench, query) {
+        push_steps(trial, &mut found, &mut cursor, most);
     }
     found
 }
 
-/// The documents that a cursor's steps find.
-fn stepped(trial: &mut Trial, bench: &Bench, text: &str) -> Vec<u32> {
-    let most = bench.segment.docs().saturating_add(1);
-    match cursor(trial, bench, text) {
-        Some(mut cursor) => by_steps(trial, &mut cursor, most),
-        None => Vec::new(trial.alloc()),
-    }
-}
-
-/// The documents that a cursor goes over by stretches.
-fn by_stretches(trial: &mut Trial, cursor: &mut Cursor, most: usize) -> Vec<u32> {
-    let mut found = Vec::new(trial.alloc());
+/// Puts the documents that a cursor goes over by stretches into a list.
+fn push_stretches(trial: &mut Trial, found: &mut Vec<u32>, cursor: &mut Cursor, most: usize) {
     for _ in 0..most {
         let mut out = [0; 128];
         let count = cursor.fill(&mut out);
         let pushed = found.extend_from_slice(out.get(..count).unwrap_or(&[]));
         trial.kept(pushed);
     }
-    found
 }
 
 /// The documents that a cursor's stretches find.
-fn stretched(trial: &mut Trial, bench: &Bench, text: &str) -> Vec<u32> {
+fn stretched(trial: &mut Trial, bench: &Bench, query: &Query) -> Vec<u32> {
+    let mut found = Vec::new(trial.alloc());
     let most = bench.segment.docs() / 128 + 1;
-    match cursor(trial, bench, text) {
-        Some(mut cursor) => by_stretches(trial, &mut cursor, most),
-        None => Vec::new(trial.alloc()),
+    if let Some(mut cursor) = cursor(trial, bench, query) {
+        push_stretches(trial, &mut found, &mut cursor, most);
     }
+    found
 }
 
 /// Gives documents that should be the same, and aren't.
@@ -109,10 +111,10 @@ fn give_three(trial: &mut Trial, scan: &[u32], steps: &[u32], stretches: &[u32])
 
 /// Gives the documents that a query finds, or, where `counts` says so, how many they are. Where a scan, a cursor's steps
 /// and its stretches find others, those of all three.
-fn give_found(trial: &mut Trial, bench: &Bench, text: &str, counts: bool) {
-    let scan = scanned(trial, bench, text);
-    let steps = stepped(trial, bench, text);
-    let stretches = stretched(trial, bench, text);
+fn give_found(trial: &mut Trial, bench: &Bench, query: &Query, counts: bool) {
+    let scan = scanned(trial, bench, query);
+    let steps = stepped(trial, bench, query);
+    let stretches = stretched(trial, bench, query);
     if scan != steps || scan != stretches {
         give_three(trial, &scan, &steps, &stretches);
     } else if counts {
@@ -125,7 +127,9 @@ fn give_found(trial: &mut Trial, bench: &Bench, text: &str, counts: bool) {
 /// The documents that the query of a case finds, or how many they are.
 fn found(trial: &mut Trial, case: &Value, bench: &Bench, counts: bool) {
     let text = text_of(trial, case, "query");
-    give_found(trial, bench, text.as_str(), counts);
+    if let Some(query) = query_of(trial, bench.segment.schema(), text.as_str()) {
+        give_found(trial, bench, &query, counts);
+    }
 }
 
 /// Gives what a word of these gives, and answers whether it is one.

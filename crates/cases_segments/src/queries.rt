@@ -5,7 +5,7 @@ ghost use Rattle.fts_model.specs.QueryValues.{query_value};
 
 use crate::texts::text_of;
 use cases::{Trial, Trouble, give_answer, nonempty, request_of, schema_of};
-use fts_model::{Document, Query, Refusal, Request, Schema, Stamped, Text};
+use fts_model::{Document, Query, Refusal, Schema, Stamped, Text};
 use fts_query::parse;
 use fts_scan::answer;
 use serde_json::Value;
@@ -71,18 +71,21 @@ fn give_scanned(trial: &mut Trial, schema: &Schema, case: &Value, query: &Query)
     }
 }
 
+/// Gives whether a text is a query, or what a look at each document of a case answers to it.
+fn give_parsed(trial: &mut Trial, schema: &Schema, word: &str, case: &Value, text: &str) {
+    if let Some(query) = query_of(trial, schema, text) {
+        match word {
+            "parse" => trial.give_flag(query.fits(schema)),
+            _ => give_scanned(trial, schema, case, &query),
+        }
+    }
+}
+
 /// Whether a text is a query, or what a look at each document answers to it.
 fn parsed(trial: &mut Trial, word: &str, case: &Value) {
     let text = text_of(trial, case, "query");
-    let Some(schema) = schema_of(trial, case) else {
-        return;
-    };
-    let Some(query) = query_of(trial, &schema, text.as_str()) else {
-        return;
-    };
-    match word {
-        "parse" => trial.give_flag(query.fits(&schema)),
-        _ => give_scanned(trial, &schema, case, &query),
+    if let Some(schema) = schema_of(trial, case) {
+        give_parsed(trial, &schema, word, case, text.as_str());
     }
 }
 
@@ -127,12 +130,17 @@ fn give_count(trial: &mut Trial, schema: &Schema, case: &Value, query: &Query) {
     }
 }
 
-/// How many documents have tokens at offsets from some one place of their first field.
-fn with_pattern(trial: &mut Trial, case: &Value) {
+/// Gives how many documents of a case have tokens at offsets from some one place of their first field.
+fn give_pattern(trial: &mut Trial, schema: &Schema, case: &Value) {
     let items = nonempty(trial, case, "pattern");
     let query = phrase_of(trial, items);
+    give_count(trial, schema, case, &query);
+}
+
+/// How many documents have tokens at offsets from some one place of their first field.
+fn with_pattern(trial: &mut Trial, case: &Value) {
     if let Some(schema) = schema_of(trial, case) {
-        give_count(trial, &schema, case, &query);
+        give_pattern(trial, &schema, case);
     }
 }
 

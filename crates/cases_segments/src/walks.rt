@@ -1,6 +1,6 @@
 // Cases of walks of a cursor over the first segment that was made: `walk`.
 use crate::bench::Bench;
-use crate::matches::cursor;
+use crate::matches::cursor_over;
 use crate::texts::text_of;
 use cases::{Trial, Trouble, has, nonempty, number, only};
 use fts_cursor::{Cursor, DocSet};
@@ -71,7 +71,7 @@ fn walk(trial: &mut Trial, cursor: &mut Cursor, steps: &[Value]) {
 fn walked(trial: &mut Trial, case: &Value, bench: &Bench) {
     let text = text_of(trial, case, "query");
     let steps = nonempty(trial, case, "steps");
-    if let Some(mut cursor) = cursor(trial, bench, text.as_str()) {
+    if let Some(mut cursor) = cursor_over(trial, bench, text.as_str()) {
         walk(trial, &mut cursor, steps);
     }
 }
