@@ -1,33 +1,38 @@
 // Steps that search: `keep`, `ask` and `openings`.
-ghost use Rattle.std.specs.Prelude.{◌≡◌, ◌≤◌, IfSome, true};
-ghost use Rattle.fts_model.specs.Queries.{query_fits};
-ghost use Rattle.fts_model.specs.QueryValues.{query_value};
+ghost use Rattle.std.specs.Prelude.{◌≤◌};
 
 use crate::walk::Made;
 use cases::{Trial, Trouble, give_answer, has, only, request_of, size, text};
 use fts_index::{Found, Searcher, Writer};
-use fts_model::{Query, Schema};
+use fts_model::Query;
 use fts_pool::Open;
 use fts_query::parse;
 use serde_json::Value;
 use std::sync::Wait;
 use std::thread::Threads;
 
-/// The query of a step.
-fn query_of(trial: &mut Trial, schema: &Schema, step: &Value) -> Option<Query>
-    ensures { IfSome result (λ query. query_fits schema.now (query_value query) ≡ true) }
+/// What a searcher finds for a query, by so many threads.
+fn found_for<R: Threads + Wait + Sync>(
+    rt: &R,
+    trial: &mut Trial,
+    searcher: &Searcher,
+    step: &Value,
+    query: &Query,
+    workers: usize,
+) -> Option<Found>
+    requires { (1 ≤ workers) × (workers ≤ 64) }
 {
-    let text = text(trial, step, "query");
-    match parse(trial.alloc(), schema, text) {
-        Ok(query) => Some(query),
-        Err(refusal) => {
-            trial.fail(Trouble::from(refusal));
-            None
-        }
+    let schema = searcher.snapshot().schema();
+    let request = request_of(trial, schema, step)?;
+    if !query.fits(schema) || !request.fits(schema) {
+        trial.fail(Trouble::Impossible("a request of another schema"));
+        return None;
     }
+    let found = searcher.search(rt, trial.alloc(), query, &request, workers, &Open);
+    trial.kept(found)
 }
 
-/// What a searcher finds, by so many threads.
+/// What a searcher finds for the query of a step, by so many threads.
 fn found<R: Threads + Wait + Sync>(
     rt: &R,
     trial: &mut Trial,
@@ -37,15 +42,12 @@ fn found<R: Threads + Wait + Sync>(
 ) -> Option<Found>
     requires { (1 ≤ workers) × (workers ≤ 64) }
 {
-    let schema = searcher.snapshot().schema();
-    let query = query_of(trial, schema, step)?;
-    let request = request_of(trial, schema, step)?;
-    if !request.fits(schema) {
-        trial.fail(Trouble::Impossible("a request of another schema"));
-        return None;
+    let text = text(trial, step, "query");
+    let query = parse(trial.alloc(), searcher.snapshot().schema(), text);
+    match trial.kept(query) {
+        Some(query) => found_for(rt, trial, searcher, step, &query, workers),
+        None => None,
     }
-    let found = searcher.search(rt, trial.alloc(), &query, &request, workers, &Open);
-    trial.kept(found)
 }
 
 /// Gives what a searcher answers, by so many threads.

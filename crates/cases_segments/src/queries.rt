@@ -1,8 +1,4 @@
 // Cases of queries and requests without a segment: `parse`, `syntax_byte`, `scan`, `pattern` and `request`.
-ghost use Rattle.std.specs.Prelude.{◌≡◌, IfSome, true};
-ghost use Rattle.fts_model.specs.Queries.{query_fits};
-ghost use Rattle.fts_model.specs.QueryValues.{query_value};
-
 use crate::texts::text_of;
 use cases::{Trial, Trouble, give_answer, nonempty, request_of, schema_of};
 use fts_model::{Document, Query, Refusal, Schema, Stamped, Text};
@@ -11,16 +7,9 @@ use fts_scan::answer;
 use serde_json::Value;
 
 /// The query of a text.
-pub(crate) fn query_of(trial: &mut Trial, schema: &Schema, text: &str) -> Option<Query>
-    ensures { IfSome result (λ query. query_fits schema.now (query_value query) ≡ true) }
-{
-    match parse(trial.alloc(), schema, text) {
-        Ok(query) => Some(query),
-        Err(refusal) => {
-            trial.fail(Trouble::from(refusal));
-            None
-        }
-    }
+pub(crate) fn query_of(trial: &mut Trial, schema: &Schema, text: &str) -> Option<Query> {
+    let query = parse(trial.alloc(), schema, text);
+    trial.kept(query)
 }
 
 /// Gives the byte up to which a text is the beginning of a query.
