@@ -2,7 +2,7 @@
 use crate::script::Script;
 use cases::{Trial, Trouble};
 use fts_engine::IndexEngine;
-use fts_script::{Cut, Engine, ListEngine, Merge, Options, Plain, Streams, run_script};
+use fts_script::{Cut, EngineOver, ListEngine, Merge, Options, Plain, Streams, run_script};
 use std::alloc::{AllocError, Global};
 use std::sync::Wait;
 use std::thread::Threads;
@@ -47,8 +47,8 @@ fn other(
 }
 
 /// What a run over an engine gives that it shouldn't, if it does.
-fn run<E: Engine>(
-    rt: &(impl AllocGlobal + Threads + Wait + Sync),
+fn run<R: AllocGlobal + Threads + Wait + Sync, E: EngineOver<R>>(
+    rt: &R,
     over: &str,
     input: &str,
     wanted: &str,
@@ -59,7 +59,7 @@ fn run<E: Engine>(
         reader: Plain::new(input.as_bytes()),
         writer: Plain::new(Vec::new(alloc)),
     };
-    let outcome = run_script::<E, _, _>(rt, &mut streams, options);
+    let outcome = run_script::<_, E, _, _>(rt, &mut streams, options);
     if outcome.is_err() {
         return Ok(Some(format!(in alloc; "over {over} ended by {outcome:?} at {options:?}")?));
     }
@@ -79,7 +79,7 @@ fn difference_over_segments(
             return Ok(Some(String::from_str(rt.alloc(), "options beyond their limits")?));
         };
         let input = if i % 2 == 0 { input } else { unended };
-        let other = run::<IndexEngine>(rt, "segments", input, wanted, options)?;
+        let other = run::<_, IndexEngine>(rt, "segments", input, wanted, options)?;
         if other.is_some() {
             return Ok(other);
         }
@@ -94,7 +94,7 @@ fn difference(
 ) -> Result<Option<String>, AllocError> {
     let input = script.input.as_str();
     let wanted = script.wanted.as_str();
-    let other = run::<ListEngine>(rt, "a list", input, wanted, Options::default())?;
+    let other = run::<_, ListEngine>(rt, "a list", input, wanted, Options::default())?;
     if other.is_some() || !script.over_segments {
         return Ok(other);
     }

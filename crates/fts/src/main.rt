@@ -50,7 +50,7 @@ fn run_standard(
         ⊎ (FailsRead streams.old streams.new × WritesEnded streams.old streams.new) }
     ensures used_up { result.0 ≡ 5 → ReadsTooMuch streams.old streams.new }
 {
-    let outcome = run_script::<IndexEngine, _, _>(rt, streams, options);
+    let outcome = run_script::<_, IndexEngine, _, _>(rt, streams, options);
     if let Err(fault) = &outcome {
         let _ = rt.eprintln(format_args!("fts: {fault}"));
     }

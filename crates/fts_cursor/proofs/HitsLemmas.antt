@@ -171,14 +171,14 @@ hits_apart p q xs =
     numbers_are _ xs (without (numbers_where p 0 xs) (numbers_where q 0 xs)) (Rises-filter 0 (lacks (numbers_where q 0 xs)) (numbers_where p 0 xs) (Rises-numbers p 0 xs))
     (λ d. has-filter (lacks (numbers_where q 0 xs)) (numbers_where p 0 xs) d ∙ ap₂ (λ a b. a && not b) (has-all p xs d) (has-all q xs d) ∙ at_apart p q (slice_get xs d))
 
-has-range : (a n d : ℕ) → a ≤ d → d < a + n → has (range_with_len a n) d ≡ true
+pub has-range : (a n d : ℕ) → a ≤ d → d < a + n → has (range_with_len a n) d ≡ true
 has-range a zero d low high = absurd (omega (arith, low, high))
 has-range a (suc n) d low high = elim (cases_lt a d) [
   | inl above ↦ ap (λ b. b || has (range_with_len (a + 1) n) d) (above_is_other a d above) ∙ has-range (a + 1) n d (omega (arith, above)) (omega (arith, high))
   | inr here ↦ let same : a ≡ d = omega (arith, low, here) in ap (λ y. (y == d) || has (range_with_len (a + 1) n) d) same ∙ ap (λ b. b || has (range_with_len (a + 1) n) d) (is_itself d)
 ]
 
-past-range : (a n d : ℕ) → a + n ≤ d → has (range_with_len a n) d ≡ false
+pub past-range : (a n d : ℕ) → a + n ≤ d → has (range_with_len a n) d ≡ false
 past-range a zero d past = refl
 past-range a (suc n) d past = ap (λ b. b || has (range_with_len (a + 1) n) d) (above_is_other a d (omega (arith, past))) ∙ past-range (a + 1) n d (omega (arith, past))
 

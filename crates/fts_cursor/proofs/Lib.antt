@@ -14,3 +14,4 @@ pub mod PhraseHits
 pub mod RangeLemmas
 pub mod KeywordRangeLemmas
 pub mod CostLemmas
+pub mod ListedLemmas

@@ -4,12 +4,13 @@ use Rattle.std.proofs.Common.{arith}
 use Rattle.fts_cursor.specs.TreeValues.{most-heights}
 use Rattle.fts_cursor.specs.Trees.{tree_value}
 use Rattle.fts_cursor.specs.declared.tree.Node.{Node}
-use Rattle.fts_cursor.specs.declared.tree.Node.TheVariants.{Nothing, Scan, Postings, Terms, Phrase, And, Or, Without}
+use Rattle.fts_cursor.specs.declared.tree.Node.TheVariants.{Nothing, Scan, Listed, Postings, Terms, Phrase, And, Or, Without}
 use Rattle.fts_cursor.specs.declared.tree.Tree.TheDeep.{deep-Node}
 
 pub node_falls : (node : Node) → max (deep-Node node) 0 ≤ (tree_value node).height
 node_falls Nothing = omega arith
 node_falls (Scan documents) = omega arith
+node_falls (Listed documents) = omega arith
 node_falls (Postings p) = omega arith
 node_falls (Terms c) = omega arith
 node_falls (Phrase s) = omega arith

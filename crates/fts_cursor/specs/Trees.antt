@@ -14,7 +14,7 @@ use Rattle.fts_cursor.specs.declared.tree.buffered_union.BufferedUnion.{Buffered
 use Rattle.fts_cursor.specs.declared.tree.exclusion.Exclusion.{Exclusion}
 use Rattle.fts_cursor.specs.declared.tree.intersection.Intersection.{Intersection}
 use Rattle.fts_cursor.specs.declared.tree.Node.{Node}
-use Rattle.fts_cursor.specs.declared.tree.Node.TheVariants.{Nothing, Scan, Postings, Terms, Phrase, And, Or, Without}
+use Rattle.fts_cursor.specs.declared.tree.Node.TheVariants.{Nothing, Scan, Listed, Postings, Terms, Phrase, And, Or, Without}
 use Rattle.fts_postings.specs.declared.window.Window.{Window}
 
 -- the documents of a window
@@ -43,6 +43,7 @@ differ parts = without parts.kept.value.remaining parts.dropped.value.remaining
 abbrev pub tree_value : Node → TreeValue
 tree_value Nothing = leaf (record { remaining = []; openings = 0; bound = at_most 0; whole = true })
 tree_value (Scan documents) = leaf (record { remaining = documents; openings = 0; bound = at_most 0; whole = false })
+tree_value (Listed documents) = leaf (record { remaining = documents; openings = 0; bound = at_most 0; whole = false })
 tree_value (Postings p) = leaf (record {
   remaining = remaining_of p;
   openings = p.count;

@@ -1,5 +1,5 @@
 // The cursor of a query: a tree of cursors, one for each query within it.
-ghost use Rattle.std.specs.Prelude.{◌≡◌, ◌-◌, ◌^◌, ◌≤◌, ◌<◌, true, IfOk, IsOkUnless, MatchOption};
+ghost use Rattle.std.specs.Prelude.{◌≡◌, ◌-◌, ◌^◌, ◌≤◌, ◌<◌, true, count_by, IfOk, IsOkUnless, MatchOption};
 ghost use Rattle.std.specs.Prelude.{All, EachIndex, List, [], ◌∷◌, length, map, min, slice_index};
 ghost use Rattle.std.specs.List.{AllZip, list_all};
 ghost use Rattle.std.specs.List.Sorted.{IsStrictlyIncreasing};
@@ -47,13 +47,24 @@ pub fn cursor_of<'a>(
     match tree_of(alloc, segment, query) {
         Err(AllocError) => Err(Refusal::Memory),
         Ok(tree) => {
-            if live.count_ones() == live.len() {
+            if all_set(live, tree.cost()) {
                 Ok(Cursor::all(tree))
             } else {
                 Ok(Cursor::live(tree, live))
             }
         }
     }
+}
+
+// Whether all bits are set, of which so many are looked at else. They are counted only where that costs less: a word
+// for 64 of them.
+fn all_set(live: &Bits, cost: usize) -> bool
+    ensures { result ≡ true → count_by (λ bit. bit) live.now ≡ length live.now }
+{
+    if cost < live.len() / 64 {
+        return false;
+    }
+    live.count_ones() == live.len()
 }
 
 // The documents that match a query.
@@ -73,7 +84,7 @@ fn tree_of<'a>(alloc: Global, segment: &'a Segment, query: &Query) -> Result<Tre
             field,
             lower,
             upper,
-        } => Ok(of_range(segment, *field, lower, upper)),
+        } => of_range(alloc, segment, *field, lower, upper),
         Query::Bool {
             must,
             must_not,

@@ -1,5 +1,5 @@
 // Ranges, as what a column keeps: numbers, or ordinals of texts.
-ghost use Rattle.std.specs.Prelude.{◌≡◌, ℕ, ◌^◌, ◌<◌, ◌||◌, None, Some, false, not, slice_index_or, true};
+ghost use Rattle.std.specs.Prelude.{◌≡◌, ℕ, ◌^◌, ◌<◌, ◌≤◌, ◌||◌, IfOk, None, Some, false, length, not, slice_index_or, true};
 ghost use Rattle.std.specs.Option.{option_map_or};
 ghost use Rattle.fts_model.specs.Operations.{kind_at};
 ghost use Rattle.fts_model.specs.declared.schema.Kind.TheVariants as kinds;
@@ -9,83 +9,128 @@ ghost use Rattle.fts_cursor.specs.Hits.{segment_hits};
 ghost use Rattle.fts_segment.specs.Segments.{keywords};
 ghost use Rattle.fts_cursor.specs.Ranges.{IsGreatestOf, IsLastOrdinal, IsLeastOf, IsWhole, IsWholeBound, is_bounded, key_of};
 ghost use Rattle.fts_cursor.specs.Ranges.{ordinal_from};
+ghost use Rattle.fts_cursor.specs.Scans.{has_within};
+ghost use Rattle.fts_postings.specs.Windows.{passing};
+ghost use Rattle.fts_segment.specs.Between.{AreBetween};
 
 use crate::kept::Kept;
+use crate::listed::ListedCursor;
 use crate::scan::ScanCursor;
 use crate::tree::Tree;
 use fts_bits::i64_to_u64;
 use fts_column::Column;
 use fts_model::{FieldValue, Number};
+use fts_pack::List;
 use fts_segment::Segment;
+use std::alloc::{AllocError, Global};
 use std::ops::Bound;
 
 /// The documents with a value of a keyword or number field within bounds.
 pub(crate) fn of_range<'a>(
+    alloc: Global,
     segment: &'a Segment,
     field: usize,
     lower: &Bound<FieldValue>,
     upper: &Bound<FieldValue>,
-) -> Tree<'a>
+) -> Result<Tree<'a>, AllocError>
     requires { option_map_or (is_range_of lower.now upper.now) (kind_at segment.now.schema field)
         false ≡ true }
-    ensures { result.remaining ≡ segment_hits segment.now (range field lower.now upper.now) }
+    ensures { IfOk result (λ t. t.remaining ≡ segment_hits segment.now (range field lower.now upper.now)) }
 {
     if is_open(lower) && is_open(upper) {
         let kept = Kept::Valued { segment, field };
-        return Tree::scan(ScanCursor::new(kept, segment.docs()));
+        return Ok(Tree::scan(ScanCursor::new(kept, segment.docs())));
     }
     if segment.schema().kind(field).holds_numbers() {
-        of_numbers(segment, field, lower, upper)
+        of_numbers(alloc, segment, field, lower, upper)
     } else {
-        of_keywords(segment, field, lower, upper)
+        of_keywords(alloc, segment, field, lower, upper)
     }
 }
 
 // The documents with a number within bounds, of which one is one at least.
 fn of_numbers<'a>(
+    alloc: Global,
     segment: &'a Segment,
     field: usize,
     lower: &Bound<FieldValue>,
     upper: &Bound<FieldValue>,
-) -> Tree<'a>
+) -> Result<Tree<'a>, AllocError>
     requires range { option_map_or (is_range_of lower.now upper.now) (kind_at segment.now.schema field)
         false ≡ true }
     requires numbers { is_number_field segment.now.schema field ≡ true }
     requires bounded { (is_bounded lower.now || is_bounded upper.now) ≡ true }
-    ensures { result.remaining ≡ segment_hits segment.now (range field lower.now upper.now) }
+    ensures { IfOk result (λ t. t.remaining ≡ segment_hits segment.now (range field lower.now upper.now)) }
 {
     let column = segment.column(field);
     // Shows the proof that its numbers have 64 bits.
     let _ = most_of(column);
     let (Some(low), Some(high)) = (least(lower), greatest(upper)) else {
-        return Tree::nothing();
+        return Ok(Tree::nothing());
     };
-    let kept = Kept::Within { column, low, high };
-    Tree::scan(ScanCursor::new(kept, segment.docs()))
+    let lists = segment.lists_between(field, low, high);
+    let tree = between(alloc, column, segment.docs(), lists, low, high)?;
+    Ok(tree)
 }
 
 // The documents with a text within bounds, of which one is one at least: those with an ordinal among the ordinals of
 // these texts.
 fn of_keywords<'a>(
+    alloc: Global,
     segment: &'a Segment,
     field: usize,
     lower: &Bound<FieldValue>,
     upper: &Bound<FieldValue>,
-) -> Tree<'a>
+) -> Result<Tree<'a>, AllocError>
     requires range { is_range_of lower.now upper.now kinds.Keyword ≡ true }
     requires keyword { kind_at segment.now.schema field ≡ Some kinds.Keyword }
     requires bounded { (is_bounded lower.now || is_bounded upper.now) ≡ true }
-    ensures { result.remaining ≡ segment_hits segment.now (range field lower.now upper.now) }
+    ensures { IfOk result (λ t. t.remaining ≡ segment_hits segment.now (range field lower.now upper.now)) }
 {
     let column = segment.column(field);
     // Shows the proof that its ordinals have 64 bits.
     let _ = most_of(column);
     let low = first_ordinal(segment, field, lower);
     let Some(high) = last_ordinal(segment, field, upper) else {
-        return Tree::nothing();
+        return Ok(Tree::nothing());
     };
+    let lists = segment.lists_between(field, low, high);
+    let tree = between(alloc, column, segment.docs(), lists, low, high)?;
+    Ok(tree)
+}
+
+// The documents with a number of a column between two, which lie in these lists: where they are few, the lists are
+// opened, and else the column is read.
+fn between<'a>(
+    alloc: Global,
+    column: &'a Column,
+    docs: usize,
+    lists: &[List],
+    low: u64,
+    high: u64,
+) -> Result<Tree<'a>, AllocError>
+    requires few { docs ≤ 2 ^ 32 }
+    requires size { length column.now ≡ docs }
+    requires lists { AreBetween column.now low high lists.now }
+    ensures { IfOk result (λ t. t.remaining ≡ passing (has_within low high column.now) 0 docs) }
+{
+    if are_few(lists, docs / 256) {
+        return Ok(Tree::listed(ListedCursor::of_lists(alloc, lists)?));
+    }
     let kept = Kept::Within { column, low, high };
-    Tree::scan(ScanCursor::new(kept, segment.docs()))
+    Ok(Tree::scan(ScanCursor::new(kept, docs)))
+}
+
+// Whether the lists have so many documents at most. None is empty, so a few of them tell.
+fn are_few(lists: &[List], most: usize) -> bool {
+    if lists.len() > most {
+        return false;
+    }
+    let mut documents = 0usize;
+    for list in lists {
+        documents = documents.saturating_add(list.len());
+    }
+    documents <= most
 }
 
 // The least ordinal that a lower bound of a text admits.

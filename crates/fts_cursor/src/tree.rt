@@ -14,6 +14,7 @@ mod buffered_union;
 mod exclusion;
 mod intersection;
 
+use crate::listed::ListedCursor;
 use crate::phrase::PhraseCursor;
 use crate::scan::ScanCursor;
 use buffered_union::{BufferedUnion, gather, refill};
@@ -36,6 +37,7 @@ pub(crate) struct Tree<'a> {
 enum Node<'a> {
     Nothing,
     Scan(ScanCursor<'a>),
+    Listed(ListedCursor),
     Postings(PostingCursor<ListSource<'a>>),
     Terms(Conjunction<ListSource<'a>>),
     Phrase(PhraseCursor<'a>),
@@ -83,6 +85,18 @@ impl<'a> Tree<'a> {
         Tree {
             doc,
             node: Node::Scan(scan),
+        }
+    }
+
+    /// Of documents that lie in memory.
+    pub(crate) fn listed(listed: ListedCursor) -> Tree<'a>
+        ensures remaining { result.remaining ≡ listed }
+        ensures counts { (result.openings ≡ 0) × (result.bound ≡ at_most 0) }
+    {
+        let doc = listed.doc();
+        Tree {
+            doc,
+            node: Node::Listed(listed),
         }
     }
 
@@ -196,7 +210,7 @@ impl<'a> Tree<'a> {
             → self.now.openings ≡ most_at self.now.bound None }
     {
         match &self.node {
-            Node::Nothing | Node::Scan(_) => 0,
+            Node::Nothing | Node::Scan(_) | Node::Listed(_) => 0,
             Node::Postings(postings) => postings.openings(),
             Node::Terms(terms) => terms.openings(),
             Node::Phrase(phrase) => phrase.openings(),
@@ -221,6 +235,7 @@ impl<'a> Tree<'a> {
         match &self.node {
             Node::Nothing => 0,
             Node::Scan(scan) => scan.cost(),
+            Node::Listed(listed) => listed.cost(),
             Node::Postings(postings) => postings.cost(),
             Node::Terms(terms) => terms.cost(),
             Node::Phrase(phrase) => phrase.cost(),
@@ -320,6 +335,10 @@ fn step(node: &mut Node) -> Option<u32>
             scan.advance();
             scan.doc()
         }
+        Node::Listed(listed) => {
+            listed.advance();
+            listed.doc()
+        }
         Node::Postings(postings) => {
             postings.advance();
             postings.doc()
@@ -360,6 +379,10 @@ fn skip(node: &mut Node, target: u32) -> Option<u32>
             scan.seek(target);
             scan.doc()
         }
+        Node::Listed(listed) => {
+            listed.seek(target);
+            listed.doc()
+        }
         Node::Postings(postings) => {
             postings.seek(target);
             postings.doc()
@@ -396,6 +419,10 @@ fn fill(node: &mut Node, doc: Option<u32>, out: &mut [u32; 128]) -> (usize, Opti
         Node::Scan(scan) => {
             let count = scan.fill(out);
             (count, scan.doc())
+        }
+        Node::Listed(listed) => {
+            let count = listed.fill(out);
+            (count, listed.doc())
         }
         Node::Postings(postings) => {
             let count = postings.fill(out);

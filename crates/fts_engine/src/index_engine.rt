@@ -9,7 +9,7 @@ use crate::uncommitted::Uncommitted;
 use fts_index::{CommitSeen, Reader, Searcher, SegmentInfo, Writer};
 use fts_model::{Answer, Op, Query, Refusal, Request, Schema, Stamp};
 use fts_pool::Open;
-use fts_steps::{Engine, Options};
+use fts_steps::{Engine, EngineOver, Options};
 use std::alloc::Global;
 use std::marker::Model;
 use std::sync::Wait;
@@ -105,25 +105,6 @@ impl Engine for IndexEngine {
 
     ghost changes = { λ e. e.calls };
 
-    fn open(
-        rt: &(impl AllocGlobal + Threads + Wait + Sync),
-        options: Options,
-        schema: Schema,
-    ) -> Result<Self, Refusal> {
-        let alloc = rt.alloc();
-        let mut writer = Writer::new(rt, alloc, &schema)?;
-        let reader = reader_of(&mut writer);
-        Ok(IndexEngine {
-            alloc,
-            options,
-            writer,
-            reader,
-            uncommitted: Uncommitted::Nothing,
-            pending: 0,
-            calls: 0,
-        })
-    }
-
     fn schema(&self) -> &Schema {
         self.writer.schema()
     }
@@ -142,8 +123,25 @@ impl Engine for IndexEngine {
         self.pending += 1;
         Ok(stamp)
     }
+}
 
-    fn commit<R: AllocGlobal + Threads + Wait + Sync>(&mut self, rt: &R) -> Result<Stamp, Refusal> {
+impl<R: AllocGlobal + Threads + Wait + Sync> EngineOver<R> for IndexEngine {
+    fn open(rt: &R, options: Options, schema: Schema) -> Result<Self, Refusal> {
+        let alloc = rt.alloc();
+        let mut writer = Writer::new(rt, alloc, &schema)?;
+        let reader = reader_of(&mut writer);
+        Ok(IndexEngine {
+            alloc,
+            options,
+            writer,
+            reader,
+            uncommitted: Uncommitted::Nothing,
+            pending: 0,
+            calls: 0,
+        })
+    }
+
+    fn commit(&mut self, rt: &R) -> Result<Stamp, Refusal> {
         self.calls += 1;
         let alloc = self.alloc;
         let options = self.options;
@@ -159,34 +157,26 @@ impl Engine for IndexEngine {
         Ok(committed.stamp)
     }
 
-    fn rollback(
-        &mut self,
-        _rt: &(impl AllocGlobal + Threads + Wait + Sync),
-    ) -> Result<Stamp, Refusal> {
+    fn rollback(&mut self, _rt: &R) -> Result<Stamp, Refusal> {
         self.calls += 1;
         self.uncommitted = Uncommitted::Nothing;
         self.pending = 0;
         Ok(self.writer.abandon())
     }
 
-    fn merge(&mut self, rt: &(impl AllocGlobal + Threads + Wait + Sync)) -> Result<u64, Refusal> {
+    fn merge(&mut self, rt: &R) -> Result<u64, Refusal> {
         self.calls += 1;
         merge_all(rt, self.alloc, &mut self.writer)
     }
 
-    fn search<R: AllocGlobal + Threads + Wait + Sync>(
-        &mut self,
-        rt: &R,
-        query: &Query,
-        request: &Request,
-    ) -> Result<Answer, Refusal> {
+    fn search(&mut self, rt: &R, query: &Query, request: &Request) -> Result<Answer, Refusal> {
         let searcher = last_commit(&self.writer, &mut self.reader)?;
         let workers = self.options.workers;
         let found = searcher.search(rt, rt.alloc(), query, request, workers, &Open)?;
         Ok(found.answer)
     }
 
-    fn close(self, rt: &(impl AllocGlobal + Threads + Wait + Sync)) {
+    fn close(self, rt: &R) {
         let IndexEngine {
             alloc: _,
             options: _,

@@ -5,7 +5,7 @@
 //! merging and number of workers it takes the same steps as a plain list of documents, so no option changes a reply.
 //!
 //! ```text
-//! run_script::<IndexEngine, _, _>(rt, &mut streams, options)?;
+//! run_script::<_, IndexEngine, _, _>(rt, &mut streams, options)?;
 //! ```
 #![tactic(auto)]
 

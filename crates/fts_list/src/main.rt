@@ -9,7 +9,7 @@ fn main(rt: HostRuntime) -> ExitCode {
         reader: Plain::new(rt.stdin()),
         writer: Plain::new(rt.stdout()),
     };
-    match run_script::<ListEngine, _, _>(&rt, &mut streams, Options::default()) {
+    match run_script::<_, ListEngine, _, _>(&rt, &mut streams, Options::default()) {
         Ok(()) => ExitCode::SUCCESS,
         Err(_) => ExitCode::FAILURE,
     }

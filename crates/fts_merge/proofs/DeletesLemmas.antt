@@ -26,11 +26,11 @@ below_none n = grind (arith, nat_tests)
 below_max : (n a b : ℕ) → nat_lt n (max a b) ≡ (nat_lt n a || nat_lt n b)
 below_max n a b = grind (arith, nat_tests)
 
-and_false : (b : Bool) → (b && false) ≡ false
+pub and_false : (b : Bool) → (b && false) ≡ false
 and_false true = refl
 and_false false = refl
 
-or_false : (b : Bool) → (b || false) ≡ b
+pub or_false : (b : Bool) → (b || false) ≡ b
 or_false true = refl
 or_false false = refl
 
@@ -69,28 +69,10 @@ bits_after-steps schema ops ds bits =
     bits_where-again p (survives_terms schema ops) ds bits
     ∙ sym (bits_where-same (survives schema ops) (λ d. p d && survives_terms schema ops d) (survives-cases schema ops) ds bits)
 
--- no operation leaves all bits
-pub survives_terms-none : (schema : List Field) (ds : List (Stamped DocumentValue)) (bits : List Bool) → length bits ≡ length ds → bits_where (survives_terms schema []) ds bits ≡ bits
-survives_terms-none schema ds bits e = bits_where-all (survives_terms schema []) (λ d. refl) ds bits e
-
--- an operation that strikes nothing by a term leaves all bits
-pub bits_where-untouched : (schema : List Field) (stamp : ℕ) (op : Op) (ds : List (Stamped DocumentValue)) (bits : List Bool) → ((d : Stamped DocumentValue) → strikes_by_term schema stamp op d ≡ false) → length bits ≡ length ds →
-    bits ≡ bits_where (λ d. not (strikes_by_term schema stamp op d)) ds bits
-bits_where-untouched schema stamp op ds bits none e = sym (bits_where-all (λ d. not (strikes_by_term schema stamp op d)) (λ d. ap not (none d)) ds bits e)
-
 -- one operation more
 pub bound_of-push : (ops : List (Stamped Op)) (op : Stamped Op) → bound_of (ops ++ op ∷ []) ≡ max (bound_by op.stamp op.value) (bound_of ops)
 bound_of-push [] op = refl
 bound_of-push (o ∷ ops) op = ap (max (bound_by o.stamp o.value)) (bound_of-push ops op) ∙ omega arith
-
-survives_terms-push : (schema : List Field) (ops : List (Stamped Op)) (op : Stamped Op) (d : Stamped DocumentValue) →
-    survives_terms schema (ops ++ op ∷ []) d ≡ (survives_terms schema ops d && not (strikes_by_term schema op.stamp op.value d))
-survives_terms-push schema [] op d = ap not (or_false (strikes_by_term schema op.stamp op.value d))
-survives_terms-push schema (o ∷ ops) op d =
-    not_or (strikes_by_term schema o.stamp o.value d) (list_any (λ (o : Stamped Op). strikes_by_term schema o.stamp o.value d) (ops ++ op ∷ []))
-    ∙ ap (λ b. not (strikes_by_term schema o.stamp o.value d) && b) (survives_terms-push schema ops op d)
-    ∙ sym (and_moved (not (strikes_by_term schema o.stamp o.value d)) (survives_terms schema ops d) (not (strikes_by_term schema op.stamp op.value d)))
-    ∙ ap (λ b. b && not (strikes_by_term schema op.stamp op.value d)) (sym (not_or (strikes_by_term schema o.stamp o.value d) (list_any (λ (o : Stamped Op). strikes_by_term schema o.stamp o.value d) ops)))
 
 get_behind : {X : Type 0} (xs : List X) (y : X) (ys : List X) → slice_get (xs ++ y ∷ ys) (length xs) ≡ Some y
 get_behind [] y ys = refl
@@ -148,16 +130,6 @@ cleared_all stamp ds bits f =
 -- an element more
 pub taken : {X : Type 0} (xs : List X) (i : ℕ) (x : X) → i < length xs → x ≡ get_or xs i x → take (i + 1) xs ≡ take i xs ++ x ∷ []
 taken xs i x h e = take_more xs i x h ∙ ap (λ y. take i xs ++ y ∷ []) (sym e)
-
--- one more of the operations
-pub bits_where-more : (schema : List Field) (ops : List (Stamped Op)) (i : ℕ) (op : Stamped Op) (ds : List (Stamped DocumentValue)) (bits : List Bool) → i < length ops → op ≡ get_or ops i op →
-    bits_where (λ d. not (strikes_by_term schema op.stamp op.value d)) ds (bits_where (survives_terms schema (take i ops)) ds bits) ≡ bits_where (survives_terms schema (take (i + 1) ops)) ds bits
-bits_where-more schema ops i op ds bits h e =
-    let p : Stamped DocumentValue → Bool = survives_terms schema (take i ops) in
-    let q : Stamped DocumentValue → Bool = λ d. not (strikes_by_term schema op.stamp op.value d) in
-    bits_where-again p q ds bits
-    ∙ sym (bits_where-same (survives_terms schema (take i ops ++ op ∷ [])) (λ d. p d && q d) (survives_terms-push schema (take i ops) op) ds bits)
-    ∙ ap (λ os. bits_where (survives_terms schema os) ds bits) (sym (taken ops i op h e))
 
 -- a document more
 range_push : (a n : ℕ) → range_with_len a (suc n) ≡ range_with_len a n ++ (a + n) ∷ []

@@ -1,5 +1,6 @@
 pub mod BitsLemmas
 pub mod DeletesLemmas
+pub mod FoundLemmas
 pub mod MergeLemmas
 pub mod OriginsLemmas
 pub mod PlacesLemmas

@@ -1,12 +1,12 @@
 // Clears the bits of documents that operations of a later stamp strike.
-ghost use Rattle.std.specs.Prelude.{◌≡◌, ◌<◌, ◌&&◌, not, nat_lt, All, IfOk, IsOkUnless, fold, length};
-ghost use Rattle.fts_model.specs.Operations.{has};
+ghost use Rattle.std.specs.Prelude.{◌≡◌, ◌+◌, ◌<◌, not, take, nat_lt, All, IfOk, IsOkUnless, List, Bool, fold, length};
 ghost use Rattle.fts_merge.specs.Strikes.{bits_where, bits_after};
-ghost use Rattle.fts_merge.specs.Internals.Deletes.{bound_by, bound_of, strikes_by_term, survives_terms, cleared};
+ghost use Rattle.fts_merge.specs.Internals.Deletes.{bound_by, bound_of, IsFound, strikes_found, survives_found, cleared};
 
+use crate::found::{Found, found_in, is_covered, order};
 use fts_bits::Bits;
-use fts_model::{Op, Refusal, Stamp, Stamped, Term};
-use fts_pack::{Blocks, List};
+use fts_model::{Op, Refusal, Stamp, Stamped};
+use fts_pack::Blocks;
 use fts_segment::Segment;
 use std::alloc::Global;
 
@@ -67,7 +67,7 @@ fn strike_documents(live: &mut Bits, segment: &Segment, documents: &[u32], stamp
 }
 
 /// Clears the bits of the documents of a list, as far as their stamps are smaller.
-fn strike_list(live: &mut Bits, segment: &Segment, list: &List, stamp: Stamp)
+fn strike_list(live: &mut Bits, segment: &Segment, list: &fts_pack::List, stamp: Stamp)
     requires bits { length live.old ≡ length segment.now.documents }
     requires within { All (λ document. document < length segment.now.documents) list.now }
     ensures { live.new ≡ fold (cleared segment.now.documents stamp) live.old list.now }
@@ -80,48 +80,52 @@ fn strike_list(live: &mut Bits, segment: &Segment, list: &List, stamp: Stamp)
     }
 }
 
-/// Clears the bits of the documents of smaller stamp that have the term.
-fn strike_term(live: &mut Bits, segment: &Segment, term: &Term, stamp: Stamp)
-    requires { length live.old ≡ length segment.now.documents }
-    ensures { live.new
-        ≡ bits_where (λ d. not (nat_lt d.stamp stamp && has segment.now.schema d.value term.now))
+/// Clears the bits that a delete clears.
+fn strike_by(live: &mut Bits, segment: &Segment, delete: &Found<'_>)
+    requires bits { length live.old ≡ length segment.now.documents }
+    requires is { IsFound segment.now delete.now }
+    ensures { live.new ≡ bits_where (λ d. not (strikes_found segment.now.schema delete.now d))
         segment.now.documents live.old }
 {
-    if let Some(list) = segment.find(term) {
-        strike_list(live, segment, segment.postings(list), stamp);
-    }
+    strike_list(live, segment, delete.documents, delete.stamp);
 }
 
-/// Clears the bits that an operation clears by its term, if it has one.
-fn strike_by(live: &mut Bits, segment: &Segment, op: &Stamped<Op>)
-    requires { length live.old ≡ length segment.now.documents }
-    ensures { live.new
-        ≡ bits_where (λ d. not (strikes_by_term segment.now.schema op.now.stamp op.now.value d))
+/// Clears the bits that a delete clears, unless the one before it clears them all.
+fn strike_next(live: &mut Bits, segment: &Segment, deletes: &[Found<'_>], number: usize)
+    requires bits { length live.old ≡ length segment.now.documents }
+    requires are { All (IsFound segment.now) deletes.now }
+    requires within { number < length deletes.now }
+    ensures bits { length live.new ≡ length segment.now.documents }
+    ensures struck { (before : List Bool)
+        → live.old ≡ bits_where (survives_found segment.now.schema (take number deletes.now))
+        segment.now.documents before
+        → live.new ≡ bits_where (survives_found segment.now.schema (take (number + 1) deletes.now))
+        segment.now.documents before }
+{
+    if is_covered(deletes, number) {
+        return;
+    }
+    strike_by(live, segment, &deletes[number]);
+}
+
+/// Clears the bits that deletes clear.
+fn strike_found(live: &mut Bits, segment: &Segment, deletes: &[Found<'_>])
+    requires bits { length live.old ≡ length segment.now.documents }
+    requires are { All (IsFound segment.now) deletes.now }
+    ensures { live.new ≡ bits_where (survives_found segment.now.schema deletes.now)
         segment.now.documents live.old }
 {
-    match &op.value {
-        Op::Delete(term) => strike_term(live, segment, term, op.stamp),
-        Op::Add(_) => {}
-        Op::DeleteAll => {}
-    }
-}
-
-/// Clears the bits that operations clear by their terms.
-fn strike_terms(live: &mut Bits, segment: &Segment, ops: &[Stamped<Op>])
-    requires { length live.old ≡ length segment.now.documents }
-    ensures { live.new
-        ≡ bits_where (survives_terms segment.now.schema ops.now) segment.now.documents live.old }
-{
-    for op in ops {
-        strike_by(live, segment, op);
+    for number in 0..deletes.len() {
+        strike_next(live, segment, deletes, number);
     }
 }
 
 /// The live bits of a segment after operations: a document is live where it was and no operation of a later stamp
 /// strikes it.
 ///
-/// A delete of a term goes over the documents that have it, and all deletes of all documents together go over the
-/// stamps once. Adds strike nothing. The operations may stand in any order, and so may the documents.
+/// Each delete of a term is looked up, and the latest of each term goes over the documents that have it. All deletes of
+/// all documents together go over the stamps once. Adds strike nothing. The operations may stand in any order, and so
+/// may the documents.
 pub fn strike(
     alloc: Global,
     segment: &Segment,
@@ -134,7 +138,9 @@ pub fn strike(
     ensures memory { IsOkUnless result Refusal.Memory }
 {
     let mut left = live.copied(alloc)?;
+    let mut deletes = found_in(alloc, segment, ops)?;
+    deletes.sort_unstable_by(order);
     strike_all(&mut left, segment, bound(ops));
-    strike_terms(&mut left, segment, ops);
+    strike_found(&mut left, segment, &deletes);
     Ok(left)
 }

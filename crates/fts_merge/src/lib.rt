@@ -17,6 +17,7 @@
 #![tactic(auto)]
 
 mod deletes;
+mod found;
 pub mod laws;
 mod levels;
 mod merged;

@@ -1,7 +1,6 @@
 -- Loops over the tokens of texts that look for one which passes a test.
 use Rattle.std.proofs.Common.{◌≡◌, ◌≤◌, ◌<◌, ◌^◌, ℕ, suc, ◌+◌, Bool, true, false, ◌||◌, List, [], ◌∷◌, length, map, drop, get_or, refl, sym, ap, subst, ◌∙◌, arith, All, Some, None}
 use Rattle.std.specs.List.{list_any}
-use Rattle.std.specs.Prelude.{sum_by}
 use Rattle.std.specs.Str.{IsUtf8}
 use Rattle.std.proofs.lemmas.List.{drop_all, drop_more}
 use Rattle.std.proofs.lemmas.List.Folds.{list_any-append}
@@ -79,7 +78,7 @@ SeeksOn-start texts test room = record { room = room; passes = refl }
 pub SeeksOn-room : (texts : List (List ℕ)) (test : ℕ × List ℕ → Bool) (n first : ℕ) → n < length texts → SeeksOn texts test n first → first + length (get_or texts n []) + 2 < 2 ^ 63
 SeeksOn-room texts test n first inside s =
     let here : HasRoom first (get_or texts n [] ∷ drop (n + 1) texts) = subst (HasRoom first) (drop_more texts n [] inside) s.room in
-    omega (arith, here, sum_by-cons {X = List ℕ} (λ text. length text + 1) (get_or texts n []) (drop (n + 1) texts))
+    omega (arith, here, sum_by-cons {X = List ℕ} length (get_or texts n []) (drop (n + 1) texts))
 
 -- a token passes where one of the next text does, or one of those behind it
 any_of_text : (texts : List (List ℕ)) (test : ℕ × List ℕ → Bool) (n first : ℕ) → n < length texts → SeeksOn texts test n first →
@@ -100,7 +99,7 @@ pub SeeksOn-next : (texts : List (List ℕ)) (test : ℕ × List ℕ → Bool) (
 SeeksOn-next texts test n first next inside s sought near =
     let here : HasRoom first (get_or texts n [] ∷ drop (n + 1) texts) = subst (HasRoom first) (drop_more texts n [] inside) s.room in
     record {
-      room = omega (arith, here, near, sum_by-cons {X = List ℕ} (λ text. length text + 1) (get_or texts n []) (drop (n + 1) texts));
+      room = omega (arith, here, near, sum_by-cons {X = List ℕ} length (get_or texts n []) (drop (n + 1) texts));
       passes = ap (λ m. list_any test (tokens_of_texts m (drop (n + 1) texts))) sought.1
           ∙ ap (λ b. b || list_any test (tokens_of_texts (following first (get_or texts n [])) (drop (n + 1) texts))) (sym sought.0) ∙ any_of_text texts test n first inside s;
     }
@@ -109,12 +108,6 @@ SeeksOn-next texts test n first next inside s sought near =
 pub SeeksOn-end : (texts : List (List ℕ)) (test : ℕ × List ℕ → Bool) (n first : ℕ) → length texts ≤ n → SeeksOn texts test n first → false ≡ list_any test (tokens_of_texts 0 texts)
 SeeksOn-end texts test n first past s = ap (λ ts. list_any test (tokens_of_texts first ts)) (sym (drop_all n texts past)) ∙ s.passes
 
--- a number for each text beside its bytes
-sum_and_count : (texts : List (List ℕ)) → sum_by (λ text. length text + 1) texts ≡ bytes_of texts + length texts
-sum_and_count [] = refl
-sum_and_count (text ∷ texts) =
-    omega (arith, sum_by-cons {X = List ℕ} (λ text. length text + 1) text texts, sum_by-cons {X = List ℕ} length text texts, sum_and_count texts)
-
--- so the texts of a document have room
+-- the texts of a document have room
 pub HasRoom-short : (texts : List (List ℕ)) → (length texts ≤ 1024) × (bytes_of texts ≤ 1048576) → HasRoom 0 texts
-HasRoom-short texts short = omega (arith, sum_and_count texts, short.0, short.1)
+HasRoom-short texts short = omega (arith, short.0, short.1)

@@ -1,5 +1,5 @@
 -- What the steps of the plain search are.
-use Rattle.std.specs.Prelude.{◌≡◌, ℕ, suc, ◌+◌, ◌^◌, ◌<◌, Bool, true, false, not, List, [], ◌∷◌, Option, Some, None, if◌then◌else◌, length, slice_get, sum_by}
+use Rattle.std.specs.Prelude.{◌≡◌, ℕ, suc, ◌+◌, ◌^◌, ◌<◌, Bool, true, false, not, List, [], ◌∷◌, Option, Some, None, if◌then◌else◌, length, slice_get}
 use Rattle.std.specs.List.{list_all, list_any}
 use Rattle.std.specs.Ordering.{match_ordering, is_eq}
 use Rattle.std.specs.Option.{option_map_or}
@@ -9,6 +9,7 @@ use Rattle.fts_model.specs.declared.value.GroupValue.{GroupValue}
 use Rattle.fts_model.specs.declared.query.Order.{Order}
 use Rattle.fts_model.specs.declared.answer.Hit.{Hit}
 use Rattle.fts_model.specs.Answers.{group_cmp, comes_before}
+use Rattle.fts_model.specs.Documents.{bytes_of}
 
 -- how many groups are below a value, up to the first that is not
 abbrev pub group_place : List (GroupValue × ℕ) → GroupValue → ℕ
@@ -36,7 +37,7 @@ strings (Many texts) = texts.now
 
 -- a number counts the spans of these texts, where the first has the number `first`
 abbrev pub HasRoom : ℕ → List (List ℕ) → Type 0
-HasRoom first texts = first + sum_by (λ text. length text + 1) texts + 2 < 2 ^ 63
+HasRoom first texts = first + bytes_of texts + length texts + 2 < 2 ^ 63
 
 -- something was found among the tokens of a text, or it wasn't, and the text behind it begins at this number
 abbrev pub IsSought : Bool → ℕ → Option ℕ → Type 0

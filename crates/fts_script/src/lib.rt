@@ -11,7 +11,7 @@
 //!
 //! ```text
 //! let mut streams = Streams { reader: Plain::new(bytes), writer: Plain::new(Vec::new(alloc)) };
-//! run_script::<ListEngine, _, _>(rt, &mut streams, Options::default())?;
+//! run_script::<_, ListEngine, _, _>(rt, &mut streams, Options::default())?;
 //! // The writer has the replies to the lines of the bytes.
 //! ```
 #![tactic(auto)]
@@ -24,7 +24,7 @@ mod std_streams;
 mod streams;
 
 pub use fault::Fault;
-pub use fts_steps::{Cut, Engine, ListEngine, Merge, Options};
+pub use fts_steps::{Cut, Engine, EngineOver, ListEngine, Merge, Options};
 pub use run::run_script;
 pub use std_streams::Plain;
 pub use streams::{ScriptIn, ScriptOut, Streams};

@@ -13,11 +13,9 @@ use crate::fault::Fault;
 use crate::lines::PartialLine;
 use crate::streams::ScriptOut;
 use fts_session::Session;
-use fts_steps::{Engine, Options};
+use fts_steps::{Engine, EngineOver, Options};
 use memchr::memchr;
 use std::alloc::{AllocError, Global};
-use std::sync::Wait;
-use std::thread::Threads;
 
 /// How many bytes of replies wait at most before a line is answered.
 const MOST_WAITING: usize = 65_536;
@@ -72,7 +70,9 @@ impl<E: Engine> Responder<E> {
     }
 
     /// Replies to the line in hand, which is whole now, and begins the next.
-    fn answer(&mut self, rt: &(impl AllocGlobal + Threads + Wait + Sync)) -> Result<(), AllocError>
+    fn answer<R: AllocGlobal + Sync>(&mut self, rt: &R) -> Result<(), AllocError>
+    where
+        E: EngineOver<R>,
         requires line_number_fits { self.old.session.number ≤ 2 ^ 61 }
         ensures reply { OnOk result (string_bytes self.new.replies
             ≡ string_bytes self.old.replies ++ reply_to_kept self.old.session self.old.line) }
@@ -97,11 +97,9 @@ impl<E: Engine> Responder<E> {
     }
 
     /// Replies to the line that ends with `piece`.
-    fn end_line(
-        &mut self,
-        rt: &(impl AllocGlobal + Threads + Wait + Sync),
-        piece: &[u8],
-    ) -> Result<(), AllocError>
+    fn end_line<R: AllocGlobal + Sync>(&mut self, rt: &R, piece: &[u8]) -> Result<(), AllocError>
+    where
+        E: EngineOver<R>,
         requires line_number_fits { self.old.session.number ≤ 2 ^ 61 }
         requires fits_line { length piece.now ≤ longest }
         ensures reply { OnOk result (string_bytes self.new.replies ≡ string_bytes self.old.replies
@@ -122,11 +120,13 @@ impl<E: Engine> Responder<E> {
     }
 
     /// Takes the bytes up to the end of a line, or all where none ends, and says how many.
-    fn take_line(
+    fn take_line<R: AllocGlobal + Sync>(
         &mut self,
-        rt: &(impl AllocGlobal + Threads + Wait + Sync),
+        rt: &R,
         bytes: &[u8],
     ) -> Result<usize, AllocError>
+    where
+        E: EngineOver<R>,
         requires line_number_fits { self.old.session.number ≤ 2 ^ 61 }
         requires some { 0 < length bytes.now }
         requires fits_line { length bytes.now ≤ longest }
@@ -153,11 +153,13 @@ impl<E: Engine> Responder<E> {
     }
 
     /// Takes lines until the bytes are done or many replies wait, and says how many bytes it took.
-    fn take_lines(
+    fn take_lines<R: AllocGlobal + Sync>(
         &mut self,
-        rt: &(impl AllocGlobal + Threads + Wait + Sync),
+        rt: &R,
         bytes: &[u8],
     ) -> Result<usize, AllocError>
+    where
+        E: EngineOver<R>,
         requires line_number_fits { self.old.session.number + length bytes.now ≤ 2 ^ 61 }
         requires some { 0 < length bytes.now }
         requires fits_line { length bytes.now ≤ longest }
@@ -180,12 +182,14 @@ impl<E: Engine> Responder<E> {
     }
 
     /// Replies to the lines of a piece. At a fault it is closed.
-    pub fn feed<W: ScriptOut>(
+    pub fn feed<R: AllocGlobal + Sync, W: ScriptOut>(
         mut self,
-        rt: &(impl AllocGlobal + Threads + Wait + Sync),
+        rt: &R,
         piece: &[u8],
         writer: &mut W,
     ) -> Result<Responder<E>, Fault>
+    where
+        E: EngineOver<R>,
         requires line_number_fits { self.session.number + length piece.now ≤ 2 ^ 61 }
         requires fits_line { length piece.now ≤ longest }
         requires none_wait { string_bytes self.replies ≡ [] }
@@ -232,10 +236,9 @@ impl<E: Engine> Responder<E> {
     }
 
     /// Replies to the line that the end of the input ends, if there is one.
-    fn end_input(
-        &mut self,
-        rt: &(impl AllocGlobal + Threads + Wait + Sync),
-    ) -> Result<(), AllocError>
+    fn end_input<R: AllocGlobal + Sync>(&mut self, rt: &R) -> Result<(), AllocError>
+    where
+        E: EngineOver<R>,
         requires line_number_fits { self.old.session.number ≤ 2 ^ 61 }
         requires none_wait { string_bytes self.old.replies ≡ [] }
         ensures ok { OnOk result
@@ -249,11 +252,13 @@ impl<E: Engine> Responder<E> {
     }
 
     /// Replies to the last line, closes, and writes and flushes all.
-    pub fn end<W: ScriptOut>(
+    pub fn end<R: AllocGlobal + Sync, W: ScriptOut>(
         mut self,
-        rt: &(impl AllocGlobal + Threads + Wait + Sync),
+        rt: &R,
         writer: &mut W,
     ) -> Result<(), Fault>
+    where
+        E: EngineOver<R>,
         requires line_number_fits { self.session.number ≤ 2 ^ 61 }
         requires none_wait { string_bytes self.replies ≡ [] }
         ensures ok { OnOk result ((before input : List ℕ) →
@@ -288,7 +293,10 @@ impl<E: Engine> Responder<E> {
     }
 
     /// Ends the index. Replies that wait are dropped.
-    pub fn close(self, rt: &(impl AllocGlobal + Threads + Wait + Sync)) {
+    pub fn close<R: AllocGlobal + Sync>(self, rt: &R)
+    where
+        E: EngineOver<R>,
+    {
         let Responder {
             session,
             line: _,

@@ -7,10 +7,8 @@ ghost use Rattle.fts_script.specs.Runs.{StopsInLastRead, TellsEnd, WritesBeginni
 use crate::fault::Fault;
 use crate::responder::Responder;
 use crate::streams::{ScriptIn, ScriptOut, Streams};
-use fts_steps::{Engine, Options};
+use fts_steps::{EngineOver, Options};
 use std::alloc::{AllocError, Global};
-use std::sync::Wait;
-use std::thread::Threads;
 
 /// How many bytes are read at a time.
 const BLOCK: usize = 65_536;
@@ -25,9 +23,9 @@ fn zeros(alloc: Global, count: usize) -> Result<Vec<u8>, AllocError>
     vec![in alloc; 0; count]
 }
 
-/// Reads a script to its end, and writes its replies, whatever the options and whatever the engine.
-pub fn run_script<E: Engine, R: ScriptIn, W: ScriptOut>(
-    rt: &(impl AllocGlobal + Threads + Wait + Sync),
+/// Reads a script to its end, and writes its replies, whatever the options, the engine and what this is given.
+pub fn run_script<G: AllocGlobal + Sync, E: EngineOver<G>, R: ScriptIn, W: ScriptOut>(
+    rt: &G,
     streams: &mut Streams<R, W>,
     options: Options,
 ) -> Result<(), Fault>

@@ -13,6 +13,7 @@ pub mod KeywordIndexLemmas
 pub mod FieldLemmas
 pub mod OrdinalLemmas
 pub mod NumberLemmas
+pub mod BetweenLemmas
 pub mod PositionListsLemmas
 pub mod PackedLemmas
 mod PositionListVectors

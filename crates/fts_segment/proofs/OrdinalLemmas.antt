@@ -32,12 +32,12 @@ last_of_first documents some =
     (n, within, get_or_default documents n (last_of (get_or (blocks_of documents) 0 [])) 0 within ∙ is)
 
 -- as many lists as texts
-lists_count : (vs : List (Option FieldValue)) (index : KeywordIndex) → AreKeywords kinds.Keyword vs index → length index.dictionary.lists.items ≡ length index.dictionary.names
+pub lists_count : (vs : List (Option FieldValue)) (index : KeywordIndex) → AreKeywords kinds.Keyword vs index → length index.dictionary.lists.items ≡ length index.dictionary.names
 lists_count vs index are =
     ap length are.terms.dictionary_is.listed ∙ length-map index.dictionary.names (λ q. docs_with q (occurrences kinds.Keyword 0 vs))
 
 -- a value that has a text as its term is that text
-holds_text : (text : List ℕ) (v : Option FieldValue) → holds kinds.Keyword (values.Text text) v ≡ true → v ≡ Some (values.Text text)
+pub holds_text : (text : List ℕ) (v : Option FieldValue) → holds kinds.Keyword (values.Text text) v ≡ true → v ≡ Some (values.Text text)
 holds_text text None h = cc
 holds_text text (Some (values.Text t)) h = ap (λ x. Some (values.Text x)) ((bytes_eq-Decides t text).0 h)
 holds_text text (Some (values.Number n)) h = cc

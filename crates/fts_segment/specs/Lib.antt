@@ -9,6 +9,7 @@ pub mod Positions
 pub mod Dictionaries
 pub mod Numbers
 pub mod Keywords
+pub mod Between
 pub mod NumberLogs
 pub mod FieldIndexes
 pub mod Stored

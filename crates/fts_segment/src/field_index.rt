@@ -2,6 +2,7 @@
 ghost use Rattle.std.specs.Prelude.{◌≡◌, ◌≢◌, [], List, Option, None, ◌≤◌, ◌^◌, length, IfOk, IfNone, IfSome, MatchOption};
 ghost use Rattle.std.specs.Prelude.{true, false, slice_get};
 ghost use Rattle.fts_model.specs.declared.value.FieldValue.{FieldValue};
+ghost use Rattle.fts_segment.specs.Between.{AreBetween};
 ghost use Rattle.fts_segment.specs.FieldIndexes.{IsFieldIndex, AreTerms, HasKeywordAt};
 ghost use Rattle.fts_segment.specs.ListIds.{documents_in, positions_in};
 ghost use Rattle.fts_segment.specs.Occurrences.{holds, values_in};
@@ -68,6 +69,22 @@ impl FieldIndex {
         match self {
             FieldIndex::Keywords(index) => &index.ordinals,
             FieldIndex::Numbers(index) => &index.column,
+            FieldIndex::Terms(_) => unreachable!(),
+        }
+    }
+
+    /// The lists of the numbers of a field between two, or of the ordinals of its texts.
+    pub(crate) fn lists_between(&self, kind: Kind, low: u64, high: u64) -> &[fts_pack::List]
+        requires ordered { is_ordered kind ≡ true }
+        requires is { (vs : List (Option FieldValue)) × IsFieldIndex kind vs self.now }
+        ensures numbers { (vs : List (Option FieldValue)) → IsFieldIndex kind vs self.now
+            → holds_numbers kind ≡ true → AreBetween (numbers_of kind vs) low high result.now }
+        ensures ordinals { (vs : List (Option FieldValue)) → IsFieldIndex kind vs self.now
+            → holds_numbers kind ≡ false → AreBetween (ordinals_of kind vs) low high result.now }
+    {
+        match self {
+            FieldIndex::Keywords(index) => index.lists_between(low, high),
+            FieldIndex::Numbers(index) => index.lists_between(low, high),
             FieldIndex::Terms(_) => unreachable!(),
         }
     }

@@ -1,8 +1,9 @@
 // Looks a name up among sorted names, and a number among rising numbers, by halving.
-ghost use Rattle.std.specs.Prelude.{◌≡◌, ◌<◌, ◌+◌, ◌^◌, slice_get, MatchOption, IfOk, IfErr, Some, ℕ};
+ghost use Rattle.std.specs.Prelude.{◌≡◌, ◌<◌, ◌≤◌, ◌+◌, ◌^◌, length, slice_get, slice_index, MatchOption, IfOk, IfErr, Some, ℕ};
 ghost use Rattle.fts_segment.specs.Keywords.{before, up_to};
 ghost use Rattle.std.specs.List.Sorted.{IsStrictlyIncreasing};
 ghost use Rattle.fts_segment.specs.Sorted.{Ascends};
+ghost use Rattle.fts_segment.specs.Between.{IsCut};
 
 use crate::names::Names;
 use std::cmp::Ordering;
@@ -62,5 +63,29 @@ pub(crate) fn find_number(numbers: &[u64], number: u64) -> Option<usize>
     match numbers.binary_search(&number) {
         Ok(index) => Some(index),
         Err(_) => None,
+    }
+}
+
+/// How many numbers are below a number.
+pub(crate) fn place_of_number(numbers: &[u64], number: u64) -> usize
+    requires { IsStrictlyIncreasing numbers.now }
+    ensures { IsCut numbers.now number result }
+{
+    match numbers.binary_search(&number) {
+        Ok(place) => place,
+        Err(place) => place,
+    }
+}
+
+/// How many numbers aren't above a number.
+pub(crate) fn place_behind(numbers: &[u64], number: u64) -> usize
+    requires { IsStrictlyIncreasing numbers.now }
+    ensures within { result ≤ length numbers.now }
+    ensures before { (k : ℕ) → k < result → slice_index numbers.now k ≤ number }
+    ensures behind { (k : ℕ) → result ≤ k → k < length numbers.now → number < slice_index numbers.now k }
+{
+    match number.checked_add(1) {
+        Some(above) => place_of_number(numbers, above),
+        None => numbers.len(),
     }
 }

@@ -7,6 +7,7 @@ ghost use Rattle.fts_segment.specs.FieldIndexes.{AreKeywords, HasKeywordAt};
 ghost use Rattle.fts_segment.specs.Keywords.{before, keyword_of, ordinals_of, texts_of, up_to};
 ghost use Rattle.fts_segment.specs.Occurrences.{values_in};
 ghost use Rattle.fts_segment.specs.Sorted.{Ascends};
+ghost use Rattle.fts_segment.specs.Between.{AreBetween};
 
 use crate::dictionary::Dictionary;
 use crate::find::find_name;
@@ -53,6 +54,17 @@ impl KeywordIndex {
             (λ doc. HasKeywordAt vs ordinal doc) }
     {
         some_document(self.dictionary.lists.get(ordinal)?)
+    }
+
+    /// The lists of the texts with ordinals between two, these included.
+    pub(crate) fn lists_between(&self, low: u64, high: u64) -> &[fts_pack::List]
+        ensures { (vs : List (Option FieldValue)) → AreKeywords kinds.Keyword vs self.now
+            → AreBetween (ordinals_of kinds.Keyword vs) low high result.now }
+    {
+        let lists: &[fts_pack::List] = &self.dictionary.lists;
+        let end = high.saturating_add(1).min(lists.len() as u64) as usize;
+        let start = low.min(end as u64) as usize;
+        &lists[start..end]
     }
 }
 

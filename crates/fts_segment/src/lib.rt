@@ -20,6 +20,7 @@ mod builder;
 mod dictionary;
 mod field_index;
 mod find;
+mod guesses;
 mod keyword_index;
 pub mod laws;
 mod names;

@@ -9,8 +9,9 @@ ghost use Rattle.fts_segment.specs.Segments.{number_of, numbers_where};
 ghost use Rattle.fts_segment.specs.Numbers.{Fits64, numbers_of, present, is_number, IsNumberIndex};
 ghost use Rattle.fts_segment.specs.ListIds.{documents_in, positions_in};
 ghost use Rattle.fts_segment.specs.NumberLogs.{NumberLog};
+ghost use Rattle.fts_segment.specs.Between.{AreBetween, NumberColumn};
 
-use crate::find::find_number;
+use crate::find::{find_number, place_behind, place_of_number};
 use crate::postings_writer::set_docs;
 use crate::segment::ListId;
 use crate::term_groups::TermGroups;
@@ -78,6 +79,17 @@ impl NumberIndex {
             list: &self.lists[index],
             positions: None,
         })
+    }
+
+    /// The lists of the numbers between two, these included.
+    pub(crate) fn lists_between(&self, low: u64, high: u64) -> &[List]
+        requires { (column : NumberColumn) × IsNumberIndex column self.now.numbers.items self.now.lists.items }
+        ensures { (column : NumberColumn) → IsNumberIndex column self.now.numbers.items self.now.lists.items
+            → AreBetween column low high result.now }
+    {
+        let end = place_behind(&self.numbers, high);
+        let start = place_of_number(&self.numbers, low).min(end);
+        &self.lists[start..end]
     }
 }
 

@@ -7,6 +7,7 @@ ghost use Rattle.fts_model.specs.Operations.{kind_at};
 ghost use Rattle.fts_model.specs.declared.schema.Kind.{Kind};
 ghost use Rattle.fts_segment.specs.FieldIndexes.{NumbersFit};
 ghost use Rattle.fts_segment.specs.Segments.{postings, positions, column, keywords, ordinals};
+ghost use Rattle.fts_segment.specs.Between.{AreBetween};
 ghost use Rattle.fts_segment.specs.Keywords.{before, text_in_value, up_to};
 ghost use Rattle.fts_model.specs.declared.schema.Kind.TheVariants as kinds;
 ghost use Rattle.fts_segment.specs.ListIds.{documents_in, positions_in};
@@ -127,6 +128,19 @@ impl Segment {
     {
         let stored: &Stored = &self.stored;
         stored.indexes[field].column(stored.schema.kind(field))
+    }
+
+    /// The lists of the documents with a number between two, these included, in the column of a number or keyword field:
+    /// one for each different number that documents have there, none of them empty, so a document stands in one at most.
+    pub fn lists_between(&self, field: usize, low: u64, high: u64) -> &[List]
+        requires { is_ordered_field self.now.schema field ≡ true }
+        ensures numbers { is_number_field self.now.schema field ≡ true
+            → AreBetween (column self.now field) low high result.now }
+        ensures ordinals { is_number_field self.now.schema field ≡ false
+            → AreBetween (ordinals self.now field) low high result.now }
+    {
+        let stored: &Stored = &self.stored;
+        stored.indexes[field].lists_between(stored.schema.kind(field), low, high)
     }
 
     /// The keyword of this ordinal in a keyword field: the one before which so many different ones of the segment

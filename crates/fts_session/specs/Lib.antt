@@ -1,3 +1,4 @@
+pub mod Finds
 pub mod KeptLines
 pub mod Outputs
 pub mod Replies

@@ -1,18 +1,16 @@
 -- What a session answers, against what a script does.
-use Rattle.std.specs.Prelude.{◌≡◌, ℕ, ◌+◌, ◌≤◌, ◌⊎◌, false, Option, MatchOption, Result, Ok, Err}
-use Rattle.serde_json.specs.Written.{has_float}
+use Rattle.std.specs.Prelude.{◌≡◌, ℕ, ◌+◌, ◌≤◌, ◌⊎◌, Option, MatchOption, Result, Ok, Err}
 use Rattle.serde_json.specs.View.{view}
-use Rattle.serde_json.specs.declared.value.Value.{Value}
 use Rattle.fts_base.specs.declared.refusal.Refusal.{Refusal}
 use Rattle.fts_base.specs.declared.refusal.Refusal.TheVariants.{Memory}
 use Rattle.fts_steps.specs.Indexes.{Index}
 use Rattle.fts_session.specs.Replies.{Outcome}
+use Rattle.fts_session.specs.declared.reply.Reply.{Reply}
 
 -- What was answered, and what an index came to, is the outcome that was wanted; at a refusal the index is as it was,
 -- and the refusal is the one wanted, or memory ran out.
-abbrev pub Executes : Result (Outcome Index) Refusal → Option Index → Option Index → Result Value Refusal → Type 0
-Executes wanted old new (Ok reply) =
-    (wanted ≡ Ok (record { index = new; reply = view reply })) × (has_float (view reply) ≡ false)
+abbrev pub Executes : Result (Outcome Index) Refusal → Option Index → Option Index → Result Reply Refusal → Type 0
+Executes wanted old new (Ok reply) = wanted ≡ Ok (record { index = new; reply = view reply.value })
 Executes wanted old new (Err refusal) = (new ≡ old) × ((refusal ≡ Memory) ⊎ (wanted ≡ Err refusal))
 
 -- a bound on what an engine counts, if there is one

@@ -4,7 +4,9 @@
 //! those before it. It knows no block and no stream.
 #![tactic(auto)]
 
+mod commands;
 pub mod laws;
+mod reply;
 mod session;
 mod text;
 

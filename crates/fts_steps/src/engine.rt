@@ -8,30 +8,17 @@ ghost use Rattle.fts_model.specs.Queries.{query_fits, request_fits};
 
 use crate::options::Options;
 use fts_model::{Answer, Op, Query, Refusal, Request, Schema, Stamp};
-use std::sync::Wait;
-use std::thread::Threads;
 
-/// An index under a script. Each method is a step of a script, and a refused one leaves the index as it was.
-///
-/// An engine isn't dropped but closed, since it may have threads and readers to end.
+/// What a script asks of an index without giving it anything to work with. [`EngineOver`] has the rest.
 pub trait Engine {
     ghost use Rattle.fts_steps.specs.Indexes.{Index, indexes};
-    ghost use Rattle.fts_steps.specs.Steps.{next_stamp, submit, commit, rollback, merge, search_commit, Steps};
+    ghost use Rattle.fts_steps.specs.Steps.{next_stamp, submit, Steps};
 
     /// What the index stands for.
     ghost index: { Self → Index };
 
     /// A bound on what an engine counts: it rises by at most one in each call that may change the index.
     ghost changes: { Self → ℕ };
-
-    /// A new index. How it works is up to the options; what it stands for is not.
-    fn open(
-        rt: &(impl AllocGlobal + Threads + Wait + Sync),
-        options: Options,
-        schema: Schema,
-    ) -> Result<Self, Refusal>
-        ensures index { Gives (λ engine. index engine) result (Ok (indexes.opened schema)) }
-        ensures changes { IfOk result (λ engine. changes engine ≡ 0) };
 
     fn schema(&self) -> &Schema
         ensures { result.now ≡ (index self.now).schema };
@@ -52,48 +39,54 @@ pub trait Engine {
         ensures step { Steps (submit indexes op (index self.old)) (index self.old)
             (index self.new) result }
         ensures changes { changes self.new ≤ changes self.old + 1 };
+}
+
+/// An index under a script that is given an `R` to work with: an allocator, and whatever else the engine asks for, as
+/// threads. Each method is a step of a script, and a refused one leaves the index as it was.
+///
+/// An engine isn't dropped but closed, since it may have threads and readers to end.
+pub trait EngineOver<R: AllocGlobal + Sync>: Engine {
+    ghost use Rattle.fts_steps.specs.Indexes.{indexes};
+    ghost use Rattle.fts_steps.specs.Steps.{commit, rollback, merge, search_commit, Steps};
+
+    /// A new index. How it works is up to the options; what it stands for is not.
+    fn open(rt: &R, options: Options, schema: Schema) -> Result<Self, Refusal>
+        ensures index { Gives (λ engine. Self.index engine) result (Ok (indexes.opened schema)) }
+        ensures changes { IfOk result (λ engine. Self.changes engine ≡ 0) };
 
     /// Commits the operations since the last commit, and answers the commit's stamp.
-    fn commit<R: AllocGlobal + Threads + Wait + Sync>(&mut self, rt: &R) -> Result<Stamp, Refusal>
-        requires changes { changes self.old ≤ 2 ^ 61 }
+    fn commit(&mut self, rt: &R) -> Result<Stamp, Refusal>
+        requires changes { Self.changes self.old ≤ 2 ^ 61 }
         requires sync { IsSync R.row }
-        ensures step { Steps (commit indexes (index self.old)) (index self.old)
-            (index self.new) result }
-        ensures changes { changes self.new ≤ changes self.old + 1 };
+        ensures step { Steps (commit indexes (Self.index self.old)) (Self.index self.old)
+            (Self.index self.new) result }
+        ensures changes { Self.changes self.new ≤ Self.changes self.old + 1 };
 
     /// Gives up the operations since the last commit, and answers that commit's stamp.
-    fn rollback(
-        &mut self,
-        rt: &(impl AllocGlobal + Threads + Wait + Sync),
-    ) -> Result<Stamp, Refusal>
-        requires { changes self.old ≤ 2 ^ 61 }
-        ensures step { Steps (rollback indexes (index self.old)) (index self.old)
-            (index self.new) result }
-        ensures changes { changes self.new ≤ changes self.old + 1 };
+    fn rollback(&mut self, rt: &R) -> Result<Stamp, Refusal>
+        requires { Self.changes self.old ≤ 2 ^ 61 }
+        ensures step { Steps (rollback indexes (Self.index self.old)) (Self.index self.old)
+            (Self.index self.new) result }
+        ensures changes { Self.changes self.new ≤ Self.changes self.old + 1 };
 
     /// Merges what the last commit holds, and answers how many documents there are. It is refused as `TooLarge` where
     /// there are over 1,048,576. What waits for a commit goes on waiting.
-    fn merge(&mut self, rt: &(impl AllocGlobal + Threads + Wait + Sync)) -> Result<u64, Refusal>
-        requires { changes self.old ≤ 2 ^ 61 }
-        ensures step { Steps (merge indexes (index self.old)) (index self.old)
-            (index self.new) result }
-        ensures changes { changes self.new ≤ changes self.old + 1 };
+    fn merge(&mut self, rt: &R) -> Result<u64, Refusal>
+        requires { Self.changes self.old ≤ 2 ^ 61 }
+        ensures step { Steps (merge indexes (Self.index self.old)) (Self.index self.old)
+            (Self.index self.new) result }
+        ensures changes { Self.changes self.new ≤ Self.changes self.old + 1 };
 
     /// The answer over the documents of the last commit. The only refusal is `Memory`.
-    fn search<R: AllocGlobal + Threads + Wait + Sync>(
-        &mut self,
-        rt: &R,
-        query: &Query,
-        request: &Request,
-    ) -> Result<Answer, Refusal>
-        requires query { query_fits (index self.old).schema (query_value query.now) ≡ true }
+    fn search(&mut self, rt: &R, query: &Query, request: &Request) -> Result<Answer, Refusal>
+        requires query { query_fits (Self.index self.old).schema (query_value query.now) ≡ true }
         requires sync { IsSync R.row }
-        requires request { request_fits (index self.old).schema request.now ≡ true }
+        requires request { request_fits (Self.index self.old).schema request.now ≡ true }
         ensures step { Steps
-            (search_commit indexes (query_value query.now) request.now (index self.old))
-            (index self.old) (index self.new) result }
-        ensures changes { changes self.new ≤ changes self.old };
+            (search_commit indexes (query_value query.now) request.now (Self.index self.old))
+            (Self.index self.old) (Self.index self.new) result }
+        ensures changes { Self.changes self.new ≤ Self.changes self.old };
 
     /// Ends the index.
-    fn close(self, rt: &(impl AllocGlobal + Threads + Wait + Sync));
+    fn close(self, rt: &R);
 }

@@ -1,14 +1,16 @@
 //! What a script needs of an index: one step of the definitions for each call.
 //!
-//! An [`Engine`] takes operations, commits, rolls back, merges and searches. [`ListEngine`] keeps a plain list of
-//! documents; the engine over segments stands in a crate above. [`Options`] say how an engine works, and change nothing
+//! An [`Engine`] takes operations, and as an [`EngineOver`] what it is given to work with it commits, rolls back, merges
+//! and searches. [`ListEngine`] keeps a plain list of documents; the engines over segments stand in crates above. [`Options`] say how an engine works, and change nothing
 //! that it answers.
 #![tactic(auto)]
 
 mod engine;
+mod fork;
 mod list_engine;
 mod options;
 
-pub use engine::Engine;
+pub use engine::{Engine, EngineOver};
+pub use fork::Fork;
 pub use list_engine::ListEngine;
 pub use options::{Cut, Merge, Options};

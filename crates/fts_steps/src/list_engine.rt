@@ -5,14 +5,12 @@ ghost use Rattle.fts_model.specs.Operations.{added, added_by, adds, alive};
 ghost use Rattle.fts_base.specs.Results.{Gives};
 ghost use Rattle.fts_steps.specs.Operations.{is_add};
 
-use crate::engine::Engine;
+use crate::engine::{Engine, EngineOver};
 use crate::options::Options;
 use fts_model::{
     Answer, Document, MOST_MERGED, Op, Query, Refusal, Request, Schema, Stamp, Stamped,
 };
 use std::alloc::{AllocError, Global};
-use std::sync::Wait;
-use std::thread::Threads;
 
 /// The most operations that wait for a commit.
 const MOST_PENDING: usize = 1_000_000;
@@ -153,21 +151,6 @@ impl Engine for ListEngine {
 
     ghost changes = { λ e. e.commit_stamp + length e.pending.items };
 
-    fn open(
-        rt: &(impl AllocGlobal + Threads + Wait + Sync),
-        options: Options,
-        schema: Schema,
-    ) -> Result<Self, Refusal> {
-        let _ = options;
-        let alloc = rt.alloc();
-        Ok(ListEngine {
-            schema,
-            documents: Vec::new(alloc),
-            commit_stamp: 0,
-            pending: Vec::new(alloc),
-        })
-    }
-
     fn schema(&self) -> &Schema {
         &self.schema
     }
@@ -188,8 +171,21 @@ impl Engine for ListEngine {
         self.pending.push(Stamped { stamp, value: op })?;
         Ok(stamp)
     }
+}
 
-    fn commit<R: AllocGlobal + Threads + Wait + Sync>(&mut self, rt: &R) -> Result<Stamp, Refusal> {
+impl<R: AllocGlobal + Sync> EngineOver<R> for ListEngine {
+    fn open(rt: &R, options: Options, schema: Schema) -> Result<Self, Refusal> {
+        let _ = options;
+        let alloc = rt.alloc();
+        Ok(ListEngine {
+            schema,
+            documents: Vec::new(alloc),
+            commit_stamp: 0,
+            pending: Vec::new(alloc),
+        })
+    }
+
+    fn commit(&mut self, rt: &R) -> Result<Stamp, Refusal> {
         let stamp = self.next_stamp();
         commit(rt.alloc(), &self.schema, &mut self.documents, &self.pending)?;
         self.pending.clear();
@@ -197,15 +193,12 @@ impl Engine for ListEngine {
         Ok(stamp)
     }
 
-    fn rollback(
-        &mut self,
-        _rt: &(impl AllocGlobal + Threads + Wait + Sync),
-    ) -> Result<Stamp, Refusal> {
+    fn rollback(&mut self, _rt: &R) -> Result<Stamp, Refusal> {
         self.pending.clear();
         Ok(self.commit_stamp)
     }
 
-    fn merge(&mut self, _rt: &(impl AllocGlobal + Threads + Wait + Sync)) -> Result<u64, Refusal> {
+    fn merge(&mut self, _rt: &R) -> Result<u64, Refusal> {
         let count = self.documents.len();
         if count > MOST_MERGED {
             return Err(Refusal::TooLarge);
@@ -213,14 +206,9 @@ impl Engine for ListEngine {
         Ok(count as u64)
     }
 
-    fn search<R: AllocGlobal + Threads + Wait + Sync>(
-        &mut self,
-        rt: &R,
-        query: &Query,
-        request: &Request,
-    ) -> Result<Answer, Refusal> {
+    fn search(&mut self, rt: &R, query: &Query, request: &Request) -> Result<Answer, Refusal> {
         fts_scan::answer(rt.alloc(), &self.schema, query, request, &self.documents)
     }
 
-    fn close(self, _rt: &(impl AllocGlobal + Threads + Wait + Sync)) {}
+    fn close(self, _rt: &R) {}
 }

@@ -3,7 +3,7 @@ ghost use Rattle.std.specs.Prelude.{◌≡◌, ◌+◌, ◌≤◌};
 
 use fts_engine::IndexEngine;
 use fts_model::{Document, Field, Kind, Op, Refusal, Schema, Text};
-use fts_script::{Cut, Engine, Merge, Options};
+use fts_script::{Cut, Engine, EngineOver, Merge, Options};
 use serde_json::{Map, Value};
 use std::alloc::Global;
 use std::process::Abort;

@@ -82,7 +82,7 @@ fn run_over<R: Read, W: Write>(
         reader: Plain::new(reader),
         writer: Plain::new(writer),
     };
-    let outcome = run_script::<ListEngine, _, _>(rt, &mut streams, options);
+    let outcome = run_script::<_, ListEngine, _, _>(rt, &mut streams, options);
     let Streams { reader, writer } = streams;
     (outcome, reader.into_inner(), writer.into_inner())
 }

@@ -1,5 +1,5 @@
 -- The steps of a strike.
-use Rattle.std.specs.Prelude.{ℕ, ◌&&◌, not, nat_lt, max, Bool, false, List, [], ◌∷◌, slice_get, slice_set}
+use Rattle.std.specs.Prelude.{◌≡◌, ℕ, All, ◌&&◌, not, nat_lt, max, Bool, false, List, [], ◌∷◌, slice_get, slice_set}
 use Rattle.std.specs.Prelude.{if◌then◌else◌}
 use Rattle.std.specs.List.{list_any}
 use Rattle.std.specs.Option.{option_map_or}
@@ -9,6 +9,8 @@ use Rattle.fts_model.specs.declared.operation.Op.TheVariants.{Add, Delete, Delet
 use Rattle.fts_model.specs.declared.operation.Stamped.{Stamped}
 use Rattle.fts_model.specs.Documents.{DocumentValue}
 use Rattle.fts_model.specs.Operations.{has}
+use Rattle.fts_segment.specs.Segments.{SegmentValue, postings}
+use Rattle.fts_merge.specs.declared.found.Found.{Found}
 
 -- an operation strikes every document of a smaller stamp than this
 abbrev pub bound_by : ℕ → Op → ℕ
@@ -31,6 +33,18 @@ strikes_by_term schema stamp DeleteAll document = false
 abbrev pub survives_terms : List Field → List (Stamped Op) → Stamped DocumentValue → Bool
 survives_terms schema ops document = not (list_any (λ op. strikes_by_term schema op.stamp op.value document) ops)
 
+-- a delete that was looked up stands with the documents that have its term
+abbrev pub IsFound : SegmentValue → Found → Type 0
+IsFound segment delete = delete.documents.now ≡ postings segment delete.term.now
+
+-- a delete that was looked up strikes a document
+abbrev pub strikes_found : List Field → Found → Stamped DocumentValue → Bool
+strikes_found schema delete document = nat_lt document.stamp delete.stamp && has schema document.value delete.term.now
+
+-- no delete that was looked up strikes a document
+abbrev pub survives_found : List Field → List Found → Stamped DocumentValue → Bool
+survives_found schema deletes document = not (list_any (λ delete. strikes_found schema delete document) deletes)
+
 -- the document of this number has a smaller stamp
 abbrev pub is_before : List (Stamped DocumentValue) → ℕ → ℕ → Bool
 is_before documents stamp number =
@@ -39,3 +53,9 @@ is_before documents stamp number =
 -- the bits without that of the document of this number, if its stamp is smaller
 abbrev pub cleared : List (Stamped DocumentValue) → ℕ → List Bool → ℕ → List Bool
 cleared documents stamp live number = if is_before documents stamp number then slice_set live number false else live
+
+-- deletes that were looked up strike of these documents what operations strike by a term
+abbrev pub StrikeAlike : List Field → List Found → List (Stamped Op) → List (Stamped DocumentValue) → Type 0
+StrikeAlike schema deletes ops documents =
+    All (λ d. list_any (λ delete. strikes_found schema delete d) deletes
+    ≡ list_any (λ op. strikes_by_term schema op.stamp op.value d) ops) documents

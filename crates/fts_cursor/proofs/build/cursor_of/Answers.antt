@@ -8,11 +8,11 @@ use Rattle.fts_cursor.proofs.BoolHits.{all_live}
 use Rattle.fts_cursor.proofs.OpensLemmas.{opens_walked}
 use Rattle.fts_cursor.proofs.build.cursor_of.Goals as goal
 
-pub returns-then-count_ones-len-clause-hits : goal.returns-then-count_ones-len-clause-hits
-returns-then-count_ones-len-clause-hits c = ap (λ (s : Standing). s.remaining) c.all.ensures ∙ c.in-Ok.ensures.hits ∙ all_live c.args.segment.now c.args.live.now (query_value c.args.query.now) c.requires.bits (sym c.count_ones.ensures ∙ c.if-count_ones-len.true ∙ c.len.ensures)
+pub returns-then-all_set-clause-hits : goal.returns-then-all_set-clause-hits
+returns-then-all_set-clause-hits c = ap (λ (s : Standing). s.remaining) c.all.ensures ∙ c.in-Ok.ensures.hits ∙ all_live c.args.segment.now c.args.live.now (query_value c.args.query.now) c.requires.bits (c.all_set.ensures c.if-all_set.true)
 
-pub returns-then-count_ones-len-clause-opens : goal.returns-then-count_ones-len-clause-opens
-returns-then-count_ones-len-clause-opens c = subst (Opens c.args.segment.now (query_value c.args.query.now)) (sym c.all.ensures) c.in-Ok.ensures.opens
+pub returns-then-all_set-clause-opens : goal.returns-then-all_set-clause-opens
+returns-then-all_set-clause-opens c = subst (Opens c.args.segment.now (query_value c.args.query.now)) (sym c.all.ensures) c.in-Ok.ensures.opens
 
-pub returns-else-count_ones-len-clause-opens : goal.returns-else-count_ones-len-clause-opens
-returns-else-count_ones-len-clause-opens c = opens_walked c.args.segment.now (query_value c.args.query.now) (is_live c.args.live.now) c.in-Ok.tree.standing c.live.result c.in-Ok.ensures.opens c.live.ensures.walked c.live.ensures.remaining
+pub returns-else-all_set-clause-opens : goal.returns-else-all_set-clause-opens
+returns-else-all_set-clause-opens c = opens_walked c.args.segment.now (query_value c.args.query.now) (is_live c.args.live.now) c.in-Ok.tree.standing c.live.result c.in-Ok.ensures.opens c.live.ensures.walked c.live.ensures.remaining

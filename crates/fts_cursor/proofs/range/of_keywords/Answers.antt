@@ -1,5 +1,6 @@
 -- A range of keywords goes over their ordinals.
-use Rattle.std.proofs.Common.{◌≡◌, ◌-◌, false, length, ap, ap₂, ◌∙◌, arith}
+use Rattle.std.proofs.Common.{◌≡◌, ℕ, false, List, Option, ap, ap₂, subst, sym, ◌∙◌}
+use Rattle.fts_segment.specs.Between.{AreBetween}
 use Rattle.std.specs.Option.{option_map_or}
 use Rattle.std.proofs.lemmas.Bool.{and_parts}
 use Rattle.fts_model.specs.declared.schema.Kind.TheVariants as kinds
@@ -28,7 +29,6 @@ returns-in_default c =
 pub returns : goal.returns
 returns c =
     let segment = c.args.segment.now in
-    let all : c.docs.result - 0 ≡ length segment.documents = omega (arith, c.docs.ensures.len) in
     let other : is_number_field segment.schema c.args.field ≡ false = ap (λ o. option_map_or holds_numbers o false) c.requires.keyword in
     let bounds = and_parts (is_bound_of kinds.Keyword c.args.lower.now) (is_bound_of kinds.Keyword c.args.upper.now) c.requires.range in
     let ranked : Ranked c.args.segment.now c.args.field c.args.lower.now c.args.upper.now = record {
@@ -38,7 +38,13 @@ returns c =
       some = c.requires.bounded;
       small = rw (c.column-column.ensures.ordinals other) at c.most_of.ensures;
     } in
-    c.scan.ensures.remaining ∙ c.new.ensures
-    ∙ ap (λ low. passing (has_within low c.in-Some.high c.column-column.result.now) 0 (c.docs.result - 0)) c.first_ordinal-low.ensures
-    ∙ ap₂ (λ xs n. passing (has_within (ordinal_from (keywords segment c.args.field) c.args.lower.now) c.in-Some.high xs) 0 n) (c.column-column.ensures.ordinals other) all
+    c.in_ok-tree.ensures
+    ∙ ap (λ low. passing (has_within low c.in-Some.high c.column-column.result.now) 0 c.docs.result) c.first_ordinal-low.ensures
+    ∙ ap₂ (λ xs n. passing (has_within (ordinal_from (keywords segment c.args.field) c.args.lower.now) c.in-Some.high xs) 0 n) (c.column-column.ensures.ordinals other) c.docs.ensures.len
     ∙ keyword_hits segment c.args.field c.args.lower.now c.args.upper.now c.last_ordinal.result ranked c.last_ordinal.ensures c.in-Some.high c.in-Some.is
+
+pub between-requires-clause-lists : goal.between-requires-clause-lists
+between-requires-clause-lists c =
+    let other : is_number_field c.args.segment.now.schema c.args.field ≡ false = ap (λ o. option_map_or holds_numbers o false) c.requires.keyword in
+    let P : List (Option ℕ) → Type 0 = λ xs. AreBetween xs c.first_ordinal-low.result c.in-Some.high c.lists_between-lists.result.now in
+    subst P (sym (c.column-column.ensures.ordinals other)) (c.lists_between-lists.ensures.ordinals other)

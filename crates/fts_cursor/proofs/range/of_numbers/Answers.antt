@@ -1,5 +1,6 @@
 -- A range of numbers goes over their column.
-use Rattle.std.proofs.Common.{◌≡◌, ◌-◌, length, ap₂, sym, ◌∙◌, arith}
+use Rattle.std.proofs.Common.{ℕ, List, Option, ap₂, subst, sym, ◌∙◌}
+use Rattle.fts_segment.specs.Between.{AreBetween}
 use Rattle.fts_cursor.specs.Scans.{has_within}
 use Rattle.fts_postings.specs.Windows.{passing}
 use Rattle.fts_cursor.proofs.RangeLemmas.{Bounded, no_greatest, no_least, within_hits}
@@ -25,7 +26,6 @@ returns-in_default c =
 pub returns : goal.returns
 returns c =
     let segment = c.args.segment.now in
-    let all : c.docs.result - 0 ≡ length segment.documents = omega (arith, c.docs.ensures.len) in
     let bounded : Bounded c.args.segment.now c.args.field c.args.lower.now c.args.upper.now = record {
       fits = c.requires.range;
       numbers = c.requires.numbers;
@@ -37,6 +37,11 @@ returns c =
     } in
     let low = rw c.in-Some-Some.is-0 at c.least.ensures.is in
     let high = rw c.in-Some-Some.is-1 at c.greatest.ensures.is in
-    c.scan.ensures.remaining ∙ c.new.ensures
-    ∙ ap₂ (λ xs n. passing (has_within c.in-Some-Some.low c.in-Some-Some.high xs) 0 n) (c.column-column.ensures.numbers c.requires.numbers) all
+    c.in_ok-tree.ensures
+    ∙ ap₂ (λ xs n. passing (has_within c.in-Some-Some.low c.in-Some-Some.high xs) 0 n) (c.column-column.ensures.numbers c.requires.numbers) c.docs.ensures.len
     ∙ within_hits segment c.args.field c.args.lower.now c.args.upper.now bounded c.in-Some-Some.low c.in-Some-Some.high low high
+
+pub between-requires-clause-lists : goal.between-requires-clause-lists
+between-requires-clause-lists c =
+    let P : List (Option ℕ) → Type 0 = λ xs. AreBetween xs c.in-Some-Some.low c.in-Some-Some.high c.lists_between-lists.result.now in
+    subst P (sym (c.column-column.ensures.numbers c.requires.numbers)) (c.lists_between-lists.ensures.numbers c.requires.numbers)

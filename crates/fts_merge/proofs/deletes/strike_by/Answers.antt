@@ -1,16 +1,18 @@
-use Rattle.std.proofs.Common.{ap}
-use Rattle.fts_merge.specs.Internals.Deletes.{strikes_by_term}
-use Rattle.fts_merge.proofs.DeletesLemmas.{bits_where-untouched}
+use Rattle.std.proofs.Common.{◌≡◌, ◌<◌, ℕ, All, ap, sym, ◌∙◌, length, subst}
+use Rattle.std.specs.List.{fold}
+use Rattle.fts_model.specs.Operations.{has}
+use Rattle.fts_merge.specs.Internals.Deletes.{cleared}
+use Rattle.fts_merge.proofs.DeletesLemmas.{postings-within, cleared_where}
 use Rattle.fts_merge.proofs.deletes.strike_by.Goals as goal
 
-pub returns-in-Add : goal.returns-in-Add
-returns-in-Add c =
-    let s = c.args.segment.now in
-    let op = c.args.op.now in
-    bits_where-untouched s.schema op.stamp op.value s.documents c.args.live.now (λ d. ap (λ v. strikes_by_term s.schema op.stamp v d) c.in-Add.is) c.requires
+pub strike_list-requires-clause-within : goal.strike_list-requires-clause-within
+strike_list-requires-clause-within c =
+    let P : ℕ → Type 0 = λ n. n < length c.args.segment.now.documents in
+    subst (All P) (sym c.requires.is) (postings-within c.args.segment.now c.args.delete.now.term.now)
 
-pub returns-in-DeleteAll : goal.returns-in-DeleteAll
-returns-in-DeleteAll c =
+pub returns : goal.returns
+returns c =
     let s = c.args.segment.now in
-    let op = c.args.op.now in
-    bits_where-untouched s.schema op.stamp op.value s.documents c.args.live.now (λ d. ap (λ v. strikes_by_term s.schema op.stamp v d) c.in-DeleteAll.is) c.requires
+    let delete = c.args.delete.now in
+    c.strike_list.ensures ∙ ap (fold (cleared s.documents delete.stamp) c.args.live.now) c.requires.is
+    ∙ cleared_where delete.stamp (λ d. has s.schema d.value delete.term.now) s.documents c.args.live.now c.requires.bits

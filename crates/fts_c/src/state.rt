@@ -1,0 +1,65 @@
+// A session and its last reply.
+ghost use Rattle.std.specs.Prelude.{◌≡◌, ◌≢◌, [], pos, string_bytes};
+ghost use Rattle.fts_session.specs.Outputs.{start, reply_to, after_line};
+
+use fts_session::Session;
+use fts_steps::{ListEngine, Options};
+use std::alloc::{AllocError, Global};
+
+/// The most bytes that a line has.
+const LONGEST: usize = 4_194_304;
+
+/// How many lines there may be.
+const MOST_LINES: u64 = 1 << 61;
+
+/// A session, and its last reply.
+#[derive(Drop)]
+pub struct State {
+    pub session: Session<ListEngine>,
+    pub reply: String,
+}
+
+impl State {
+    /// Before the first line.
+    pub(crate) fn new(alloc: Global) -> State
+        ensures { result.session ≡ start }
+    {
+        State {
+            session: Session::new(Options::default()),
+            reply: String::new(alloc),
+        }
+    }
+
+    /// The state behind a line, and a code: 0, or 1 where memory was refused, 2 where the line is too long, 3 where
+    /// there were 2^61 lines. At any but 0 there is no reply, and the session is as it was.
+    pub(crate) fn after(self, alloc: Global, line: &[u8]) -> (State, i32)
+        ensures reply { result.1 ≡ pos 0 → string_bytes result.0.reply ≡ reply_to self.session line.now }
+        ensures session { result.1 ≡ pos 0 → result.0.session ≡ after_line self.session line.now }
+        ensures same { result.1 ≢ pos 0 → result.0.session ≡ self.session }
+        ensures none { result.1 ≢ pos 0 → string_bytes result.0.reply ≡ [] }
+    {
+        let State {
+            mut session,
+            mut reply,
+        } = self;
+        reply.clear();
+        if line.len() > LONGEST {
+            return (State { session, reply }, 2);
+        }
+        if session.lines() >= MOST_LINES {
+            return (State { session, reply }, 3);
+        }
+        let code = match session.answer(&((), alloc), line, &mut reply) {
+            Ok(()) => 0,
+            Err(AllocError) => 1,
+        };
+        (State { session, reply }, code)
+    }
+}
+
+fn needs_send<T: Send>() {}
+
+/// What is behind a handle may go to another thread.
+pub fn a_handle_may_be_sent() {
+    needs_send::<State>()
+}

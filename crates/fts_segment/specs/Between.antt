@@ -1,0 +1,19 @@
+-- The lists of the numbers of a column that lie between two.
+use Rattle.std.specs.Prelude.{◌≡◌, ℕ, ◌<◌, ◌≤◌, List, [], Option, Some, Contains, length, slice_get, slice_index_or}
+
+-- the numbers of documents in a field
+abbrev pub NumberColumn : Type 0
+NumberColumn = List (Option ℕ)
+
+-- the lists have the documents with a number of these in a column, and no others
+pub record AreBetween (column : List (Option ℕ)) (low high : ℕ) (lists : List (List ℕ)) : Type 0 where
+  pub sound : (k doc : ℕ) → k < length lists → Contains (slice_index_or lists k []) doc →
+      (x : ℕ) × (slice_get column doc ≡ Some (Some x)) × (low ≤ x) × (x ≤ high)
+  pub whole : (doc x : ℕ) → slice_get column doc ≡ Some (Some x) → low ≤ x → x ≤ high →
+      (k : ℕ) × (k < length lists) × Contains (slice_index_or lists k []) doc
+
+-- how many of some rising numbers are below one
+pub record IsCut (numbers : List ℕ) (number place : ℕ) : Type 0 where
+  pub within : place ≤ length numbers
+  pub before : (k : ℕ) → k < place → slice_index_or numbers k 0 < number
+  pub behind : (k : ℕ) → place ≤ k → k < length numbers → number ≤ slice_index_or numbers k 0
