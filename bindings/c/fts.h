@@ -1,0 +1,86 @@
+/* A full-text index inside a C program: the lines of a script in, their replies out.
+ *
+ * A line is a JSON object with one member, the command; docs/SCRIPT.md has all commands, replies and limits. The
+ * replies are those of `fts run` to the same lines, to the byte.
+ *
+ * Ownership. A handle is a struct of the caller's. Begin it with {0}, give it to the function that opens it, and close
+ * it once; whoever copies the struct closes one of the copies and uses none behind that. The index behind it belongs to
+ * the library. Lines and buffers belong to the caller, and are looked at during the call alone. Opening over an open
+ * handle loses what was open. No pointer that is given is NULL, also where the length beside it is 0.
+ *
+ * Threads. A handle is used by one thread at a time, whichever; handles may move from thread to thread. Two handles
+ * never touch each other. No call starts a thread, waits or opens a file.
+ *
+ * Closed handles. A struct with NULL in it is a closed handle: each call answers FTS_CLOSED, and follows nothing. A
+ * close is given a copy, so set the struct to {0} behind it. A handle is live or NULL; nobody can tell a stale one.
+ * The library follows what it is given, and the names below are those of functions that look first.
+ *
+ * Codes. At each code but FTS_OK everything is as it was before the call, a slot too, but for the reply, which is
+ * then empty. So a line that wanted memory may be sent again. A refusal of the script, such as
+ * {"error":"Syntax","line":5}, is a reply, and the code is FTS_OK.
+ */
+#ifndef FTS_H
+#define FTS_H
+
+#include <stddef.h>
+#include <stdint.h>
+
+#ifdef __cplusplus
+extern "C" {
+#endif
+
+enum {
+    FTS_OK = 0,
+    FTS_MEMORY = 1,        /* there was no memory */
+    FTS_LINE_TOO_LONG = 2, /* the line has more than FTS_LONGEST_LINE bytes */
+    FTS_USED_UP = 3,       /* the index took 2^61 lines */
+    FTS_CLOSED = 4         /* the handle is closed */
+};
+
+#define FTS_LONGEST_LINE 4194304
+#define FTS_NO_REPLY SIZE_MAX
+
+/* An index. It forgets everything when it is closed. */
+typedef struct {
+    void *at;
+} fts_t;
+
+/* Opens an index without a schema. FTS_OK or FTS_MEMORY. */
+int32_t fts_open(fts_t *slot);
+
+/* Does what a line says. `line` has `length` bytes and no LF behind it; any bytes will do. FTS_OK, FTS_MEMORY,
+ * FTS_LINE_TOO_LONG, FTS_USED_UP or FTS_CLOSED. Lines are counted at FTS_OK, from 1, blank ones too. */
+int32_t fts_execute(fts_t *index, const uint8_t *line, size_t length);
+
+/* The length of the last line's reply, its LF included; 0 of a blank line and behind a code that isn't FTS_OK. The
+ * reply is copied to `out` where it fits into `room` bytes; else `out` stays as it was. The reply stays until the
+ * next line, so a call with a room of 0 tells how much is wanted. FTS_NO_REPLY of a closed handle. */
+size_t fts_reply(fts_t *index, uint8_t *out, size_t room);
+
+/* Closes an index. FTS_OK or FTS_CLOSED: fts_close_if_open, below, says which. */
+void fts_close(fts_t index);
+
+/* The functions of the library follow a handle, so these stand before them. */
+static inline int32_t fts_execute_if_open(fts_t *index, const uint8_t *line, size_t length) {
+    return index->at ? fts_execute(index, line, length) : FTS_CLOSED;
+}
+
+static inline size_t fts_reply_if_open(fts_t *index, uint8_t *out, size_t room) {
+    return index->at ? fts_reply(index, out, room) : FTS_NO_REPLY;
+}
+
+static inline int32_t fts_close_if_open(fts_t index) {
+    if (!index.at) return FTS_CLOSED;
+    fts_close(index);
+    return FTS_OK;
+}
+
+#define fts_execute(index, line, length) fts_execute_if_open(index, line, length)
+#define fts_reply(index, out, room) fts_reply_if_open(index, out, room)
+#define fts_close(index) fts_close_if_open(index)
+
+#ifdef __cplusplus
+}
+#endif
+
+#endif

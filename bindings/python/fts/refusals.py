@@ -1,0 +1,131 @@
+"""Why a call was refused: an exception for each name that a reply can have in `{"error":NAME,"line":N}`.
+
+docs/SCRIPT.md and docs/QUERIES.md say in which order the causes are looked for. A refused call leaves the index as it
+was.
+"""
+from __future__ import annotations
+
+
+class Refused(Exception):
+    """The index refused a line. `name` is the refusal's, and `line` the number of the line, from 1."""
+
+    def __init__(self, name: str, line: int) -> None:
+        super().__init__(f"{name} in line {line}")
+        self.name = name
+        self.line = line
+
+
+class NoFields(Refused):
+    """The schema has no field."""
+
+
+class TooManyFields(Refused):
+    """The schema has more than 32 fields."""
+
+
+class BadName(Refused):
+    """A field's name isn't `[A-Za-z_][A-Za-z0-9_]*` of 1 to 32 bytes, or is AND, OR or NOT."""
+
+
+class NameTwice(Refused):
+    """Two fields have one name."""
+
+
+class BadDefault(Refused):
+    """A number field is marked default."""
+
+
+class NotAnObject(Refused):
+    """The document isn't an object."""
+
+
+class UnknownField(Refused):
+    """The schema has no field of that name."""
+
+
+class WrongKind(Refused):
+    """A value isn't of its field's kind."""
+
+
+class TooManyTexts(Refused):
+    """A list of more than 1,024 texts."""
+
+
+class TextTooLong(Refused):
+    """A text, or a list of texts together, of more than 1,048,576 bytes."""
+
+
+class KeywordTooLong(Refused):
+    """A keyword of more than 256 bytes."""
+
+
+class LaneFull(Refused):
+    """1,000,000 operations wait for a commit."""
+
+
+class TooLarge(Refused):
+    """More than 1,048,576 documents to merge."""
+
+
+class BadLimit(Refused):
+    """The length of a top list isn't within 1 and 10,000."""
+
+
+class NotANumberField(Refused):
+    """Groups by a text field, or a top list by a text or keyword field."""
+
+
+class TooLong(Refused):
+    """A query of more than 4,096 bytes."""
+
+
+class TooDeep(Refused):
+    """Parentheses of a query nest more than 32 deep."""
+
+
+class Syntax(Refused):
+    """The query isn't in the grammar."""
+
+
+class RangeOnText(Refused):
+    """A range or a comparison on a text field."""
+
+
+class BadNumber(Refused):
+    """What stands behind a number field of a query is no number of its kind."""
+
+
+class NoDefaultField(Refused):
+    """A word without a field, where no field is a default."""
+
+
+class AllNegative(Refused):
+    """A part of a query has nothing but what must not match."""
+
+
+class BadJson(Refused):
+    """The line isn't JSON, or isn't UTF-8, or nests more than 127 deep."""
+
+
+class BadCommand(Refused):
+    """The line is JSON and no command."""
+
+
+class NoSchema(Refused):
+    """Another command before the schema."""
+
+
+class SchemaTwice(Refused):
+    """A second schema."""
+
+
+class LineTooLong(Refused):
+    """A line of more than 4,194,304 bytes. It isn't counted, so its number is that of the next."""
+
+
+BY_NAME = {kind.__name__: kind for kind in Refused.__subclasses__()}
+
+
+def refused(name: str, line: int) -> Refused:
+    """The exception of a refusal."""
+    return BY_NAME.get(name, Refused)(name, line)

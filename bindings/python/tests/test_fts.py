@@ -1,0 +1,162 @@
+"""The package over the worked scripts, in threads, and at its edges."""
+import json
+import pathlib
+import threading
+import unittest
+
+import fts
+
+EXAMPLES = pathlib.Path(__file__).resolve().parents[3] / "examples"
+FIELDS = (fts.text("title", default=True), fts.keyword("shelf"), fts.u64("year"), fts.i64("rating"))
+BOOKS = [
+    {"title": "Programming Pearls", "shelf": "computing", "year": 1986, "rating": 9},
+    {"title": "Managing Gigabytes", "shelf": "search", "year": 1994, "rating": -1},
+    {"title": ["Programming", "Rust"], "shelf": "computing", "year": 2021},
+]
+
+
+def opened():
+    index = fts.Index(*FIELDS)
+    for book in BOOKS:
+        index.add(book)
+    index.commit()
+    return index
+
+
+class Worked(unittest.TestCase):
+    def test_scripts(self):
+        """Each worked script gives the replies that are stored beside it."""
+        scripts = [path for path in sorted(EXAMPLES.glob("*.jsonl")) if not path.name.endswith(".replies.jsonl")]
+        self.assertGreater(len(scripts), 5)
+        for path in scripts:
+            with self.subTest(path.name), fts.Index() as index:
+                told = [index.execute(line) for line in path.read_bytes().split(b"\n")]
+                self.assertEqual(b"".join(told), path.with_suffix(".replies.jsonl").read_bytes())
+
+
+class Calls(unittest.TestCase):
+    def test_answers(self):
+        with opened() as index:
+            answer = index.search("programming", groups="shelf", top=fts.Top("year", 1, "falling"))
+            self.assertEqual((answer.count, answer.groups), (2, {"computing": 2}))
+            self.assertEqual(list(answer), [fts.Hit(2021, 3, BOOKS[2])])
+            self.assertEqual(index.search("*", groups="year").groups, {1986: 1, 1994: 1, 2021: 1})
+
+    def test_operations(self):
+        with opened() as index:
+            self.assertEqual(index.delete("shelf", "computing"), 5)
+            self.assertEqual(index.rollback(), 4)
+            self.assertEqual(index.delete("title", "gigabytes"), 5)
+            self.assertEqual(index.add({}), 6)
+            self.assertEqual(index.commit(), 7)
+            self.assertEqual(index.merge(), 3)
+            self.assertEqual(index.delete_all(), 8)
+            self.assertEqual((index.search("*").count, index.commit(), index.search("*").count), (3, 9, 0))
+
+    def test_refusals(self):
+        """A refusal is an exception of its name, and leaves the index as it was."""
+        with opened() as index:
+            for refusal, call in [
+                (fts.UnknownField, lambda: index.add({"colour": "red"})),
+                (fts.WrongKind, lambda: index.add({"year": "late"})),
+                (fts.WrongKind, lambda: index.delete("year", "late")),
+                (fts.Syntax, lambda: index.search("rust OR")),
+                (fts.AllNegative, lambda: index.search("-rust")),
+                (fts.BadNumber, lambda: index.search("year:late")),
+                (fts.BadLimit, lambda: index.search("rust", top=fts.Top("year", 0))),
+                (fts.NotANumberField, lambda: index.search("rust", top=fts.Top("shelf", 1))),
+                (fts.BadJson, lambda: index.search("\ud800")),
+            ]:
+                with self.subTest(refusal.__name__), self.assertRaises(refusal) as raised:
+                    call()
+                self.assertEqual(raised.exception.name, refusal.__name__)
+            self.assertEqual((index.search("*").count, index.add({})), (3, 5))
+        with self.assertRaises(fts.BadName):
+            fts.Index(fts.text("AND"))
+
+    def test_hits(self):
+        """All hits, a page at a time, equal values by their stamps; a page that has one value alone is told."""
+        with fts.Index(*FIELDS) as index:
+            for number in range(40):
+                index.add({"title": "rust", "year": number // 3, "rating": -number})
+            index.add({"title": "rust"})
+            index.commit()
+            for order, sign in ("rising", 1), ("falling", -1):
+                hits = [(hit.value, hit.stamp) for hit in index.hits("rust", "year", order=order, page=5)]
+                self.assertEqual(hits, sorted(hits, key=lambda hit: (sign * hit[0], hit[1])))
+                self.assertEqual(len(hits), 40)
+            self.assertEqual([hit.value for hit in index.hits("rust", "rating", page=7)], list(range(-39, 1)))
+            self.assertEqual(list(index.hits("gigabytes", "year")), [])
+            with self.assertRaises(ValueError):
+                list(index.hits("rust", "year", page=2))
+
+
+class Edges(unittest.TestCase):
+    def test_closed(self):
+        """A call on a closed index is an exception, in each thread; closing twice is none."""
+        index = opened()
+        index.close()
+        index.close()
+        for call in (index.commit, lambda: index.search("rust"), lambda: index.execute(b"")):
+            self.assertRaises(fts.Closed, call)
+
+    def test_without_schema(self):
+        with fts.Index() as index, self.assertRaises(fts.NoSchema) as raised:
+            index.search("rust")
+        self.assertEqual((raised.exception.name, raised.exception.line), ("NoSchema", 1))
+
+    def test_bytes(self):
+        """Bytes that aren't UTF-8, a byte 0, a blank line, a long reply, and a line over the limit."""
+        with opened() as index:
+            taken = 5
+            for line in (b'{"add":{"title":"\xff"}}', b"{\0}", "nonsense"):
+                taken += 1
+                self.assertEqual(index.execute(line), b'{"error":"BadJson","line":%d}\n' % taken)
+            self.assertEqual(index.execute(" \t\r"), b"")
+            with self.assertRaises(fts.LineTooLong):
+                index.execute(b" " * (4_194_304 + 1))
+            self.assertEqual(json.loads(index.execute("[")), {"error": "BadJson", "line": 10})
+            index.add({"title": "long " + "x" * 1_000_000, "year": 1})
+            index.commit()
+            (hit,) = index.search("long", top=fts.Top("year", 1))
+            self.assertEqual(len(hit.document["title"]), 1_000_005)
+
+
+class Threads(unittest.TestCase):
+    def test_searches_beside_a_writer(self):
+        """Four threads search an index while another adds and commits: each finds as many as before, or more."""
+        wrong = []
+
+        def look(index):
+            counts = [index.search("rust").count for _ in range(100)]
+            wrong.extend([] if counts == sorted(counts) else [counts])
+
+        with fts.Index(*FIELDS) as index:
+            threads = [threading.Thread(target=look, args=(index,)) for _ in range(4)]
+            for thread in threads:
+                thread.start()
+            for _ in range(100):
+                index.add({"title": "rust"})
+                index.commit()
+            for thread in threads:
+                thread.join()
+            self.assertEqual((wrong, index.search("rust").count), ([], 100))
+
+    def test_one_index(self):
+        """Threads that share an index take turns, so no call sees half of another."""
+        def add(index):
+            for _ in range(100):
+                index.add({"title": "rust"})
+
+        with fts.Index(*FIELDS) as index:
+            threads = [threading.Thread(target=add, args=(index,)) for _ in range(4)]
+            for thread in threads:
+                thread.start()
+            for thread in threads:
+                thread.join()
+            index.commit()
+            self.assertEqual(index.search("rust").count, 400)
+
+
+if __name__ == "__main__":
+    unittest.main()

@@ -1,0 +1,142 @@
+#!/usr/bin/env python3
+"""Compares four shards with one process over all documents.
+
+    python3 examples/sharded/test_sharded.py [PROGRAM]
+
+PROGRAM is `fts`, that of README.md where none is given. Counts, groups and refusals must be those of the one process to
+the byte; top lists must have its values, and its documents too where no two have one value. The last line is 'N passed,
+M failed'.
+"""
+import json
+import pathlib
+import random
+import re
+import subprocess
+import sys
+import tempfile
+
+HERE = pathlib.Path(__file__).resolve().parent
+ROOT = HERE.parents[1]
+sys.path.insert(0, str(ROOT / "bench"))
+
+import random_scripts  # noqa: E402
+
+PROGRAM = str(pathlib.Path(sys.argv[1]).resolve()) if len(sys.argv) > 1 else str(ROOT / "crates/fts/out/fts")
+SHARDED = [sys.executable, str(HERE / "sharded.py")]
+RUN = [f"{PROGRAM} run"] * 4
+
+
+def run(words, script, status=0):
+    done = subprocess.run(words, input=script, capture_output=True, timeout=300)
+    assert done.returncode == status, (words, done.returncode, done.stderr)
+    return done.stdout
+
+
+def replies(words, script):
+    return [json.loads(line) for line in run(words, script).splitlines()]
+
+
+def same_answers(script, key, with_documents=False):
+    """Compares the replies of four shards to a script with those of one process, and answers the joined ones."""
+    whole, shards = replies([PROGRAM, "run"], script), replies([*SHARDED, "--key", key, *RUN], script)
+    assert len(whole) == len(shards), (len(whole), len(shards))
+    for one, four in zip(whole, shards):
+        if "count" in one:
+            assert told(one, with_documents) == told(four, with_documents), (one, four)
+        elif "error" in one or "fields" in one or "merged" in one:
+            assert one == four, (one, four)
+        else:
+            # Stamps are each shard's own; that a line was taken is the same.
+            assert one.keys() <= four.keys(), (one, four)
+    return shards
+
+
+def told(answer, with_documents):
+    hits = [(hit["value"], hit["doc"] if with_documents else None) for hit in answer.get("top", [])]
+    return answer["count"], answer.get("groups"), hits
+
+
+def random_answers():
+    for seed in range(60):
+        same_answers(random_scripts.script(seed), ["tag", "price", "temp"][seed % 3])
+
+
+def worked_answers():
+    for path in (ROOT / "examples").glob("*.jsonl"):
+        if not path.name.endswith(".replies.jsonl"):
+            script = path.read_bytes()
+            fields = next(json.loads(line)["schema"] for line in script.splitlines() if line.startswith(b'{"schema"'))
+            same_answers(script, next(field["name"] for field in fields if field["kind"] != "text"))
+
+
+def books(count):
+    """A script of so many books, some replaced by their keys, with searches. No two have one number."""
+    chance = random.Random(count)
+    lines = [{"schema": [
+        {"name": "title", "kind": "text", "default": True}, {"name": "isbn", "kind": "keyword"},
+        {"name": "shelf", "kind": "keyword"}, {"name": "number", "kind": "i64"},
+    ]}]
+    for number in range(count):
+        isbn = f"{number % (count * 4 // 5):06}"
+        lines += [{"delete": {"isbn": isbn}}, {"add": {
+            "title": " ".join(chance.choice(random_scripts.WORDS) for _ in range(6)), "isbn": isbn,
+            "shelf": f"s{chance.randrange(20)}", "number": (-1) ** number * number * 2**48,
+        }}]
+    lines.append({"commit": True})
+    for query in ("rust", "+a +index", '"a b" OR straße', "*", "+shelf:[s1 TO s3] -b", "number:<0 c"):
+        for order in ("rising", "falling"):
+            top = {"by": "number", "k": 50, "order": order}
+            lines.append({"search": {"query": query, "groups": "shelf", "top": top}})
+    return "".join(json.dumps(line) + "\n" for line in lines).encode()
+
+
+def whole_documents():
+    answers = same_answers(books(2_000), "isbn", with_documents=True)[-12:]
+    shards = {hit["shard"] for answer in answers for hit in answer["top"]}
+    assert shards == {0, 1, 2, 3}, shards
+
+
+def batches():
+    """Splitting into files, running each and joining what they replied gives what the four live processes give."""
+    script = books(500)
+    with tempfile.TemporaryDirectory() as folder:
+        run([*SHARDED, "--key", "isbn", "--split", "4", f"{folder}/part"], script)
+        for shard in range(4):
+            part = pathlib.Path(f"{folder}/part.{shard}.jsonl").read_bytes()
+            pathlib.Path(f"{folder}/part.{shard}.replies").write_bytes(run([PROGRAM, "run"], part))
+        parts = [f"{folder}/part.{shard}.replies" for shard in range(4)]
+        joined = run([*SHARDED, "--key", "isbn", "--join", *parts], script)
+    assert joined == run([*SHARDED, "--key", "isbn", *RUN], script)
+
+
+def documented():
+    """The script of docs/SCALE.md gives the replies that stand there."""
+    page = (ROOT / "docs/SCALE.md").read_text()
+    blocks = re.findall(r"(?:^    .*\n)+", page[page.index("### The example"):], re.MULTILINE)
+    script, told = (re.sub("^    ", "", block, flags=re.MULTILINE).encode() for block in blocks[1:3])
+    assert run([*SHARDED, "--key", "isbn", *RUN], script) == told
+
+
+def refusals():
+    """A key that is a text; a shard that ends too early; replies that are missing."""
+    script = books(2)
+    assert run([*SHARDED, "--key", "title", *RUN], script, status=1) == b""
+    run([*SHARDED, "--key", "isbn", *RUN[:3], "false"], script, status=1)
+    run([*SHARDED, "--key", "isbn", "--join", "/dev/null"], script, status=1)
+
+
+def main():
+    passed = failed = 0
+    for test in (random_answers, worked_answers, whole_documents, batches, documented, refusals):
+        try:
+            test()
+            passed += 1
+        except AssertionError as error:
+            failed += 1
+            print(f"sharded: {test.__name__} FAILED: {error}")
+    print(f"{passed} passed, {failed} failed")
+    return 1 if failed else 0
+
+
+if __name__ == "__main__":
+    sys.exit(main())
