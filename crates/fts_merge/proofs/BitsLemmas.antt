@@ -1,7 +1,6 @@
 -- Bits of members that pass tests, and the members whose bit is set.
 use Rattle.std.proofs.Common.{◌≡◌, ◌+◌, ℕ, Bool, true, false, cond, not, ◌&&◌, ◌||◌, List, [], ◌∷◌, ◌++◌, map, filter, length, count_by, refl, sym, ap, ap₂, ◌∙◌, arith}
 use Rattle.std.specs.List.{list_any, enumerate_from}
-use Rattle.std.proofs.lemmas.List.Sums.{sum_by-cons}
 use Rattle.fts_model.specs.declared.schema.Field.{Field}
 use Rattle.fts_model.specs.declared.operation.Op.{Op}
 use Rattle.fts_model.specs.declared.operation.Stamped.{Stamped}
@@ -83,13 +82,6 @@ where_set-bits_where p (x ∷ xs) (bit ∷ bits) =
     ap (λ ys. cond (bit && p x) (x ∷ ys) ys) (where_set-bits_where p xs bits)
     ∙ kept_and_left bit (p x) x (filter p (where_set xs bits))
     ∙ chosen_later bit p x (where_set xs bits)
-
-pub length-where_set : {X : Type 0} (xs : List X) (bits : List Bool) → length bits ≡ length xs → length (where_set xs bits) ≡ count_by (λ bit. bit) bits
-length-where_set [] [] e = refl
-length-where_set [] (b ∷ bits) e = absurd (omega (arith, e))
-length-where_set (x ∷ xs) [] e = absurd (omega (arith, e))
-length-where_set (x ∷ xs) (true ∷ bits) e = omega (arith, length-where_set xs bits (omega (arith, e)), sum_by-cons (λ (bit : Bool). cond bit 1 0) true bits)
-length-where_set (x ∷ xs) (false ∷ bits) e = omega (arith, length-where_set xs bits (omega (arith, e)), sum_by-cons (λ (bit : Bool). cond bit 1 0) false bits)
 
 -- the numbers of the members that pass, the first apart
 pub numbers_where-cons : {X : Type 0} (p : X → Bool) (n : ℕ) (x : X) (xs : List X) → numbers_where p n (x ∷ xs) ≡ cond (p x) (n ∷ numbers_where p (n + 1) xs) (numbers_where p (n + 1) xs)

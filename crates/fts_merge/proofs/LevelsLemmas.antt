@@ -7,7 +7,7 @@ use Rattle.std.proofs.lemmas.List.{append_assoc, get_or-drop, length-drop, take_
 use Rattle.std.proofs.lemmas.List.Elements.{All-nil, All-cons}
 use Rattle.fts_merge.specs.declared.levels.Counted.{Counted}
 use Rattle.fts_merge.specs.Levels.{as_counted, joins, levels_behind, large_enough}
-use Rattle.fts_merge.proofs.MergeLemmas.{dropped}
+use Rattle.fts_segment.proofs.SourceLemmas.{dropped}
 
 -- sizes as they count, of which the first has the index n
 abbrev pub considered_from : ℕ → List ℕ → List Counted

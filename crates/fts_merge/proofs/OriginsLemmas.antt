@@ -7,7 +7,7 @@ use Rattle.std.proofs.lemmas.List.Sums.{sum_by-cons}
 use Rattle.fts_merge.specs.declared.origin.Origin.{Origin}
 use Rattle.fts_segment.specs.Contents.{content_of}
 use Rattle.fts_merge.specs.Merges.{SourceValue, HasBits, IsMerged, live_count, contents, origins_in, origins_from, merge_of}
-use Rattle.fts_merge.proofs.BitsLemmas.{length-where_set}
+use Rattle.fts_segment.proofs.SourceLemmas.{length-where_set}
 use Rattle.fts_merge.proofs.MergeLemmas.{count_of, origins_behind, origins-cons}
 
 -- each set bit has an origin

@@ -9,7 +9,7 @@ use Rattle.fts_model.specs.Documents.{DocumentValue}
 use Rattle.fts_merge.specs.declared.origin.Origin.{Origin}
 use Rattle.fts_segment.specs.Contents.{where_set, content_of}
 use Rattle.fts_merge.specs.Merges.{SourceValue, HasBits, contents, origins_in, origins_from}
-use Rattle.fts_merge.proofs.BitsLemmas.{length-where_set}
+use Rattle.fts_segment.proofs.SourceLemmas.{length-where_set}
 use Rattle.fts_merge.proofs.MergeLemmas.{origins_behind, origins-cons}
 use Rattle.fts_merge.proofs.OriginsLemmas.{length-origins_behind}
 

@@ -1,29 +1,8 @@
 -- What a merge of segments gives: a segment of their live documents, and where each of these comes from.
-use Rattle.std.specs.Prelude.{◌≡◌, ◌≢◌, ◌<◌, ℕ, ◌+◌, Bool, List, [], ◌∷◌, ◌++◌, All, AllPairs, length, map, sum_by}
-use Rattle.std.specs.Prelude.{count_by, flat_map}
-use Rattle.fts_model.specs.declared.schema.Field.{Field}
-use Rattle.fts_model.specs.declared.operation.Stamped.{Stamped}
-use Rattle.fts_model.specs.Documents.{DocumentValue}
+use Rattle.std.specs.Prelude.{◌≡◌, ◌≢◌, ◌<◌, ℕ, ◌+◌, Bool, List, [], ◌∷◌, ◌++◌, All, AllPairs, length, map}
 use Rattle.fts_segment.specs.Segments.{SegmentValue, numbers_where}
+pub use Rattle.fts_segment.specs.Sources.{SourceValue, HasBits, live_count, contents, schema_of, AreOfOneSchema}
 use Rattle.fts_merge.specs.declared.origin.Origin.{Origin}
-use Rattle.fts_segment.specs.Contents.{content_of}
-
--- a segment, and a bit for each of its documents: it is set where the document is live
-pub record SourceValue : Type 0 where
-  pub segment : SegmentValue
-  pub live : List Bool
-
--- there is one bit a document
-abbrev pub HasBits : SourceValue → Type 0
-HasBits source = length source.live ≡ length source.segment.documents
-
--- how many live documents sources have together
-abbrev pub live_count : List SourceValue → ℕ
-live_count sources = sum_by (λ source. count_by (λ bit. bit) source.live) sources
-
--- the live documents of sources, one source behind the other
-abbrev pub contents : List SourceValue → List (Stamped DocumentValue)
-contents sources = flat_map (λ source. content_of source.segment source.live) sources
 
 -- the numbers of the bits that are set, rising
 abbrev pub numbers_set : List Bool → List ℕ
@@ -47,15 +26,6 @@ pub record MergedValue : Type 0 where
 -- this segment with these origins, of so many sources
 abbrev pub made_of : SegmentValue → List Origin → ℕ → MergedValue
 made_of segment origins sources = record { segment = segment; origins = origins; sources = sources }
-
--- the schema of sources, which is that of the first
-abbrev pub schema_of : List SourceValue → List Field
-schema_of [] = []
-schema_of (source ∷ sources) = source.segment.schema
-
--- all sources have one schema
-abbrev pub AreOfOneSchema : List SourceValue → Type 0
-AreOfOneSchema sources = All (λ source. source.segment.schema ≡ schema_of sources) sources
 
 -- what a merge of sources gives
 abbrev pub merge_of : List SourceValue → MergedValue

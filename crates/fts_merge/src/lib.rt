@@ -23,11 +23,10 @@ mod levels;
 mod merged;
 mod merger;
 mod origin;
-mod source;
 
 pub use deletes::strike;
+pub use fts_segment::Source;
 pub use levels::plan;
 pub use merged::Merged;
 pub use merger::merge;
 pub use origin::Origin;
-pub use source::Source;

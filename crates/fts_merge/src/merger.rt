@@ -1,21 +1,17 @@
 // Makes one segment of the live documents of several.
-ghost use Rattle.std.specs.Prelude.{◌≡◌, ◌≢◌, ◌↔◌, ◌<◌, ◌≤◌, ◌+◌, ◌∷◌, ◌++◌, true, [], Some, Err, All, IfOk, IfErr};
-ghost use Rattle.std.specs.Prelude.{OnOk, length, slice_get, nat_lt};
+ghost use Rattle.std.specs.Prelude.{◌≡◌, ◌≢◌, ◌↔◌, ◌<◌, ◌∷◌, ◌++◌, [], Err, All, IfOk, IfErr, OnOk, length, nat_lt};
+ghost use Rattle.std.specs.Prelude.{if◌then◌else◌};
 ghost use Rattle.fts_base.specs.declared.refusal.Refusal.TheVariants.{Memory, TooLarge};
-ghost use Rattle.fts_model.specs.declared.operation.Stamped.{Stamped};
 ghost use Rattle.fts_model.specs.Limits.{most_merged};
-ghost use Rattle.fts_model.specs.Documents.{DocumentValue};
-ghost use Rattle.fts_segment.specs.Segments.{AllFit};
-ghost use Rattle.fts_segment.specs.Contents.{content_of};
-ghost use Rattle.fts_merge.specs.Merges.{HasBits, live_count, contents, origins_in, origins_from, AreOfOneSchema};
-ghost use Rattle.fts_merge.specs.Merges.{merge_of};
+ghost use Rattle.fts_merge.specs.Merges.{merge_of, origins_in, origins_from};
+ghost use Rattle.fts_segment.specs.Sources.{HasBits, live_count, AreOfOneSchema};
 
 use crate::merged::Merged;
 use crate::origin::Origin;
-use crate::source::Source;
+use fts_bits::Bits;
 use fts_model::{MOST_MERGED, Refusal};
-use fts_segment::{Builder, Segment};
-use std::alloc::Global;
+use fts_segment::{Source, join};
+use std::alloc::{AllocError, Global};
 
 /// Whether there are more live documents than a merged segment may have.
 fn is_too_large(sources: &[Source<'_>]) -> bool
@@ -32,91 +28,47 @@ fn is_too_large(sources: &[Source<'_>]) -> bool
     false
 }
 
-/// Takes a document of a source.
-fn take_document(
-    builder: &mut Builder,
-    origins: &mut Vec<Origin>,
-    origin: Origin,
-    segment: &Segment,
-) -> Result<(), Refusal>
-    requires merging { builder.old.merging ≡ true }
-    requires room { length builder.old.segment.documents < most_merged }
-    requires within { origin.document < length segment.now.documents }
-    requires fit { AllFit builder.old.segment.schema segment.now.documents }
-    ensures merging { builder.new.merging ≡ true }
-    ensures schema { builder.new.segment.schema ≡ builder.old.segment.schema }
-    ensures document { (d : Stamped DocumentValue) →
-        slice_get segment.now.documents origin.document ≡ Some d →
-        OnOk result (builder.new.segment.documents ≡ builder.old.segment.documents ++ d ∷ []) }
-    ensures origin { OnOk result (origins.new.items ≡ origins.old.items ++ origin ∷ []) }
-    ensures memory { IfErr result (λ e. e ≡ Memory) }
+/// Puts the origin of a document behind others, if the document is live.
+fn push_origin(origins: &mut Vec<Origin>, origin: Origin, live: bool) -> Result<(), AllocError>
+    ensures { OnOk result
+        (origins.new.items ≡ origins.old.items ++ (if live then origin ∷ [] else [])) }
 {
-    let document = segment.document(origin.document);
-    builder.add(segment.stamp(origin.document), document)?;
-    origins.push(origin)?;
-    Ok(())
-}
-
-/// Takes the live documents of the source of this number.
-fn take_live(
-    builder: &mut Builder,
-    origins: &mut Vec<Origin>,
-    number: usize,
-    source: &Source<'_>,
-) -> Result<(), Refusal>
-    requires merging { builder.old.merging ≡ true }
-    requires schema { source.now.segment.schema ≡ builder.old.segment.schema }
-    requires room { length builder.old.segment.documents
-        + length (content_of source.now.segment source.now.live) ≤ most_merged }
-    ensures merging { builder.new.merging ≡ true }
-    ensures schema { builder.new.segment.schema ≡ builder.old.segment.schema }
-    ensures documents { OnOk result (builder.new.segment.documents
-        ≡ builder.old.segment.documents ++ content_of source.now.segment source.now.live) }
-    ensures origins { OnOk result
-        (origins.new.items ≡ origins.old.items ++ origins_in number source.now.live) }
-    ensures bits { HasBits source.now }
-    ensures memory { IfErr result (λ e. e ≡ Memory) }
-{
-    let segment = source.segment();
-    let live = source.live();
-    for document in 0..segment.docs() {
-        if live.get(document) {
-            let origin = Origin {
-                source: number,
-                document,
-            };
-            take_document(builder, origins, origin, segment)?;
-        }
+    if live {
+        origins.push(origin)?;
     }
     Ok(())
 }
 
-/// Takes the live documents of all sources.
-fn take_all(
-    builder: &mut Builder,
-    origins: &mut Vec<Origin>,
-    sources: &[Source<'_>],
-) -> Result<(), Refusal>
-    requires merging { builder.old.merging ≡ true }
-    requires schemas { All (λ source. source.segment.schema ≡ builder.old.segment.schema) sources.now }
-    requires empty { builder.old.segment.documents ≡ [] }
-    requires untold { origins.old.items ≡ [] }
-    requires room { live_count sources.now ≤ most_merged }
-    ensures schema { builder.new.segment.schema ≡ builder.old.segment.schema }
-    ensures documents { OnOk result (builder.new.segment.documents ≡ contents sources.now) }
-    ensures origins { OnOk result (origins.new.items ≡ origins_from 0 sources.now) }
+/// Tells where the live documents of the source of this number come from.
+fn push_origins(origins: &mut Vec<Origin>, number: usize, live: &Bits) -> Result<(), AllocError>
+    ensures { OnOk result
+        (origins.new.items ≡ origins.old.items ++ origins_in number live.now) }
+{
+    for document in 0..live.len() {
+        let origin = Origin {
+            source: number,
+            document,
+        };
+        push_origin(origins, origin, live.get(document))?;
+    }
+    Ok(())
+}
+
+/// Where the live documents of sources come from.
+fn origins_of(alloc: Global, sources: &[Source<'_>]) -> Result<Vec<Origin>, AllocError>
+    ensures origins { IfOk result (λ origins. origins.items ≡ origins_from 0 sources.now) }
     ensures bits { OnOk result (All HasBits sources.now) }
-    ensures memory { IfErr result (λ e. e ≡ Memory) }
 {
+    let mut origins = Vec::new(alloc);
     for (number, source) in sources.iter().enumerate() {
-        take_live(builder, origins, number, source)?;
+        push_origins(&mut origins, number, source.live())?;
     }
-    Ok(())
+    Ok(origins)
 }
 
 /// One segment of the live documents of sources, of which there is at least one and all have one schema. The documents
-/// stand in the order of the sources, and those of a source in the order of their numbers. They are handles: no text is
-/// copied.
+/// stand in the order of the sources, and those of a source in the order of their numbers. They are handles, and the
+/// terms in them are joined of those of the sources: no text is copied, and none is read again.
 ///
 /// `TooLarge` where there are over 1,048,576 live documents; they are counted before any is taken.
 pub fn merge(alloc: Global, sources: &[Source<'_>]) -> Result<Merged, Refusal>
@@ -129,9 +81,7 @@ pub fn merge(alloc: Global, sources: &[Source<'_>]) -> Result<Merged, Refusal>
     if is_too_large(sources) {
         return Err(Refusal::TooLarge);
     }
-    let mut builder = Builder::merging(alloc, sources[0].segment().schema())?;
-    let mut origins = Vec::new(alloc);
-    take_all(&mut builder, &mut origins, sources)?;
-    let segment = builder.finish(alloc).map_err(|(_, refusal)| refusal)?;
+    let origins = origins_of(alloc, sources)?;
+    let segment = join(alloc, sources)?;
     Ok(Merged::new(segment, origins, sources.len()))
 }

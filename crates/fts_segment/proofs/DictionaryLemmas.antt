@@ -155,7 +155,7 @@ contains_at p (y ∷ ys) (suc k) x within here passes =
     let rest = contains_at p ys k x (omega arith) here passes in
     elim (p y) as (λ b. Contains (cond b (y ∷ filter p ys) (filter p ys)) x) [ true ↦ (suc rest.0, omega (arith, rest.1), rest.2) | false ↦ rest ]
 
-docs_with_places : (q : List ℕ) (os : List OccurrenceValue) → map (λ (p : Place). p.doc) (places_with q os) ≡ docs_of q os
+pub docs_with_places : (q : List ℕ) (os : List OccurrenceValue) → map (λ (p : Place). p.doc) (places_with q os) ≡ docs_of q os
 docs_with_places q os = map-map (λ (p : Place). p.doc) place_of (filter (is_term q) os)
 
 grouped_right : (names : List (List ℕ)) (log : List Occurrence) (groups : List (List Place)) (xs : List (ℕ × List ℕ)) → IsDistinct bytes_eq names → AreNamed names log →

@@ -19,3 +19,8 @@ pub mod PackedLemmas
 mod PositionListVectors
 pub mod TokenLemmas
 pub mod PositionsLemmas
+pub mod MovingLemmas
+pub mod PartLemmas
+pub mod JoiningLemmas
+pub mod SpreadLemmas
+pub mod SourceLemmas

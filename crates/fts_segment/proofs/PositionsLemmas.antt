@@ -29,14 +29,14 @@ use Rattle.fts_segment.proofs.TokenLemmas.{IsPositionList-tokens}
 use Rattle.fts_segment.proofs.FieldLemmas.{holds-tokens, field_at, field_holds}
 
 -- the places of a term in a document are the positions of its tokens
-token_places : (q : List ℕ) (doc : ℕ) (ts : List (ℕ × List ℕ)) → places_with q (map (occurrence_at doc) ts) ≡ map (place_at doc) (positions_among q ts)
+pub token_places : (q : List ℕ) (doc : ℕ) (ts : List (ℕ × List ℕ)) → places_with q (map (occurrence_at doc) ts) ≡ map (place_at doc) (positions_among q ts)
 token_places q doc [] = refl
 token_places q doc (t ∷ ts) =
     let Here : Bool → Type 0 = λ b. map place_of (cond b (occurrence_at doc t ∷ filter (is_term q) (map (occurrence_at doc) ts)) (filter (is_term q) (map (occurrence_at doc) ts)))
     ≡ map (place_at doc) (map (λ (t : ℕ × List ℕ). t.0) (cond b (t ∷ filter (is_token q) ts) (filter (is_token q) ts))) in
     elim (is_token q t) as Here [ true ↦ ap (λ (ps : List Place). place_at doc t.0 ∷ ps) (token_places q doc ts) | false ↦ token_places q doc ts ]
 
-places_with-append : (q : List ℕ) (os ps : List OccurrenceValue) → places_with q (os ++ ps) ≡ places_with q os ++ places_with q ps
+pub places_with-append : (q : List ℕ) (os ps : List OccurrenceValue) → places_with q (os ++ ps) ≡ places_with q os ++ places_with q ps
 places_with-append q os ps = ap (map place_of) (filter-append (is_term q) os ps) ∙ map-append place_of (filter (is_term q) os) (filter (is_term q) ps)
 
 later_places : (q : List ℕ) (kind : Kind) (doc : ℕ) (vs : List (Option FieldValue)) → All (λ p. doc < p.doc) (places_with q (occurrences kind (doc + 1) vs))

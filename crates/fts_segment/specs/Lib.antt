@@ -20,3 +20,5 @@ pub mod PositionLogs
 pub mod TermPositionLists
 pub mod ListIds
 pub mod PositionsLeft
+pub mod Sources
+pub mod Parts

@@ -17,9 +17,10 @@ pub(crate) struct Dictionary {
 }
 
 impl Dictionary {
-    ghost use Rattle.std.specs.Prelude.{◌≡◌, ◌≤◌, ◌^◌, [], ℕ, Some, IfOk, MatchOption, length, slice_get, slice_index_or};
+    ghost use Rattle.std.specs.Prelude.{◌≡◌, ◌≤◌, ◌^◌, [], ℕ, All, Some, IfOk, OnOk, MatchOption};
+    ghost use Rattle.std.specs.Prelude.{length, slice_get, slice_index_or};
     ghost use Rattle.fts_segment.specs.Dictionaries.{IsDictionaryOf};
-    ghost use Rattle.fts_segment.specs.Occurrences.{occurrences, values_in};
+    ghost use Rattle.fts_segment.specs.Occurrences.{occurrences, values_in, HasFewTokens};
     ghost use Rattle.fts_segment.specs.Sorted.{Ascends};
     ghost use Rattle.fts_segment.specs.ListIds.{documents_in, positions_in};
     ghost use Rattle.fts_segment.specs.TermPositionLists.{term_position_lists};
@@ -32,8 +33,9 @@ impl Dictionary {
         kind: Kind,
     ) -> Result<Dictionary, AllocError>
         requires { length documents.now ≤ 2 ^ 32 }
-        ensures { IfOk result (λ dictionary. IsDictionaryOf (occurrences kind 0 (values_in field documents.now))
+        ensures is { IfOk result (λ dictionary. IsDictionaryOf (occurrences kind 0 (values_in field documents.now))
             dictionary.names dictionary.lists.items (term_position_lists dictionary.positions)) }
+        ensures few { OnOk result (All (HasFewTokens kind) (values_in field documents.now)) }
     {
         let log = logged(alloc, documents, field, kind)?;
         log.dictionary(alloc)

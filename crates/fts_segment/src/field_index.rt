@@ -1,6 +1,6 @@
 // What is looked up in a field: the terms of its texts, its keywords or its numbers.
 ghost use Rattle.std.specs.Prelude.{◌≡◌, ◌≢◌, [], List, Option, None, ◌≤◌, ◌^◌, length, IfOk, IfNone, IfSome, MatchOption};
-ghost use Rattle.std.specs.Prelude.{true, false, slice_get};
+ghost use Rattle.std.specs.Prelude.{All, Some, true, false, slice_get};
 ghost use Rattle.fts_model.specs.declared.value.FieldValue.{FieldValue};
 ghost use Rattle.fts_segment.specs.Between.{AreBetween};
 ghost use Rattle.fts_segment.specs.FieldIndexes.{IsFieldIndex, AreTerms, HasKeywordAt};
@@ -11,13 +11,18 @@ ghost use Rattle.fts_segment.specs.Positions.{value_position_lists};
 ghost use Rattle.fts_segment.specs.Numbers.{numbers_of};
 ghost use Rattle.fts_model.specs.declared.schema.Kind.TheVariants as kinds;
 ghost use Rattle.fts_segment.specs.Keywords.{before, ordinals_of, texts_of, up_to};
+ghost use Rattle.fts_model.specs.Limits.{most_merged};
+ghost use Rattle.fts_model.specs.Operations.{kind_at};
 ghost use Rattle.fts_model.specs.Schemas.{holds_numbers, is_ordered};
+ghost use Rattle.fts_segment.specs.Sources.{contents, live_count};
 
 use crate::dictionary::Dictionary;
 use crate::find::equal_range;
+use crate::joined_terms::joined_terms;
 use crate::keyword_index::KeywordIndex;
 use crate::number_index::{NumberIndex, number_in};
 use crate::segment::ListId;
+use crate::source::Source;
 use fts_column::Column;
 use fts_model::{Document, FieldValue, Kind, Stamped};
 use std::alloc::{AllocError, Global};
@@ -54,6 +59,50 @@ impl FieldIndex {
                 let index = NumberIndex::new(alloc, documents, field, kind)?;
                 Ok(FieldIndex::Numbers(index))
             }
+        }
+    }
+
+    /// The index of a field of this kind in the live documents of sources.
+    pub(crate) fn joined(
+        alloc: Global,
+        sources: &[Source<'_>],
+        documents: &[Stamped<Document>],
+        field: usize,
+        kind: Kind,
+    ) -> Result<FieldIndex, AllocError>
+        requires documents { documents.now ≡ contents sources.now }
+        requires few { live_count sources.now ≤ most_merged }
+        requires fit { length documents.now ≤ 2 ^ 32 }
+        requires kinds { All (λ source. kind_at source.segment.schema field ≡ Some kind) sources.now }
+        ensures { IfOk result (λ index. IsFieldIndex kind (values_in field documents.now) index) }
+    {
+        match kind {
+            Kind::Text => {
+                let dictionary = joined_terms(alloc, sources, field, kind)?;
+                Ok(FieldIndex::Terms(dictionary))
+            }
+            Kind::Keyword => {
+                let dictionary = joined_terms(alloc, sources, field, kind)?;
+                let index = KeywordIndex::of(alloc, documents, field, dictionary)?;
+                Ok(FieldIndex::Keywords(index))
+            }
+            Kind::U64 | Kind::I64 => {
+                let index = NumberIndex::new(alloc, documents, field, kind)?;
+                Ok(FieldIndex::Numbers(index))
+            }
+        }
+    }
+
+    /// The terms of a text or keyword field.
+    pub(crate) fn dictionary(&self, kind: Kind) -> &Dictionary
+        requires terms { holds_numbers kind ≡ false }
+        requires is { (vs : List (Option FieldValue)) × IsFieldIndex kind vs self.now }
+        ensures { (vs : List (Option FieldValue)) → IsFieldIndex kind vs self.now → AreTerms kind vs result.now }
+    {
+        match self {
+            FieldIndex::Terms(dictionary) => dictionary,
+            FieldIndex::Keywords(index) => &index.dictionary,
+            FieldIndex::Numbers(_) => unreachable!(),
         }
     }
 

@@ -3,7 +3,7 @@ ghost use Rattle.std.specs.Prelude.{◌≡◌, ◌≤◌, ◌^◌, ℕ, [], Cont
 ghost use Rattle.std.specs.Prelude.{length, option_copied, option_map, slice_get};
 ghost use Rattle.fts_model.specs.declared.value.FieldValue.{FieldValue};
 ghost use Rattle.fts_model.specs.declared.schema.Kind.TheVariants as kinds;
-ghost use Rattle.fts_segment.specs.FieldIndexes.{AreKeywords, HasKeywordAt};
+ghost use Rattle.fts_segment.specs.FieldIndexes.{AreKeywords, AreTerms, HasKeywordAt};
 ghost use Rattle.fts_segment.specs.Keywords.{before, keyword_of, ordinals_of, texts_of, up_to};
 ghost use Rattle.fts_segment.specs.Occurrences.{values_in};
 ghost use Rattle.fts_segment.specs.Sorted.{Ascends};
@@ -37,6 +37,21 @@ impl KeywordIndex {
         ensures { IfOk result (AreKeywords kinds.Keyword (values_in field documents.now)) }
     {
         let dictionary = Dictionary::new(alloc, documents, field, Kind::Keyword)?;
+        let index = KeywordIndex::of(alloc, documents, field, dictionary)?;
+        Ok(index)
+    }
+
+    /// The same where their dictionary is known.
+    pub(crate) fn of(
+        alloc: Global,
+        documents: &[Stamped<Document>],
+        field: usize,
+        dictionary: Dictionary,
+    ) -> Result<KeywordIndex, AllocError>
+        requires few { length documents.now ≤ 2 ^ 32 }
+        requires terms { AreTerms kinds.Keyword (values_in field documents.now) dictionary }
+        ensures { IfOk result (AreKeywords kinds.Keyword (values_in field documents.now)) }
+    {
         let ordinals = ordinals_of(alloc, documents, field, &dictionary.names)?;
         let Ok(ordinals) = Column::build(alloc, &ordinals) else {
             return Err(AllocError);

@@ -4,7 +4,7 @@
 //! from 0, and finds the list of a term ([`Segment::find`]): the documents that have it ([`Segment::postings`]), and
 //! where it stands in each ([`Segment::positions`], a [`PositionReader`]). Of a number field it has a column
 //! ([`Segment::column`]). A copy of a segment shares it, so that commits, merges and searches hand segments on at the
-//! cost of one count.
+//! cost of one count. [`join`] makes one segment of the live documents of several, each a [`Source`].
 //!
 //! ```text
 //! let mut builder = Builder::new(alloc, &schema)?;
@@ -21,23 +21,32 @@ mod dictionary;
 mod field_index;
 mod find;
 mod guesses;
+mod joined;
+mod joined_terms;
+mod joining;
 mod keyword_index;
 pub mod laws;
+mod moving;
 mod names;
 mod number_index;
 mod numbering;
 mod occurrences;
+mod part;
 mod position_lists;
 mod position_reader;
 mod positions;
 mod postings_writer;
+mod renumbering;
 mod segment;
+mod source;
 mod term_groups;
 mod term_log;
 mod term_order;
 mod term_positions;
 
 pub use builder::Builder;
+pub use joined::join;
 pub use position_reader::PositionReader;
 pub use positions::Positions;
 pub use segment::{ListId, Segment};
+pub use source::Source;

@@ -42,6 +42,20 @@ impl PostingsWriter {
     ghost use Rattle.fts_segment.specs.PositionLogs.{IsPositionLog, logged_term_position_lists};
     ghost use Rattle.fts_segment.specs.TermPositionLists.{term_position_lists};
 
+    /// No term.
+    pub(crate) fn new(alloc: Global) -> PostingsWriter
+        ensures names { result.names ≡ [] }
+        ensures lists { result.lists.items ≡ [] }
+        ensures positions { logged_term_position_lists result.positions ≡ [] }
+        ensures is { IsPositionLog result.positions }
+    {
+        PostingsWriter {
+            names: Names::new(alloc),
+            lists: Vec::new(alloc),
+            positions: PositionLog::new(alloc),
+        }
+    }
+
     /// Puts a term behind the others, with the documents of its places. `room` is for the numbers of one of them.
     fn push(
         &mut self,
@@ -92,8 +106,8 @@ impl PostingsWriter {
     }
 }
 
-// Puts a term behind the others, if it has a place.
-fn put(
+/// Puts a term behind the others, if it has a place.
+pub(crate) fn put(
     writer: &mut PostingsWriter,
     alloc: Global,
     room: &mut Vec<u32>,

@@ -1,17 +1,21 @@
 // Documents that never change, with the terms that they have.
 ghost use Rattle.std.specs.Prelude.{◌≡◌, ◌≢◌, ◌^◌, ◌<◌, ◌≤◌, [], length, slice_get, option_copied, option_map, Some};
 ghost use Rattle.std.specs.Prelude.{All, IfNone, IfSome, true, false};
+ghost use Rattle.std.specs.Option.{option_map_or};
 ghost use Rattle.fts_model.specs.Documents.{IsDocument, fits};
 ghost use Rattle.fts_model.specs.Queries.{is_number_field, is_ordered_field};
 ghost use Rattle.fts_model.specs.Operations.{kind_at};
+ghost use Rattle.fts_model.specs.Schemas.{holds_numbers};
 ghost use Rattle.fts_model.specs.declared.schema.Kind.{Kind};
-ghost use Rattle.fts_segment.specs.FieldIndexes.{NumbersFit};
+ghost use Rattle.fts_segment.specs.FieldIndexes.{AreTerms, NumbersFit};
+ghost use Rattle.fts_segment.specs.Occurrences.{values_in};
 ghost use Rattle.fts_segment.specs.Segments.{postings, positions, column, keywords, ordinals};
 ghost use Rattle.fts_segment.specs.Between.{AreBetween};
 ghost use Rattle.fts_segment.specs.Keywords.{before, text_in_value, up_to};
 ghost use Rattle.fts_model.specs.declared.schema.Kind.TheVariants as kinds;
 ghost use Rattle.fts_segment.specs.ListIds.{documents_in, positions_in};
 
+use crate::dictionary::Dictionary;
 use crate::field_index::FieldIndex;
 use crate::position_reader::PositionReader;
 use crate::term_positions::TermPositionLists;
@@ -141,6 +145,16 @@ impl Segment {
     {
         let stored: &Stored = &self.stored;
         stored.indexes[field].lists_between(stored.schema.kind(field), low, high)
+    }
+
+    /// The terms of the documents in a text or keyword field.
+    pub(crate) fn dictionary(&self, field: usize) -> &Dictionary
+        requires { option_map_or holds_numbers (kind_at self.now.schema field) true ≡ false }
+        ensures { (kind : Kind) → kind_at self.now.schema field ≡ Some kind
+            → AreTerms kind (values_in field self.now.documents) result.now }
+    {
+        let stored: &Stored = &self.stored;
+        stored.indexes[field].dictionary(stored.schema.kind(field))
     }
 
     /// The keyword of this ordinal in a keyword field: the one before which so many different ones of the segment

@@ -46,7 +46,8 @@ impl TermPositions {
     /// The positions of the term of this number.
     pub(crate) fn get(&self, number: usize) -> TermPositionLists<'_>
         requires { number < length (term_position_lists self.now) }
-        ensures { position_lists_in result ≡ slice_index_or (term_position_lists self.now) number [] }
+        ensures lists { result.lists.now ≡ self.now.lists }
+        ensures positions { position_lists_in result ≡ slice_index_or (term_position_lists self.now) number [] }
     {
         TermPositionLists {
             lists: &self.lists,

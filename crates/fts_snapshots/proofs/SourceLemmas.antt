@@ -10,7 +10,7 @@ use Rattle.fts_base.specs.declared.refusal.Refusal.{Refusal}
 use Rattle.fts_base.specs.declared.refusal.Refusal.TheVariants.{TooLarge, StampsUsedUp}
 use Rattle.fts_base.specs.Results.{ok_unless, first_of}
 use Rattle.fts_merge.specs.Merges.{SourceValue, MergedValue, AreOfOneSchema, schema_of, contents}
-use Rattle.fts_merge.specs.Merges as sources
+use Rattle.fts_segment.specs.Sources as sources
 use Rattle.fts_snapshots.specs.Entries.{EntryValue, live_in, live_count}
 use Rattle.fts_snapshots.specs.Commits.{numbers_fault}
 use Rattle.fts_snapshots.specs.Merges.{entries_at, names_fault, size_fault}

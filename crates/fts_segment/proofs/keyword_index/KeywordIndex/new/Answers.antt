@@ -1,21 +1,5 @@
--- The dictionary has the texts, and the column their numbers.
-use Rattle.std.proofs.Common.{refl, ◌∙◌}
-use Rattle.fts_segment.specs.Occurrences.{values_in}
-use Rattle.fts_segment.specs.TermPositionLists.{term_position_lists}
-use Rattle.fts_segment.proofs.KeywordIndexLemmas.{names_are_texts}
+use Rattle.std.proofs.Common.{refl}
 use Rattle.fts_segment.proofs.keyword_index.KeywordIndex.new.Goals as goal
 
-pub ordinals_of-requires-clause-whole : goal.ordinals_of-requires-clause-whole
-ordinals_of-requires-clause-whole c =
-    let dictionary = c.in_ok-dictionary.dictionary in
-    names_are_texts (values_in c.args.field c.args.documents.now) dictionary.names dictionary.lists.items (term_position_lists dictionary.positions) c.in_ok-dictionary.ensures
-
-pub returns : goal.returns
-returns c =
-    let dictionary = c.in_ok-dictionary.dictionary in
-    record {
-      kind_is = refl;
-      terms = record { kind_is = refl; dictionary_is = c.in_ok-dictionary.ensures };
-      texts = names_are_texts (values_in c.args.field c.args.documents.now) dictionary.names dictionary.lists.items (term_position_lists dictionary.positions) c.in_ok-dictionary.ensures;
-      ordinals = c.in-Ok.ensures.ok ∙ c.deref.ensures.value ∙ c.in_ok-ordinals.ensures;
-    }
+pub of-requires-clause-terms : goal.of-requires-clause-terms
+of-requires-clause-terms c = record { kind_is = refl; few = c.in_ok-dictionary.ensures.few; dictionary_is = c.in_ok-dictionary.ensures.is }

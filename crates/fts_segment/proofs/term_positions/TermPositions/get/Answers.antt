@@ -12,8 +12,8 @@ pub index-requires : goal.index-requires
 index-requires c = let p = c.args.self.now in
     omega (arith, length-pieces 0 p.lists p.ends.items, c.requires, p.ends.ok.0)
 
-pub returns : goal.returns
-returns c =
+pub returns-clause-positions : goal.returns-clause-positions
+returns-clause-positions c =
     let p = c.args.self.now in
     let i = c.args.number in
     let within : i < length p.ends.items = omega (arith, length-pieces 0 p.lists p.ends.items, c.requires) in

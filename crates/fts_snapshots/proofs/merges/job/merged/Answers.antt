@@ -6,7 +6,7 @@ use Rattle.fts_base.specs.declared.refusal.Refusal.{Refusal}
 use Rattle.fts_base.specs.declared.refusal.Refusal.TheVariants.{Memory, TooLarge}
 use Rattle.fts_base.specs.Results.{ok_unless}
 use Rattle.fts_merge.specs.Merges.{MergedValue, merge_of}
-use Rattle.fts_merge.specs.Merges as sources
+use Rattle.fts_segment.specs.Sources as sources
 use Rattle.fts_snapshots.specs.Entries.{live_count}
 use Rattle.fts_snapshots.specs.Merges.{size_fault}
 use Rattle.fts_snapshots.specs.MergedSegments.{IsMergedSegment, segment_of, merged_of}

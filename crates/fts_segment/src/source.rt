@@ -1,9 +1,9 @@
 // A segment with its live bits, as a merge takes it.
 ghost use Rattle.std.specs.Prelude.{◌≡◌, length};
-ghost use Rattle.fts_merge.specs.Merges.{HasBits};
+ghost use Rattle.fts_segment.specs.Sources.{HasBits};
 
+use crate::segment::Segment;
 use fts_bits::Bits;
-use fts_segment::Segment;
 use std::marker::Model;
 
 /// A segment with a bit for each of its documents, which is set where the document is live.
@@ -15,7 +15,7 @@ pub struct Source<'a> {
 
 impl<'a> Model for Source<'a> {
     ghost use Rattle.std.specs.Prelude.{◌≡◌, length};
-    ghost use Rattle.fts_merge.specs.Merges.{SourceValue};
+    ghost use Rattle.fts_segment.specs.Sources.{SourceValue};
 
     ghost Value = { SourceValue };
 

@@ -1,0 +1,225 @@
+-- What was joined of parts, and what is left of them.
+use Rattle.std.proofs.Common.{◌≡◌, ◌≢◌, ◌+◌, ◌<◌, ◌≤◌, ◌⊎◌, inl, inr, ⊎_elim, ℕ, zero, suc, Bool, true, false, cond, List, [], ◌∷◌, ◌++◌, Option, Some, None, map, length, flat_map, All, Contains, refl, sym, ap, ap₂, subst, ◌∙◌, arith, Ordering, Less, Equal, Greater}
+use Rattle.std.specs.Prelude.{slice_get}
+use Rattle.std.specs.List.{AllByRecursion}
+use Rattle.std.specs.List.Sorted.{IsStrictlyIncreasing}
+use Rattle.std.specs.Str.{bytes_eq}
+use Rattle.std.specs.Ordering.{nat_cmp, is_gt}
+use Rattle.std.specs.Cmp.Lexicographic.{slice_cmp}
+use Rattle.std.proofs.lemmas.Cmp.{nat_list_cmp_total, tied_itself}
+use Rattle.std.proofs.lemmas.Slice.Eq.{bytes_eq-Decides}
+use Rattle.std.proofs.lemmas.List.{append-nil, map_push}
+use Rattle.std.proofs.lemmas.List.Elements.{Contains-append_left, Contains-append_right}
+use Rattle.fts_segment.specs.declared.term_groups.Place.{Place}
+use Rattle.fts_segment.specs.Dictionaries.{docs_in, unless_none}
+use Rattle.fts_segment.specs.Positions.{position_lists_of}
+use Rattle.fts_segment.specs.PositionLists.{IsPositionList}
+use Rattle.fts_segment.specs.Parts.{PartValue, found, joined, moved, IsBelow, Ascend, IsSound, IsJoined, begins, passed, given, lesser, least_of}
+use Rattle.fts_segment.proofs.FindLemmas.{same_from_equal, turned}
+use Rattle.fts_segment.proofs.KeywordsLemmas.{here, either, none}
+use Rattle.fts_segment.proofs.PartLemmas.{IsFrom, AreFrom, IsMet, IsBelowAll, joined-given, joined-passed, joined-other, sound-all, below-all-after, below-all-passed, met-below}
+
+-- each name is before a term
+abbrev pub AreBefore : List ℕ → List (List ℕ) → Type 0
+AreBefore term names = AllByRecursion (λ name. slice_cmp nat_cmp name term ≡ Less) names
+
+below-push : (name term : List ℕ) (names : List (List ℕ)) → IsBelow name names → slice_cmp nat_cmp name term ≡ Less → IsBelow name (names ++ term ∷ [])
+below-push name term [] h less = (less, tt)
+below-push name term (n ∷ names) h less = (h.0, below-push name term names h.1 less)
+
+ascend-push : (term : List ℕ) (names : List (List ℕ)) → Ascend names → AreBefore term names → Ascend (names ++ term ∷ [])
+ascend-push term [] h before = (tt, tt)
+ascend-push term (n ∷ names) h before = (below-push n term names h.0 before.0, ascend-push term names h.1 before.1)
+
+all-push : {X : Type 0} (P : X → Type 0) (xs : List X) (x : X) → AllByRecursion P xs → P x → AllByRecursion P (xs ++ x ∷ [])
+all-push P [] x h p = (p, tt)
+all-push P (y ∷ xs) x h p = (h.0, all-push P xs x h.1 p)
+
+-- how far parts are joined: what the names have is all that the parts had, and of other terms all is left
+pub record IsJoining (all rest : List PartValue) (names lists : List (List ℕ)) (positions : List (List (List ℕ))) : Type 0 where
+  pub sound : AllByRecursion IsSound rest
+  pub ascend : Ascend names
+  pub below : AllByRecursion (λ name. IsBelowAll name rest) names
+  pub listed : lists ≡ map (λ q. docs_in (joined all q)) names
+  pub positioned : positions ≡ map (λ q. position_lists_of (joined all q)) names
+  pub some : AllByRecursion (λ q. joined all q ≢ []) names
+  pub left : (q : List ℕ) → Contains names q ⊎ (joined rest q ≡ joined all q)
+
+pub IsJoining-start : (ps : List PartValue) (names lists : List (List ℕ)) (positions : List (List (List ℕ))) → AllByRecursion IsSound ps → names ≡ [] → lists ≡ [] → positions ≡ [] → IsJoining ps ps names lists positions
+IsJoining-start ps names lists positions sound no_names no_lists no_positions =
+    let P : List (List ℕ) → List (List ℕ) → List (List (List ℕ)) → Type 0 = λ ns ls qs. IsJoining ps ps ns ls qs in
+    let none_yet : P [] [] [] = record { sound = sound; ascend = tt; below = tt; listed = refl; positioned = refl; some = tt; left = λ q. inr refl } in
+    subst (λ ns. P ns lists positions) (sym no_names) (subst (λ ls. P [] ls positions) (sym no_lists) (subst (P [] []) (sym no_positions) none_yet))
+
+are-before : (term : List ℕ) (rest : List PartValue) (names : List (List ℕ)) → IsMet term rest → AllByRecursion (λ name. IsBelowAll name rest) names → AreBefore term names
+are-before term rest [] met h = tt
+are-before term rest (n ∷ names) met h = (met-below n term rest met h.0, are-before term rest names met h.1)
+
+all-below-after : (term : List ℕ) (rest : List PartValue) (names : List (List ℕ)) → AllByRecursion (λ name. IsBelowAll name rest) names → AllByRecursion (λ name. IsBelowAll name (map (passed term) rest)) names
+all-below-after term rest [] h = tt
+all-below-after term rest (n ∷ names) h = (below-all-after n term rest h.0, all-below-after term rest names h.1)
+
+-- a term that is still to come is none of the names
+not-among : (term : List ℕ) (names : List (List ℕ)) → AreBefore term names → Contains names term → ⊥
+not-among term [] h c = none term c
+not-among term (n ∷ names) h c = ⊎_elim
+    (λ (same : n ≡ term). let clash : Less ≡ Equal = sym h.0 ∙ ap (λ x. slice_cmp nat_cmp x term) same ∙ tied_itself nat_list_cmp_total term in cc)
+    (λ behind. not-among term names h.1 behind) (either n term names c)
+
+-- what the parts have for the next term is all that they had
+pub all-given : (term : List ℕ) (places : List Place) (all rest : List PartValue) (names lists : List (List ℕ)) (positions : List (List (List ℕ))) → IsJoining all rest names lists positions →
+    AreFrom term rest → IsMet term rest → places ≡ flat_map (given term) rest → joined all term ≡ places
+all-given term places all rest names lists positions j from met is = ⊎_elim
+    (λ (among : Contains names term). absurd (not-among term names (are-before term rest names met j.below) among))
+    (λ (same : joined rest term ≡ joined all term). sym same ∙ joined-given term rest j.sound from ∙ sym is) (j.left term)
+
+-- so these places are such as can be written
+pub places-rise : (term : List ℕ) (places : List Place) (all rest : List PartValue) (names lists : List (List ℕ)) (positions : List (List (List ℕ))) → IsJoining all rest names lists positions →
+    AreFrom term rest → IsMet term rest → places ≡ flat_map (given term) rest → ((q : List ℕ) → IsStrictlyIncreasing (docs_in (joined all q))) → IsStrictlyIncreasing (docs_in places)
+places-rise term places all rest names lists positions j from met is rise =
+    let P : List Place → Type 0 = λ ps. IsStrictlyIncreasing (docs_in ps) in
+    subst P (all-given term places all rest names lists positions j from met is) (rise term)
+
+pub places-positions : (term : List ℕ) (places : List Place) (all rest : List PartValue) (names lists : List (List ℕ)) (positions : List (List (List ℕ))) → IsJoining all rest names lists positions →
+    AreFrom term rest → IsMet term rest → places ≡ flat_map (given term) rest → ((q : List ℕ) → All IsPositionList (position_lists_of (joined all q))) → All IsPositionList (position_lists_of places)
+places-positions term places all rest names lists positions j from met is fit =
+    let P : List Place → Type 0 = λ ps. All IsPositionList (position_lists_of ps) in
+    subst P (all-given term places all rest names lists positions j from met is) (fit term)
+
+-- a term is passed that no part has a place for
+pass-none : (term : List ℕ) (all rest : List PartValue) (names lists : List (List ℕ)) (positions : List (List (List ℕ))) → IsJoining all rest names lists positions →
+    AreFrom term rest → joined all term ≡ [] → IsJoining all (map (passed term) rest) names lists positions
+pass-none term all rest names lists positions j from no_place = record {
+  sound = sound-all term rest j.sound;
+  ascend = j.ascend;
+  below = all-below-after term rest names j.below;
+  listed = j.listed;
+  positioned = j.positioned;
+  some = j.some;
+  left = λ q. elim (bytes_eq term q) as (λ b. bytes_eq term q ≡ b → Contains names q ⊎ (joined (map (passed term) rest) q ≡ joined all q)) [
+    | true ↦ λ same.
+        let one : term ≡ q = (bytes_eq-Decides term q).0 same in
+        let Q : List ℕ → Type 0 = λ t. joined (map (passed term) rest) t ≡ joined all t in
+        inr (subst Q one (joined-passed term rest j.sound from ∙ sym no_place))
+    | false ↦ λ differ. ⊎_elim (λ among. inl among) (λ same. inr (joined-other term q rest j.sound differ ∙ same)) (j.left q)
+  ] refl;
+}
+
+-- and one that they have places for
+pass-some : (term : List ℕ) (all rest : List PartValue) (names lists : List (List ℕ)) (positions : List (List (List ℕ))) → IsJoining all rest names lists positions →
+    AreFrom term rest → IsMet term rest → joined all term ≢ [] →
+    IsJoining all (map (passed term) rest) (names ++ term ∷ []) (lists ++ docs_in (joined all term) ∷ []) (positions ++ position_lists_of (joined all term) ∷ [])
+pass-some term all rest names lists positions j from met some_place = record {
+  sound = sound-all term rest j.sound;
+  ascend = ascend-push term names j.ascend (are-before term rest names met j.below);
+  below = all-push (λ name. IsBelowAll name (map (passed term) rest)) names term (all-below-after term rest names j.below) (below-all-passed term rest j.sound from);
+  listed = ap (λ ls. ls ++ docs_in (joined all term) ∷ []) j.listed ∙ sym (map_push (λ q. docs_in (joined all q)) names term);
+  positioned = ap (λ ps. ps ++ position_lists_of (joined all term) ∷ []) j.positioned ∙ sym (map_push (λ q. position_lists_of (joined all q)) names term);
+  some = all-push (λ q. joined all q ≢ []) names term j.some some_place;
+  left = λ q. elim (bytes_eq term q) as (λ b. bytes_eq term q ≡ b → Contains (names ++ term ∷ []) q ⊎ (joined (map (passed term) rest) q ≡ joined all q)) [
+    | true ↦ λ same.
+        let one : term ≡ q = (bytes_eq-Decides term q).0 same in
+        let Q : List ℕ → Type 0 = λ t. Contains (names ++ term ∷ []) t in
+        inl (subst Q one (Contains-append_right names (term ∷ []) term (here term [])))
+    | false ↦ λ differ. ⊎_elim (λ among. inl (Contains-append_left names (term ∷ []) q among)) (λ same. inr (joined-other term q rest j.sound differ ∙ same)) (j.left q)
+  ] refl;
+}
+
+-- a term is passed
+pub IsJoining-next : (term : List ℕ) (places : List Place) (all rest : List PartValue) (names lists : List (List ℕ)) (positions : List (List (List ℕ))) → IsJoining all rest names lists positions →
+    AreFrom term rest → IsMet term rest → joined all term ≡ places →
+    IsJoining all (map (passed term) rest) (names ++ unless_none places term) (lists ++ unless_none places (docs_in places)) (positions ++ unless_none places (position_lists_of places))
+IsJoining-next term [] all rest names lists positions j from met is =
+    let P : List (List ℕ) → List (List ℕ) → List (List (List ℕ)) → Type 0 = λ ns ls qs. IsJoining all (map (passed term) rest) ns ls qs in
+    subst (λ ns. P ns (lists ++ []) (positions ++ [])) (sym (append-nil names)) (subst (λ ls. P names ls (positions ++ [])) (sym (append-nil lists))
+    (subst (P names lists) (sym (append-nil positions)) (pass-none term all rest names lists positions j from is)))
+IsJoining-next term (p ∷ places) all rest names lists positions j from met is =
+    let P : List Place → Type 0 = λ ps. IsJoining all (map (passed term) rest) (names ++ term ∷ []) (lists ++ docs_in ps ∷ []) (positions ++ position_lists_of ps ∷ []) in
+    subst P is (pass-some term all rest names lists positions j from met (λ no. let clash : p ∷ places ≡ [] = sym is ∙ no in cc))
+
+-- a part with no name has nothing
+nothing : (p : PartValue) (term : List ℕ) → p.names ≡ [] → moved p.numbers (found p.names p.places term) ≡ []
+nothing p term e = ap (λ ns. moved p.numbers (found ns p.places term)) e
+
+none-first : (o : Option (List ℕ)) (names : List (List ℕ)) → lesser o (slice_get names 0) ≡ None → (o ≡ None) × (names ≡ [])
+none-first None [] h = (refl, refl)
+none-first None (n ∷ names) h = absurd (let no : Some n ≡ None = h in cc)
+none-first (Some a) [] h = absurd (let no : Some a ≡ None = h in cc)
+none-first (Some a) (n ∷ names) h =
+    elim (is_gt (slice_cmp nat_cmp a n)) as (λ b. cond b (Some n) (Some a) ≡ None → (Some a ≡ None) × (n ∷ names ≡ [])) [
+      | true ↦ λ no. absurd (let e : Some n ≡ None = no in cc)
+      | false ↦ λ no. absurd (let e : Some a ≡ None = no in cc)
+    ] h
+
+-- no part has a name left
+pub least-none : (o : Option (List ℕ)) (ps : List PartValue) → least_of o ps ≡ None → (o ≡ None) × ((term : List ℕ) → joined ps term ≡ [])
+least-none o [] h = (h, λ term. refl)
+least-none o (p ∷ ps) h =
+    let rest = least-none (lesser o (slice_get p.names 0)) ps h in
+    let first = none-first o p.names rest.0 in
+    (first.0, λ term. ap₂ (λ a b. a ++ b) (nothing p term first.1) (rest.1 term))
+
+-- a name that may be the first is not before the term
+abbrev pub NotBefore : List ℕ → Option (List ℕ) → Type 0
+NotBefore term None = Unit {0}
+NotBefore term (Some a) = slice_cmp nat_cmp a term ≢ Less
+
+first-from : (o : Option (List ℕ)) (names : List (List ℕ)) (term : List ℕ) → NotBefore term (lesser o (slice_get names 0)) → NotBefore term o × IsFrom term names
+first-from None [] term h = (tt, tt)
+first-from None (n ∷ names) term h = (tt, h)
+first-from (Some a) [] term h = (h, tt)
+first-from (Some a) (n ∷ names) term h =
+    elim (slice_cmp nat_cmp a n) as (λ c. slice_cmp nat_cmp a n ≡ c → NotBefore term (cond (is_gt c) (Some n) (Some a)) → (slice_cmp nat_cmp a term ≢ Less) × (slice_cmp nat_cmp n term ≢ Less)) [
+      | Less ↦ λ less from. (from, λ no. from (nat_list_cmp_total.trans a n term less no))
+      | Equal ↦ λ equal from. let one = same_from_equal a n equal in (from, let P : List ℕ → Type 0 = λ x. slice_cmp nat_cmp x term ≢ Less in subst P one from)
+      | Greater ↦ λ greater from. (λ no. from (nat_list_cmp_total.trans n a term (turned a n Greater greater) no), from)
+    ] refl h
+
+first-met : (o : Option (List ℕ)) (names : List (List ℕ)) (term : List ℕ) → lesser o (slice_get names 0) ≡ Some term → (o ≡ Some term) ⊎ (begins term names ≡ true)
+first-met None [] term h = absurd (let no : None ≡ Some term = h in cc)
+first-met None (n ∷ names) term h = let e : n ≡ term = let f : Some n ≡ Some term = h in cc in inr ((bytes_eq-Decides n term).1 e)
+first-met (Some a) [] term h = inl h
+first-met (Some a) (n ∷ names) term h =
+    elim (is_gt (slice_cmp nat_cmp a n)) as (λ b. cond b (Some n) (Some a) ≡ Some term → (Some a ≡ Some term) ⊎ (bytes_eq n term ≡ true)) [
+      | true ↦ λ f. let e : n ≡ term = let g : Some n ≡ Some term = f in cc in inr ((bytes_eq-Decides n term).1 e)
+      | false ↦ λ f. inl f
+    ] h
+
+-- the first of the next names: no part is before it
+pub least-from : (o : Option (List ℕ)) (ps : List PartValue) (term : List ℕ) → least_of o ps ≡ Some term → NotBefore term o × AreFrom term ps
+least-from o [] term h =
+    let P : Option (List ℕ) → Type 0 = λ x. NotBefore term x in
+    let itself : slice_cmp nat_cmp term term ≢ Less = λ no. let clash : Less ≡ Equal = sym no ∙ tied_itself nat_list_cmp_total term in cc in
+    (subst P (sym h) itself, tt)
+least-from o (p ∷ ps) term h =
+    let rest = least-from (lesser o (slice_get p.names 0)) ps term h in
+    let first = first-from o p.names term rest.0 in
+    (first.0, (first.1, rest.1))
+
+-- and a part begins with it
+pub least-met : (o : Option (List ℕ)) (ps : List PartValue) (term : List ℕ) → least_of o ps ≡ Some term → (o ≡ Some term) ⊎ IsMet term ps
+least-met o [] term h = inl h
+least-met o (p ∷ ps) term h =
+    elim (least-met (lesser o (slice_get p.names 0)) ps term h) as (λ w. (o ≡ Some term) ⊎ IsMet term (p ∷ ps)) [
+      | inl same ↦ elim (first-met o p.names term same) as (λ w. (o ≡ Some term) ⊎ IsMet term (p ∷ ps)) [
+        | inl e ↦ inl e
+        | inr b ↦ inr (p, 0, refl, b)
+      ]
+      | inr met ↦ inr (met.0, suc met.1, met.2, met.3)
+    ]
+
+pub met-of-least : (ps : List PartValue) (term : List ℕ) → least_of None ps ≡ Some term → IsMet term ps
+met-of-least ps term h = elim (least-met None ps term h) as (λ w. IsMet term ps) [
+  | inl other ↦ absurd (let e : None ≡ Some term = other in cc)
+  | inr met ↦ met
+]
+
+-- at the end all is joined
+pub IsJoined-end : (all rest : List PartValue) (names lists : List (List ℕ)) (positions : List (List (List ℕ))) → IsJoining all rest names lists positions → least_of None rest ≡ None → IsJoined all names lists positions
+IsJoined-end all rest names lists positions j h = record {
+  ascend = j.ascend;
+  listed = j.listed;
+  positioned = j.positioned;
+  some = j.some;
+  whole = λ q some_place. ⊎_elim (λ among. among) (λ (same : joined rest q ≡ joined all q). absurd (some_place (sym same ∙ (least-none None rest h).1 q))) (j.left q);
+}

@@ -1,0 +1,279 @@
+-- Parts as terms are passed.
+use Rattle.std.proofs.Common.{◌≡◌, ◌≢◌, ◌+◌, ◌<◌, ◌≤◌, inl, inr, ℕ, zero, suc, Bool, true, false, cond, List, [], ◌∷◌, ◌++◌, Option, Some, None, map, length, flat_map, sum_by, drop, get_or, refl, sym, ap, ap₂, subst, ◌∙◌, arith, Ordering, Less, Equal, Greater}
+use Rattle.std.specs.Prelude.{slice_get}
+use Rattle.std.specs.List.{AllByRecursion}
+use Rattle.std.specs.Str.{bytes_eq}
+use Rattle.std.specs.Ordering.{nat_cmp}
+use Rattle.std.specs.Cmp.Lexicographic.{slice_cmp}
+use Rattle.std.proofs.lemmas.Cmp.{nat_list_cmp_total, tied_itself}
+use Rattle.std.proofs.lemmas.Slice.Eq.{bytes_eq-Decides}
+use Rattle.std.proofs.lemmas.Bool.{cases_lt}
+use Rattle.std.proofs.lemmas.List.{drop_all, drop_more}
+use Rattle.std.proofs.lemmas.List.Sums.{sum_by-cons}
+use Rattle.fts_segment.specs.declared.dictionary.Dictionary.{Dictionary}
+use Rattle.fts_segment.specs.declared.position_lists.Bounds.{Bounds}
+use Rattle.fts_segment.specs.TermPositionLists.{term_position_lists}
+use Rattle.fts_segment.specs.declared.term_groups.Place.{Place}
+use Rattle.fts_segment.proofs.FindLemmas.{same_from_equal, turned}
+use Rattle.fts_segment.specs.Parts.{PartValue, IsPartOf, part_from, places_at, places_by, found, joined, moved, IsBelow, Ascend, IsSound, begins, passed, given}
+
+-- names of which one is before the other are not one
+less_differs : (a b : List ℕ) → slice_cmp nat_cmp a b ≡ Less → bytes_eq b a ≡ false
+less_differs a b less = elim (bytes_eq b a) as (λ t. bytes_eq b a ≡ t → t ≡ false) [
+  | true ↦ λ same.
+      let one : b ≡ a = (bytes_eq-Decides b a).0 same in
+      let clash : Less ≡ Equal = sym less ∙ ap (slice_cmp nat_cmp a) one ∙ tied_itself nat_list_cmp_total a in cc
+  | false ↦ λ differ. refl
+] refl
+
+pub less_differs_turned : (a b : List ℕ) → slice_cmp nat_cmp a b ≡ Less → bytes_eq a b ≡ false
+less_differs_turned a b less = elim (bytes_eq a b) as (λ t. bytes_eq a b ≡ t → t ≡ false) [
+  | true ↦ λ same.
+      let one : a ≡ b = (bytes_eq-Decides a b).0 same in
+      let clash : Less ≡ Equal = sym less ∙ ap (λ x. slice_cmp nat_cmp x b) one ∙ tied_itself nat_list_cmp_total b in cc
+  | false ↦ λ differ. refl
+] refl
+
+IsBelow-trans : (a b : List ℕ) (names : List (List ℕ)) → slice_cmp nat_cmp a b ≡ Less → IsBelow b names → IsBelow a names
+IsBelow-trans a b [] less h = tt
+IsBelow-trans a b (n ∷ names) less h = (nat_list_cmp_total.trans a b n less h.0, IsBelow-trans a b names less h.1)
+
+-- nothing is found of a term that is before all names
+pub found-below : (term : List ℕ) (names : List (List ℕ)) (places : List (List Place)) → IsBelow term names → found names places term ≡ []
+found-below term [] places h = refl
+found-below term (n ∷ names) [] h = refl
+found-below term (n ∷ names) (l ∷ places) h = ap (λ b. cond b l (found names places term)) (less_differs term n h.0) ∙ found-below term names places h.1
+
+-- a term is not behind the next name of a part
+abbrev pub IsFrom : List ℕ → List (List ℕ) → Type 0
+IsFrom term [] = Unit {0}
+IsFrom term (name ∷ names) = slice_cmp nat_cmp name term ≢ Less
+
+-- the next name is the term, or behind it
+next_name : (term name : List ℕ) → slice_cmp nat_cmp name term ≢ Less → bytes_eq name term ≡ false → slice_cmp nat_cmp term name ≡ Less
+next_name term name from differ =
+    elim (slice_cmp nat_cmp name term) as (λ o. slice_cmp nat_cmp name term ≡ o → slice_cmp nat_cmp term name ≡ Less) [
+      | Less ↦ λ h. absurd (from h)
+      | Equal ↦ λ h.
+          let one : name ≡ term = same_from_equal name term h in
+          let clash : true ≡ false = sym ((bytes_eq-Decides name term).1 one) ∙ differ in cc
+      | Greater ↦ λ h. turned name term Greater h
+    ] refl
+
+-- a part behind a term has only names behind it
+pub below-passed : (term : List ℕ) (names : List (List ℕ)) (places : List (List Place)) (numbers : List (Option ℕ)) → Ascend names → IsFrom term names →
+    IsBelow term (passed term (record { names = names; places = places; numbers = numbers })).names
+below-passed term [] places numbers up from = tt
+below-passed term (n ∷ names) places numbers up from =
+    let next : PartValue = record { names = names; places = drop 1 places; numbers = numbers } in
+    let same_part : PartValue = record { names = n ∷ names; places = places; numbers = numbers } in
+    let P : Bool → Type 0 = λ b. IsBelow term (cond {A = PartValue} b next same_part).names in
+    elim (bytes_eq n term) as (λ b. bytes_eq n term ≡ b → P b) [
+      | true ↦ λ same. let one : n ≡ term = (bytes_eq-Decides n term).0 same in let Q : List ℕ → Type 0 = λ x. IsBelow x names in subst Q one up.0
+      | false ↦ λ differ. let less = next_name term n from differ in (less, IsBelow-trans term n names less up.0)
+    ] refl
+
+-- a part gives what is found in it
+pub given-found : (term : List ℕ) (names : List (List ℕ)) (places : List (List Place)) (numbers : List (Option ℕ)) → Ascend names → length names ≡ length places → IsFrom term names →
+    moved numbers (found names places term) ≡ given term (record { names = names; places = places; numbers = numbers })
+given-found term [] places numbers up paired from = refl
+given-found term (n ∷ names) [] numbers up paired from = absurd (omega (arith, paired))
+given-found term (n ∷ names) (l ∷ places) numbers up paired from =
+    elim (bytes_eq n term) as (λ b. bytes_eq n term ≡ b → moved numbers (cond b l (found names places term)) ≡ cond b (moved numbers l) []) [
+      | true ↦ λ same. refl
+      | false ↦ λ differ. ap (moved numbers) (found-below term names places (IsBelow-trans term n names (next_name term n from differ) up.0))
+    ] refl
+
+-- and nothing of it is left
+pub found-passed : (term : List ℕ) (p : PartValue) → IsSound p → IsFrom term p.names → found (passed term p).names (passed term p).places term ≡ []
+found-passed term p sound from = found-below term (passed term p).names (passed term p).places (below-passed term p.names p.places p.numbers sound.ascend from)
+
+-- other terms are left as they were
+pub found-other : (term other : List ℕ) (names : List (List ℕ)) (places : List (List Place)) (numbers : List (Option ℕ)) → length names ≡ length places → bytes_eq term other ≡ false →
+    let p : PartValue = record { names = names; places = places; numbers = numbers } in
+    moved (passed term p).numbers (found (passed term p).names (passed term p).places other) ≡ moved numbers (found names places other)
+found-other term other [] places numbers paired differ = refl
+found-other term other (n ∷ names) [] numbers paired differ = absurd (omega (arith, paired))
+found-other term other (n ∷ names) (l ∷ places) numbers paired differ =
+    let all : PartValue = record { names = n ∷ names; places = l ∷ places; numbers = numbers } in
+    let rest : PartValue = record { names = names; places = places; numbers = numbers } in
+    elim (bytes_eq n term) as (λ b. bytes_eq n term ≡ b → moved (cond b rest all).numbers (found (cond b rest all).names (cond b rest all).places other) ≡ moved numbers (cond (bytes_eq n other) l (found names places other))) [
+      | true ↦ λ same.
+          let one : n ≡ term = (bytes_eq-Decides n term).0 same in
+          let apart : bytes_eq n other ≡ false = ap (λ x. bytes_eq x other) one ∙ differ in
+          ap (λ b. moved numbers (cond b l (found names places other))) (sym apart)
+      | false ↦ λ apart. refl
+    ] refl
+
+-- parts behind a term are sound
+pub sound-passed : (term : List ℕ) (names : List (List ℕ)) (places : List (List Place)) (numbers : List (Option ℕ)) → IsSound (record { names = names; places = places; numbers = numbers }) → IsSound (passed term (record { names = names; places = places; numbers = numbers }))
+sound-passed term [] places numbers s = s
+sound-passed term (n ∷ names) [] numbers s = absurd (omega (arith, s.paired))
+sound-passed term (n ∷ names) (l ∷ places) numbers s =
+    elim (bytes_eq n term) as (λ b. IsSound (cond b (record { names = names; places = places; numbers = numbers }) (record { names = n ∷ names; places = l ∷ places; numbers = numbers }))) [
+      | true ↦ record { ascend = s.ascend.1; paired = omega (arith, s.paired) }
+      | false ↦ s
+    ]
+
+-- what was below a part stays below it
+pub below-after : (name term : List ℕ) (names : List (List ℕ)) (places : List (List Place)) (numbers : List (Option ℕ)) → IsBelow name names → IsBelow name (passed term (record { names = names; places = places; numbers = numbers })).names
+below-after name term [] places numbers h = tt
+below-after name term (n ∷ names) places numbers h =
+    elim (bytes_eq n term) as (λ b. IsBelow name (cond {A = PartValue} b (record { names = names; places = drop 1 places; numbers = numbers }) (record { names = n ∷ names; places = places; numbers = numbers })).names) [
+      | true ↦ h.1
+      | false ↦ h
+    ]
+
+-- all parts are from a term on
+abbrev pub AreFrom : List ℕ → List PartValue → Type 0
+AreFrom term ps = AllByRecursion (λ p. IsFrom term p.names) ps
+
+pub joined-given : (term : List ℕ) (ps : List PartValue) → AllByRecursion IsSound ps → AreFrom term ps → joined ps term ≡ flat_map (given term) ps
+joined-given term [] sound from = refl
+joined-given term (p ∷ ps) sound from =
+    ap₂ (λ a b. a ++ b) (given-found term p.names p.places p.numbers sound.0.ascend sound.0.paired from.0) (joined-given term ps sound.1 from.1)
+
+pub joined-passed : (term : List ℕ) (ps : List PartValue) → AllByRecursion IsSound ps → AreFrom term ps → joined (map (passed term) ps) term ≡ []
+joined-passed term [] sound from = refl
+joined-passed term (p ∷ ps) sound from =
+    ap₂ (λ a b. moved (passed term p).numbers a ++ b) (found-passed term p sound.0 from.0) (joined-passed term ps sound.1 from.1)
+
+pub joined-other : (term other : List ℕ) (ps : List PartValue) → AllByRecursion IsSound ps → bytes_eq term other ≡ false → joined (map (passed term) ps) other ≡ joined ps other
+joined-other term other [] sound differ = refl
+joined-other term other (p ∷ ps) sound differ =
+    ap₂ (λ a b. a ++ b) (found-other term other p.names p.places p.numbers sound.0.paired differ) (joined-other term other ps sound.1 differ)
+
+pub sound-all : (term : List ℕ) (ps : List PartValue) → AllByRecursion IsSound ps → AllByRecursion IsSound (map (passed term) ps)
+sound-all term [] h = tt
+sound-all term (p ∷ ps) h = (sound-passed term p.names p.places p.numbers h.0, sound-all term ps h.1)
+
+-- a name is before all names of parts
+abbrev pub IsBelowAll : List ℕ → List PartValue → Type 0
+IsBelowAll name ps = AllByRecursion (λ p. IsBelow name p.names) ps
+
+pub below-all-after : (name term : List ℕ) (ps : List PartValue) → IsBelowAll name ps → IsBelowAll name (map (passed term) ps)
+below-all-after name term [] h = tt
+below-all-after name term (p ∷ ps) h = (below-after name term p.names p.places p.numbers h.0, below-all-after name term ps h.1)
+
+pub below-all-passed : (term : List ℕ) (ps : List PartValue) → AllByRecursion IsSound ps → AreFrom term ps → IsBelowAll term (map (passed term) ps)
+below-all-passed term [] sound from = tt
+below-all-passed term (p ∷ ps) sound from = (below-passed term p.names p.places p.numbers sound.0.ascend from.0, below-all-passed term ps sound.1 from.1)
+
+-- a term is the next one of a part
+pub begins-below : (name term : List ℕ) (names : List (List ℕ)) → begins term names ≡ true → IsBelow name names → slice_cmp nat_cmp name term ≡ Less
+begins-below name term [] h below = absurd (let no : false ≡ true = h in cc)
+begins-below name term (n ∷ names) h below = ap (slice_cmp nat_cmp name) (sym ((bytes_eq-Decides n term).0 h)) ∙ below.0
+
+abbrev pub IsMet : List ℕ → List PartValue → Type 0
+IsMet term ps = (p : PartValue) × (i : ℕ) × (slice_get ps i ≡ Some p) × (begins term p.names ≡ true)
+
+below_at : (name : List ℕ) (ps : List PartValue) (i : ℕ) (p : PartValue) → IsBelowAll name ps → slice_get ps i ≡ Some p → IsBelow name p.names
+below_at name [] i p h e = absurd (let no : None ≡ Some p = e in cc)
+below_at name (q ∷ ps) zero p h e = let same : q ≡ p = cc in let P : PartValue → Type 0 = λ r. IsBelow name r.names in subst P same h.0
+below_at name (q ∷ ps) (suc i) p h e = below_at name ps i p h.1 e
+
+pub met-below : (name term : List ℕ) (ps : List PartValue) → IsMet term ps → IsBelowAll name ps → slice_cmp nat_cmp name term ≡ Less
+met-below name term ps met h = begins-below name term met.0.names met.3 (below_at name ps met.1 met.0 h met.2)
+
+-- how many names are left
+abbrev pub left : List PartValue → ℕ
+left ps = sum_by (λ p. length p.names) ps
+
+fewer-part : (term : List ℕ) (p : PartValue) (names : List (List ℕ)) → p.names ≡ names → length (passed term p).names ≤ length names
+fewer-part term p [] e = let P : List (List ℕ) → Type 0 = λ ns. length (cond (begins term ns) (record { names = drop 1 p.names; places = drop 1 p.places; numbers = p.numbers }) p).names ≤ 0 in
+    subst P (sym e) (omega (arith, ap length e))
+fewer-part term p (n ∷ names) e =
+    elim (begins term p.names) as (λ b. length (cond b (record { names = drop 1 p.names; places = drop 1 p.places; numbers = p.numbers }) p).names ≤ suc (length names)) [
+      | true ↦ let P : List (List ℕ) → Type 0 = λ ns. length (drop 1 ns) ≤ suc (length names) in subst P (sym e) (let k : length names ≤ suc (length names) = omega arith in k)
+      | false ↦ omega (arith, ap length e)
+    ]
+
+fewer-begun : (term : List ℕ) (p : PartValue) (names : List (List ℕ)) → p.names ≡ names → begins term p.names ≡ true → length (passed term p).names < length p.names
+fewer-begun term p [] e h = absurd (let no : false ≡ true = ap (begins term) (sym e) ∙ h in cc)
+fewer-begun term p (n ∷ names) e h =
+    let P : Bool → Type 0 = λ b. length (cond b (record { names = drop 1 p.names; places = drop 1 p.places; numbers = p.numbers }) p).names < length p.names in
+    let Q : List (List ℕ) → Type 0 = λ ns. length (drop 1 ns) < length ns in
+    subst P (sym h) (subst Q (sym e) (let k : length names < suc (length names) = omega arith in k))
+
+fewer-all : (term : List ℕ) (ps : List PartValue) → left (map (passed term) ps) ≤ left ps
+fewer-all term [] = omega arith
+fewer-all term (p ∷ ps) = omega (arith, fewer-part term p p.names refl, fewer-all term ps, sum_by-cons (λ (p : PartValue). length p.names) p ps, sum_by-cons (λ (p : PartValue). length p.names) (passed term p) (map (passed term) ps))
+
+fewer-at : (term : List ℕ) (ps : List PartValue) (i : ℕ) (p : PartValue) → slice_get ps i ≡ Some p → begins term p.names ≡ true → left (map (passed term) ps) < left ps
+fewer-at term [] i p e h = absurd (let no : None ≡ Some p = e in cc)
+fewer-at term (q ∷ ps) zero p e h =
+    let same : q ≡ p = cc in
+    let begun : begins term q.names ≡ true = ap (λ (r : PartValue). begins term r.names) same ∙ h in
+    omega (arith, fewer-begun term q q.names refl begun, fewer-all term ps, sum_by-cons (λ (p : PartValue). length p.names) q ps, sum_by-cons (λ (p : PartValue). length p.names) (passed term q) (map (passed term) ps))
+fewer-at term (q ∷ ps) (suc i) p e h =
+    omega (arith, fewer-part term q q.names refl, fewer-at term ps i p e h, sum_by-cons (λ (p : PartValue). length p.names) q ps, sum_by-cons (λ (p : PartValue). length p.names) (passed term q) (map (passed term) ps))
+
+pub fewer : (term : List ℕ) (ps : List PartValue) → IsMet term ps → left (map (passed term) ps) < left ps
+fewer term ps met = fewer-at term ps met.1 met.0 met.2 met.3
+
+pub length-places_by : (lists : List (List ℕ)) (positions : List (List (List ℕ))) → length lists ≡ length positions → length (places_by lists positions) ≡ length lists
+length-places_by [] positions e = refl
+length-places_by (l ∷ lists) [] e = absurd (omega (arith, e))
+length-places_by (l ∷ lists) (p ∷ positions) e = ap suc (length-places_by lists positions (omega (arith, e)))
+
+places_by-at : (lists : List (List ℕ)) (positions : List (List (List ℕ))) (i : ℕ) → length lists ≡ length positions → i < length lists →
+    get_or (places_by lists positions) i [] ≡ places_at 0 (get_or positions i []) (get_or lists i [])
+places_by-at [] positions i e within = absurd (omega (arith, within))
+places_by-at (l ∷ lists) [] i e within = absurd (omega (arith, e))
+places_by-at (l ∷ lists) (p ∷ positions) zero e within = refl
+places_by-at (l ∷ lists) (p ∷ positions) (suc i) e within = places_by-at lists positions i (omega (arith, e)) (omega (arith, within))
+
+-- the next of the names that are left
+pub first-left : (names : List (List ℕ)) (at : ℕ) → at < length names → slice_get (drop at names) 0 ≡ Some (get_or names at [])
+first-left names at within = ap (λ ns. slice_get ns 0) (drop_more names at [] within)
+
+pub none-left : (names : List (List ℕ)) (at : ℕ) → length names ≤ at → slice_get (drop at names) 0 ≡ None
+none-left names at past = ap (λ ns. slice_get ns 0) (drop_all at names past)
+
+-- whether a term is the next name
+pub begins-first : (term next : List ℕ) (names : List (List ℕ)) → slice_get names 0 ≡ Some next → begins term names ≡ bytes_eq next term
+begins-first term next [] h = absurd (let no : None ≡ Some next = h in cc)
+begins-first term next (n ∷ names) h = let same : n ≡ next = cc in ap (λ x. bytes_eq x term) same
+
+pub begins-none : (term : List ℕ) (names : List (List ℕ)) → slice_get names 0 ≡ None → begins term names ≡ false
+begins-none term [] h = refl
+begins-none term (n ∷ names) h = absurd (let no : Some n ≡ None = h in cc)
+
+-- where it is, one is left
+pub begins-within : (term : List ℕ) (names : List (List ℕ)) (at : ℕ) → begins term (drop at names) ≡ true → at < length names
+begins-within term names at h = elim (cases_lt at (length names)) [
+  | inl within ↦ within
+  | inr past ↦ absurd (let no : false ≡ true = sym (ap (begins term) (drop_all at names past)) ∙ h in cc)
+]
+
+-- what the part gives for its next name, and what is left behind it
+pub given-here : (term : List ℕ) (at : ℕ) (d : Dictionary) (bounds : Bounds) (numbers : List (Option ℕ)) → IsPartOf d bounds → begins term (drop at d.names) ≡ true →
+    given term (part_from at d numbers) ≡ moved numbers (places_at 0 (get_or (term_position_lists d.positions) at []) (get_or d.lists.items at []))
+given-here term at d bounds numbers is h =
+    let within = begins-within term d.names at h in
+    let lists = d.lists.items in
+    let positions = term_position_lists d.positions in
+    let paired : length lists ≡ length positions = sym is.listed ∙ is.positioned in
+    let there : at < length lists = omega (arith, within, is.listed) in
+    ap (λ b. cond b (moved numbers (get_or (drop at (places_by lists positions)) 0 [])) []) h
+    ∙ ap (λ ps. moved numbers (get_or ps 0 [])) (drop_more (places_by lists positions) at [] (omega (arith, there, length-places_by lists positions paired)))
+    ∙ ap (moved numbers) (places_by-at lists positions at paired there)
+
+pub passed-here : (term : List ℕ) (at : ℕ) (d : Dictionary) (bounds : Bounds) (numbers : List (Option ℕ)) → IsPartOf d bounds → begins term (drop at d.names) ≡ true →
+    passed term (part_from at d numbers) ≡ part_from (at + 1) d numbers
+passed-here term at d bounds numbers is h =
+    let within = begins-within term d.names at h in
+    let lists = d.lists.items in
+    let positions = term_position_lists d.positions in
+    let paired : length lists ≡ length positions = sym is.listed ∙ is.positioned in
+    let many : at < length (places_by lists positions) = omega (arith, within, is.listed, length-places_by lists positions paired) in
+    let part : List (List ℕ) → List (List Place) → PartValue = λ ns ps. record { names = ns; places = ps; numbers = numbers } in
+    ap (λ b. cond b (part (drop 1 (drop at d.names)) (drop 1 (drop at (places_by lists positions)))) (part_from at d numbers)) h
+    ∙ ap₂ part (ap (drop 1) (drop_more d.names at [] within)) (ap (drop 1) (drop_more (places_by lists positions) at [] many))
+
+-- where a term isn't its next name, it gives nothing and stays
+pub given-other : (term : List ℕ) (p : PartValue) → begins term p.names ≡ false → given term p ≡ []
+given-other term p h = ap (λ b. cond b (moved p.numbers (get_or p.places 0 [])) []) h
+
+pub passed-other : (term : List ℕ) (p : PartValue) → begins term p.names ≡ false → passed term p ≡ p
+passed-other term p h = ap (λ b. cond b (record { names = drop 1 p.names; places = drop 1 p.places; numbers = p.numbers }) p) h

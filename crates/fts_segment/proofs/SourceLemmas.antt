@@ -1,0 +1,272 @@
+-- What the live documents of sources have, source by source.
+use Rattle.std.proofs.Common.{◌≡◌, ◌≢◌, ◌+◌, ◌<◌, ◌≤◌, ◌^◌, ℕ, zero, suc, Bool, true, false, cond, List, [], ◌∷◌, ◌++◌, Option, Some, None, map, length, take, drop, get_or, count_by, flat_map, refl, sym, ap, ap₂, subst, ◌∙◌, arith, All, append_assoc}
+use Rattle.std.specs.Prelude.{slice_get}
+use Rattle.std.specs.List.{AllByRecursion}
+use Rattle.std.specs.List.Sorted.{IsStrictlyIncreasing}
+use Rattle.std.proofs.lemmas.List.{append-nil, drop_all, drop_more, map-append, length-append, length-map}
+use Rattle.std.proofs.lemmas.List.Elements.{All-head, All-tail, All-cons, All-nil, All-append}
+use Rattle.std.proofs.lemmas.List.Sums.{sum_by-cons}
+use Rattle.fts_model.specs.declared.schema.Field.{Field}
+use Rattle.fts_model.specs.declared.schema.Kind.{Kind}
+use Rattle.fts_model.specs.declared.value.FieldValue.{FieldValue}
+use Rattle.fts_model.specs.declared.operation.Stamped.{Stamped}
+use Rattle.fts_model.specs.Documents.{DocumentValue, fits, value_in_field}
+use Rattle.fts_model.specs.Schemas.{holds_numbers}
+use Rattle.fts_segment.specs.declared.dictionary.Dictionary.{Dictionary}
+use Rattle.fts_segment.specs.declared.term_groups.Place.{Place}
+use Rattle.fts_segment.specs.Contents.{where_set, content_of}
+use Rattle.fts_segment.specs.Dictionaries.{docs_in}
+use Rattle.fts_segment.specs.FieldIndexes.{AreTerms}
+use Rattle.fts_segment.specs.Occurrences.{OccurrenceValue, occurrences, occurrences_at, values_in, tokens_of, docs_with, HasFewTokens}
+use Rattle.fts_segment.specs.Positions.{places_with, position_lists_of, position_lists_with}
+use Rattle.fts_segment.specs.PositionLists.{IsPositionList}
+use Rattle.fts_segment.specs.Segments.{SegmentValue, AllFit, AreDocuments, positions_among}
+use Rattle.fts_segment.specs.Sources.{SourceValue, HasBits, live_count, contents, schema_of}
+use Rattle.fts_segment.specs.TermPositionLists.{term_position_lists}
+use Rattle.fts_segment.specs.Parts.{PartValue, renumbered, moved, found, joined, part_from, places_by, IsSound, IsPart, AreParts, IsJoined}
+use Rattle.fts_segment.proofs.HoldingLemmas.{docs_with-rise}
+use Rattle.fts_segment.proofs.MovingLemmas.{dropped_at, moved-append, moved-live, moved-dead}
+use Rattle.fts_segment.proofs.PositionListsLemmas.{place_at}
+use Rattle.fts_segment.proofs.PositionsLemmas.{token_places, places_with-append, ArePositionLists-occurrences}
+use Rattle.fts_segment.proofs.SpreadLemmas.{found-dictionary, sound-dictionary, docs_in-places, dictionary-joined}
+
+-- there are as many live members as bits are set
+pub length-where_set : {X : Type 0} (xs : List X) (bits : List Bool) → length bits ≡ length xs → length (where_set xs bits) ≡ count_by (λ bit. bit) bits
+length-where_set [] [] e = refl
+length-where_set [] (b ∷ bits) e = absurd (omega (arith, e))
+length-where_set (x ∷ xs) [] e = absurd (omega (arith, e))
+length-where_set (x ∷ xs) (true ∷ bits) e = omega (arith, length-where_set xs bits (omega (arith, e)), sum_by-cons (λ (bit : Bool). cond bit 1 0) true bits)
+length-where_set (x ∷ xs) (false ∷ bits) e = omega (arith, length-where_set xs bits (omega (arith, e)), sum_by-cons (λ (bit : Bool). cond bit 1 0) false bits)
+
+-- what the live members have
+where_set-map : {X Y : Type 0} (f : X → Y) (xs : List X) (bits : List Bool) → map f (where_set xs bits) ≡ where_set (map f xs) bits
+where_set-map f [] bits = refl
+where_set-map f (x ∷ xs) [] = refl
+where_set-map f (x ∷ xs) (true ∷ bits) = ap (λ ys. f x ∷ ys) (where_set-map f xs bits)
+where_set-map f (x ∷ xs) (false ∷ bits) = where_set-map f xs bits
+
+-- what holds of all members holds of the live ones
+pub All-where_set : {X : Type 0} (P : X → Type 0) (xs : List X) (bits : List Bool) → All P xs → All P (where_set xs bits)
+All-where_set P [] bits h = h
+All-where_set P (x ∷ xs) [] h = All-nil P
+All-where_set P (x ∷ xs) (true ∷ bits) h = All-cons P x (where_set xs bits) (All-head P x xs h) (All-where_set P xs bits (All-tail P x xs h))
+All-where_set P (x ∷ xs) (false ∷ bits) h = All-where_set P xs bits (All-tail P x xs h)
+
+-- what holds of the documents of all sources holds of the live ones
+pub All-contents : (P : Stamped DocumentValue → Type 0) (ss : List SourceValue) → All (λ s. All P s.segment.documents) ss → All P (contents ss)
+All-contents P [] h = All-nil P
+All-contents P (s ∷ ss) h =
+    let Q : SourceValue → Type 0 = λ s. All P s.segment.documents in
+    All-append P (content_of s.segment s.live) (contents ss) (All-where_set P s.segment.documents s.live (All-head Q s ss h)) (All-contents P ss (All-tail Q s ss h))
+
+-- the values of a field in documents behind others
+values_in-append : (field : ℕ) (xs ys : List (Stamped DocumentValue)) → values_in field (xs ++ ys) ≡ values_in field xs ++ values_in field ys
+values_in-append field xs ys = map-append (λ (d : Stamped DocumentValue). value_in_field d.value field) xs ys
+
+pub few-contents : (kind : Kind) (field : ℕ) (ss : List SourceValue) → All (λ s. All (HasFewTokens kind) (values_in field s.segment.documents)) ss → All (HasFewTokens kind) (values_in field (contents ss))
+few-contents kind field [] h = All-nil (HasFewTokens kind)
+few-contents kind field (s ∷ ss) h =
+    let Q : SourceValue → Type 0 = λ s. All (HasFewTokens kind) (values_in field s.segment.documents) in
+    let P : List (Option FieldValue) → Type 0 = All (HasFewTokens kind) in
+    let value : Stamped DocumentValue → Option FieldValue = λ d. value_in_field d.value field in
+    let here : P (values_in field (content_of s.segment s.live)) =
+    subst P (sym (where_set-map value s.segment.documents s.live)) (All-where_set (HasFewTokens kind) (values_in field s.segment.documents) s.live (All-head Q s ss h)) in
+    subst P (sym (values_in-append field (content_of s.segment s.live) (contents ss)))
+    (All-append (HasFewTokens kind) (values_in field (content_of s.segment s.live)) (values_in field (contents ss)) here (few-contents kind field ss (All-tail Q s ss h)))
+
+-- the occurrences of values behind others
+occurrences-append : (kind : Kind) (doc : ℕ) (xs ys : List (Option FieldValue)) → occurrences kind doc (xs ++ ys) ≡ occurrences kind doc xs ++ occurrences kind (doc + length xs) ys
+occurrences-append kind doc [] ys = ap (λ n. occurrences kind n ys) (let same : doc ≡ doc + 0 = omega arith in same)
+occurrences-append kind doc (x ∷ xs) ys =
+    let after : doc + 1 + length xs ≡ doc + suc (length xs) = omega arith in
+    ap (λ os. occurrences_at kind doc x ++ os) (occurrences-append kind (doc + 1) xs ys ∙ ap (λ n. occurrences kind (doc + 1) xs ++ occurrences kind n ys) after)
+    ∙ sym (append_assoc (occurrences_at kind doc x) (occurrences kind (doc + 1) xs) (occurrences kind (doc + suc (length xs)) ys))
+
+get_behind : {X : Type 0} (xs : List X) (y : X) (ys : List X) → slice_get (xs ++ y ∷ ys) (length xs) ≡ Some y
+get_behind [] y ys = refl
+get_behind (x ∷ xs) y ys = get_behind xs y ys
+
+-- the places in a value, and in those behind it
+places-cons : (q : List ℕ) (kind : Kind) (doc : ℕ) (v : Option FieldValue) (vs : List (Option FieldValue)) →
+    places_with q (occurrences kind doc (v ∷ vs)) ≡ map (place_at doc) (positions_among q (tokens_of kind v)) ++ places_with q (occurrences kind (doc + 1) vs)
+places-cons q kind doc v vs =
+    places_with-append q (occurrences_at kind doc v) (occurrences kind (doc + 1) vs) ∙ ap (λ ps. ps ++ places_with q (occurrences kind (doc + 1) vs)) (token_places q doc (tokens_of kind v))
+
+-- one value more
+moved-step : (q : List ℕ) (kind : Kind) (ns : List (Option ℕ)) (m : Option ℕ) (ms : List (Option ℕ)) (v : Option FieldValue) (vs : List (Option FieldValue)) (rest : List Place) →
+    moved ((ns ++ m ∷ []) ++ ms) (places_with q (occurrences kind (length (ns ++ m ∷ [])) vs)) ≡ rest →
+    moved (ns ++ m ∷ ms) (places_with q (occurrences kind (length ns) (v ∷ vs))) ≡ moved (ns ++ m ∷ ms) (map (place_at (length ns)) (positions_among q (tokens_of kind v))) ++ rest
+moved-step q kind ns m ms v vs rest h =
+    let all = ns ++ m ∷ ms in
+    let here = map (place_at (length ns)) (positions_among q (tokens_of kind v)) in
+    let count : length (ns ++ m ∷ []) ≡ length ns + 1 = omega (arith, length-append ns (m ∷ [])) in
+    let same : moved all (places_with q (occurrences kind (length ns + 1) vs)) ≡ rest =
+    ap₂ (λ a n. moved a (places_with q (occurrences kind n vs))) (sym (append_assoc ns (m ∷ []) ms)) (sym count) ∙ h in
+    ap (moved all) (places-cons q kind (length ns) v vs) ∙ moved-append all here (places_with q (occurrences kind (length ns + 1) vs)) ∙ ap (λ ps. moved all here ++ ps) same
+
+-- the places in live documents are those in all of them, by the new numbers
+places-live : (q : List ℕ) (kind : Kind) (ns : List (Option ℕ)) (next : ℕ) (vs : List (Option FieldValue)) (bits : List Bool) → length bits ≡ length vs →
+    moved (ns ++ renumbered next bits) (places_with q (occurrences kind (length ns) vs)) ≡ places_with q (occurrences kind next (where_set vs bits))
+places-live q kind ns next [] [] e = refl
+places-live q kind ns next [] (b ∷ bits) e = absurd (omega (arith, e))
+places-live q kind ns next (v ∷ vs) [] e = absurd (omega (arith, e))
+places-live q kind ns next (v ∷ vs) (true ∷ bits) e =
+    let rest = places_with q (occurrences kind (next + 1) (where_set vs bits)) in
+    let ms = renumbered (next + 1) bits in
+    moved-step q kind ns (Some next) ms v vs rest (places-live q kind (ns ++ Some next ∷ []) (next + 1) vs bits (omega (arith, e)))
+    ∙ ap (λ ps. ps ++ rest) (moved-live (ns ++ Some next ∷ ms) (length ns) next (positions_among q (tokens_of kind v)) (get_behind ns (Some next) ms))
+    ∙ sym (places-cons q kind next v (where_set vs bits))
+places-live q kind ns next (v ∷ vs) (false ∷ bits) e =
+    let rest = places_with q (occurrences kind next (where_set vs bits)) in
+    let ms = renumbered next bits in
+    moved-step q kind ns None ms v vs rest (places-live q kind (ns ++ None ∷ []) next vs bits (omega (arith, e)))
+    ∙ ap (λ ps. ps ++ rest) (moved-dead (ns ++ None ∷ ms) (length ns) (positions_among q (tokens_of kind v))
+    (λ number is. let clash : Some None ≡ Some (Some number) = sym (get_behind ns None ms) ∙ is in cc))
+
+-- the part of a source
+pub part-is : (kind : Kind) (field next : ℕ) (source : SourceValue) (dictionary : Dictionary) (numbers : List (Option ℕ)) → AreTerms kind (values_in field source.segment.documents) dictionary →
+    numbers ≡ renumbered next source.live → IsPart kind field next source (part_from 0 dictionary numbers)
+part-is kind field next source dictionary numbers terms are =
+    let os = occurrences kind 0 (values_in field source.segment.documents) in
+    let positions = term_position_lists dictionary.positions in record {
+      sound = sound-dictionary os dictionary.names dictionary.lists.items positions numbers terms.dictionary_is;
+      places_are = found-dictionary os dictionary.names dictionary.lists.items positions terms.dictionary_is;
+      numbers_are = are;
+    }
+
+-- how many live documents a source has
+abbrev pub live_in : SourceValue → ℕ
+live_in source = count_by (λ bit. bit) source.live
+
+pub live_count-cons : (s : SourceValue) (ss : List SourceValue) → live_count (s ∷ ss) ≡ live_in s + live_count ss
+live_count-cons s ss = sum_by-cons live_in s ss
+
+pub live_count-push : (ss : List SourceValue) (s : SourceValue) → live_count (ss ++ s ∷ []) ≡ live_count ss + live_in s
+live_count-push [] s = omega (arith, live_count-cons s [])
+live_count-push (t ∷ ss) s = omega (arith, live_count-cons t (ss ++ s ∷ []), live_count-push ss s, live_count-cons t ss)
+
+-- one part more
+pub AreParts-push : (kind : Kind) (field next : ℕ) (ss : List SourceValue) (ps : List PartValue) (s : SourceValue) (p : PartValue) → AreParts kind field next ss ps → IsPart kind field (next + live_count ss) s p →
+    AreParts kind field next (ss ++ s ∷ []) (ps ++ p ∷ [])
+AreParts-push kind field next [] [] s p are is =
+    let P : ℕ → Type 0 = λ n. IsPart kind field n s p in
+    (subst P (let same : next + 0 ≡ next = omega arith in same) is, tt)
+AreParts-push kind field next [] (q ∷ ps) s p are is = absurd are
+AreParts-push kind field next (t ∷ ss) [] s p are is = absurd are
+AreParts-push kind field next (t ∷ ss) (q ∷ ps) s p are is =
+    let P : ℕ → Type 0 = λ n. IsPart kind field n s p in
+    (are.0, AreParts-push kind field (next + live_in t) ss ps s p are.1 (subst P (let same : next + live_count (t ∷ ss) ≡ next + live_in t + live_count ss = omega (arith, live_count-cons t ss) in same) is))
+
+-- the places that parts have are those in the live documents of the sources
+parts-joined : (q : List ℕ) (kind : Kind) (field next : ℕ) (ss : List SourceValue) (ps : List PartValue) → All HasBits ss → AreParts kind field next ss ps →
+    joined ps q ≡ places_with q (occurrences kind next (values_in field (contents ss)))
+parts-joined q kind field next [] [] bits are = refl
+parts-joined q kind field next [] (p ∷ ps) bits are = absurd are
+parts-joined q kind field next (s ∷ ss) [] bits are = absurd are
+parts-joined q kind field next (s ∷ ss) (p ∷ ps) bits are =
+    let here : HasBits s = All-head HasBits s ss bits in
+    let value : Stamped DocumentValue → Option FieldValue = λ d. value_in_field d.value field in
+    let vs = values_in field s.segment.documents in
+    let live = where_set vs s.live in
+    let others = values_in field (contents ss) in
+    let long : length s.live ≡ length vs = here ∙ sym (length-map s.segment.documents value) in
+    let first : moved p.numbers (found p.names p.places q) ≡ places_with q (occurrences kind next live) =
+    ap₂ moved are.0.numbers_are (are.0.places_are q) ∙ places-live q kind [] next vs s.live long in
+    let all : values_in field (contents (s ∷ ss)) ≡ live ++ others = values_in-append field (content_of s.segment s.live) (contents ss) ∙ ap (λ ws. ws ++ others) (where_set-map value s.segment.documents s.live) in
+    ap₂ (λ a b. a ++ b) first (parts-joined q kind field (next + live_in s) ss ps (All-tail HasBits s ss bits) are.1)
+    ∙ ap (λ n. places_with q (occurrences kind next live) ++ places_with q (occurrences kind (next + n) others)) (sym (length-where_set vs s.live long))
+    ∙ sym (places_with-append q (occurrences kind next live) (occurrences kind (next + length live) others))
+    ∙ ap (places_with q) (sym (occurrences-append kind next live others))
+    ∙ ap (λ ws. places_with q (occurrences kind next ws)) (sym all)
+
+pub sound-parts : (kind : Kind) (field next : ℕ) (ss : List SourceValue) (ps : List PartValue) → AreParts kind field next ss ps → AllByRecursion IsSound ps
+sound-parts kind field next [] [] are = tt
+sound-parts kind field next [] (p ∷ ps) are = absurd are
+sound-parts kind field next (s ∷ ss) [] are = absurd are
+sound-parts kind field next (s ∷ ss) (p ∷ ps) are = (are.0.sound, sound-parts kind field (next + live_in s) ss ps are.1)
+
+pub parts-rise : (kind : Kind) (field : ℕ) (ss : List SourceValue) (ps : List PartValue) → All HasBits ss → AreParts kind field 0 ss ps → (q : List ℕ) → IsStrictlyIncreasing (docs_in (joined ps q))
+parts-rise kind field ss ps bits are q =
+    let P : List ℕ → Type 0 = λ ds. IsStrictlyIncreasing ds in
+    subst P (sym (ap docs_in (parts-joined q kind field 0 ss ps bits are) ∙ docs_in-places q (occurrences kind 0 (values_in field (contents ss))))) (docs_with-rise q kind 0 (values_in field (contents ss)))
+
+pub parts-positions : (kind : Kind) (field : ℕ) (ss : List SourceValue) (ps : List PartValue) → All HasBits ss → AreParts kind field 0 ss ps →
+    All (λ s. All (HasFewTokens kind) (values_in field s.segment.documents)) ss → (q : List ℕ) → All IsPositionList (position_lists_of (joined ps q))
+parts-positions kind field ss ps bits are few q =
+    let P : List Place → Type 0 = λ places. All IsPositionList (position_lists_of places) in
+    subst P (sym (parts-joined q kind field 0 ss ps bits are)) (ArePositionLists-occurrences q kind (values_in field (contents ss)) (few-contents kind field ss few))
+
+-- the dictionary that parts make is that of the live documents
+pub terms-joined : (kind : Kind) (field : ℕ) (ss : List SourceValue) (ps : List PartValue) (dictionary : Dictionary) → holds_numbers kind ≡ false → All HasBits ss → AreParts kind field 0 ss ps →
+    All (λ s. All (HasFewTokens kind) (values_in field s.segment.documents)) ss → IsJoined ps dictionary.names dictionary.lists.items (term_position_lists dictionary.positions) →
+    AreTerms kind (values_in field (contents ss)) dictionary
+terms-joined kind field ss ps dictionary kind_is bits are few j = record {
+  kind_is = kind_is;
+  few = few-contents kind field ss few;
+  dictionary_is = dictionary-joined (occurrences kind 0 (values_in field (contents ss))) ps dictionary.names dictionary.lists.items (term_position_lists dictionary.positions)
+      (λ q. parts-joined q kind field 0 ss ps bits are) j;
+}
+
+-- one document more is taken, if it is live
+pub taken-step : {X : Type 0} (xs : List X) (live : List Bool) (n : ℕ) (x : X) (bit : Bool) (taken new all : List X) → slice_get xs n ≡ Some x → slice_get live n ≡ Some bit →
+    new ≡ taken ++ cond bit (x ∷ []) [] → taken ++ where_set (drop n xs) (drop n live) ≡ all → new ++ where_set (drop (n + 1) xs) (drop (n + 1) live) ≡ all
+taken-step xs live n x bit taken new all at is put h =
+    let rest = where_set (drop (n + 1) xs) (drop (n + 1) live) in
+    ap (λ ys. ys ++ rest) put ∙ append_assoc taken (cond bit (x ∷ []) []) rest
+    ∙ ap (λ ys. taken ++ ys) (elim bit as (λ b. cond b (x ∷ []) [] ++ rest ≡ where_set (x ∷ drop (n + 1) xs) (b ∷ drop (n + 1) live)) [ true ↦ refl | false ↦ refl ])
+    ∙ ap (λ ys. taken ++ ys) (sym (ap₂ where_set (dropped_at xs n x at) (dropped_at live n bit is))) ∙ h
+
+-- at the end all live ones are taken
+pub taken-end : {X : Type 0} (xs : List X) (live : List Bool) (n : ℕ) (taken all : List X) → length xs ≤ n → taken ++ where_set (drop n xs) (drop n live) ≡ all → taken ≡ all
+taken-end xs live n taken all past h = sym (append-nil taken) ∙ ap (λ ys. taken ++ where_set ys (drop n live)) (sym (drop_all n xs past)) ∙ h
+
+-- there is a member at each place
+pub member_at : {X : Type 0} (xs : List X) (i : ℕ) → i < length xs → (x : X) × (slice_get xs i ≡ Some x)
+member_at [] i h = absurd (omega (arith, h))
+member_at (x ∷ xs) zero h = (x, refl)
+member_at (x ∷ xs) (suc i) h = member_at xs i (omega (arith, h))
+
+-- what is left of a list, the first apart
+pub dropped : {X : Type 0} (xs : List X) (i : ℕ) (x : X) → i < length xs → x ≡ get_or xs i x → drop i xs ≡ x ∷ drop (i + 1) xs
+dropped xs i x h e = drop_more xs i x h ∙ ap (λ y. y ∷ drop (i + 1) xs) (sym e)
+
+-- one source more is taken
+pub contents-taken : (documents before : List (Stamped DocumentValue)) (ss : List SourceValue) (i : ℕ) (s : SourceValue) (all : List (Stamped DocumentValue)) → i < length ss → s ≡ get_or ss i s →
+    documents ≡ before ++ content_of s.segment s.live → before ++ contents (drop i ss) ≡ all → documents ++ contents (drop (i + 1) ss) ≡ all
+contents-taken documents before ss i s all h e new old =
+    ap (λ ds. ds ++ contents (drop (i + 1) ss)) new ∙ append_assoc before (content_of s.segment s.live) (contents (drop (i + 1) ss))
+    ∙ ap (λ xs. before ++ contents xs) (sym (dropped ss i s h e)) ∙ old
+
+-- there are no more live documents than bits that are set
+length-content : {X : Type 0} (xs : List X) (bits : List Bool) → length (where_set xs bits) ≤ count_by (λ bit. bit) bits
+length-content [] bits = omega arith
+length-content (x ∷ xs) [] = omega arith
+length-content (x ∷ xs) (true ∷ bits) = omega (arith, length-content xs bits, sum_by-cons (λ (bit : Bool). cond bit 1 0) true bits)
+length-content (x ∷ xs) (false ∷ bits) = omega (arith, length-content xs bits, sum_by-cons (λ (bit : Bool). cond bit 1 0) false bits)
+
+pub length-contents : (ss : List SourceValue) → length (contents ss) ≤ live_count ss
+length-contents [] = omega arith
+length-contents (s ∷ ss) =
+    omega (arith, length-contents ss, length-content s.segment.documents s.live, length-append (content_of s.segment s.live) (contents ss), live_count-cons s ss)
+
+-- the live documents of sources of one schema fit it
+pub fit-contents : (schema : List Field) (ss : List SourceValue) → All (λ s. s.segment.schema ≡ schema) ss → All (λ s. AllFit s.segment.schema s.segment.documents) ss → AllFit schema (contents ss)
+fit-contents schema [] same h = All-nil (λ d. fits schema d.value ≡ true)
+fit-contents schema (s ∷ ss) same h =
+    let Q : SourceValue → Type 0 = λ s. AllFit s.segment.schema s.segment.documents in
+    let R : SourceValue → Type 0 = λ s. s.segment.schema ≡ schema in
+    let P : Stamped DocumentValue → Type 0 = λ d. fits schema d.value ≡ true in
+    let here : All P s.segment.documents = subst (λ fields. AllFit fields s.segment.documents) (All-head R s ss same) (All-head Q s ss h) in
+    All-append P (content_of s.segment s.live) (contents ss) (All-where_set P s.segment.documents s.live here) (fit-contents schema ss (All-tail R s ss same) (All-tail Q s ss h))
+
+-- the schema of sources is that of the first
+pub schema_of-first : (ss : List SourceValue) (s : SourceValue) → 0 < length ss → s ≡ get_or ss 0 s → s.segment.schema ≡ schema_of ss
+schema_of-first [] s some is = absurd (omega (arith, some))
+schema_of-first (t ∷ ss) s some is = ap (λ (u : SourceValue). u.segment.schema) is
+
+-- each term of a dictionary has its lists
+pub terms-listed : (kind : Kind) (vs : List (Option FieldValue)) (dictionary : Dictionary) → AreTerms kind vs dictionary → length dictionary.names ≡ length dictionary.lists.items
+terms-listed kind vs dictionary terms = sym (ap length terms.dictionary_is.listed ∙ length-map dictionary.names (λ q. docs_with q (occurrences kind 0 vs)))
+
+pub terms-positioned : (kind : Kind) (vs : List (Option FieldValue)) (dictionary : Dictionary) → AreTerms kind vs dictionary → length dictionary.names ≡ length (term_position_lists dictionary.positions)
+terms-positioned kind vs dictionary terms = sym (ap length terms.dictionary_is.positioned ∙ length-map dictionary.names (λ q. position_lists_with q (occurrences kind 0 vs)))

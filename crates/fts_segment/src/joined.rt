@@ -1,0 +1,127 @@
+// Makes one segment of the live documents of several, by joining what these have.
+ghost use Rattle.std.specs.Prelude.{◌≡◌, ◌<◌, ◌≤◌, ◌^◌, ◌++◌, ◌∷◌, [], Bool, All, Some, IfErr, IfOk};
+ghost use Rattle.std.specs.Prelude.{OnOk, length, slice_get, if◌then◌else◌};
+ghost use Rattle.fts_base.specs.declared.refusal.Refusal.TheVariants.{Memory};
+ghost use Rattle.fts_model.specs.Documents.{DocumentValue};
+ghost use Rattle.fts_model.specs.Limits.{most_merged};
+ghost use Rattle.fts_model.specs.declared.operation.Stamped.{Stamped};
+ghost use Rattle.fts_segment.specs.Contents.{content_of};
+ghost use Rattle.fts_segment.specs.FieldIndexes.{AreIndexes};
+ghost use Rattle.fts_segment.specs.Segments.{AllFit, AreDocuments};
+ghost use Rattle.fts_segment.specs.Sources.{AreOfOneSchema, contents, joined_segment, live_count, schema_of};
+
+use crate::field_index::FieldIndex;
+use crate::segment::{Segment, Stored};
+use crate::source::Source;
+use fts_bits::Bits;
+use fts_model::{Document, Refusal, Schema, Stamped};
+use std::alloc::{AllocError, Global};
+use std::sync::Arc;
+
+// Takes a document if it is live.
+fn take_document(
+    documents: &mut Vec<Stamped<Document>>,
+    segment: &Segment,
+    live: &Bits,
+    document: usize,
+) -> Result<(), AllocError>
+    requires within { document < length segment.now.documents }
+    requires bits { length live.now ≡ length segment.now.documents }
+    ensures { (d : Stamped DocumentValue) (bit : Bool) → slice_get segment.now.documents document ≡ Some d
+        → slice_get live.now document ≡ Some bit
+        → OnOk result (documents.new.items ≡ documents.old.items ++ (if bit then d ∷ [] else [])) }
+{
+    if live.get(document) {
+        let value = segment.document(document).clone()?;
+        documents.push(Stamped {
+            stamp: segment.stamp(document),
+            value,
+        })?;
+    }
+    Ok(())
+}
+
+// Takes the live documents of a source.
+fn take_live(documents: &mut Vec<Stamped<Document>>, source: &Source<'_>) -> Result<(), AllocError>
+    ensures documents { OnOk result (documents.new.items
+        ≡ documents.old.items ++ content_of source.now.segment source.now.live) }
+    ensures fit { AllFit source.now.segment.schema source.now.segment.documents }
+    ensures are { AreDocuments source.now.segment.documents }
+{
+    let segment = source.segment();
+    let live = source.live();
+    for document in 0..segment.docs() {
+        take_document(documents, segment, live, document)?;
+    }
+    Ok(())
+}
+
+// The live documents of sources.
+fn documents_of(alloc: Global, sources: &[Source<'_>]) -> Result<Vec<Stamped<Document>>, AllocError>
+    requires { AreOfOneSchema sources.now }
+    ensures documents { IfOk result (λ documents. documents.items ≡ contents sources.now) }
+    ensures fit { OnOk result (AllFit (schema_of sources.now) (contents sources.now)) }
+    ensures are { OnOk result (AreDocuments (contents sources.now)) }
+    ensures few { length (contents sources.now) ≤ live_count sources.now }
+{
+    let mut documents = Vec::new(alloc);
+    for source in sources {
+        take_live(&mut documents, source)?;
+    }
+    Ok(documents)
+}
+
+// The indexes of the fields of sources, in order.
+fn indexes_of(
+    alloc: Global,
+    schema: &Schema,
+    sources: &[Source<'_>],
+    documents: &[Stamped<Document>],
+) -> Result<Vec<FieldIndex>, AllocError>
+    requires schemas { All (λ source. source.segment.schema ≡ schema.now) sources.now }
+    requires few { live_count sources.now ≤ most_merged }
+    requires documents { documents.now ≡ contents sources.now }
+    requires fit { length documents.now ≤ 2 ^ 32 }
+    ensures { IfOk result (λ indexes. AreIndexes schema.now documents.now indexes.items) }
+{
+    let mut indexes = Vec::new(alloc);
+    for field in 0..schema.fields().len() {
+        let kind = schema.kind(field);
+        indexes.push(FieldIndex::joined(alloc, sources, documents, field, kind)?)?;
+    }
+    Ok(indexes)
+}
+
+fn joined(alloc: Global, sources: &[Source<'_>]) -> Result<Segment, AllocError>
+    requires some { 0 < length sources.now }
+    requires schemas { AreOfOneSchema sources.now }
+    requires few { live_count sources.now ≤ most_merged }
+    ensures { IfOk result (λ segment. segment ≡ joined_segment sources.now) }
+{
+    let schema = sources[0].segment().schema().clone()?;
+    let documents = documents_of(alloc, sources)?;
+    let indexes = indexes_of(alloc, &schema, sources, &documents)?;
+    let stored = Stored {
+        schema,
+        documents,
+        indexes,
+    };
+    match Arc::new(alloc, stored) {
+        Ok(stored) => Ok(Segment { stored }),
+        Err(_) => Err(AllocError),
+    }
+}
+
+/// One segment of the live documents of sources, of which there is at least one and all have one schema. The documents
+/// stand in the order of the sources, and those of a source in the order of their numbers. They are handles, and the
+/// terms in them are joined of those of the sources: no text is read again.
+pub fn join(alloc: Global, sources: &[Source<'_>]) -> Result<Segment, Refusal>
+    requires some { 0 < length sources.now }
+    requires schemas { AreOfOneSchema sources.now }
+    requires few { live_count sources.now ≤ most_merged }
+    ensures ok { IfOk result (λ segment. segment ≡ joined_segment sources.now) }
+    ensures memory { IfErr result (λ e. e ≡ Memory) }
+{
+    let segment = joined(alloc, sources)?;
+    Ok(segment)
+}
