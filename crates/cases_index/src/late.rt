@@ -43,7 +43,7 @@ fn keep(trial: &mut Trial, writer: &Writer, late: &mut Vec<MergedSegment>, merge
 {
     match late.push(merged) {
         Ok(()) => {}
-        Err(_) => trial.fail(Trouble::Memory),
+        Err(refused) => trial.fail(Trouble::from(refused)),
     }
 }
 

@@ -110,6 +110,6 @@ pub(crate) fn give_replies(
     match difference(rt, script) {
         Ok(None) => trial.give_number(script.replies()),
         Ok(Some(other)) => trial.give_text(other.as_str()),
-        Err(_) => trial.fail(Trouble::Memory),
+        Err(AllocError) => trial.fail(Trouble::Memory),
     }
 }
