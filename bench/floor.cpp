@@ -18,6 +18,7 @@
 #include <sstream>
 #include <string>
 #include <string_view>
+#include <type_traits>
 #include <unordered_map>
 #include <utility>
 #include <vector>
@@ -169,6 +170,11 @@ template <class Take> void phrase(const Search& search, Take& take) {
 }
 
 template <class Take> void range(const Search& search, Take& take) {
+    if constexpr (std::is_same_v<Take, Count>) {
+        // Without a branch a document, so that the compiler counts several at once.
+        for (i64 x : price) take.count += x >= search.low && x <= search.high;
+        return;
+    }
     for (u32 d = 0; d < price.size(); d++) if (price[d] >= search.low && price[d] <= search.high) take.doc(d);
 }
 }

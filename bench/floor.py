@@ -24,7 +24,7 @@ import threading
 import time
 
 ROOT = pathlib.Path(__file__).resolve().parent.parent
-PROGRAM = pathlib.Path(os.environ.get('FTS', ROOT / 'crates/fts/out/fts'))
+PROGRAM = ROOT / "crates/fts/out/fts"
 ROUNDS = 3
 GUARD = ["valgrind", "--tool=callgrind", "--instr-atstart=no"]
 QUIET = {"stdout": subprocess.DEVNULL, "stderr": subprocess.DEVNULL}

@@ -1,18 +1,16 @@
 -- The range of a column, the offsets from its least value, and the values that they give back.
-use Rattle.std.proofs.Common.{◌≡◌, ℕ, zero, suc, ◌+◌, ◌-◌, ◌*◌, ◌/◌, ◌%◌, ◌^◌, ◌<◌, ◌≤◌, inl, inr, List, [], ◌∷◌, ◌++◌, Bool, true, false, Option, Some, None, slice_get, is_some, IfSome, All, Contains, map, replicate, length, get_or, take, drop, set, min, max, cond, refl, sym, ap, ap₂, ◌∙◌, subst, arith, unwrap_or, lit<, mod-eq_of_lt}
+use Rattle.std.proofs.Common.{◌≡◌, ℕ, zero, suc, ◌+◌, ◌-◌, ◌%◌, ◌^◌, ◌<◌, ◌≤◌, inl, inr, List, [], ◌∷◌, ◌++◌, Bool, true, false, Option, Some, None, slice_get, is_some, IfSome, All, Contains, map, replicate, length, get_or, take, drop, set, min, max, cond, refl, sym, ap, ap₂, ◌∙◌, subst, arith, unwrap_or, lit<, mod-eq_of_lt}
 use Rattle.std.specs.Option.{option_map_or}
 use Rattle.std.proofs.lemmas.List.{length-map, get_or-map, set_at, append_assoc, take_more, map_push, length-take-le, get_or_past, get_or_append_left, get_or-append_right, get_or-take, length-append}
 use Rattle.std.proofs.lemmas.List.Elements.{All-push, Contains-append_left, Contains-push}
 use Rattle.std.proofs.lemmas.Option.{get_or_from_slice_get}
-use Rattle.std.proofs.lemmas.Nat.{mul-le, pow_pos}
+use Rattle.std.proofs.lemmas.Nat.{pow_pos}
 use Rattle.std.proofs.lemmas.Bool.{cases_lt}
-use Rattle.std.proofs.Math.Nat.{mul-le-mul_right}
-use Rattle.fts_bits.specs.Digits.{IsWidthOf, joined, digits, numbers_in, word_count, words_of}
+use Rattle.fts_bits.specs.Digits.{IsWidthOf, numbers_in, words_of}
 use Rattle.fts_column.specs.Column.{IsColumn, IsRangeOf, range_with, least_of, spread_of, offsets, values_at}
-use Rattle.fts_bits.proofs.DigitsLemmas.{Below, Below-words_of, length-digits, get_or-digits}
 use borrow.Rule.Slice.PartMut.{put_mid}
-use Rattle.fts_column.proofs.FieldLemmas.{AreReadFrom}
-use Rattle.fts_bits.proofs.PackingLemmas.{Below-from_all, numbers_in-words_of, length-numbers_in, length-words_of, word_count-holds}
+use Rattle.fts_column.specs.Lanes.{AreLanesOf}
+use Rattle.fts_bits.proofs.PackingLemmas.{Below-from_all, numbers_in-words_of, length-numbers_in}
 
 pub IsRangeOf-missing : (values : List (Option ℕ)) (range : Option (ℕ × ℕ)) → IsRangeOf values range → IsRangeOf (values ++ None ∷ []) range
 IsRangeOf-missing values None h = All-push (λ v. v ≡ None) values None h refl
@@ -173,13 +171,6 @@ presence_set values present doc inside h there =
     let front : length (map is_some (take doc values)) ≡ doc = length-map (take doc values) is_some ∙ length-take-le doc values (omega arith) in
     ap (λ xs. set xs doc true) (h ∙ ap (λ xs. map is_some (take doc values) ++ xs) (presence_before values doc inside)) ∙ set_at (map is_some (take doc values)) false (replicate (length values - (doc + 1)) false) true doc front ∙ ap (λ b. map is_some (take doc values) ++ b ∷ replicate (length values - (doc + 1)) false) (sym there) ∙ sym (presence_more values doc inside)
 
--- place i of a column, from its fields
-pub column_at : (values : List (Option ℕ)) (least : ℕ) (present : List Bool) (width i : ℕ) (words : List ℕ) → values_at least present (numbers_in 64 width (length present) words) ≡ values → i < length present → get_or values i None ≡ cond (get_or present i false) (Some (least + joined 64 words / 2 ^ (i * width) % 2 ^ width)) None
-unfolding numbers_in
-column_at values least present width i words view inside =
-    let numbers = digits width (length present) (joined 64 words) in
-    ap (λ vs. get_or vs i None) (sym view) ∙ get_or-values_at least present numbers i (length-digits width (length present) (joined 64 words)) inside ∙ ap (λ x. cond (get_or present i false) (Some (least + x)) None) (get_or-digits width (length present) (joined 64 words) i 0 inside)
-
 pub column_length : (values : List (Option ℕ)) (least : ℕ) (present : List Bool) (width : ℕ) (words : List ℕ) → values_at least present (numbers_in 64 width (length present) words) ≡ values → length values ≡ length present
 column_length values least present width words view =
     ap length (sym view) ∙ length-values_at least present (numbers_in 64 width (length present) words) (length-numbers_in 64 width (length present) words)
@@ -197,8 +188,8 @@ only_one : (x width k d : ℕ) → x < 2 ^ width → k < length (x ∷ []) → g
 only_one x width zero d small inside = small
 only_one x width (suc k) d small inside = absurd (omega arith)
 
-pub IsColumn-built : (values : List (Option ℕ)) (range : Option (ℕ × ℕ)) (width : ℕ) (words : List ℕ) → length values ≤ 2 ^ 32 → IsRangeOf values range → IfSome range (λ r. r.1 < 2 ^ 64) → spread_of range < 2 ^ width → ((other : ℕ) → spread_of range < 2 ^ other → width ≤ other) → words ≡ words_of 64 width (offsets (least_of range) values) → IsColumn values range width words
-IsColumn-built values range width words few range_is fits holds least words_are = record {
+pub IsColumn-built : (values : List (Option ℕ)) (range : Option (ℕ × ℕ)) (width : ℕ) (words lanes : List ℕ) → length values ≤ 2 ^ 32 → IsRangeOf values range → IfSome range (λ r. r.1 < 2 ^ 64) → spread_of range < 2 ^ width → ((other : ℕ) → spread_of range < 2 ^ other → width ≤ other) → words ≡ words_of 64 width (offsets (least_of range) values) → AreLanesOf (offsets (least_of range) values) lanes → IsColumn values range width words lanes
+IsColumn-built values range width words lanes few range_is fits holds least words_are lanes_are = record {
   few = few;
   range_is = range_is;
   range_fits = fits;
@@ -208,27 +199,60 @@ IsColumn-built values range width words few range_is fits holds least words_are 
     least = λ other each. least other (each 0 0 (lit< tt));
   };
   words_are = words_are;
+  lanes_are = lanes_are;
 }
-
--- a document within the column begins at a bit that fits
-pub bit_fits : (doc width count : ℕ) → doc < count → count ≤ 2 ^ 32 → width ≤ 64 → doc * width < 2 ^ 64
-bit_fits doc width count inside few narrow =
-    let few_bits : doc * width ≤ 2 ^ 32 * 64 = mul-le doc width (2 ^ 32) 64 (omega arith) narrow in
-    omega (arith, few_bits)
-
-pub value_there : (values : List (Option ℕ)) (range : Option (ℕ × ℕ)) (least : ℕ) (present : List Bool) (width i number : ℕ) (words : List ℕ) → values_at (least_of range) present (numbers_in 64 width (length present) words) ≡ values → i < length present → slice_get present i ≡ Some true → least_of range ≡ least → number ≡ joined 64 words / 2 ^ (i * width) % 2 ^ width → get_or values i None ≡ Some (least + number)
-value_there values range least present width i number words view inside there least_is number_is =
-    column_at values (least_of range) present width i words view inside ∙ ap (λ b. cond b (Some (least_of range + joined 64 words / 2 ^ (i * width) % 2 ^ width)) None) (get_or_from_slice_get present i true false there) ∙ ap₂ (λ a b. Some (a + b)) least_is (sym number_is)
-
-pub value_missing : (values : List (Option ℕ)) (range : Option (ℕ × ℕ)) (present : List Bool) (width i : ℕ) (words : List ℕ) → values_at (least_of range) present (numbers_in 64 width (length present) words) ≡ values → i < length present → slice_get present i ≡ Some false → get_or values i None ≡ None
-value_missing values range present width i words view inside missing =
-    column_at values (least_of range) present width i words view inside ∙ ap (λ b. cond b (Some (least_of range + joined 64 words / 2 ^ (i * width) % 2 ^ width)) None) (get_or_from_slice_get present i false false missing)
 
 -- a value that is there fits
 pub value_fits : (values : List (Option ℕ)) (range : Option (ℕ × ℕ)) (i least greatest x : ℕ) → IsRangeOf values range → IfSome range (λ r. r.1 < 2 ^ 64) → range ≡ Some (least, greatest) → i < length values → get_or values i None ≡ Some x → x < 2 ^ 64
 value_fits values None i least greatest x h fits e inside at = absurd (cc)
 value_fits values (Some range) i least greatest x h fits e inside at =
     omega (arith, within_range values range i x h inside at, fits)
+
+-- what a value that is there has in its lane
+lane_is : (v : Option ℕ) (least lane : ℕ) → IfSome v (λ x. least ≤ x) → lane ≡ option_map_or (λ x. x - least) v 0 → IfSome v (λ x. (least ≤ x) × (least + lane ≡ x))
+lane_is None least lane above e = tt
+lane_is (Some x) least lane above e = (above, omega (arith, above, e))
+
+pub lane_there : (values : List (Option ℕ)) (range : Option (ℕ × ℕ)) (width : ℕ) (words lanes : List ℕ) → IsColumn values range width words lanes → (i : ℕ) → IfSome (get_or values i None) (λ x. (least_of range ≤ x) × (least_of range + get_or lanes i 0 ≡ x))
+lane_there values range width words lanes h i = elim (cases_lt i (length values)) [
+  | inr past ↦ (rw (get_or_past values i None past) tt)
+  | inl inside ↦ (
+      let least = least_of range in
+      let numbers = offsets least values in
+      let near : i < length numbers = omega (arith, inside, length-offsets least values) in
+      let lane : get_or lanes i 0 ≡ option_map_or (λ x. x - least) (get_or values i None) 0 = sym (get_or-take (length numbers) lanes i 0 near) ∙ ap (λ xs. get_or xs i 0) h.lanes_are.first ∙ offset_at least i 0 values inside in
+      lane_is (get_or values i None) least (get_or lanes i 0) (above_least values range h.range_is i None inside) lane)
+]
+
+-- a lane for each document, and for those up to the end of a stretch
+pub lane_inside : (values : List (Option ℕ)) (range : Option (ℕ × ℕ)) (width : ℕ) (words lanes : List ℕ) → IsColumn values range width words lanes → (i : ℕ) → i < length values → i < length lanes
+lane_inside values range width words lanes h i inside = omega (arith, inside, h.lanes_are.enough, length-offsets (least_of range) values)
+
+pub stretch_inside : (values : List (Option ℕ)) (range : Option (ℕ × ℕ)) (width : ℕ) (words lanes : List ℕ) → IsColumn values range width words lanes → (from : ℕ) → from % 64 ≡ 0 → from < length values → from + 64 ≤ length lanes
+stretch_inside values range width words lanes h from aligned inside = omega (arith, aligned, h.lanes_are.whole, lane_inside values range width words lanes h from inside)
+
+-- the bit of presence tells whether there is a value
+pub presence-at : (values : List (Option ℕ)) (i : ℕ) → get_or (map is_some values) i false ≡ is_some (get_or values i None)
+presence-at [] i = refl
+presence-at (v ∷ values) zero = refl
+presence-at (v ∷ values) (suc i) = presence-at values i
+
+some_of : (v : Option ℕ) (least lane : ℕ) → IfSome v (λ x. (least ≤ x) × (least + lane ≡ x)) → is_some v ≡ true → v ≡ Some (least + lane)
+some_of None least lane h there = absurd (cc)
+some_of (Some x) least lane h there = ap Some (sym h.1)
+
+none_of : (v : Option ℕ) → is_some v ≡ false → v ≡ None
+none_of None missing = refl
+none_of (Some x) missing = absurd (cc)
+
+pub value_there : (values : List (Option ℕ)) (range : Option (ℕ × ℕ)) (width : ℕ) (words lanes : List ℕ) (present : List Bool) (least i : ℕ) → IsColumn values range width words lanes → map is_some values ≡ present → least_of range ≡ least → slice_get present i ≡ Some true → get_or values i None ≡ Some (least + get_or lanes i 0)
+value_there values range width words lanes present least i h present_is least_is there =
+    some_of (get_or values i None) least (get_or lanes i 0) (subst (λ n. IfSome (get_or values i None) (λ x. (n ≤ x) × (n + get_or lanes i 0 ≡ x))) least_is (lane_there values range width words lanes h i))
+    (sym (presence-at values i) ∙ ap (λ bits. get_or bits i false) present_is ∙ get_or_from_slice_get present i true false there)
+
+pub value_missing : (values : List (Option ℕ)) (present : List Bool) (i : ℕ) → map is_some values ≡ present → slice_get present i ≡ Some false → get_or values i None ≡ None
+value_missing values present i present_is missing =
+    none_of (get_or values i None) (sym (presence-at values i) ∙ ap (λ bits. get_or bits i false) present_is ∙ get_or_from_slice_get present i false false missing)
 
 -- a column has one range, and one width
 none_is_some : (v : Option ℕ) (x : ℕ) → v ≡ None → v ≡ Some x → ⊥
@@ -258,47 +282,19 @@ presence-values_at least (true ∷ present) (x ∷ numbers) h = ap (λ bits. tru
 presence-values_at least (false ∷ present) (x ∷ numbers) h = ap (λ bits. false ∷ bits) (presence-values_at least present numbers (omega (arith, h)))
 
 -- the layout of a column, from its values alone
-pub column_width : (values : List (Option ℕ)) (kept : Option (ℕ × ℕ)) (width : ℕ) (words : List ℕ) → IsColumn values kept width words → (range : Option (ℕ × ℕ)) → IsRangeOf values range → IsWidthOf (spread_of range ∷ []) width
-column_width values kept width words h range is = subst (λ r. IsWidthOf (spread_of r ∷ []) width) (range_unique values kept range h.range_is is) h.width_is
+pub column_width : (values : List (Option ℕ)) (kept : Option (ℕ × ℕ)) (width : ℕ) (words lanes : List ℕ) → IsColumn values kept width words lanes → (range : Option (ℕ × ℕ)) → IsRangeOf values range → IsWidthOf (spread_of range ∷ []) width
+column_width values kept width words lanes h range is = subst (λ r. IsWidthOf (spread_of r ∷ []) width) (range_unique values kept range h.range_is is) h.width_is
 
-pub column_words : (values : List (Option ℕ)) (kept : Option (ℕ × ℕ)) (width : ℕ) (words : List ℕ) → IsColumn values kept width words → (range : Option (ℕ × ℕ)) (other : ℕ) → IsRangeOf values range → IsWidthOf (spread_of range ∷ []) other → words ≡ words_of 64 other (offsets (least_of range) values)
-column_words values kept width words h range other is wide =
+pub column_words : (values : List (Option ℕ)) (kept : Option (ℕ × ℕ)) (width : ℕ) (words lanes : List ℕ) → IsColumn values kept width words lanes → (range : Option (ℕ × ℕ)) (other : ℕ) → IsRangeOf values range → IsWidthOf (spread_of range ∷ []) other → words ≡ words_of 64 other (offsets (least_of range) values)
+column_words values kept width words lanes h range other is wide =
     let same = range_unique values kept range h.range_is is in
-    let one = width_unique (spread_of range ∷ []) width other (column_width values kept width words h range is) wide in
+    let one = width_unique (spread_of range ∷ []) width other (column_width values kept width words lanes h range is) wide in
     h.words_are ∙ ap₂ (λ w r. words_of 64 w (offsets (least_of r) values)) one same
 
--- 64 documents of a column have their words
-pub words_inside : (values : List (Option ℕ)) (range : Option (ℕ × ℕ)) (width from : ℕ) (words : List ℕ) → IsColumn values range width words → from % 64 ≡ 0 → 64 ≤ length values - from → from / 64 * width + width ≤ length words
-words_inside values range width from words h aligned many =
-    let size : length words ≡ word_count 64 (length values * width) = ap length h.words_are ∙ length-words_of 64 width (offsets (least_of range) values) ∙ ap (λ n. word_count 64 (n * width)) (length-offsets (least_of range) values) in
-    let bits : (from / 64 + 1) * 64 * width ≤ length values * width = mul-le-mul_right width (omega arith) in
-    let enough = word_count-holds 64 (length values * width) (omega arith) in
-    let split : (from / 64 + 1) * 64 * width ≡ (from / 64 * width + width) * 64 = omega arith in
-    omega (arith, size, enough)
-
--- what an option that is there holds
-cond_some : (b : Bool) (x y : ℕ) → cond b (Some y) None ≡ Some x → y ≡ x
-cond_some true x y e = cc
-cond_some false x y e = cc
-
-there_fits : (values : List (Option ℕ)) (range : Option (ℕ × ℕ)) (i x : ℕ) → IsRangeOf values range → IfSome range (λ r. r.1 < 2 ^ 64) → i < length values → get_or values i None ≡ Some x → x < 2 ^ 64
+pub there_fits : (values : List (Option ℕ)) (range : Option (ℕ × ℕ)) (i x : ℕ) → IsRangeOf values range → IfSome range (λ r. r.1 < 2 ^ 64) → i < length values → get_or values i None ≡ Some x → x < 2 ^ 64
 there_fits values None i x h fits inside at = absurd (none_is_some (get_or values i None) x (h i None inside) at)
 there_fits values (Some range) i x h fits inside at =
     omega (arith, within_range values range i x h inside at, fits)
-
--- numbers that were read, each above the least, are the values that are there
-pub read_values : (values : List (Option ℕ)) (range : Option (ℕ × ℕ)) (present : List Bool) (width least from count : ℕ) (words out : List ℕ) → values_at (least_of range) present (numbers_in 64 width (length present) words) ≡ values → IsColumn values range width words → least ≡ least_of range → AreReadFrom words width least from count out → ((i : ℕ) → i < 64 → from + i < length values → i < count) → (i x : ℕ) → i < 64 → get_or values (from + i) None ≡ Some x → get_or out i 0 ≡ x
-read_values values range present width least from count words out view h least_is read enough i x small e =
-    elim (cases_lt (from + i) (length values)) [
-      | inl inside ↦ (
-          let number = joined 64 words / 2 ^ ((from + i) * width) % 2 ^ width in
-          let here : from + i < length present = omega (arith, column_length values (least_of range) present width words view) in
-          let at = column_at values (least_of range) present width (from + i) words view here in
-          let same : least_of range + number ≡ x = cond_some (get_or present (from + i) false) x (least_of range + number) (sym at ∙ e) in
-          read i (enough i small inside) ∙ ap (λ n. (n + number) % 2 ^ 64) least_is ∙ ap (λ n. n % 2 ^ 64) same ∙ mod-eq_of_lt (there_fits values range (from + i) x h.range_is h.range_fits inside e)
-          )
-      | inr past ↦ absurd (none_is_some (get_or values (from + i) None) x (get_or_past values (from + i) None past) e)
-    ]
 
 presence-take : (count : ℕ) (values : List (Option ℕ)) → map is_some (take count values) ≡ take count (map is_some values)
 presence-take zero values = refl
@@ -312,9 +308,6 @@ presence-part (suc start) zero [] = refl
 presence-part (suc start) (suc count) [] = refl
 presence-part (suc start) count (v ∷ values) = presence-part start count values
 
-pub column_below : (values : List (Option ℕ)) (range : Option (ℕ × ℕ)) (width : ℕ) (words : List ℕ) → IsColumn values range width words → Below 64 words
-column_below values range width words h = subst (Below 64) (sym h.words_are) (Below-words_of 64 width (offsets (least_of range) values))
-
 -- two halves that were written, one after the other
 pub half_low : (a b out : List ℕ) (i : ℕ) → length a ≡ 64 → i < 64 → get_or (put_mid 64 64 (a ++ out) b) i 0 ≡ get_or a i 0
 half_low a b out i long small =
@@ -325,3 +318,19 @@ pub half_high : (a b out : List ℕ) (i : ℕ) → length a ≡ 64 → length b 
 half_high a b out i long long' above small =
     let size : length (take 64 (a ++ out)) ≡ 64 = length-take-le 64 (a ++ out) (omega (arith, length-append a out)) in
     get_or-append_right (take 64 (a ++ out)) _ 64 i 0 size above ∙ get_or_append_left b _ 0 (i - 64) (omega arith)
+
+-- the number in a lane, above the least, is the value that is there
+lane_value : (v : Option ℕ) (least lane number x : ℕ) → IfSome v (λ y. (least ≤ y) × (least + lane ≡ y)) → v ≡ Some x → x < 2 ^ 64 → number ≡ (least + lane) % 2 ^ 64 → number ≡ x
+lane_value None least lane number x h e fits is = absurd (cc)
+lane_value (Some y) least lane number x h e fits is =
+    let same : y ≡ x = cc in
+    is ∙ ap (λ n. n % 2 ^ 64) (h.1 ∙ same) ∙ mod-eq_of_lt fits
+
+pub lane_read : (values : List (Option ℕ)) (range : Option (ℕ × ℕ)) (width : ℕ) (words lanes : List ℕ) → IsColumn values range width words lanes → (least i number x : ℕ) → least ≡ least_of range → number ≡ (least + get_or lanes i 0) % 2 ^ 64 → get_or values i None ≡ Some x → number ≡ x
+lane_read values range width words lanes h least i number x least_is is e = elim (cases_lt i (length values)) [
+  | inl inside ↦ lane_value (get_or values i None) (least_of range) (get_or lanes i 0) number x (lane_there values range width words lanes h i) e (there_fits values range i x h.range_is h.range_fits inside e) (is ∙ ap (λ n. (n + get_or lanes i 0) % 2 ^ 64) least_is)
+  | inr past ↦ absurd (none_is_some (get_or values i None) x (get_or_past values i None past) e)
+]
+
+pub nothing_past : (values : List (Option ℕ)) (i x y z : ℕ) → length values ≤ i → get_or values i None ≡ Some x → y ≡ z
+nothing_past values i x y z past e = absurd (none_is_some (get_or values i None) x (get_or_past values i None past) e)

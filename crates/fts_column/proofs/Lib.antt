@@ -1,2 +1,2 @@
 pub mod ColumnLemmas
-mod FieldLemmas
+mod LanesLemmas

@@ -1,8 +1,9 @@
 -- A column of values, one for each document, of which some are missing.
-use Rattle.std.specs.Prelude.{◌≡◌, ℕ, ◌+◌, ◌-◌, ◌^◌, ◌<◌, ◌≤◌, Bool, List, [], ◌∷◌, Option, Some, None, All, Contains}
+use Rattle.std.specs.Prelude.{◌≡◌, ℕ, ◌+◌, ◌-◌, ◌^◌, ◌<◌, ◌≤◌, ◌&&◌, nat_le, false, Bool, List, [], ◌∷◌, Option, Some, None, All, Contains}
 use Rattle.std.specs.Prelude.{IfSome, length, map, max, min, if◌then◌else◌}
 use Rattle.std.specs.Option.{option_map_or}
 use Rattle.fts_bits.specs.Digits.{IsWidthOf, words_of}
+use Rattle.fts_column.specs.Lanes.{AreLanesOf}
 
 -- the least and the greatest value, if there is one
 abbrev pub IsRangeOf : List (Option ℕ) → Option (ℕ × ℕ) → Type 0
@@ -37,11 +38,18 @@ values_at least (bit ∷ present) (x ∷ numbers) =
 values_at least (bit ∷ present) [] = []
 values_at least [] numbers = []
 
+-- whether there is a value, within these
+abbrev pub is_within : ℕ → ℕ → Option ℕ → Bool
+is_within low high None = false
+is_within low high (Some x) = nat_le low x && nat_le x high
+
 -- these fields hold these values
-pub record IsColumn (values : List (Option ℕ)) (range : Option (ℕ × ℕ)) (width : ℕ) (words : List ℕ) : Type 0 where
+pub record IsColumn
+    (values : List (Option ℕ)) (range : Option (ℕ × ℕ)) (width : ℕ) (words lanes : List ℕ) : Type 0 where
   pub few : length values ≤ 2 ^ 32
   pub range_is : IsRangeOf values range
   pub range_fits : IfSome range (λ r. r.1 < 2 ^ 64)
   pub width_within : width ≤ 64
   pub width_is : IsWidthOf (spread_of range ∷ []) width
   pub words_are : words ≡ words_of 64 width (offsets (least_of range) values)
+  pub lanes_are : AreLanesOf (offsets (least_of range) values) lanes

@@ -1,2 +1,2 @@
 pub mod Column
-pub mod Fields
+pub mod Lanes

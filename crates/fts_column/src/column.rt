@@ -1,14 +1,17 @@
 // One value a document, or none: how far it is above the least, in as few bits as the greatest needs, and a bit for
-// presence.
+// presence. The same again in lanes, from which values are read.
 ghost use Rattle.std.specs.Prelude.{◌≡◌, ◌≤◌, ◌<◌, ◌+◌, ◌-◌, ◌*◌, ◌%◌, ◌^◌, ◌==◌, ℕ, List, [], ◌∷◌, Option, None, All};
 ghost use Rattle.std.specs.Prelude.{IfOk, IfSome, IsOkUnless, drop, is_some, length, map, min, slice_index};
 ghost use Rattle.std.specs.Prelude.{slice_index_or, take};
 ghost use Rattle.fts_bits.specs.Bits.{number_of};
 ghost use Rattle.fts_bits.specs.Digits.{IsWidthOf, numbers_in, words_of};
 ghost use Rattle.std.specs.Option.{option_map_or};
-ghost use Rattle.fts_column.specs.Column.{IsColumn, IsRangeOf, least_of, offsets, range_with, spread_of, values_at};
+ghost use Rattle.std.specs.Int.{bit_at};
+ghost use Rattle.fts_column.specs.Column.{IsColumn, IsRangeOf, is_within, least_of, offsets, range_with, spread_of};
+ghost use Rattle.fts_column.specs.Column.{values_at};
+ghost use Rattle.fts_column.specs.Lanes.{in_lanes};
 
-use crate::fields;
+use crate::lanes::Lanes;
 use fts_base::Refusal;
 use fts_bits::{Bits, packing};
 use std::alloc::{AllocError, Global};
@@ -21,6 +24,7 @@ pub struct Column {
     width: u32,
     present: Bits,
     words: Vec<u64>,
+    lanes: Lanes,
 }
 
 /// The documents of a column from one on, at most 128 of them.
@@ -40,7 +44,7 @@ impl Model for Column {
 
     ghost invariant = { λ c. IsColumn
         (values_at (least_of c.range) c.present (numbers_in 64 c.width (length c.present) c.words.items))
-        c.range c.width c.words.items };
+        c.range c.width c.words.items (in_lanes c.lanes) };
 }
 
 impl Column {
@@ -62,11 +66,13 @@ impl Column {
         let width = packing::bit_length(greatest - least);
         let present = presence(alloc, values)?;
         let words = packed_offsets(alloc, width, least, values)?;
+        let lanes = Lanes::of_offsets(alloc, width, least, values)?;
         Ok(Column {
             range,
             width,
             present,
             words,
+            lanes,
         })
     }
 
@@ -91,7 +97,7 @@ impl Column {
     {
         let (least, _) = self.range?;
         if doc < self.present.len() && self.present.get(doc) {
-            Some(least + packing::read(&self.words, self.width, doc))
+            Some(least + self.lanes.at(doc))
         } else {
             None
         }
@@ -126,20 +132,33 @@ impl Column {
             → slice_index out.new i ≡ x }
         ensures long { length out.new ≡ 64 }
     {
-        let (least, _) = self.range.unwrap_or((0, 0));
-        let len = self.present.len().saturating_sub(from);
-        if len >= 64 {
-            let (_, words) = self.words.split_at(from / 64 * self.width as usize);
-            fields::read(words, self.width, least, out);
-        } else {
-            for place in 0..len {
-                out[place] = least.wrapping_add(packing::read(
-                    &self.words,
-                    self.width,
-                    from + place,
-                ));
-            }
+        if from >= self.present.len() {
+            return;
         }
+        let (least, _) = self.range.unwrap_or((0, 0));
+        for place in 0..64 {
+            out[place] = least.wrapping_add(self.lanes.at(from + place));
+        }
+    }
+
+    /// Marks those of the 64 documents from `from` on, a multiple of 64, whose value is `low` or more and `high` or
+    /// less. The first of them is the lowest bit; a document that has no value, or that isn't there, is not marked.
+    #[inline]
+    pub fn marks_within(&self, from: usize, low: u64, high: u64) -> u64
+        requires { from % 64 ≡ 0 }
+        ensures { (k : ℕ) → k < 64 →
+            (bit_at result k == 1) ≡ is_within low high (slice_index_or self.now (from + k) None) }
+    {
+        let (least, _) = self.range.unwrap_or((0, 0));
+        if from >= self.present.len() {
+            return 0;
+        }
+        if high < least {
+            return 0;
+        }
+        let above = low.saturating_sub(least);
+        let marks = self.lanes.marked(from, above, high - least);
+        marks & self.present.word(from / 64)
     }
 
     /// The least and the greatest value, if there is one.
@@ -242,8 +261,8 @@ fn packed_offsets(
     Ok(words)
 }
 
-// How far the value is above the least, and 0 for a missing one.
-fn offset(least: u64, value: Option<u64>) -> u64
+/// How far the value is above the least, and 0 for a missing one.
+pub(crate) fn offset(least: u64, value: Option<u64>) -> u64
     requires { IfSome value (λ x. least ≤ x) }
     ensures { result ≡ option_map_or (λ x. x - least) value 0 }
 {

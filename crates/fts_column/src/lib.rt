@@ -2,7 +2,7 @@
 #![tactic(auto)]
 
 mod column;
-mod fields;
+mod lanes;
 pub mod laws;
 
 pub use column::{Column, Stretch};

@@ -6,7 +6,7 @@ use Rattle.std.proofs.lemmas.Bool.{cases_Bool, cases_lt, le-leb, lt-leb, false�
 use Rattle.std.proofs.lemmas.List.{take_more, take_all, map-append}
 use Rattle.fts_pack.specs.Documents.{Rises}
 use Rattle.fts_postings.specs.Remaining.{at_least}
-use Rattle.fts_postings.specs.Windows.{is_found, passing}
+use Rattle.fts_postings.specs.Windows.{is_marked, passing}
 use Rattle.fts_postings.specs.Meeting.{IsLeast, has, in_some, union, with_all, with_one}
 use Rattle.fts_cursor.specs.TreeValues.{Left, TreeContinues, TreeValue, beside, remains, together}
 use Rattle.fts_cursor.specs.Trees.{AreBeyond, AreMarked, IsBuffered, IsNow, found, gathered}
@@ -55,13 +55,10 @@ passing-behind p a (suc n) d high =
     ]
 
 found_behind : (w : Window) (d : ℕ) → w.last < d → has (found w) d ≡ false
-found_behind w d high = elim (cases_lt w.last w.from) [
-  | inl over ↦ let none : suc w.last - w.from ≡ 0 = omega (arith, over) in ap (λ n. has (passing (is_found w.base w.words) w.from n) d) none
-  | inr stands ↦ passing-behind (is_found w.base w.words) w.from (suc w.last - w.from) d (omega (arith, high, stands))
-]
+found_behind w d high = passing-behind (is_marked w.from w.marks) w.from (suc w.last - w.from) d (omega (arith, high, w.order))
 
 found_rises : (w : Window) → Rises 0 (found w)
-found_rises w = Rises-from_increasing (found w) (increasing-from_Rises w.from (found w) (Rises-passing (is_found w.base w.words) w.from (suc w.last - w.from)))
+found_rises w = Rises-from_increasing (found w) (increasing-from_Rises w.from (found w) (Rises-passing (is_marked w.from w.marks) w.from (suc w.last - w.from)))
 
 found_first : (w : Window) (doc : ℕ) → Some doc ≡ slice_get (found w) 0 → doc ≤ w.last
 found_first w doc first = elim (cases_lt w.last doc) [
@@ -247,7 +244,7 @@ module _ (parts : List TreeValue) (least : ℕ) (h : IsLeast (Some least) (remai
   pub fill_ahead : (k : ℕ) (e : TreeValue) → k < length parts → (get_or parts k e).remaining ≡ at_least least (get_or parts k e).remaining
   fill_ahead = parts_from parts least (sym (union_first (Some least) (remains parts) h))
 
-  module _ (after : List TreeValue) (old new : Window) (reaches : least ≤ old.last) (nothing : found old ≡ []) (last : new.last ≡ old.last) (each : AllZip (Left (old.last + 1)) parts after) (marked : AreMarked (in_some (remains parts)) old new) where
+  module _ (after : List TreeValue) (old new : Window) (from : old.from ≡ least) (nothing : found old ≡ []) (last : new.last ≡ old.last) (each : AllZip (Left (old.last + 1)) parts after) (marked : AreMarked (in_some (remains parts)) old new) where
     lies : (d : ℕ) → has (found new) d ≡ (nat_le d old.last && in_some (remains parts) d)
     lies d = marked d ∙ ap (λ xs. has xs d || (nat_le d old.last && in_some (remains parts) d)) nothing
 
@@ -272,7 +269,7 @@ module _ (parts : List TreeValue) (least : ℕ) (h : IsLeast (Some least) (remai
     pub filled_buffered : IsBuffered (Some least) new (remains after)
     filled_buffered = record {
       first = first_of (found new) least (found_rises new)
-          (lies least ∙ ap₂ (λ a b. a && b) (le-leb least old.last reaches) h.0)
+          (lies least ∙ ap₂ (λ a b. a && b) (le-leb least old.last (omega (arith, old.order, from))) h.0)
           (λ d low. lies d ∙ ap (λ b. nat_le d old.last && b) (h.1 d low) ∙ and_nothing (nat_le d old.last));
       beyond = λ d within. after_low d (omega (arith, within, last));
     }

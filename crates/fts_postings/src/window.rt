@@ -1,52 +1,36 @@
-// The documents found among the next 4,096, as bits.
-ghost use Rattle.std.specs.Prelude.{◌≡◌, ◌+◌, ◌^◌, ◌<◌, ◌≤◌, ◌∷◌, [], IfSome, MatchBool, drop, false, length, slice_get, true};
+// The documents found among the next 128, as bits.
+ghost use Rattle.std.specs.Prelude.{◌≡◌, ℕ, ◌-◌, ◌<◌, ◌≤◌, ◌+◌, [], MatchBool, drop, length, slice_get};
+ghost use Rattle.std.specs.Int.{bit_at};
 ghost use Rattle.fts_postings.specs.Meeting.{with_one};
 ghost use Rattle.fts_postings.specs.Remaining.{at_least};
-ghost use Rattle.fts_postings.specs.Windows.{found_in, is_found};
+ghost use Rattle.fts_postings.specs.Windows.{marked};
 
-/// The documents marked among those of `from..=last`, of which there are 4,096 at most.
-#[derive(Drop)]
+/// The documents marked among those of `from..=last`, of which there are 128 at most.
+#[derive(Clone, Copy)]
 pub struct Window {
-    /// The document of the first bit.
-    pub base: u32,
-    /// What lies before it was left behind.
-    pub from: u64,
-    /// The last document that has a place.
+    /// The first document that has a place.
+    pub from: u32,
+    /// The last.
     pub last: u32,
-    /// A bit for each document from `base` on, 64 in a word, the lowest for the first of them.
-    pub words: [u64; 64],
-    pub ghost order: { base ≤ from },
-    pub ghost few: { last ≤ base + 4095 },
-    pub ghost fits: { last < 2 ^ 32 },
+    /// A bit for each document from the first on, the lowest for that.
+    pub marks: u128,
+    pub ghost order: { from ≤ last },
+    pub ghost few: { last ≤ from + 127 },
+    pub ghost inside: { (k : ℕ) → last - from < k → bit_at marks k ≡ 0 },
 }
 
 impl Window {
-    /// With nothing marked.
-    pub fn new() -> Window
-        ensures { found_in result.base result.from result.last result.words ≡ [] }
+    /// With nothing marked, for a document and so many after it.
+    pub fn at(doc: u32, reach: u32) -> Window
+        requires { reach ≤ 127 }
+        ensures from { result.from ≡ doc }
+        ensures nothing { marked result.from result.last result.marks ≡ [] }
     {
         Window {
-            base: 0,
-            from: 0,
-            last: 0,
-            words: [0; 64],
+            from: doc,
+            last: doc.saturating_add(reach),
+            marks: 0,
         }
-    }
-
-    /// Begins anew with nothing marked, for a document and so many after it.
-    pub fn begin(&mut self, doc: u32, reach: u32)
-        requires { reach ≤ 4095 }
-        ensures from { self.new.from ≡ doc }
-        ensures last { doc ≤ self.new.last }
-        ensures nothing { found_in self.new.base self.new.from self.new.last self.new.words ≡ [] }
-    {
-        // What lies behind the last place may be anything.
-        for index in 0..(reach / 64 + 1) as usize {
-            self.words[index] = 0;
-        }
-        self.base = doc;
-        self.from = doc as u64;
-        self.last = doc.saturating_add(reach);
     }
 
     /// Whether it has a place for the document, which isn't below its first.
@@ -63,95 +47,58 @@ impl Window {
         requires low { self.old.from ≤ doc }
         requires high { doc ≤ self.old.last }
         ensures place { (self.new.from ≡ self.old.from) × (self.new.last ≡ self.old.last) }
-        ensures marked { found_in self.new.base self.new.from self.new.last self.new.words
-            ≡ with_one doc (found_in self.old.base self.old.from self.old.last self.old.words) }
+        ensures marked { marked self.new.from self.new.last self.new.marks
+            ≡ with_one doc (marked self.old.from self.old.last self.old.marks) }
     {
-        let place = (doc - self.base) as usize;
-        self.words[place / 64] |= 1 << (place % 64);
+        self.marks |= 1 << (doc - self.from);
     }
 
-    /// The first document that is marked. Places without marks before it are left behind.
+    /// The first document that is marked.
     #[inline]
-    pub fn first(&mut self) -> Option<u32>
-        ensures first { result ≡ slice_get (found_in self.old.base self.old.from self.old.last self.old.words) 0 }
-        ensures same { found_in self.new.base self.new.from self.new.last self.new.words
-            ≡ found_in self.old.base self.old.from self.old.last self.old.words }
-        ensures last { self.new.last ≡ self.old.last }
-        ensures stands { IfSome result (λ doc. (self.new.from ≡ doc)
-            × (found_in self.new.base self.new.from self.new.last self.new.words
-            ≡ doc ∷ found_in self.new.base (doc + 1) self.new.last self.new.words)) }
+    pub fn first(&self) -> Option<u32>
+        ensures { result ≡ slice_get (marked self.now.from self.now.last self.now.marks) 0 }
     {
-        while self.from <= self.last as u64 {
-            if self.pass_word() && self.from <= self.last as u64 {
-                return Some(self.from as u32);
-            }
+        if self.marks == 0 {
+            None
+        } else {
+            Some(self.from + self.marks.trailing_zeros())
         }
-        None
-    }
-
-    // Leaves behind what has no mark before the first mark of the word in which the first place lies, or all of that
-    // word where it has none. Whether it has one.
-    #[inline]
-    fn pass_word(&mut self) -> bool
-        requires { self.old.from ≤ self.old.last }
-        ensures same { found_in self.new.base self.new.from self.new.last self.new.words
-            ≡ found_in self.old.base self.old.from self.old.last self.old.words }
-        ensures last { self.new.last ≡ self.old.last }
-        ensures further { result ≡ false → self.old.from < self.new.from }
-        ensures marked { result ≡ true → is_found self.new.base self.new.words self.new.from ≡ true }
-    {
-        let place = (self.from - self.base as u64) as usize;
-        let start = self.from - (place % 64) as u64;
-        let marks = self.words[place / 64] & (u64::MAX << (place % 64));
-        if marks == 0 {
-            self.from = start + 64;
-            return false;
-        }
-        self.from = start + marks.trailing_zeros() as u64;
-        true
     }
 
     /// Leaves the first document behind.
     #[inline]
     pub fn advance(&mut self)
-        ensures last { self.new.last ≡ self.old.last }
-        ensures marked { found_in self.new.base self.new.from self.new.last self.new.words
-            ≡ drop 1 (found_in self.old.base self.old.from self.old.last self.old.words) }
+        ensures place { (self.new.from ≡ self.old.from) × (self.new.last ≡ self.old.last) }
+        ensures marked { marked self.new.from self.new.last self.new.marks
+            ≡ drop 1 (marked self.old.from self.old.last self.old.marks) }
     {
-        if let Some(doc) = self.first() {
-            self.from = doc as u64 + 1;
+        if self.marks > 0 {
+            self.marks &= !(1 << self.marks.trailing_zeros());
         }
     }
 
     /// Leaves behind what lies before the target.
-    #[inline]
     pub fn seek(&mut self, target: u32)
-        ensures last { self.new.last ≡ self.old.last }
-        ensures marked { found_in self.new.base self.new.from self.new.last self.new.words
-            ≡ at_least target (found_in self.old.base self.old.from self.old.last self.old.words) }
+        ensures place { (self.new.from ≡ self.old.from) × (self.new.last ≡ self.old.last) }
+        ensures marked { marked self.new.from self.new.last self.new.marks
+            ≡ at_least target (marked self.old.from self.old.last self.old.marks) }
     {
-        self.from = self.from.max(target as u64);
+        if target > self.last {
+            self.marks = 0;
+        } else if target > self.from {
+            self.marks &= u128::MAX << (target - self.from);
+        }
     }
 
     /// At least as many as are marked.
     pub fn cost(&self) -> usize
-        ensures { length (found_in self.now.base self.now.from self.now.last self.now.words) ≤ result }
+        ensures { length (marked self.now.from self.now.last self.now.marks) ≤ result }
     {
-        (self.last as u64 + 1).saturating_sub(self.from) as usize
+        (self.last - self.from) as usize + 1
     }
 
-    /// How far a window from the target on is to reach, once nothing is left of this one. After steps, whose target is
-    /// 0, it takes as much as it can, but for the first. A search that comes from far takes the one document that it
-    /// asks for, since the next may go as far again.
-    pub fn reach(&self, target: u32) -> u32
-        ensures { result ≤ 4095 }
-    {
-        if target > self.last.saturating_add(128) {
-            0
-        } else if target > 0 || self.last == 0 {
-            127
-        } else {
-            4095
-        }
+    /// Whether the document lies in it, or not far behind.
+    pub fn is_near(&self, doc: u32) -> bool {
+        doc <= self.last.saturating_add(128)
     }
 }

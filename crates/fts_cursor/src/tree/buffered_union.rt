@@ -1,13 +1,12 @@
 // What one of several cursors has: the next documents of all are marked in a window, which steps read off.
-ghost use Rattle.std.specs.Prelude.{◌≡◌, ℕ, ◌+◌, Some, [], All, drop, length, min, slice_get, take};
+ghost use Rattle.std.specs.Prelude.{◌≡◌, ◌+◌, [], All, slice_get};
 ghost use Rattle.std.specs.List.{AllZip};
 ghost use Rattle.std.specs.List.Sorted.{IsStrictlyIncreasing};
 ghost use Rattle.fts_postings.specs.Meeting.{IsLeast, has, in_some, lesser_of, union};
 ghost use Rattle.fts_postings.specs.Posting.{Follows, remaining_of};
 ghost use Rattle.fts_postings.specs.Remaining.{at_least};
 ghost use Rattle.fts_cursor.specs.TreeValues.{Left, TreeContinues, remains};
-ghost use Rattle.fts_cursor.specs.Standing.{Walked};
-ghost use Rattle.fts_cursor.specs.Trees.{AreBeyond, AreMarked, IsNow, StandsAt, found, gathered, tree_value};
+ghost use Rattle.fts_cursor.specs.Trees.{AreBeyond, AreMarked, IsNow, found, gathered, tree_value};
 
 use crate::tree::{Node, Tree};
 use fts_pack::ListSource;
@@ -37,42 +36,6 @@ pub(crate) fn gather(buffered: &mut BufferedUnion, target: u32) -> Option<u32>
     refill(buffered, target)
 }
 
-// Leaves the first document behind, and gives the next.
-#[inline]
-fn pass(buffered: &mut BufferedUnion) -> Option<u32>
-    requires { (doc : ℕ) × StandsAt (Some doc) (Node.Or buffered.old) }
-    ensures now { IsNow result (Node.Or buffered.new) (drop 1 (gathered buffered.old)) }
-    ensures walked { Walked (tree_value (Node.Or buffered.old)).standing
-        (tree_value (Node.Or buffered.new)).standing }
-{
-    buffered.window.advance();
-    gather(buffered, 0)
-}
-
-/// Takes the next 128 of what stands at the document, and gives how many they are, and the next.
-pub(crate) fn fill_gathered(
-    buffered: &mut BufferedUnion,
-    doc: Option<u32>,
-    out: &mut [u32; 128],
-) -> (usize, Option<u32>)
-    requires { StandsAt doc (Node.Or buffered.old) }
-    ensures count { result.0 ≡ min 128 (length (gathered buffered.old)) }
-    ensures taken { take result.0 out.new ≡ take 128 (gathered buffered.old) }
-    ensures now { IsNow result.1 (Node.Or buffered.new) (drop 128 (gathered buffered.old)) }
-    ensures walked { Walked (tree_value (Node.Or buffered.old)).standing
-        (tree_value (Node.Or buffered.new)).standing }
-{
-    let mut next = doc;
-    for filled in 0..128 {
-        let Some(first) = next else {
-            return (filled, None);
-        };
-        out[filled] = first;
-        next = pass(buffered);
-    }
-    (128, next)
-}
-
 // Moves a window that has nothing left to the first document from the target on, and fills it.
 #[cycle(tree)]
 pub(crate) fn refill(buffered: &mut BufferedUnion, target: u32) -> Option<u32>
@@ -82,9 +45,14 @@ pub(crate) fn refill(buffered: &mut BufferedUnion, target: u32) -> Option<u32>
     ensures continues { TreeContinues (tree_value (Node.Or buffered.old))
         (tree_value (Node.Or buffered.new)) }
 {
-    let reach = buffered.window.reach(target);
+    // The next search after one that goes far may go as far again, so that takes the one document that it asks for.
+    let reach = if buffered.window.is_near(target) {
+        127
+    } else {
+        0
+    };
     let least = seek_each(&mut buffered.parts, target)?;
-    buffered.window.begin(least, reach);
+    buffered.window = Window::at(least, reach);
     mark_each(&mut buffered.parts, &mut buffered.window);
     Some(least)
 }

@@ -1,21 +1,25 @@
-use Rattle.std.proofs.Common.{◌≡◌, ◌+◌, ◌*◌, ◌/◌, ◌%◌, ◌^◌, ◌∙◌, Some, None, length, get_or, ap, sym, arith, subst}
+-- A value that is there is the number in its lane above the least.
+use Rattle.std.proofs.Common.{◌≡◌, ◌+◌, ◌∙◌, Some, None, is_some, map, get_or, ap, sym, arith, subst}
 use Rattle.std.proofs.lemmas.List.{get_or_past}
 use Rattle.std.proofs.Math.Facts.{Fits-of_lt}
-use Rattle.fts_bits.specs.Digits.{joined}
-use Rattle.fts_column.specs.Column.{least_of, IsRangeOf}
-use Rattle.fts_column.proofs.ColumnLemmas.{column_length, bit_fits, value_there, value_missing, value_fits}
+use Rattle.fts_column.specs.Column.{least_of, IsColumn, IsRangeOf}
+use Rattle.fts_column.specs.Lanes.{in_lanes}
+use Rattle.fts_bits.proofs.PackingLemmas.{length-numbers_in}
+use Rattle.fts_column.proofs.ColumnLemmas.{column_length, lane_inside, presence-values_at, value_there, value_missing, value_fits}
 use Rattle.fts_column.proofs.column.Column.get.Goals as goal
 use Rattle.fts_column.proofs.column.Column.get.Goals.{else-doc-len-via-then-doc-len+else-get, else-doc-len-via-else-doc-len}
 
-pub read-requires-clause-near : goal.read-requires-clause-near
-read-requires-clause-near c =
+pub at-requires : goal.at-requires
+at-requires c =
+    let column = c.self.inside in
     let size = column_length _ _ _ _ _ c.self.view_is in
-    bit_fits c.args.doc c.self.inside.width (length c.args.self.now) (omega (arith, size, c.len.ensures, c.if-doc-len.true)) (omega (arith, c.self.invariant.few, ap length c.self.view_is)) c.self.invariant.width_within
+    lane_inside c.args.self.now column.range column.width column.words.items (in_lanes column.lanes) (subst (λ v. IsColumn v c.self.inside.range c.self.inside.width c.self.inside.words.items (in_lanes c.self.inside.lanes)) c.self.view_is c.self.invariant) c.args.doc (omega (arith, size, c.len.ensures, c.if-doc-len.true))
 
-there : (c : goal.After-read) → get_or c.args.self.now c.args.doc None ≡ Some (c.in_ok-least.least + c.read.result)
+there : (c : goal.After-at) → get_or c.args.self.now c.args.doc None ≡ Some (c.in_ok-least.least + c.at.result)
 there c =
     let column = c.self.inside in
-    value_there c.args.self.now column.range c.in_ok-least.least column.present column.width c.args.doc c.read.result column.words.items c.self.view_is (omega (arith, c.len.ensures, c.if-doc-len.true)) (c.get.ensures ∙ ap Some c.if-get.true) (ap least_of c.in_ok-least.was) (c.read.ensures ∙ ap (λ ws. joined 64 ws / 2 ^ (c.args.doc * column.width) % 2 ^ column.width) c.deref.ensures.value)
+    value_there c.args.self.now column.range column.width column.words.items (in_lanes column.lanes) column.present c.in_ok-least.least c.args.doc (subst (λ v. IsColumn v c.self.inside.range c.self.inside.width c.self.inside.words.items (in_lanes c.self.inside.lanes)) c.self.view_is c.self.invariant)
+    (ap (map is_some) (sym c.self.view_is) ∙ presence-values_at _ _ _ (length-numbers_in 64 c.self.inside.width _ c.self.inside.words.items)) (ap least_of c.in_ok-least.was) (c.get.ensures ∙ ap Some c.if-get.true) ∙ ap (λ n. Some (c.in_ok-least.least + n)) (sym c.at.ensures)
 
 pub overflow_add-result : goal.overflow_add-result
 overflow_add-result c =
@@ -32,6 +36,6 @@ returns-else-doc-len c =
     let column = c.self.inside in
     let size = column_length _ _ _ _ _ c.self.view_is in
     elim c.else-doc-len.branch [
-      | else-doc-len-via-then-doc-len+else-get w ↦ sym (value_missing c.args.self.now column.range column.present column.width c.args.doc column.words.items c.self.view_is (omega (arith, c.len.ensures, w.if-doc-len.true)) (w.get.ensures ∙ ap Some w.if-get.false))
+      | else-doc-len-via-then-doc-len+else-get w ↦ sym (value_missing c.args.self.now column.present c.args.doc (ap (map is_some) (sym c.self.view_is) ∙ presence-values_at _ _ _ (length-numbers_in 64 c.self.inside.width _ c.self.inside.words.items)) (w.get.ensures ∙ ap Some w.if-get.false))
       | else-doc-len-via-else-doc-len w ↦ sym (get_or_past c.args.self.now c.args.doc None (omega (arith, size, c.len.ensures, w.if-doc-len.false)))
     ]

@@ -1,11 +1,19 @@
-use Rattle.std.proofs.Common.{◌≡◌, ◌<◌, ◌^◌, ◌-◌, ◌∙◌, ap}
+use Rattle.std.proofs.Common.{◌≡◌, ◌<◌, ◌^◌, ◌-◌, ◌∙◌, ap, subst}
 use Rattle.fts_bits.specs.Digits.{words_of}
 use Rattle.fts_column.specs.Column.{spread_of, least_of, offsets}
+use Rattle.fts_column.specs.Lanes.{AreLanesOf, in_lanes}
 use Rattle.fts_column.proofs.ColumnLemmas.{IsColumn-built, column_values, offsets_fit, unwrap_least, unwrap_spread}
 use Rattle.fts_column.proofs.column.Column.packed.Goals as goal
 
 pub packed_offsets-requires-clause-fits : goal.packed_offsets-requires-clause-fits
 packed_offsets-requires-clause-fits c =
+    let range = c.range_of-range.result in
+    let least : c.unwrap_or-least.result.0 ≡ least_of range = ap (λ r. r.0) c.unwrap_or-least.ensures ∙ unwrap_least range in
+    let spread : c.unwrap_or-least.result.1 - c.unwrap_or-least.result.0 ≡ spread_of range = ap (λ r. r.1 - r.0) c.unwrap_or-least.ensures ∙ unwrap_spread range in
+    rw least (offsets_fit c.args.values.now range _ c.range_of-range.ensures.range (rw spread at c.bit_length-width.ensures.holds))
+
+pub of_offsets-requires-clause-fits : goal.of_offsets-requires-clause-fits
+of_offsets-requires-clause-fits c =
     let range = c.range_of-range.result in
     let least : c.unwrap_or-least.result.0 ≡ least_of range = ap (λ r. r.0) c.unwrap_or-least.ensures ∙ unwrap_least range in
     let spread : c.unwrap_or-least.result.1 - c.unwrap_or-least.result.0 ≡ spread_of range = ap (λ r. r.1 - r.0) c.unwrap_or-least.ensures ∙ unwrap_spread range in
@@ -19,8 +27,9 @@ invariant_of-result c =
     let spread : c.unwrap_or-least.result.1 - c.unwrap_or-least.result.0 ≡ spread_of range = ap (λ r. r.1 - r.0) c.unwrap_or-least.ensures ∙ unwrap_spread range in
     let words : c.in_ok-words.words.items ≡ words_of 64 c.bit_length-width.result (offsets (least_of range) values) = c.in_ok-words.ensures ∙ ap (λ x. words_of 64 c.bit_length-width.result (offsets x values)) least in
     let small : spread_of range < 2 ^ c.bit_length-width.result = rw spread at c.bit_length-width.ensures.holds in
+    let lanes : AreLanesOf (offsets (least_of range) values) (in_lanes c.in_ok-lanes.lanes) = subst (λ x. AreLanesOf (offsets x values) (in_lanes c.in_ok-lanes.lanes)) least c.in_ok-lanes.ensures in
     let view = column_values values range c.in_ok-present.present c.bit_length-width.result c.in_ok-words.words.items c.range_of-range.ensures.range c.in_ok-present.ensures small words in
-    rw view (IsColumn-built values range c.bit_length-width.result c.in_ok-words.words.items c.requires c.range_of-range.ensures.range c.range_of-range.ensures.fits small (λ other lt. c.bit_length-width.ensures.least other (rw spread lt)) words)
+    rw view (IsColumn-built values range c.bit_length-width.result c.in_ok-words.words.items (in_lanes c.in_ok-lanes.lanes) c.requires c.range_of-range.ensures.range c.range_of-range.ensures.fits small (λ other lt. c.bit_length-width.ensures.least other (rw spread lt)) words lanes)
 
 pub returns : goal.returns
 returns c =
