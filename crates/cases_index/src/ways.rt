@@ -1,7 +1,7 @@
 // The ways of running a script: over a plain list of documents, and over segments under each kind of options.
 use crate::script::Script;
 use cases::{Trial, Trouble};
-use fts_engine::IndexEngine;
+use fts_engine::{IndexEngine, LocalEngine};
 use fts_script::{Cut, EngineOver, ListEngine, Merge, Options, Plain, Streams, run_script};
 use std::alloc::{AllocError, Global};
 use std::sync::Wait;
@@ -80,6 +80,10 @@ fn difference_over_segments(
         };
         let input = if i % 2 == 0 { input } else { unended };
         let other = run::<_, IndexEngine>(rt, "segments", input, wanted, options)?;
+        if other.is_some() {
+            return Ok(other);
+        }
+        let other = run::<_, LocalEngine>(rt, "segments in one thread", input, wanted, options)?;
         if other.is_some() {
             return Ok(other);
         }

@@ -14,7 +14,7 @@ use Rattle.fts_engine.specs.declared.uncommitted.Uncommitted.TheVariants.{Nothin
 use Rattle.fts_engine.specs.UncommittedOperations.{ops_of, IsUncommittedIn, Submits}
 use Rattle.fts_engine.specs.WriterIndexes.{Commits, Merges, IsReaderOf, IsIndexEngine, segments_of}
 
-misfit-push : (schema : List Field) (ops : List (Stamped Op)) (op : Stamped Op) → misfit schema ops ≡ None → op_fits schema op.value ≡ true → misfit schema (ops ++ op ∷ []) ≡ None
+pub misfit-push : (schema : List Field) (ops : List (Stamped Op)) (op : Stamped Op) → misfit schema ops ≡ None → op_fits schema op.value ≡ true → misfit schema (ops ++ op ∷ []) ≡ None
 misfit-push schema [] op h fit = ap (λ b. cond b None (Some (OtherSchema op.stamp))) fit
 misfit-push schema (o ∷ ops) op h fit =
     elim (op_fits schema o.value) as (λ b. cond b (misfit schema ops) (Some (OtherSchema o.stamp)) ≡ None → cond b (misfit schema (ops ++ op ∷ [])) (Some (OtherSchema o.stamp)) ≡ None)

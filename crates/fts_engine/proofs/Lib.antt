@@ -1,3 +1,4 @@
 pub mod CommitLemmas
 pub mod EngineLemmas
+pub mod LocalLemmas
 pub mod MergeLemmas

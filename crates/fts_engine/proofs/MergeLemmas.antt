@@ -1,5 +1,5 @@
 -- A merge of a writer, as an engine sees it.
-use Rattle.std.proofs.Common.{◌≡◌, ◌+◌, ◌^◌, ◌<◌, ◌≤◌, ◌≢◌, ◌==◌, ◌||◌, ℕ, true, false, cond, not, Option, None, Some, List, [], ◌∷◌, ◌++◌, length, map, filter, sum_by, nat_lt, refl, sym, ap, subst, ◌∙◌, arith}
+use Rattle.std.proofs.Common.{◌≡◌, ◌+◌, ◌^◌, ◌<◌, ◌≤◌, ◌≢◌, ◌==◌, ◌||◌, ℕ, Bool, true, false, cond, not, Option, None, Some, List, [], ◌∷◌, ◌++◌, length, map, filter, sum_by, nat_lt, refl, sym, ap, subst, ◌∙◌, arith}
 use Rattle.std.specs.List.{AllByRecursion, flat_map}
 use Rattle.std.proofs.lemmas.Bool.Decides.{nat_tests}
 use Rattle.std.proofs.lemmas.List.{length-append, length-map}
@@ -211,3 +211,7 @@ pub live_documents : (s : SnapshotValue) (infos : List SegmentInfo) → IsSnapsh
 live_documents s infos i are =
     ap (sum_by (λ (info : SegmentInfo). info.live)) are ∙ sum_by-infos s.entries ∙ sym (length-live_in s.entries i.each)
     ∙ sym (length_permutation (flat_map live_in s.entries) (content s.entries) (permutation_in_order (flat_map live_in s.entries)))
+
+-- a list that isn't told to be empty
+pub nonempty : (es : List EntryValue) (b : Bool) → b ≡ (length es == 0) → b ≡ false → 0 < length es
+nonempty es b e f = let g : (length es == 0) ≡ false = sym e ∙ f in grind (arith, nat_tests)

@@ -1,2 +1,3 @@
+pub mod LocalIndexes
 pub mod UncommittedOperations
 pub mod WriterIndexes

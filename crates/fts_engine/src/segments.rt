@@ -13,7 +13,7 @@ use std::alloc::{AllocError, Global};
 use std::sync::Wait;
 
 /// How many live documents segments have together, unless they are over 1,048,576.
-fn live_in(segments: &[SegmentInfo]) -> Option<usize>
+pub(crate) fn live_in(segments: &[SegmentInfo]) -> Option<usize>
     ensures { MatchOption result (most_merged < sum_by (λ segment. segment.live) segments.now)
         (λ live. (live ≡ sum_by (λ segment. segment.live) segments.now) × (live ≤ most_merged)) }
 {
@@ -28,7 +28,7 @@ fn live_in(segments: &[SegmentInfo]) -> Option<usize>
 }
 
 /// The numbers of segments.
-fn ids_of(alloc: Global, segments: &[SegmentInfo]) -> Result<Vec<u64>, AllocError>
+pub(crate) fn ids_of(alloc: Global, segments: &[SegmentInfo]) -> Result<Vec<u64>, AllocError>
     ensures { IfOk result (λ ids. ids.items ≡ map (λ segment. segment.id) segments.now) }
 {
     segments.iter().map(|segment| segment.id).collect(alloc)

@@ -37,6 +37,17 @@ kept_more (job ∷ jobs) results k result entry kept a l e f h =
     ∙ ap (filter has_live) (sym (map-append entry_of (take k (job ∷ jobs)) (here ∷ [])))
     ∙ ap (λ js. filter has_live (map entry_of js)) (sym (take_more (job ∷ jobs) k job within))
 
+-- the same of a job that is run in its turn
+pub kept_in_turn : (jobs : List CommitJob) (i : ℕ) (job : CommitJob) (entry : EntryValue) (kept : List EntryValue) → i < length jobs → job ≡ get_or jobs i job → entry ≡ entry_of job →
+    kept ≡ filter has_live (map entry_of (take i jobs)) → kept ++ filter has_live (entry ∷ []) ≡ filter has_live (map entry_of (take (i + 1) jobs))
+kept_in_turn jobs i job entry kept within is same h =
+    let before = map entry_of (take i jobs) in
+    ap (λ es. es ++ filter has_live (entry ∷ [])) h
+    ∙ sym (filter-append has_live before (entry ∷ []))
+    ∙ ap (λ x. filter has_live (before ++ x ∷ [])) same
+    ∙ ap (filter has_live) (sym (map-append entry_of (take i jobs) (job ∷ [])))
+    ∙ ap (λ js. filter has_live (map entry_of js)) (sym (take_more jobs i job within ∙ ap (λ j. take i jobs ++ j ∷ []) (sym is)))
+
 zip-count : (jobs : List CommitJob) (results : List (Result EntryValue Refusal)) → AllZip Answers jobs results → length results ≡ length jobs
 zip-count [] [] h = refl
 zip-count [] (result ∷ results) h = absurd h

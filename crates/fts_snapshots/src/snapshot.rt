@@ -1,18 +1,18 @@
 // What is seen of an index at one time, and what commits and merges make of it.
-ghost use Rattle.std.specs.Prelude.{◌≡◌, ◌≤◌, ◌++◌, [], None, map, length, IfOk, IsOkUnless};
+ghost use Rattle.std.specs.Prelude.{◌≡◌, ◌+◌, ◌^◌, ◌≤◌, ◌++◌, [], None, map, length, IfOk, IsOkUnless};
 ghost use Rattle.fts_model.specs.Operations.{alive, adds};
 ghost use Rattle.fts_base.specs.Results.{Gives, ok_unless};
 ghost use Rattle.fts_snapshots.specs.Entries.{content};
 ghost use Rattle.fts_snapshots.specs.Infos.{info_of, candidate_ids};
 ghost use Rattle.fts_snapshots.specs.Cuts.{IsCut};
-ghost use Rattle.fts_snapshots.specs.Commits.{misfit};
+ghost use Rattle.fts_snapshots.specs.Commits.{committed, misfit, new_segments};
 ghost use Rattle.fts_snapshots.specs.Merges.{entries_at, names_fault};
 ghost use Rattle.fts_snapshots.specs.MergedSegments.{merged_of};
 ghost use Rattle.fts_snapshots.specs.Successors.{Fits};
 ghost use Rattle.fts_snapshots.specs.LateMerges.{end_fault, after_end, after_merge};
 ghost use Rattle.fts_snapshots.specs.Snapshots.{IsBehind, IsSnapshot, after_commit, commit_fault, merge_fault};
 
-use crate::commits::{entries_of_jobs, groups, jobs_of_batch};
+use crate::commits::{entries_in_turn, entries_of_jobs, groups, jobs_of_batch};
 use crate::entries::{Entry, SegmentInfo, are_used_up};
 use crate::merges::{MergeJob, MergedSegment, candidates, end_entries, named_entries};
 use fts_model::{Cut, Op, Refusal, Schema, Stamped};
@@ -97,7 +97,6 @@ impl Snapshot {
         if are_used_up(self.next_id, groups.len()) {
             return Err(Refusal::StampsUsedUp);
         }
-        let next_id = self.next_id + groups.len() as u64;
         let jobs = jobs_of_batch(
             alloc,
             &self.schema,
@@ -107,11 +106,68 @@ impl Snapshot {
             &groups,
         )?;
         let entries = entries_of_jobs(rt, alloc, &jobs, workers, gate)?;
+        self.after_jobs(cut, batch, groups.len(), entries)
+    }
+
+    /// The same by the calling thread alone, which waits for no other: where there is no runtime, as in a library that
+    /// another program calls.
+    pub fn commit_alone(
+        &self,
+        alloc: Global,
+        batch: &[Stamped<Op>],
+        cut: Cut,
+    ) -> Result<Snapshot, Refusal>
+        requires cut { IsCut cut }
+        requires behind { IsBehind (content self.now.entries) batch.now }
+        requires fits { misfit self.now.schema batch.now ≡ None }
+        ensures snapshot { Gives (λ new. new) result
+            (ok_unless (commit_fault cut batch.now self.now) (after_commit cut batch.now self.now)) }
+        ensures content { IfOk result (λ new.
+            content new.entries ≡ alive self.now.schema (adds (content self.now.entries) ++ batch.now)) }
+    {
+        let groups = groups(alloc, cut, batch)?;
+        if are_used_up(self.next_id, groups.len()) {
+            return Err(Refusal::StampsUsedUp);
+        }
+        let jobs = jobs_of_batch(
+            alloc,
+            &self.schema,
+            &self.entries,
+            self.next_id,
+            batch,
+            &groups,
+        )?;
+        let entries = entries_in_turn(alloc, &jobs)?;
+        self.after_jobs(cut, batch, groups.len(), entries)
+    }
+
+    /// The snapshot after a batch whose adds are cut into so many groups, of the segments that its jobs left.
+    fn after_jobs(
+        &self,
+        cut: Cut,
+        batch: &[Stamped<Op>],
+        groups: usize,
+        entries: Vec<Entry>,
+    ) -> Result<Snapshot, Refusal>
+        requires cut { IsCut cut }
+        requires behind { IsBehind (content self.now.entries) batch.now }
+        requires groups { groups ≡ new_segments cut batch.now }
+        requires room { self.now.next_id + groups ≤ 2 ^ 62 }
+        requires entries { entries.items
+            ≡ committed cut self.now.schema batch.now self.now.next_id self.now.entries }
+        ensures snapshot { IfOk result (λ new. new ≡ after_commit cut batch.now self.now) }
+        ensures content { IfOk result (λ new.
+            content new.entries ≡ alive self.now.schema (adds (content self.now.entries) ++ batch.now)) }
+        ensures memory { IsOkUnless result Refusal.Memory }
+    {
+        // The cut and the batch are what the contract speaks of.
+        let _ = cut;
+        let _ = batch.len();
         let schema = self.schema.clone()?;
         Ok(Snapshot {
             schema,
             entries,
-            next_id,
+            next_id: self.next_id + groups as u64,
         })
     }
 

@@ -15,7 +15,7 @@ use crate::commits::group::Group;
 use crate::commits::jobs::{CommitJob, commit_jobs};
 use crate::entries::Entry;
 use fts_model::{Op, Refusal, Schema, Stamped};
-use fts_pool::{Gate, run_all};
+use fts_pool::{Gate, Job, run_all};
 use std::alloc::{AllocError, Global};
 use std::sync::Wait;
 use std::thread::Threads;
@@ -92,4 +92,17 @@ pub(crate) fn entries_of_jobs<R: Threads + Wait + Sync, G: Gate>(
 {
     let answers = run_all(rt, alloc, jobs, workers, gate)?;
     assemble(alloc, answers)
+}
+
+/// The same by the calling thread, one job after the other.
+pub(crate) fn entries_in_turn(alloc: Global, jobs: &[CommitJob<'_>]) -> Result<Vec<Entry>, Refusal>
+    ensures ok { IfOk result (λ entries. entries.items ≡ filter has_live (map entry_of jobs.now)) }
+    ensures memory { IsOkUnless result Refusal.Memory }
+{
+    let mut entries = Vec::new(alloc);
+    for job in jobs {
+        let entry = job.run()?;
+        push_live(&mut entries, entry)?;
+    }
+    Ok(entries)
 }

@@ -1,14 +1,10 @@
-use Rattle.std.proofs.Common.{◌≡◌, ◌<◌, ◌≤◌, ◌==◌, Bool, false, List, length, map, sum_by, inl, inr, refl, sym, ap, subst, ◌∙◌, arith}
-use Rattle.std.proofs.lemmas.Bool.Decides.{nat_tests}
+use Rattle.std.proofs.Common.{◌<◌, ◌≤◌, List, length, map, sum_by, inl, inr, refl, ap, subst, ◌∙◌, arith}
 use Rattle.fts_snapshots.specs.Entries.{EntryValue}
 use Rattle.fts_snapshots.specs.declared.entries.entry.SegmentInfo.{SegmentInfo}
 use Rattle.fts_snapshots.specs.Snapshots.{IsSnapshot}
 use Rattle.fts_engine.proofs.CommitLemmas.{memory_alone}
-use Rattle.fts_engine.proofs.MergeLemmas.{merges_named, no_fault_in_all, ids_counted, live_documents}
+use Rattle.fts_engine.proofs.MergeLemmas.{merges_named, no_fault_in_all, ids_counted, live_documents, nonempty}
 use Rattle.fts_engine.proofs.segments.merge_all.Goals as goal
-
-nonempty : (es : List EntryValue) (b : Bool) → b ≡ (length es == 0) → b ≡ false → 0 < length es
-nonempty es b e f = let g : (length es == 0) ≡ false = sym e ∙ f in grind (arith, nat_tests)
 
 pub returns-in-None-clause-refused : goal.returns-in-None-clause-refused
 returns-in-None-clause-refused g c =

@@ -1,4 +1,4 @@
-use Rattle.std.proofs.Common.{◌≡◌, ◌^◌, ◌<◌, ◌≤◌, ℕ, List, length, Result, Ok, Err, OnOk, OnErr, subst, sym, arith}
+use Rattle.std.proofs.Common.{◌≡◌, ◌^◌, ◌≤◌, ℕ, List, length, Result, Ok, Err, OnOk, OnErr, subst, sym, arith}
 use Rattle.fts_base.specs.declared.refusal.Refusal.{Refusal}
 use Rattle.fts_snapshots.specs.Snapshots.{content_of, merge_fault}
 use Rattle.fts_index.specs.Writers.{WriterValue, IsRefusedFor, with_merge}
