@@ -2,9 +2,8 @@
 ghost use Rattle.std.specs.Prelude.{◌≡◌, ◌≢◌, [], pos, string_bytes};
 ghost use Rattle.fts_session.specs.Outputs.{start, reply_to, after_line};
 
-use fts_engine::LocalEngine;
 use fts_session::Session;
-use fts_steps::Options;
+use fts_steps::{ListEngine, Options};
 use std::alloc::{AllocError, Global};
 
 /// The most bytes that a line has.
@@ -16,7 +15,7 @@ const MOST_LINES: u64 = 1 << 61;
 /// A session, and its last reply.
 #[derive(Drop)]
 pub struct State {
-    pub session: Session<LocalEngine>,
+    pub session: Session<ListEngine>,
     pub reply: String,
 }
 
