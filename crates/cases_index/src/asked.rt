@@ -133,8 +133,8 @@ fn of_last<R: Threads + Wait + Sync>(
     }
 }
 
-/// Gives what a word of these gives, and answers whether it is one. A search is that of the last commit, or of a searcher
-/// that was kept.
+/// Gives what a word of these gives, and answers whether it is one. A search is that of the last commit, or of a
+/// searcher that was kept.
 pub(crate) fn asked<R: Threads + Wait + Sync>(
     rt: &R,
     trial: &mut Trial,

@@ -1,8 +1,8 @@
-// The ways of running a script: over a plain list of documents, and over segments under each kind of options.
+// The ways of running a script: over a plain list of documents, and over segments under each kind of options. The
+// engines are chosen by `main`.
 use crate::script::Script;
 use cases::{Trial, Trouble};
-use fts_engine::{IndexEngine, LocalEngine};
-use fts_script::{Cut, EngineOver, ListEngine, Merge, Options, Plain, Streams, run_script};
+use fts_script::{Cut, EngineOver, Merge, Options, Plain, Streams, run_script};
 use std::alloc::{AllocError, Global};
 use std::sync::Wait;
 use std::thread::Threads;
@@ -66,24 +66,24 @@ fn run<R: AllocGlobal + Threads + Wait + Sync, E: EngineOver<R>>(
     other(alloc, over, streams.writer.into_inner(), wanted, options)
 }
 
-/// What some way of running a script over segments gives that it shouldn't, if one does. Half of the ways run it without
-/// its last LF.
-fn difference_over_segments(
-    rt: &(impl AllocGlobal + Threads + Wait + Sync),
-    input: &str,
-    wanted: &str,
-) -> Result<Option<String>, AllocError> {
+/// What some way of running a script over segments gives that it shouldn't, if one does: over `S`, and over `O` in one
+/// thread. Half of the ways run it without its last LF.
+fn difference_over_segments<
+    R: AllocGlobal + Threads + Wait + Sync,
+    S: EngineOver<R>,
+    O: EngineOver<R>,
+>(rt: &R, input: &str, wanted: &str) -> Result<Option<String>, AllocError> {
     let unended = input.strip_suffix('\n').unwrap_or(input);
     for (i, (workers, cut, merge)) in WAYS.iter().enumerate() {
         let Some(options) = Options::new(*workers, *cut, *merge) else {
             return Ok(Some(String::from_str(rt.alloc(), "options beyond their limits")?));
         };
         let input = if i % 2 == 0 { input } else { unended };
-        let other = run::<_, IndexEngine>(rt, "segments", input, wanted, options)?;
+        let other = run::<_, S>(rt, "segments", input, wanted, options)?;
         if other.is_some() {
             return Ok(other);
         }
-        let other = run::<_, LocalEngine>(rt, "segments in one thread", input, wanted, options)?;
+        let other = run::<_, O>(rt, "segments in one thread", input, wanted, options)?;
         if other.is_some() {
             return Ok(other);
         }
@@ -92,26 +92,30 @@ fn difference_over_segments(
 }
 
 /// What some way of running a script gives that it shouldn't, if one does.
-fn difference(
-    rt: &(impl AllocGlobal + Threads + Wait + Sync),
-    script: &Script,
-) -> Result<Option<String>, AllocError> {
+fn difference<
+    R: AllocGlobal + Threads + Wait + Sync,
+    L: EngineOver<R>,
+    S: EngineOver<R>,
+    O: EngineOver<R>,
+>(rt: &R, script: &Script) -> Result<Option<String>, AllocError> {
     let input = script.input.as_str();
     let wanted = script.wanted.as_str();
-    let other = run::<_, ListEngine>(rt, "a list", input, wanted, Options::default())?;
+    let other = run::<_, L>(rt, "a list", input, wanted, Options::default())?;
     if other.is_some() || !script.over_segments {
         return Ok(other);
     }
-    difference_over_segments(rt, input, wanted)
+    difference_over_segments::<_, S, O>(rt, input, wanted)
 }
 
-/// Gives how many replies a script has, or else what some way of running it gives in place of one.
-pub(crate) fn give_replies(
-    rt: &(impl AllocGlobal + Threads + Wait + Sync),
-    trial: &mut Trial,
-    script: &Script,
-) {
-    match difference(rt, script) {
+/// Gives how many replies a script has, or else what some way of running it gives in place of one: over a list `L`,
+/// over segments `S`, and over segments in one thread `O`.
+pub(crate) fn give_replies<
+    R: AllocGlobal + Threads + Wait + Sync,
+    L: EngineOver<R>,
+    S: EngineOver<R>,
+    O: EngineOver<R>,
+>(rt: &R, trial: &mut Trial, script: &Script) {
+    match difference::<_, L, S, O>(rt, script) {
         Ok(None) => trial.give_number(script.replies()),
         Ok(Some(other)) => trial.give_text(other.as_str()),
         Err(AllocError) => trial.fail(Trouble::Memory),
