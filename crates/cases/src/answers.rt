@@ -1,87 +1,90 @@
 // What a search is asked by values, and its answer.
 use crate::member::{number, only, optional_text, text};
+use crate::trial::Trial;
 use crate::trouble::Trouble;
-use crate::values::{field_number, pair, put, words};
 use fts_model::{Answer, GroupValue, Hit, Order, Request, Schema};
-use serde_json::{Map, Value};
-use std::alloc::{AllocError, Global};
+use serde_json::Value;
 
-fn order_named(name: &str) -> Result<Order, Trouble> {
+fn order_named(trial: &mut Trial, name: &str) -> Order {
     match name {
-        "rising" => Ok(Order::Rising),
-        "falling" => Ok(Order::Falling),
-        _ => Err(Trouble::UnknownWord),
+        "rising" => Order::Rising,
+        "falling" => Order::Falling,
+        _ => {
+            trial.fail(Trouble::UnknownWord);
+            Order::Rising
+        }
     }
 }
 
 /// The top list that an object `{"by":FIELD,"k":K,"order":ORDER}` asks for.
-fn top_of(top: &Value) -> Result<(&str, u64, Order), Trouble> {
-    only(top, &["by", "k", "order"])?;
-    let order = order_named(text(top, "order")?)?;
-    Ok((text(top, "by")?, number(top, "k")?, order))
+fn top_of<'a>(trial: &mut Trial, top: &'a Value) -> (&'a str, u64, Order) {
+    only(trial, top, &["by", "k", "order"]);
+    let order = text(trial, top, "order");
+    let order = order_named(trial, order);
+    (text(trial, top, "by"), number(trial, top, "k"), order)
 }
 
 /// The top list that a case asks for, if it does.
-fn optional_top(case: &Value) -> Result<Option<(&str, u64, Order)>, Trouble> {
+fn optional_top<'a>(trial: &mut Trial, case: &'a Value) -> Option<(&'a str, u64, Order)> {
     match case.get("top") {
-        Some(top) => Ok(Some(top_of(top)?)),
-        None => Ok(None),
+        Some(top) => Some(top_of(trial, top)),
+        None => None,
     }
 }
 
 /// What a case asks by values: `groups`, a field, and `top`, an object `{"by":FIELD,"k":K,"order":ORDER}`.
-pub fn request_of(schema: &Schema, case: &Value) -> Result<Request, Trouble> {
-    let groups = optional_text(case, "groups")?;
-    let top = optional_top(case)?;
-    Ok(Request::new(schema, groups, top)?)
+pub fn request_of(trial: &mut Trial, schema: &Schema, case: &Value) -> Option<Request> {
+    let groups = optional_text(trial, case, "groups");
+    let top = optional_top(trial, case);
+    let request = Request::new(schema, groups, top);
+    trial.kept(request)
 }
 
-/// The value of a group.
-fn group_value(alloc: Global, value: &GroupValue) -> Result<Value, AllocError> {
+/// Gives the value of a group.
+fn give_group(trial: &mut Trial, value: &GroupValue) {
     match value {
-        GroupValue::U64(number) => Ok(Value::from(*number)),
-        GroupValue::I64(number) => Ok(Value::from(*number)),
-        GroupValue::Keyword(keyword) => words(alloc, keyword.as_str()),
+        GroupValue::U64(number) => trial.give_number(*number),
+        GroupValue::I64(number) => trial.give_signed(*number),
+        GroupValue::Keyword(keyword) => trial.give_text(keyword.as_str()),
     }
 }
 
-/// Groups as pairs of a value and a count.
-fn groups_value(alloc: Global, groups: &[(GroupValue, u64)]) -> Result<Value, AllocError> {
-    let mut list = Vec::new(alloc);
+/// Gives groups as pairs of a value and a count.
+fn give_groups(trial: &mut Trial, groups: &[(GroupValue, u64)]) {
+    trial.open();
     for (value, count) in groups {
-        list.push(pair(alloc, group_value(alloc, value)?, Value::from(*count))?)?;
+        trial.open();
+        give_group(trial, value);
+        trial.give_number(*count);
+        trial.close();
     }
-    Ok(Value::Array(list))
+    trial.close();
 }
 
-/// A top list as pairs of a stamp and a value.
-fn top_value(alloc: Global, hits: &[Hit]) -> Result<Value, AllocError> {
-    let mut list = Vec::new(alloc);
+/// Gives a top list as pairs of a stamp and a value.
+fn give_top(trial: &mut Trial, hits: &[Hit]) {
+    trial.open();
     for hit in hits {
-        list.push(pair(alloc, Value::from(hit.stamp), field_number(hit.value))?)?;
+        trial.open();
+        trial.give_number(hit.stamp);
+        trial.give_field_number(hit.value);
+        trial.close();
     }
-    Ok(Value::Array(list))
+    trial.close();
 }
 
-/// Gives an object what was asked by values.
-fn put_lists(
-    alloc: Global,
-    members: &mut Map<String, Value>,
-    answer: &Answer,
-) -> Result<(), AllocError> {
+/// Gives an answer as `{"count":..,"groups":..,"top":..}`, without what wasn't asked.
+pub fn give_answer(trial: &mut Trial, answer: &Answer) {
+    trial.open_object();
+    trial.name("count");
+    trial.give_number(answer.count);
     if let Some(groups) = &answer.groups {
-        put(alloc, members, "groups", groups_value(alloc, groups)?)?;
+        trial.name("groups");
+        give_groups(trial, groups);
     }
     if let Some(top) = &answer.top {
-        put(alloc, members, "top", top_value(alloc, top)?)?;
+        trial.name("top");
+        give_top(trial, top);
     }
-    Ok(())
-}
-
-/// An answer as `{"count":..,"groups":..,"top":..}`, without what wasn't asked.
-pub fn answer_value(alloc: Global, answer: &Answer) -> Result<Value, Trouble> {
-    let mut members = Map::new(alloc);
-    put(alloc, &mut members, "count", Value::from(answer.count))?;
-    put_lists(alloc, &mut members, answer)?;
-    Ok(Value::Object(members))
+    trial.close_object();
 }

@@ -1,6 +1,6 @@
 // Tries the cases of the files that the process's words name.
-use crate::judge::{fits, refused};
-use crate::member::{entry, text};
+use crate::judge::fits;
+use crate::trial::Trial;
 use crate::trouble::Trouble;
 use serde_json::Value;
 use std::alloc::{AllocError, Global};
@@ -14,8 +14,8 @@ pub trait Driver {
     /// Forgets what the cases of an earlier file made.
     fn begin(&mut self);
 
-    /// What the public calls give at a case. The names `case` and `gives` are there.
-    fn give(&mut self, alloc: Global, case: &Value) -> Result<Value, Trouble>;
+    /// Gives what the public calls give at a case.
+    fn give(&mut self, case: &Value, trial: &mut Trial);
 }
 
 /// What is wanted of the cases of a file.
@@ -84,10 +84,15 @@ impl Tally {
     }
 }
 
+/// The sentence of a case.
+fn sentence_of(case: &Value) -> Option<&str> {
+    case.get("case")?.as_str()
+}
+
 /// The case of a line, or else what the line lacks.
 fn case_of(alloc: Global, line: &str) -> Result<Value, &'static str> {
     match Value::from_str(alloc, line) {
-        Ok(case) if text(&case, "case").is_ok() => Ok(case),
+        Ok(case) if sentence_of(&case).is_some() => Ok(case),
         Ok(_) => Err("no sentence"),
         Err(_) => Err("no JSON"),
     }
@@ -108,39 +113,30 @@ pub fn case_on<R: Print + AllocGlobal>(
     }
 }
 
-/// What a case gave, a refusal too.
-fn value_of(alloc: Global, given: Result<Value, Trouble>) -> Result<Value, Trouble> {
-    match given {
-        Err(Trouble::Refused(refusal)) => Ok(refused(alloc, refusal)?),
-        given => given,
+/// What a case gave, as text, if it isn't what the case says.
+fn other(alloc: Global, case: &Value, given: &Value) -> Result<Option<String>, AllocError> {
+    match case.get("gives") {
+        Some(says) if fits(says, given) => Ok(None),
+        Some(_) => Ok(Some(given.to_string(alloc)?)),
+        None => Ok(Some(told(alloc, Trouble::Missing("gives"))?)),
     }
 }
 
-/// What a case gave, if that isn't what it says.
-fn other(
-    alloc: Global,
-    case: &Value,
-    given: Result<Value, Trouble>,
-) -> Result<Option<Value>, Trouble> {
-    let says = entry(case, "gives")?;
-    let given = value_of(alloc, given)?;
-    Ok(if fits(says, &given) {
-        None
-    } else {
-        Some(given)
-    })
+/// What went wrong, as text.
+fn told(alloc: Global, trouble: Trouble) -> Result<String, AllocError> {
+    let (before, name, behind) = trouble.words();
+    format!(in alloc; "{before}{name}{behind}")
 }
 
 /// Nothing where a case gave what it says, else what it gave or why it gave nothing.
 fn difference(
     alloc: Global,
     case: &Value,
-    given: Result<Value, Trouble>,
+    trial: &mut Trial,
 ) -> Result<Option<String>, AllocError> {
-    match other(alloc, case, given) {
-        Ok(None) => Ok(None),
-        Ok(Some(given)) => Ok(Some(given.to_string(alloc)?)),
-        Err(trouble) => Ok(Some(format!(in alloc; "{trouble}")?)),
+    match trial.ended() {
+        Ok(given) => other(alloc, case, &given),
+        Err(trouble) => Ok(Some(told(alloc, trouble)?)),
     }
 }
 
@@ -149,16 +145,31 @@ pub fn judged<R: Print + AllocGlobal>(
     rt: &R,
     name: &str,
     case: &Value,
-    given: Result<Value, Trouble>,
+    trial: &mut Trial,
 ) -> io::Result<bool> {
-    match difference(rt.alloc(), case, given)? {
+    match difference(rt.alloc(), case, trial)? {
         None => Ok(true),
         Some(given) => {
-            let sentence = text(case, "case").unwrap_or("");
+            let sentence = sentence_of(case).unwrap_or("");
             println!(rt; "DIFFERS: {name}: {sentence}: {given}")?;
             Ok(false)
         }
     }
+}
+
+/// Tries the case of a line, and answers whether it gives what it says.
+fn holds<R: Print + AllocGlobal, D: Driver>(
+    rt: &R,
+    driver: &mut D,
+    name: &str,
+    line: &str,
+) -> io::Result<bool> {
+    let Some(case) = case_on(rt, name, line)? else {
+        return Ok(false);
+    };
+    let mut trial = Trial::new(rt.alloc());
+    driver.give(&case, &mut trial);
+    judged(rt, name, &case, &mut trial)
 }
 
 /// Tries the cases of a file.
@@ -172,11 +183,7 @@ fn file<R: Print + AllocGlobal + Files, D: Driver>(
     let mut tally = Tally::new();
     driver.begin();
     for line in all.as_str().lines() {
-        let fits = match case_on(rt, name, line)? {
-            Some(case) => judged(rt, name, &case, driver.give(rt.alloc(), &case))?,
-            None => false,
-        };
-        tally.count(fits == (wanted == Wanted::Fit));
+        tally.count(holds(rt, driver, name, line)? == (wanted == Wanted::Fit));
     }
     Ok(tally)
 }

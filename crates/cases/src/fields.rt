@@ -1,43 +1,56 @@
 // The schema of a case.
 use crate::member::{flag, only, optional_list, text};
+use crate::trial::Trial;
 use crate::trouble::Trouble;
 use fts_model::{Field, Kind, Schema, Text};
 use serde_json::Value;
-use std::alloc::{AllocError, Global};
 
-fn kind_named(name: &str) -> Result<Kind, Trouble> {
+fn kind_named(trial: &mut Trial, name: &str) -> Kind {
     match name {
-        "text" => Ok(Kind::Text),
-        "keyword" => Ok(Kind::Keyword),
-        "u64" => Ok(Kind::U64),
-        "i64" => Ok(Kind::I64),
-        _ => Err(Trouble::UnknownWord),
+        "text" => Kind::Text,
+        "keyword" => Kind::Keyword,
+        "u64" => Kind::U64,
+        "i64" => Kind::I64,
+        _ => {
+            trial.fail(Trouble::UnknownWord);
+            Kind::Text
+        }
     }
 }
 
-fn field(alloc: Global, name: &str, kind: Kind, default: bool) -> Result<Field, AllocError> {
-    let name = Text::new(String::from_str(alloc, name)?);
-    Ok(Field {
-        name,
-        kind,
-        default,
-    })
+/// Puts a field behind others.
+fn push_field(trial: &mut Trial, fields: &mut Vec<Field>, name: &str, kind: Kind, default: bool) {
+    let name = String::from_str(trial.alloc(), name);
+    if let Some(name) = trial.kept(name) {
+        let name = Text::new(name);
+        trial.push(
+            fields,
+            Field {
+                name,
+                kind,
+                default,
+            },
+        );
+    }
 }
 
-fn field_of(alloc: Global, json: &Value) -> Result<Field, Trouble> {
-    only(json, &["name", "kind", "default"])?;
-    let kind = kind_named(text(json, "kind")?)?;
-    let default = flag(json, "default")?;
-    Ok(field(alloc, text(json, "name")?, kind, default)?)
+/// Puts the field of an object behind others.
+fn push_read(trial: &mut Trial, fields: &mut Vec<Field>, json: &Value) {
+    only(trial, json, &["name", "kind", "default"]);
+    let kind = text(trial, json, "kind");
+    let kind = kind_named(trial, kind);
+    let default = flag(trial, json, "default");
+    let name = text(trial, json, "name");
+    push_field(trial, fields, name, kind, default);
 }
 
 /// The fields of a list.
-pub fn fields_of(alloc: Global, items: &[Value]) -> Result<Vec<Field>, Trouble> {
-    let mut fields = Vec::new(alloc);
+pub fn fields_of(trial: &mut Trial, items: &[Value]) -> Vec<Field> {
+    let mut fields = Vec::new(trial.alloc());
     for item in items {
-        fields.push(field_of(alloc, item)?)?;
+        push_read(trial, &mut fields, item);
     }
-    Ok(fields)
+    fields
 }
 
 /// The name and the kind of each field of a case without a schema, and whether it is marked default.
@@ -49,22 +62,38 @@ const FIELDS: [(&str, Kind, bool); 4] = [
 ];
 
 /// The fields `title` (text) and `tag` (keyword), both marked default, `price` (`u64`) and `temp` (`i64`).
-fn four_fields(alloc: Global) -> Result<Vec<Field>, AllocError> {
-    let mut fields = Vec::new(alloc);
+fn four_fields(trial: &mut Trial) -> Vec<Field> {
+    let mut fields = Vec::new(trial.alloc());
     for (name, kind, default) in &FIELDS {
-        fields.push(field(alloc, name, *kind, *default)?)?;
+        push_field(trial, &mut fields, name, *kind, *default);
     }
-    Ok(fields)
+    fields
+}
+
+/// The schema of fields.
+pub fn schema_with(trial: &mut Trial, fields: Vec<Field>) -> Option<Schema> {
+    match Schema::new(trial.alloc(), fields) {
+        Ok(schema) => Some(schema),
+        Err((_, refusal)) => {
+            trial.fail(Trouble::from(refusal));
+            None
+        }
+    }
+}
+
+/// The schema of the four fields.
+pub fn schema_of_four(trial: &mut Trial) -> Option<Schema> {
+    let fields = four_fields(trial);
+    schema_with(trial, fields)
 }
 
 /// The schema of a case: that of its `schema`, and of the four fields `title`, `tag`, `price` and `temp` without one.
-pub fn schema_of(alloc: Global, case: &Value) -> Result<Schema, Trouble> {
-    let fields = match optional_list(case, "schema")? {
-        Some(items) => fields_of(alloc, items)?,
-        None => four_fields(alloc)?,
-    };
-    match Schema::new(alloc, fields) {
-        Ok(schema) => Ok(schema),
-        Err((_, refusal)) => Err(Trouble::from(refusal)),
+pub fn schema_of(trial: &mut Trial, case: &Value) -> Option<Schema> {
+    match optional_list(trial, case, "schema") {
+        Some(items) => {
+            let fields = fields_of(trial, items);
+            schema_with(trial, fields)
+        }
+        None => schema_of_four(trial),
     }
 }

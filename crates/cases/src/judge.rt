@@ -1,8 +1,6 @@
 // What a case says beside what was given.
-use crate::values::{put, words};
 use fts_model::Refusal;
-use serde_json::{Map, Value};
-use std::alloc::{AllocError, Global};
+use serde_json::Value;
 
 /// The bound that `{"at_most":n}` says.
 fn bound(says: &Value) -> Option<u64> {
@@ -49,7 +47,7 @@ pub fn fits(says: &Value, given: &Value) -> bool {
 }
 
 /// The number that a refusal has of a lane, an operation or a segment.
-fn number_of(refusal: Refusal) -> Option<u64> {
+pub(crate) fn number_of(refusal: Refusal) -> Option<u64> {
     match refusal {
         Refusal::LaneMissing(lane) => Some(lane as u64),
         Refusal::OtherSchema(number)
@@ -58,16 +56,4 @@ fn number_of(refusal: Refusal) -> Option<u64> {
         | Refusal::SourceGone(number) => Some(number),
         _ => None,
     }
-}
-
-/// A refusal as a value: `{"error":"StaleBatch"}`, and one that has a number `{"error":"LaneMissing","number":1}`.
-///
-/// Up to which byte a query may still go on is not among them: a case that shows it says so by a word of its own.
-pub fn refused(alloc: Global, refusal: Refusal) -> Result<Value, AllocError> {
-    let mut members = Map::new(alloc);
-    put(alloc, &mut members, "error", words(alloc, refusal.name())?)?;
-    if let Some(number) = number_of(refusal) {
-        put(alloc, &mut members, "number", Value::from(number))?;
-    }
-    Ok(Value::Object(members))
 }

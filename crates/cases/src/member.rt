@@ -1,123 +1,146 @@
-// The members of a case, each read strictly: nothing stands in for one that is missing or of another kind.
+// The members of a case, each read strictly: one that is missing or of another kind is noted, and read as empty.
+use crate::trial::Trial;
 use crate::trouble::Trouble;
 use serde_json::Value;
-use std::alloc::Global;
 
 /// The member of a name, whatever it is.
-pub fn entry<'a>(case: &'a Value, name: &'static str) -> Result<&'a Value, Trouble> {
-    case.get(name).ok_or(Trouble::Missing(name))
+pub fn entry<'a>(trial: &mut Trial, case: &'a Value, name: &'static str) -> Option<&'a Value> {
+    let found = case.get(name);
+    if found.is_none() {
+        trial.fail(Trouble::Missing(name));
+    }
+    found
+}
+
+/// What was read of a member, or else something in its place.
+fn read<T: Copy>(trial: &mut Trial, found: Option<T>, name: &'static str, empty: T) -> T {
+    match found {
+        Some(found) => found,
+        None => {
+            trial.fail(Trouble::WrongKind(name));
+            empty
+        }
+    }
 }
 
 /// The text under a name.
-pub fn text<'a>(case: &'a Value, name: &'static str) -> Result<&'a str, Trouble> {
-    entry(case, name)?.as_str().ok_or(Trouble::WrongKind(name))
+pub fn text<'a>(trial: &mut Trial, case: &'a Value, name: &'static str) -> &'a str {
+    let found = entry(trial, case, name).and_then(Value::as_str);
+    read(trial, found, name, "")
 }
 
 /// The number under a name.
-pub fn number(case: &Value, name: &'static str) -> Result<u64, Trouble> {
-    entry(case, name)?.as_u64().ok_or(Trouble::WrongKind(name))
+pub fn number(trial: &mut Trial, case: &Value, name: &'static str) -> u64 {
+    let found = entry(trial, case, name).and_then(Value::as_u64);
+    read(trial, found, name, 0)
 }
 
 /// The number under a name as a `usize`.
-pub fn size(case: &Value, name: &'static str) -> Result<usize, Trouble> {
-    Ok(number(case, name)? as usize)
+pub fn size(trial: &mut Trial, case: &Value, name: &'static str) -> usize {
+    number(trial, case, name) as usize
 }
 
 /// `true` or `false` under a name.
-pub fn flag(case: &Value, name: &'static str) -> Result<bool, Trouble> {
-    entry(case, name)?.as_bool().ok_or(Trouble::WrongKind(name))
+pub fn flag(trial: &mut Trial, case: &Value, name: &'static str) -> bool {
+    let found = entry(trial, case, name).and_then(Value::as_bool);
+    read(trial, found, name, false)
 }
 
 /// The list under a name, which may be empty.
-pub fn list<'a>(case: &'a Value, name: &'static str) -> Result<&'a [Value], Trouble> {
-    match entry(case, name)? {
-        Value::Array(items) => Ok(items.as_slice()),
-        _ => Err(Trouble::WrongKind(name)),
+pub fn list<'a>(trial: &mut Trial, case: &'a Value, name: &'static str) -> &'a [Value] {
+    match entry(trial, case, name) {
+        Some(Value::Array(items)) => items.as_slice(),
+        _ => {
+            trial.fail(Trouble::WrongKind(name));
+            &[]
+        }
     }
 }
 
 /// The list under a name, which has an item at least.
-pub fn nonempty<'a>(case: &'a Value, name: &'static str) -> Result<&'a [Value], Trouble> {
-    let items = list(case, name)?;
+pub fn nonempty<'a>(trial: &mut Trial, case: &'a Value, name: &'static str) -> &'a [Value] {
+    let items = list(trial, case, name);
     if items.is_empty() {
-        return Err(Trouble::Empty(name));
+        trial.fail(Trouble::Empty(name));
     }
-    Ok(items)
+    items
 }
 
 /// The list of numbers below 2^32 under a name, which may be empty.
-pub fn numbers(alloc: Global, case: &Value, name: &'static str) -> Result<Vec<u32>, Trouble> {
-    let mut numbers = Vec::new(alloc);
-    for item in list(case, name)? {
-        let number = item.as_u64().ok_or(Trouble::WrongKind(name))?;
-        numbers.push(u32::try_from(number).map_err(|_| Trouble::WrongKind(name))?)?;
+pub fn numbers(trial: &mut Trial, case: &Value, name: &'static str) -> Vec<u32> {
+    let mut numbers = Vec::new(trial.alloc());
+    for item in list(trial, case, name) {
+        let number = read(trial, item.as_u64(), name, 0);
+        let number = read(trial, u32::try_from(number).ok(), name, 0);
+        trial.push(&mut numbers, number);
     }
-    Ok(numbers)
+    numbers
 }
 
 /// The list of numbers under a name, which may be empty.
-pub fn ids(alloc: Global, case: &Value, name: &'static str) -> Result<Vec<u64>, Trouble> {
-    let mut ids = Vec::new(alloc);
-    for item in list(case, name)? {
-        ids.push(item.as_u64().ok_or(Trouble::WrongKind(name))?)?;
+pub fn ids(trial: &mut Trial, case: &Value, name: &'static str) -> Vec<u64> {
+    let mut ids = Vec::new(trial.alloc());
+    for item in list(trial, case, name) {
+        let number = read(trial, item.as_u64(), name, 0);
+        trial.push(&mut ids, number);
     }
-    Ok(ids)
+    ids
+}
+
+/// Whether a name is there.
+pub fn has(case: &Value, name: &'static str) -> bool {
+    case.get(name).is_some()
 }
 
 /// The text under a name, if the name is there.
-pub fn optional_text<'a>(case: &'a Value, name: &'static str) -> Result<Option<&'a str>, Trouble> {
-    match case.get(name) {
-        None => Ok(None),
-        Some(_) => Ok(Some(text(case, name)?)),
-    }
-}
-
-/// The number under a name, if the name is there.
-pub fn optional_number(case: &Value, name: &'static str) -> Result<Option<u64>, Trouble> {
-    match case.get(name) {
-        None => Ok(None),
-        Some(_) => Ok(Some(number(case, name)?)),
+pub fn optional_text<'a>(
+    trial: &mut Trial,
+    case: &'a Value,
+    name: &'static str,
+) -> Option<&'a str> {
+    if has(case, name) {
+        Some(text(trial, case, name))
+    } else {
+        None
     }
 }
 
 /// `true` or `false` under a name, and `false` if the name isn't there.
-pub fn optional_flag(case: &Value, name: &'static str) -> Result<bool, Trouble> {
-    match case.get(name) {
-        None => Ok(false),
-        Some(_) => flag(case, name),
-    }
+pub fn optional_flag(trial: &mut Trial, case: &Value, name: &'static str) -> bool {
+    has(case, name) && flag(trial, case, name)
 }
 
 /// The list under a name, if the name is there.
 pub fn optional_list<'a>(
+    trial: &mut Trial,
     case: &'a Value,
     name: &'static str,
-) -> Result<Option<&'a [Value]>, Trouble> {
-    match case.get(name) {
-        None => Ok(None),
-        Some(_) => Ok(Some(list(case, name)?)),
+) -> Option<&'a [Value]> {
+    if has(case, name) {
+        Some(list(trial, case, name))
+    } else {
+        None
     }
 }
 
 /// Refuses each member of an object that isn't of these names.
-pub fn only(object: &Value, names: &[&str]) -> Result<(), Trouble> {
-    only_of(object, &[], names)
+pub fn only(trial: &mut Trial, object: &Value, names: &[&str]) {
+    only_of(trial, object, &[], names);
 }
 
 /// Refuses each member of a case that isn't of these names, or its sentence, its word or what it gives.
-pub fn only_in_case(case: &Value, names: &[&str]) -> Result<(), Trouble> {
-    only_of(case, &["case", "do", "gives"], names)
+pub fn only_in_case(trial: &mut Trial, case: &Value, names: &[&str]) {
+    only_of(trial, case, &["case", "do", "gives"], names);
 }
 
-fn only_of(object: &Value, names: &[&str], more: &[&str]) -> Result<(), Trouble> {
+fn only_of(trial: &mut Trial, object: &Value, names: &[&str], more: &[&str]) {
     let Value::Object(members) = object else {
-        return Err(Trouble::NoObject);
+        return trial.fail(Trouble::NoObject);
     };
     for (name, _) in members.iter() {
         let name = name.as_str();
         if !(&*names).contains(&name) && !(&*more).contains(&name) {
-            return Err(Trouble::UnknownMember);
+            trial.fail(Trouble::UnknownMember);
         }
     }
-    Ok(())
 }

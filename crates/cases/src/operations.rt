@@ -1,32 +1,50 @@
 // The terms and operations of a case.
-use crate::member::{entry, only, text};
+use crate::member::{entry, has, only, text};
+use crate::trial::Trial;
 use crate::trouble::Trouble;
 use fts_model::{Document, Op, Schema, Term};
 use serde_json::Value;
-use std::alloc::Global;
 
 /// The term of an object `{"field":NAME,"is":VALUE}`.
-pub fn term_of(alloc: Global, schema: &Schema, json: &Value) -> Result<Term, Trouble> {
-    only(json, &["field", "is"])?;
-    Ok(Term::new(alloc, schema, text(json, "field")?, entry(json, "is")?)?)
+pub fn term_of(trial: &mut Trial, schema: &Schema, json: &Value) -> Option<Term> {
+    only(trial, json, &["field", "is"]);
+    let field = text(trial, json, "field");
+    let value = entry(trial, json, "is")?;
+    let term = Term::new(trial.alloc(), schema, field, value);
+    trial.kept(term)
+}
+
+/// The document under a name of an object.
+pub fn document_of(
+    trial: &mut Trial,
+    schema: &Schema,
+    json: &Value,
+    name: &'static str,
+) -> Option<Document> {
+    let document = entry(trial, json, name)?;
+    let document = Document::from_json(trial.alloc(), schema, document);
+    trial.kept(document)
+}
+
+/// The document that an operation adds, or the term of which it deletes all documents.
+fn named(trial: &mut Trial, schema: &Schema, json: &Value) -> Option<Op> {
+    if has(json, "add") {
+        only(trial, json, &["add"]);
+        return document_of(trial, schema, json, "add").map(Op::Add);
+    }
+    only(trial, json, &["delete"]);
+    let term = entry(trial, json, "delete")?;
+    term_of(trial, schema, term).map(Op::Delete)
 }
 
 /// The operation of an object `{"add":DOCUMENT}` or `{"delete":TERM}`, or of the text `delete_all`.
-pub fn op_of(alloc: Global, schema: &Schema, json: &Value) -> Result<Op, Trouble> {
-    if let Some(word) = json.as_str() {
-        return match word {
-            "delete_all" => Ok(Op::DeleteAll),
-            _ => Err(Trouble::UnknownWord),
-        };
-    }
-    match json.get("add") {
-        Some(document) => {
-            only(json, &["add"])?;
-            Ok(Op::Add(Document::from_json(alloc, schema, document)?))
-        }
-        None => {
-            only(json, &["delete"])?;
-            Ok(Op::Delete(term_of(alloc, schema, entry(json, "delete")?)?))
+pub fn op_of(trial: &mut Trial, schema: &Schema, json: &Value) -> Option<Op> {
+    match json.as_str() {
+        None => named(trial, schema, json),
+        Some("delete_all") => Some(Op::DeleteAll),
+        Some(_) => {
+            trial.fail(Trouble::UnknownWord);
+            None
         }
     }
 }

@@ -2,97 +2,161 @@
 ghost use Rattle.std.specs.Prelude.{◌≤◌};
 
 use crate::walk::Made;
-use cases::{Trouble, answer_value, only, request_of, size, text};
+use cases::{Trial, Trouble, give_answer, has, only, request_of, size, text};
 use fts_index::{Found, Searcher, Writer};
+use fts_model::Query;
 use fts_pool::Open;
 use fts_query::parse;
-use serde_json::{Value, json};
-use std::alloc::Global;
+use serde_json::Value;
 use std::sync::Wait;
 use std::thread::Threads;
 
-/// What a searcher finds, by so many threads.
-fn found<R: Threads + Wait + Sync>(
+/// What a searcher finds for a query, by so many threads.
+fn found_for<R: Threads + Wait + Sync>(
     rt: &R,
-    alloc: Global,
+    trial: &mut Trial,
     searcher: &Searcher,
     step: &Value,
+    query: &Query,
     workers: usize,
-) -> Result<Found, Trouble>
+) -> Option<Found>
     requires { (1 ≤ workers) × (workers ≤ 64) }
 {
     let schema = searcher.snapshot().schema();
-    let query = parse(alloc, schema, text(step, "query")?)?;
-    let request = request_of(schema, step)?;
-    if !request.fits(schema) {
-        return Err(Trouble::Impossible("a request of another schema"));
+    let request = request_of(trial, schema, step)?;
+    if !query.fits(schema) || !request.fits(schema) {
+        trial.fail(Trouble::Impossible("a request of another schema"));
+        return None;
     }
-    Ok(searcher.search(rt, alloc, &query, &request, workers, &Open)?)
+    let found = searcher.search(rt, trial.alloc(), query, &request, workers, &Open);
+    trial.kept(found)
 }
 
-/// What a searcher answers. Where one and three threads answer otherwise, both answers.
-fn answered<R: Threads + Wait + Sync>(
+/// What a searcher finds for the query of a step, by so many threads.
+fn found<R: Threads + Wait + Sync>(
     rt: &R,
-    alloc: Global,
+    trial: &mut Trial,
     searcher: &Searcher,
     step: &Value,
-) -> Result<Value, Trouble> {
-    only(step, &["do", "searcher", "query", "groups", "top"])?;
-    let one = answer_value(alloc, &found(rt, alloc, searcher, step, 1)?.answer)?;
-    let three = answer_value(alloc, &found(rt, alloc, searcher, step, 3)?.answer)?;
-    if one == three {
-        return Ok(one);
+    workers: usize,
+) -> Option<Found>
+    requires { (1 ≤ workers) × (workers ≤ 64) }
+{
+    let text = text(trial, step, "query");
+    let query = parse(trial.alloc(), searcher.snapshot().schema(), text);
+    match trial.kept(query) {
+        Some(query) => found_for(rt, trial, searcher, step, &query, workers),
+        None => None,
     }
-    Ok(json!(in alloc; {"one": one, "three": three})?)
+}
+
+/// Gives what a searcher answers, by so many threads.
+fn give_found<R: Threads + Wait + Sync>(
+    rt: &R,
+    trial: &mut Trial,
+    searcher: &Searcher,
+    step: &Value,
+    workers: usize,
+)
+    requires { (1 ≤ workers) × (workers ≤ 64) }
+{
+    if let Some(found) = found(rt, trial, searcher, step, workers) {
+        give_answer(trial, &found.answer);
+    }
+}
+
+/// What a searcher answers, which one and three threads must answer alike.
+fn answered<R: Threads + Wait + Sync>(
+    rt: &R,
+    trial: &mut Trial,
+    searcher: &Searcher,
+    step: &Value,
+) {
+    only(trial, step, &["do", "searcher", "query", "groups", "top"]);
+    let mark = trial.mark();
+    give_found(rt, trial, searcher, step, 1);
+    let mut three = Trial::new(trial.alloc());
+    give_found(rt, &mut three, searcher, step, 3);
+    if trial.since(mark).trim_start_matches(',') != three.since(0) {
+        trial.fail(Trouble::Impossible("one and three threads answer otherwise"));
+    }
 }
 
 /// How many blocks a search opens.
 fn openings<R: Threads + Wait + Sync>(
     rt: &R,
-    alloc: Global,
+    trial: &mut Trial,
     searcher: &Searcher,
     step: &Value,
-) -> Result<Value, Trouble> {
-    only(step, &["do", "searcher", "query"])?;
-    Ok(Value::from(found(rt, alloc, searcher, step, 1)?.openings))
-}
-
-/// What a word gives of a searcher.
-fn searched<R: Threads + Wait + Sync>(
-    rt: &R,
-    alloc: Global,
-    searcher: &Searcher,
-    word: &str,
-    step: &Value,
-) -> Result<Option<Value>, Trouble> {
-    match word {
-        "ask" => Ok(Some(answered(rt, alloc, searcher, step)?)),
-        "openings" => Ok(Some(openings(rt, alloc, searcher, step)?)),
-        _ => Ok(None),
+) {
+    only(trial, step, &["do", "searcher", "query"]);
+    if let Some(found) = found(rt, trial, searcher, step, 1) {
+        trial.give_number(found.openings);
     }
 }
 
-/// What a word gives, if it is one of these. A search is that of the last commit, or of a searcher that was kept.
-pub(crate) fn asked<R: AllocGlobal + Threads + Wait + Sync>(
+/// Gives what a word gives of a searcher.
+fn searched<R: Threads + Wait + Sync>(
     rt: &R,
+    trial: &mut Trial,
+    searcher: &Searcher,
+    word: &str,
+    step: &Value,
+) {
+    match word {
+        "ask" => answered(rt, trial, searcher, step),
+        _ => openings(rt, trial, searcher, step),
+    }
+}
+
+/// Keeps a searcher of the last commit, and gives its stamp.
+fn keep(trial: &mut Trial, writer: &Writer, made: &mut Made, step: &Value) {
+    only(trial, step, &["do"]);
+    let searcher = writer.searcher();
+    if let Some(searcher) = trial.kept(searcher) {
+        trial.give_number(searcher.commit_stamp());
+        trial.push(&mut made.searchers, searcher);
+    }
+}
+
+/// Gives what a word gives of the last commit.
+fn of_last<R: Threads + Wait + Sync>(
+    rt: &R,
+    trial: &mut Trial,
+    writer: &Writer,
+    word: &str,
+    step: &Value,
+) {
+    let searcher = writer.searcher();
+    if let Some(searcher) = trial.kept(searcher) {
+        searched(rt, trial, &searcher, word, step);
+    }
+}
+
+/// Gives what a word of these gives, and answers whether it is one. A search is that of the last commit, or of a
+/// searcher that was kept.
+pub(crate) fn asked<R: Threads + Wait + Sync>(
+    rt: &R,
+    trial: &mut Trial,
     writer: &Writer,
     made: &mut Made,
     word: &str,
     step: &Value,
-) -> Result<Option<Value>, Trouble> {
-    let alloc = rt.alloc();
+) -> bool {
     if word == "keep" {
-        only(step, &["do"])?;
-        let searcher = writer.searcher()?;
-        let stamp = searcher.commit_stamp();
-        made.searchers.push(searcher)?;
-        return Ok(Some(Value::from(stamp)));
+        keep(trial, writer, made, step);
+        return true;
     }
-    if step.get("searcher").is_none() {
-        return searched(rt, alloc, &writer.searcher()?, word, step);
+    if word != "ask" && word != "openings" {
+        return false;
     }
-    match made.searchers.get(size(step, "searcher")?) {
-        Some(searcher) => searched(rt, alloc, searcher, word, step),
-        None => Err(Trouble::Impossible("no such searcher")),
+    if !has(step, "searcher") {
+        of_last(rt, trial, writer, word, step);
+        return true;
     }
+    match made.searchers.get(size(trial, step, "searcher")) {
+        Some(searcher) => searched(rt, trial, searcher, word, step),
+        None => trial.fail(Trouble::Impossible("no such searcher")),
+    }
+    true
 }

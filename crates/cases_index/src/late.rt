@@ -3,7 +3,7 @@ ghost use Rattle.std.specs.Prelude.{◌≡◌, IfOk};
 ghost use Rattle.fts_snapshots.specs.Successors.{Fits};
 ghost use Rattle.cases_index.specs.Late.{AllFit};
 
-use cases::{Trouble, ids, only, size};
+use cases::{Trial, Trouble, ids, only, size};
 use fts_index::{MergedSegment, Writer};
 use fts_model::Refusal;
 use serde_json::Value;
@@ -22,62 +22,73 @@ fn merged(alloc: Global, writer: &Writer, ids: &[u64]) -> Result<MergedSegment, 
 }
 
 /// Begins and runs a merge, to be ended later.
-fn merge_later(
-    alloc: Global,
-    writer: &Writer,
-    late: &mut Vec<MergedSegment>,
-    step: &Value,
-) -> Result<Value, Trouble>
+fn merge_later(trial: &mut Trial, writer: &Writer, late: &mut Vec<MergedSegment>, step: &Value)
     requires { AllFit writer.now.front.snapshot late.old.items }
     ensures { AllFit writer.now.front.snapshot late.new.items }
 {
-    only(step, &["do", "ids"])?;
-    let merged = merged(alloc, writer, &ids(alloc, step, "ids")?)?;
-    late.push(merged)?;
-    Ok(Value::Null)
+    only(trial, step, &["do", "ids"]);
+    let ids = ids(trial, step, "ids");
+    trial.give_null();
+    match merged(trial.alloc(), writer, &ids) {
+        Ok(merged) => keep(trial, writer, late, merged),
+        Err(refusal) => trial.fail(Trouble::from(refusal)),
+    }
+}
+
+/// Keeps a merge that fits behind others.
+fn keep(trial: &mut Trial, writer: &Writer, late: &mut Vec<MergedSegment>, merged: MergedSegment)
+    requires all { AllFit writer.now.front.snapshot late.old.items }
+    requires fits { Fits merged writer.now.front.snapshot }
+    ensures { AllFit writer.now.front.snapshot late.new.items }
+{
+    match late.push(merged) {
+        Ok(()) => {}
+        Err(refused) => trial.fail(Trouble::from(refused)),
+    }
 }
 
 /// Ends a merge, which is kept behind the others where that is refused.
 fn end<R: Wait>(
     rt: &R,
-    alloc: Global,
+    trial: &mut Trial,
     writer: &mut Writer,
     late: &mut Vec<MergedSegment>,
     step: &Value,
-) -> Result<Value, Trouble>
+)
     requires { AllFit writer.old.front.snapshot late.old.items }
     ensures { AllFit writer.new.front.snapshot late.new.items }
 {
-    only(step, &["do", "merge"])?;
-    let which = size(step, "merge")?;
+    only(trial, step, &["do", "merge"]);
+    let which = size(trial, step, "merge");
     if which >= late.len() {
-        return Err(Trouble::Impossible("no such merge"));
+        return trial.fail(Trouble::Impossible("no such merge"));
     }
     let merged = late.remove(which);
-    match writer.end_merge(rt, alloc, merged) {
-        Ok(_) => Ok(Value::Null),
+    match writer.end_merge(rt, trial.alloc(), merged) {
+        Ok(_) => trial.give_null(),
         Err((merged, refusal)) => {
-            late.push(merged)?;
-            Err(Trouble::from(refusal))
+            keep(trial, writer, late, merged);
+            trial.fail(Trouble::from(refusal));
         }
     }
 }
 
-/// What a word gives, if it is one of these.
-pub(crate) fn ended<R: AllocGlobal + Wait>(
+/// Gives what a word of these gives, and answers whether it is one.
+pub(crate) fn ended<R: Wait>(
     rt: &R,
+    trial: &mut Trial,
     writer: &mut Writer,
     late: &mut Vec<MergedSegment>,
     word: &str,
     step: &Value,
-) -> Result<Option<Value>, Trouble>
+) -> bool
     requires { AllFit writer.old.front.snapshot late.old.items }
     ensures { AllFit writer.new.front.snapshot late.new.items }
 {
-    let alloc = rt.alloc();
     match word {
-        "merge_later" => Ok(Some(merge_later(alloc, writer, late, step)?)),
-        "end" => Ok(Some(end(rt, alloc, writer, late, step)?)),
-        _ => Ok(None),
+        "merge_later" => merge_later(trial, writer, late, step),
+        "end" => end(rt, trial, writer, late, step),
+        _ => return false,
     }
+    true
 }

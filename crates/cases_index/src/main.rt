@@ -10,7 +10,9 @@ mod shown;
 mod walk;
 mod ways;
 
-use cases::{Tally, Trouble, Wanted, case_on, judged, text};
+use cases::{Tally, Trial, Wanted, case_on, judged, text};
+use fts_engine::{IndexEngine, LocalEngine};
+use fts_script::{EngineOver, ListEngine};
 use script::script_of;
 use serde_json::Value;
 use std::process::ExitCode;
@@ -18,60 +20,68 @@ use std::rt::{Env, Files};
 use std::sync::Wait;
 use std::thread::Threads;
 use std::{env, fs, io};
-use ways::difference;
+use ways::give_replies;
 
-/// What the steps of a walk give; of a script how many replies it has, or else what some way of running it gave in
-/// place of one.
-fn given<R: AllocGlobal + Files + Threads + Wait + Sync>(
-    rt: &R,
-    case: &Value,
-) -> Result<Value, Trouble> {
-    if text(case, "do")? == "walk" {
-        return walk::walk(rt, case);
+/// Gives what the steps of a walk give; of a script how many replies it has, or else what some way of running it gave
+/// in place of one.
+fn give<
+    R: AllocGlobal + Files + Threads + Wait + Sync,
+    L: EngineOver<R>,
+    S: EngineOver<R>,
+    O: EngineOver<R>,
+>(rt: &R, trial: &mut Trial, case: &Value) {
+    if text(trial, case, "do") == "walk" {
+        return walk::walk(rt, trial, case);
     }
-    let script = script_of(rt, case)?;
-    match difference(rt, &script)? {
-        Some(difference) => Ok(Value::String(difference)),
-        None => Ok(Value::from(script.replies())),
+    let script = script_of(rt, trial, case);
+    if !trial.has_failed() {
+        give_replies::<_, L, S, O>(rt, trial, &script);
     }
 }
 
 /// Tries the case of a line, and answers whether it gives what it says.
-fn holds<R: AllocGlobal + Files + Print + Threads + Wait + Sync>(
-    rt: &R,
-    name: &str,
-    line: &str,
-) -> io::Result<bool> {
-    match case_on(rt, name, line)? {
-        Some(case) => judged(rt, name, &case, given(rt, &case)),
-        None => Ok(false),
-    }
+fn holds<
+    R: AllocGlobal + Files + Print + Threads + Wait + Sync,
+    L: EngineOver<R>,
+    S: EngineOver<R>,
+    O: EngineOver<R>,
+>(rt: &R, name: &str, line: &str) -> io::Result<bool> {
+    let Some(case) = case_on(rt, name, line)? else {
+        return Ok(false);
+    };
+    let mut trial = Trial::new(rt.alloc());
+    give::<_, L, S, O>(rt, &mut trial, &case);
+    judged(rt, name, &case, &mut trial)
 }
 
 /// Tries the cases of a file.
-fn tried<R: AllocGlobal + Files + Print + Threads + Wait + Sync>(
-    rt: &R,
-    name: &str,
-    wanted: Wanted,
-) -> io::Result<Tally> {
+fn tried<
+    R: AllocGlobal + Files + Print + Threads + Wait + Sync,
+    L: EngineOver<R>,
+    S: EngineOver<R>,
+    O: EngineOver<R>,
+>(rt: &R, name: &str, wanted: Wanted) -> io::Result<Tally> {
     let lines = fs::read_to_string(rt, name)?;
     let mut tally = Tally::new();
     for line in lines.as_str().lines() {
-        tally.count(holds(rt, name, line)? == (wanted == Wanted::Fit));
+        tally.count(holds::<_, L, S, O>(rt, name, line)? == (wanted == Wanted::Fit));
     }
     Ok(tally)
 }
 
 /// Tries the cases of each file that the process's words name.
-fn all<R: AllocGlobal + Env + Files + Print + Threads + Wait + Sync>(
-    rt: &R,
-) -> io::Result<ExitCode> {
+fn all<
+    R: AllocGlobal + Env + Files + Print + Threads + Wait + Sync,
+    L: EngineOver<R>,
+    S: EngineOver<R>,
+    O: EngineOver<R>,
+>(rt: &R) -> io::Result<ExitCode> {
     let (mut wanted, mut all) = (Wanted::Fit, Tally::new());
     for name in env::args(rt)?.skip(1) {
         if name.as_str() == "--wrong" {
             wanted = Wanted::Differ;
         } else {
-            let tally = tried(rt, name.as_str(), wanted)?;
+            let tally = tried::<_, L, S, O>(rt, name.as_str(), wanted)?;
             all.count_file(rt, name.as_str(), wanted, tally)?;
         }
     }
@@ -79,5 +89,5 @@ fn all<R: AllocGlobal + Env + Files + Print + Threads + Wait + Sync>(
 }
 
 fn main(rt: HostRuntime) -> io::Result<ExitCode> {
-    all(&rt)
+    all::<_, ListEngine, IndexEngine, LocalEngine>(&rt)
 }

@@ -1,7 +1,6 @@
 // The script of a case, and the replies that it should have.
-use cases::{Trouble, nonempty, only, text};
+use cases::{Trial, Trouble, nonempty, only, text};
 use serde_json::Value;
-use std::alloc::{AllocError, Global};
 use std::fs;
 use std::rt::Files;
 
@@ -19,7 +18,7 @@ const SCHEMA: &str = "{\"schema\":[\
     {\"name\":\"title\",\"kind\":\"text\",\"default\":true},\
     {\"name\":\"tag\",\"kind\":\"keyword\",\"default\":true},\
     {\"name\":\"price\",\"kind\":\"u64\"},\
-    {\"name\":\"temp\",\"kind\":\"i64\"}]}";
+    {\"name\":\"temp\",\"kind\":\"i64\"}]}\n";
 
 /// The most that a line or a piece of it is repeated.
 const MOST: u64 = 10_000_000;
@@ -28,80 +27,88 @@ const MOST: u64 = 10_000_000;
 const STRETCH: u64 = 4096;
 
 /// How many times something stands.
-fn times_of(json: &Value) -> Result<u64, Trouble> {
+fn times_of(trial: &mut Trial, json: &Value) -> u64 {
     match json.as_u64() {
-        Some(times) if times <= MOST => Ok(times),
-        _ => Err(Trouble::Impossible("a number of times that isn't one up to 10,000,000")),
+        Some(times) if times <= MOST => times,
+        _ => {
+            trial.fail(Trouble::Impossible("a number of times that isn't one up to 10,000,000"));
+            0
+        }
     }
 }
 
 /// Puts a text behind others, so many times.
-fn push_times(line: &mut String, text: &str, times: u64) -> Result<(), AllocError> {
+fn push_times(trial: &mut Trial, line: &mut String, text: &str, times: u64) {
     for _ in 0..times {
-        line.push_str(text)?;
+        let pushed = line.push_str(text);
+        trial.kept(pushed);
     }
-    Ok(())
 }
 
 /// Puts a text behind others, so many times: many of them by stretches.
-fn push_repeated(
-    alloc: Global,
-    line: &mut String,
-    text: &str,
-    times: u64,
-) -> Result<(), AllocError> {
-    let mut stretch = String::new(alloc);
-    push_times(&mut stretch, text, STRETCH)?;
-    push_times(line, stretch.as_str(), times / STRETCH)?;
-    push_times(line, text, times % STRETCH)
+fn push_repeated(trial: &mut Trial, line: &mut String, text: &str, times: u64) {
+    let mut stretch = String::new(trial.alloc());
+    push_times(trial, &mut stretch, text, STRETCH);
+    push_times(trial, line, stretch.as_str(), times / STRETCH);
+    push_times(trial, line, text, times % STRETCH);
 }
 
 /// Puts a piece of a line behind others: a text, or `[times, text]`.
-fn push_piece(alloc: Global, line: &mut String, piece: &Value) -> Result<(), Trouble> {
-    match piece {
-        Value::String(text) => line.push_str(text.as_str())?,
-        Value::Array(pair) => match pair.as_slice() {
-            [times, Value::String(text)] => {
-                let times = times_of(times)?;
-                push_repeated(alloc, line, text.as_str(), times)?;
-            }
-            _ => return Err(Trouble::Impossible("a piece that isn't [times, text]")),
-        },
-        _ => return Err(Trouble::Impossible("a piece that is neither a text nor [times, text]")),
+fn push_piece(trial: &mut Trial, line: &mut String, piece: &Value) {
+    if let Some(text) = piece.as_str() {
+        return push_times(trial, line, text, 1);
     }
-    Ok(())
+    match (piece.get(0usize), piece.get(1usize).and_then(Value::as_str)) {
+        (Some(times), Some(text)) => {
+            let times = times_of(trial, times);
+            push_repeated(trial, line, text, times);
+        }
+        _ => trial.fail(Trouble::Impossible("a piece that is neither a text nor [times, text]")),
+    }
 }
 
-/// A line or a reply: a text as it stands, an object in compact form, or a list of pieces.
-fn line_of(alloc: Global, json: &Value) -> Result<String, Trouble> {
+/// Puts the pieces of a line behind others.
+fn push_pieces(trial: &mut Trial, line: &mut String, pieces: &[Value]) {
+    for piece in pieces {
+        push_piece(trial, line, piece);
+    }
+}
+
+/// Puts a value in compact form behind others.
+fn push_compact(trial: &mut Trial, line: &mut String, json: &Value) {
+    let text = json.to_string(trial.alloc());
+    if let Some(text) = trial.kept(text) {
+        push_times(trial, line, text.as_str(), 1);
+    }
+}
+
+/// A line or a reply and its end: a text as it stands, an object in compact form, or a list of pieces.
+fn line_of(trial: &mut Trial, json: &Value) -> String {
+    let mut line = String::new(trial.alloc());
     match json {
-        Value::String(text) => Ok(text.clone()?),
-        Value::Object(_) => Ok(json.to_string(alloc)?),
-        Value::Array(pieces) => {
-            let mut line = String::new(alloc);
-            for piece in pieces {
-                push_piece(alloc, &mut line, piece)?;
-            }
-            Ok(line)
-        }
-        _ => Err(Trouble::Impossible(
+        Value::String(text) => push_times(trial, &mut line, text.as_str(), 1),
+        Value::Object(_) => push_compact(trial, &mut line, json),
+        Value::Array(pieces) => push_pieces(trial, &mut line, pieces),
+        _ => trial.fail(Trouble::Impossible(
             "a line that is neither a text, an object nor a list of pieces",
         )),
     }
-}
-
-/// Puts a line and its end behind others.
-fn push_line(lines: &mut String, line: &str) -> Result<(), AllocError> {
-    lines.push_str(line)?;
-    lines.push('\n')?;
-    Ok(())
+    push_times(trial, &mut line, "\n", 1);
+    line
 }
 
 /// The reply to a line that stands so many times, where it stands for the i-th time from 0: its stamp rises by one.
-fn reply_of(alloc: Global, json: &Value, i: u64) -> Result<String, Trouble> {
-    match json.get("stamp").and_then(Value::as_u64) {
-        Some(first) => Ok(format!(in alloc; "{{\"stamp\":{}}}", first.saturating_add(i))?),
-        None => line_of(alloc, json),
+fn reply_of(trial: &mut Trial, json: &Value, i: u64) -> String {
+    if json.is_null() {
+        return String::new(trial.alloc());
+    }
+    let Some(first) = json.get("stamp").and_then(Value::as_u64) else {
+        return line_of(trial, json);
+    };
+    let reply = format!(in trial.alloc(); "{{\"stamp\":{}}}\n", first.saturating_add(i));
+    match trial.kept(reply) {
+        Some(reply) => reply,
+        None => String::new(trial.alloc()),
     }
 }
 
@@ -112,87 +119,83 @@ impl Script {
     }
 
     /// Puts a line behind others, so many times, and what it should be answered, if it should be.
-    fn push(
-        &mut self,
-        alloc: Global,
-        line: &Value,
-        reply: &Value,
-        times: u64,
-    ) -> Result<(), Trouble> {
-        let line = line_of(alloc, line)?;
+    fn push(&mut self, trial: &mut Trial, line: &Value, reply: &Value, times: u64) {
+        let line = line_of(trial, line);
         for i in 0..times {
-            push_line(&mut self.input, line.as_str())?;
-            if !reply.is_null() {
-                push_line(&mut self.wanted, reply_of(alloc, reply, i)?.as_str())?;
-            }
+            push_times(trial, &mut self.input, line.as_str(), 1);
+            let reply = reply_of(trial, reply, i);
+            push_times(trial, &mut self.wanted, reply.as_str(), 1);
         }
-        Ok(())
     }
 
     /// Puts `[line, reply]` or `[line, reply, times]` behind others.
-    fn push_pair(&mut self, alloc: Global, pair: &Value) -> Result<(), Trouble> {
-        let Value::Array(members) = pair else {
-            return Err(Trouble::Impossible("a line without its reply"));
+    fn push_pair(&mut self, trial: &mut Trial, pair: &Value) {
+        let times = match pair.get(2usize) {
+            Some(times) => times_of(trial, times),
+            None => 1,
         };
-        match members.as_slice() {
-            [line, reply] => self.push(alloc, line, reply, 1),
-            [line, reply, times] => self.push(alloc, line, reply, times_of(times)?),
-            _ => Err(Trouble::Impossible(
-                "a line that isn't [line, reply] or [line, reply, times]",
-            )),
+        match (pair.get(0usize), pair.get(1usize)) {
+            (Some(line), Some(reply)) => self.push(trial, line, reply, times),
+            _ => trial.fail(Trouble::Impossible("a line without its reply")),
         }
     }
 }
 
 /// The text of a file.
-fn file_of<R: AllocGlobal + Files>(rt: &R, name: &str) -> Result<String, Trouble> {
+fn file_of<R: Files + AllocGlobal>(rt: &R, trial: &mut Trial, name: &str) -> String {
     match fs::read_to_string(rt, name) {
-        Ok(text) => Ok(text),
-        Err(_) => Err(Trouble::Impossible("a file that can't be read")),
+        Ok(text) => text,
+        Err(_) => {
+            trial.fail(Trouble::Impossible("a file that can't be read"));
+            String::new(trial.alloc())
+        }
     }
 }
 
 /// The script of a file, and the replies of another.
-fn of_files<R: AllocGlobal + Files>(rt: &R, case: &Value) -> Result<Script, Trouble> {
-    only(case, &["case", "do", "script", "replies", "gives"])?;
-    Ok(Script {
+fn of_files<R: AllocGlobal + Files>(rt: &R, trial: &mut Trial, case: &Value) -> Script {
+    only(trial, case, &["case", "do", "script", "replies", "gives"]);
+    let input = text(trial, case, "script");
+    let wanted = text(trial, case, "replies");
+    Script {
         over_segments: true,
-        input: file_of(rt, text(case, "script")?)?,
-        wanted: file_of(rt, text(case, "replies")?)?,
-    })
+        input: file_of(rt, trial, input),
+        wanted: file_of(rt, trial, wanted),
+    }
 }
 
-/// The script of lines that stand beside their replies.
+/// The script of lines that stand beside their replies, behind other lines and their replies.
 fn of_lines(
-    alloc: Global,
+    trial: &mut Trial,
     case: &Value,
-    before: &[(&str, &str)],
+    before: &str,
+    replies: &str,
     over_segments: bool,
-) -> Result<Script, Trouble> {
-    only(case, &["case", "do", "lines", "gives"])?;
+) -> Script {
+    only(trial, case, &["case", "do", "lines", "gives"]);
     let mut script = Script {
         over_segments,
-        input: String::new(alloc),
-        wanted: String::new(alloc),
+        input: String::new(trial.alloc()),
+        wanted: String::new(trial.alloc()),
     };
-    for (line, reply) in before {
-        push_line(&mut script.input, line)?;
-        push_line(&mut script.wanted, reply)?;
+    push_times(trial, &mut script.input, before, 1);
+    push_times(trial, &mut script.wanted, replies, 1);
+    for pair in nonempty(trial, case, "lines") {
+        script.push_pair(trial, pair);
     }
-    for pair in nonempty(case, "lines")? {
-        script.push_pair(alloc, pair)?;
-    }
-    Ok(script)
+    script
 }
 
 /// The script of a case.
-pub(crate) fn script_of<R: AllocGlobal + Files>(rt: &R, case: &Value) -> Result<Script, Trouble> {
-    let alloc = rt.alloc();
-    match text(case, "do")? {
-        "files" => of_files(rt, case),
-        "lines" => of_lines(alloc, case, &[], true),
-        "lines under a schema" => of_lines(alloc, case, &[(SCHEMA, "{\"fields\":4}")], true),
-        "lines without an index" => of_lines(alloc, case, &[], false),
-        _ => Err(Trouble::UnknownWord),
+pub(crate) fn script_of<R: AllocGlobal + Files>(rt: &R, trial: &mut Trial, case: &Value) -> Script {
+    match text(trial, case, "do") {
+        "files" => of_files(rt, trial, case),
+        "lines" => of_lines(trial, case, "", "", true),
+        "lines under a schema" => of_lines(trial, case, SCHEMA, "{\"fields\":4}\n", true),
+        "lines without an index" => of_lines(trial, case, "", "", false),
+        _ => {
+            trial.fail(Trouble::UnknownWord);
+            of_lines(trial, case, "", "", false)
+        }
     }
 }

@@ -1,66 +1,69 @@
 // Steps that look at the writer: `stamp`, `segments`, `stamps` and `plan`.
-use cases::{Trouble, only, stamps};
+use cases::{Trial, only};
 use fts_index::{Entry, Writer};
-use serde_json::{Value, json};
-use std::alloc::Global;
+use serde_json::Value;
 
 /// The number, the documents and the live documents of each segment.
-fn segments(alloc: Global, writer: &Writer) -> Result<Value, Trouble> {
-    let mut list = Vec::new(alloc);
-    for info in writer.segments(alloc)? {
-        list.push(json!(in alloc; [(info.id), (info.docs), (info.live)])?)?;
+fn segments(trial: &mut Trial, writer: &Writer) {
+    let infos = writer.segments(trial.alloc());
+    let Some(infos) = trial.kept(infos) else {
+        return;
+    };
+    trial.open();
+    for info in &infos {
+        trial.give_stamps(&[info.id, info.docs as u64, info.live as u64]);
     }
-    Ok(Value::Array(list))
+    trial.close();
 }
 
 /// The stamps of the live documents of a segment, in the order of their numbers.
-fn stamps_of(alloc: Global, entry: &Entry) -> Result<Value, Trouble> {
+fn give_live(trial: &mut Trial, entry: &Entry) {
     let segment = entry.segment();
     let live = entry.live();
-    let mut found = Vec::new(alloc);
+    trial.open();
     for number in 0..segment.docs() {
         if number < live.len() && live.get(number) {
-            found.push(segment.stamp(number))?;
+            trial.give_number(segment.stamp(number));
         }
     }
-    Ok(stamps(alloc, &found)?)
+    trial.close();
 }
 
 /// The stamps of the live documents of each segment.
-fn all_stamps(alloc: Global, writer: &Writer) -> Result<Value, Trouble> {
-    let searcher = writer.searcher()?;
-    let mut list = Vec::new(alloc);
+fn stamps(trial: &mut Trial, writer: &Writer) {
+    let searcher = writer.searcher();
+    let Some(searcher) = trial.kept(searcher) else {
+        return;
+    };
+    trial.open();
     for entry in searcher.snapshot().entries() {
-        list.push(stamps_of(alloc, entry)?)?;
+        give_live(trial, entry);
     }
-    Ok(Value::Array(list))
+    trial.close();
 }
 
 /// The numbers of the segments of each merge that is worth it.
-fn plan(alloc: Global, writer: &Writer) -> Result<Value, Trouble> {
-    let mut list = Vec::new(alloc);
-    for ids in &writer.plan(alloc)? {
-        list.push(stamps(alloc, ids)?)?;
+fn plan(trial: &mut Trial, writer: &Writer) {
+    let plan = writer.plan(trial.alloc());
+    let Some(plan) = trial.kept(plan) else {
+        return;
+    };
+    trial.open();
+    for ids in &plan {
+        trial.give_stamps(ids);
     }
-    Ok(Value::Array(list))
+    trial.close();
 }
 
-/// What a word gives, if it is one of these.
-pub(crate) fn shown(
-    alloc: Global,
-    writer: &Writer,
-    word: &str,
-    step: &Value,
-) -> Result<Option<Value>, Trouble> {
-    if !["stamp", "segments", "stamps", "plan"].contains(&word) {
-        return Ok(None);
-    }
-    only(step, &["do"])?;
+/// Gives what a word of these gives, and answers whether it is one.
+pub(crate) fn shown(trial: &mut Trial, writer: &Writer, word: &str, step: &Value) -> bool {
     match word {
-        "stamp" => Ok(Some(Value::from(writer.commit_stamp()))),
-        "segments" => Ok(Some(segments(alloc, writer)?)),
-        "stamps" => Ok(Some(all_stamps(alloc, writer)?)),
-        "plan" => Ok(Some(plan(alloc, writer)?)),
-        _ => Ok(None),
+        "stamp" => trial.give_number(writer.commit_stamp()),
+        "segments" => segments(trial, writer),
+        "stamps" => stamps(trial, writer),
+        "plan" => plan(trial, writer),
+        _ => return false,
     }
+    only(trial, step, &["do"]);
+    true
 }

@@ -5,10 +5,9 @@ use crate::asked::asked;
 use crate::changed::changed;
 use crate::late::ended;
 use crate::shown::shown;
-use cases::{Trouble, nonempty, only, refused, schema_of, text};
+use cases::{Trial, Trouble, nonempty, only, schema_of, text};
 use fts_index::{Batch, MergedSegment, Searcher, Writer};
 use serde_json::Value;
-use std::alloc::Global;
 use std::sync::Wait;
 use std::thread::Threads;
 
@@ -21,72 +20,63 @@ pub(crate) struct Made {
     pub(crate) searchers: Vec<Searcher>,
 }
 
-/// What a step gives.
-fn stepped<R: AllocGlobal + Threads + Wait + Sync>(
+/// Gives what a step gives.
+fn stepped<R: Threads + Wait + Sync>(
     rt: &R,
+    trial: &mut Trial,
     writer: &mut Writer,
     late: &mut Vec<MergedSegment>,
     made: &mut Made,
     step: &Value,
-) -> Result<Value, Trouble>
+)
     requires { AllFit writer.old.front.snapshot late.old.items }
     ensures { AllFit writer.new.front.snapshot late.new.items }
 {
-    let word = text(step, "do")?;
-    if let Some(given) = changed(rt, writer, made, word, step)? {
-        return Ok(given);
+    let word = text(trial, step, "do");
+    if ended(rt, trial, writer, late, word, step) {
+        return;
     }
-    if let Some(given) = ended(rt, writer, late, word, step)? {
-        return Ok(given);
+    if changed(rt, trial, writer, made, word, step) {
+        return;
     }
-    if let Some(given) = asked(rt, writer, made, word, step)? {
-        return Ok(given);
-    }
-    match shown(rt.alloc(), writer, word, step)? {
-        Some(given) => Ok(given),
-        None => Err(Trouble::UnknownWord),
+    if !asked(rt, trial, writer, made, word, step) && !shown(trial, writer, word, step) {
+        trial.fail(Trouble::UnknownWord);
     }
 }
 
-/// What a step gives, a refusal too.
-fn given(alloc: Global, outcome: Result<Value, Trouble>) -> Result<Value, Trouble> {
-    match outcome {
-        Err(Trouble::Refused(refusal)) => Ok(refused(alloc, refusal)?),
-        outcome => outcome,
-    }
-}
-
-/// What each step gives.
-fn walked<R: AllocGlobal + Threads + Wait + Sync>(
+/// Gives what each step gives, a refusal too.
+fn walked<R: Threads + Wait + Sync>(
     rt: &R,
+    trial: &mut Trial,
     writer: &mut Writer,
     steps: &[Value],
-) -> Result<Value, Trouble> {
-    let alloc = rt.alloc();
-    let mut late = Vec::new(alloc);
+) {
+    let mut late = Vec::new(trial.alloc());
     let mut made = Made {
-        batches: Vec::new(alloc),
-        searchers: Vec::new(alloc),
+        batches: Vec::new(trial.alloc()),
+        searchers: Vec::new(trial.alloc()),
     };
-    let mut list = Vec::new(alloc);
+    trial.open();
     for step in steps {
-        let outcome = stepped(rt, writer, &mut late, &mut made, step);
-        list.push(given(alloc, outcome)?)?;
+        let mark = trial.mark();
+        stepped(rt, trial, writer, &mut late, &mut made, step);
+        trial.settle(mark);
     }
-    Ok(Value::Array(list))
+    trial.close();
 }
 
-/// What each step of a case gives, over a new writer.
-pub(crate) fn walk<R: AllocGlobal + Threads + Wait + Sync>(
-    rt: &R,
-    case: &Value,
-) -> Result<Value, Trouble> {
-    let alloc = rt.alloc();
-    only(case, &["case", "do", "gives", "schema", "steps"])?;
-    let schema = schema_of(alloc, case)?;
-    let steps = nonempty(case, "steps")?;
-    let mut writer = Writer::new(rt, alloc, &schema)?;
-    let given = walked(rt, &mut writer, steps);
-    writer.close(rt);
-    given
+/// Gives what each step of a case gives, over a new writer.
+pub(crate) fn walk<R: Threads + Wait + Sync>(rt: &R, trial: &mut Trial, case: &Value) {
+    only(trial, case, &["case", "do", "gives", "schema", "steps"]);
+    let steps = nonempty(trial, case, "steps");
+    let Some(schema) = schema_of(trial, case) else {
+        return;
+    };
+    match Writer::new(rt, trial.alloc(), &schema) {
+        Ok(mut writer) => {
+            walked(rt, trial, &mut writer, steps);
+            writer.close(rt);
+        }
+        Err(refusal) => trial.fail(Trouble::from(refusal)),
+    }
 }

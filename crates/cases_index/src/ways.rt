@@ -1,8 +1,9 @@
-// The ways of running a script: over a plain list of documents, and over segments under each kind of options.
+// The ways of running a script: over a plain list of documents, and over segments under each kind of options. The
+// engines are chosen by `main`.
 use crate::script::Script;
-use cases::Trouble;
-use fts_engine::{IndexEngine, LocalEngine};
-use fts_script::{Cut, EngineOver, ListEngine, Merge, Options, Plain, Streams, run_script};
+use cases::{Trial, Trouble};
+use fts_script::{Cut, EngineOver, Merge, Options, Plain, Streams, run_script};
+use std::alloc::{AllocError, Global};
 use std::sync::Wait;
 use std::thread::Threads;
 
@@ -29,13 +30,30 @@ fn first_other<'a>(given: &'a str, wanted: &str) -> &'a str {
     "too few replies"
 }
 
+/// What was given over an engine, if it isn't what is wanted.
+fn other(
+    alloc: Global,
+    over: &str,
+    given: Vec<u8>,
+    wanted: &str,
+    options: Options,
+) -> Result<Option<String>, AllocError> {
+    if given.as_slice() == wanted.as_bytes() {
+        return Ok(None);
+    }
+    let given = String::from_utf8(given).unwrap_or(String::new(alloc));
+    let other = first_other(given.as_str(), wanted);
+    Ok(Some(format!(in alloc; "over {over} gave {other} at {options:?}")?))
+}
+
 /// What a run over an engine gives that it shouldn't, if it does.
 fn run<R: AllocGlobal + Threads + Wait + Sync, E: EngineOver<R>>(
     rt: &R,
+    over: &str,
     input: &str,
     wanted: &str,
     options: Options,
-) -> Result<Option<String>, Trouble> {
+) -> Result<Option<String>, AllocError> {
     let alloc = rt.alloc();
     let mut streams = Streams {
         reader: Plain::new(input.as_bytes()),
@@ -43,42 +61,63 @@ fn run<R: AllocGlobal + Threads + Wait + Sync, E: EngineOver<R>>(
     };
     let outcome = run_script::<_, E, _, _>(rt, &mut streams, options);
     if outcome.is_err() {
-        return Ok(Some(format!(in alloc; "ended by {outcome:?} at {options:?}")?));
+        return Ok(Some(format!(in alloc; "over {over} ended by {outcome:?} at {options:?}")?));
     }
-    let given = streams.writer.into_inner();
-    if given.as_slice() == wanted.as_bytes() {
-        return Ok(None);
-    }
-    let given = String::from_utf8(given).unwrap_or(String::new(alloc));
-    let other = first_other(given.as_str(), wanted);
-    Ok(Some(format!(in alloc; "gave {other} at {options:?}")?))
+    other(alloc, over, streams.writer.into_inner(), wanted, options)
 }
 
-/// What some way of running a script gives that it shouldn't, if one does. Half of the ways run it without its last LF.
-pub(crate) fn difference(
-    rt: &(impl AllocGlobal + Threads + Wait + Sync),
-    script: &Script,
-) -> Result<Option<String>, Trouble> {
-    let input = script.input.as_str();
-    let wanted = script.wanted.as_str();
+/// What some way of running a script over segments gives that it shouldn't, if one does: over `S`, and over `O` in one
+/// thread. Half of the ways run it without its last LF.
+fn difference_over_segments<
+    R: AllocGlobal + Threads + Wait + Sync,
+    S: EngineOver<R>,
+    O: EngineOver<R>,
+>(rt: &R, input: &str, wanted: &str) -> Result<Option<String>, AllocError> {
     let unended = input.strip_suffix('\n').unwrap_or(input);
-    if let Some(other) = run::<_, ListEngine>(rt, input, wanted, Options::default())? {
-        return Ok(Some(format!(in rt.alloc(); "over a list {other}")?));
-    }
-    if !script.over_segments {
-        return Ok(None);
-    }
     for (i, (workers, cut, merge)) in WAYS.iter().enumerate() {
         let Some(options) = Options::new(*workers, *cut, *merge) else {
-            return Err(Trouble::Impossible("options beyond their limits"));
+            return Ok(Some(String::from_str(rt.alloc(), "options beyond their limits")?));
         };
         let input = if i % 2 == 0 { input } else { unended };
-        if let Some(other) = run::<_, IndexEngine>(rt, input, wanted, options)? {
-            return Ok(Some(format!(in rt.alloc(); "over segments {other}")?));
+        let other = run::<_, S>(rt, "segments", input, wanted, options)?;
+        if other.is_some() {
+            return Ok(other);
         }
-        if let Some(other) = run::<_, LocalEngine>(rt, input, wanted, options)? {
-            return Ok(Some(format!(in rt.alloc(); "over segments in one thread {other}")?));
+        let other = run::<_, O>(rt, "segments in one thread", input, wanted, options)?;
+        if other.is_some() {
+            return Ok(other);
         }
     }
     Ok(None)
+}
+
+/// What some way of running a script gives that it shouldn't, if one does.
+fn difference<
+    R: AllocGlobal + Threads + Wait + Sync,
+    L: EngineOver<R>,
+    S: EngineOver<R>,
+    O: EngineOver<R>,
+>(rt: &R, script: &Script) -> Result<Option<String>, AllocError> {
+    let input = script.input.as_str();
+    let wanted = script.wanted.as_str();
+    let other = run::<_, L>(rt, "a list", input, wanted, Options::default())?;
+    if other.is_some() || !script.over_segments {
+        return Ok(other);
+    }
+    difference_over_segments::<_, S, O>(rt, input, wanted)
+}
+
+/// Gives how many replies a script has, or else what some way of running it gives in place of one: over a list `L`,
+/// over segments `S`, and over segments in one thread `O`.
+pub(crate) fn give_replies<
+    R: AllocGlobal + Threads + Wait + Sync,
+    L: EngineOver<R>,
+    S: EngineOver<R>,
+    O: EngineOver<R>,
+>(rt: &R, trial: &mut Trial, script: &Script) {
+    match difference::<_, L, S, O>(rt, script) {
+        Ok(None) => trial.give_number(script.replies()),
+        Ok(Some(other)) => trial.give_text(other.as_str()),
+        Err(AllocError) => trial.fail(Trouble::Memory),
+    }
 }

@@ -1,73 +1,72 @@
 // Cases of what all segments that were made tell together: `answer` and `answer_openings`.
 use crate::bench::Bench;
+use crate::queries::query_of;
 use crate::texts::text_of;
-use cases::{Trouble, answer_value, request_of};
+use cases::{Trial, Trouble, give_answer, request_of};
 use fts_collect::{Part, collect};
-use fts_model::Request;
-use fts_query::parse;
+use fts_model::{Query, Request};
 use serde_json::Value;
-use std::alloc::Global;
 
-/// What one segment tells.
-fn part_of(alloc: Global, bench: &Bench, query: &str, request: &Request) -> Result<Part, Trouble> {
+/// Puts what one segment tells of a query behind what others told.
+fn push_told(
+    trial: &mut Trial,
+    parts: &mut Vec<Part>,
+    bench: &Bench,
+    query: &Query,
+    request: &Request,
+) {
     let schema = bench.segment.schema();
-    let query = parse(alloc, schema, query)?;
-    if bench.live.len() != bench.segment.docs() || !request.fits(schema) {
-        return Err(Trouble::Impossible("the segment can't be asked"));
+    if bench.live.len() != bench.segment.docs() || !query.fits(schema) || !request.fits(schema) {
+        return trial.fail(Trouble::Impossible("the segment can't be asked"));
     }
-    Ok(collect(alloc, &bench.segment, &bench.live, &query, request)?)
+    let part = collect(trial.alloc(), &bench.segment, &bench.live, query, request);
+    if let Some(part) = trial.kept(part) {
+        trial.push(parts, part);
+    }
+}
+
+/// Puts what one segment tells of a text behind what others told.
+fn push_part(
+    trial: &mut Trial,
+    parts: &mut Vec<Part>,
+    bench: &Bench,
+    text: &str,
+    request: &Request,
+) {
+    if let Some(query) = query_of(trial, bench.segment.schema(), text) {
+        push_told(trial, parts, bench, &query, request);
+    }
 }
 
 /// What each segment tells.
-fn parts_of(
-    alloc: Global,
-    made: &[Bench],
-    query: &str,
-    request: &Request,
-) -> Result<Vec<Part>, Trouble> {
-    let mut parts = Vec::new(alloc);
+fn parts_of(trial: &mut Trial, made: &[Bench], text: &str, request: &Request) -> Vec<Part> {
+    let mut parts = Vec::new(trial.alloc());
     for bench in made {
-        parts.push(part_of(alloc, bench, query, request)?)?;
+        push_part(trial, &mut parts, bench, text, request);
     }
-    Ok(parts)
+    parts
 }
 
 /// What is asked for beside the count, under the schema of the first segment.
-fn asked(alloc: Global, case: &Value, made: &[Bench]) -> Result<Request, Trouble> {
+fn asked(trial: &mut Trial, case: &Value, made: &[Bench]) -> Option<Request> {
     match made.first() {
-        Some(bench) => request_of(bench.segment.schema(), case),
-        None => Err(Trouble::Impossible("no documents were made")),
+        Some(bench) => request_of(trial, bench.segment.schema(), case),
+        None => {
+            trial.fail(Trouble::Impossible("no documents were made"));
+            None
+        }
     }
 }
 
-/// What each segment tells of the query of a case.
-fn told(
-    alloc: Global,
-    case: &Value,
-    made: &[Bench],
-    request: &Request,
-) -> Result<Vec<Part>, Trouble> {
-    let query = text_of(alloc, case, "query")?;
-    parts_of(alloc, made, query.as_str(), request)
-}
-
-/// What all segments tell together.
-fn answered(alloc: Global, case: &Value, made: &[Bench]) -> Result<Value, Trouble> {
-    let request = asked(alloc, case, made)?;
-    let parts = told(alloc, case, made, &request)?;
-    match Part::join(alloc, parts, &request) {
-        Ok(answer) => answer_value(alloc, &answer),
-        Err((_, refusal)) => Err(Trouble::from(refusal)),
+/// Gives what parts tell together.
+fn give_joined(trial: &mut Trial, parts: Vec<Part>, request: &Request) {
+    match Part::join(trial.alloc(), parts, request) {
+        Ok(answer) => give_answer(trial, &answer),
+        Err((_, refusal)) => trial.fail(Trouble::from(refusal)),
     }
 }
 
-/// How many blocks are opened for an answer.
-fn openings(alloc: Global, case: &Value, made: &[Bench]) -> Result<Value, Trouble> {
-    let request = asked(alloc, case, made)?;
-    let parts = told(alloc, case, made, &request)?;
-    Ok(Value::from(openings_of(&parts)))
-}
-
+/// How many blocks were opened for parts.
 fn openings_of(parts: &[Part]) -> u64 {
     let mut openings = 0u64;
     for part in parts {
@@ -76,16 +75,26 @@ fn openings_of(parts: &[Part]) -> u64 {
     openings
 }
 
-/// What a word gives, if it is one of these.
-pub(crate) fn given(
-    alloc: Global,
-    word: &str,
-    case: &Value,
-    made: &[Bench],
-) -> Result<Option<Value>, Trouble> {
-    match word {
-        "answer" => Ok(Some(answered(alloc, case, made)?)),
-        "answer_openings" => Ok(Some(openings(alloc, case, made)?)),
-        _ => Ok(None),
+/// What all segments tell together, or how many blocks are opened for it.
+fn answer(trial: &mut Trial, case: &Value, made: &[Bench], counts: bool) {
+    let text = text_of(trial, case, "query");
+    let Some(request) = asked(trial, case, made) else {
+        return;
+    };
+    let parts = parts_of(trial, made, text.as_str(), &request);
+    if counts {
+        trial.give_number(openings_of(&parts));
+    } else {
+        give_joined(trial, parts, &request);
     }
+}
+
+/// Gives what a word of these gives, and answers whether it is one.
+pub(crate) fn given(trial: &mut Trial, word: &str, case: &Value, made: &[Bench]) -> bool {
+    match word {
+        "answer" => answer(trial, case, made, false),
+        "answer_openings" => answer(trial, case, made, true),
+        _ => return false,
+    }
+    true
 }

@@ -4,93 +4,97 @@ ghost use Rattle.std.specs.Prelude.{◌≡◌, Some, true};
 ghost use Rattle.fts_model.specs.declared.schema.Kind.TheVariants as kinds;
 ghost use Rattle.fts_model.specs.Operations.{kind_at};
 
-use cases::{
-    Trouble, documents, entry, number, only, pair, size, some_number, stamps, text, words,
-};
+use cases::{Trial, Trouble, entry, has, number, only, size, text};
 use fts_model::{FieldValue, Kind, Number, Term, Text};
 use fts_pack::{Blocks, List};
 use fts_segment::{ListId, Segment};
-use serde_json::{Value, json};
-use std::alloc::Global;
+use serde_json::Value;
 
 /// The value of an object `{"text":..}`, `{"u64":..}` or `{"i64":..}`.
-fn value_of(alloc: Global, json: &Value) -> Result<FieldValue, Trouble> {
-    if json.get("text").is_some() {
-        return Ok(FieldValue::Text(Text::new(String::from_str(alloc, text(json, "text")?)?)));
+fn value_of(trial: &mut Trial, json: &Value) -> Option<FieldValue> {
+    if has(json, "text") {
+        let text = String::from_str(trial.alloc(), text(trial, json, "text"));
+        return trial
+            .kept(text)
+            .map(|text| FieldValue::Text(Text::new(text)));
     }
-    if let Some(number) = json.get("u64").and_then(Value::as_u64) {
-        return Ok(FieldValue::Number(Number::U64(number)));
+    if has(json, "u64") {
+        return Some(FieldValue::Number(Number::U64(number(trial, json, "u64"))));
     }
     match json.get("i64").and_then(Value::as_i64) {
-        Some(number) => Ok(FieldValue::Number(Number::I64(number))),
-        None => Err(Trouble::WrongKind("term")),
+        Some(number) => Some(FieldValue::Number(Number::I64(number))),
+        None => {
+            trial.fail(Trouble::WrongKind("term"));
+            None
+        }
     }
 }
 
 /// The term of an object that has the number of a field beside a value, whether it fits the schema or not.
-fn term_of(alloc: Global, case: &Value) -> Result<Term, Trouble> {
-    let json = entry(case, "term")?;
-    only(json, &["field", "text", "u64", "i64"])?;
-    let field = size(json, "field")?;
-    let value = value_of(alloc, json)?;
-    Ok(Term { field, value })
+fn term_of(trial: &mut Trial, case: &Value) -> Option<Term> {
+    let json = entry(trial, case, "term")?;
+    only(trial, json, &["field", "text", "u64", "i64"]);
+    let field = size(trial, json, "field");
+    let value = value_of(trial, json)?;
+    Some(Term { field, value })
 }
 
-/// The documents of all blocks of a list.
-fn listed(alloc: Global, list: &List) -> Result<Vec<u32>, Trouble> {
-    let mut found = Vec::new(alloc);
+/// The list of the term of a case, if there is one.
+fn list_of<'a>(trial: &mut Trial, case: &Value, segment: &'a Segment) -> Option<ListId<'a>> {
+    let term = term_of(trial, case)?;
+    segment.find(&term)
+}
+
+/// Gives the documents of all blocks of a list.
+fn give_listed(trial: &mut Trial, list: &List) {
     let mut source = list.source();
+    trial.open();
     for block in 0..source.blocks() {
         if block < source.blocks() {
             let mut out = [0; 128];
             let count = source.open(block, &mut out);
-            found.extend_from_slice(out.get(..count).unwrap_or(&[]))?;
+            trial.give_each(out.get(..count).unwrap_or(&[]));
         }
     }
-    Ok(found)
+    trial.close();
 }
 
 /// The documents that have a term, and none where there is no list.
-pub(crate) fn postings(alloc: Global, case: &Value, segment: &Segment) -> Result<Value, Trouble> {
-    match segment.find(&term_of(alloc, case)?) {
-        None => Ok(documents(alloc, &[])?),
-        Some(list) => Ok(documents(alloc, &listed(alloc, segment.postings(list))?)?),
+pub(crate) fn postings(trial: &mut Trial, case: &Value, segment: &Segment) {
+    match list_of(trial, case, segment) {
+        None => trial.give_documents(&[]),
+        Some(list) => give_listed(trial, segment.postings(list)),
     }
 }
 
-/// Where the term of a list stands in the document of a posting.
-fn places(
-    alloc: Global,
-    segment: &Segment,
-    list: ListId,
-    posting: usize,
-) -> Result<Value, Trouble> {
-    let mut found = Vec::new(alloc);
+/// Gives where the term of a list stands in the document of a posting.
+fn give_places(trial: &mut Trial, segment: &Segment, list: ListId, posting: usize) {
+    trial.open();
     for position in segment.positions(list).get(posting) {
-        found.push(position)?;
+        trial.give_number(u64::from(position));
     }
-    Ok(documents(alloc, &found)?)
+    trial.close();
 }
 
 /// Where a term stands in the document of each posting, or `null` where there is no list.
-fn all_positions(alloc: Global, case: &Value, segment: &Segment) -> Result<Value, Trouble> {
-    let Some(list) = segment.find(&term_of(alloc, case)?) else {
-        return Ok(Value::Null);
+fn all_positions(trial: &mut Trial, case: &Value, segment: &Segment) {
+    let Some(list) = list_of(trial, case, segment) else {
+        return trial.give_null();
     };
-    let mut all = Vec::new(alloc);
+    trial.open();
     for posting in 0..segment.postings(list).len() {
-        all.push(places(alloc, segment, list, posting)?)?;
+        give_places(trial, segment, list, posting);
     }
-    Ok(Value::Array(all))
+    trial.close();
 }
 
 /// Where a term stands in the document of a posting, or `null` where there is no list.
-fn positions(alloc: Global, case: &Value, segment: &Segment) -> Result<Value, Trouble> {
-    let posting = size(case, "posting")?;
-    let Some(list) = segment.find(&term_of(alloc, case)?) else {
-        return Ok(Value::Null);
-    };
-    places(alloc, segment, list, posting)
+fn positions(trial: &mut Trial, case: &Value, segment: &Segment) {
+    let posting = size(trial, case, "posting");
+    match list_of(trial, case, segment) {
+        None => trial.give_null(),
+        Some(list) => give_places(trial, segment, list, posting),
+    }
 }
 
 /// The kind of a field, if it is there.
@@ -102,18 +106,18 @@ fn kind_of(segment: &Segment, field: usize) -> Option<Kind>
 
 /// The numbers of a field, as they are kept, or the ordinals of its keywords, or `null` where it is neither a number field
 /// nor a keyword field.
-pub(crate) fn column(alloc: Global, case: &Value, segment: &Segment) -> Result<Value, Trouble> {
-    let field = size(case, "field")?;
+pub(crate) fn column(trial: &mut Trial, case: &Value, segment: &Segment) {
+    let field = size(trial, case, "field");
     match kind_of(segment, field) {
         Some(kind) if kind.is_ordered() => {}
-        _ => return Ok(Value::Null),
+        _ => return trial.give_null(),
     }
     let column = segment.column(field);
-    let mut values = Vec::new(alloc);
+    trial.open();
     for doc in 0..segment.docs() {
-        values.push(some_number(column.get(doc)))?;
+        trial.give_some_number(column.get(doc));
     }
-    Ok(Value::Array(values))
+    trial.close();
 }
 
 /// Whether a field of this number is a keyword field.
@@ -127,71 +131,76 @@ fn holds_keywords(segment: &Segment, field: usize) -> bool
 }
 
 /// The keyword of an ordinal in a field, or `null` where there is none.
-fn keyword(alloc: Global, case: &Value, segment: &Segment) -> Result<Value, Trouble> {
-    let field = size(case, "field")?;
-    let ordinal = number(case, "ordinal")?;
+fn keyword(trial: &mut Trial, case: &Value, segment: &Segment) {
+    let field = size(trial, case, "field");
+    let ordinal = number(trial, case, "ordinal");
     if !holds_keywords(segment, field) {
-        return Ok(Value::Null);
+        return trial.give_null();
     }
     match segment.keyword(field, ordinal) {
-        Some(keyword) => Ok(words(alloc, keyword)?),
-        None => Ok(Value::Null),
+        Some(keyword) => trial.give_text(keyword),
+        None => trial.give_null(),
     }
 }
 
 /// How many different keywords of a field are before a text, and how many aren't behind it, or `null` where the field has
 /// no keywords.
-fn equal_range(alloc: Global, case: &Value, segment: &Segment) -> Result<Value, Trouble> {
-    let field = size(case, "field")?;
-    let text = text(case, "text")?;
+fn equal_range(trial: &mut Trial, case: &Value, segment: &Segment) {
+    let field = size(trial, case, "field");
+    let text = text(trial, case, "text");
     if !holds_keywords(segment, field) {
-        return Ok(Value::Null);
+        return trial.give_null();
     }
     let (before, up_to) = segment.equal_range(field, text);
-    Ok(pair(alloc, Value::from(before), Value::from(up_to))?)
+    trial.give_stamps(&[before, up_to]);
 }
 
 /// A document and its stamp.
-fn stored(alloc: Global, case: &Value, segment: &Segment) -> Result<Value, Trouble> {
-    let doc = size(case, "doc")?;
+fn stored(trial: &mut Trial, case: &Value, segment: &Segment) {
+    let doc = size(trial, case, "doc");
     if doc >= segment.docs() {
-        return Err(Trouble::Impossible("no such document"));
+        return trial.fail(Trouble::Impossible("no such document"));
     }
-    let json = segment.document(doc).to_json(alloc)?;
-    Ok(json!(in alloc; {"stamp": (segment.stamp(doc)), "document": json})?)
+    trial.open_object();
+    trial.name("stamp");
+    trial.give_number(segment.stamp(doc));
+    trial.name("document");
+    let json = segment.document(doc).to_json(trial.alloc());
+    if let Some(json) = trial.kept(json) {
+        trial.give_value(&json);
+    }
+    trial.close_object();
 }
 
-/// The stamps of all documents.
-fn stamps_of(alloc: Global, segment: &Segment) -> Result<Value, Trouble> {
-    let mut found = Vec::new(alloc);
+/// Gives the stamps of all documents.
+fn give_stamps_of(trial: &mut Trial, segment: &Segment) {
+    trial.open();
     for doc in 0..segment.docs() {
-        found.push(segment.stamp(doc))?;
+        trial.give_number(segment.stamp(doc));
     }
-    Ok(stamps(alloc, &found)?)
+    trial.close();
 }
 
 /// The stamps of all documents of a copy.
-fn copied(alloc: Global, segment: &Segment) -> Result<Value, Trouble> {
-    let copy = segment.clone()?;
-    stamps_of(alloc, &copy)
+fn copied(trial: &mut Trial, segment: &Segment) {
+    let copy: Result<_, _> = segment.clone();
+    if let Some(copy) = trial.kept(copy) {
+        give_stamps_of(trial, &copy);
+    }
 }
 
-/// What a word gives, if it is one of these.
-pub(crate) fn given(
-    alloc: Global,
-    word: &str,
-    case: &Value,
-    segment: &Segment,
-) -> Result<Option<Value>, Trouble> {
+/// Gives what a word of these gives, and answers whether it is one.
+pub(crate) fn given(trial: &mut Trial, word: &str, case: &Value, segment: &Segment) -> bool {
     match word {
-        "postings" => Ok(Some(postings(alloc, case, segment)?)),
-        "positions" => Ok(Some(positions(alloc, case, segment)?)),
-        "all_positions" => Ok(Some(all_positions(alloc, case, segment)?)),
-        "column" => Ok(Some(column(alloc, case, segment)?)),
-        "keyword" => Ok(Some(keyword(alloc, case, segment)?)),
-        "equal_range" => Ok(Some(equal_range(alloc, case, segment)?)),
-        "stored" => Ok(Some(stored(alloc, case, segment)?)),
-        "stamps" => Ok(Some(copied(alloc, segment)?)),
-        _ => Ok(None),
+        "postings" => postings(trial, case, segment),
+        "positions" => positions(trial, case, segment),
+        "all_positions" => all_positions(trial, case, segment),
+        "column" => column(trial, case, segment),
+        "keyword" => keyword(trial, case, segment),
+        "equal_range" => equal_range(trial, case, segment),
+        "stored" => stored(trial, case, segment),
+        "stamps" => copied(trial, segment),
+        _ => return false,
     }
+    true
 }

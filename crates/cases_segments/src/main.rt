@@ -15,9 +15,8 @@ mod texts;
 mod walks;
 
 use bench::{Bench, cleared, made};
-use cases::{Driver, Trouble, only_in_case, run, text};
-use serde_json::{Value, json};
-use std::alloc::Global;
+use cases::{Driver, Trial, Trouble, only_in_case, run, text};
+use serde_json::Value;
 use std::io;
 use std::process::ExitCode;
 
@@ -76,13 +75,13 @@ const MEMBERS: [(&str, &[&str]); 44] = [
 ];
 
 /// Refuses a word that isn't there, and a member that its cases don't have.
-fn check_members(word: &str, case: &Value) -> Result<(), Trouble> {
+fn check_members(trial: &mut Trial, word: &str, case: &Value) {
     for (name, members) in &MEMBERS {
         if *name == word {
-            return only_in_case(case, members);
+            return only_in_case(trial, case, members);
         }
     }
-    Err(Trouble::UnknownWord)
+    trial.fail(Trouble::UnknownWord);
 }
 
 /// The segments that earlier cases of the file made.
@@ -91,57 +90,63 @@ struct Segments {
     made: Vec<Bench>,
 }
 
-/// What a word gives that makes or changes no segment.
-fn looked_at(
-    alloc: Global,
-    word: &str,
-    case: &Value,
-    made: &[Bench],
-) -> Result<Option<Value>, Trouble> {
-    if let Some(given) = texts::given(alloc, word, case)? {
-        return Ok(Some(given));
+impl Segments {
+    /// Makes a segment, and gives how many documents it has.
+    fn make(&mut self, trial: &mut Trial, word: &str, case: &Value) {
+        let Some(bench) = made(trial, case) else {
+            return;
+        };
+        if trial.has_failed() {
+            return;
+        }
+        trial.give_number(bench.segment.docs() as u64);
+        if word == "make" {
+            self.made.clear();
+        }
+        trial.push(&mut self.made, bench);
     }
-    if let Some(given) = schemas::given(alloc, word, case)? {
-        return Ok(Some(given));
+
+    /// Clears bits of the last segment.
+    fn clear(&mut self, trial: &mut Trial, case: &Value) {
+        match self.made.last_mut() {
+            Some(bench) => cleared(trial, &mut bench.live, case),
+            None => trial.fail(Trouble::Impossible("no documents were made")),
+        }
     }
-    if let Some(given) = content::given(alloc, word, case)? {
-        return Ok(Some(given));
-    }
-    if let Some(given) = queries::given(alloc, word, case)? {
-        return Ok(Some(given));
-    }
-    if let Some(given) = numbers::given(alloc, word, case)? {
-        return Ok(Some(given));
-    }
-    in_segments(alloc, word, case, made)
 }
 
-/// What a word gives over the segments that were made.
-fn in_segments(
-    alloc: Global,
-    word: &str,
-    case: &Value,
-    made: &[Bench],
-) -> Result<Option<Value>, Trouble> {
-    if let Some(given) = collectors::given(alloc, word, case, made)? {
-        return Ok(Some(given));
+/// Gives what a word gives that looks at no segment, and answers whether it is one.
+fn without_segments(trial: &mut Trial, word: &str, case: &Value) -> bool {
+    texts::given(trial, word, case)
+        || schemas::given(trial, word, case)
+        || content::given(trial, word, case)
+        || queries::given(trial, word, case)
+        || numbers::given(trial, word, case)
+}
+
+/// Gives what a word gives of the first segment, and answers whether it is one.
+fn in_segment(trial: &mut Trial, word: &str, case: &Value, bench: &Bench) -> bool {
+    indexed::given(trial, word, case, &bench.segment)
+        || matches::given(trial, word, case, bench)
+        || walks::given(trial, word, case, bench)
+        || merges::given(trial, word, case, bench)
+}
+
+/// Gives what a word gives over the segments that were made.
+fn in_segments(trial: &mut Trial, word: &str, case: &Value, made: &[Bench]) {
+    if collectors::given(trial, word, case, made) {
+        return;
     }
     if word == "plan" {
-        return Ok(Some(merges::planned(alloc, case)?));
+        return merges::planned(trial, case);
     }
-    let Some(bench) = made.first() else {
-        return Ok(None);
+    let is_known = match made.first() {
+        Some(bench) => in_segment(trial, word, case, bench),
+        None => false,
     };
-    if let Some(given) = indexed::given(alloc, word, case, &bench.segment)? {
-        return Ok(Some(given));
+    if !is_known {
+        trial.fail(Trouble::UnknownWord);
     }
-    if let Some(given) = matches::given(alloc, word, case, bench)? {
-        return Ok(Some(given));
-    }
-    if let Some(given) = walks::given(alloc, word, case, bench)? {
-        return Ok(Some(given));
-    }
-    merges::given(alloc, word, case, bench)
 }
 
 impl Driver for Segments {
@@ -149,27 +154,20 @@ impl Driver for Segments {
         self.made.clear();
     }
 
-    fn give(&mut self, alloc: Global, case: &Value) -> Result<Value, Trouble> {
-        let word = text(case, "do")?;
-        check_members(word, case)?;
+    fn give(&mut self, case: &Value, trial: &mut Trial) {
+        let word = text(trial, case, "do");
+        check_members(trial, word, case);
+        if trial.has_failed() {
+            return;
+        }
         if word == "make" || word == "and_make" {
-            let bench = made(alloc, case)?;
-            let docs = bench.segment.docs();
-            if word == "make" {
-                self.made.clear();
-            }
-            self.made.push(bench)?;
-            return Ok(json!(in alloc; docs)?);
+            return self.make(trial, word, case);
         }
         if word == "clear" {
-            return match self.made.last_mut() {
-                Some(bench) => cleared(alloc, &mut bench.live, case),
-                None => Err(Trouble::Impossible("no documents were made")),
-            };
+            return self.clear(trial, case);
         }
-        match looked_at(alloc, word, case, &self.made)? {
-            Some(given) => Ok(given),
-            None => Err(Trouble::UnknownWord),
+        if !without_segments(trial, word, case) {
+            in_segments(trial, word, case, &self.made);
         }
     }
 }

@@ -1,131 +1,143 @@
 // Cases of what a query finds in the first segment that was made: `found` and `count`.
 use crate::bench::Bench;
+use crate::queries::query_of;
 use crate::texts::text_of;
-use cases::{Trouble, documents};
+use cases::{Trial, Trouble};
 use fts_cursor::{Cursor, DocSet, cursor_of};
 use fts_model::Query;
-use fts_query::parse;
-use serde_json::{Value, json};
-use std::alloc::{AllocError, Global};
+use serde_json::Value;
+
+/// The cursor of a query.
+fn cursor<'a>(trial: &mut Trial, bench: &'a Bench, query: &Query) -> Option<Cursor<'a>> {
+    let (segment, live) = (&bench.segment, &bench.live);
+    if live.len() != segment.docs() || !query.fits(segment.schema()) {
+        trial.fail(Trouble::Impossible("the segment can't be asked"));
+        return None;
+    }
+    let cursor = cursor_of(trial.alloc(), segment, live, query);
+    trial.kept(cursor)
+}
 
 /// The cursor of a query's text.
-pub(crate) fn cursor<'a>(
-    alloc: Global,
+pub(crate) fn cursor_over<'a>(
+    trial: &mut Trial,
     bench: &'a Bench,
     text: &str,
-) -> Result<Cursor<'a>, Trouble> {
-    let query = parse(alloc, bench.segment.schema(), text)?;
-    if bench.live.len() != bench.segment.docs() {
-        return Err(Trouble::Impossible("not one bit a document"));
+) -> Option<Cursor<'a>> {
+    match query_of(trial, bench.segment.schema(), text) {
+        Some(query) => cursor(trial, bench, &query),
+        None => None,
     }
-    Ok(cursor_of(alloc, &bench.segment, &bench.live, &query)?)
+}
+
+/// Whether a document is live and matches.
+fn is_found(trial: &mut Trial, bench: &Bench, query: &Query, doc: usize) -> bool {
+    let segment = &bench.segment;
+    if doc >= segment.docs() || doc >= bench.live.len() || !bench.live.get(doc) {
+        return false;
+    }
+    let matches = fts_scan::matches(
+        trial.alloc(),
+        segment.schema(),
+        query,
+        segment.document(doc),
+    );
+    trial.kept(matches) == Some(true)
 }
 
 /// The live documents that match, each looked at.
-fn by_scan(alloc: Global, bench: &Bench, query: &Query) -> Result<Vec<u32>, Trouble> {
-    let mut found = Vec::new(alloc);
-    let segment = &bench.segment;
-    for doc in 0..segment.docs().min(bench.live.len()) {
-        let document = segment.document(doc);
-        if bench.live.get(doc) && fts_scan::matches(alloc, segment.schema(), query, document)? {
-            found.push(u32::try_from(doc).unwrap_or(u32::MAX))?;
+fn scanned(trial: &mut Trial, bench: &Bench, query: &Query) -> Vec<u32> {
+    let mut found = Vec::new(trial.alloc());
+    for doc in 0..bench.segment.docs() {
+        if is_found(trial, bench, query, doc) {
+            trial.push(&mut found, u32::try_from(doc).unwrap_or(u32::MAX));
         }
     }
-    Ok(found)
+    found
 }
 
-/// The documents that a cursor goes over one by one.
-fn by_steps(alloc: Global, cursor: &mut Cursor, most: usize) -> Result<Vec<u32>, Trouble> {
-    let mut found = Vec::new(alloc);
+/// Puts the documents that a cursor goes over one by one into a list.
+fn push_steps(trial: &mut Trial, found: &mut Vec<u32>, cursor: &mut Cursor, most: usize) {
     for _ in 0..most {
         match cursor.doc() {
-            Some(doc) => found.push(doc)?,
-            None => return Ok(found),
+            Some(doc) => trial.push(found, doc),
+            None => return,
         }
         cursor.advance();
     }
-    Ok(found)
-}
-
-/// The documents that a cursor goes over by stretches.
-fn by_stretches(alloc: Global, cursor: &mut Cursor, most: usize) -> Result<Vec<u32>, Trouble> {
-    let mut found = Vec::new(alloc);
-    for _ in 0..most {
-        let mut out = [0; 128];
-        let count = cursor.fill(&mut out);
-        found.extend_from_slice(out.get(..count).unwrap_or(&[]))?;
-    }
-    Ok(found)
-}
-
-/// The documents that a look at each finds.
-fn scanned(alloc: Global, bench: &Bench, text: &str) -> Result<Vec<u32>, Trouble> {
-    let query = parse(alloc, bench.segment.schema(), text)?;
-    by_scan(alloc, bench, &query)
 }
 
 /// The documents that a cursor's steps find.
-fn stepped(alloc: Global, bench: &Bench, text: &str) -> Result<Vec<u32>, Trouble> {
+fn stepped(trial: &mut Trial, bench: &Bench, query: &Query) -> Vec<u32> {
+    let mut found = Vec::new(trial.alloc());
     let most = bench.segment.docs().saturating_add(1);
-    let mut walked = cursor(alloc, bench, text)?;
-    by_steps(alloc, &mut walked, most)
+    if let Some(mut cursor) = cursor(trial, bench, query) {
+        push_steps(trial, &mut found, &mut cursor, most);
+    }
+    found
+}
+
+/// Puts the documents that a cursor goes over by stretches into a list.
+fn push_stretches(trial: &mut Trial, found: &mut Vec<u32>, cursor: &mut Cursor, most: usize) {
+    for _ in 0..most {
+        let mut out = [0; 128];
+        let count = cursor.fill(&mut out);
+        let pushed = found.extend_from_slice(out.get(..count).unwrap_or(&[]));
+        trial.kept(pushed);
+    }
 }
 
 /// The documents that a cursor's stretches find.
-fn stretched(alloc: Global, bench: &Bench, text: &str) -> Result<Vec<u32>, Trouble> {
+fn stretched(trial: &mut Trial, bench: &Bench, query: &Query) -> Vec<u32> {
+    let mut found = Vec::new(trial.alloc());
     let most = bench.segment.docs() / 128 + 1;
-    let mut walked = cursor(alloc, bench, text)?;
-    by_stretches(alloc, &mut walked, most)
-}
-
-/// Documents that should be the same, and aren't.
-fn all_three(
-    alloc: Global,
-    scan: &[u32],
-    steps: &[u32],
-    stretches: &[u32],
-) -> Result<Value, AllocError> {
-    let scan = documents(alloc, scan)?;
-    let steps = documents(alloc, steps)?;
-    let stretches = documents(alloc, stretches)?;
-    json!(in alloc; {"scan": scan, "steps": steps, "stretches": stretches})
-}
-
-/// The documents that a query finds. Where a scan, a cursor's steps and its stretches find others, those of all three.
-fn found_of(alloc: Global, bench: &Bench, text: &str) -> Result<Value, Trouble> {
-    let scan = scanned(alloc, bench, text)?;
-    let steps = stepped(alloc, bench, text)?;
-    let stretches = stretched(alloc, bench, text)?;
-    if scan == steps && scan == stretches {
-        return Ok(documents(alloc, &scan)?);
+    if let Some(mut cursor) = cursor(trial, bench, query) {
+        push_stretches(trial, &mut found, &mut cursor, most);
     }
-    Ok(all_three(alloc, &scan, &steps, &stretches)?)
+    found
 }
 
-/// The documents that the query of a case finds.
-fn found(alloc: Global, case: &Value, bench: &Bench) -> Result<Value, Trouble> {
-    let text = text_of(alloc, case, "query")?;
-    found_of(alloc, bench, text.as_str())
+/// Gives documents that should be the same, and aren't.
+fn give_three(trial: &mut Trial, scan: &[u32], steps: &[u32], stretches: &[u32]) {
+    trial.open_object();
+    trial.name("scan");
+    trial.give_documents(scan);
+    trial.name("steps");
+    trial.give_documents(steps);
+    trial.name("stretches");
+    trial.give_documents(stretches);
+    trial.close_object();
 }
 
-/// How many documents a query finds.
-fn count(alloc: Global, case: &Value, bench: &Bench) -> Result<Value, Trouble> {
-    match found(alloc, case, bench)? {
-        Value::Array(documents) => Ok(Value::from(documents.len() as u64)),
-        other => Ok(other),
+/// Gives the documents that a query finds, or, where `counts` says so, how many they are. Where a scan, a cursor's steps
+/// and its stretches find others, those of all three.
+fn give_found(trial: &mut Trial, bench: &Bench, query: &Query, counts: bool) {
+    let scan = scanned(trial, bench, query);
+    let steps = stepped(trial, bench, query);
+    let stretches = stretched(trial, bench, query);
+    if scan != steps || scan != stretches {
+        give_three(trial, &scan, &steps, &stretches);
+    } else if counts {
+        trial.give_number(scan.len() as u64);
+    } else {
+        trial.give_documents(&scan);
     }
 }
 
-/// What a word gives, if it is one of these.
-pub(crate) fn given(
-    alloc: Global,
-    word: &str,
-    case: &Value,
-    bench: &Bench,
-) -> Result<Option<Value>, Trouble> {
+/// The documents that the query of a case finds, or how many they are.
+fn found(trial: &mut Trial, case: &Value, bench: &Bench, counts: bool) {
+    let text = text_of(trial, case, "query");
+    if let Some(query) = query_of(trial, bench.segment.schema(), text.as_str()) {
+        give_found(trial, bench, &query, counts);
+    }
+}
+
+/// Gives what a word of these gives, and answers whether it is one.
+pub(crate) fn given(trial: &mut Trial, word: &str, case: &Value, bench: &Bench) -> bool {
     match word {
-        "found" => Ok(Some(found(alloc, case, bench)?)),
-        "count" => Ok(Some(count(alloc, case, bench)?)),
-        _ => Ok(None),
+        "found" => found(trial, case, bench, false),
+        "count" => found(trial, case, bench, true),
+        _ => return false,
     }
+    true
 }

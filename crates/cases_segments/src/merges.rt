@@ -2,147 +2,138 @@
 // `merged_column`; and `plan`.
 use crate::bench::Bench;
 use crate::indexed::{column, postings};
-use cases::{Trouble, documents, entry, list, number, numbers, only, op_of, stamps};
+use crate::numbers::{all_bits, turn};
+use cases::{Trial, Trouble, entry, list, number, numbers, only, op_of};
 use fts_bits::Bits;
 use fts_merge::{Merged, Source, merge, plan, strike};
 use fts_model::{Op, Schema, Stamped};
 use fts_segment::Segment;
 use serde_json::Value;
-use std::alloc::{AllocError, Global};
 
-/// The operation of an object `{"stamp":STAMP,"op":OPERATION}`.
-fn stamped_op(alloc: Global, schema: &Schema, item: &Value) -> Result<Stamped<Op>, Trouble> {
-    only(item, &["stamp", "op"])?;
-    let stamp = number(item, "stamp")?;
-    let value = op_of(alloc, schema, entry(item, "op")?)?;
-    Ok(Stamped { stamp, value })
+/// Puts the operation of an object `{"stamp":STAMP,"op":OPERATION}` behind others.
+fn push_op(trial: &mut Trial, ops: &mut Vec<Stamped<Op>>, schema: &Schema, item: &Value) {
+    only(trial, item, &["stamp", "op"]);
+    let stamp = number(trial, item, "stamp");
+    let Some(op) = entry(trial, item, "op") else {
+        return;
+    };
+    if let Some(value) = op_of(trial, schema, op) {
+        trial.push(ops, Stamped { stamp, value });
+    }
 }
 
 /// The operations of a list of such objects.
-fn ops_of(alloc: Global, schema: &Schema, items: &[Value]) -> Result<Vec<Stamped<Op>>, Trouble> {
-    let mut ops = Vec::new(alloc);
+fn ops_of(trial: &mut Trial, schema: &Schema, items: &[Value]) -> Vec<Stamped<Op>> {
+    let mut ops = Vec::new(trial.alloc());
     for item in items {
-        ops.push(stamped_op(alloc, schema, item)?)?;
+        push_op(trial, &mut ops, schema, item);
     }
-    Ok(ops)
+    ops
 }
 
-/// The documents whose bit is set.
-fn live_documents(alloc: Global, live: &Bits) -> Result<Value, Trouble> {
-    let mut found = Vec::new(alloc);
+/// Gives the documents whose bit is set.
+fn give_live(trial: &mut Trial, live: &Bits) {
+    trial.open();
     for doc in 0..live.len() {
         if live.get(doc) {
-            found.push(u32::try_from(doc).unwrap_or(u32::MAX))?;
+            trial.give_number(doc as u64);
         }
     }
-    Ok(documents(alloc, &found)?)
+    trial.close();
 }
 
 /// The documents that are live behind operations. The segment's own bits stay.
-fn struck(alloc: Global, case: &Value, bench: &Bench) -> Result<Value, Trouble> {
-    let ops = ops_of(alloc, bench.segment.schema(), list(case, "ops")?)?;
+fn struck(trial: &mut Trial, case: &Value, bench: &Bench) {
     if bench.live.len() != bench.segment.docs() {
-        return Err(Trouble::Impossible("not one bit a document"));
+        return trial.fail(Trouble::Impossible("not one bit a document"));
     }
-    live_documents(alloc, &strike(alloc, &bench.segment, &bench.live, &ops)?)
+    let items = list(trial, case, "ops");
+    let ops = ops_of(trial, bench.segment.schema(), items);
+    let live = strike(trial.alloc(), &bench.segment, &bench.live, &ops);
+    if let Some(live) = trial.kept(live) {
+        give_live(trial, &live);
+    }
 }
 
 /// The bits of the documents of a list.
-fn bits_of(alloc: Global, case: &Value, name: &'static str, docs: usize) -> Result<Bits, Trouble> {
-    let mut live = Bits::all_clear(alloc, docs)?;
-    for doc in &numbers(alloc, case, name)? {
-        let doc = *doc as usize;
-        if doc >= live.len() {
-            return Err(Trouble::Impossible("no such document"));
-        }
-        live.set(doc);
-    }
-    Ok(live)
+fn bits_of(trial: &mut Trial, case: &Value, name: &'static str, docs: usize) -> Option<Bits> {
+    let mut live = all_bits(trial, docs, false)?;
+    let docs = numbers(trial, case, name);
+    turn(trial, &mut live, &docs, true, "no such document");
+    Some(live)
 }
 
 /// A segment with some documents live, before itself with others live.
-fn merged(
-    alloc: Global,
-    segment: &Segment,
-    first: &Bits,
-    second: &Bits,
-) -> Result<Merged, Trouble> {
+fn merged(trial: &mut Trial, segment: &Segment, first: &Bits, second: &Bits) -> Option<Merged> {
     if first.len() != segment.docs() || second.len() != segment.docs() {
-        return Err(Trouble::Impossible("not one bit a document"));
+        trial.fail(Trouble::Impossible("not one bit a document"));
+        return None;
     }
     let sources = [Source::new(segment, first), Source::new(segment, second)];
-    Ok(merge(alloc, &sources)?)
+    let merged = merge(trial.alloc(), &sources);
+    trial.kept(merged)
 }
 
 /// The merge of the segment with the documents `first` live before itself with the documents `second` live.
-fn merged_of(alloc: Global, case: &Value, bench: &Bench) -> Result<Merged, Trouble> {
-    let segment = &bench.segment;
-    let first = bits_of(alloc, case, "first", segment.docs())?;
-    let second = bits_of(alloc, case, "second", segment.docs())?;
-    merged(alloc, segment, &first, &second)
+fn merged_of(trial: &mut Trial, case: &Value, segment: &Segment) -> Option<Merged> {
+    let first = bits_of(trial, case, "first", segment.docs())?;
+    let second = bits_of(trial, case, "second", segment.docs())?;
+    merged(trial, segment, &first, &second)
 }
 
-/// Each merged document as its stamp, its source and its number there.
-fn merged_documents(alloc: Global, case: &Value, bench: &Bench) -> Result<Value, Trouble> {
-    let merged = merged_of(alloc, case, bench)?;
+/// Gives each merged document as its stamp, its source and its number there.
+fn give_merged(trial: &mut Trial, merged: &Merged) {
     let segment = merged.segment();
-    let mut list = Vec::new(alloc);
+    trial.open();
     for (doc, origin) in merged.origins().iter().enumerate() {
         if doc < segment.docs() {
-            let from = [
-                segment.stamp(doc),
-                origin.source as u64,
-                origin.document as u64,
-            ];
-            list.push(stamps(alloc, &from)?)?;
+            let (source, document) = (origin.source as u64, origin.document as u64);
+            trial.give_stamps(&[segment.stamp(doc), source, document]);
         }
     }
-    Ok(Value::Array(list))
+    trial.close();
 }
 
-/// The merged documents that have a term.
-fn merged_postings(alloc: Global, case: &Value, bench: &Bench) -> Result<Value, Trouble> {
-    let merged = merged_of(alloc, case, bench)?;
-    postings(alloc, case, merged.segment())
-}
-
-/// The column of a field of the merged documents.
-fn merged_column(alloc: Global, case: &Value, bench: &Bench) -> Result<Value, Trouble> {
-    let merged = merged_of(alloc, case, bench)?;
-    column(alloc, case, merged.segment())
-}
-
-/// What is to be merged of segments of these sizes: their places, by candidates.
-pub(crate) fn planned(alloc: Global, case: &Value) -> Result<Value, Trouble> {
-    let sizes = numbers(alloc, case, "sizes")?;
-    let mut candidates = Vec::new(alloc);
-    for candidate in &plan(alloc, &sizes)? {
-        candidates.push(places_value(alloc, candidate)?)?;
+/// Gives what is to be merged of segments of some sizes: their places, by candidates.
+pub(crate) fn planned(trial: &mut Trial, case: &Value) {
+    let sizes = numbers(trial, case, "sizes");
+    let candidates = plan(trial.alloc(), &sizes);
+    if let Some(candidates) = trial.kept(candidates) {
+        give_candidates(trial, &candidates);
     }
-    Ok(Value::Array(candidates))
 }
 
-fn places_value(alloc: Global, candidate: &[usize]) -> Result<Value, AllocError> {
-    let mut places = Vec::new(alloc);
+fn give_candidates(trial: &mut Trial, candidates: &[Vec<usize>]) {
+    trial.open();
+    for candidate in candidates {
+        give_candidate(trial, candidate);
+    }
+    trial.close();
+}
+
+fn give_candidate(trial: &mut Trial, candidate: &[usize]) {
+    trial.open();
     for place in candidate {
-        places.push(Value::from(*place as u64))?;
+        trial.give_number(*place as u64);
     }
-    Ok(Value::Array(places))
+    trial.close();
 }
 
-/// What a word gives, if it is one of these.
-pub(crate) fn given(
-    alloc: Global,
-    word: &str,
-    case: &Value,
-    bench: &Bench,
-) -> Result<Option<Value>, Trouble> {
-    let given = match word {
-        "strike" => struck(alloc, case, bench)?,
-        "merge" => merged_documents(alloc, case, bench)?,
-        "merged_postings" => merged_postings(alloc, case, bench)?,
-        "merged_column" => merged_column(alloc, case, bench)?,
-        _ => return Ok(None),
-    };
-    Ok(Some(given))
+/// Gives what a word of these gives, and answers whether it is one.
+pub(crate) fn given(trial: &mut Trial, word: &str, case: &Value, bench: &Bench) -> bool {
+    if word == "strike" {
+        struck(trial, case, bench);
+        return true;
+    }
+    if word != "merge" && word != "merged_postings" && word != "merged_column" {
+        return false;
+    }
+    if let Some(merged) = merged_of(trial, case, &bench.segment) {
+        match word {
+            "merge" => give_merged(trial, &merged),
+            "merged_postings" => postings(trial, case, merged.segment()),
+            _ => column(trial, case, merged.segment()),
+        }
+    }
+    true
 }

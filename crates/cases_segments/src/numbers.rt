@@ -1,156 +1,209 @@
 // Cases of packed numbers: `block`, `block_words`, `numbers`, `column_of`, `column_words`, `bits` and `signed`.
-use cases::{Trouble, documents, entry, list, numbers, size, some_number, stamps};
+use cases::{Trial, Trouble, entry, flag, list, numbers, size};
 use fts_bits::{Bits, i64_to_u64, u64_to_i64};
 use fts_column::Column;
 use fts_pack::{Block, Numbers};
-use serde_json::{Value, json};
-use std::alloc::{AllocError, Global};
+use serde_json::Value;
 
 /// A block of up to 128 numbers.
-fn packed(alloc: Global, case: &Value) -> Result<Block, Trouble> {
-    let numbers = numbers(alloc, case, "numbers")?;
+fn packed(trial: &mut Trial, case: &Value) -> Option<Block> {
+    let numbers = numbers(trial, case, "numbers");
     if numbers.len() > 128 {
-        return Err(Trouble::Impossible("more than a block"));
+        trial.fail(Trouble::Impossible("more than a block"));
+        return None;
     }
-    Ok(Block::pack(alloc, &numbers)?)
+    let block = Block::pack(trial.alloc(), &numbers);
+    trial.kept(block)
 }
 
 /// What comes back of a block.
-fn block(alloc: Global, case: &Value) -> Result<Value, Trouble> {
+fn block(trial: &mut Trial, case: &Value) {
     let mut out = [7; 128];
-    let count = packed(alloc, case)?.unpack(&mut out);
-    Ok(documents(alloc, out.get(..count).unwrap_or(&[]))?)
+    if let Some(block) = packed(trial, case) {
+        let count = block.unpack(&mut out);
+        trial.give_documents(out.get(..count).unwrap_or(&[]));
+    }
 }
 
 /// The width of a block, and the words in which its numbers lie.
-fn block_words(alloc: Global, case: &Value) -> Result<Value, Trouble> {
-    let block = packed(alloc, case)?;
-    let words = documents(alloc, block.words())?;
-    Ok(json!(in alloc; {"width": (block.width()), "words": words})?)
+fn block_words(trial: &mut Trial, case: &Value) {
+    if let Some(block) = packed(trial, case) {
+        trial.open_object();
+        trial.name("width");
+        trial.give_number(u64::from(block.width()));
+        trial.name("words");
+        trial.give_documents(block.words());
+        trial.close_object();
+    }
+}
+
+/// Gives packed numbers, each asked by itself.
+fn give_each(trial: &mut Trial, packed: &Numbers) {
+    trial.open();
+    for index in 0..packed.len() {
+        trial.give_number(u64::from(packed.get(index)));
+    }
+    trial.close();
 }
 
 /// What comes back of any number of numbers, each asked by itself.
-fn each_number(alloc: Global, case: &Value) -> Result<Value, Trouble> {
-    let numbers = numbers(alloc, case, "numbers")?;
-    unpacked(alloc, &Numbers::build(alloc, &numbers)?)
-}
-
-fn unpacked(alloc: Global, packed: &Numbers) -> Result<Value, Trouble> {
-    let mut found = Vec::new(alloc);
-    for index in 0..packed.len() {
-        found.push(packed.get(index))?;
+fn each_number(trial: &mut Trial, case: &Value) {
+    let numbers = numbers(trial, case, "numbers");
+    let packed = Numbers::build(trial.alloc(), &numbers);
+    if let Some(packed) = trial.kept(packed) {
+        give_each(trial, &packed);
     }
-    Ok(documents(alloc, &found)?)
 }
 
 /// The values of a list, `null` for one that is missing.
-fn values_of(alloc: Global, items: &[Value]) -> Result<Vec<Option<u64>>, Trouble> {
-    let mut values = Vec::new(alloc);
+fn values_of(trial: &mut Trial, items: &[Value]) -> Vec<Option<u64>> {
+    let mut values = Vec::new(trial.alloc());
     for item in items {
-        match item.as_u64() {
-            Some(value) => values.push(Some(value))?,
-            None if item.is_null() => values.push(None)?,
-            None => return Err(Trouble::WrongKind("values")),
+        if item.as_u64().is_none() && !item.is_null() {
+            trial.fail(Trouble::WrongKind("values"));
         }
+        trial.push(&mut values, item.as_u64());
     }
-    Ok(values)
+    values
 }
 
 /// The column of the values of a case.
-fn built(alloc: Global, case: &Value) -> Result<Column, Trouble> {
-    let values = values_of(alloc, list(case, "values")?)?;
+fn built(trial: &mut Trial, case: &Value) -> Option<Column> {
+    let items = list(trial, case, "values");
+    let values = values_of(trial, items);
     if values.len() > 1_048_576 {
-        return Err(Trouble::Impossible("more than a segment's values"));
+        trial.fail(Trouble::Impossible("more than a segment's values"));
+        return None;
     }
-    Ok(Column::build(alloc, &values)?)
+    let column = Column::build(trial.alloc(), &values);
+    trial.kept(column)
 }
 
 /// The width of a column, and the words in which its values lie.
-fn column_words(alloc: Global, case: &Value) -> Result<Value, Trouble> {
-    let column = built(alloc, case)?;
-    let words = stamps(alloc, column.words())?;
-    Ok(json!(in alloc; {"width": (column.width()), "words": words})?)
+fn column_words(trial: &mut Trial, case: &Value) {
+    if let Some(column) = built(trial, case) {
+        trial.open_object();
+        trial.name("width");
+        trial.give_number(u64::from(column.width()));
+        trial.name("words");
+        trial.give_stamps(column.words());
+        trial.close_object();
+    }
 }
 
-/// Each value of a column, and one behind its last.
-fn column_values(alloc: Global, column: &Column) -> Result<Value, AllocError> {
-    let mut values = Vec::new(alloc);
+/// Gives each value of a column, and one behind its last.
+fn give_values(trial: &mut Trial, column: &Column) {
+    trial.open();
     for doc in 0..column.len().saturating_add(1) {
-        values.push(some_number(column.get(doc)))?;
+        trial.give_some_number(column.get(doc));
     }
-    Ok(Value::Array(values))
+    trial.close();
+}
+
+/// Gives a range, or `null`.
+fn give_range(trial: &mut Trial, range: Option<(u64, u64)>) {
+    match range {
+        Some((least, greatest)) => trial.give_stamps(&[least, greatest]),
+        None => trial.give_null(),
+    }
 }
 
 /// The least and the greatest value of a column, its values and one behind the last, and the bits of the first 64.
-fn column(alloc: Global, case: &Value) -> Result<Value, Trouble> {
-    let column = built(alloc, case)?;
-    let range = match column.range() {
-        Some((least, greatest)) => stamps(alloc, &[least, greatest])?,
-        None => Value::Null,
-    };
-    let values = column_values(alloc, &column)?;
-    let present = column.present().word(0);
-    Ok(json!(in alloc; {"range": range, "values": values, "present": present})?)
-}
-
-/// The words of so many bits, all set or all clear, of which some are then set and some cleared.
-fn bits(alloc: Global, case: &Value) -> Result<Value, Trouble> {
-    let len = size(case, "len")?;
-    let mut bits = match entry(case, "all")?.as_bool() {
-        Some(true) => Bits::all_set(alloc, len)?,
-        Some(false) => Bits::all_clear(alloc, len)?,
-        None => return Err(Trouble::WrongKind("all")),
-    };
-    turn(&mut bits, &numbers(alloc, case, "set")?, true)?;
-    turn(&mut bits, &numbers(alloc, case, "clear")?, false)?;
-    let words = words_of(alloc, &bits)?;
-    Ok(json!(in alloc; {"ones": (bits.count_ones()), "words": words})?)
-}
-
-/// The words of bits, and one behind the last.
-fn words_of(alloc: Global, bits: &Bits) -> Result<Value, AllocError> {
-    let mut words = Vec::new(alloc);
-    for word in 0..bits.len().div_ceil(64).saturating_add(1) {
-        words.push(bits.word(word))?;
+fn column(trial: &mut Trial, case: &Value) {
+    if let Some(column) = built(trial, case) {
+        trial.open_object();
+        trial.name("range");
+        give_range(trial, column.range());
+        trial.name("values");
+        give_values(trial, &column);
+        trial.name("present");
+        trial.give_number(column.present().word(0));
+        trial.close_object();
     }
-    stamps(alloc, &words)
 }
 
-/// Sets or clears bits.
-fn turn(bits: &mut Bits, places: &[u32], on: bool) -> Result<(), Trouble> {
+/// Bits, all set or all clear.
+pub(crate) fn all_bits(trial: &mut Trial, len: usize, all: bool) -> Option<Bits> {
+    let bits = if all {
+        Bits::all_set(trial.alloc(), len)
+    } else {
+        Bits::all_clear(trial.alloc(), len)
+    };
+    trial.kept(bits)
+}
+
+/// Sets or clears bits. One that isn't there is told by `lack`.
+pub(crate) fn turn(
+    trial: &mut Trial,
+    bits: &mut Bits,
+    places: &[u32],
+    on: bool,
+    lack: &'static str,
+) {
     for place in places {
         let bit = *place as usize;
         if bit >= bits.len() {
-            return Err(Trouble::Impossible("no such bit"));
-        }
-        if on {
+            trial.fail(Trouble::Impossible(lack));
+        } else if on {
             bits.set(bit);
         } else {
             bits.clear(bit);
         }
     }
-    Ok(())
+}
+
+/// The words of so many bits, all set or all clear, of which some are then set and some cleared.
+fn bits(trial: &mut Trial, case: &Value) {
+    let len = size(trial, case, "len");
+    let all = flag(trial, case, "all");
+    if let Some(mut bits) = all_bits(trial, len, all) {
+        let set = numbers(trial, case, "set");
+        turn(trial, &mut bits, &set, true, "no such bit");
+        let clear = numbers(trial, case, "clear");
+        turn(trial, &mut bits, &clear, false, "no such bit");
+        give_bits(trial, &bits);
+    }
+}
+
+/// Gives how many bits are set, their words and one behind the last.
+fn give_bits(trial: &mut Trial, bits: &Bits) {
+    trial.open_object();
+    trial.name("ones");
+    trial.give_number(bits.count_ones() as u64);
+    trial.name("words");
+    trial.open();
+    for word in 0..bits.len().div_ceil(64).saturating_add(1) {
+        trial.give_number(bits.word(word));
+    }
+    trial.close();
+    trial.close_object();
 }
 
 /// The place of a signed number among the numbers from 0 on, and what stands at that place.
-fn signed(alloc: Global, case: &Value) -> Result<Value, Trouble> {
-    let number = entry(case, "number")?
-        .as_i64()
-        .ok_or(Trouble::WrongKind("number"))?;
-    let place = i64_to_u64(number);
-    Ok(json!(in alloc; [place, (u64_to_i64(place))])?)
+fn signed(trial: &mut Trial, case: &Value) {
+    match entry(trial, case, "number").and_then(Value::as_i64) {
+        Some(number) => {
+            let place = i64_to_u64(number);
+            trial.open();
+            trial.give_number(place);
+            trial.give_signed(u64_to_i64(place));
+            trial.close();
+        }
+        None => trial.fail(Trouble::WrongKind("number")),
+    }
 }
 
-/// What a word gives, if it is one of these.
-pub(crate) fn given(alloc: Global, word: &str, case: &Value) -> Result<Option<Value>, Trouble> {
+/// Gives what a word of these gives, and answers whether it is one.
+pub(crate) fn given(trial: &mut Trial, word: &str, case: &Value) -> bool {
     match word {
-        "block" => Ok(Some(block(alloc, case)?)),
-        "block_words" => Ok(Some(block_words(alloc, case)?)),
-        "numbers" => Ok(Some(each_number(alloc, case)?)),
-        "column_of" => Ok(Some(column(alloc, case)?)),
-        "column_words" => Ok(Some(column_words(alloc, case)?)),
-        "bits" => Ok(Some(bits(alloc, case)?)),
-        "signed" => Ok(Some(signed(alloc, case)?)),
-        _ => Ok(None),
+        "block" => block(trial, case),
+        "block_words" => block_words(trial, case),
+        "numbers" => each_number(trial, case),
+        "column_of" => column(trial, case),
+        "column_words" => column_words(trial, case),
+        "bits" => bits(trial, case),
+        "signed" => signed(trial, case),
+        _ => return false,
     }
+    true
 }

@@ -1,8 +1,7 @@
 // Cases of schemas: `schema` and `field`.
-use cases::{Trouble, fields_of, list, schema_of, text};
+use cases::{Trial, fields_of, list, schema_of, text};
 use fts_model::{Field, Kind, Schema};
-use serde_json::{Value, json};
-use std::alloc::{AllocError, Global};
+use serde_json::Value;
 
 fn kind_name(kind: Kind) -> &'static str {
     match kind {
@@ -13,58 +12,72 @@ fn kind_name(kind: Kind) -> &'static str {
     }
 }
 
-/// The fields of a copy of a schema.
-fn shown(alloc: Global, schema: &Schema) -> Result<Value, Trouble> {
-    let copy = schema.clone()?;
-    fields_value(alloc, copy.fields())
-}
-
-fn fields_value(alloc: Global, fields: &[Field]) -> Result<Value, Trouble> {
-    let mut list = Vec::new(alloc);
+fn give_fields(trial: &mut Trial, fields: &[Field]) {
+    trial.open();
     for field in fields {
-        list.push(field_value(alloc, field)?)?;
+        trial.open();
+        trial.give_text(field.name.as_str());
+        trial.give_text(kind_name(field.kind));
+        trial.give_flag(field.default);
+        trial.close();
     }
-    Ok(Value::Array(list))
+    trial.close();
 }
 
-fn field_value(alloc: Global, field: &Field) -> Result<Value, AllocError> {
-    let (name, kind) = (field.name.as_str(), kind_name(field.kind));
-    json!(in alloc; [name, kind, (field.default)])
+/// Gives the fields of a copy of a schema.
+fn give_copy(trial: &mut Trial, schema: &Schema) {
+    let copy: Result<_, _> = schema.clone();
+    if let Some(copy) = trial.kept(copy) {
+        give_fields(trial, copy.fields());
+    }
+}
+
+/// Gives what a schema was refused for, and how many fields came back.
+fn give_refused(trial: &mut Trial, name: &str, back: usize) {
+    trial.open_object();
+    trial.name("error");
+    trial.give_text(name);
+    trial.name("back");
+    trial.give_number(back as u64);
+    trial.close_object();
 }
 
 /// The fields of the schema of a list of fields. Where it is refused, how many fields come back.
-fn schema(alloc: Global, case: &Value) -> Result<Value, Trouble> {
-    let fields = fields_of(alloc, list(case, "fields")?)?;
-    match Schema::new(alloc, fields) {
-        Ok(schema) => shown(alloc, &schema),
-        Err((fields, refusal)) => Ok(refused(alloc, refusal.name(), fields.len())?),
+fn schema(trial: &mut Trial, case: &Value) {
+    let items = list(trial, case, "fields");
+    let fields = fields_of(trial, items);
+    match Schema::new(trial.alloc(), fields) {
+        Ok(schema) => give_copy(trial, &schema),
+        Err((fields, refusal)) => give_refused(trial, refusal.name(), fields.len()),
     }
 }
 
-fn refused(alloc: Global, name: &str, back: usize) -> Result<Value, AllocError> {
-    json!(in alloc; {"error": name, "back": back})
+fn give_found(trial: &mut Trial, schema: &Schema, field: Option<usize>) {
+    match field {
+        Some(field) if field < schema.fields().len() => {
+            trial.open();
+            trial.give_number(field as u64);
+            trial.give_text(kind_name(schema.kind(field)));
+            trial.close();
+        }
+        _ => trial.give_null(),
+    }
 }
 
 /// The number and the kind of the field of a name, or `null`.
-fn field(alloc: Global, case: &Value) -> Result<Value, Trouble> {
-    let schema = schema_of(alloc, case)?;
-    Ok(found(alloc, &schema, schema.field(text(case, "name")?))?)
-}
-
-fn found(alloc: Global, schema: &Schema, field: Option<usize>) -> Result<Value, AllocError> {
-    match field {
-        Some(field) if field < schema.fields().len() => {
-            json!(in alloc; [field, (kind_name(schema.kind(field)))])
-        }
-        _ => Ok(Value::Null),
+fn field(trial: &mut Trial, case: &Value) {
+    let name = text(trial, case, "name");
+    if let Some(schema) = schema_of(trial, case) {
+        give_found(trial, &schema, schema.field(name));
     }
 }
 
-/// What a word gives, if it is one of these.
-pub(crate) fn given(alloc: Global, word: &str, case: &Value) -> Result<Option<Value>, Trouble> {
+/// Gives what a word of these gives, and answers whether it is one.
+pub(crate) fn given(trial: &mut Trial, word: &str, case: &Value) -> bool {
     match word {
-        "schema" => Ok(Some(schema(alloc, case)?)),
-        "field" => Ok(Some(field(alloc, case)?)),
-        _ => Ok(None),
+        "schema" => schema(trial, case),
+        "field" => field(trial, case),
+        _ => return false,
     }
+    true
 }

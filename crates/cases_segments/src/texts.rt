@@ -1,84 +1,97 @@
 // Cases of tokens: `tokens`, `places` and `fold`.
-use cases::{Trouble, nonempty, number, only, stamps, text};
+use cases::{Trial, nonempty, number, only, text};
 use fts_text::{Tokens, fold_into};
-use serde_json::{Value, json};
-use std::alloc::Global;
+use serde_json::Value;
 
-/// Puts a piece of a text behind it: a text, or one that stands so many times.
-fn push_piece(out: &mut String, piece: &Value) -> Result<(), Trouble> {
+/// Puts a text behind others, so many times.
+pub(crate) fn push_times(trial: &mut Trial, out: &mut String, text: &str, times: u64) {
+    for _ in 0..times {
+        let pushed = out.push_str(text);
+        trial.kept(pushed);
+    }
+}
+
+/// Puts a piece of a text behind others: a text, or one that stands so many times.
+fn push_piece(trial: &mut Trial, out: &mut String, piece: &Value) {
     if let Some(piece) = piece.as_str() {
-        return Ok(out.push_str(piece)?);
+        return push_times(trial, out, piece, 1);
     }
-    only(piece, &["times", "of"])?;
-    let of = text(piece, "of")?;
-    for _ in 0..number(piece, "times")? {
-        out.push_str(of)?;
-    }
-    Ok(())
+    only(trial, piece, &["times", "of"]);
+    let times = number(trial, piece, "times");
+    let of = text(trial, piece, "of");
+    push_times(trial, out, of, times);
 }
 
 /// The text of a case under a name: one that stands there, or a list of pieces.
-pub(crate) fn text_of(alloc: Global, case: &Value, name: &'static str) -> Result<String, Trouble> {
-    let mut out = String::new(alloc);
-    if case.get(name).is_some_and(|member| member.is_string()) {
-        out.push_str(text(case, name)?)?;
-        return Ok(out);
+pub(crate) fn text_of(trial: &mut Trial, case: &Value, name: &'static str) -> String {
+    let mut out = String::new(trial.alloc());
+    if let Some(text) = case.get(name).and_then(Value::as_str) {
+        push_times(trial, &mut out, text, 1);
+        return out;
     }
-    for piece in nonempty(case, name)? {
-        push_piece(&mut out, piece)?;
+    for piece in nonempty(trial, case, name) {
+        push_piece(trial, &mut out, piece);
     }
-    Ok(out)
+    out
+}
+
+/// Gives the position of a span and its folded text.
+fn give_folded(trial: &mut Trial, position: usize, span: &str) {
+    let mut folded = String::new(trial.alloc());
+    let pushed = fold_into(span, &mut folded);
+    trial.kept(pushed);
+    trial.open();
+    trial.give_number(position as u64);
+    trial.give_text(folded.as_str());
+    trial.close();
 }
 
 /// Each token of a text as its position and its folded text.
-fn listed(alloc: Global, text: &str) -> Result<Vec<Value>, Trouble> {
-    let mut list = Vec::new(alloc);
+fn listed(trial: &mut Trial, text: &str) {
+    trial.open();
     for token in Tokens::new(text) {
-        list.push(shown(alloc, token.position, token.span(text))?)?;
+        give_folded(trial, token.position, token.span(text));
     }
-    Ok(list)
-}
-
-/// The position of a span and its folded text.
-fn shown(alloc: Global, position: usize, span: &str) -> Result<Value, Trouble> {
-    let mut folded = String::new(alloc);
-    fold_into(span, &mut folded)?;
-    Ok(json!(in alloc; [position, folded.as_str()])?)
+    trial.close();
 }
 
 /// The tokens of the text of a case.
-fn tokens(alloc: Global, case: &Value) -> Result<Value, Trouble> {
-    let text = text_of(alloc, case, "text")?;
-    Ok(Value::Array(listed(alloc, text.as_str())?))
+fn tokens(trial: &mut Trial, case: &Value) {
+    let text = text_of(trial, case, "text");
+    listed(trial, text.as_str());
 }
 
-/// Each token as its position and the bytes where its span begins and ends.
-fn places(alloc: Global, case: &Value) -> Result<Value, Trouble> {
-    placed(alloc, text_of(alloc, case, "text")?.as_str())
-}
-
-fn placed(alloc: Global, text: &str) -> Result<Value, Trouble> {
-    let mut list = Vec::new(alloc);
+/// Each token of a text as its position and the bytes where its span begins and ends.
+fn placed(trial: &mut Trial, text: &str) {
+    trial.open();
     for token in Tokens::new(text) {
         let place = [token.position as u64, token.start as u64, token.end as u64];
-        list.push(stamps(alloc, &place)?)?;
+        trial.give_stamps(&place);
     }
-    Ok(Value::Array(list))
+    trial.close();
+}
+
+/// The places of the tokens of the text of a case.
+fn places(trial: &mut Trial, case: &Value) {
+    let text = text_of(trial, case, "text");
+    placed(trial, text.as_str());
 }
 
 /// A text folded behind another.
-fn folded(alloc: Global, case: &Value) -> Result<Value, Trouble> {
-    let mut out = String::from_str(alloc, text(case, "behind")?)?;
-    fold_into(text(case, "text")?, &mut out)?;
-    Ok(json!(in alloc; out.as_str())?)
+fn folded(trial: &mut Trial, case: &Value) {
+    let mut out = text_of(trial, case, "behind");
+    let pushed = fold_into(text(trial, case, "text"), &mut out);
+    trial.kept(pushed);
+    trial.give_text(out.as_str());
 }
 
-/// What a word gives, if it is one of these.
-pub(crate) fn given(alloc: Global, word: &str, case: &Value) -> Result<Option<Value>, Trouble> {
+/// Gives what a word of these gives, and answers whether it is one.
+pub(crate) fn given(trial: &mut Trial, word: &str, case: &Value) -> bool {
     match word {
-        "tokens" => Ok(Some(tokens(alloc, case)?)),
-        "places" => Ok(Some(places(alloc, case)?)),
-        "fold" => Ok(Some(folded(alloc, case)?)),
-        _ => Ok(None),
+        "tokens" => tokens(trial, case),
+        "places" => places(trial, case),
+        "fold" => folded(trial, case),
+        _ => return false,
     }
+    true
 }

@@ -1,11 +1,10 @@
 // Cases of walks of a cursor over the first segment that was made: `walk`.
 use crate::bench::Bench;
-use crate::matches::cursor;
+use crate::matches::cursor_over;
 use crate::texts::text_of;
-use cases::{Trouble, documents, nonempty, number, only, some_number};
+use cases::{Trial, Trouble, has, nonempty, number, only};
 use fts_cursor::{Cursor, DocSet};
 use serde_json::Value;
-use std::alloc::Global;
 
 /// How many documents remain, up to so many, one after the other.
 fn counted(cursor: &mut Cursor, most: u64) -> u64 {
@@ -19,61 +18,69 @@ fn counted(cursor: &mut Cursor, most: u64) -> u64 {
     count
 }
 
-/// What a step of one word gives, if it gives something.
-fn stepped(alloc: Global, cursor: &mut Cursor, word: &str) -> Result<Option<Value>, Trouble> {
+/// Gives the documents of a cursor's next stretch.
+fn fill(trial: &mut Trial, cursor: &mut Cursor) {
+    let mut out = [0; 128];
+    let count = cursor.fill(&mut out);
+    trial.give_documents(out.get(..count).unwrap_or(&[]));
+}
+
+/// Gives what a step of one word gives, if it gives something.
+fn step(trial: &mut Trial, cursor: &mut Cursor, word: &str) {
     match word {
-        "advance" => {
-            cursor.advance();
-            Ok(None)
-        }
-        "doc" => Ok(Some(some_number(cursor.doc().map(u64::from)))),
-        "openings" => Ok(Some(Value::from(cursor.openings()))),
-        "fill" => {
-            let mut out = [0; 128];
-            let count = cursor.fill(&mut out);
-            Ok(Some(documents(alloc, out.get(..count).unwrap_or(&[]))?))
-        }
-        _ => Err(Trouble::UnknownWord),
+        "advance" => cursor.advance(),
+        "doc" => trial.give_some_number(cursor.doc().map(u64::from)),
+        "openings" => trial.give_number(cursor.openings()),
+        "fill" => fill(trial, cursor),
+        _ => trial.fail(Trouble::UnknownWord),
     }
 }
 
-/// What a step with a number gives: `{"seek":TARGET}` nothing, `{"count":MOST}` how many documents remain up to MOST.
-fn moved(cursor: &mut Cursor, step: &Value) -> Result<Option<Value>, Trouble> {
-    if step.get("seek").is_some() {
-        only(step, &["seek"])?;
-        let target = u32::try_from(number(step, "seek")?).map_err(|_| Trouble::WrongKind("seek"))?;
-        cursor.seek(target);
-        return Ok(None);
+/// Moves to the target of a step `{"seek":TARGET}`.
+fn seek(trial: &mut Trial, cursor: &mut Cursor, step: &Value) {
+    only(trial, step, &["seek"]);
+    match u32::try_from(number(trial, step, "seek")) {
+        Ok(target) => cursor.seek(target),
+        Err(_) => trial.fail(Trouble::WrongKind("seek")),
     }
-    only(step, &["count"])?;
-    Ok(Some(Value::from(counted(cursor, number(step, "count")?))))
 }
 
-/// What the steps of a walk give, each that gives something.
-fn walked(alloc: Global, case: &Value, bench: &Bench) -> Result<Value, Trouble> {
-    let mut cursor = cursor(alloc, bench, text_of(alloc, case, "query")?.as_str())?;
-    let mut list = Vec::new(alloc);
-    for step in nonempty(case, "steps")? {
-        let given = match step.as_str() {
-            Some(word) => stepped(alloc, &mut cursor, word)?,
-            None => moved(&mut cursor, step)?,
-        };
-        if let Some(given) = given {
-            list.push(given)?;
+/// Gives how many documents remain, up to the bound of a step `{"count":MOST}`.
+fn count(trial: &mut Trial, cursor: &mut Cursor, step: &Value) {
+    only(trial, step, &["count"]);
+    let most = number(trial, step, "count");
+    trial.give_number(counted(cursor, most));
+}
+
+/// Gives what the steps of a walk give, each that gives something.
+fn walk(trial: &mut Trial, cursor: &mut Cursor, steps: &[Value]) {
+    trial.open();
+    for json in steps {
+        if let Some(word) = json.as_str() {
+            step(trial, cursor, word);
+        } else if has(json, "seek") {
+            seek(trial, cursor, json);
+        } else {
+            count(trial, cursor, json);
         }
     }
-    Ok(Value::Array(list))
+    trial.close();
 }
 
-/// What a word gives, if it is one of these.
-pub(crate) fn given(
-    alloc: Global,
-    word: &str,
-    case: &Value,
-    bench: &Bench,
-) -> Result<Option<Value>, Trouble> {
+/// What the walk of a case gives.
+fn walked(trial: &mut Trial, case: &Value, bench: &Bench) {
+    let text = text_of(trial, case, "query");
+    let steps = nonempty(trial, case, "steps");
+    if let Some(mut cursor) = cursor_over(trial, bench, text.as_str()) {
+        walk(trial, &mut cursor, steps);
+    }
+}
+
+/// Gives what a word of these gives, and answers whether it is one.
+pub(crate) fn given(trial: &mut Trial, word: &str, case: &Value, bench: &Bench) -> bool {
     match word {
-        "walk" => Ok(Some(walked(alloc, case, bench)?)),
-        _ => Ok(None),
+        "walk" => walked(trial, case, bench),
+        _ => return false,
     }
+    true
 }

@@ -2,20 +2,18 @@
 ghost use Rattle.std.specs.Prelude.{◌≡◌, IfOk};
 ghost use Rattle.fts_snapshots.specs.Rounds.{SameLane};
 
+use crate::fixtures::document;
 use fts_index::{Batch, Lane, LaneEnd, Writer};
-use fts_model::{Document, FieldValue, Op, Refusal, Schema, Term, Text};
-use serde_json::Value;
+use fts_model::{FieldValue, Op, Refusal, Schema, Term, Text};
 use std::alloc::Global;
 
 /// A document with this tag, and with no value where the tag is empty.
 pub fn add(alloc: Global, schema: &Schema, tag: &str) -> Result<Op, Refusal> {
-    let mut json = serde_json::Map::new(alloc);
-    if !tag.is_empty() {
-        let text = Value::String(String::from_str(alloc, tag)?);
-        json.insert(String::from_str(alloc, "tag")?, text)?;
+    if tag.is_empty() {
+        return Ok(Op::Add(document(alloc, schema, "{}")?));
     }
-    let json = Value::Object(json);
-    Ok(Op::Add(Document::from_json(alloc, schema, &json)?))
+    let json = format!(in alloc; "{{\"tag\":\"{tag}\"}}")?;
+    Ok(Op::Add(document(alloc, schema, json.as_str())?))
 }
 
 /// A delete of the documents with this tag.
@@ -48,16 +46,20 @@ pub fn batch_of(alloc: Global, writer: &mut Writer, ops: Vec<Op>) -> Result<Batc
     round.gather(alloc, ends).map_err(|e| e.2)
 }
 
-/// An operation a tag: one behind `+` is added, one behind `-` is deleted, and all is deleted where it is empty.
+/// The operation of a tag: one behind `+` is added, one behind `-` is deleted, and all is deleted where it is empty.
+fn op_of(alloc: Global, schema: &Schema, tag: &str) -> Result<Op, Refusal> {
+    match tag.split_at_checked(1) {
+        Some(("+", tag)) => add(alloc, schema, tag),
+        Some((_, tag)) => delete(alloc, tag),
+        None => Ok(Op::DeleteAll),
+    }
+}
+
+/// An operation a tag.
 fn ops_of(alloc: Global, schema: &Schema, tags: &[&str]) -> Result<Vec<Op>, Refusal> {
     let mut ops = Vec::new(alloc);
     for tag in tags {
-        let op = match tag.split_at_checked(1) {
-            Some(("+", tag)) => add(alloc, schema, tag)?,
-            Some((_, tag)) => delete(alloc, tag)?,
-            None => Op::DeleteAll,
-        };
-        ops.push(op)?;
+        ops.push(op_of(alloc, schema, tag)?)?;
     }
     Ok(ops)
 }

@@ -40,6 +40,7 @@ pub fn writer<R: Wait>(rt: &R, alloc: Global) -> Result<Writer, Refusal> {
 pub fn document(alloc: Global, schema: &Schema, json: &str) -> Result<Document, Refusal> {
     match Value::from_str(alloc, json) {
         Ok(json) => Document::from_json(alloc, schema, &json),
+        Err(error) if error.is_memory() => Err(Refusal::Memory),
         Err(_) => Err(Refusal::BadJson),
     }
 }

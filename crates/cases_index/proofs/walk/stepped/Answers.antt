@@ -2,11 +2,11 @@
 use Rattle.cases_index.proofs.LateLemmas.{all_further}
 use Rattle.cases_index.proofs.walk.stepped.Goals as goal
 
-pub returns-in_err-given : goal.returns-in_err-given
-returns-in_err-given g c = all_further c.args.writer.now.front.snapshot c.changed.new.writer.front.snapshot c.changed.ensures c.args.late.now.items c.requires
+pub returns-then-changed : goal.returns-then-changed
+returns-then-changed g c = all_further c.ended.new.writer.front.snapshot c.changed.new.writer.front.snapshot c.changed.ensures c.ended.new.late.items c.ended.ensures
 
-pub returns-in-Some : goal.returns-in-Some
-returns-in-Some g c = all_further c.args.writer.now.front.snapshot c.changed.new.writer.front.snapshot c.changed.ensures c.args.late.now.items c.requires
+pub returns-then-not-shown : goal.returns-then-not-shown
+returns-then-not-shown g c = all_further c.ended.new.writer.front.snapshot c.changed.new.writer.front.snapshot c.changed.ensures c.ended.new.late.items c.ended.ensures
 
-pub ended-requires : goal.ended-requires
-ended-requires g c = all_further c.args.writer.now.front.snapshot c.changed.new.writer.front.snapshot c.changed.ensures c.args.late.now.items c.requires
+pub returns-else-not-asked : goal.returns-else-not-asked
+returns-else-not-asked g c = all_further c.ended.new.writer.front.snapshot c.changed.new.writer.front.snapshot c.changed.ensures c.ended.new.late.items c.ended.ensures

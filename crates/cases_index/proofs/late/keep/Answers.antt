@@ -3,10 +3,10 @@ use Rattle.std.proofs.Common.{List, sym, subst}
 use Rattle.fts_snapshots.specs.MergedSegments.{MergedSegmentValue}
 use Rattle.cases_index.specs.Late.{AllFit}
 use Rattle.cases_index.proofs.LateLemmas.{all_with}
-use Rattle.cases_index.proofs.late.merge_later.Goals as goal
+use Rattle.cases_index.proofs.late.keep.Goals as goal
 
-pub returns : goal.returns
-returns c =
+pub returns-in-Ok : goal.returns-in-Ok
+returns-in-Ok c =
     let snapshot = c.args.writer.now.front.snapshot in
-    subst (λ (ms : List MergedSegmentValue). AllFit snapshot ms) (sym c.in_ok-push.ensures.items)
-    (all_with snapshot c.args.late.now.items c.in_ok-merged.merged c.requires c.in_ok-merged.ensures)
+    subst (λ (ms : List MergedSegmentValue). AllFit snapshot ms) (sym c.in-Ok.ensures.items)
+    (all_with snapshot c.args.late.now.items c.args.merged c.requires.all c.requires.fits)
