@@ -1,12 +1,13 @@
 #!/usr/bin/env python3
-"""Times searches of `fts run` beside hand-written loops, over plain arrays and over packed lists, and beside SQLite's FTS5.
+"""Times searches of `fts run` beside hand-written loops, over plain arrays and over packed lists, and beside SQLite's FTS5, Lucene and Xapian.
 
     python3 bench/floor.py [--documents N] [--searches N] [--instructions] [--picture FILE]
 
-Build the program first (README.md); this builds bench/floor.cpp by g++. Prints microseconds of processor time a search for each kind of
-search, JSON included for `fts run` and not for the loops, the least of three rounds, and the ratios. With --instructions it runs both under
-Valgrind's callgrind too, and prints thousands of instructions a search. With --picture it draws the times by matplotlib as an SVG. Every
-answer of `fts run` and of both kinds of loops is compared.
+Build the program first (README.md); this builds bench/floor.cpp by g++. Lucene and Xapian are asked where they are installed (of Debian
+liblucene8-java with a JDK, and libxapian-dev). Prints microseconds of processor time a search for each kind of search, JSON included for
+`fts run` and not for the others, the least of three rounds (of thirty for Lucene, whose code is compiled as it runs), and the ratios. With
+--instructions it runs `fts run` and the loops under Valgrind's callgrind too, and prints thousands of instructions a search. With --picture
+it draws the times by matplotlib as an SVG. Every answer of `fts run`, the loops, Lucene and Xapian is compared.
 
 The documents have 30 words of a vocabulary of 50,000 with Zipf's law, a `u64` below 1,000,000 and an `i64` from -50 to 49.
 """
@@ -17,6 +18,7 @@ import json
 import os
 import pathlib
 import random
+import shutil
 import sqlite3
 import subprocess
 import tempfile
@@ -26,6 +28,9 @@ import time
 ROOT = pathlib.Path(__file__).resolve().parent.parent
 PROGRAM = ROOT / "crates/fts/out/fts"
 ROUNDS = 3
+# Lucene's code is compiled as it runs.
+MORE_ROUNDS = 30
+JARS = [*glob.glob("/usr/share/java/lucene-core-*.jar"), *glob.glob("/usr/share/java/lucene-analyzers-common-*.jar")]
 GUARD = ["valgrind", "--tool=callgrind", "--instr-atstart=no"]
 QUIET = {"stdout": subprocess.DEVNULL, "stderr": subprocess.DEVNULL}
 
@@ -148,10 +153,28 @@ def script(*guard):
     return session
 
 
-def loops(form, rounds, *guard):
-    session = Session(*guard, f"{SCRATCH}/floor", form, str(rounds))
+def fed(*command):
+    """A program that takes documents and searches as bench/floor.cpp does."""
+    session = Session(*command)
     session.ask([*("add\t{}\t{}\t{}".format(*d) for d in DOCUMENTS), ""], 1)
     return session
+
+
+def loops(form, rounds, *guard):
+    return fed(*guard, f"{SCRATCH}/floor", form, str(rounds))
+
+
+def peers():
+    """The other indexes that are installed, by their names."""
+    found = {}
+    if shutil.which("javac") and len(JARS) == 2:
+        subprocess.run(["javac", "-cp", ":".join(JARS), "-d", SCRATCH, ROOT / "bench/Lucene.java"], check=True)
+        found["Lucene"] = fed("java", "-Xmx4g", "-cp", ":".join([SCRATCH, *JARS]), "Lucene", str(MORE_ROUNDS))
+    if shutil.which("xapian-config"):
+        flags = subprocess.run(["xapian-config", "--cxxflags", "--libs"], check=True, capture_output=True, text=True).stdout.split()
+        subprocess.run(["g++", "-O2", "-std=c++20", ROOT / "bench/xapian.cpp", "-o", f"{SCRATCH}/xapian", *flags], check=True)
+        found["Xapian"] = fed(f"{SCRATCH}/xapian", f"{SCRATCH}/base", str(ROUNDS))
+    return found
 
 
 def line(search):
@@ -193,20 +216,21 @@ class Table:
         return (time.process_time() - began) * 1e6
 
 
-def times():
+def times(others):
+    """A row for each kind of search: of `fts run`, both kinds of loops, FTS5, and the other indexes."""
     ours, plain, packed, table = script(), loops("plain", ROUNDS), loops("packed", ROUNDS), Table()
     for kind, searches in SEARCHES.items():
         requests, lines = [request(*search) for search in searches], [*map(line, searches), ""]
         runs = [ours.ask(requests, len(requests)) for _ in range(ROUNDS)]
         answers = [told(reply) for reply in runs[0][0]]
-        row = [min(run[1] for run in runs)]
-        for session in (plain, packed):
+        def asked(session):
             *theirs, nanos = session.ask(lines, len(lines))[0]
             assert theirs == answers, f"{kind}: the answers differ"
-            row.append(int(nanos) / 1000)
-        row.append(min(table.time(searches) for _ in range(ROUNDS)))
-        yield kind, [each / len(searches) for each in row]
-    for session in (ours, plain, packed):
+            return int(nanos) / 1000
+
+        row = [min(run[1] for run in runs), asked(plain), asked(packed), min(table.time(searches) for _ in range(ROUNDS))]
+        yield kind, [each / len(searches) for each in [*row, *map(asked, others)]]
+    for session in (ours, plain, packed, *others):
         session.end()
 
 
@@ -223,15 +247,16 @@ def instructions():
         session.end()
 
 
-def draw(rows, file):
+def draw(rows, others, file):
     import matplotlib
     matplotlib.use("svg")
     from matplotlib import pyplot
-    names = ("fts run, JSON included", "plain arrays", "packed, hand-written", "FTS5, through Python")
-    figure, axes = pyplot.subplots(figsize=(9, 6))
+    names = ("fts run, JSON included", "plain arrays", "packed, hand-written", "FTS5, through Python", *others)
+    width = 0.8 / len(names)
+    figure, axes = pyplot.subplots(figsize=(9, 8))
     for number, name in enumerate(names):
-        places = [place - 0.3 + 0.2 * number for place in range(len(rows))]
-        axes.barh(places, [row[1][number] for row in rows], 0.2, label=name)
+        places = [place - 0.4 + width * (number + 0.5) for place in range(len(rows))]
+        axes.barh(places, [row[1][number] for row in rows], width, label=name)
     axes.set_yticks(range(len(rows)), [row[0].replace("`", "") for row in rows])
     axes.set_xscale("log")
     axes.set_xlabel(f"microseconds a search, {arguments.documents:,} documents")
@@ -244,13 +269,14 @@ def draw(rows, file):
 with tempfile.TemporaryDirectory() as SCRATCH:
     source = ROOT / "bench/floor.cpp"
     subprocess.run(["g++", "-O2", "-march=x86-64-v2", "-std=c++20", source, "-o", f"{SCRATCH}/floor"], check=True)
-    rows = list(times())
-    print("| microseconds a search | fts | floor | kernel | fts / floor | fts / kernel | FTS5 | FTS5 / fts |")
-    print("|---|---|---|---|---|---|---|---|")
-    for kind, (ours, plain, packed, table) in rows:
-        print(f"| {kind} | {ours:.1f} | {plain:.1f} | {packed:.1f} | {ours / plain:.1f} | {ours / packed:.1f} | {table:.1f} | {table / ours:.1f} |")
+    others = peers()
+    rows = list(times(others.values()))
+    print("| microseconds a search | fts | floor | kernel | fts / floor | fts / kernel | FTS5 | FTS5 / fts |", *(f" {name} | {name} / fts |" for name in others), sep="")
+    print("|---|---|---|---|---|---|---|---|" + "---|---|" * len(others))
+    for kind, (ours, plain, packed, *theirs) in rows:
+        print(f"| {kind} | {ours:.1f} | {plain:.1f} | {packed:.1f} | {ours / plain:.1f} | {ours / packed:.1f} |", *(f" {each:.1f} | {each / ours:.1f} |" for each in theirs), sep="")
     if arguments.picture:
-        draw(rows, arguments.picture)
+        draw(rows, others, arguments.picture)
     if arguments.instructions:
         print("\n| thousand instructions a search | fts | floor | kernel | fts / floor | fts / kernel |")
         print("|---|---|---|---|---|---|")
