@@ -261,7 +261,7 @@ def draw(rows, others, file):
     axes.set_xscale("log")
     axes.set_xlabel(f"microseconds a search, {arguments.documents:,} documents")
     axes.invert_yaxis()
-    axes.legend()
+    axes.legend(loc="upper center", bbox_to_anchor=(0.4, -0.08), ncol=3)
     figure.tight_layout()
     figure.savefig(file, metadata={"Date": None})
 
