@@ -1,3 +1,4 @@
 pub mod LocalIndexes
+pub mod SearchThreads
 pub mod UncommittedOperations
 pub mod WriterIndexes

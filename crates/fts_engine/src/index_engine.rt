@@ -4,6 +4,7 @@ ghost use Rattle.fts_index.specs.Publications.{IsOneCommit};
 ghost use Rattle.fts_engine.specs.WriterIndexes.{IsReaderOf};
 
 use crate::segments::merge_all;
+use crate::threads::threads_for;
 use crate::uncommitted;
 use crate::uncommitted::Uncommitted;
 use fts_index::{CommitSeen, Reader, Searcher, SegmentInfo, Writer};
@@ -171,7 +172,7 @@ impl<R: AllocGlobal + Threads + Wait + Sync> EngineOver<R> for IndexEngine {
 
     fn search(&mut self, rt: &R, query: &Query, request: &Request) -> Result<Answer, Refusal> {
         let searcher = last_commit(&self.writer, &mut self.reader)?;
-        let workers = self.options.workers;
+        let workers = threads_for(self.options.workers, searcher.snapshot().entries());
         let found = searcher.search(rt, rt.alloc(), query, request, workers, &Open)?;
         Ok(found.answer)
     }

@@ -3,6 +3,7 @@
 //! [`IndexEngine`] is an engine of scripts over a writer of segments: it submits to rounds of one lane, commits them
 //! cut as its options say, merges as they say, and searches the last commit through a reader. For every cutting,
 //! merging and number of workers it takes the same steps as a plain list of documents, so no option changes a reply.
+//! Where the segments are small, one thread searches them, whatever the number of workers.
 //!
 //! [`LocalEngine`] takes the same steps in the calling thread alone: it needs memory and nothing else, and so can stand
 //! in a library that a program of another language calls.
@@ -18,6 +19,7 @@ mod local_commit;
 mod local_engine;
 mod local_search;
 mod segments;
+mod threads;
 mod uncommitted;
 
 pub use index_engine::IndexEngine;
