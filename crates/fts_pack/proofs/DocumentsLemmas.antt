@@ -1,7 +1,7 @@
 -- Rising documents, their differences, and their blocks.
 use Rattle.std.proofs.Common.{◌≡◌, ℕ, zero, suc, ◌+◌, ◌-◌, ◌*◌, ◌<◌, ◌≤◌, List, [], ◌∷◌, ◌++◌, length, get_or, take, drop, set, min, refl, sym, ap, ◌∙◌, subst, arith}
 use Rattle.std.specs.List.Sorted.{IsStrictlyIncreasing}
-use Rattle.std.proofs.lemmas.List.{length-drop, take-append-drop, drop_more, take_min}
+use Rattle.std.proofs.lemmas.List.{length-drop, take-append-drop, drop_more, take_all, take_min}
 use Rattle.std.specs.Int.{div_ceil}
 use Rattle.std.proofs.Math.Seq.{take-add}
 use Rattle.fts_pack.specs.Documents.{gaps, documents_at, block_count, block_at, last_of, Rises, after}
@@ -91,8 +91,7 @@ block_count-div_ceil count = omega arith
 pub last_is : (next : ℕ) (documents : List ℕ) → 0 < length documents → suc (get_or documents (length documents - 1) 0) ≡ after next documents
 last_is next documents some = sym (after_last next documents some)
 
--- the one block of one document
-pub only_block : (document block : ℕ) (out : List ℕ) → block < block_count 1 → length out ≡ 128 → take 1 (set out 0 document) ≡ block_at (document ∷ []) block
-only_block document zero [] h size = absurd (omega (arith, size))
-only_block document zero (x ∷ out) h size = refl
-only_block document (suc block) out h size = absurd (omega (arith, h))
+-- the first block of few documents has them all
+pub first_block : (documents : List ℕ) (block : ℕ) → length documents ≤ 12 → block < block_count (length documents) → block_at documents block ≡ documents
+first_block documents zero few h = take_all 128 documents (omega (arith, few))
+first_block documents (suc block) few h = absurd (omega (arith, few, h))

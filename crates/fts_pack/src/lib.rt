@@ -3,6 +3,7 @@
 
 mod block;
 mod blocks;
+mod few;
 mod gaps;
 mod lanes;
 pub mod laws;

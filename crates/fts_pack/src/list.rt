@@ -1,8 +1,9 @@
-// A strictly rising list of documents: one document lies in the list itself, more of them in blocks.
+// A strictly rising list of documents: up to twelve lie in the list itself, more of them in blocks.
 ghost use Rattle.std.specs.Prelude.{◌≡◌, ℕ, ◌<◌, ◌==◌, List, IfOk, IsOkUnless, length, take};
 ghost use Rattle.std.specs.List.Sorted.{IsStrictlyIncreasing};
 ghost use Rattle.fts_pack.specs.Documents.{block_at, block_count, last_of};
 
+use crate::few::{FEW, Few};
 use crate::list_source::ListSource;
 use crate::long_list::LongList;
 use fts_base::Refusal;
@@ -11,7 +12,7 @@ use std::marker::Model;
 
 #[derive(Drop)]
 enum Repr {
-    One(u32),
+    Short(Few),
     Long(LongList),
 }
 
@@ -40,9 +41,9 @@ impl List {
         ensures ok { IfOk result (λ list. list ≡ documents.now) }
         ensures memory { IsOkUnless result Refusal.Memory }
     {
-        if let [document] = documents {
+        if !documents.is_empty() && documents.len() <= FEW {
             return Ok(List {
-                repr: Repr::One(*document),
+                repr: Repr::Short(Few::new(documents)),
             });
         }
         let long = LongList::build(alloc, documents).map_err(|_| Refusal::Memory)?;
@@ -56,7 +57,7 @@ impl List {
         ensures { result ≡ length self.now }
     {
         match &self.repr {
-            Repr::One(_) => 1,
+            Repr::Short(few) => few.len(),
             Repr::Long(long) => long.len(),
         }
     }
@@ -72,7 +73,7 @@ impl List {
         ensures { result ≡ block_count (length self.now) }
     {
         match &self.repr {
-            Repr::One(_) => 1,
+            Repr::Short(few) => few.blocks(),
             Repr::Long(long) => long.blocks(),
         }
     }
@@ -82,7 +83,7 @@ impl List {
         ensures { result ≡ last_of (block_at self.now block) }
     {
         match &self.repr {
-            Repr::One(document) => *document,
+            Repr::Short(few) => few.last(),
             Repr::Long(long) => long.last(block),
         }
     }
@@ -93,10 +94,7 @@ impl List {
         ensures documents { take result out.new ≡ block_at self.now block }
     {
         match &self.repr {
-            Repr::One(document) => {
-                out[0] = *document;
-                1
-            }
+            Repr::Short(few) => few.open(out),
             Repr::Long(long) => long.open(block, out),
         }
     }

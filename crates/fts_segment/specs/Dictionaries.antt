@@ -1,6 +1,5 @@
 -- What a dictionary and its lists say of occurrences.
 use Rattle.std.specs.Prelude.{◌≡◌, ◌++◌, ℕ, nat_lt, Bool, true, List, [], ◌∷◌, length, map, nat_eq, Contains, All}
-use Rattle.std.specs.Prelude.{slice_index_or}
 use Rattle.std.specs.List.{dedup}
 use Rattle.fts_segment.specs.declared.term_groups.Place.{Place}
 use Rattle.fts_segment.specs.Occurrences.{OccurrenceValue}
@@ -30,13 +29,13 @@ abbrev pub unless_none : {X : Type 0} → List Place → X → List X
 unless_none [] x = []
 unless_none (p ∷ ps) x = x ∷ []
 
--- the names that have a place, of names with their numbers
-abbrev pub names_listed : List (List Place) → List (ℕ × List ℕ) → List (List ℕ)
-names_listed groups [] = []
-names_listed groups (e ∷ es) = unless_none (slice_index_or groups e.0 []) e.1 ++ names_listed groups es
+-- the names that have a place, of names with their places
+abbrev pub names_listed : List (List Place) → List (List ℕ) → List (List ℕ)
+names_listed [] names = []
+names_listed (places ∷ groups) [] = []
+names_listed (places ∷ groups) (name ∷ names) = unless_none places name ++ names_listed groups names
 
--- what each of their groups gives
-abbrev pub listed_by : {X : Type 0} → (List Place → X) → List (List Place) → List (ℕ × List ℕ) → List X
-listed_by f groups [] = []
-listed_by f groups (e ∷ es) =
-    unless_none (slice_index_or groups e.0 []) (f (slice_index_or groups e.0 [])) ++ listed_by f groups es
+-- what places give, of those that aren't empty
+abbrev pub listed_by : {X : Type 0} → (List Place → X) → List (List Place) → List X
+listed_by f [] = []
+listed_by f (places ∷ groups) = unless_none places (f places) ++ listed_by f groups

@@ -1,5 +1,5 @@
 -- Occurrences as the log keeps them: terms by their numbers.
-use Rattle.std.specs.Prelude.{◌<◌, ℕ, List, [], length, map, slice_index_or, All}
+use Rattle.std.specs.Prelude.{◌<◌, ℕ, List, [], length, map, slice_index, slice_index_or, All}
 use Rattle.fts_segment.specs.declared.term_log.Occurrence.{Occurrence}
 use Rattle.fts_segment.specs.Occurrences.{OccurrenceValue}
 
@@ -14,3 +14,11 @@ occurrence_values names log = map (occurrence_value names) log
 -- each occurrence is of a term that has a name
 abbrev pub AreNamed : List (List ℕ) → List Occurrence → Type 0
 AreNamed names log = All (λ occurrence. occurrence.term < length names) log
+
+-- an occurrence with another number for its term, which stands at the place of the old one
+abbrev pub by_ordinal : List ℕ → Occurrence → Occurrence
+by_ordinal ordinals occurrence = record {
+  term = slice_index ordinals occurrence.term;
+  doc = occurrence.doc;
+  position = occurrence.position;
+}

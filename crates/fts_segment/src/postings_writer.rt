@@ -1,5 +1,5 @@
 // Writes the postings of terms in their order: of each the documents, and its positions in them.
-ghost use Rattle.std.specs.Prelude.{◌≡◌, ◌++◌, [], OnOk, IfOk, All, map, slice_index_or};
+ghost use Rattle.std.specs.Prelude.{◌≡◌, ◌++◌, OnOk, IfOk, All, length, map};
 ghost use Rattle.std.specs.List.Sorted.{IsStrictlyIncreasing};
 ghost use Rattle.fts_segment.specs.Dictionaries.{docs_in, unless_none, names_listed, listed_by};
 ghost use Rattle.fts_segment.specs.Positions.{position_lists_of};
@@ -132,34 +132,25 @@ pub(crate) fn put(
     }
 }
 
-/// Writes sorted names, each with the places of its number, and leaves out those without a place.
+/// Writes names, each with the places of its group, and leaves out those without a place.
 pub(crate) fn write_terms(
     alloc: Global,
-    order: &[(&[u8], usize)],
+    names: &[&[u8]],
     groups: &TermGroups,
 ) -> Result<PostingsWriter, AllocError>
-    requires rise { All (λ e. IsStrictlyIncreasing (docs_in (slice_index_or groups.now e.1 []))) order.now }
-    requires positions { All
-        (λ e. All IsPositionList (position_lists_of (slice_index_or groups.now e.1 []))) order.now }
-    ensures names { IfOk result
-        (λ all. all.names ≡ names_listed groups.now (map (λ e. (e.1, e.0.now)) order.now)) }
-    ensures lists { IfOk result
-        (λ all. all.lists.items
-        ≡ listed_by docs_in groups.now (map (λ e. (e.1, e.0.now)) order.now)) }
+    requires count { length groups.now ≡ length names.now }
+    requires rise { All (λ places. IsStrictlyIncreasing (docs_in places)) groups.now }
+    requires positions { All (λ places. All IsPositionList (position_lists_of places)) groups.now }
+    ensures names { IfOk result (λ all. all.names ≡ names_listed groups.now (map (λ n. n.now) names.now)) }
+    ensures lists { IfOk result (λ all. all.lists.items ≡ listed_by docs_in groups.now) }
     ensures positions { IfOk result
-        (λ all. logged_term_position_lists all.positions
-        ≡ listed_by position_lists_of groups.now (map (λ e. (e.1, e.0.now)) order.now)) }
+        (λ all. logged_term_position_lists all.positions ≡ listed_by position_lists_of groups.now) }
     ensures is { IfOk result (λ all. IsPositionLog all.positions) }
 {
-    let mut writer = PostingsWriter {
-        names: Names::new(alloc),
-        lists: Vec::new(alloc),
-        positions: PositionLog::new(alloc),
-    };
+    let mut writer = PostingsWriter::new(alloc);
     let mut room = Vec::new(alloc);
-    for i in 0..order.len() {
-        let (name, number) = order[i];
-        put(&mut writer, alloc, &mut room, name, groups.get(number))?;
+    for (number, name) in names.iter().enumerate() {
+        put(&mut writer, alloc, &mut room, *name, groups.get(number))?;
     }
     Ok(writer)
 }

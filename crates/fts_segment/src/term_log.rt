@@ -1,9 +1,12 @@
 // The occurrences of terms in documents, in the order in which they come.
+ghost use Rattle.std.specs.Prelude.{◌≡◌, ◌<◌, length, map, All};
+ghost use Rattle.fts_segment.specs.TermLogs.{by_ordinal};
+
 use crate::dictionary::Dictionary;
 use crate::numbering::Numbering;
 use crate::postings_writer::write_terms;
 use crate::term_groups::TermGroups;
-use crate::term_order::sorted;
+use crate::term_order::{SortedNames, sorted};
 use std::alloc::{AllocError, Global};
 use std::marker::Model;
 
@@ -69,18 +72,29 @@ impl TermLog {
     }
 
     /// The terms that occur, in order, each with the list of its documents and its positions in them.
-    pub(crate) fn dictionary(&self, alloc: Global) -> Result<Dictionary, AllocError>
-        requires rise { (q : List ℕ) → IsStrictlyIncreasing (docs_with q self.now) }
-        requires positions { (q : List ℕ) → All IsPositionList (position_lists_with q self.now) }
+    pub(crate) fn dictionary(self, alloc: Global) -> Result<Dictionary, AllocError>
+        requires rise { (q : List ℕ) → IsStrictlyIncreasing (docs_with q self) }
+        requires positions { (q : List ℕ) → All IsPositionList (position_lists_with q self) }
         ensures { IfOk result
-            (λ dictionary. IsDictionaryOf self.now dictionary.names dictionary.lists.items
+            (λ dictionary. IsDictionaryOf self dictionary.names dictionary.lists.items
             (term_position_lists dictionary.positions)) }
     {
-        let names = self.terms.names();
-        let order = sorted(alloc, names)?;
-        let groups = TermGroups::new(alloc, &self.log, names.len())?;
-        let writer = write_terms(alloc, &order, &groups)?;
+        let TermLog { terms, mut log } = self;
+        let SortedNames { names, ordinals } = sorted(alloc, terms.names())?;
+        put_in_order(&mut log, &ordinals);
+        let groups = TermGroups::new(alloc, &log, names.len())?;
+        let writer = write_terms(alloc, &names, &groups)?;
         let dictionary = writer.finish(alloc)?;
         Ok(dictionary)
+    }
+}
+
+// Numbers the terms of occurrences by their order.
+fn put_in_order(log: &mut [Occurrence], ordinals: &[usize])
+    requires { All (λ occurrence. occurrence.term < length ordinals.now) log.old }
+    ensures { log.new ≡ map (by_ordinal ordinals.now) log.old }
+{
+    for occurrence in log.iter_mut() {
+        occurrence.term = ordinals[occurrence.term];
     }
 }

@@ -1,17 +1,27 @@
-use Rattle.std.proofs.Common.{refl, get_or, []}
+use Rattle.std.proofs.Common.{◌≡◌, ◌<◌, ℕ, List, [], Bor, map, length, get_or, sym, arith}
+use Rattle.std.proofs.lemmas.List.{get_or-map, length-map}
 use Rattle.fts_segment.specs.Dictionaries.{docs_in}
 use Rattle.fts_segment.specs.Positions.{position_lists_of}
 use Rattle.fts_segment.specs.PositionLogs.{logged_term_position_lists}
-use Rattle.fts_segment.proofs.TermOrderLemmas.{Numbered}
 use Rattle.fts_segment.proofs.DictionaryLemmas.{names_step, listed_step}
 use Rattle.fts_segment.proofs.postings_writer.write_terms.Goals as goal
 
-pub loop-i-preserved : goal.loop-i-preserved
-loop-i-preserved c =
-    let d : Numbered = (record { ref_ptr = (0, 0); now = [] }, 0) in
-    let e = get_or c.args.order.now c.loop-i.i d in (
-      names_step c.args.groups.now c.args.order.now c.loop-i.i d e c.get.result.now c.loop-i.writer.names c.put.new.writer.names c.loop-i-test.true refl c.get.ensures c.in_ok-put.ensures.names c.loop-i.invariant.0,
-      listed_step docs_in c.args.groups.now c.args.order.now c.loop-i.i d e c.get.result.now c.loop-i.writer.lists.items c.put.new.writer.lists.items c.loop-i-test.true refl c.get.ensures c.in_ok-put.ensures.lists c.loop-i.invariant.1,
-      listed_step position_lists_of c.args.groups.now c.args.order.now c.loop-i.i d e c.get.result.now (logged_term_position_lists c.loop-i.writer.positions) (logged_term_position_lists c.put.new.writer.positions) c.loop-i-test.true refl c.get.ensures c.in_ok-put.ensures.positions c.loop-i.invariant.2,
-      c.in_ok-put.ensures.is,
-    )
+pub loop-number-preserved : goal.loop-number-preserved
+loop-number-preserved c =
+    let d : Bor (List ℕ) = record { ref_ptr = (0, 0); now = [] } in
+    let l = c.loop-number in
+    let items = c.args.names.now in
+    let names = map (λ n. n.now) items in
+    let groups = c.args.groups.now in
+    let places = c.get.result.now in
+    let long = length-map items (λ n. n.now) in
+    let count : length groups ≡ length names = omega (arith, c.requires.count, long) in
+    let within : l.number < length names = omega (arith, c.loop-number-test.true, long) in
+    let inside : l.number < length groups = omega (arith, within, count) in
+    let here : (get_or items l.number d).now ≡ get_or names l.number [] = sym (get_or-map (λ n. n.now) items l.number d [] c.loop-number-test.true) in
+    record {
+      names = names_step groups names l.number places (get_or items l.number d).now l.writer.names c.put.new.writer.names within count here c.get.ensures c.in_ok-put.ensures.names l.invariant.names;
+      lists = listed_step docs_in groups l.number places l.writer.lists.items c.put.new.writer.lists.items inside c.get.ensures c.in_ok-put.ensures.lists l.invariant.lists;
+      positions = listed_step position_lists_of groups l.number places (logged_term_position_lists l.writer.positions) (logged_term_position_lists c.put.new.writer.positions) inside c.get.ensures c.in_ok-put.ensures.positions l.invariant.positions;
+      is = c.in_ok-put.ensures.is;
+    }

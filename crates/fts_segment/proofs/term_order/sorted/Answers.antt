@@ -1,23 +1,45 @@
-use Rattle.std.proofs.Common.{◌≡◌, ◌∙◌, refl, map, arith}
+use Rattle.std.proofs.Common.{◌≡◌, ◌-◌, ◌<◌, List, ℕ, [], suc, map, length, get_or, sym, ap, subst, arith}
+use Rattle.std.specs.Prelude.{slice_get}
 use Rattle.std.specs.List.{enumerate_from}
-use Rattle.std.proofs.lemmas.List.{take_all}
-use Rattle.std.proofs.lemmas.List.FromFn.{length-enumerate_from}
-use Rattle.std.proofs.lemmas.List.Sorted.{IsPermutation-map}
-use Rattle.fts_segment.proofs.TermOrderLemmas.{shown, shown-push, Ascends-sorted, IsDistinct-sorted}
+use Rattle.std.specs.List.Sorted.{IsPermutation}
+use Rattle.std.proofs.lemmas.List.{get_or_default, length-map}
+use Rattle.std.proofs.lemmas.Option.{slice_get_within}
+use Rattle.fts_segment.specs.Sorted.{IsInOrder, with_name}
+use Rattle.fts_segment.proofs.TermOrderLemmas.{Numbered, shown, name_of, right_number, some_with, IsSorting-next, Stand-sorted}
 use Rattle.fts_segment.proofs.term_order.sorted.Goals as goal
 
-pub loop-number-preserved : goal.loop-number-preserved
-loop-number-preserved c =
-    rw c.in_ok-push.ensures.items (shown-push c.args.names.now c.loop-number.order.items (c.get.result, c.loop-number.number) c.loop-number.number
-    (omega (arith, c.len-number-end.ensures)) refl c.get.ensures c.loop-number.invariant)
+pub index_mut-requires : goal.index_mut-requires
+index_mut-requires c =
+    let items = c.deref-name-items.result.now in
+    let i = c.loop-name.name-index in
+    let d : Numbered = (record { ref_ptr = (0, 0); now = [] }, 0) in
+    let e = get_or items i d in
+    let P : List Numbered → Type 0 = λ es. IsPermutation (enumerate_from 0 c.args.names.now) (map shown es) in
+    let moved = subst P (sym c.deref-name-items.ensures.value) c.in_ok-order.ensures.all in
+    let right = right_number c.args.names.now items i e moved c.loop-name-test.true (get_or_default items i d e c.loop-name-test.true) in
+    omega (arith, slice_get_within c.args.names.now e.1 e.0.now right, c.loop-name.invariant.count, c.loop-name.ordinals.ok.0)
 
--- every name has its number
-all_of : (c : goal.After-sort_unstable) → map shown c.loop-number.order.items ≡ enumerate_from 0 c.args.names.now
-all_of c = c.loop-number.invariant ∙ take_all c.loop-number.number (enumerate_from 0 c.args.names.now) (omega (arith, length-enumerate_from 0 c.args.names.now, c.len-number-end.ensures))
+pub loop-name-preserved : goal.loop-name-preserved
+loop-name-preserved c =
+    let items = c.deref-name-items.result.now in
+    let i = c.loop-name.name-index in
+    let d : Numbered = (record { ref_ptr = (0, 0); now = [] }, 0) in
+    let e = get_or items i d in
+    let P : List Numbered → Type 0 = λ es. IsPermutation (enumerate_from 0 c.args.names.now) (map shown es) in
+    let Q : List Numbered → Type 0 = λ es. IsInOrder (map name_of es) in
+    let moved = subst P (sym c.deref-name-items.ensures.value) c.in_ok-order.ensures.all in
+    let in_order = subst Q (sym c.deref-name-items.ensures.value) c.in_ok-order.ensures.in_order in
+    let is = get_or_default items i d e c.loop-name-test.true in
+    let right = right_number c.args.names.now items i e moved c.loop-name-test.true is in
+    let different = map (λ n. n.now) c.loop-name.different.items in
+    let last = c.len-in-loop-name.result - 1 in
+    let long : suc last ≡ length (with_name different e.0.now) =
+    omega (arith, c.len-in-loop-name.ensures, c.push_different.new.names.ok.0, length-map c.push_different.new.names.items (λ n. n.now), ap length c.in_ok-push_different.ensures, some_with different e.0.now) in
+    rw c.in_ok-push_different.ensures (IsSorting-next c.args.names.now items i e different c.loop-name.ordinals.items last c.loop-name-test.true is right in_order long c.loop-name.invariant)
 
-pub returns-clause-ascends : goal.returns-clause-ascends
-returns-clause-ascends c = Ascends-sorted c.sort_unstable.new.self.items c.sort_unstable.ensures.sorted
-    (IsDistinct-sorted c.args.names.now c.loop-number.order.items c.sort_unstable.new.self.items c.requires (all_of c) c.sort_unstable.ensures.permutation)
-
-pub returns-clause-all : goal.returns-clause-all
-returns-clause-all c = rw (← all_of c) (IsPermutation-map shown c.loop-number.order.items c.sort_unstable.new.self.items c.sort_unstable.ensures.permutation)
+pub returns-clause-ordinals : goal.returns-clause-ordinals
+returns-clause-ordinals c =
+    let items = c.deref-name-items.result.now in
+    let P : List Numbered → Type 0 = λ es. IsPermutation (enumerate_from 0 c.args.names.now) (map shown es) in
+    let moved = subst P (sym c.deref-name-items.ensures.value) c.in_ok-order.ensures.all in
+    Stand-sorted c.args.names.now items c.loop-name.name-index (map (λ n. n.now) c.loop-name.different.items) c.loop-name.ordinals.items moved (omega arith) c.loop-name.invariant

@@ -1,7 +1,6 @@
-use Rattle.std.proofs.Common.{◌≡◌, map, take}
-use Rattle.std.specs.List.{enumerate_from}
-use Rattle.fts_segment.proofs.TermOrderLemmas.{shown}
+use Rattle.std.proofs.Common.{map}
+use Rattle.fts_segment.proofs.TermOrderLemmas.{IsSorting}
 use Rattle.fts_segment.proofs.term_order.sorted.Given as goal
 
-abbrev pub invariant-loop-number : goal.invariant-loop-number
-invariant-loop-number l = map shown l.order.items ≡ take l.number (enumerate_from 0 l.names)
+abbrev pub invariant-loop-name : goal.invariant-loop-name
+invariant-loop-name l = IsSorting l.names l.name-items l.name-index (map (λ n. n.now) l.different.items) l.ordinals.items

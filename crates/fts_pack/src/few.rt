@@ -1,0 +1,76 @@
+// A few strictly rising documents, side by side.
+ghost use Rattle.std.specs.Prelude.{◌≡◌, ◌<◌, ◌≤◌, length, take};
+ghost use Rattle.fts_pack.specs.Documents.{block_count, last_of};
+
+use std::marker::Model;
+
+/// How many documents lie in a list itself.
+pub(crate) const FEW: usize = 12;
+
+/// From one to twelve documents.
+#[derive(Drop)]
+pub(crate) struct Few {
+    count: usize,
+    documents: [u32; FEW],
+}
+
+impl Model for Few {
+    ghost use Rattle.std.specs.Prelude.{◌<◌, ◌≤◌, take};
+    ghost use Rattle.fts_pack.specs.Documents.{DocumentNumbers};
+
+    ghost Value = { DocumentNumbers };
+
+    ghost view = { λ f. take f.count f.documents };
+
+    ghost invariant = { λ f. (0 < f.count) × (f.count ≤ 12) };
+}
+
+impl Few {
+    /// These documents.
+    pub(crate) fn new(documents: &[u32]) -> Few
+        requires some { 0 < length documents.now }
+        requires few { length documents.now ≤ 12 }
+        ensures { result ≡ documents.now }
+    {
+        let mut few = [0; FEW];
+        few[..documents.len()].copy_from_slice(documents);
+        Few {
+            count: documents.len(),
+            documents: few,
+        }
+    }
+
+    /// How many documents there are.
+    pub(crate) fn len(&self) -> usize
+        ensures { result ≡ length self.now }
+    {
+        self.count
+    }
+
+    /// How many blocks they take.
+    pub(crate) fn blocks(&self) -> usize
+        ensures { result ≡ block_count (length self.now) }
+    {
+        // Shows the proof how many documents there may be.
+        let _ = &self.count;
+        1
+    }
+
+    /// The last document.
+    pub(crate) fn last(&self) -> u32
+        ensures last { result ≡ last_of self.now }
+        ensures few { length self.now ≤ 12 }
+    {
+        self.documents[self.count - 1]
+    }
+
+    /// Writes the documents to the front of `out`, and gives how many they are.
+    pub(crate) fn open(&self, out: &mut [u32; 128]) -> usize
+        ensures count { result ≡ length self.now }
+        ensures documents { take result out.new ≡ self.now }
+        ensures few { length self.now ≤ 12 }
+    {
+        out[..FEW].copy_from_slice(&self.documents);
+        self.count
+    }
+}
