@@ -26,13 +26,13 @@ BEGIN = 0x243F_6A88_85A3_08D3
 
 
 class Pair(typing.NamedTuple):
-    """A script that was made to be slow, and the plain one beside it: lists of lines, each as text or as JSON. The options are
-    of the slow one."""
+    """A script that was made to be slow, and the plain one beside it: lists of lines, each as text or as JSON."""
     name: str
     slow: list
     plain: list
     bound: float | None = None
     options: tuple = ()
+    plain_options: tuple = ()
 
 
 def folded(a, b):
@@ -145,8 +145,8 @@ def phrases():
         yield Pair(name, asked(apart, '"a b"'), asked(apart, "a b"))
     for words in (10, 100, 1_000):
         phrase = f'"{filled("a", size=2 * words - 1)}"'
-        parted = ("a " * (words - 1) + "b ") * (500_000 // words)
-        name = f"2 searches of {words:,} words `a` in quotes, of which only one word fewer stand together, and of `a`"
+        parted = ("a " * (words - 1) + "b ") * (5_000 // words)
+        name = f"2 searches of {words:,} words `a` in quotes over a text of 5,000, whose every {words:,}th is a `b`, and of `a`"
         yield Pair(name, asked(parted, phrase), asked(parted, "a"))
 
 
@@ -209,6 +209,11 @@ def answers():
         "the last 10,000": {"top": {"by": "n", "k": 10_000, "order": "falling"}},
     }.items():
         yield Pair(f"10 searches for {form}, and for a count", [*different, *searches("*", 10, **more)], plain)
+    apart, near = (
+        under("keyword", *adds([0, most] * 2_000, "n"), COMMIT, *searches("*", 10, groups="n")) for most in (65_535, 1)
+    )
+    name = "10 searches for groups by 0 and 65,535 in 2,000 segments (`--runs 2`), and by 0 and 1"
+    yield Pair(name, apart, near, options=("--runs", "2"), plain_options=("--runs", "2"))
 
 
 PARTS = {part.__name__: part for part in (terms, strikes, queries, phrases, lines, commits, fields, answers)}
@@ -232,7 +237,7 @@ def seconds(program, script, options):
 
 def measured(program, pair):
     """The least seconds of both scripts, which take turns."""
-    each = [(seconds(program, pair.slow, pair.options), seconds(program, pair.plain, ())) for _ in range(TRIES)]
+    each = [(seconds(program, pair.slow, pair.options), seconds(program, pair.plain, pair.plain_options)) for _ in range(TRIES)]
     return min(slow for slow, _ in each), min(plain for _, plain in each)
 
 
