@@ -10,6 +10,8 @@ the crates of tests that growths.py names. The sweeps that have calls fail take 
 and that is said. The last line is 'N passed, M failed'.
 """
 import concurrent.futures
+import errno
+import itertools
 import json
 import os
 import pathlib
@@ -28,6 +30,7 @@ PROGRAM = str(ROOT / "crates/fts/out/fts")
 PLAIN = str(ROOT / "crates/fts_list/out/fts_list")
 DAMAGED = int(sys.argv[1]) if len(sys.argv) > 1 else 10_000
 LANES = os.cpu_count() or 1
+CAUSES = (errno.EIO, errno.EINTR)
 
 SCHEMA = json.dumps(random_scripts.SCHEMA)
 LONG = "x" * 40
@@ -116,24 +119,21 @@ def heeded(shim):
 
 
 def streams(shim):
-    """Reads and writes that fail, are interrupted, come short or take nothing."""
+    """Reads and writes of one byte, each of which fails, is interrupted or takes nothing."""
     def look(name, script, faulty, outcome):
-        assert faults.run(shim, command(1), script, **faulty)[:2] == outcome, (name, faulty)
+        assert faults.run(shim, command(1), script, ONE_BYTE=1, **faulty)[:2] == outcome, (name, faulty)
 
     cases = []
     for name, script in SCRIPTS.items():
         beginnings = fronts(script)
         whole = beginnings[-1]
-        made = [({"ONE_BYTE": 1}, (0, whole))]
+        made = [({}, (0, whole))]
         # One byte a read: the nth read fails behind n - 1 bytes, and the lines that ended by then are answered.
-        for n in range(1, len(script) + 2):
-            made.append(({"ONE_BYTE": 1, "FAIL_READ": n}, (4, answered(script[: n - 1], beginnings))))
+        for n, cause in itertools.product(range(1, len(script) + 2), CAUSES):
+            made.append(({"FAIL_READ": n, "FAIL_ERRNO": cause}, (4, answered(script[: n - 1], beginnings))))
         for n in range(1, len(whole) + 1):
-            made.append(({"ONE_BYTE": 1, "FAIL_WRITE": n}, (4, whole[: n - 1])))
-            made.append(({"ONE_BYTE": 1, "ZERO_WRITE": n}, (4, whole[: n - 1])))
-        # The first call of its kind; an interruption is number 4.
-        for kind in ("FAIL_READ", "FAIL_WRITE"):
-            made += [({kind: 1}, (4, b"")), ({kind: 1, "FAIL_ERRNO": 4}, (4, b""))]
+            made += [({"FAIL_WRITE": n, "FAIL_ERRNO": cause}, (4, whole[: n - 1])) for cause in CAUSES]
+            made.append(({"ZERO_WRITE": n}, (4, whole[: n - 1])))
         cases += [(name, script, *it) for it in made]
     return side_by_side(look, cases)
 
