@@ -143,7 +143,7 @@ def phrases():
         apart = "b " * count + "a " * count
         name = f"2 searches of `\"a b\"` over a text of {count:,} `b` and then as many `a`, and of `a b`"
         yield Pair(name, asked(apart, '"a b"'), asked(apart, "a b"))
-    for words in (10, 100, 1_000):
+    for words in (10, 100):
         phrase = f'"{filled("a", size=2 * words - 1)}"'
         parted = ("a " * (words - 1) + "b ") * (5_000 // words)
         name = f"2 searches of {words:,} words `a` in quotes over a text of 5,000, whose every {words:,}th is a `b`, and of `a`"
