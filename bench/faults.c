@@ -1,7 +1,7 @@
 /* Stands before the C library, and has calls of a program fail as the environment says.
  *
  *     FAIL_GROWTH=N    the Nth call for memory finds none
- *     COUNT_GROWTHS=1  at the end the number of calls for memory is told on standard error
+ *     COUNT=1          at the end the numbers of calls for memory and of reads are told on standard error
  *     FAIL_READ=N      the Nth read of standard input fails with FAIL_ERRNO (5, an input or output error, without it)
  *     FAIL_WRITE=N     the Nth write to standard output fails so
  *     ZERO_WRITE=N     the Nth write to standard output takes no byte
@@ -74,7 +74,7 @@ ssize_t write(int file, const void *from, size_t n) {
 }
 
 __attribute__((destructor)) static void tell(void) {
-    if (getenv("COUNT_GROWTHS")) dprintf(2, "%ld\n", growths);
+    if (getenv("COUNT")) dprintf(2, "%ld %ld\n", growths, reads);
 }
 
 /* A program that may have threads ends by this call alone. */

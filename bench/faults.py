@@ -30,8 +30,15 @@ def run(path, command, script=b"", **faults):
     return done.returncode, done.stdout, done.stderr
 
 
-def growths(path, command, script=b""):
+def counted(path, command, script=b"", **faults):
+    """Returns the status and the output of a run, and how often it asked for memory and how often it read."""
+    status, out, told = run(path, command, script, COUNT=1, **faults)
+    growths, reads = map(int, told.split()[-2:])
+    return status, out, growths, reads
+
+
+def growths(path, command, script=b"", **faults):
     """Returns how often a run that succeeds asks for memory."""
-    status, _, told = run(path, command, script, COUNT_GROWTHS=1)
-    assert status == 0, (command, status, told)
-    return int(told.split()[-1])
+    status, _, count, _ = counted(path, command, script, **faults)
+    assert status == 0, (command, status)
+    return count

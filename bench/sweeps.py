@@ -1,21 +1,28 @@
 #!/usr/bin/env python3
-"""Looks at the program from outside: each growth refused, each read and write failing, each beginning, and scripts that are damaged.
+"""Looks at the program from outside: each growth refused, each read and write failing, each beginning, and scripts that are damaged
+or made to be slow; and at the calls of the libraries, by tests that try again what was refused.
 
     python3 bench/sweeps.py [SCRIPTS]
 
-10,000 damaged scripts, or so many. `.ci/run` does this behind the proofs, over the programs that these built; else build them first: fts
-(README.md), and fts_list, which runs a script over a plain list of documents, by `rt run` in crates/fts_list. The sweeps that have
-calls fail take a C compiler, and where there is none they are left out, and that is said. The last line is 'N passed, M failed'.
+10,000 damaged scripts, or so many. `.ci/run` does this behind the proofs, over the programs and the tests that these built; else build
+them first: fts (README.md), fts_list, which runs a script over a plain list of documents, by `rt run` in crates/fts_list, and by `rt test`
+the crates of tests that growths.py names. The sweeps that have calls fail take a C compiler, and where there is none they are left out,
+and that is said. The last line is 'N passed, M failed'.
 """
 import concurrent.futures
+import errno
+import itertools
 import json
 import os
 import pathlib
 import random
 import subprocess
 import sys
+import time
 
 import faults
+import growths
+import hostile
 import random_scripts
 
 ROOT = pathlib.Path(__file__).resolve().parent.parent
@@ -23,6 +30,7 @@ PROGRAM = str(ROOT / "crates/fts/out/fts")
 PLAIN = str(ROOT / "crates/fts_list/out/fts_list")
 DAMAGED = int(sys.argv[1]) if len(sys.argv) > 1 else 10_000
 LANES = os.cpu_count() or 1
+CAUSES = (errno.EIO, errno.EINTR)
 
 SCHEMA = json.dumps(random_scripts.SCHEMA)
 LONG = "x" * 40
@@ -35,6 +43,7 @@ EIGHT = "\n".join([SCHEMA, *['{"add":{}}'] * 8, '{"commit":true}']).encode() + b
 SCRIPTS = {
     "groups": (ROOT / "examples/groups.jsonl").read_bytes(),
     "ties": (ROOT / "examples/ties.jsonl").read_bytes(),
+    "refusals": (ROOT / "examples/refusals.jsonl").read_bytes(),
     "a dropped run": DROPPED,
     "eight segments": EIGHT,
 }
@@ -56,55 +65,77 @@ def fronts(script):
     return [b"".join(lines[:n]) for n in range(len(lines) + 1)]
 
 
+def answered(begun, beginnings):
+    """The replies to the lines that ended within what was read."""
+    ended = begun[: begun.rfind(b"\n") + 1]
+    return beginnings[sum(1 for line in ended.splitlines() if line.strip(b" \t\r"))]
+
+
 def side_by_side(look, cases):
     with concurrent.futures.ThreadPoolExecutor(LANES) as pool:
         return sum(1 for _ in pool.map(lambda case: look(*case), cases))
 
 
-def growths(shim):
-    """Each growth refused: status 3 and the replies to some first lines, or status 0 and all replies."""
+def refused(shim):
+    """Each growth refused, where a byte a call is read: status 3 and the replies to the lines before the one of the last byte, or
+    status 0 and all replies."""
+    def look(name, script, beginnings, workers, n):
+        status, out, _, reads = faults.counted(shim, command(workers), script, ONE_BYTE=1, FAIL_GROWTH=n)
+        before = answered(script[: max(reads - 1, 0)], beginnings)
+        assert (status, out) in [(3, before), (0, beginnings[-1])], (name, workers, n, status, out)
+
     cases = []
     for name, script in SCRIPTS.items():
         beginnings = fronts(script)
         for workers in (1, 3):
             # Threads ask for memory in no fixed order, and not always as often.
-            count = max(faults.growths(shim, command(workers), script) for _ in range(3 if workers > 1 else 1))
+            tries = range(3 if workers > 1 else 1)
+            count = max(faults.growths(shim, command(workers), script, ONE_BYTE=1) for _ in tries)
             cases += [(name, script, beginnings, workers, n) for n in range(1, count + 1)]
-
-    def look(name, script, beginnings, workers, n):
-        status, out, _ = faults.run(shim, command(workers), script, FAIL_GROWTH=n)
-        assert status == 3 and out in beginnings or status == 0 and out == beginnings[-1], (name, workers, n, status, out)
-
     return side_by_side(look, cases)
 
 
+def tried_again(shim):
+    """Each growth refused in the tests that try refused calls again."""
+    found = [test for crate, words in growths.AGAIN.items() for test in growths.tests(shim, crate, words)]
+    cases = [(shim, test, n) for test in found for n in range(1, faults.growths(shim, test) + 1)]
+    return side_by_side(growths.passes_without, cases)
+
+
+def heeded(shim):
+    """Each option changes how often a run asks for memory, though no reply shows it."""
+    adds = "".join(f'{{"add":{{"price":{price}}}}}\n' for price in range(9))
+    schema = '{"schema":[{"name":"price","kind":"u64"}]}'
+    script = f'{schema}\n{adds}{{"commit":true}}\n{{"search":{{"query":"*"}}}}\n'.encode()
+
+    # As many words each time, since the command line takes memory too.
+    def count(cut, n, merge="off", workers="1"):
+        return faults.growths(shim, [PROGRAM, "run", cut, n, "--merge", merge, "--workers", workers], script)
+
+    runs, fours, dealt, whole = count("--runs", "1"), count("--runs", "4"), count("--deal", "2"), count("--runs", "65536")
+    merged, shared = count("--runs", "1", merge="policy"), count("--runs", "1", workers="4")
+    assert runs > fours > dealt > whole and merged > runs and shared > runs, (runs, fours, dealt, whole, merged, shared)
+    return 6
+
+
 def streams(shim):
-    """Reads and writes that fail, are interrupted, come short or take nothing."""
-    count = 0
+    """Reads and writes of one byte, each of which fails, is interrupted or takes nothing."""
+    def look(name, script, faulty, outcome):
+        assert faults.run(shim, command(1), script, ONE_BYTE=1, **faulty)[:2] == outcome, (name, faulty)
+
+    cases = []
     for name, script in SCRIPTS.items():
         beginnings = fronts(script)
         whole = beginnings[-1]
-        status, out, _ = faults.run(shim, command(1), script, ONE_BYTE=1)
-        assert (status, out) == (0, whole), (name, "a byte a call", status, out)
+        made = [({}, (0, whole))]
         # One byte a read: the nth read fails behind n - 1 bytes, and the lines that ended by then are answered.
-        for n in range(1, len(script) + 2):
-            status, out, _ = faults.run(shim, command(1), script, ONE_BYTE=1, FAIL_READ=n)
-            assert (status, out) == (4, answered(script[: n - 1], beginnings)), (name, "read", n, status, out)
+        for n, cause in itertools.product(range(1, len(script) + 2), CAUSES):
+            made.append(({"FAIL_READ": n, "FAIL_ERRNO": cause}, (4, answered(script[: n - 1], beginnings))))
         for n in range(1, len(whole) + 1):
-            status, out, _ = faults.run(shim, command(1), script, ONE_BYTE=1, FAIL_WRITE=n)
-            assert (status, out) == (4, whole[: n - 1]), (name, "write", n, status, out)
-        # The first call of its kind, an interruption (4) among the causes.
-        for cause in ({"FAIL_READ": 1}, {"FAIL_WRITE": 1}, {"ZERO_WRITE": 1}, {"FAIL_READ": 1, "FAIL_ERRNO": 4}, {"FAIL_WRITE": 1, "FAIL_ERRNO": 4}):
-            status, out, _ = faults.run(shim, command(1), script, **cause)
-            assert (status, out) == (4, b""), (name, cause, status, out)
-        count += len(script) + len(whole) + 7
-    return count
-
-
-def answered(begun, beginnings):
-    """The replies to the lines that ended within what was read."""
-    ended = begun[: begun.rfind(b"\n") + 1]
-    return beginnings[sum(1 for line in ended.splitlines() if line.strip(b" \t\r"))]
+            made += [({"FAIL_WRITE": n, "FAIL_ERRNO": cause}, (4, whole[: n - 1])) for cause in CAUSES]
+            made.append(({"ZERO_WRITE": n}, (4, whole[: n - 1])))
+        cases += [(name, script, *it) for it in made]
+    return side_by_side(look, cases)
 
 
 def cut(_shim):
@@ -123,11 +154,16 @@ def damaged(_shim):
         script, chance = random_scripts.damaged(seed), random.Random(seed)
         way = [
             *chance.choice([["--runs", "1"], ["--runs", "3"], ["--deal", "2"], ["--deal", "7"], []]),
-            "--merge", chance.choice(["off", "policy"]), "--workers", chance.choice(["1", "2", "4"]),
+            "--merge", chance.choice(["off", "policy"]), "--workers", chance.choice(["1", "2", "4", "64"]),
         ]
         assert replies([PROGRAM, "run", *way], script) == replies([PLAIN], script), (seed, way)
 
     return side_by_side(look, [(seed,) for seed in range(DAMAGED)])
+
+
+def made_slow(_shim):
+    """Scripts made to be slow, each beside a plain one of the same size, which bounds its time."""
+    return hostile.bounded(PROGRAM)
 
 
 def main():
@@ -135,8 +171,9 @@ def main():
 
     def sweep(name, look, shim=None):
         nonlocal passed, failed
+        begun = time.monotonic()
         try:
-            print(f"sweeps: {name}: {look(shim)}", flush=True)
+            print(f"sweeps: {name}: {look(shim)} in {time.monotonic() - begun:.0f} s", flush=True)
             passed += 1
         except AssertionError as error:
             print(f"sweeps: {name} FAILED: {error}", flush=True)
@@ -144,9 +181,12 @@ def main():
 
     sweep("beginnings, answered as over a list", cut)
     sweep("damaged scripts, answered as over a list", damaged)
+    sweep("scripts made to be slow, within a bound", made_slow)
     if faults.compiler():
         with faults.shim() as shim:
-            sweep("growths refused in turn", growths, shim)
+            sweep("growths refused in scripts", refused, shim)
+            sweep("growths refused in tests that try again", tried_again, shim)
+            sweep("options that change how often memory is asked for", heeded, shim)
             sweep("reads and writes that fail or come short", streams, shim)
     else:
         print("sweeps: no C compiler, so no growth was refused, and no read or write failed")

@@ -1,14 +1,46 @@
-// Whichever growth is refused to a commit, a reader or a searcher, all is as before, and a second try succeeds.
-ghost use Rattle.std.specs.Prelude.{◌≡◌};
+// Whichever growth is refused to a commit, a reader, a query or a search, all is as before, and the second try
+// succeeds: what is expected of it ends by "again".
+ghost use Rattle.std.specs.Prelude.{◌≡◌, true};
+ghost use Rattle.fts_model.specs.Queries.{query_fits};
+ghost use Rattle.fts_model.specs.QueryValues.{query_value};
 
-use fts_index::{Batch, CommitSeen, Cut, Reader, Writer};
-use fts_model::{Refusal, Stamp};
+use fts_index::{Batch, CommitSeen, Cut, Reader, Searcher, Writer};
+use fts_model::{Query, Refusal, Request, Schema, Stamp};
 use fts_pool::Open;
+use fts_query::parse;
 use std::alloc::Global;
 use std::process::Abort;
 use std::sync::Wait;
 use std::thread::Threads;
-use test_writers::{batch, count, seen, writer};
+use test_writers::{batch, seen, writer};
+
+/// The query of a text.
+fn parsed(rt: &impl Abort, alloc: Global, schema: &Schema, text: &str) -> Query
+    ensures { query_fits schema.now (query_value result) ≡ true }
+{
+    match parse(alloc, schema, text) {
+        Ok(query) => query,
+        Err(refusal) => {
+            assert_eq!(rt; refusal, Refusal::Memory);
+            parse(alloc, schema, text).expect(rt, "a query again")
+        }
+    }
+}
+
+/// How many documents have a tag of the first commit, or none.
+fn count<R: Threads + Wait + Sync + Abort>(rt: &R, alloc: Global, searcher: &Searcher) -> u64 {
+    let schema = searcher.snapshot().schema();
+    let query = parsed(rt, alloc, schema, "p OR q OR (* -tag:[* TO *])");
+    let request = Request::new(schema, None, None).expect(rt, "a request");
+    match searcher.search(rt, alloc, &query, &request, 1, &Open) {
+        Ok(found) => found.answer.count,
+        Err(refusal) => {
+            assert_eq!(rt; refusal, Refusal::Memory);
+            let found = searcher.search(rt, alloc, &query, &request, 1, &Open);
+            found.expect(rt, "an answer again").answer.count
+        }
+    }
+}
 
 /// Whether this is seen of a writer, and so many documents are found.
 fn shows<R: Threads + Wait + Sync + Abort>(
@@ -18,12 +50,12 @@ fn shows<R: Threads + Wait + Sync + Abort>(
     wanted: (&str, u64),
 ) {
     let searcher = writer.searcher().expect(rt, "a searcher");
-    let found = count(rt, alloc, &searcher, "*").expect(rt, "a count");
+    let found = count(rt, alloc, &searcher);
     let seen = seen(alloc, writer).expect(rt, "a list");
     assert_eq!(rt; (seen.as_str(), found), wanted);
 }
 
-/// Commits a batch in segments of one add, with two threads, behind a commit of two documents.
+/// Commits a batch in segments of one add, behind a commit of two documents.
 fn commit_again<R: Threads + Wait + Sync + Abort>(
     rt: &R,
     alloc: Global,
@@ -32,13 +64,13 @@ fn commit_again<R: Threads + Wait + Sync + Abort>(
 ) -> CommitSeen
     ensures { result.of ≡ writer.old.front.seen.of }
 {
-    match writer.commit(rt, alloc, batch, Cut::Runs(1), 2, &Open) {
+    match writer.commit(rt, alloc, batch, Cut::Runs(1), 1, &Open) {
         Ok(committed) => committed.seen,
         Err(refusal) => {
             assert_eq!(rt; refusal, Refusal::Memory);
             shows(rt, alloc, writer, ("3: (0,1,1) (1,1,1) 1p 2q", 2));
-            let committed = writer.commit(rt, alloc, batch, Cut::Runs(1), 2, &Open);
-            committed.expect(rt, "a commit").seen
+            let committed = writer.commit(rt, alloc, batch, Cut::Runs(1), 1, &Open);
+            committed.expect(rt, "a commit again").seen
         }
     }
 }
@@ -52,7 +84,7 @@ fn reader(rt: &impl Abort, writer: &mut Writer) -> Reader
         Ok(reader) => reader,
         Err(refusal) => {
             assert_eq!(rt; refusal, Refusal::Memory);
-            writer.reader().expect(rt, "a reader")
+            writer.reader().expect(rt, "a reader again")
         }
     }
 }
@@ -65,7 +97,8 @@ fn stamp_found(rt: &impl Abort, reader: &mut Reader) -> Stamp
         Ok(searcher) => searcher.commit_stamp(),
         Err(refusal) => {
             assert_eq!(rt; refusal, Refusal::Memory);
-            reader.searcher().expect(rt, "a searcher").commit_stamp()
+            let searcher = reader.searcher();
+            searcher.expect(rt, "a searcher again").commit_stamp()
         }
     }
 }
@@ -84,14 +117,14 @@ fn tell(rt: &impl Abort, reader: &mut Reader, seen: &CommitSeen, before: Stamp)
     if let Err(refusal) = reader.told(seen) {
         assert_eq!(rt; refusal, Refusal::Memory);
         finds(rt, reader, before);
-        reader.told(seen).expect(rt, "a commit that is told");
+        reader.told(seen).expect(rt, "told again");
     }
 }
 
 /// Commits two documents.
 fn commit_two<R: Threads + Wait + Sync + Abort>(rt: &R, alloc: Global, writer: &mut Writer) {
     let batch = batch(alloc, writer, &["+p", "+q"]).expect(rt, "a batch");
-    let committed = writer.commit(rt, alloc, &batch, Cut::Runs(1), 2, &Open);
+    let committed = writer.commit(rt, alloc, &batch, Cut::Runs(1), 1, &Open);
     committed.expect(rt, "a commit");
 }
 

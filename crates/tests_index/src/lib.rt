@@ -1,4 +1,4 @@
-//! Readers beside a writer, searches by several threads, and growths that are refused to both.
+//! Readers beside a writer, jobs by several threads, and growths that are refused to both.
 #![tactic(auto)]
 
 #[cfg(test)]
@@ -6,4 +6,4 @@ mod growths;
 #[cfg(test)]
 mod readers;
 #[cfg(test)]
-mod searches;
+mod workers;

@@ -9,7 +9,7 @@ use std::alloc::Global;
 use std::process::Abort;
 use std::sync::Wait;
 use std::sync::atomic::{AtomicU64, Ordering};
-use std::thread::{Threads, join, yield_now};
+use std::thread::{Threads, for_each_mut, join, yield_now};
 use test_writers::{batch, count, writer};
 
 fn commit<R: Threads + Wait + Sync + Abort, G: Gate>(
@@ -24,12 +24,6 @@ fn commit<R: Threads + Wait + Sync + Abort, G: Gate>(
     let batch = batch(alloc, writer, &["+x"]).expect(rt, "a batch");
     let committed = writer.commit(rt, alloc, &batch, Cut::Runs(1), 2, gate);
     committed.expect(rt, "a commit").seen
-}
-
-fn commit_all<R: Threads + Wait + Sync + Abort>(rt: &R, alloc: Global, writer: &mut Writer) {
-    for _ in 0..100 {
-        drop(commit(rt, alloc, writer, &Open));
-    }
 }
 
 // The stamp of a searcher, if it is that of a commit with so many documents.
@@ -51,58 +45,6 @@ fn finds<R: Threads + Wait + Sync + Abort>(rt: &R, alloc: Global, reader: &mut R
     ensures { reader.new.of ≡ reader.old.of }
 {
     assert_eq!(rt; stamp_found(rt, alloc, reader), Some(stamp));
-}
-
-// True if each of 1,000 searchers is of a commit, and none is older than the one before.
-fn search_all<R: Threads + Wait + Sync + Abort>(
-    rt: &R,
-    alloc: Global,
-    reader: &mut Reader,
-) -> bool {
-    let mut newest = 0;
-    for _ in 0..1000 {
-        match stamp_found(rt, alloc, reader) {
-            Some(stamp) if newest <= stamp => newest = stamp,
-            _ => return false,
-        }
-    }
-    true
-}
-
-// Commits a hundred times in one thread, and searches in two others: whether both found what they should.
-fn commit_and_search<R: Threads + Wait + Sync + Abort>(
-    rt: &R,
-    alloc: Global,
-    writer: &mut Writer,
-    first: &mut Reader,
-    second: &mut Reader,
-) -> bool {
-    let (_, (first, second)) = join(
-        rt,
-        || commit_all(rt, alloc, writer),
-        || join(
-            rt,
-            || search_all(rt, alloc, first),
-            || search_all(rt, alloc, second),
-        ),
-    );
-    first && second
-}
-
-// Once the writer's thread was joined, readers that nobody told find the last commit.
-fn side_by_side<R: Threads + Wait + Sync + Abort>(rt: &R, alloc: Global, writer: &mut Writer) {
-    let mut first = writer.reader().expect(rt, "a reader");
-    let mut second = writer.reader().expect(rt, "a reader");
-    assert!(rt; commit_and_search(rt, alloc, writer, &mut first, &mut second));
-    finds(rt, alloc, &mut first, 200);
-    finds(rt, alloc, &mut second, 200);
-}
-
-#[test]
-fn two_readers_beside_a_hundred_commits(rt: HostRuntime) {
-    let mut writer = writer(&rt, rt.alloc()).expect(&rt, "a writer");
-    side_by_side(&rt, rt.alloc(), &mut writer);
-    writer.close(&rt);
 }
 
 /// Holds the first job of a commit until a reader found something.
@@ -286,6 +228,21 @@ fn crowd(writer: &mut Writer, readers: &mut Vec<Reader>) -> (usize, Option<Refus
     (readers.len(), None)
 }
 
+// Each reader finds this stamp, in a thread of its own.
+fn all_find<R: Threads + Wait + Sync + Abort>(
+    rt: &R,
+    alloc: Global,
+    readers: &mut [Reader],
+    stamp: Stamp,
+) {
+    for_each_mut(
+        rt,
+        readers,
+        64,
+        &|_, reader: &mut Reader| { finds(rt, alloc, reader, stamp) },
+    );
+}
+
 // A reader that is dropped leaves its place to another.
 #[test]
 fn there_are_64_places(rt: HostRuntime) {
@@ -294,6 +251,8 @@ fn there_are_64_places(rt: HostRuntime) {
     let all = crowd(&mut writer, &mut readers);
     drop(readers.pop());
     let again = crowd(&mut writer, &mut readers);
+    drop(commit(&rt, rt.alloc(), &mut writer, &Open));
+    all_find(&rt, rt.alloc(), readers.as_mut_slice(), 2);
     writer.close(&rt);
     let full = (64, Some(Refusal::NoReader));
     assert_eq!(rt; (all, again), (full, full));

@@ -7,28 +7,19 @@ use crate::steps::{commit, end};
 use fts_index::{MergeJob, MergedSegment, Writer};
 use fts_model::Refusal;
 use std::alloc::Global;
+use std::process::Abort;
 use std::snapshot::Snapshot;
 use std::sync::Wait;
-use std::test::Fail;
 use std::thread::{Promise, PromisedHandle, Threads, spawn_with};
-use test_writers::{schema, seen};
-
-/// What goes on: lines are added, and one that is being merged is struck.
-const LINES: [&str; 4] = ["+e", "+f", "-b", "+g"];
+use test_writers::{seen, writer};
 
 /// Commits lines one by one.
-fn log<R: Threads + Wait + Sync>(
-    rt: &R,
-    alloc: Global,
-    writer: &mut Writer,
-    lines: &[&str],
-) -> Result<(), Refusal>
+fn log<R: Threads + Wait + Sync + Abort>(rt: &R, alloc: Global, writer: &mut Writer, lines: &[&str])
     ensures { Follows writer.old.front.snapshot writer.new.front.snapshot }
 {
     for line in lines {
-        commit(rt, alloc, writer, &[*line])?;
+        commit(rt, alloc, writer, &[*line]).expect(rt, "a commit");
     }
-    Ok(())
 }
 
 /// What a thread promises that runs a merge.
@@ -55,53 +46,53 @@ fn run(alloc: Global, job: MergeJob) -> Result<MergedSegment, Refusal>
     }
 }
 
-/// Begins a merge of four lines, which is run in a thread of its own.
-fn begun<R: Threads>(rt: &R, alloc: Global, writer: &Writer) -> Result<Thread, Fail>
-    ensures { IfOk result (λ t. Fits (merged_of t.promise.0.value) writer.now.front.snapshot) }
+/// Begins a merge of segments, which is run in a thread of its own.
+fn begun<R: Threads + Abort>(rt: &R, alloc: Global, writer: &Writer, ids: &[u64]) -> Thread
+    ensures { Fits (merged_of result.promise.0.value) writer.now.front.snapshot }
 {
-    let job = writer.begin_merge(alloc, &[0, 1, 2, 3])?;
+    let job = writer.begin_merge(alloc, ids).expect(rt, "a merge");
     let promise = Merging(Snapshot::of(&job));
-    Ok(spawn_with(rt, promise, move || run(alloc, job))?)
+    spawn_with(rt, promise, move || run(alloc, job)).expect(rt, "a thread")
 }
 
-/// Ends what a thread merged.
-fn joined<R: Threads + Wait + Sync>(
+/// Ends what a thread merged, which isn't refused.
+fn join_merge<R: Threads + Wait + Sync + Abort>(
     rt: &R,
     alloc: Global,
     writer: &mut Writer,
     thread: Thread,
-) -> Result<Option<Refusal>, Refusal>
+)
     requires { Fits (merged_of thread.promise.0.value) writer.old.front.snapshot }
 {
-    match thread.join(rt) {
-        Ok(merged) => Ok(end(rt, alloc, writer, merged)),
-        Err(refusal) => Err(refusal),
-    }
+    let merged = thread.join(rt).expect(rt, "a merged segment");
+    assert_eq!(rt; end(rt, alloc, writer, merged), None);
 }
 
-/// Merges four lines while others are logged.
-fn merged_beside<R: Threads + Wait + Sync>(
+/// Merges segments while lines are logged.
+pub(crate) fn merge_beside<R: Threads + Wait + Sync + Abort>(
     rt: &R,
     alloc: Global,
     writer: &mut Writer,
-) -> Result<Option<Refusal>, Fail> {
-    commit(rt, alloc, writer, &["+a", "+b", "+c", "+d"])?;
-    let thread = begun(rt, alloc, writer)?;
-    let logged = log(rt, alloc, writer, &LINES);
-    let ended = joined(rt, alloc, writer, thread);
-    logged?;
-    Ok(ended?)
+    ids: &[u64],
+    lines: &[&str],
+) {
+    let thread = begun(rt, alloc, writer, ids);
+    log(rt, alloc, writer, lines);
+    join_merge(rt, alloc, writer, thread);
+}
+
+/// Merges four lines while others are logged, one of which strikes one that is being merged.
+fn merge_four<R: Threads + Wait + Sync + Abort>(rt: &R, alloc: Global, writer: &mut Writer) {
+    commit(rt, alloc, writer, &["+a", "+b", "+c", "+d"]).expect(rt, "a commit");
+    merge_beside(rt, alloc, writer, &[0, 1, 2, 3], &["+e", "+f", "-b", "+g"]);
 }
 
 #[test]
-fn a_log_goes_on_beside_a_merge(rt: HostRuntime) -> Result<(), Fail> {
-    let alloc = rt.alloc();
-    let mut writer = Writer::new(&rt, alloc, &schema(alloc)?)?;
-    let ended = merged_beside(&rt, alloc, &mut writer);
-    let seen = seen(alloc, &writer);
+fn a_log_goes_on_beside_a_merge(rt: HostRuntime) {
+    let mut writer = writer(&rt, rt.alloc()).expect(&rt, "a writer");
+    merge_four(&rt, rt.alloc(), &mut writer);
+    let seen = seen(rt.alloc(), &writer).expect(&rt, "a list");
     writer.close(&rt);
-    assert_eq!(rt; ended?, None);
     let wanted = "13: (4,1,1) (5,1,1) (6,1,1) (7,4,3) 6e 8f 12g 1a 3c 4d";
-    assert_eq!(rt; seen?.as_str(), wanted);
-    Ok(())
+    assert_eq!(rt; seen.as_str(), wanted);
 }

@@ -1,8 +1,11 @@
-//! Merges that are run in other threads and ended later, and growths that are refused to them.
+//! Merges that are run in other threads and ended later, beside commits and readers, and growths that are refused to
+//! them.
 #![tactic(auto)]
 
 #[cfg(test)]
 mod background;
+#[cfg(test)]
+mod busy;
 #[cfg(test)]
 mod growths;
 #[cfg(test)]

@@ -19,7 +19,7 @@ pub(crate) fn commit<R: Threads + Wait + Sync>(
     ensures { Follows writer.old.front.snapshot writer.new.front.snapshot }
 {
     let batch = batch(alloc, writer, tags)?;
-    match writer.commit(rt, alloc, &batch, Cut::Runs(1), 2, &Open) {
+    match writer.commit(rt, alloc, &batch, Cut::Runs(1), 1, &Open) {
         Ok(_) => Ok(()),
         Err(refusal) => Err(refusal),
     }

@@ -36,7 +36,7 @@ fn deleted_price(op: &Op) -> Option<u64> {
     }
 }
 
-/// Submits an operation, again where a growth was refused.
+/// Submits an operation, again where a growth was refused: no stamp where that is refused too.
 fn submit(lane: &mut Lane, op: Op) -> Option<Stamp>
     ensures { SameLane lane.old lane.new }
 {
@@ -110,7 +110,7 @@ fn gather(rt: &impl Abort, alloc: Global, round: Round, ends: Vec<LaneEnd>) -> B
         Ok(batch) => batch,
         Err((round, ends, _)) => match round.gather(alloc, ends) {
             Ok(batch) => batch,
-            Err((_, _, refusal)) => panic!(rt; "a batch: {refusal:?}"),
+            Err((_, _, refusal)) => panic!(rt; "a batch again: {refusal:?}"),
         },
     }
 }
@@ -189,11 +189,11 @@ fn two_threads_draw_each_stamp_once(rt: HostRuntime) {
 }
 
 #[test]
-fn full_lanes_draw_nothing(rt: HostRuntime) {
+fn sixty_four_full_lanes_draw_nothing(rt: HostRuntime) {
     let schema = schema(rt.alloc()).expect(&rt, "a schema");
-    let (round, lanes) = open_round(rt.alloc(), 7, 1, 3, 10).expect(&rt, "a round");
+    let (round, lanes) = open_round(rt.alloc(), 7, 1, 64, 10).expect(&rt, "a round");
     let batch = gathered(&rt, rt.alloc(), &schema, round, lanes, 20);
-    assert_eq!(rt; (batch.round(), batch.ops().len()), (7, 30));
+    assert_eq!(rt; (batch.round(), batch.ops().len()), (7, 640));
 }
 
 /// Fills a lane that takes one operation, and hands back the next.

@@ -8,7 +8,3 @@ loop-line-init g c = follows_itself c.args.writer.now.front.snapshot
 pub loop-line-preserved : goal.loop-line-preserved
 loop-line-preserved g c =
     follows_further c.args.writer.now.front.snapshot c.loop-line.writer.front.snapshot c.commit.new.writer.front.snapshot c.loop-line.invariant c.commit.ensures
-
-pub returns-in_err-commit : goal.returns-in_err-commit
-returns-in_err-commit g c =
-    follows_further c.args.writer.now.front.snapshot c.loop-line.writer.front.snapshot c.commit.new.writer.front.snapshot c.loop-line.invariant c.commit.ensures

@@ -1,4 +1,5 @@
-// Where one of two jobs of a commit or of a search is held back, another worker runs the other.
+// Where one of two jobs of a commit or of a search is held back, another worker runs the other, and each is run once. The
+// writer may be closed by then.
 use fts_index::{Cut, Searcher, Writer};
 use fts_model::{Query, Refusal, Request};
 use std::alloc::Global;
@@ -62,7 +63,7 @@ fn one_of_two_jobs_is_held(rt: HostRuntime) {
     for held in 0..2usize {
         let mut writer = writer(&rt, rt.alloc()).expect(&rt, "a writer");
         let searcher = commit_held(&rt, rt.alloc(), &mut writer, held);
-        search_held(&rt, rt.alloc(), &searcher, held);
         writer.close(&rt);
+        search_held(&rt, rt.alloc(), &searcher, held);
     }
 }
