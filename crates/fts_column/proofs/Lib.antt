@@ -1,2 +1,3 @@
 pub mod ColumnLemmas
+mod GatherLemmas
 mod LanesLemmas
