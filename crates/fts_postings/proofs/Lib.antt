@@ -8,3 +8,4 @@ pub mod ConjoinedLemmas
 pub mod UnionLemmas
 pub mod WindowLemmas
 pub mod MarksLemmas
+mod TakingLemmas

@@ -7,7 +7,7 @@ ghost use Rattle.fts_postings.specs.Windows.{marked};
 /// then.
 #[inline]
 pub fn write(marks: u64, from: usize, out: &mut [u32; 128], count: usize) -> usize
-    requires room { count ≤ 64 }
+    requires room { count + length (marked from (from + 63) marks) ≤ 128 }
     requires few { (k : ℕ) → bit_at marks k ≡ 1 → from + k < 2 ^ 32 }
     ensures count { result ≡ count + length (marked from (from + 63) marks) }
     ensures written { take result out.new

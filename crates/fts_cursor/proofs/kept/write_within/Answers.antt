@@ -11,9 +11,12 @@ write-count-requires-clause-few c k is =
     let first = AreMarks-of c.args.low c.args.high c.args.column.now c.args.from _ c.marks_within-first.ensures c.marks_within-first.type_inv in
     omega (arith, c.requires.few, marked_inside c.args.low c.args.high c.args.column.now c.args.from _ first k is)
 
+pub write-count-requires-clause-room : goal.write-count-requires-clause-room
+write-count-requires-clause-room c = omega (arith, length-marked c.args.from (c.args.from + 63) c.marks_within-first.result)
+
 pub write-requires-clause-room : goal.write-requires-clause-room
 write-requires-clause-room c =
-    omega (arith, c.write-count.ensures.count, length-marked c.args.from (c.args.from + 63) c.marks_within-first.result)
+    omega (arith, c.write-count.ensures.count, length-marked c.args.from (c.args.from + 63) c.marks_within-first.result, length-marked (c.args.from + 64) (c.args.from + 64 + 63) c.marks_within-second.result)
 
 pub write-requires-clause-few : goal.write-requires-clause-few
 write-requires-clause-few c k is =
