@@ -16,7 +16,7 @@ use Rattle.fts_cursor.specs.declared.tree.buffered_union.BufferedUnion.{Buffered
 use Rattle.fts_cursor.specs.declared.tree.Node.TheVariants.{Or}
 use Rattle.fts_postings.specs.declared.window.Window.{Window}
 use Rattle.fts_postings.proofs.RemainingLemmas.{Rises-from_increasing, at_least_all, first-at_least, increasing-from_Rises, nothing_first}
-use Rattle.fts_postings.proofs.MeetingLemmas.{above_is_other, below_is_other, has-at_least, has-before_first, has-below, has-first, has-none, is_itself}
+use Rattle.fts_postings.proofs.MeetingLemmas.{Rises-lower, above_is_other, below_is_other, has-at_least, has-before_first, has-below, has-first, has-none, is_itself}
 use Rattle.fts_postings.proofs.PassingLemmas.{Rises-passing}
 use Rattle.fts_cursor.proofs.PartsLemmas.{TreeContinues-beside, TreeContinues-same, TreeContinues-together, UpTo, UpTo-next, UpTo-none, union-left}
 use Rattle.fts_postings.proofs.UnionLemmas.{Rises-union, at_least-with_all, by_order, first_of, has-union, has-with_one, in_some-append, leaves, or_false, union_first, with_one-front}
@@ -240,10 +240,6 @@ gathered_next doc old new lists h is =
     ∙ sym (drop_first doc (union (found old ∷ lists)) (increasing-from_Rises 0 (union (found old ∷ lists)) (Rises-union (found old ∷ lists))) (union_first (Some doc) (found old ∷ lists) (gathered_least doc old lists h)))
 
 -- a list that begins behind another lies behind it in both
-Rises-lower : (n m : ℕ) (xs : List ℕ) → n ≤ m → Rises m xs → Rises n xs
-Rises-lower n m [] low h = tt
-Rises-lower n m (x ∷ xs) low h = (omega (arith, low, h.0), h.1)
-
 Rises-beyond : (next : ℕ) (xs : List ℕ) → Rises 0 xs → ((d : ℕ) → d < next → has xs d ≡ false) → Rises next xs
 Rises-beyond next [] h lack = tt
 Rises-beyond next (x ∷ xs) h lack = (
@@ -259,7 +255,7 @@ AreUpTo last [] = Unit {0}
 AreUpTo last (x ∷ xs) = (x ≤ last) × AreUpTo last xs
 
 put_behind : (n last : ℕ) (xs ys : List ℕ) → Rises n xs → AreUpTo last xs → Rises (suc last) ys → n ≤ suc last → (with_all xs ys ≡ xs ++ ys) × Rises n (xs ++ ys)
-put_behind n last [] ys up within behind low = (refl, Rises-lower n (suc last) ys low behind)
+put_behind n last [] ys up within behind low = (refl, Rises-lower (suc last) n ys low behind)
 put_behind n last (x ∷ xs) ys up within behind low =
     let more = put_behind (suc x) last xs ys up.1 within.1 behind (omega (arith, within.0)) in
     (ap (with_one x) more.0 ∙ with_one-front x (xs ++ ys) more.1, (up.0, more.1))
