@@ -10,7 +10,7 @@ use Rattle.fts_postings.specs.Remaining.{at_least, IsPlaceOf}
 use Rattle.fts_model.specs.declared.operation.Stamped.{Stamped}
 use Rattle.fts_model.specs.declared.value.FieldValue.{FieldValue}
 use Rattle.fts_model.specs.Documents.{DocumentValue, value_in_field}
-use Rattle.fts_cursor.specs.Scans.{has_value, keeps, kept_from, kept_in, within}
+use Rattle.fts_cursor.specs.Scans.{has_value, keeps, kept_from, kept_in}
 use Rattle.fts_postings.specs.Windows.{passing}
 use Rattle.fts_cursor.specs.declared.kept.Kept.{Kept}
 use Rattle.fts_postings.proofs.RemainingLemmas.{Rises-front, at_least-append, at_least_all, at_least_place}

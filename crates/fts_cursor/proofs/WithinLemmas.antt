@@ -4,7 +4,8 @@ use Rattle.std.specs.Int.{bit_at}
 use Rattle.std.proofs.lemmas.Bool.{cases_lt}
 use Rattle.std.proofs.lemmas.List.{append-nil, get_or_past}
 use Rattle.std.proofs.lemmas.Nat.Bits.{bit_at_above}
-use Rattle.fts_cursor.specs.Scans.{has_within, within}
+use Rattle.fts_column.specs.Column.{is_within}
+use Rattle.fts_cursor.specs.Scans.{has_within}
 use Rattle.fts_postings.specs.Windows.{is_marked, marked, passing}
 use Rattle.fts_postings.proofs.PassingLemmas.{passing-append}
 use Rattle.fts_postings.proofs.WindowLemmas.{passing-ahead, passing-same}
@@ -14,14 +15,14 @@ pub record AreMarks (low high : ℕ) (column : List (Option ℕ)) (from marks : 
   pub each : (k : ℕ) → k < 64 → has_within low high column (from + k) ≡ is_marked from marks (from + k)
   pub fits : marks < 2 ^ 64
 
-pub AreMarks-of : (low high : ℕ) (column : List (Option ℕ)) (from marks : ℕ) → ((k : ℕ) → k < 64 → (bit_at marks k == 1) ≡ within low high (get_or column (from + k) None)) → marks < 2 ^ 64 → AreMarks low high column from marks
+pub AreMarks-of : (low high : ℕ) (column : List (Option ℕ)) (from marks : ℕ) → ((k : ℕ) → k < 64 → (bit_at marks k == 1) ≡ is_within low high (get_or column (from + k) None)) → marks < 2 ^ 64 → AreMarks low high column from marks
 AreMarks-of low high column from marks is fits = record {
   each = λ k inside. let at : from + k - from ≡ k = omega arith in sym (ap (λ j. bit_at marks j == 1) at ∙ is k inside);
   fits = fits;
 }
 
 none_past : (low high : ℕ) (column : List (Option ℕ)) (doc : ℕ) → length column ≤ doc → has_within low high column doc ≡ false
-none_past low high column doc past = ap (within low high) (get_or_past column doc None past)
+none_past low high column doc past = ap (is_within low high) (get_or_past column doc None past)
 
 -- what is marked is there
 pub marked_inside : (low high : ℕ) (column : List (Option ℕ)) (from marks : ℕ) → AreMarks low high column from marks → (k : ℕ) → bit_at marks k ≡ 1 → from + k < length column

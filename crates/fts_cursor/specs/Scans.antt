@@ -9,13 +9,9 @@ use Rattle.fts_postings.specs.Windows.{passing}
 use Rattle.fts_cursor.specs.declared.kept.Kept.{Kept}
 use Rattle.fts_cursor.specs.declared.kept.Kept.TheVariants.{Every, Within, Valued}
 
--- whether there is a number, within these
-abbrev pub within : ℕ → ℕ → Option ℕ → Bool
-within low high value = is_within low high value
-
 -- whether a document's number in a column is within these
 abbrev pub has_within : ℕ → ℕ → List (Option ℕ) → ℕ → Bool
-has_within low high column doc = within low high (slice_index_or column doc None)
+has_within low high column doc = is_within low high (slice_index_or column doc None)
 
 -- whether a document has a value of a field
 abbrev pub has_value : List (Stamped DocumentValue) → ℕ → ℕ → Bool
