@@ -1,5 +1,5 @@
 -- Values and documents that are gathered at the front of an array, one after the other.
-use Rattle.std.proofs.Common.{◌≡◌, ℕ, ◌+◌, ◌<◌, Bool, true, false, cond, Option, Some, None, List, [], ◌∷◌, ◌++◌, length, take, set, get_or, refl, sym, ap, ap₂, ◌∙◌, arith}
+use Rattle.std.proofs.Common.{◌≡◌, ℕ, ◌+◌, ◌<◌, ◌≤◌, Bool, true, false, cond, Option, Some, None, List, [], ◌∷◌, ◌++◌, length, take, set, get_or, refl, sym, ap, ap₂, ◌∙◌, arith}
 use Rattle.std.specs.Int.{from_bool}
 use Rattle.std.specs.List.{cons_option, filter, filter_map}
 use Rattle.std.specs.Option.{option_to_list}
@@ -14,6 +14,10 @@ one_kept (Some y) = refl
 pub kept-more : {Y : Type 0} (h : ℕ → Option Y) (docs : List ℕ) (i : ℕ) → i < length docs → filter_map h (take (i + 1) docs) ≡ filter_map h (take i docs) ++ option_to_list (h (get_or docs i 0))
 kept-more h docs i inside =
     ap (filter_map h) (take_more docs i 0 inside) ∙ filter_map-append h (take i docs) (get_or docs i 0 ∷ []) ∙ ap (λ xs. filter_map h (take i docs) ++ xs) (one_kept (h (get_or docs i 0)))
+
+pub from_bool-le : (b : Bool) → from_bool b ≤ 1
+from_bool-le true = omega arith
+from_bool-le false = omega arith
 
 -- those of the first elements that pass, with one more of them
 pub passed-more : (p : ℕ → Bool) (docs out : List ℕ) (i count : ℕ) (b : Bool) → i < length docs → count < length out → b ≡ p (get_or docs i 0) → take count out ≡ filter p (take i docs) → take (count + from_bool b) (set out count (get_or docs i 0)) ≡ filter p (take (i + 1) docs)

@@ -20,12 +20,11 @@ use Rattle.fts_model.specs.Schemas.{holds_numbers, is_ordered}
 use Rattle.fts_model.specs.Queries.{admits_from, admits_to, is_bound_of, is_number_field, is_range_of, value_le, value_lt}
 use Rattle.fts_bits.specs.Signed.{u64_of}
 use Rattle.fts_segment.specs.Numbers.{Fits64}
-use Rattle.fts_column.specs.Column.{IsRangeOf}
+use Rattle.fts_column.specs.Column.{IsRangeOf, is_within}
 use Rattle.fts_segment.specs.FieldIndexes.{NumbersFit}
 use Rattle.fts_segment.specs.Occurrences.{values_in}
 use Rattle.fts_segment.specs.Segments.{SegmentValue, column, number_in, number_of, numbers_where}
 use Rattle.fts_cursor.specs.Ranges.{IsGreatestOf, IsLeastOf, IsWhole, IsWholeBound, is_bounded, key_from, key_of, key_to}
-use Rattle.fts_column.specs.Column.{is_within}
 use Rattle.fts_cursor.specs.Scans.{has_value, has_within}
 use Rattle.fts_postings.specs.Windows.{passing}
 use Rattle.fts_cursor.proofs.HitsLemmas.{numbers_are, passing_are, test_at}
