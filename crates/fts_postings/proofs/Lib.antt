@@ -9,3 +9,4 @@ pub mod UnionLemmas
 pub mod WindowLemmas
 pub mod MarksLemmas
 mod TakingLemmas
+mod PlacesLemmas

@@ -45,16 +45,6 @@ marked_few from marks bound fits high k is = elim (cases_lt k 64) [
   | inr above ↦ absurd (let none = bit_at_above marks 64 k fits above in omega (arith, is, none))
 ]
 
--- one document is taken
-pub taken_one : (left next rest out : List ℕ) (doc filled : ℕ) → left ≡ doc ∷ rest → next ≡ rest → filled < 128 → length out ≡ 128 → IsStretch left next out (set out filled doc) filled 1
-taken_one left next rest out doc filled is last room long = record {
-  some = λ _. omega arith;
-  within = omega (arith, ap length is);
-  room = omega (arith, room);
-  front = take_more_set out filled doc (omega (arith, room, long)) ∙ ap (λ xs. take filled out ++ take 1 xs) (sym is);
-  left_is = last ∙ ap (drop 1) (sym is);
-}
-
 -- those of a word are taken, of which one is the first that is left
 pub taken_word : (left next out written : List ℕ) (base start doc last marks filled total count : ℕ) (words rest : List ℕ) → left ≡ doc ∷ rest → doc < start + 64 → next ≡ found_in base (start + 64) last words → left ≡ marked start (start + 63) marks ++ next
     → length (marked start (start + 63) marks) ≡ count → filled + count ≤ 128 → total ≡ filled + length (marked start (start + 63) marks) → take total written ≡ take filled out ++ marked start (start + 63) marks → IsStretch left next out written filled count
@@ -74,10 +64,3 @@ taken_word left next out written base start doc last marks filled total count wo
       front = ap (λ n. take n written) (let e : filled + count ≡ total = omega (arith, total_is, size) in e) ∙ front ∙ ap (λ xs. take filled out ++ xs) (sym taken);
       left_is = sym gone;
     }
-
--- the first is the one at which the window stands
-pub stands_first : (base doc last : ℕ) (words : List ℕ) → found_in base doc last words ≡ doc ∷ found_in base (doc + 1) last words → doc ≤ last
-stands_first base doc last words is = elim (cases_lt last doc) [
-  | inl past ↦ absurd (let none : suc last - doc ≡ 0 = omega (arith, past) in omega (arith, ap length is, ap (λ n. length (passing (is_found base words) doc n)) none))
-  | inr within ↦ within
-]
