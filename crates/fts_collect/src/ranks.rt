@@ -4,6 +4,7 @@ ghost use Rattle.std.specs.Prelude.{nat_le, option_to_list, slice_index_or};
 ghost use Rattle.fts_column.specs.Column.{is_within};
 ghost use Rattle.fts_collect.specs.Internals.Ranks.{hit_of, keep_keys, key_at, keys_at, rank_in};
 
+use crate::gathered::docs_within;
 use crate::tally::number_at;
 use crate::top_k::{Key, TopK};
 use fts_column::Column;
@@ -102,7 +103,7 @@ pub(crate) fn offer_hits(
     };
     let (low, high) = numbers_to(column, order, farthest);
     let mut near = [0; 128];
-    let count = column.docs_within(docs, low, high, &mut near);
+    let count = docs_within(column, docs, low, high, &mut near);
     offer_each(segment, column, order, &near[..count], top_k)
 }
 

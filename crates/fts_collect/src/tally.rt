@@ -4,6 +4,7 @@ ghost use Rattle.std.specs.Prelude.{slice_index, slice_set};
 ghost use Rattle.fts_collect.specs.Internals.Tallies.{AreCounts, AreWithin, counts_from, counts_of_sorted, number_at};
 ghost use Rattle.fts_collect.specs.Internals.Tallies.{present_at};
 
+use crate::gathered::values_of;
 use fts_bits::u64_to_i64;
 use fts_column::Column;
 use fts_model::{Kind, Number};
@@ -76,7 +77,7 @@ fn count_docs(column: &Column, docs: &[u32], least: u64, counts: &mut [u64])
     ensures long { length counts.new ≡ length counts.old }
 {
     let mut numbers = [0; 128];
-    let count = column.values_of(docs, &mut numbers);
+    let count = values_of(column, docs, &mut numbers);
     count_numbers(&numbers[..count], least, counts);
 }
 
@@ -87,7 +88,7 @@ fn push_docs(column: &Column, docs: &[u32], numbers: &mut Vec<u64>) -> Result<()
         ≡ numbers.old.items ++ present_at column.now docs.now) }
 {
     let mut more = [0; 128];
-    let count = column.values_of(docs, &mut more);
+    let count = values_of(column, docs, &mut more);
     numbers.extend_from_slice(&more[..count])
 }
 

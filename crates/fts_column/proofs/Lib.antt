@@ -1,3 +1,2 @@
 pub mod ColumnLemmas
-mod GatherLemmas
 mod LanesLemmas

@@ -1,9 +1,8 @@
 // One value a document, or none: how far it is above the least, in as few bits as the greatest needs, and a bit for
 // presence. The same again in lanes, from which values are read.
-ghost use Rattle.std.specs.Prelude.{◌≡◌, ◌≤◌, ◌<◌, ◌+◌, ◌-◌, ◌*◌, ◌%◌, ◌^◌, ◌==◌, ◌++◌, ℕ, List, [], ◌∷◌, Option};
-ghost use Rattle.std.specs.Prelude.{None, All, IfOk, IfSome, IsOkUnless, drop, filter, is_some, length, map, min};
-ghost use Rattle.std.specs.Prelude.{option_to_list, slice_index, slice_index_or, take};
-ghost use Rattle.std.specs.List.{filter_map};
+ghost use Rattle.std.specs.Prelude.{◌≡◌, ◌≤◌, ◌<◌, ◌+◌, ◌-◌, ◌*◌, ◌%◌, ◌^◌, ◌==◌, ℕ, List, [], ◌∷◌, Option, None, All};
+ghost use Rattle.std.specs.Prelude.{IfOk, IfSome, IsOkUnless, drop, is_some, length, map, min, slice_index};
+ghost use Rattle.std.specs.Prelude.{slice_index_or, take};
 ghost use Rattle.fts_bits.specs.Bits.{number_of};
 ghost use Rattle.fts_bits.specs.Digits.{IsWidthOf, numbers_in, words_of};
 ghost use Rattle.std.specs.Option.{option_map_or};
@@ -160,66 +159,6 @@ impl Column {
         let above = low.saturating_sub(least);
         let marks = self.lanes.marked(from, above, high - least);
         marks & self.present.word(from / 64)
-    }
-
-    /// Writes the values of those documents that have one, in the order of the documents, to the front of `out`, and
-    /// gives how many they are. What is behind them may be anything.
-    pub fn values_of(&self, docs: &[u32], out: &mut [u64; 128]) -> usize
-        requires { length docs.now ≤ 128 }
-        ensures count { result ≤ length docs.now }
-        ensures values { take result out.new
-            ≡ filter_map (λ doc. slice_index_or self.now doc None) docs.now }
-    {
-        let mut count = 0;
-        for doc in docs {
-            count = self.push_value(*doc, out, count);
-        }
-        count
-    }
-
-    // Writes the value of a document, if it has one, behind the first `count`, and gives how many are there then.
-    #[inline]
-    fn push_value(&self, doc: u32, out: &mut [u64; 128], count: usize) -> usize
-        requires { count < 128 }
-        ensures count { result ≤ count + 1 }
-        ensures value { take result out.new
-            ≡ take count out.old ++ option_to_list (slice_index_or self.now doc None) }
-    {
-        match self.get(doc as usize) {
-            None => count,
-            Some(value) => {
-                out[count] = value;
-                count + 1
-            }
-        }
-    }
-
-    /// Writes those of the documents whose value is `low` or more and `high` or less, in their order, to the front of
-    /// `out`, and gives how many they are. What is behind them may be anything.
-    pub fn docs_within(&self, docs: &[u32], low: u64, high: u64, out: &mut [u32; 128]) -> usize
-        requires { length docs.now ≤ 128 }
-        ensures count { result ≤ length docs.now }
-        ensures docs { take result out.new
-            ≡ filter (λ doc. is_within low high (slice_index_or self.now doc None)) docs.now }
-    {
-        let mut count = 0;
-        for doc in docs {
-            // Without a branch, since whether it is within is anyone's guess.
-            out[count] = *doc;
-            count += usize::from(self.has_within(*doc, low, high));
-        }
-        count
-    }
-
-    // Whether the document has a value within the bounds.
-    #[inline]
-    fn has_within(&self, doc: u32, low: u64, high: u64) -> bool
-        ensures { result ≡ is_within low high (slice_index_or self.now doc None) }
-    {
-        match self.get(doc as usize) {
-            None => false,
-            Some(value) => low <= value && value <= high,
-        }
     }
 
     /// The least and the greatest value, if there is one.

@@ -1,12 +1,12 @@
 -- One value more, if it is there.
 use Rattle.std.proofs.Common.{◌++◌, None, get_or, ap, sym, ◌∙◌, arith}
 use Rattle.std.specs.Option.{option_to_list}
-use Rattle.fts_column.proofs.GatherLemmas.{kept-more}
-use Rattle.fts_column.proofs.column.Column.values_of.Goals as goal
+use Rattle.fts_collect.proofs.GatherLemmas.{kept-more}
+use Rattle.fts_collect.proofs.gathered.values_of.Goals as goal
 
 pub loop-doc-preserved : goal.loop-doc-preserved
 loop-doc-preserved c =
-    let column = c.args.self.now in
+    let column = c.args.column.now in
     let docs = c.args.docs.now in
     let i = c.loop-doc.doc-index in
     record {
