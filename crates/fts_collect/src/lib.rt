@@ -10,6 +10,7 @@
 #![tactic(auto)]
 
 mod collector;
+mod gathered;
 mod groups;
 mod order;
 mod part;

@@ -3,10 +3,12 @@ use Rattle.std.proofs.Common.{◌≡◌, ℕ, zero, suc, ◌+◌, ◌-◌, ◌<�
 use Rattle.std.specs.List.{AllZip, slice_get}
 use Rattle.std.specs.List.Sorted.{IsStrictlyIncreasing}
 use Rattle.std.proofs.lemmas.Bool.{cases_Bool, cases_lt, le-leb, lt-leb, false≢true}
-use Rattle.std.proofs.lemmas.List.{take_more, take_all, map-append}
+use Rattle.std.proofs.lemmas.List.{drop-append-le, length-append, take-append-le, take_more, take_all, map-append}
+use Rattle.std.proofs.lemmas.Option.{slice_get_within}
 use Rattle.fts_pack.specs.Documents.{Rises}
+use Rattle.fts_postings.specs.Fills.{IsStretch}
 use Rattle.fts_postings.specs.Remaining.{at_least}
-use Rattle.fts_postings.specs.Windows.{is_marked, passing}
+use Rattle.fts_postings.specs.Windows.{is_found, passing}
 use Rattle.fts_postings.specs.Meeting.{IsLeast, has, in_some, union, with_all, with_one}
 use Rattle.fts_cursor.specs.TreeValues.{Left, TreeContinues, TreeValue, beside, remains, together}
 use Rattle.fts_cursor.specs.Trees.{AreBeyond, AreMarked, IsBuffered, IsNow, found, gathered}
@@ -14,10 +16,10 @@ use Rattle.fts_cursor.specs.declared.tree.buffered_union.BufferedUnion.{Buffered
 use Rattle.fts_cursor.specs.declared.tree.Node.TheVariants.{Or}
 use Rattle.fts_postings.specs.declared.window.Window.{Window}
 use Rattle.fts_postings.proofs.RemainingLemmas.{Rises-from_increasing, at_least_all, first-at_least, increasing-from_Rises, nothing_first}
-use Rattle.fts_postings.proofs.MeetingLemmas.{above_is_other, below_is_other, has-at_least, has-before_first, has-below, has-first, has-none, is_itself}
+use Rattle.fts_postings.proofs.MeetingLemmas.{Rises-lower, above_is_other, below_is_other, has-at_least, has-before_first, has-below, has-first, has-none, is_itself}
 use Rattle.fts_postings.proofs.PassingLemmas.{Rises-passing}
 use Rattle.fts_cursor.proofs.PartsLemmas.{TreeContinues-beside, TreeContinues-same, TreeContinues-together, UpTo, UpTo-next, UpTo-none, union-left}
-use Rattle.fts_postings.proofs.UnionLemmas.{Rises-union, at_least-with_all, by_order, first_of, has-union, has-with_one, in_some-append, leaves, or_false, union_first}
+use Rattle.fts_postings.proofs.UnionLemmas.{Rises-union, at_least-with_all, by_order, first_of, has-union, has-with_one, in_some-append, leaves, or_false, union_first, with_one-front}
 use Rattle.fts_cursor.proofs.TreeLemmas.{IsNow-first, drop_first, from_union, parts_from, stays_from_first}
 
 -- rising lists that have the same are the same
@@ -55,10 +57,13 @@ passing-behind p a (suc n) d high =
     ]
 
 found_behind : (w : Window) (d : ℕ) → w.last < d → has (found w) d ≡ false
-found_behind w d high = passing-behind (is_marked w.from w.marks) w.from (suc w.last - w.from) d (omega (arith, high, w.order))
+found_behind w d high = elim (cases_lt w.last w.from) [
+  | inl over ↦ let none : suc w.last - w.from ≡ 0 = omega (arith, over) in ap (λ n. has (passing (is_found w.base w.words) w.from n) d) none
+  | inr stands ↦ passing-behind (is_found w.base w.words) w.from (suc w.last - w.from) d (omega (arith, high, stands))
+]
 
 found_rises : (w : Window) → Rises 0 (found w)
-found_rises w = Rises-from_increasing (found w) (increasing-from_Rises w.from (found w) (Rises-passing (is_marked w.from w.marks) w.from (suc w.last - w.from)))
+found_rises w = Rises-from_increasing (found w) (increasing-from_Rises w.from (found w) (Rises-passing (is_found w.base w.words) w.from (suc w.last - w.from)))
 
 found_first : (w : Window) (doc : ℕ) → Some doc ≡ slice_get (found w) 0 → doc ≤ w.last
 found_first w doc first = elim (cases_lt w.last doc) [
@@ -234,6 +239,67 @@ gathered_next doc old new lists h is =
     ∙ narrowed (doc + 1) old lists (omega (arith, within)) h.beyond
     ∙ sym (drop_first doc (union (found old ∷ lists)) (increasing-from_Rises 0 (union (found old ∷ lists)) (Rises-union (found old ∷ lists))) (union_first (Some doc) (found old ∷ lists) (gathered_least doc old lists h)))
 
+-- a list that begins behind another lies behind it in both
+Rises-beyond : (next : ℕ) (xs : List ℕ) → Rises 0 xs → ((d : ℕ) → d < next → has xs d ≡ false) → Rises next xs
+Rises-beyond next [] h lack = tt
+Rises-beyond next (x ∷ xs) h lack = (
+  elim (cases_lt x next) [
+    | inl low ↦ absurd (false≢true (sym (lack x low) ∙ ap (λ b. b || has xs x) (is_itself x)))
+    | inr high ↦ high
+  ],
+  h.1,
+)
+
+abbrev AreUpTo : ℕ → List ℕ → Type 0
+AreUpTo last [] = Unit {0}
+AreUpTo last (x ∷ xs) = (x ≤ last) × AreUpTo last xs
+
+put_behind : (n last : ℕ) (xs ys : List ℕ) → Rises n xs → AreUpTo last xs → Rises (suc last) ys → n ≤ suc last → (with_all xs ys ≡ xs ++ ys) × Rises n (xs ++ ys)
+put_behind n last [] ys up within behind low = (refl, Rises-lower (suc last) n ys low behind)
+put_behind n last (x ∷ xs) ys up within behind low =
+    let more = put_behind (suc x) last xs ys up.1 within.1 behind (omega (arith, within.0)) in
+    (ap (with_one x) more.0 ∙ with_one-front x (xs ++ ys) more.1, (up.0, more.1))
+
+passing-up_to : (p : ℕ → Bool) (a n last : ℕ) → a + n ≤ suc last → AreUpTo last (passing p a n)
+passing-up_to p a zero last h = tt
+passing-up_to p a (suc n) last h =
+    let more = passing p (a + 1) n in
+    let rest = passing-up_to p (a + 1) n last (omega (arith, h)) in
+    elim (cases_Bool (p a)) [
+      | inl kept ↦ subst (λ b. AreUpTo last (cond b (a ∷ more) more)) (sym kept) (omega (arith, h), rest)
+      | inr other ↦ subst (λ b. AreUpTo last (cond b (a ∷ more) more)) (sym other) rest
+    ]
+
+found_up_to : (w : Window) → AreUpTo w.last (found w)
+found_up_to w = elim (cases_lt w.last w.from) [
+  | inl over ↦ let none : suc w.last - w.from ≡ 0 = omega (arith, over) in subst (λ n. AreUpTo w.last (passing (is_found w.base w.words) w.from n)) (sym none) tt
+  | inr stands ↦ passing-up_to (is_found w.base w.words) w.from (suc w.last - w.from) w.last (omega (arith, stands))
+]
+
+-- the window's documents come first, and then those of the parts
+apart : (w : Window) (lists : List (List ℕ)) → AreBeyond w lists → union (found w ∷ lists) ≡ found w ++ union lists
+apart w lists beyond =
+    let behind = Rises-beyond (suc w.last) (union lists) (Rises-union lists) (λ d low. has-union lists d ∙ beyond d (omega (arith, low))) in
+    (put_behind 0 w.last (found w) (union lists) (found_rises w) (found_up_to w) behind (omega arith)).0
+
+-- what is taken of the window is taken of all
+pub gathered_stretch : (doc : ℕ) (old new : Window) (lists : List (List ℕ)) (out written : List ℕ) (filled count : ℕ) → IsBuffered (Some doc) old lists → new.last ≡ old.last → IsStretch (found old) (found new) out written filled count → IsStretch (union (found old ∷ lists)) (union (found new ∷ lists)) out written filled count
+gathered_stretch doc old new lists out written filled count h last s =
+    let before = apart old lists h.beyond in
+    let after = apart new lists (λ d within. h.beyond d (omega (arith, within, last))) in
+    let some : 0 < length (found old) = slice_get_within (found old) 0 doc (sym h.first) in
+    record {
+      some = λ _. s.some some;
+      within = omega (arith, ap length before, length-append (found old) (union lists), s.within);
+      room = s.room;
+      front = s.front ∙ ap (λ xs. take filled out ++ xs) (sym (ap (take count) before ∙ take-append-le count (found old) (union lists) s.within));
+      left_is = after ∙ ap (λ xs. xs ++ union lists) s.left_is ∙ sym (ap (drop count) before ∙ drop-append-le count (found old) (union lists) s.within);
+    }
+
+-- nothing lies before the first
+pub gathered_all : (b : BufferedUnion) → at_least 0 (gathered b) ≡ gathered b
+gathered_all b = at_least_all 0 0 (gathered b) (Rises-union (found b.window ∷ remains b.parts.items)) (omega arith)
+
 -- where the window has none from the target on, the parts have all
 pub gathered_from : (target : ℕ) (old new : Window) (lists : List (List ℕ)) → found new ≡ at_least target (found old) → found new ≡ [] → at_least target (union lists) ≡ at_least target (union (found old ∷ lists))
 gathered_from target old new lists is none =
@@ -244,7 +310,7 @@ module _ (parts : List TreeValue) (least : ℕ) (h : IsLeast (Some least) (remai
   pub fill_ahead : (k : ℕ) (e : TreeValue) → k < length parts → (get_or parts k e).remaining ≡ at_least least (get_or parts k e).remaining
   fill_ahead = parts_from parts least (sym (union_first (Some least) (remains parts) h))
 
-  module _ (after : List TreeValue) (old new : Window) (from : old.from ≡ least) (nothing : found old ≡ []) (last : new.last ≡ old.last) (each : AllZip (Left (old.last + 1)) parts after) (marked : AreMarked (in_some (remains parts)) old new) where
+  module _ (after : List TreeValue) (old new : Window) (reaches : least ≤ old.last) (nothing : found old ≡ []) (last : new.last ≡ old.last) (each : AllZip (Left (old.last + 1)) parts after) (marked : AreMarked (in_some (remains parts)) old new) where
     lies : (d : ℕ) → has (found new) d ≡ (nat_le d old.last && in_some (remains parts) d)
     lies d = marked d ∙ ap (λ xs. has xs d || (nat_le d old.last && in_some (remains parts) d)) nothing
 
@@ -269,7 +335,7 @@ module _ (parts : List TreeValue) (least : ℕ) (h : IsLeast (Some least) (remai
     pub filled_buffered : IsBuffered (Some least) new (remains after)
     filled_buffered = record {
       first = first_of (found new) least (found_rises new)
-          (lies least ∙ ap₂ (λ a b. a && b) (le-leb least old.last (omega (arith, old.order, from))) h.0)
+          (lies least ∙ ap₂ (λ a b. a && b) (le-leb least old.last reaches) h.0)
           (λ d low. lies d ∙ ap (λ b. nat_le d old.last && b) (h.1 d low) ∙ and_nothing (nat_le d old.last));
       beyond = λ d within. after_low d (omega (arith, within, last));
     }

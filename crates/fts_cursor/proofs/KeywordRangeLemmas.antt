@@ -22,7 +22,8 @@ use Rattle.fts_segment.proofs.KeywordsLemmas.{from_excluded, from_included, to_e
 use Rattle.fts_segment.proofs.OccurrencesLemmas.{map-map}
 use Rattle.fts_postings.specs.Windows.{passing}
 use Rattle.fts_cursor.specs.Ranges.{IsLastOrdinal, is_bounded, ordinal_from, ordinal_to}
-use Rattle.fts_cursor.specs.Scans.{has_within, within}
+use Rattle.fts_column.specs.Column.{is_within}
+use Rattle.fts_cursor.specs.Scans.{has_within}
 use Rattle.fts_cursor.proofs.HitsLemmas.{numbers_are, passing_are, test_at}
 use Rattle.fts_cursor.proofs.RangeLemmas.{admits, and_false, small_of}
 
@@ -136,7 +137,7 @@ module _ (segment : SegmentValue) (field : ℕ) (lower upper : Bound FieldValue)
       ∙ ap (λ o. option_map_or (ordinal_admits texts lower last) o false)
       (ap (λ o. unwrap_or o None) (sym (slice_get-map rank segment.documents d)) ∙ unwrap_or-slice_get (map rank segment.documents) d None ∙ ap (λ os. get_or os d None) (sym same_ordinals))
 
-  by_within : (high : ℕ) → last ≡ Some high → (o : Option ℕ) → within (ordinal_from (keywords segment field) lower) high o ≡ option_map_or (ordinal_admits texts lower last) o false
+  by_within : (high : ℕ) → last ≡ Some high → (o : Option ℕ) → is_within (ordinal_from (keywords segment field) lower) high o ≡ option_map_or (ordinal_admits texts lower last) o false
   by_within high is None = refl
   by_within high is (Some x) = ap₂ (λ ts l. nat_le (ordinal_from ts lower) x && option_map_or (λ high. nat_le x high) l false) same_texts (sym is)
 

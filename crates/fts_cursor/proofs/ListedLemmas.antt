@@ -13,7 +13,8 @@ use Rattle.fts_postings.proofs.MeetingLemmas.{is_itself}
 use Rattle.fts_postings.proofs.PassingLemmas.{Rises-drop, Rises-passing}
 use Rattle.fts_postings.proofs.RemainingLemmas.{Rises-from_increasing, at_least_place, increasing-from_Rises}
 use Rattle.fts_segment.specs.Between.{AreBetween}
-use Rattle.fts_cursor.specs.Scans.{has_within, within}
+use Rattle.fts_column.specs.Column.{is_within}
+use Rattle.fts_cursor.specs.Scans.{has_within}
 use Rattle.fts_cursor.proofs.HitsLemmas.{has-filter, has-range, past-range, same_members}
 
 -- what is left rises too
@@ -68,11 +69,11 @@ with_list (xs ∷ lists) d zero less there = ap (λ b. b || in_some lists d) (ha
 with_list (xs ∷ lists) d (suc k) less there = ap (λ b. has xs d || b) (with_list lists d k (omega (arith, less)) there) ∙ or_true (has xs d)
 
 -- a number within bounds is there
-within_there : (low high : ℕ) (v : Option ℕ) → within low high v ≡ true → (x : ℕ) × (v ≡ Some x) × (low ≤ x) × (x ≤ high)
+within_there : (low high : ℕ) (v : Option ℕ) → is_within low high v ≡ true → (x : ℕ) × (v ≡ Some x) × (low ≤ x) × (x ≤ high)
 within_there low high None h = absurd (false≢true h)
 within_there low high (Some x) h = let both = and_parts (nat_le low x) (nat_le x high) h in (x, refl, leb-true low x both.0, leb-true x high both.1)
 
-there_within : (low high x : ℕ) → low ≤ x → x ≤ high → within low high (Some x) ≡ true
+there_within : (low high x : ℕ) → low ≤ x → x ≤ high → is_within low high (Some x) ≡ true
 there_within low high x from to = ap₂ (λ a b. a && b) (le-leb low x from) (le-leb x high to)
 
 module _ (column : List (Option ℕ)) (low high : ℕ) (lists : List (List ℕ)) (are : AreBetween column low high lists) where
@@ -80,7 +81,7 @@ module _ (column : List (Option ℕ)) (low high : ℕ) (lists : List (List ℕ))
   in_passing d x is from to =
       let inside = slice_get_within column d (Some x) is in
       has-filter (has_within low high column) (range_with_len 0 (length column)) d
-      ∙ ap₂ (λ a b. a && b) (has-range 0 (length column) d (omega arith) (omega (arith, inside))) (ap (within low high) (get_or_from_slice_get column d (Some x) None is) ∙ there_within low high x from to)
+      ∙ ap₂ (λ a b. a && b) (has-range 0 (length column) d (omega arith) (omega (arith, inside))) (ap (is_within low high) (get_or_from_slice_get column d (Some x) None is) ∙ there_within low high x from to)
 
   from_passing : (d : ℕ) → has (passing (has_within low high column) 0 (length column)) d ≡ true → in_some lists d ≡ true
   from_passing d h =

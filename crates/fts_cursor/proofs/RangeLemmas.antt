@@ -20,12 +20,12 @@ use Rattle.fts_model.specs.Schemas.{holds_numbers, is_ordered}
 use Rattle.fts_model.specs.Queries.{admits_from, admits_to, is_bound_of, is_number_field, is_range_of, value_le, value_lt}
 use Rattle.fts_bits.specs.Signed.{u64_of}
 use Rattle.fts_segment.specs.Numbers.{Fits64}
-use Rattle.fts_column.specs.Column.{IsRangeOf}
+use Rattle.fts_column.specs.Column.{IsRangeOf, is_within}
 use Rattle.fts_segment.specs.FieldIndexes.{NumbersFit}
 use Rattle.fts_segment.specs.Occurrences.{values_in}
 use Rattle.fts_segment.specs.Segments.{SegmentValue, column, number_in, number_of, numbers_where}
 use Rattle.fts_cursor.specs.Ranges.{IsGreatestOf, IsLeastOf, IsWhole, IsWholeBound, is_bounded, key_from, key_of, key_to}
-use Rattle.fts_cursor.specs.Scans.{has_value, has_within, within}
+use Rattle.fts_cursor.specs.Scans.{has_value, has_within}
 use Rattle.fts_postings.specs.Windows.{passing}
 use Rattle.fts_cursor.proofs.HitsLemmas.{numbers_are, passing_are, test_at}
 
@@ -179,7 +179,7 @@ module _ (schema : List Field) (field : ℕ) (kind : Kind) (lower upper : Bound 
       ∙ ap (λ o. option_map_or (key_admits lower upper) o false) (ap (λ o. unwrap_or o None) (sym (slice_get-map (number_at schema field) documents d)) ∙ unwrap_or-slice_get (map (number_at schema field) documents) d None)
 
 -- the numbers of 64 bits within bounds
-pub within_key : (lower upper : Bound FieldValue) (low high : ℕ) (o : Option ℕ) → IsLeastOf lower (Some low) → IsGreatestOf upper (Some high) → IfSome o (λ x. x < 2 ^ 64) → within low high o ≡ option_map_or (key_admits lower upper) o false
+pub within_key : (lower upper : Bound FieldValue) (low high : ℕ) (o : Option ℕ) → IsLeastOf lower (Some low) → IsGreatestOf upper (Some high) → IfSome o (λ x. x < 2 ^ 64) → is_within low high o ≡ option_map_or (key_admits lower upper) o false
 within_key lower upper low high None least greatest small = refl
 within_key lower upper low high (Some x) least greatest small = ap₂ (λ a b. a && b) (least x small) (greatest x small)
 

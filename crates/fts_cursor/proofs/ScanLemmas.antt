@@ -10,7 +10,7 @@ use Rattle.fts_postings.specs.Remaining.{at_least, IsPlaceOf}
 use Rattle.fts_model.specs.declared.operation.Stamped.{Stamped}
 use Rattle.fts_model.specs.declared.value.FieldValue.{FieldValue}
 use Rattle.fts_model.specs.Documents.{DocumentValue, value_in_field}
-use Rattle.fts_cursor.specs.Scans.{has_value, keeps, kept_from, kept_in, within}
+use Rattle.fts_cursor.specs.Scans.{has_value, keeps, kept_from, kept_in}
 use Rattle.fts_postings.specs.Windows.{passing}
 use Rattle.fts_cursor.specs.declared.kept.Kept.{Kept}
 use Rattle.fts_postings.proofs.RemainingLemmas.{Rises-front, at_least-append, at_least_all, at_least_place}
@@ -86,12 +86,6 @@ passing-skipped p from to docs target up low =
     sym (filter-at_least target p (range_with_len from (docs - from)))
     ∙ ap (filter p) (ap (λ m. at_least target (range_with_len from m)) e ∙ ap (at_least target) (range-append from n (docs - to)) ∙ at_least-append target (range_with_len from n) (range_with_len (from + n) (docs - to)) ∙ ap₂ (λ xs ys. xs ++ at_least target ys) (low_range target from n (omega (arith, up, low))) there)
     ∙ filter-at_least target p (range_with_len to (docs - to))
-
--- a number is there, within bounds
-pub within-is : (low high number : ℕ) (v : Option ℕ) (present : Bool) → present ≡ is_some v → ((x : ℕ) → v ≡ Some x → number ≡ x) → within low high v ≡ (present && (nat_le low number && nat_le number high))
-within-is low high number None present is same = ap (λ b. b && (nat_le low number && nat_le number high)) (sym is)
-within-is low high number (Some x) present is same =
-    ap (λ y. nat_le low y && nat_le y high) (sym (same x refl)) ∙ ap (λ b. b && (nat_le low number && nat_le number high)) (sym is)
 
 -- a document has a value of a field
 valued_at : (s : Option (Stamped DocumentValue)) (d : DocumentValue) (field : ℕ) → option_map (λ e. e.value) s ≡ Some d → option_map_or (λ e. is_some (value_in_field e.value field)) s false ≡ is_some (value_in_field d field)

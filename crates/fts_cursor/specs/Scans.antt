@@ -1,21 +1,17 @@
 -- The documents that are kept by their numbers alone, a stretch at a time.
-use Rattle.std.specs.Prelude.{◌≡◌, ℕ, ◌-◌, ◌%◌, ◌^◌, ◌<◌, ◌≤◌, nat_le, Bool, true, false, ◌&&◌, Option, Some, None}
+use Rattle.std.specs.Prelude.{◌≡◌, ℕ, ◌-◌, ◌%◌, ◌^◌, ◌<◌, ◌≤◌, Bool, true, false, Option}
 use Rattle.std.specs.Prelude.{List, length, min, take, is_some, slice_get, slice_index_or}
 use Rattle.std.specs.Option.{option_map_or}
 use Rattle.fts_model.specs.Documents.{DocumentValue, value_in_field}
 use Rattle.fts_model.specs.declared.operation.Stamped.{Stamped}
+use Rattle.fts_column.specs.Column.{is_within}
 use Rattle.fts_postings.specs.Windows.{passing}
 use Rattle.fts_cursor.specs.declared.kept.Kept.{Kept}
 use Rattle.fts_cursor.specs.declared.kept.Kept.TheVariants.{Every, Within, Valued}
 
--- whether there is a number, within these
-abbrev pub within : ℕ → ℕ → Option ℕ → Bool
-within low high None = false
-within low high (Some x) = nat_le low x && nat_le x high
-
 -- whether a document's number in a column is within these
 abbrev pub has_within : ℕ → ℕ → List (Option ℕ) → ℕ → Bool
-has_within low high column doc = within low high (slice_index_or column doc None)
+has_within low high column doc = is_within low high (slice_index_or column doc None)
 
 -- whether a document has a value of a field
 abbrev pub has_value : List (Stamped DocumentValue) → ℕ → ℕ → Bool

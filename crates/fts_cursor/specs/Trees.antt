@@ -9,17 +9,18 @@ use Rattle.fts_postings.specs.Meeting.{FirstPasses, common, has, in_all, in_some
 use Rattle.fts_cursor.specs.Standing.{at_most}
 use Rattle.fts_cursor.specs.Terms.{AreTied, IsTied, of_terms}
 use Rattle.fts_cursor.specs.TreeValues.{TreeValue, beside, leaf, remains, together}
-use Rattle.fts_postings.specs.Windows.{marked}
+use Rattle.fts_postings.specs.Windows.{found_in}
 use Rattle.fts_cursor.specs.declared.tree.buffered_union.BufferedUnion.{BufferedUnion}
 use Rattle.fts_cursor.specs.declared.tree.exclusion.Exclusion.{Exclusion}
 use Rattle.fts_cursor.specs.declared.tree.intersection.Intersection.{Intersection}
 use Rattle.fts_cursor.specs.declared.tree.Node.{Node}
-use Rattle.fts_cursor.specs.declared.tree.Node.TheVariants.{Nothing, Scan, Listed, Postings, Terms, Phrase, And, Or, Without}
+use Rattle.fts_cursor.specs.declared.tree.Node.TheVariants.{Nothing, Scan, Listed, Postings, Terms, Phrase, And, Or}
+use Rattle.fts_cursor.specs.declared.tree.Node.TheVariants.{Without}
 use Rattle.fts_postings.specs.declared.window.Window.{Window}
 
 -- the documents of a window
 abbrev pub found : Window → List ℕ
-found window = marked window.from window.last window.marks
+found window = found_in window.base window.from window.last window.words
 
 -- each of the lists begins behind the window
 abbrev pub AreBeyond : Window → List (List ℕ) → Type 0

@@ -63,12 +63,8 @@ fn write_within(column: &Column, low: u64, high: u64, from: usize, out: &mut [u3
     ensures written { take result out.new
         ≡ passing (has_within low high column.now) from (min 128 (length column.now - from)) }
 {
-    let mut values = [0; 128];
-    column.values(from, &mut values);
-    let present = column.present();
-    let (front, back) = values.split_at(64);
-    let first = marks::within(front, low, high) & present.word(from / 64);
-    let second = marks::within(back, low, high) & present.word(from / 64 + 1);
+    let first = column.marks_within(from, low, high);
+    let second = column.marks_within(from + 64, low, high);
     let count = marks::write(first, from, out, 0);
     marks::write(second, from + 64, out, count)
 }

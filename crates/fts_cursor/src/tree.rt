@@ -8,7 +8,7 @@ ghost use Rattle.fts_postings.specs.Posting.{blocks_reached, remaining_of};
 ghost use Rattle.fts_postings.specs.Remaining.{at_least};
 ghost use Rattle.fts_cursor.specs.Standing.{Walked, at_most};
 ghost use Rattle.fts_cursor.specs.TreeValues.{TreeContinues, TreeValue, all_most, all_openings, remains};
-ghost use Rattle.fts_cursor.specs.Trees.{IsNow, StandsAt, found, tree_value};
+ghost use Rattle.fts_cursor.specs.Trees.{IsNow, StandsAt, tree_value};
 
 mod buffered_union;
 mod exclusion;
@@ -17,7 +17,7 @@ mod intersection;
 use crate::listed::ListedCursor;
 use crate::phrase::PhraseCursor;
 use crate::scan::ScanCursor;
-use buffered_union::{BufferedUnion, gather, refill};
+use buffered_union::{BufferedUnion, fill_gathered, gather, refill};
 use exclusion::{Exclusion, settle};
 use fts_pack::ListSource;
 use fts_postings::{Conjunction, DocSet, PostingCursor, Window};
@@ -158,7 +158,7 @@ impl<'a> Tree<'a> {
     pub(crate) fn or(parts: Vec<Tree<'a>>) -> Tree<'a>
         ensures { result.remaining ≡ union (remains parts.entry.items) }
     {
-        let window = Window::at(0, 0);
+        let window = Window::new();
         let mut buffered = BufferedUnion { parts, window };
         let doc = refill(&mut buffered, 0);
         Tree {
@@ -436,9 +436,8 @@ fn fill(node: &mut Node, doc: Option<u32>, out: &mut [u32; 128]) -> (usize, Opti
             let count = phrase.fill(out);
             (count, phrase.doc())
         }
-        Node::Nothing | Node::And(_) | Node::Or(_) | Node::Without(_) => {
-            fill_by_steps(node, doc, out)
-        }
+        Node::Or(buffered) => fill_gathered(buffered, doc, out),
+        Node::Nothing | Node::And(_) | Node::Without(_) => fill_by_steps(node, doc, out),
     }
 }
 

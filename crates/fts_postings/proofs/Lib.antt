@@ -8,3 +8,5 @@ pub mod ConjoinedLemmas
 pub mod UnionLemmas
 pub mod WindowLemmas
 pub mod MarksLemmas
+mod TakingLemmas
+mod PlacesLemmas

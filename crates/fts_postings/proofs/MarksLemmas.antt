@@ -1,13 +1,9 @@
--- Documents as the bits of a word: which numbers lie within bounds, and what is left once the lowest bit is gone.
+-- Documents as the bits of a word: what is left once the lowest bit is gone.
 use Rattle.std.proofs.Common.{◌≡◌, ℕ, zero, suc, ◌+◌, ◌-◌, ◌/◌, ◌%◌, ◌^◌, ◌<◌, ◌≤◌, Bool, true, false, cond, ◌==◌, ◌&&◌, nat_le, List, [], ◌∷◌, ◌++◌, length, take, set, drop, get_or, map, refl, sym, ap, ◌∙◌, inl, inr, arith}
 use Rattle.std.specs.Int.{bit_at, w64, trailing_zeros}
 use Rattle.std.specs.Int.RustNames.{bit_and}
 use Rattle.std.proofs.lemmas.Bool.{cases_Bool, cases_lt}
 use Rattle.std.proofs.lemmas.List.{append_assoc, get_or-map, length-map, take_all, take_more_set}
-use Rattle.std.proofs.lemmas.Simd.{bit_mask_l, bitmask_splat, map-map, zip2_splat}
-use lib.Lanes.{mask_l, top, zip2}
-use lib.Dec.{leb}
-use lib.ListN.{replicate}
 use Rattle.std.proofs.lemmas.Nat.Bits.{bit_at_and, bit_at_lowest, bit_at-suc, bit_at-trailing_zeros, bit_at-lt}
 use Rattle.fts_postings.specs.Windows.{is_marked, marked, passing}
 use Rattle.fts_postings.proofs.WindowLemmas.{marked-nothing, passing-at, passing-next}
@@ -104,31 +100,3 @@ lowest_written out count from last marks some fits long room =
     let left = marked from last (bit_and marks (marks - 1)) in
     ap (λ xs. xs ++ left) (take_more_set out count x room) ∙ append_assoc (take count out) (x ∷ []) left
     ∙ ap (λ xs. take count out ++ xs) (sym (marked-lowest from last marks some fits long))
-
--- how far each number is above a least one, wrapping
-abbrev above_by : ℕ → ℕ → ℕ
-above_by x low = (x + (2 ^ 64 - low)) % 2 ^ 64
-
-pub marks-are : (numbers : List ℕ) (low span : ℕ) → length numbers ≡ 64 →
-    mask_l (map (top 63) (zip2 (λ a b. cond (leb a b) (2 ^ 64 - 1) 0) (zip2 above_by (take 64 numbers) (replicate 64 low)) (replicate 64 span))) % 2 ^ 64 ≡ mask_l (map (λ x. leb (above_by x low) span) numbers)
-marks-are numbers low span long =
-    let all : take 64 numbers ≡ numbers = take_all 64 numbers (omega (arith, long)) in
-    let size : length (map (λ x. above_by x low) numbers) ≡ 64 = length-map numbers (λ x. above_by x low) ∙ long in
-    ap (λ xs. mask_l (map (top 63) (zip2 (λ a b. cond (leb a b) (2 ^ 64 - 1) 0) xs (replicate 64 span))) % 2 ^ 64) (ap (λ xs. zip2 above_by xs (replicate 64 low)) all ∙ zip2_splat above_by numbers 64 low long)
-    ∙ bitmask_splat w64 leb (map (λ x. above_by x low) numbers) 64 span size (omega arith)
-    ∙ ap mask_l (map-map (λ x. leb x span) (λ x. above_by x low) numbers)
-
--- one comparison tells of both bounds
-one_comparison : (x low high : ℕ) → low ≤ high → high < 2 ^ 64 → x < 2 ^ 64 → leb (above_by x low) (high - low) ≡ (nat_le low x && nat_le x high)
-one_comparison x low high order fits small = grind arith
-
-pub marked_one : (b : Bool) → (cond b 1 0 == 1) ≡ b
-marked_one true = refl
-marked_one false = refl
-
-pub marks-within : (numbers : List ℕ) (low high : ℕ) → length numbers ≡ 64 → low ≤ high → high < 2 ^ 64 → ((k : ℕ) → get_or numbers k 0 < 2 ^ 64) → (k : ℕ) → k < 64 → (bit_at (mask_l (map (λ x. leb (above_by x low) (high - low)) numbers)) k == 1) ≡ (nat_le low (get_or numbers k 0) && nat_le (get_or numbers k 0) high)
-marks-within numbers low high long order fits small k lt =
-    let test = λ (x : ℕ). leb (above_by x low) (high - low) in
-    ap (λ n. n == 1) (bit_mask_l (map test numbers) k) ∙ marked_one (get_or (map test numbers) k false)
-    ∙ get_or-map test numbers k 0 false (omega (arith, long, lt))
-    ∙ one_comparison (get_or numbers k 0) low high order fits (small k)

@@ -1,15 +1,17 @@
 -- Documents as bits: one more, the first of them, and those from a target on.
-use Rattle.std.proofs.Common.{◌≡◌, ◌≢◌, ℕ, zero, suc, ◌+◌, ◌-◌, ◌^◌, ◌<◌, ◌≤◌, Bool, true, false, cond, ◌==◌, Some, [], ◌∷◌, drop, refl, sym, ap, ap₂, subst, ◌∙◌, inl, inr, arith}
+use Rattle.std.proofs.Common.{◌≡◌, ◌≢◌, ℕ, zero, suc, ◌+◌, ◌-◌, ◌*◌, ◌/◌, ◌%◌, ◌^◌, ◌<◌, ◌≤◌, Bool, true, false, cond, ◌==◌, ◌&&◌, nat_le, max, List, Some, [], ◌∷◌, ◌++◌, drop, get_or, length, replicate, set, refl, sym, ap, ap₂, subst, ◌∙◌, inl, inr, arith}
 use Rattle.std.specs.List.{slice_get}
-use Rattle.std.specs.Int.{bit_at, w128, trailing_zeros}
-use Rattle.std.proofs.lemmas.Bool.{cases_Bool, cases_lt}
-use Rattle.std.specs.Int.RustNames.{bit_and}
-use Rattle.std.proofs.lemmas.Nat.Bits.{bit_at_and, bit_at-zero, bit_at-trailing_zeros}
+use Rattle.std.specs.Int.{bit_at, w64, trailing_zeros}
+use Rattle.std.proofs.lemmas.Bool.{cases_Bool, cases_eq, cases_lt, le-leb, lt-leb}
+use Rattle.std.proofs.lemmas.List.{get_or-replicate, get_or-set_other, get_or-set_same, get_or_past, length-replicate}
+use Rattle.std.specs.Int.RustNames.{bit_and, bit_or}
+use Rattle.std.proofs.lemmas.Nat.Bits.{bit_at_and, bit_at-lt, bit_at-zero, bit_at-trailing_zeros, bit_at_mask_below, bit_at_mask_inside, bit_at_set_other, bit_at_set_same}
 use Rattle.fts_pack.specs.Documents.{Rises}
 use Rattle.fts_postings.specs.Meeting.{with_one}
 use Rattle.fts_postings.specs.Remaining.{at_least}
-use Rattle.fts_postings.specs.Windows.{is_marked, marked, passing}
-use Rattle.fts_postings.proofs.PassingLemmas.{Rises-passing}
+use Rattle.fts_postings.specs.declared.window.Window.{Window}
+use Rattle.fts_postings.specs.Windows.{found_in, is_found, is_marked, marked, passing}
+use Rattle.fts_postings.proofs.PassingLemmas.{Rises-passing, passing-append}
 use Rattle.fts_postings.proofs.UnionLemmas.{above, leaves, same, stays, with_one-front}
 
 -- tests that agree on a range pass the same
@@ -101,66 +103,165 @@ unset n k is = ap (λ b. b == 1) is
 is_set : (n k : ℕ) → bit_at n k ≡ 1 → (bit_at n k == 1) ≡ true
 is_set n k is = ap (λ b. b == 1) is
 
--- a mask sets no bit
-pub and_unset : (n mask k : ℕ) → bit_at n k ≡ 0 → bit_at (bit_and n mask) k ≡ 0
-and_unset n mask k is = omega (arith, bit_at_and n mask k, is)
-
-nothing : (p : ℕ → Bool) (a n : ℕ) → ((d : ℕ) → p d ≡ false) → passing p a n ≡ []
+pub nothing : (p : ℕ → Bool) (a n : ℕ) → ((d : ℕ) → a ≤ d → d < a + n → p d ≡ false) → passing p a n ≡ []
 nothing p a zero none = refl
-nothing p a (suc n) none = ap₂ (λ b ys. cond b (a ∷ ys) ys) (none a) (nothing p (a + 1) n none)
+nothing p a (suc n) none = ap₂ (λ b ys. cond b (a ∷ ys) ys) (none a (omega arith) (omega arith)) (nothing p (a + 1) n (λ d up down. none d (omega (arith, up)) (omega (arith, down))))
 
 pub marked-nothing : (from last : ℕ) → marked from last 0 ≡ []
-marked-nothing from last = nothing (is_marked from 0) from (suc last - from) (λ d. unset 0 (d - from) (bit_at-zero (d - from)))
+marked-nothing from last = nothing (is_marked from 0) from (suc last - from) (λ d up down. unset 0 (d - from) (bit_at-zero (d - from)))
 
-module _ (from last marks : ℕ) (order : from ≤ last) where
-  span : (d : ℕ) → d ≤ last → d < from + (suc last - from)
-  span d h = omega (arith, h, order)
+-- no place has a mark where the words are 0
+pub found-nothing : (base from last : ℕ) (words : List ℕ) → base ≤ from → ((k : ℕ) → k ≤ (last - base) / 64 → get_or words k 0 ≡ 0) → found_in base from last words ≡ []
+found-nothing base from last words order clear =
+    nothing (is_found base words) from (suc last - from)
+    (λ d up down. ap (λ n. bit_at n ((d - base) % 64) == 1) (clear ((d - base) / 64) (omega (arith, down, order, up))) ∙ unset 0 ((d - base) % 64) (bit_at-zero ((d - base) % 64)))
 
-  span_back : (d : ℕ) → d < from + (suc last - from) → d ≤ last
-  span_back d h = omega (arith, h, order)
+-- one more is marked
+pub found-mark : (base from last doc : ℕ) (words later : List ℕ) → base ≤ from → from ≤ doc → doc ≤ last → bit_at (get_or later ((doc - base) / 64) 0) ((doc - base) % 64) ≡ 1 →
+    ((d : ℕ) → base ≤ d → d ≢ doc → is_found base later d ≡ is_found base words d) → found_in base from last later ≡ with_one doc (found_in base from last words)
+found-mark base from last doc words later order low high now others =
+    passing-mark (is_found base later) (is_found base words) from (suc last - from) doc low (omega (arith, high, low)) (is_set (get_or later ((doc - base) / 64) 0) ((doc - base) % 64) now)
+    (λ d up down other. others d (omega (arith, up, order)) other)
 
-  pub marked-mark : (doc later : ℕ) → from ≤ doc → doc ≤ last → bit_at later (doc - from) ≡ 1 → ((k : ℕ) → k ≢ doc - from → bit_at later k ≡ bit_at marks k) → marked from last later ≡ with_one doc (marked from last marks)
-  marked-mark doc later low high now others =
-      passing-mark (is_marked from later) (is_marked from marks) from (suc last - from) doc low (span doc high) (is_set later (doc - from) now)
-      (λ d up down other. ap (λ b. b == 1) (others (d - from) (λ e. other (omega (arith, e, up, low)))))
+-- what has no mark is left behind
+pub found-ahead : (base from to last : ℕ) (words : List ℕ) → from ≤ to → ((d : ℕ) → from ≤ d → d < to → is_found base words d ≡ false) → found_in base from last words ≡ found_in base to last words
+found-ahead base from to last words up none = elim (cases_lt last to) [
+  | inl past ↦
+      let zero_left : suc last - to ≡ 0 = omega (arith, past) in
+      nothing (is_found base words) from (suc last - from) (λ d high low. none d high (omega (arith, low, past, high)))
+      ∙ sym (ap (passing (is_found base words) to) zero_left)
+  | inr within ↦
+      let e : suc last - from ≡ (to - from) + (suc last - to) = omega (arith, up, within) in
+      let f : from + (to - from) ≡ to = omega (arith, up) in
+      ap (passing (is_found base words) from) e
+      ∙ passing-ahead (is_found base words) from (to - from) (suc last - to) (λ d high low. none d high (omega (arith, low, f)))
+      ∙ ap (λ a. passing (is_found base words) a (suc last - to)) f
+]
 
-  pub marked-at_least : (target later : ℕ) → ((k : ℕ) → from + k < target → bit_at later k ≡ 0) → ((k : ℕ) → target ≤ from + k → from + k ≤ last → bit_at later k ≡ bit_at marks k) → marked from last later ≡ at_least target (marked from last marks)
-  marked-at_least target later gone rest =
-      passing-at_least (is_marked from marks) (is_marked from later) from (suc last - from) target
-      (λ d up down low. unset later (d - from) (gone (d - from) (omega (arith, up, low))))
-      (λ d up down high. ap (λ b. b == 1) (rest (d - from) (omega (arith, up, high)) (omega (arith, up, down, order))))
+-- the first that is marked, and what follows it
+pub found-first : (base doc last : ℕ) (words : List ℕ) → doc ≤ last → is_found base words doc ≡ true → found_in base doc last words ≡ doc ∷ found_in base (doc + 1) last words
+found-first base doc last words within here =
+    let n = suc last - (doc + 1) in
+    let e : suc last - doc ≡ suc n = omega (arith, within) in
+    ap (passing (is_found base words) doc) e ∙ ap (λ b. cond b (doc ∷ passing (is_found base words) (doc + 1) n) (passing (is_found base words) (doc + 1) n)) here
 
-  -- the lowest bit
-  module _ (some : 0 < marks) (fits : marks < 2 ^ 128) (inside : (k : ℕ) → last - from < k → bit_at marks k ≡ 0) where
+-- behind the last there is nothing
+pub found-past : (base from last : ℕ) (words : List ℕ) → last < from → found_in base from last words ≡ []
+found-past base from last words past = let none : suc last - from ≡ 0 = omega (arith, past) in ap (passing (is_found base words) from) none
+
+-- those from a target on
+pub found-at_least : (base from target last : ℕ) (words : List ℕ) → found_in base (max from target) last words ≡ at_least target (found_in base from last words)
+found-at_least base from target last words =
+    let test : ℕ → Bool = λ d. nat_le target d && is_found base words d in
+    let to = max from target in
+    sym (sym (passing-at_least (is_found base words) test from (suc last - from) target
+    (λ d up down low. ap (λ b. b && is_found base words d) (lt-leb target d low))
+    (λ d up down high. ap (λ b. b && is_found base words d) (le-leb target d high)))
+    ∙ elim (cases_lt last to) [
+      | inl past ↦
+          nothing test from (suc last - from) (λ d up down. ap (λ b. b && is_found base words d) (lt-leb target d (omega (arith, past, down, up))))
+          ∙ sym (found-past base to last words past)
+      | inr within ↦
+          let e : suc last - from ≡ (to - from) + (suc last - to) = omega (arith, within) in
+          let f : from + (to - from) ≡ to = omega arith in
+          ap (passing test from) e
+          ∙ passing-ahead test from (to - from) (suc last - to) (λ d high low. ap (λ b. b && is_found base words d) (lt-leb target d (omega (arith, low, high))))
+          ∙ ap (λ a. passing test a (suc last - to)) f
+          ∙ passing-same test (is_found base words) to (suc last - to) (λ d high low. ap (λ b. b && is_found base words d) (le-leb target d (omega (arith, high))))
+    ])
+
+-- the marks of a word from a place on
+module _ (words : List ℕ) (base from : ℕ) (order : base ≤ from) (marks : ℕ) (is : marks ≡ bit_and (get_or words ((from - base) / 64) 0) (2 ^ 64 - 2 ^ ((from - base) % 64))) where
+  abbrev at : ℕ
+  at = (from - base) % 64
+
+  abbrev word : ℕ
+  word = get_or words ((from - base) / 64) 0
+
+  below : (k : ℕ) → k < at → bit_at marks k ≡ 0
+  below k low = ap (λ n. bit_at n k) is ∙ omega (arith, bit_at_and word (2 ^ 64 - 2 ^ at) k, bit_at_mask_below at 64 k low)
+
+  inside : (k : ℕ) → at ≤ k → k < 64 → bit_at marks k ≡ bit_at word k
+  inside k up down = ap (λ n. bit_at n k) is ∙ omega (arith, bit_at_and word (2 ^ 64 - 2 ^ at) k, bit_at_mask_inside at 64 k up down, bit_at-lt word k)
+
+  found_at : (k d : ℕ) → at ≤ k → k < 64 → d ≡ from - at + k → is_found base words d ≡ (bit_at marks k == 1)
+  found_at k d up down same =
+      let high : (d - base) / 64 ≡ (from - base) / 64 = omega (arith, same, order, up, down) in
+      let low : (d - base) % 64 ≡ k = omega (arith, same, order, up, down) in
+      ap₂ (λ i j. bit_at (get_or words i 0) j == 1) high low ∙ ap (λ n. n == 1) (sym (inside k up down))
+
+  pub none_here : marks ≡ 0 → (d : ℕ) → from ≤ d → d < from - at + 64 → is_found base words d ≡ false
+  none_here zero_marks d up down =
+      let k = d - (from - at) in
+      found_at k d (omega (arith, up)) (omega (arith, down, up)) (omega (arith, up)) ∙ ap (λ n. bit_at n k == 1) zero_marks ∙ unset 0 k (bit_at-zero k)
+
+  -- what it marks, and what the words behind it do
+  pub word_split : (last : ℕ) → from - at + 63 ≤ last → found_in base from last words ≡ marked (from - at) (from - at + 63) marks ++ found_in base (from - at + 64) last words
+  word_split last long =
+      let start = from - at in
+      let n = 64 - at in
+      let more = suc last - (start + 64) in
+      let test = is_found base words in
+      let all : suc last - from ≡ n + more = omega (arith, order, long) in
+      let next : from + n ≡ start + 64 = omega (arith, order) in
+      let begin : start + at ≡ from = omega (arith, order) in
+      let whole : suc (start + 63) - start ≡ at + n = omega arith in
+      let here : passing test from n ≡ marked start (start + 63) marks =
+      passing-same test (is_marked start marks) from n (λ d up down. found_at (d - start) d (omega (arith, up, order)) (omega (arith, down, order, up)) (omega (arith, up, order)))
+      ∙ sym (ap (passing (is_marked start marks) start) whole
+      ∙ passing-ahead (is_marked start marks) start at n (λ d up down. unset marks (d - start) (below (d - start) (omega (arith, down, up))))
+      ∙ ap (λ a. passing (is_marked start marks) a n) begin) in
+      ap (passing test from) all ∙ passing-append test from n more ∙ ap₂ (λ xs a. xs ++ passing test a more) here next
+
+  module _ (some : 0 < marks) (fits : marks < 2 ^ 64) where
     abbrev lowest : ℕ
-    lowest = trailing_zeros w128 marks
+    lowest = trailing_zeros w64 marks
 
-    abbrev place : (lowest < 128) × (bit_at marks lowest ≡ 1) × ((i : ℕ) → i < lowest → bit_at marks i ≡ 0)
-    place = bit_at-trailing_zeros w128 marks some fits
+    abbrev place : (lowest < 64) × (bit_at marks lowest ≡ 1) × ((i : ℕ) → i < lowest → bit_at marks i ≡ 0)
+    place = bit_at-trailing_zeros w64 marks some fits
 
-    pub lowest_within : from + lowest ≤ last
-    lowest_within = elim (cases_lt (last - from) lowest) [
-      | inl past ↦ absurd (let e : 1 ≡ 0 = sym place.1 ∙ inside lowest past in omega (arith, e))
-      | inr within ↦ omega (arith, within, order)
+    pub lowest_from : at ≤ lowest
+    lowest_from = elim (cases_lt lowest at) [
+      | inl low ↦ absurd (let e : 1 ≡ 0 = sym place.1 ∙ below lowest low in omega (arith, e))
+      | inr up ↦ up
     ]
 
-    behind : (d : ℕ) → from ≤ d → d < from + lowest → is_marked from marks d ≡ false
-    behind d up low = unset marks (d - from) (place.2 (d - from) (omega (arith, up, low)))
+    pub lowest_is : is_found base words (from - at + lowest) ≡ true
+    lowest_is = found_at lowest (from - at + lowest) lowest_from place.0 refl ∙ is_set marks lowest place.1
 
-    here : is_marked from marks (from + lowest) ≡ true
-    here = let e : from + lowest - from ≡ lowest = omega arith in ap (λ k. bit_at marks k == 1) e ∙ is_set marks lowest place.1
+    pub none_before : (d : ℕ) → from ≤ d → d < from - at + lowest → is_found base words d ≡ false
+    none_before d up down =
+        let k = d - (from - at) in
+        let low : k < lowest = omega (arith, up, down) in
+        found_at k d (omega (arith, up)) (omega (arith, low, place.0)) (omega (arith, up)) ∙ unset marks k (place.2 k low)
 
-    room : lowest < suc last - from
-    room = omega (arith, lowest_within, order)
+pub none_replicated : (n k : ℕ) → get_or (replicate {A = ℕ} n 0) k 0 ≡ 0
+none_replicated n k = elim (cases_lt k n) [
+  | inl within ↦ get_or-replicate n k 0 0 within
+  | inr past ↦ get_or_past (replicate {A = ℕ} n 0) k 0 (omega (arith, past, length-replicate {A = ℕ} n 0))
+]
 
-    pub marked-first : Some (from + lowest) ≡ slice_get (marked from last marks) 0
-    marked-first = ap (λ xs. slice_get xs 0) (sym (passing-at (is_marked from marks) from lowest (suc last - from) room behind here))
+-- the documents of a window
+abbrev pub found : Window → List ℕ
+found w = found_in w.base w.from w.last w.words
 
-    pub marked-next : (later : ℕ) → ((k : ℕ) → k < lowest → bit_at later k ≡ 0) → bit_at later lowest ≡ 0 → ((k : ℕ) → k < 128 → lowest < k → bit_at later k ≡ bit_at marks k) → last ≤ from + 127 → marked from last later ≡ drop 1 (marked from last marks)
-    marked-next later gone at rest few =
-        passing-next (is_marked from marks) (is_marked from later) from lowest (suc last - from) room behind here
-        (λ d up down. elim (cases_lt (d - from) lowest) [
-          | inl low ↦ unset later (d - from) (gone (d - from) low)
-          | inr high ↦ let e : d - from ≡ lowest = omega (arith, up, down, high) in ap (λ k. bit_at later k == 1) e ∙ unset later lowest at
-        ])
-        (λ d up down. ap (λ b. b == 1) (rest (d - from) (omega (arith, up, down, few, order)) (omega (arith, up))))
+-- the bit of a document is set, and the others stay
+pub found-set : (base from last doc : ℕ) (words : List ℕ) → base ≤ from → from ≤ doc → doc ≤ last → (doc - base) / 64 < length words →
+    found_in base from last (set words ((doc - base) / 64) (bit_or (get_or words ((doc - base) / 64) 0) (1 * 2 ^ ((doc - base) % 64) % 2 ^ 64))) ≡ with_one doc (found_in base from last words)
+found-set base from last doc words order low high room =
+    let i = (doc - base) / 64 in
+    let j = (doc - base) % 64 in
+    let word = get_or words i 0 in
+    let new = bit_or word (1 * 2 ^ j % 2 ^ 64) in
+    let small : j < 64 = omega arith in
+    let here : get_or (set words i new) i 0 ≡ new = get_or-set_same words i new 0 room in
+    found-mark base from last doc words (set words i new) order low high
+    (ap (λ n. bit_at n j) here ∙ bit_at_set_same w64 word j small)
+    (λ d up other. elim (cases_eq ((d - base) / 64) i) [
+      | inl same ↦
+          let differ : (d - base) % 64 ≢ j = λ e. other (omega (arith, e, same, up, order, low)) in
+          ap (λ k. bit_at (get_or (set words i new) k 0) ((d - base) % 64) == 1) same ∙ ap (λ n. bit_at n ((d - base) % 64) == 1) here
+          ∙ ap (λ n. n == 1) (bit_at_set_other w64 word j small ((d - base) % 64) differ)
+          ∙ ap (λ k. bit_at (get_or words k 0) ((d - base) % 64) == 1) (sym same)
+      | inr apart ↦ ap (λ n. bit_at n ((d - base) % 64) == 1) (get_or-set_other words i ((d - base) / 64) new 0 apart)
+    ])

@@ -1,5 +1,5 @@
 -- Documents as bits, from a number on.
-use Rattle.std.specs.Prelude.{ℕ, suc, ◌-◌, ◌==◌, Bool, List, filter}
+use Rattle.std.specs.Prelude.{ℕ, suc, ◌-◌, ◌/◌, ◌%◌, ◌==◌, Bool, List, filter, slice_index_or}
 use Rattle.std.specs.Int.{bit_at}
 use Rattle.std.specs.List.{range_with_len}
 
@@ -14,3 +14,11 @@ is_marked from marks d = bit_at marks (d - from) == 1
 -- the documents of from..=last whose bits are set
 abbrev pub marked : ℕ → ℕ → ℕ → List ℕ
 marked from last marks = passing (is_marked from marks) from (suc last - from)
+
+-- whether a document's bit is set, where 64 of them lie in a word
+abbrev pub is_found : ℕ → List ℕ → ℕ → Bool
+is_found base words d = bit_at (slice_index_or words ((d - base) / 64) 0) ((d - base) % 64) == 1
+
+-- the documents of from..=last whose bits are set
+abbrev pub found_in : ℕ → ℕ → ℕ → List ℕ → List ℕ
+found_in base from last words = passing (is_found base words) from (suc last - from)

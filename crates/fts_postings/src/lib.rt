@@ -8,7 +8,7 @@
 //! needn't read. A [`Conjunction`] lets one such cursor lead and seeks its documents alone in the others. Both count
 //! the blocks they open, and contracts bound the count. Beside them stand what cursors of any kind are made with:
 //! [`stretch`], the documents that lie open in an array, [`marks`], 64 documents as the bits of a word, and a
-//! [`Window`] of 128.
+//! [`Window`] of 4,096.
 //!
 //! Nothing here knows of segments or queries: lists are blocks of rising numbers.
 //!

@@ -1,30 +1,13 @@
 // 64 documents as the bits of a word, the first of them the lowest.
-ghost use Rattle.std.specs.Prelude.{◌≡◌, ℕ, ◌+◌, ◌<◌, ◌≤◌, ◌^◌, ◌&&◌, ◌==◌, ◌++◌, nat_le, length, slice_index, take};
+ghost use Rattle.std.specs.Prelude.{◌≡◌, ℕ, ◌+◌, ◌<◌, ◌≤◌, ◌^◌, ◌++◌, length, take};
 ghost use Rattle.std.specs.Int.{bit_at};
 ghost use Rattle.fts_postings.specs.Windows.{marked};
-
-use std::simd::prelude::*;
-
-/// Marks those of 64 numbers that are `low` or more and `high` or less.
-#[inline]
-pub fn within(numbers: &[u64], low: u64, high: u64) -> u64
-    requires { length numbers.now ≡ 64 }
-    ensures { (k : ℕ) → k < 64 → (bit_at result k == 1)
-        ≡ (nat_le low (slice_index numbers.now k) && nat_le (slice_index numbers.now k) high) }
-{
-    if high < low {
-        return 0;
-    }
-    // What is below `low` wraps, so one comparison tells of both bounds.
-    let above = u64x64::from_slice(numbers) - u64x64::splat(low);
-    above.simd_le(u64x64::splat(high - low)).to_bitmask()
-}
 
 /// Writes the documents from `from` on that are marked behind the first `count` of `out`, and gives how many are there
 /// then.
 #[inline]
 pub fn write(marks: u64, from: usize, out: &mut [u32; 128], count: usize) -> usize
-    requires room { count ≤ 64 }
+    requires room { count + length (marked from (from + 63) marks) ≤ 128 }
     requires few { (k : ℕ) → bit_at marks k ≡ 1 → from + k < 2 ^ 32 }
     ensures count { result ≡ count + length (marked from (from + 63) marks) }
     ensures written { take result out.new

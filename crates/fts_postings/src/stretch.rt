@@ -2,6 +2,8 @@
 ghost use Rattle.std.specs.Prelude.{◌≡◌, ◌+◌, ◌≤◌, ◌++◌, drop, length, slice_index, take};
 ghost use Rattle.fts_postings.specs.Remaining.{IsPlaceOf};
 
+use std::simd::prelude::*;
+
 /// Copies so many numbers from one place on to another.
 pub fn copy_part(numbers: &[u32; 128], from: usize, count: usize, out: &mut [u32; 128], to: usize)
     requires read { from + count ≤ 128 }
@@ -11,23 +13,23 @@ pub fn copy_part(numbers: &[u32; 128], from: usize, count: usize, out: &mut [u32
     out[to..to + count].copy_from_slice(&numbers[from..from + count]);
 }
 
-/// The first place of those in `from..to` that has the target or more: `to` where there is none. Looks at the nearest
-/// first, then at ever farther ones, and halves what is left between: what is sought is mostly near.
+/// The first place of those in `from..to` that has the target or more: `to` where there is none. Looks at the nearest 16
+/// at once, since what is sought is mostly near, and halves what is left behind them.
 #[inline]
 pub fn place_of(numbers: &[u32], from: usize, to: usize, target: u32) -> usize
     requires order { from ≤ to }
     requires within { to ≤ length numbers.now }
     ensures { IsPlaceOf (slice_index numbers.now) from to target result }
 {
-    let mut low = from;
-    while low - from < to - low {
-        let place = low + (low - from);
-        if numbers[place] >= target {
-            return place_between(numbers, low, place, target);
-        }
-        low = place + 1;
+    if to - from < 16 {
+        return place_between(numbers, from, to, target);
     }
-    place_between(numbers, low, to, target)
+    let near = u32x16::from_slice(&numbers[from..]);
+    let reached = near.simd_ge(u32x16::splat(target)).to_bitmask();
+    if reached == 0 {
+        return place_between(numbers, from + 16, to, target);
+    }
+    from + reached.trailing_zeros() as usize
 }
 
 // The same, by halving.

@@ -1,36 +1,55 @@
-// The documents found among the next 128, as bits.
-ghost use Rattle.std.specs.Prelude.{◌≡◌, ℕ, ◌-◌, ◌<◌, ◌≤◌, ◌+◌, [], MatchBool, drop, length, slice_get};
-ghost use Rattle.std.specs.Int.{bit_at};
+// The documents found among the next 4,096, as bits.
+ghost use Rattle.std.specs.Prelude.{◌≡◌, ◌+◌, ◌^◌, ◌<◌, ◌≤◌, ◌∷◌, [], IfSome, MatchBool, drop, false, length, slice_get, true};
 ghost use Rattle.fts_postings.specs.Meeting.{with_one};
 ghost use Rattle.fts_postings.specs.Remaining.{at_least};
-ghost use Rattle.fts_postings.specs.Windows.{marked};
+ghost use Rattle.fts_postings.specs.Fills.{IsStretch};
+ghost use Rattle.fts_postings.specs.Windows.{found_in, is_found};
 
-/// The documents marked among those of `from..=last`, of which there are 128 at most.
-#[derive(Clone, Copy)]
+use crate::marks;
+
+/// The documents marked among those of `from..=last`, of which there are 4,096 at most.
+#[derive(Drop)]
 pub struct Window {
-    /// The first document that has a place.
-    pub from: u32,
-    /// The last.
+    /// The document of the first bit.
+    pub base: u32,
+    /// What lies before it was left behind.
+    pub from: u64,
+    /// The last document that has a place.
     pub last: u32,
-    /// A bit for each document from the first on, the lowest for that.
-    pub marks: u128,
-    pub ghost order: { from ≤ last },
-    pub ghost few: { last ≤ from + 127 },
-    pub ghost inside: { (k : ℕ) → last - from < k → bit_at marks k ≡ 0 },
+    /// A bit for each document from `base` on, 64 in a word, the lowest for the first of them.
+    pub words: [u64; 64],
+    pub ghost order: { base ≤ from },
+    pub ghost few: { last ≤ base + 4095 },
+    pub ghost fits: { last < 2 ^ 32 },
 }
 
 impl Window {
-    /// With nothing marked, for a document and so many after it.
-    pub fn at(doc: u32, reach: u32) -> Window
-        requires { reach ≤ 127 }
-        ensures from { result.from ≡ doc }
-        ensures nothing { marked result.from result.last result.marks ≡ [] }
+    /// With nothing marked.
+    pub fn new() -> Window
+        ensures { found_in result.base result.from result.last result.words ≡ [] }
     {
         Window {
-            from: doc,
-            last: doc.saturating_add(reach),
-            marks: 0,
+            base: 0,
+            from: 0,
+            last: 0,
+            words: [0; 64],
         }
+    }
+
+    /// Begins anew with nothing marked, for a document and so many after it.
+    pub fn begin(&mut self, doc: u32, reach: u32)
+        requires { reach ≤ 4095 }
+        ensures from { self.new.from ≡ doc }
+        ensures last { doc ≤ self.new.last }
+        ensures nothing { found_in self.new.base self.new.from self.new.last self.new.words ≡ [] }
+    {
+        // What lies behind the last place may be anything.
+        for index in 0..(reach / 64 + 1) as usize {
+            self.words[index] = 0;
+        }
+        self.base = doc;
+        self.from = doc as u64;
+        self.last = doc.saturating_add(reach);
     }
 
     /// Whether it has a place for the document, which isn't below its first.
@@ -47,58 +66,123 @@ impl Window {
         requires low { self.old.from ≤ doc }
         requires high { doc ≤ self.old.last }
         ensures place { (self.new.from ≡ self.old.from) × (self.new.last ≡ self.old.last) }
-        ensures marked { marked self.new.from self.new.last self.new.marks
-            ≡ with_one doc (marked self.old.from self.old.last self.old.marks) }
+        ensures marked { found_in self.new.base self.new.from self.new.last self.new.words
+            ≡ with_one doc (found_in self.old.base self.old.from self.old.last self.old.words) }
     {
-        self.marks |= 1 << (doc - self.from);
+        let place = (doc - self.base) as usize;
+        self.words[place / 64] |= 1 << (place % 64);
     }
 
-    /// The first document that is marked.
+    /// The first document that is marked. Places without marks before it are left behind.
     #[inline]
-    pub fn first(&self) -> Option<u32>
-        ensures { result ≡ slice_get (marked self.now.from self.now.last self.now.marks) 0 }
+    pub fn first(&mut self) -> Option<u32>
+        ensures first { result ≡ slice_get (found_in self.old.base self.old.from self.old.last self.old.words) 0 }
+        ensures same { found_in self.new.base self.new.from self.new.last self.new.words
+            ≡ found_in self.old.base self.old.from self.old.last self.old.words }
+        ensures last { self.new.last ≡ self.old.last }
+        ensures stands { IfSome result (λ doc. (self.new.from ≡ doc)
+            × (found_in self.new.base self.new.from self.new.last self.new.words
+            ≡ doc ∷ found_in self.new.base (doc + 1) self.new.last self.new.words)) }
     {
-        if self.marks == 0 {
-            None
-        } else {
-            Some(self.from + self.marks.trailing_zeros())
+        while self.from <= self.last as u64 {
+            if self.pass_word() && self.from <= self.last as u64 {
+                return Some(self.from as u32);
+            }
         }
+        None
+    }
+
+    // Leaves behind what has no mark before the first mark of the word in which the first place lies, or all of that
+    // word where it has none. Whether it has one.
+    #[inline]
+    fn pass_word(&mut self) -> bool
+        requires { self.old.from ≤ self.old.last }
+        ensures same { found_in self.new.base self.new.from self.new.last self.new.words
+            ≡ found_in self.old.base self.old.from self.old.last self.old.words }
+        ensures last { self.new.last ≡ self.old.last }
+        ensures further { result ≡ false → self.old.from < self.new.from }
+        ensures marked { result ≡ true → is_found self.new.base self.new.words self.new.from ≡ true }
+    {
+        let place = (self.from - self.base as u64) as usize;
+        let start = self.from - (place % 64) as u64;
+        let marks = self.words[place / 64] & (u64::MAX << (place % 64));
+        if marks == 0 {
+            self.from = start + 64;
+            return false;
+        }
+        self.from = start + marks.trailing_zeros() as u64;
+        true
+    }
+
+    /// Writes the first documents that are marked behind the first `filled` of `out`, leaves them behind, and gives how
+    /// many they are: those of a whole word where there is room for them, and else one.
+    #[inline]
+    pub fn take_some(&mut self, out: &mut [u32; 128], filled: usize) -> usize
+        requires { filled < 128 }
+        ensures last { self.new.last ≡ self.old.last }
+        ensures taken { IsStretch
+            (found_in self.old.base self.old.from self.old.last self.old.words)
+            (found_in self.new.base self.new.from self.new.last self.new.words)
+            out.old out.new filled result }
+    {
+        let Some(doc) = self.first() else {
+            return 0;
+        };
+        let place = (self.from - self.base as u64) as usize;
+        let start = self.from - (place % 64) as u64;
+        let marks = self.words[place / 64] & (u64::MAX << (place % 64));
+        let count = marks.count_ones() as usize;
+        if filled + count > 128 || start + 63 > self.last as u64 {
+            out[filled] = doc;
+            self.from += 1;
+            return 1;
+        }
+        let _ = marks::write(marks, start as usize, out, filled);
+        self.from = start + 64;
+        count
     }
 
     /// Leaves the first document behind.
     #[inline]
     pub fn advance(&mut self)
-        ensures place { (self.new.from ≡ self.old.from) × (self.new.last ≡ self.old.last) }
-        ensures marked { marked self.new.from self.new.last self.new.marks
-            ≡ drop 1 (marked self.old.from self.old.last self.old.marks) }
+        ensures last { self.new.last ≡ self.old.last }
+        ensures marked { found_in self.new.base self.new.from self.new.last self.new.words
+            ≡ drop 1 (found_in self.old.base self.old.from self.old.last self.old.words) }
     {
-        if self.marks > 0 {
-            self.marks &= !(1 << self.marks.trailing_zeros());
+        if let Some(doc) = self.first() {
+            self.from = doc as u64 + 1;
         }
     }
 
     /// Leaves behind what lies before the target.
+    #[inline]
     pub fn seek(&mut self, target: u32)
-        ensures place { (self.new.from ≡ self.old.from) × (self.new.last ≡ self.old.last) }
-        ensures marked { marked self.new.from self.new.last self.new.marks
-            ≡ at_least target (marked self.old.from self.old.last self.old.marks) }
+        ensures last { self.new.last ≡ self.old.last }
+        ensures marked { found_in self.new.base self.new.from self.new.last self.new.words
+            ≡ at_least target (found_in self.old.base self.old.from self.old.last self.old.words) }
     {
-        if target > self.last {
-            self.marks = 0;
-        } else if target > self.from {
-            self.marks &= u128::MAX << (target - self.from);
-        }
+        self.from = self.from.max(target as u64);
     }
 
     /// At least as many as are marked.
     pub fn cost(&self) -> usize
-        ensures { length (marked self.now.from self.now.last self.now.marks) ≤ result }
+        ensures { length (found_in self.now.base self.now.from self.now.last self.now.words) ≤ result }
     {
-        (self.last - self.from) as usize + 1
+        (self.last as u64 + 1).saturating_sub(self.from) as usize
     }
 
-    /// Whether the document lies in it, or not far behind.
-    pub fn is_near(&self, doc: u32) -> bool {
-        doc <= self.last.saturating_add(128)
+    /// How far a window from the target on is to reach, once nothing is left of this one. After steps, whose target is
+    /// 0, it takes as much as it can, but for the first. A search that comes from far takes the one document that it
+    /// asks for, since the next may go as far again.
+    pub fn reach(&self, target: u32) -> u32
+        ensures { result ≤ 4095 }
+    {
+        if target > self.last.saturating_add(128) {
+            0
+        } else if target > 0 || self.last == 0 {
+            127
+        } else {
+            4095
+        }
     }
 }

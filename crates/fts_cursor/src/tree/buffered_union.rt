@@ -1,12 +1,13 @@
 // What one of several cursors has: the next documents of all are marked in a window, which steps read off.
-ghost use Rattle.std.specs.Prelude.{◌≡◌, ◌+◌, [], All, slice_get};
+ghost use Rattle.std.specs.Prelude.{◌≡◌, ◌+◌, [], All, drop, length, min, slice_get, take};
 ghost use Rattle.std.specs.List.{AllZip};
 ghost use Rattle.std.specs.List.Sorted.{IsStrictlyIncreasing};
 ghost use Rattle.fts_postings.specs.Meeting.{IsLeast, has, in_some, lesser_of, union};
 ghost use Rattle.fts_postings.specs.Posting.{Follows, remaining_of};
 ghost use Rattle.fts_postings.specs.Remaining.{at_least};
 ghost use Rattle.fts_cursor.specs.TreeValues.{Left, TreeContinues, remains};
-ghost use Rattle.fts_cursor.specs.Trees.{AreBeyond, AreMarked, IsNow, found, gathered, tree_value};
+ghost use Rattle.fts_cursor.specs.Standing.{Walked};
+ghost use Rattle.fts_cursor.specs.Trees.{AreBeyond, AreMarked, IsNow, StandsAt, found, gathered, tree_value};
 
 use crate::tree::{Node, Tree};
 use fts_pack::ListSource;
@@ -36,6 +37,32 @@ pub(crate) fn gather(buffered: &mut BufferedUnion, target: u32) -> Option<u32>
     refill(buffered, target)
 }
 
+/// Takes the next 128 of what stands at the document, and gives how many they are, and the next.
+pub(crate) fn fill_gathered(
+    buffered: &mut BufferedUnion,
+    doc: Option<u32>,
+    out: &mut [u32; 128],
+) -> (usize, Option<u32>)
+    requires { StandsAt doc (Node.Or buffered.old) }
+    ensures count { result.0 ≡ min 128 (length (gathered buffered.old)) }
+    ensures taken { take result.0 out.new ≡ take 128 (gathered buffered.old) }
+    ensures now { IsNow result.1 (Node.Or buffered.new) (drop 128 (gathered buffered.old)) }
+    ensures walked { Walked (tree_value (Node.Or buffered.old)).standing
+        (tree_value (Node.Or buffered.new)).standing }
+{
+    let mut filled = 0;
+    let mut next = doc;
+    while filled < 128 {
+        let Some(_first) = next else {
+            return (filled, None);
+        };
+        let count = buffered.window.take_some(out, filled);
+        filled += count;
+        next = gather(buffered, 0);
+    }
+    (128, next)
+}
+
 // Moves a window that has nothing left to the first document from the target on, and fills it.
 #[cycle(tree)]
 pub(crate) fn refill(buffered: &mut BufferedUnion, target: u32) -> Option<u32>
@@ -45,14 +72,9 @@ pub(crate) fn refill(buffered: &mut BufferedUnion, target: u32) -> Option<u32>
     ensures continues { TreeContinues (tree_value (Node.Or buffered.old))
         (tree_value (Node.Or buffered.new)) }
 {
-    // The next search after one that goes far may go as far again, so that takes the one document that it asks for.
-    let reach = if buffered.window.is_near(target) {
-        127
-    } else {
-        0
-    };
+    let reach = buffered.window.reach(target);
     let least = seek_each(&mut buffered.parts, target)?;
-    buffered.window = Window::at(least, reach);
+    buffered.window.begin(least, reach);
     mark_each(&mut buffered.parts, &mut buffered.window);
     Some(least)
 }

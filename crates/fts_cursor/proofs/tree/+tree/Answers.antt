@@ -193,13 +193,14 @@ step-returns-in-Terms-clause-walked t c =
 pub buffered_union::gather-returns-in-Some-clause-now : goal.buffered_union::gather-returns-in-Some-clause-now
 buffered_union::gather-returns-in-Some-clause-now t c =
     let b = c.args.buffered.now in
-    let w = c.seek.new.self in
-    let first : Some c.in-Some.doc ≡ slice_get (found w) 0 = sym c.in-Some.is ∙ c.first.ensures in
+    let w = c.first.new.self in
+    let first : Some c.in-Some.doc ≡ slice_get (found w) 0 = sym c.in-Some.is ∙ c.first.ensures.first ∙ ap (λ xs. slice_get xs 0) (sym c.first.ensures.same) in
+    let last = c.first.ensures.last ∙ c.seek.ensures.last in
     let beyond = c.requires in
     IsNow-some (record { parts = b.parts; window = w }) _
-    (gathered_within c.args.target c.in-Some.doc b.window w (remains b.parts.items) beyond c.seek.ensures.marked c.seek.ensures.place.1 first)
+    (gathered_within c.args.target c.in-Some.doc b.window w (remains b.parts.items) beyond (c.first.ensures.same ∙ c.seek.ensures.marked) last first)
     c.in-Some.doc
-    (record { first = first; beyond = λ d within. beyond d (omega (arith, within, c.seek.ensures.place.1)) })
+    (record { first = first; beyond = λ d within. beyond d (omega (arith, within, last)) })
 
 pub buffered_union::refill-returns-in_err-least-clause-now : goal.buffered_union::refill-returns-in_err-least-clause-now
 buffered_union::refill-returns-in_err-least-clause-now t c =
@@ -233,7 +234,7 @@ buffered_union::refill-mark_each-requires t c =
     let each : AllZip (Left c.args.target) b.parts.items after = rw c.deref_mut.ensures.value at c.seek_each.ensures.each in
     let same = TreeContinues-parts c.args.target b.parts.items after [] [] each in
     let less : 8 * heights c.deref_mut-2.result.now + 6 < t = omega (arith, c.decreases, ap heights now, same.height) in
-    (less, rw (now, c.at-buffered.ensures.from) (fill_ahead after c.in_ok-least.least c.in_ok-least.ensures.least))
+    (less, rw (now, c.begin.ensures.from) (fill_ahead after c.in_ok-least.least c.in_ok-least.ensures.least))
 
 pub buffered_union::refill-returns-clause-now : goal.buffered_union::refill-returns-clause-now
 buffered_union::refill-returns-clause-now t c =
@@ -245,16 +246,16 @@ buffered_union::refill-returns-clause-now t c =
     let now : c.deref_mut-2.result.now ≡ after = c.deref_mut-2.ensures.value ∙ items in
     let all = with_items_is (with_items b.parts after) last (omega (arith, ap length now, ap length items)) in
     let each : AllZip (Left c.args.target) b.parts.items after = rw c.deref_mut.ensures.value at c.seek_each.ensures.each in
-    let marks : AllZip (Left (c.at-buffered.result.last + 1)) after last = rw now at c.mark_each.ensures.each in
-    let marked : AreMarked (in_some (remains after)) c.at-buffered.result w = subst (λ ps. AreMarked (in_some (remains ps)) c.at-buffered.result w) now c.mark_each.ensures.marked in
+    let marks : AllZip (Left (c.begin.new.self.last + 1)) after last = rw now at c.mark_each.ensures.each in
+    let marked : AreMarked (in_some (remains after)) c.begin.new.self w = subst (λ ps. AreMarked (in_some (remains ps)) c.begin.new.self w) now c.mark_each.ensures.marked in
     let least = c.in_ok-least.ensures.least in
     IsNow-some (record { parts = with_items (with_items b.parts after) last; window = w }) _
     (ap (λ ps. union (found w ∷ remains ps)) all
-    ∙ filled after c.in_ok-least.least least last c.at-buffered.result w c.at-buffered.ensures.from c.at-buffered.ensures.nothing c.mark_each.ensures.place.1 marks marked
+    ∙ filled after c.in_ok-least.least least last c.begin.new.self w c.begin.ensures.last c.begin.ensures.nothing c.mark_each.ensures.place.1 marks marked
     ∙ union-left c.args.target b.parts.items after each)
     c.in_ok-least.least
     (subst (λ ps. IsBuffered (Some c.in_ok-least.least) w (remains ps)) (sym all)
-    (filled_buffered after c.in_ok-least.least least last c.at-buffered.result w c.at-buffered.ensures.from c.at-buffered.ensures.nothing c.mark_each.ensures.place.1 marks marked))
+    (filled_buffered after c.in_ok-least.least least last c.begin.new.self w c.begin.ensures.last c.begin.ensures.nothing c.mark_each.ensures.place.1 marks marked))
 
 pub buffered_union::refill-returns-clause-continues : goal.buffered_union::refill-returns-clause-continues
 buffered_union::refill-returns-clause-continues t c =
@@ -265,9 +266,9 @@ buffered_union::refill-returns-clause-continues t c =
     let now : c.deref_mut-2.result.now ≡ after = c.deref_mut-2.ensures.value ∙ items in
     let all = with_items_is (with_items b.parts after) last (omega (arith, ap length now, ap length items)) in
     let each : AllZip (Left c.args.target) b.parts.items after = rw c.deref_mut.ensures.value at c.seek_each.ensures.each in
-    let marks : AllZip (Left (c.at-buffered.result.last + 1)) after last = rw now at c.mark_each.ensures.each in
+    let marks : AllZip (Left (c.begin.new.self.last + 1)) after last = rw now at c.mark_each.ensures.each in
     let sought = TreeContinues-parts c.args.target b.parts.items after (gathered b) [] each in
-    rw all (TreeContinues-trans _ _ _ sought (TreeContinues-parts (c.at-buffered.result.last + 1) after last [] _ marks))
+    rw all (TreeContinues-trans _ _ _ sought (TreeContinues-parts (c.begin.new.self.last + 1) after last [] _ marks))
 
 pub buffered_union::mark_each-mark_part-requires : goal.buffered_union::mark_each-mark_part-requires
 buffered_union::mark_each-mark_part-requires t c =
@@ -342,7 +343,7 @@ pub step-gather-requires : goal.step-gather-requires
 step-gather-requires t c =
     let less : 8 * heights c.in-Or.buffered.parts.items + 8 < t = omega (arith, c.decreases, ap (λ n. (tree_value n).height) c.in-Or.is) in
     let parts : IsBuffered (Some c.requires.0) c.in-Or.buffered.window (remains c.in-Or.buffered.parts.items) = rw c.in-Or.is at c.requires.1.parts in
-    (less, λ d within. parts.beyond d (omega (arith, within, c.advance-in-Or.ensures.place.1)))
+    (less, λ d within. parts.beyond d (omega (arith, within, c.advance-in-Or.ensures.last)))
 
 pub step-returns-in-Or-clause-now : goal.step-returns-in-Or-clause-now
 step-returns-in-Or-clause-now t c =
@@ -360,12 +361,12 @@ step-returns-in-Or-clause-walked t c =
 pub buffered_union::gather-refill-requires : goal.buffered_union::gather-refill-requires
 buffered_union::gather-refill-requires t c =
     let less : 8 * heights c.args.buffered.now.parts.items + 7 < t = omega arith in
-    (less, nothing_first (found c.seek.new.self) (sym c.in_default.is ∙ c.first.ensures))
+    (less, c.first.ensures.same ∙ nothing_first (found c.seek.new.self) (sym c.in_default.is ∙ c.first.ensures.first))
 
 pub buffered_union::gather-returns-clause-now : goal.buffered_union::gather-returns-clause-now
 buffered_union::gather-returns-clause-now t c =
     let b = c.args.buffered.now in
-    let none = nothing_first (found c.seek.new.self) (sym c.in_default.is ∙ c.first.ensures) in
+    let none = nothing_first (found c.seek.new.self) (sym c.in_default.is ∙ c.first.ensures.first) in
     subst (IsNow c.refill.result (Or c.refill.new.buffered)) (gathered_from c.args.target b.window c.seek.new.self (remains b.parts.items) c.seek.ensures.marked none) c.refill.ensures.now
 
 pub buffered_union::gather-returns-clause-continues : goal.buffered_union::gather-returns-clause-continues

@@ -2,7 +2,7 @@
 use Rattle.std.proofs.Common.{◌+◌, ◌^◌, ◌<◌, ◌++◌, take, length, ap, sym, ◌∙◌, arith}
 use Rattle.std.proofs.Math.Facts.{Fits-lt-pow}
 use Rattle.std.proofs.lemmas.List.{append-nil}
-use Rattle.fts_postings.proofs.MarksLemmas.{length-marked, lowest_below, lowest_written, marked-lowest, none_marked, others_below}
+use Rattle.fts_postings.proofs.MarksLemmas.{lowest_below, lowest_written, marked-lowest, none_marked, others_below}
 use Rattle.fts_postings.proofs.marks.write.Goals as goal
 
 pub overflow_add-out : goal.overflow_add-out
@@ -15,19 +15,19 @@ pub offset_bounds-out-count : goal.offset_bounds-out-count
 offset_bounds-out-count c =
     let last = c.args.from + 63 in
     let more = marked-lowest c.args.from last c.loop-marks.marks (omega (arith, c.loop-marks-test.true)) (Fits-lt-pow c.loop-marks.auto.marks-fits) (omega arith) in
-    omega (arith, c.requires.room, c.loop-marks.invariant.size, ap length more, length-marked c.args.from last c.args.marks)
+    omega (arith, c.requires.room, c.loop-marks.invariant.size, ap length more)
 
 pub overflow_add-count : goal.overflow_add-count
 overflow_add-count c =
     let last = c.args.from + 63 in
     let more = marked-lowest c.args.from last c.loop-marks.marks (omega (arith, c.loop-marks-test.true)) (Fits-lt-pow c.loop-marks.auto.marks-fits) (omega arith) in
-    omega (arith, c.requires.room, c.loop-marks.invariant.size, ap length more, length-marked c.args.from last c.args.marks)
+    omega (arith, c.requires.room, c.loop-marks.invariant.size, ap length more)
 
 pub bounds-out-count : goal.bounds-out-count
 bounds-out-count c =
     let last = c.args.from + 63 in
     let more = marked-lowest c.args.from last c.loop-marks.marks (omega (arith, c.loop-marks-test.true)) (Fits-lt-pow c.loop-marks.auto.marks-fits) (omega arith) in
-    omega (arith, c.requires.room, c.loop-marks.invariant.size, ap length more, length-marked c.args.from last c.args.marks)
+    omega (arith, c.requires.room, c.loop-marks.invariant.size, ap length more)
 
 pub loop-marks-preserved : goal.loop-marks-preserved
 loop-marks-preserved c =
@@ -35,7 +35,7 @@ loop-marks-preserved c =
     let marks = c.loop-marks.marks in
     let some : 0 < marks = omega (arith, c.loop-marks-test.true) in
     let more = marked-lowest c.args.from last marks some (Fits-lt-pow c.loop-marks.auto.marks-fits) (omega arith) in
-    let room : c.loop-marks.count < 128 = omega (arith, c.requires.room, c.loop-marks.invariant.size, ap length more, length-marked c.args.from last c.args.marks) in
+    let room : c.loop-marks.count < 128 = omega (arith, c.requires.room, c.loop-marks.invariant.size, ap length more) in
     record {
       few = others_below c.args.from marks (2 ^ 32) c.loop-marks.invariant.few;
       size = omega (arith, c.loop-marks.invariant.size, ap length more);

@@ -16,7 +16,7 @@ made c =
     c.refill-doc.ensures.now
 
 pub refill-doc-requires : goal.refill-doc-requires
-refill-doc-requires c = c.at-window.ensures.nothing
+refill-doc-requires c = c.new-window.ensures
 
 pub invariant_of-result : goal.invariant_of-result
 invariant_of-result c = (made c).stands
