@@ -1,3 +1,2 @@
-pub mod LocalIndexes
 pub mod UncommittedOperations
 pub mod WriterIndexes

@@ -4,8 +4,7 @@
 //! cut as its options say, merges as they say, and searches the last commit through a reader. For every cutting,
 //! merging and number of workers it takes the same steps as a plain list of documents, so no option changes a reply.
 //!
-//! [`LocalEngine`] takes the same steps in the calling thread alone: it needs memory and nothing else, and so can stand
-//! in a library that a program of another language calls.
+//! [`LocalEngine`] of `fts_local`, which is handed on here, takes the same steps in the calling thread alone.
 //!
 //! ```text
 //! run_script::<_, IndexEngine, _, _>(rt, &mut streams, options)?;
@@ -13,12 +12,8 @@
 #![tactic(auto)]
 
 mod index_engine;
-mod local_changes;
-mod local_commit;
-mod local_engine;
-mod local_search;
 mod segments;
 mod uncommitted;
 
+pub use fts_local::LocalEngine;
 pub use index_engine::IndexEngine;
-pub use local_engine::LocalEngine;
