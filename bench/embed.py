@@ -1,11 +1,11 @@
-"""Times an index within a C and a Python program, beside the program over the same plain list.
+"""Times an index within a C and a Python program, beside the program `fts run --merge policy`.
 
     python3 bench/embed.py [DOCUMENTS] [SEARCHES]
 
-Build the library first (docs/EMBEDDING.md), and fts_list by `rt run` in crates/fts_list. The documents are those of
-bench/scale.py, 5,000 without an argument, in one commit, and 100 searches a kind. Each number is microseconds a line,
-the least of three runs; that of the program is the time of a run with the lines, less that of a run without, so its
-reads and writes count there.
+Build the library (docs/EMBEDDING.md) and the program (README.md) first. The documents are those of bench/scale.py,
+100,000 without an argument, in one commit, and 1,000 searches a kind. Each number is microseconds a line, the least of
+three runs; that of the program is the time of a run with the lines, less that of a run without, so its reads and writes
+count there.
 """
 import pathlib
 import subprocess
@@ -14,9 +14,9 @@ import tempfile
 import time
 
 ROOT = pathlib.Path(__file__).resolve().parent.parent
-PROGRAM = str(ROOT / "crates/fts_list/out/fts_list")
-DOCUMENTS = int(sys.argv[1]) if len(sys.argv) > 1 else 5_000
-SEARCHES = int(sys.argv[2]) if len(sys.argv) > 2 else 100
+PROGRAM = [str(ROOT / "crates/fts/out/fts"), "run", "--merge", "policy"]
+DOCUMENTS = int(sys.argv[1]) if len(sys.argv) > 1 else 100_000
+SEARCHES = int(sys.argv[2]) if len(sys.argv) > 2 else 1_000
 sys.argv[1:] = [str(DOCUMENTS)]
 sys.path[:0] = [str(ROOT / "bindings/python")]
 
@@ -53,7 +53,7 @@ def by_program(folder, name, count):
     with open(f"{folder}/both", "wb") as both:
         for part in ("documents", name) if name != "documents" else ("documents",):
             both.write(pathlib.Path(folder, part).read_bytes())
-    return least(lambda: seconds([PROGRAM], stdin=open(f"{folder}/both"))) / count * 1e6
+    return least(lambda: seconds(PROGRAM, stdin=open(f"{folder}/both"))) / count * 1e6
 
 
 def by_c(program, folder, names):

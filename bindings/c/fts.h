@@ -4,12 +4,17 @@
  * replies are those of `fts run` to the same lines, to the byte.
  *
  * Ownership. A handle is a struct of the caller's. Begin it with {0}, give it to the function that opens it, and close
- * it once; whoever copies the struct closes one of the copies and uses none behind that. The index behind it belongs to
+ * it once; whoever copies the struct closes one of the copies and uses none behind that. What is behind it belongs to
  * the library. Lines and buffers belong to the caller, and are looked at during the call alone. Opening over an open
  * handle loses what was open. No pointer that is given is NULL, also where the length beside it is 0.
  *
- * Threads. A handle is used by one thread at a time, whichever; handles may move from thread to thread. Two handles
- * never touch each other. No call starts a thread, waits or opens a file.
+ * Threads. A handle is used by one thread at a time, whichever; handles may move from thread to thread. Calls on two
+ * handles may run at once, those on an index and on its searchers too: they share what was committed, which never
+ * changes. No call starts a thread, waits or opens a file.
+ *
+ * Searchers. A searcher is one commit for ever: it finds what its index had committed when it was opened, whatever is
+ * done to the index afterwards, and lives on when the index is closed. To search from several threads, open a searcher
+ * for each before it starts.
  *
  * Closed handles. A struct with NULL in it is a closed handle: each call answers FTS_CLOSED, and follows nothing. A
  * close is given a copy, so set the struct to {0} behind it. A handle is live or NULL; nobody can tell a stale one.
@@ -60,6 +65,28 @@ size_t fts_reply(fts_t *index, uint8_t *out, size_t room);
 /* Closes an index. FTS_OK or FTS_CLOSED: fts_close_if_open, below, says which. */
 void fts_close(fts_t index);
 
+/* The last commit of an index, to search. */
+typedef struct {
+    void *at;
+} fts_searcher_t;
+
+/* Opens a searcher of the last commit of an index; what waits for a commit isn't found. FTS_OK, FTS_MEMORY or
+ * FTS_CLOSED. */
+int32_t fts_searcher(fts_t *index, fts_searcher_t *slot);
+
+/* Opens another searcher of a searcher's commit. FTS_OK, FTS_MEMORY or FTS_CLOSED. */
+int32_t fts_searcher_again(fts_searcher_t *searcher, fts_searcher_t *slot);
+
+/* Answers a search: a line as for fts_execute, {"search":..}. Another command is refused as BadCommand, and refusals
+ * speak of line 1. FTS_OK, FTS_MEMORY, FTS_LINE_TOO_LONG or FTS_CLOSED. */
+int32_t fts_search(fts_searcher_t *searcher, const uint8_t *line, size_t length);
+
+/* The reply to the last search, as by fts_reply. */
+size_t fts_searcher_reply(fts_searcher_t *searcher, uint8_t *out, size_t room);
+
+/* Closes a searcher. FTS_OK or FTS_CLOSED. */
+void fts_searcher_close(fts_searcher_t searcher);
+
 /* The functions of the library follow a handle, so these stand before them. */
 static inline int32_t fts_execute_if_open(fts_t *index, const uint8_t *line, size_t length) {
     return index->at ? fts_execute(index, line, length) : FTS_CLOSED;
@@ -75,9 +102,36 @@ static inline int32_t fts_close_if_open(fts_t index) {
     return FTS_OK;
 }
 
+static inline int32_t fts_searcher_if_open(fts_t *index, fts_searcher_t *slot) {
+    return index->at ? fts_searcher(index, slot) : FTS_CLOSED;
+}
+
+static inline int32_t fts_searcher_again_if_open(fts_searcher_t *searcher, fts_searcher_t *slot) {
+    return searcher->at ? fts_searcher_again(searcher, slot) : FTS_CLOSED;
+}
+
+static inline int32_t fts_search_if_open(fts_searcher_t *searcher, const uint8_t *line, size_t length) {
+    return searcher->at ? fts_search(searcher, line, length) : FTS_CLOSED;
+}
+
+static inline size_t fts_searcher_reply_if_open(fts_searcher_t *searcher, uint8_t *out, size_t room) {
+    return searcher->at ? fts_searcher_reply(searcher, out, room) : FTS_NO_REPLY;
+}
+
+static inline int32_t fts_searcher_close_if_open(fts_searcher_t searcher) {
+    if (!searcher.at) return FTS_CLOSED;
+    fts_searcher_close(searcher);
+    return FTS_OK;
+}
+
 #define fts_execute(index, line, length) fts_execute_if_open(index, line, length)
 #define fts_reply(index, out, room) fts_reply_if_open(index, out, room)
 #define fts_close(index) fts_close_if_open(index)
+#define fts_searcher(index, slot) fts_searcher_if_open(index, slot)
+#define fts_searcher_again(searcher, slot) fts_searcher_again_if_open(searcher, slot)
+#define fts_search(searcher, line, length) fts_search_if_open(searcher, line, length)
+#define fts_searcher_reply(searcher, out, room) fts_searcher_reply_if_open(searcher, out, room)
+#define fts_searcher_close(searcher) fts_searcher_close_if_open(searcher)
 
 #ifdef __cplusplus
 }

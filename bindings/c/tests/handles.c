@@ -42,6 +42,53 @@ static void closed(void) {
     expect(fts_close(index) == FTS_CLOSED, "a closed index isn't closed again");
 }
 
+static int32_t search(fts_searcher_t *searcher, const char *line) {
+    return fts_search(searcher, bytes(line), strlen(line));
+}
+
+static int finds(fts_searcher_t *searcher, const char *wanted) {
+    uint8_t reply[4096];
+    size_t length = fts_searcher_reply(searcher, reply, sizeof reply);
+    return length == strlen(wanted) && memcmp(reply, wanted, length) == 0;
+}
+
+/* A searcher finds its own commit, whatever becomes of its index, and takes searches alone. */
+static void searchers(void) {
+    static const char *FIND = "{\"search\":{\"query\":\"rust\"}}";
+    fts_searcher_t searcher = {0}, again = {0};
+    fts_t index = {0};
+    uint8_t byte = 7;
+    expect(fts_searcher(&index, &searcher) == FTS_CLOSED && !searcher.at, "a closed index has no searcher");
+    expect(fts_searcher_again(&searcher, &again) == FTS_CLOSED && !again.at, "nor has a closed searcher");
+    expect(search(&searcher, FIND) == FTS_CLOSED, "a closed searcher takes no search");
+    expect(fts_searcher_reply(&searcher, &byte, 1) == FTS_NO_REPLY && byte == 7, "and has no reply");
+    expect(fts_searcher_close(searcher) == FTS_CLOSED, "a closed searcher isn't closed again");
+    index = opened();
+    execute(&index, ADD);
+    execute(&index, "{\"commit\":true}");
+    execute(&index, ADD);
+    expect(fts_searcher(&index, &searcher) == FTS_OK, "an index has a searcher");
+    expect(replies(&index, "{\"stamp\":3}\n"), "which leaves its reply");
+    expect(search(&searcher, FIND) == FTS_OK && finds(&searcher, "{\"count\":1}\n"), "it finds what was committed");
+    execute(&index, "{\"delete_all\":true}");
+    execute(&index, "{\"commit\":true}");
+    expect(search(&searcher, FIND) == FTS_OK && finds(&searcher, "{\"count\":1}\n"), "and goes on to find it");
+    expect(search(&searcher, ADD) == FTS_OK && finds(&searcher, "{\"error\":\"BadCommand\",\"line\":1}\n"),
+           "a searcher takes searches alone");
+    expect(search(&searcher, "{\"search\":{\"query\":\"rust OR\"}}") == FTS_OK
+               && finds(&searcher, "{\"error\":\"Syntax\",\"line\":1}\n"), "and refuses them as line 1");
+    expect(fts_searcher_again(&searcher, &again) == FTS_OK, "a searcher has another");
+    expect(fts_close(index) == FTS_OK && fts_searcher_close(searcher) == FTS_OK, "an index goes before its searchers");
+    expect(search(&again, FIND) == FTS_OK && finds(&again, "{\"count\":1}\n"), "a searcher lives on");
+    expect(fts_searcher_close(again) == FTS_OK, "and is closed");
+    index = (fts_t){0};
+    expect(fts_open(&index) == FTS_OK && fts_searcher(&index, &searcher) == FTS_OK, "there is one without a schema");
+    expect(search(&searcher, FIND) == FTS_OK && finds(&searcher, "{\"error\":\"NoSchema\",\"line\":1}\n"),
+           "which finds none");
+    fts_searcher_close(searcher);
+    fts_close(index);
+}
+
 static void small_buffers(void) {
     fts_t index = opened();
     uint8_t room[12] = "x";
@@ -82,6 +129,7 @@ int main(void) {
     small_buffers();
     long_lines();
     any_bytes();
+    searchers();
     printf("%d passed, %d failed\n", passed, failed);
     return failed != 0;
 }

@@ -1,15 +1,20 @@
-/* Four threads, each with an index of its own, at once: none sees anything of another. */
+/* Four threads with an index each: none sees anything of another. Then four with a searcher each, while a writer adds and
+ * commits: each finds its own commit and nothing else.
+ */
 #include <pthread.h>
 #include <stdio.h>
 #include <string.h>
 
 #include "fts.h"
 
-enum { THREADS = 4, BOOKS = 200 };
+enum { THREADS = 4, BOOKS = 200, SEARCHES = 2000 };
+
+static const char *SCHEMA = "{\"schema\":[{\"name\":\"title\",\"kind\":\"text\",\"default\":true}]}";
 
 typedef struct {
     int number;
     int wrong;
+    fts_searcher_t searcher;
 } task_t;
 
 /* Whether an index replies to a line as it is wanted. */
@@ -35,29 +40,57 @@ static void add_and_find(fts_t *index, task_t *task) {
     task->wrong += !replies(index, "{\"search\":{\"query\":\"*\"}}", wanted);
 }
 
-static void *run(void *given) {
+static void *write_one(void *given) {
     task_t *task = given;
     fts_t index = {0};
     task->wrong += fts_open(&index) != FTS_OK;
-    task->wrong += !replies(&index, "{\"schema\":[{\"name\":\"title\",\"kind\":\"text\",\"default\":true}]}",
-                            "{\"fields\":1}\n");
+    task->wrong += !replies(&index, SCHEMA, "{\"fields\":1}\n");
     add_and_find(&index, task);
     task->wrong += fts_close(index) != FTS_OK;
     return NULL;
 }
 
-int main(void) {
-    task_t tasks[THREADS] = {0};
-    pthread_t threads[THREADS];
-    for (int i = 0; i < THREADS; i++) {
-        tasks[i].number = i + 1;
-        if (pthread_create(&threads[i], NULL, run, &tasks[i])) return 1;
+static void *search_one(void *given) {
+    static const char *LINE = "{\"search\":{\"query\":\"thread\"}}";
+    task_t *task = given;
+    char reply[256], wanted[128];
+    snprintf(wanted, sizeof wanted, "{\"count\":%d}\n", task->number);
+    for (int search = 0; search < SEARCHES; search++) {
+        task->wrong += fts_search(&task->searcher, (const uint8_t *)LINE, strlen(LINE)) != FTS_OK;
+        size_t length = fts_searcher_reply(&task->searcher, (uint8_t *)reply, sizeof reply);
+        task->wrong += length != strlen(wanted) || memcmp(reply, wanted, length) != 0;
     }
-    int wrong = 0;
+    task->wrong += fts_searcher_close(task->searcher) != FTS_OK;
+    return NULL;
+}
+
+/* Adds a book and commits. */
+static int commits(fts_t *index, int book) {
+    char wanted[128];
+    snprintf(wanted, sizeof wanted, "{\"stamp\":%d}\n", 2 * book - 1);
+    if (!replies(index, "{\"add\":{\"title\":\"thread\"}}", wanted)) return 0;
+    snprintf(wanted, sizeof wanted, "{\"commit\":%d}\n", 2 * book);
+    return replies(index, "{\"commit\":true}", wanted);
+}
+
+int main(void) {
+    task_t writers[THREADS] = {0}, searchers[THREADS] = {0};
+    pthread_t threads[2 * THREADS];
+    fts_t index = {0};
+    int wrong = fts_open(&index) != FTS_OK || !replies(&index, SCHEMA, "{\"fields\":1}\n");
+    for (int i = 0; i < THREADS; i++) {
+        writers[i].number = searchers[i].number = i + 1;
+        wrong += !commits(&index, i + 1) || fts_searcher(&index, &searchers[i].searcher) != FTS_OK;
+        if (pthread_create(&threads[i], NULL, write_one, &writers[i])) return 1;
+        if (pthread_create(&threads[THREADS + i], NULL, search_one, &searchers[i])) return 1;
+    }
+    for (int book = THREADS + 1; book <= BOOKS; book++) wrong += !commits(&index, book);
     for (int i = 0; i < THREADS; i++) {
         pthread_join(threads[i], NULL);
-        wrong += tasks[i].wrong;
+        pthread_join(threads[THREADS + i], NULL);
+        wrong += writers[i].wrong + searchers[i].wrong;
     }
-    printf("%d threads, %d wrong\n", THREADS, wrong);
+    wrong += fts_close(index) != FTS_OK;
+    printf("%d threads, %d wrong\n", 2 * THREADS, wrong);
     return wrong != 0;
 }

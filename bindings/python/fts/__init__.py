@@ -12,7 +12,7 @@ A refusal of the index is an exception of its name, as fts.Syntax: fts.refusals 
 what they have in common. MemoryError says that there was no memory. Behind an exception the index is as it was before
 the call.
 """
-from fts.index import Index
+from fts.index import Index, Searcher
 from fts.library import Closed, UsedUp
 from fts.refusals import (
     AllNegative, BadCommand, BadDefault, BadJson, BadLimit, BadName, BadNumber, KeywordTooLong, LaneFull,
@@ -25,7 +25,7 @@ from fts.values import Answer, Field, Hit, Top, i64, keyword, text, u64
 __all__ = [
     "AllNegative", "Answer", "BadCommand", "BadDefault", "BadJson", "BadLimit", "BadName", "BadNumber", "Closed",
     "Field", "Hit", "Index", "KeywordTooLong", "LaneFull", "LineTooLong", "NameTwice", "NoDefaultField", "NoFields",
-    "NoSchema", "NotANumberField", "NotAnObject", "RangeOnText", "Refused", "SchemaTwice", "Syntax",
+    "NoSchema", "NotANumberField", "NotAnObject", "RangeOnText", "Refused", "SchemaTwice", "Searcher", "Syntax",
     "TextTooLong", "TooDeep", "TooLarge", "TooLong", "TooManyFields", "TooManyTexts", "Top", "UnknownField",
     "UsedUp", "WrongKind", "i64", "keyword", "text", "u64",
 ]

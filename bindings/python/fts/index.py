@@ -3,11 +3,13 @@ from __future__ import annotations
 
 import json
 from collections.abc import Iterator, Mapping
-from typing import Any, Optional, Union
+from typing import Any, Optional, TypeVar, Union
 
 from fts.library import Channel
 from fts.refusals import refused
 from fts.values import Answer, Field, Hit, Top, Value
+
+S = TypeVar("S", bound="Searching")
 
 
 def bytes_of(line: Union[str, bytes]) -> bytes:
@@ -15,7 +17,69 @@ def bytes_of(line: Union[str, bytes]) -> bytes:
     return line.encode("utf-8", "surrogatepass") if isinstance(line, str) else line
 
 
-class Index:
+class Searching:
+    """What an index and its searchers have in common. One thread is in each at a time; others wait."""
+
+    _channel: Channel
+
+    def __enter__(self: S) -> S:
+        return self
+
+    def execute(self, line: Union[str, bytes]) -> bytes:
+        """The reply to a line of a script, with its LF; nothing to a blank line. A refusal is a reply here."""
+        return self._channel.ask(bytes_of(line))
+
+    def _command(self, command: Mapping[str, Any]) -> Any:
+        reply = json.loads(self.execute(json.dumps(command)))
+        if "error" in reply:
+            raise refused(reply["error"], reply["line"])
+        return reply
+
+    def search(self, query: str, *, groups: Optional[str] = None, top: Optional[Top] = None) -> Answer:
+        """How many documents a query finds, how many of each value of a field, and the first of them by another."""
+        search: dict[str, Any] = {"query": query}
+        if groups is not None:
+            search["groups"] = groups
+        if top is not None:
+            search["top"] = top._asdict()
+        reply = self._command({"search": search})
+        return Answer(
+            reply["count"],
+            {value: count for value, count in reply.get("groups", [])},
+            tuple(Hit(hit["value"], hit["stamp"], hit["doc"]) for hit in reply.get("top", [])),
+        )
+
+    def hits(self, query: str, by: str, *, order: str = "rising", page: int = 10_000) -> Iterator[Hit]:
+        """All documents that a query finds and that have a value in `by`, a number field, in the order of these values.
+
+        They are asked for a page at a time, each from the last value of the page before on, so ValueError is raised
+        where a page of documents has one value. Of an index, a commit between two pages shows in the later one. What is
+        added to the query leaves it some 70 bytes less than others have.
+        """
+        last: Optional[Hit] = None
+        while True:
+            found = self.search(_from(last, query, by, order), top=Top(by, page, order)).hits
+            fresh = [hit for hit in found if not (last and hit.value == last.value and hit.stamp <= last.stamp)]
+            yield from fresh
+            if len(found) < page:
+                return
+            if not fresh:
+                raise ValueError(f"{page} documents or more have {found[-1].value} in {by}")
+            last = found[-1]
+
+    def searcher(self) -> Searcher:
+        """A searcher of the last commit, or another one of a searcher's."""
+        return Searcher(self._channel.searcher())
+
+    def close(self) -> None:
+        """Gives back what it holds. Calls that come behind it raise Closed, but for `close`."""
+        self._channel.close()
+
+    def __exit__(self, *_: object) -> None:
+        self.close()
+
+
+class Index(Searching):
     """An index in memory. It may be used from several threads, of which one is in it at a time.
 
         with fts.Index(fts.text("title", default=True), fts.u64("year")) as index:
@@ -29,19 +93,6 @@ class Index:
         self._channel = Channel()
         if fields:
             self._command({"schema": [field._asdict() for field in fields]})
-
-    def __enter__(self) -> Index:
-        return self
-
-    def execute(self, line: Union[str, bytes]) -> bytes:
-        """The reply to a line of a script, with its LF; nothing to a blank line. A refusal is a reply here."""
-        return self._channel.ask(bytes_of(line))
-
-    def _command(self, command: Mapping[str, Any]) -> Any:
-        reply = json.loads(self.execute(json.dumps(command)))
-        if "error" in reply:
-            raise refused(reply["error"], reply["line"])
-        return reply
 
     def add(self, document: Mapping[str, Value]) -> int:
         """Adds a document, and returns its stamp. Searches see it behind the next commit."""
@@ -67,44 +118,20 @@ class Index:
         """Makes one segment of all, and returns how many documents it has. No search finds anything else by it."""
         return self._command({"merge": True})["merged"]
 
-    def search(self, query: str, *, groups: Optional[str] = None, top: Optional[Top] = None) -> Answer:
-        """How many documents a query finds, how many of each value of a field, and the first of them by another."""
-        search: dict[str, Any] = {"query": query}
-        if groups is not None:
-            search["groups"] = groups
-        if top is not None:
-            search["top"] = top._asdict()
-        reply = self._command({"search": search})
-        return Answer(
-            reply["count"],
-            {value: count for value, count in reply.get("groups", [])},
-            tuple(Hit(hit["value"], hit["stamp"], hit["doc"]) for hit in reply.get("top", [])),
-        )
 
-    def hits(self, query: str, by: str, *, order: str = "rising", page: int = 10_000) -> Iterator[Hit]:
-        """All documents that a query finds and that have a value in `by`, a number field, in the order of these values.
+class Searcher(Searching):
+    """One commit of an index for ever, whatever is done to the index afterwards. It lives on when the index is closed.
 
-        They are asked for a page at a time, each from the last value of the page before on, so ValueError is raised
-        where a page of documents has one value. A commit between two pages shows in the later one. What is added to
-        the query leaves it some 70 bytes less than others have.
-        """
-        last: Optional[Hit] = None
-        while True:
-            found = self.search(_from(last, query, by, order), top=Top(by, page, order)).hits
-            fresh = [hit for hit in found if not (last and hit.value == last.value and hit.stamp <= last.stamp)]
-            yield from fresh
-            if len(found) < page:
-                return
-            if not fresh:
-                raise ValueError(f"{page} documents or more have {found[-1].value} in {by}")
-            last = found[-1]
+    A searcher and its index, and two searchers, never wait for each other: so a thread that searches has one of its own.
 
-    def close(self) -> None:
-        """Gives back what it holds. Calls that come behind it raise Closed, but for `close`."""
-        self._channel.close()
+        with index.searcher() as searcher:
+            print(searcher.search("pearls").count)
 
-    def __exit__(self, *_: object) -> None:
-        self.close()
+    It takes searches alone: `execute` refuses any other command as BadCommand.
+    """
+
+    def __init__(self, channel: Channel) -> None:
+        self._channel = channel
 
 
 def _from(last: Optional[Hit], query: str, by: str, order: str) -> str:

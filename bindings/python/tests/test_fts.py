@@ -91,6 +91,44 @@ class Calls(unittest.TestCase):
                 list(index.hits("rust", "year", page=2))
 
 
+class Searchers(unittest.TestCase):
+    def test_one_commit(self):
+        """A searcher finds its commit, whatever becomes of the index, and has the calls of a search."""
+        with opened() as index:
+            index.add({"title": "programming"})
+            searcher = index.searcher()
+            index.delete_all()
+            index.commit()
+            self.assertEqual(index.search("*").count, 0)
+        with searcher, searcher.searcher() as another:
+            for each in searcher, another:
+                answer = each.search("programming", groups="shelf", top=fts.Top("year", 1, "falling"))
+                self.assertEqual((answer.count, answer.groups), (2, {"computing": 2}))
+                self.assertEqual([hit.value for hit in each.hits("*", "year", page=2)], [1986, 1994, 2021])
+
+    def test_searches_alone(self):
+        """A searcher takes nothing but searches, each as a first line."""
+        with opened() as index, index.searcher() as searcher:
+            self.assertEqual(searcher.execute('{"add":{}}'), b'{"error":"BadCommand","line":1}\n')
+            for _ in range(2):
+                with self.assertRaises(fts.Syntax) as raised:
+                    searcher.search("rust OR")
+                self.assertEqual(raised.exception.line, 1)
+            with self.assertRaises(fts.LineTooLong) as raised:
+                searcher.execute(b" " * (4_194_304 + 1))
+            self.assertEqual((raised.exception.line, searcher.search("*").count, index.add({})), (1, 3, 5))
+
+    def test_closed(self):
+        index = opened()
+        searcher = index.searcher()
+        index.close()
+        self.assertRaises(fts.Closed, index.searcher)
+        searcher.close()
+        searcher.close()
+        for call in (searcher.searcher, lambda: searcher.search("rust")):
+            self.assertRaises(fts.Closed, call)
+
+
 class Edges(unittest.TestCase):
     def test_closed(self):
         """A call on a closed index is an exception, in each thread; closing twice is none."""
@@ -141,6 +179,27 @@ class Threads(unittest.TestCase):
             for thread in threads:
                 thread.join()
             self.assertEqual((wrong, index.search("rust").count), ([], 100))
+
+    def test_searchers_beside_a_writer(self):
+        """Four threads search their own searcher while another adds and commits: each finds its commit alone."""
+        wrong = []
+
+        def look(searcher, count):
+            with searcher:
+                counts = {searcher.search("rust").count for _ in range(200)}
+            wrong.extend([] if counts == {count} else [(count, counts)])
+
+        with fts.Index(*FIELDS) as index:
+            threads = []
+            for count in range(1, 101):
+                index.add({"title": "rust"})
+                index.commit()
+                if count % 25 == 1:
+                    threads.append(threading.Thread(target=look, args=(index.searcher(), count)))
+                    threads[-1].start()
+            for thread in threads:
+                thread.join()
+            self.assertEqual((wrong, len(threads), index.search("rust").count), ([], 4, 100))
 
     def test_one_index(self):
         """Threads that share an index take turns, so no call sees half of another."""

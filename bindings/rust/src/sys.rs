@@ -19,6 +19,11 @@ extern "C" {
     pub fn fts_execute(index: *mut Raw, line: *const u8, length: usize) -> i32;
     pub fn fts_reply(index: *mut Raw, out: *mut u8, room: usize) -> usize;
     pub fn fts_close(index: Raw);
+    pub fn fts_searcher(index: *mut Raw, slot: *mut Raw) -> i32;
+    pub fn fts_searcher_again(searcher: *mut Raw, slot: *mut Raw) -> i32;
+    pub fn fts_search(searcher: *mut Raw, line: *const u8, length: usize) -> i32;
+    pub fn fts_searcher_reply(searcher: *mut Raw, out: *mut u8, room: usize) -> usize;
+    pub fn fts_searcher_close(searcher: Raw);
 }
 
 /// Copies a reply into a buffer, which keeps its room for the next. `copy` takes a place and its room, and tells the

@@ -1,5 +1,5 @@
 //! The crate over the worked scripts, in threads, and at its edges.
-use fts::{Error, Index};
+use fts::{Error, Index, Searcher};
 use std::fs;
 use std::path::Path;
 use std::thread;
@@ -64,6 +64,48 @@ fn four_threads_have_an_index_each() -> Result<(), Error> {
         let mut index = thread.join().expect("no thread panics")?;
         assert_eq!(index.search(FIND), Ok(format!(r#"{{"count":{}}}"#, 50 * number).as_str()));
     }
+    Ok(())
+}
+
+#[test]
+fn four_threads_search_their_own_searcher_while_the_writer_commits() -> Result<(), Error> {
+    fn look(mut searcher: Searcher, count: usize) -> Result<(), Error> {
+        for _ in 0..200 {
+            assert_eq!(searcher.search(FIND)?, format!(r#"{{"count":{count}}}"#));
+        }
+        Ok(())
+    }
+
+    let mut index = opened()?;
+    let mut threads = Vec::new();
+    for count in 1..=100 {
+        commit(&mut index)?;
+        if count % 25 == 1 {
+            let searcher = index.searcher()?.again()?;
+            threads.push(thread::spawn(move || look(searcher, count)));
+        }
+    }
+    assert_eq!(threads.len(), 4);
+    assert_eq!(index.search(FIND)?, r#"{"count":100}"#);
+    drop(index);
+    for thread in threads {
+        thread.join().expect("no thread panics")?;
+    }
+    Ok(())
+}
+
+#[test]
+fn a_searcher_is_one_commit_and_refuses_as_line_1() -> Result<(), Error> {
+    let mut index = opened()?;
+    commit(&mut index)?;
+    index.execute(ADD)?;
+    let mut searcher = index.searcher()?;
+    index.execute(r#"{"delete_all":true}"#)?;
+    index.execute(COMMIT)?;
+    assert_eq!(searcher.search(FIND), Ok(r#"{"count":1}"#));
+    assert_eq!(searcher.search(r#"{"query":"rust OR"}"#), Err(refused("Syntax", 1)));
+    assert_eq!(index.search(FIND), Ok(r#"{"count":0}"#));
+    assert_eq!(Index::open()?.searcher()?.search(FIND), Err(refused("NoSchema", 1)));
     Ok(())
 }
 

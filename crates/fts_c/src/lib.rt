@@ -1,16 +1,18 @@
 //! An index inside a C program, or in any that calls C: a static library over the session of scripts.
 //!
 //! A handle is a pointer, which one call at a time may use. A line of a script goes in, and its reply comes out, to the
-//! byte that the script's definition says. What a caller owes is a handle that is open, and true lengths: the callers in
-//! C test for null.
+//! byte that the script's definition says. A searcher is a handle too: a session of its own over the last commit of
+//! another, which another thread may have, and which takes searches alone. What a caller owes is a handle that is open,
+//! and true lengths: the callers in C test for null.
 #![tactic(auto)]
 
-ghost use Rattle.std.specs.Prelude.{◌≡◌, ◌≢◌, ◌≤◌, [], Option, Some, length, pos, take, MatchOption, string_bytes};
+ghost use Rattle.std.specs.Prelude.{◌≡◌, ◌≢◌, ◌≤◌, [], Option, Some, length, pos, take, IfSome, MatchOption, string_bytes};
 ghost use Rattle.std.specs.Box.Ownership.{box_owns};
 ghost use Rattle.std.specs.contracts.impls.GlobalAllocator.TheImpl.{ghosts};
 ghost use Rattle.fts_c.specs.declared.state.State.{State};
 ghost use Rattle.fts_c.specs.contracts.state.State.{the_row};
 ghost use Rattle.fts_c.specs.Held.{held};
+ghost use Rattle.fts_session.specs.Finds.{at_commit, reply_to_search};
 ghost use Rattle.fts_session.specs.Outputs.{start, reply_to, after_line};
 
 mod state;
@@ -173,8 +175,7 @@ fn copy(from: &[u8], out: &mut [u8])
 }
 
 /// How long the last reply is. It is copied where there is room.
-#[unsafe(no_mangle)]
-pub extern "C" fn fts_reply(handle: &mut Handle, alloc: Global, out: &mut [u8]) -> usize
+fn reply(handle: &mut Handle, alloc: Global, out: &mut [u8]) -> usize
     ensures session { handle.new.state.session ≡ handle.old.state.session }
     ensures same { string_bytes handle.new.state.reply ≡ string_bytes handle.old.state.reply }
     ensures length { result ≡ length (string_bytes handle.old.state.reply) }
@@ -188,8 +189,109 @@ pub extern "C" fn fts_reply(handle: &mut Handle, alloc: Global, out: &mut [u8]) 
     n
 }
 
+/// How long the last reply is. It is copied where there is room.
+#[unsafe(no_mangle)]
+pub extern "C" fn fts_reply(handle: &mut Handle, alloc: Global, out: &mut [u8]) -> usize
+    ensures session { handle.new.state.session ≡ handle.old.state.session }
+    ensures same { string_bytes handle.new.state.reply ≡ string_bytes handle.old.state.reply }
+    ensures length { result ≡ length (string_bytes handle.old.state.reply) }
+    ensures copied { result ≤ length out.old →
+        take result out.new ≡ string_bytes handle.old.state.reply }
+{
+    reply(handle, alloc, out)
+}
+
 /// Ends a session.
 #[unsafe(no_mangle)]
 pub extern "C" fn fts_close(handle: Handle) {
     drop(unwrap(handle));
+}
+
+fn forked(handle: Handle, alloc: Global) -> (Handle, Option<State>)
+    ensures session { result.0.state.session ≡ handle.state.session }
+    ensures fork { IfSome result.1 (λ fork. fork.session ≡ at_commit handle.state.session) }
+{
+    let state = unwrap(handle);
+    let fork = state.fork(alloc);
+    (wrap(state), fork)
+}
+
+/// Puts a searcher of the last commit into a place.
+fn fork(handle: &mut Handle, slot: &mut Slot, alloc: Global) -> i32
+    ensures session { handle.new.state.session ≡ handle.old.state.session }
+    ensures ok { result ≡ pos 0 → MatchOption slot.new.state ⊥
+        (λ s. s.session ≡ at_commit handle.old.state.session) }
+    ensures same { result ≢ pos 0 → slot.new ≡ slot.old }
+{
+    match replace_with(handle, alloc, |handle, alloc| forked(handle, alloc)) {
+        Some(state) => put(slot, alloc, state),
+        None => 1,
+    }
+}
+
+/// Opens a searcher of the last commit, which it searches for ever: 0, or 1 where memory was refused.
+#[unsafe(no_mangle)]
+pub extern "C" fn fts_searcher(handle: &mut Handle, slot: &mut Slot, alloc: Global) -> i32
+    ensures session { handle.new.state.session ≡ handle.old.state.session }
+    ensures ok { result ≡ pos 0 → MatchOption slot.new.state ⊥
+        (λ s. s.session ≡ at_commit handle.old.state.session) }
+    ensures same { result ≢ pos 0 → slot.new ≡ slot.old }
+{
+    fork(handle, slot, alloc)
+}
+
+/// Opens another searcher of a searcher's commit, for another thread, with the codes of `fts_searcher`.
+#[unsafe(no_mangle)]
+pub extern "C" fn fts_searcher_again(searcher: &mut Handle, slot: &mut Slot, alloc: Global) -> i32
+    ensures session { searcher.new.state.session ≡ searcher.old.state.session }
+    ensures ok { result ≡ pos 0 → MatchOption slot.new.state ⊥
+        (λ s. s.session ≡ at_commit searcher.old.state.session) }
+    ensures same { result ≢ pos 0 → slot.new ≡ slot.old }
+{
+    fork(searcher, slot, alloc)
+}
+
+fn search(handle: Handle, alloc: Global, line: &[u8]) -> (Handle, i32)
+    ensures reply { result.1 ≡ pos 0 →
+        string_bytes result.0.state.reply ≡ reply_to_search handle.state.session line.now }
+    ensures same { result.0.state.session ≡ handle.state.session }
+    ensures none { result.1 ≢ pos 0 → string_bytes result.0.state.reply ≡ [] }
+{
+    let mut state = unwrap(handle);
+    let code = replace_with(&mut *state, (alloc, line), |state, (alloc, line)| {
+        state.after_search(alloc, line)
+    });
+    (wrap(state), code)
+}
+
+/// Answers a search, as a line of a script: the reply is that of the definition, over the searcher's commit, and
+/// nothing changes. Another command is answered as `BadCommand`. The codes are those of `fts_execute`.
+#[unsafe(no_mangle)]
+pub extern "C" fn fts_search(searcher: &mut Handle, alloc: Global, line: &[u8]) -> i32
+    ensures reply { result ≡ pos 0 →
+        string_bytes searcher.new.state.reply ≡ reply_to_search searcher.old.state.session line.now }
+    ensures same { searcher.new.state.session ≡ searcher.old.state.session }
+    ensures none { result ≢ pos 0 → string_bytes searcher.new.state.reply ≡ [] }
+{
+    replace_with(searcher, (alloc, line), |searcher, (alloc, line)| {
+        search(searcher, alloc, line)
+    })
+}
+
+/// The reply to the last search, as by `fts_reply`.
+#[unsafe(no_mangle)]
+pub extern "C" fn fts_searcher_reply(searcher: &mut Handle, alloc: Global, out: &mut [u8]) -> usize
+    ensures session { searcher.new.state.session ≡ searcher.old.state.session }
+    ensures same { string_bytes searcher.new.state.reply ≡ string_bytes searcher.old.state.reply }
+    ensures length { result ≡ length (string_bytes searcher.old.state.reply) }
+    ensures copied { result ≤ length out.old →
+        take result out.new ≡ string_bytes searcher.old.state.reply }
+{
+    reply(searcher, alloc, out)
+}
+
+/// Ends a searcher.
+#[unsafe(no_mangle)]
+pub extern "C" fn fts_searcher_close(searcher: Handle) {
+    drop(unwrap(searcher));
 }

@@ -1,9 +1,11 @@
 // A session and its last reply.
-ghost use Rattle.std.specs.Prelude.{◌≡◌, ◌≢◌, [], pos, string_bytes};
+ghost use Rattle.std.specs.Prelude.{◌≡◌, ◌≢◌, [], IfSome, pos, string_bytes};
+ghost use Rattle.fts_session.specs.Finds.{at_commit, reply_to_search};
 ghost use Rattle.fts_session.specs.Outputs.{start, reply_to, after_line};
 
+use fts_local::LocalEngine;
 use fts_session::Session;
-use fts_steps::{ListEngine, Options};
+use fts_steps::{Cut, Merge, Options};
 use std::alloc::{AllocError, Global};
 
 /// The most bytes that a line has.
@@ -12,11 +14,20 @@ const LONGEST: usize = 4_194_304;
 /// How many lines there may be.
 const MOST_LINES: u64 = 1 << 61;
 
-/// A session, and its last reply.
+/// A session over segments, and its last reply.
 #[derive(Drop)]
 pub struct State {
-    pub session: Session<ListEngine>,
+    pub session: Session<LocalEngine>,
     pub reply: String,
+}
+
+/// Segments of up to 65,536 documents, and merges behind commits, so that many small commits leave few segments.
+fn options() -> Options {
+    Options {
+        workers: 1,
+        cut: Cut::Runs(65_536),
+        merge: Merge::Policy,
+    }
 }
 
 impl State {
@@ -25,7 +36,7 @@ impl State {
         ensures { result.session ≡ start }
     {
         State {
-            session: Session::new(Options::default()),
+            session: Session::new(options()),
             reply: String::new(alloc),
         }
     }
@@ -54,6 +65,44 @@ impl State {
             Err(AllocError) => 1,
         };
         (State { session, reply }, code)
+    }
+
+    /// The state behind a search, and a code as of `after`. The session is as it was, and at any but 0 there is no
+    /// reply.
+    pub(crate) fn after_search(self, alloc: Global, line: &[u8]) -> (State, i32)
+        ensures reply { result.1 ≡ pos 0 → string_bytes result.0.reply ≡ reply_to_search self.session line.now }
+        ensures same { result.0.session ≡ self.session }
+        ensures none { result.1 ≢ pos 0 → string_bytes result.0.reply ≡ [] }
+    {
+        let State {
+            mut session,
+            mut reply,
+        } = self;
+        reply.clear();
+        if line.len() > LONGEST {
+            return (State { session, reply }, 2);
+        }
+        if session.lines() >= MOST_LINES {
+            return (State { session, reply }, 3);
+        }
+        let code = match session.find(&((), alloc), line, &mut reply) {
+            Ok(()) => 0,
+            Err(AllocError) => 1,
+        };
+        (State { session, reply }, code)
+    }
+
+    /// A state of its own over the last commit, before its first line.
+    pub(crate) fn fork(&self, alloc: Global) -> Option<State>
+        ensures { IfSome result (λ fork. fork.session ≡ at_commit self.now.session) }
+    {
+        match self.session.fork() {
+            Ok(session) => Some(State {
+                session,
+                reply: String::new(alloc),
+            }),
+            Err(AllocError) => None,
+        }
     }
 }
 

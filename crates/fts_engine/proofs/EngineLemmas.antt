@@ -3,22 +3,15 @@ use Rattle.std.proofs.Common.{◌≡◌, ◌+◌, ◌≤◌, ℕ, true, false, c
 use Rattle.std.proofs.lemmas.List.{length-append}
 use Rattle.fts_model.specs.declared.operation.Op.{Op}
 use Rattle.fts_model.specs.declared.operation.Stamped.{Stamped}
-use Rattle.fts_base.specs.declared.refusal.Refusal.TheVariants.{OtherSchema}
-use Rattle.fts_model.specs.declared.schema.Field.{Field}
 use Rattle.fts_model.specs.Operations.{op_fits}
 use Rattle.fts_snapshots.specs.Commits.{misfit}
+use Rattle.fts_snapshots.proofs.CountLemmas.{misfit-push}
 use Rattle.fts_index.specs.Publications.{Known}
 use Rattle.fts_index.specs.Writers.{WriterValue}
 use Rattle.fts_engine.specs.declared.uncommitted.Uncommitted.{Uncommitted}
 use Rattle.fts_engine.specs.declared.uncommitted.Uncommitted.TheVariants.{Nothing}
 use Rattle.fts_engine.specs.UncommittedOperations.{ops_of, IsUncommittedIn, Submits}
 use Rattle.fts_engine.specs.WriterIndexes.{Commits, Merges, IsReaderOf, IsIndexEngine, segments_of}
-
-pub misfit-push : (schema : List Field) (ops : List (Stamped Op)) (op : Stamped Op) → misfit schema ops ≡ None → op_fits schema op.value ≡ true → misfit schema (ops ++ op ∷ []) ≡ None
-misfit-push schema [] op h fit = ap (λ b. cond b None (Some (OtherSchema op.stamp))) fit
-misfit-push schema (o ∷ ops) op h fit =
-    elim (op_fits schema o.value) as (λ b. cond b (misfit schema ops) (Some (OtherSchema o.stamp)) ≡ None → cond b (misfit schema (ops ++ op ∷ [])) (Some (OtherSchema o.stamp)) ≡ None)
-    [ true ↦ λ k. misfit-push schema ops op k fit | false ↦ λ k. k ] h
 
 -- a new engine
 pub opened : (w : WriterValue) (reader : Option Known) → IsReaderOf w.front.seen reader → w.front.stamp ≡ 0 → w.front.snapshot.entries ≡ [] → w.front.snapshot.next_id ≡ 0 → w.rounds ≡ 0 → w.round ≡ None → IsIndexEngine w reader Nothing 0 0

@@ -1,4 +1,3 @@
 pub mod CommitLemmas
 pub mod EngineLemmas
-pub mod LocalLemmas
 pub mod MergeLemmas

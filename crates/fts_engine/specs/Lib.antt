@@ -1,4 +1,3 @@
-pub mod LocalIndexes
 pub mod SearchThreads
 pub mod UncommittedOperations
 pub mod WriterIndexes

@@ -5,8 +5,8 @@ use Rattle.fts_base.specs.declared.refusal.Refusal.{Refusal}
 use Rattle.fts_base.specs.declared.refusal.Refusal.TheVariants.{Memory, LaneFull}
 use Rattle.fts_model.specs.declared.operation.Op.{Op}
 use Rattle.fts_model.specs.declared.operation.Stamped.{Stamped}
-use Rattle.fts_snapshots.specs.Rounds.{Opened, Held, IsLaneOf}
-use Rattle.fts_snapshots.specs.Rounds as rounds
+use Rattle.fts_rounds.specs.Rounds.{Opened, Held, IsLaneOf}
+use Rattle.fts_rounds.specs.Rounds as rounds
 use Rattle.fts_index.specs.Writers.{WriterValue, is_of}
 use Rattle.fts_engine.specs.declared.uncommitted.Uncommitted.{Uncommitted}
 use Rattle.fts_engine.specs.declared.uncommitted.Uncommitted.TheVariants.{Nothing, Open, Ended, Gathered}

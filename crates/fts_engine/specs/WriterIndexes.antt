@@ -3,7 +3,7 @@ use Rattle.std.specs.Prelude.{◌≡◌, Bool, ℕ, ◌+◌, ◌*◌, ◌^◌, �
 use Rattle.fts_model.specs.declared.operation.Op.{Op}
 use Rattle.fts_model.specs.declared.operation.Stamped.{Stamped}
 use Rattle.fts_model.specs.Operations.{alive, adds}
-use Rattle.fts_snapshots.specs.Snapshots.{content_of}
+use Rattle.fts_snapshots.specs.Snapshots.{content_of, segments_and_numbers}
 use Rattle.fts_snapshots.specs.Commits.{misfit}
 use Rattle.fts_snapshots.specs.declared.entries.entry.SegmentInfo.{SegmentInfo}
 use Rattle.fts_index.specs.Publications.{Known}
@@ -23,7 +23,7 @@ index_of w uncommitted = record {
 
 -- how many segments there are, and how many numbers were given to segments, together
 abbrev pub segments_of : WriterValue → ℕ
-segments_of w = w.front.snapshot.next_id + length w.front.snapshot.entries
+segments_of w = segments_and_numbers w.front.snapshot
 
 -- A writer committed these operations. Each of them made one segment at most.
 pub record Commits (ops : List (Stamped Op)) (old new : WriterValue) : Type 0 where

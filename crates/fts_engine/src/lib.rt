@@ -5,8 +5,7 @@
 //! merging and number of workers it takes the same steps as a plain list of documents, so no option changes a reply.
 //! Where the segments are small, one thread searches them, whatever the number of workers.
 //!
-//! [`LocalEngine`] takes the same steps in the calling thread alone: it needs memory and nothing else, and so can stand
-//! in a library that a program of another language calls.
+//! [`LocalEngine`] of `fts_local`, which is handed on here, takes the same steps in the calling thread alone.
 //!
 //! ```text
 //! run_script::<_, IndexEngine, _, _>(rt, &mut streams, options)?;
@@ -14,13 +13,9 @@
 #![tactic(auto)]
 
 mod index_engine;
-mod local_changes;
-mod local_commit;
-mod local_engine;
-mod local_search;
 mod segments;
 mod threads;
 mod uncommitted;
 
+pub use fts_local::LocalEngine;
 pub use index_engine::IndexEngine;
-pub use local_engine::LocalEngine;

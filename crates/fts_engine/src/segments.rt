@@ -1,38 +1,16 @@
 // Merges of the segments of a writer.
 ghost use Rattle.std.specs.Prelude.{◌≡◌, ◌+◌, ◌^◌, ◌<◌, ◌≤◌, ◌⊎◌, length};
-ghost use Rattle.std.specs.Prelude.{map, sum_by, MatchOption, IfOk, IfErr, OnOk, OnErr};
+ghost use Rattle.std.specs.Prelude.{IfOk, IfErr, OnOk, OnErr};
 ghost use Rattle.fts_model.specs.Limits.{most_merged};
-ghost use Rattle.fts_snapshots.specs.Entries.{live_count};
 ghost use Rattle.fts_snapshots.specs.Snapshots.{content_of};
 ghost use Rattle.fts_engine.specs.WriterIndexes.{Merges};
 
-use fts_index::{SegmentInfo, Writer};
-use fts_model::{MOST_MERGED, Refusal};
+use fts_index::Writer;
+use fts_model::Refusal;
+use fts_snapshots::{ids_of, live_in};
 use fts_steps::Merge;
-use std::alloc::{AllocError, Global};
+use std::alloc::Global;
 use std::sync::Wait;
-
-/// How many live documents segments have together, unless they are over 1,048,576.
-pub(crate) fn live_in(segments: &[SegmentInfo]) -> Option<usize>
-    ensures { MatchOption result (most_merged < sum_by (λ segment. segment.live) segments.now)
-        (λ live. (live ≡ sum_by (λ segment. segment.live) segments.now) × (live ≤ most_merged)) }
-{
-    let mut live = 0;
-    for segment in segments {
-        if segment.live > MOST_MERGED - live {
-            return None;
-        }
-        live += segment.live;
-    }
-    Some(live)
-}
-
-/// The numbers of segments.
-pub(crate) fn ids_of(alloc: Global, segments: &[SegmentInfo]) -> Result<Vec<u64>, AllocError>
-    ensures { IfOk result (λ ids. ids.items ≡ map (λ segment. segment.id) segments.now) }
-{
-    segments.iter().map(|segment| segment.id).collect(alloc)
-}
 
 /// Merges all segments into one, if there is one, and answers how many documents are live. It is refused as `TooLarge`
 /// where there are over 1,048,576.

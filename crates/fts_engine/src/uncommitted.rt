@@ -1,7 +1,7 @@
 // The uncommitted operations: those of a round of one lane, which is opened when the first one is submitted.
 ghost use Rattle.std.specs.Prelude.{◌≡◌, ◌≢◌, ◌+◌, ◌*◌, ◌^◌, ◌<◌, ◌≤◌, ◌⊎◌, ◌++◌, [], ◌∷◌, None};
 ghost use Rattle.std.specs.Prelude.{Some, length, IfOk, IfErr, OnOk, OnErr, IsOkUnless};
-ghost use Rattle.fts_snapshots.specs.Rounds.{fresh};
+ghost use Rattle.fts_rounds.specs.Rounds.{fresh};
 ghost use Rattle.fts_snapshots.specs.Commits.{misfit};
 ghost use Rattle.fts_engine.specs.UncommittedOperations.{HasOneLane, IsBatchOf, IsItsBatch, IsItsEnd};
 ghost use Rattle.fts_engine.specs.UncommittedOperations.{IsItsLane, IsOpen, IsUncommittedIn, StayUncommitted, Submits};

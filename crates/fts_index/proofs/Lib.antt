@@ -2,5 +2,6 @@
 pub mod PublicationsLemmas
 pub mod PublicationsStepsLemmas
 pub mod PublicationsShownLemmas
+pub mod CommitJobLemmas
 pub mod WriterLemmas
-pub mod SearchLemmas
+pub mod SearchJobLemmas

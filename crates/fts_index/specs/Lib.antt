@@ -3,5 +3,5 @@ pub mod Publications
 pub mod PublicationsHistory
 pub mod PublicationsShown
 pub mod Writers
-pub mod Searches
+pub mod CommitJobs
 pub mod SearchJobs

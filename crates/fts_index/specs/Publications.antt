@@ -3,6 +3,7 @@ use Rattle.std.specs.Prelude.{◌≡◌, ℕ, ◌<◌, ◌≤◌, ◌^◌, List,
 use Rattle.logbook.specs.Pages.{Book}
 use Rattle.fts_model.specs.declared.schema.Field.{Field}
 use Rattle.fts_snapshots.specs.Snapshots.{SnapshotValue, content_of}
+use Rattle.fts_snapshots.specs.Stamps.{IsStamped}
 use Rattle.fts_index.specs.declared.publications.publication.Publication.{Publication}
 
 -- the publication that a writer begins with: stamp 0, and no document
@@ -50,12 +51,6 @@ published stamp snapshot f = record {
   snapshot = snapshot;
   seen = record { of = f.seen.of; list = f.seen.list ++ publication stamp snapshot ∷ [] };
 }
-
--- a commit stamp is below 2^62, and the stamps of the content are below it; the documents are fewer than 2^64
-pub record IsStamped (stamp : ℕ) (snapshot : SnapshotValue) : Type 0 where
-  pub small : stamp < 2 ^ 62
-  pub below : All (λ document. document.stamp < stamp) (content_of snapshot)
-  pub few : length (content_of snapshot) < 2 ^ 64
 
 -- what was seen are publications, of which the last has this stamp, schema and content
 pub record IsFront (f : FrontValue) : Type 0 where

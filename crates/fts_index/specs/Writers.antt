@@ -5,8 +5,8 @@ use Rattle.fts_base.specs.declared.refusal.Refusal.{Refusal}
 use Rattle.fts_base.specs.declared.refusal.Refusal.TheVariants.{Memory, RoundOpen, StampsUsedUp, StaleBatch}
 use Rattle.fts_base.specs.Results.{first_of}
 use Rattle.fts_model.specs.declared.cut.Cut.{Cut}
-use Rattle.fts_snapshots.specs.declared.rounds.stamps.RoundLimits.{RoundLimits}
-use Rattle.fts_snapshots.specs.Rounds.{Gathered}
+use Rattle.fts_rounds.specs.declared.stamps.RoundLimits.{RoundLimits}
+use Rattle.fts_rounds.specs.Rounds.{Gathered}
 use Rattle.fts_snapshots.specs.Commits.{misfit}
 use Rattle.fts_snapshots.specs.Snapshots.{after_commit, commit_fault}
 use Rattle.fts_snapshots.specs.Merges.{entries_at}

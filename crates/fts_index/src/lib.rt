@@ -1,7 +1,7 @@
 //! The index: written by one writer in as many lanes as there are threads, and searched from any thread.
 //!
-//! What is found at one time, and how commits and merges lead from one such [`Snapshot`] to the next, is the crate
-//! below (`fts_snapshots`), whose types are handed on here.
+//! What is found at one time, and how commits and merges lead from one such [`Snapshot`] to the next, is a crate below
+//! (`fts_snapshots`), and so are the rounds that take operations (`fts_rounds`): their types are handed on here.
 //!
 //! - A [`Writer`] opens rounds, commits their batches, and merges segments. It holds the newest snapshot, counts rounds
 //!   and stamps, and refuses a batch that isn't of the open round.
@@ -31,15 +31,14 @@
 //! ```
 #![tactic(auto)]
 
+mod commits;
 pub mod publications;
 mod searches;
 mod writer;
 
 pub use fts_model::Cut;
-pub use fts_snapshots::{
-    Batch, CommitJob, Entry, Lane, LaneEnd, MergeJob, MergedSegment, Round, RoundLimits,
-    SegmentInfo, Snapshot, open_round,
-};
+pub use fts_rounds::{Batch, Lane, LaneEnd, Round, RoundLimits, open_round};
+pub use fts_snapshots::{CommitJob, Entry, MergeJob, MergedSegment, SegmentInfo, Snapshot};
 pub use publications::{CommitSeen, Publisher, Reader, Searcher};
 pub use searches::Found;
 pub use writer::{Committed, Writer};

@@ -3,7 +3,7 @@ ghost use Rattle.std.specs.Prelude.{◌≡◌, ◌+◌, ◌*◌, ◌^◌, ◌<�
 ghost use Rattle.std.specs.Prelude.{None, Ok, IfOk, IfErr, OnOk, OnErr, IsOkUnless, map, length, option_map};
 ghost use Rattle.std.specs.List.{range_with_len};
 ghost use Rattle.fts_model.specs.Operations.{alive, adds};
-ghost use Rattle.fts_snapshots.specs.Rounds.{fresh};
+ghost use Rattle.fts_rounds.specs.Rounds.{fresh};
 ghost use Rattle.fts_snapshots.specs.Cuts.{IsCut};
 ghost use Rattle.fts_snapshots.specs.Commits.{misfit};
 ghost use Rattle.fts_snapshots.specs.Infos.{info_of, candidate_ids};
@@ -15,12 +15,12 @@ ghost use Rattle.fts_index.specs.Publications.{opening, schema_of, IsFront, IsOn
 ghost use Rattle.fts_index.specs.Writers.{IsRefusedFor, next_round, with_round, without_round, round_fault, is_of};
 ghost use Rattle.fts_index.specs.Writers.{batch_fault, stamp_behind, with_commit, with_merge, late_fault, with_end};
 
+use crate::commits::commit;
 use crate::publications::{CommitSeen, Publisher, Reader, Searcher};
 use fts_model::{Cut, Op, Refusal, Schema, Stamp, Stamped};
 use fts_pool::Gate;
-use fts_snapshots::{
-    Batch, Lane, MergeJob, MergedSegment, Round, RoundLimits, SegmentInfo, Snapshot, open_round,
-};
+use fts_rounds::{Batch, Lane, Round, RoundLimits, open_round};
+use fts_snapshots::{MergeJob, MergedSegment, SegmentInfo, Snapshot};
 use std::alloc::Global;
 use std::marker::Model;
 use std::sync::Wait;
@@ -202,7 +202,7 @@ impl Writer {
         if let Some(refusal) = misfit(snapshot.schema(), batch.ops()) {
             return Err(refusal);
         }
-        let next = snapshot.commit(rt, alloc, batch.ops(), cut, workers, gate)?;
+        let next = commit(rt, alloc, snapshot, batch.ops(), cut, workers, gate)?;
         let stamp = batch.end();
         let seen = self.publisher.publish(rt, alloc, next, stamp)?;
         self.round = None;

@@ -1,11 +1,4 @@
 -- The lemmas.
-pub mod RoundsNumbersLemmas
-pub mod RoundsOrderLemmas
-pub mod RoundsTotalsLemmas
-pub mod RoundsStepsLemmas
-pub mod RoundsDealtLemmas
-pub mod RoundsMergingLemmas
-pub mod ShufflesLemmas
 pub mod OrderLemmas
 pub mod EntryLemmas
 pub mod CutLemmas
@@ -22,3 +15,6 @@ pub mod LookupLemmas
 pub mod EndingLemmas
 pub mod EndedLemmas
 pub mod BeginLemmas
+pub mod StampLemmas
+pub mod CountLemmas
+pub mod PreparedLemmas

@@ -1,5 +1,5 @@
 -- What the jobs of a commit make.
-use Rattle.std.specs.Prelude.{◌≡◌, ℕ, ◌<◌, List, length, Result, IfOk, IsOkUnless, slice_index_or}
+use Rattle.std.specs.Prelude.{◌≡◌, List, Result, IfOk, IsOkUnless}
 use Rattle.fts_model.specs.declared.operation.Op.{Op}
 use Rattle.fts_model.specs.declared.operation.Stamped.{Stamped}
 use Rattle.fts_base.specs.declared.refusal.Refusal.{Refusal}
@@ -22,9 +22,3 @@ entry_of job = entry_of_task job.ops.now job.task
 -- a job answers the segment that it leaves, or want of memory
 abbrev pub Answers : CommitJob → Result EntryValue Refusal → Type 0
 Answers job result = IfOk result (λ entry. entry ≡ entry_of job) × IsOkUnless result Memory
-
--- there is one answer a job, in their order
-pub record AreAnswers (jobs : List CommitJob) (results : List (Result EntryValue Refusal)) : Type 0 where
-  pub count : length results ≡ length jobs
-  pub each : (i : ℕ) (job : CommitJob) (result : Result EntryValue Refusal) → i < length jobs →
-      Answers (slice_index_or jobs i job) (slice_index_or results i result)

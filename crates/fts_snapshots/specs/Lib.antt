@@ -1,7 +1,4 @@
 -- The definitions that contracts cite.
-pub mod Rounds
-pub mod RoundsDrawn
-pub mod Shuffles
 pub mod Order
 pub mod Entries
 pub mod Infos
@@ -11,6 +8,8 @@ pub mod Jobs
 pub mod Sources
 pub mod Merges
 pub mod Snapshots
+pub mod Stamps
+pub mod PreparedCommits
 pub mod MergedSegments
 pub mod Successors
 pub mod Lookups

@@ -1,12 +1,12 @@
 -- Snapshots, what a commit makes of them, and why a commit or a merge is refused.
-use Rattle.std.specs.Prelude.{◌≡◌, ◌<◌, ◌≤◌, ℕ, ◌+◌, ◌^◌, true, Option, List, sum_by, All, AllPairs}
+use Rattle.std.specs.Prelude.{◌≡◌, ◌<◌, ◌≤◌, ℕ, ◌+◌, ◌^◌, ◌++◌, true, Option, List, Result, IfOk, length, sum_by, All, AllPairs}
 use Rattle.fts_model.specs.declared.schema.Field.{Field}
 use Rattle.fts_model.specs.declared.operation.Op.{Op}
 use Rattle.fts_model.specs.declared.operation.Stamped.{Stamped}
 use Rattle.fts_base.specs.declared.refusal.Refusal.{Refusal}
 use Rattle.fts_model.specs.Documents.{DocumentValue}
-use Rattle.fts_model.specs.Operations.{StampsRise}
-use Rattle.fts_base.specs.Results.{first_of}
+use Rattle.fts_model.specs.Operations.{StampsRise, alive, adds}
+use Rattle.fts_base.specs.Results.{Gives, first_of, ok_unless}
 use Rattle.fts_snapshots.specs.Entries.{EntryValue, IsEntry, live_count, has_live, content}
 use Rattle.fts_model.specs.declared.cut.Cut.{Cut}
 use Rattle.fts_snapshots.specs.Commits.{committed, new_segments, numbers_fault}
@@ -21,6 +21,10 @@ pub record SnapshotValue : Type 0 where
 -- the documents that are found in a snapshot, in the order of their stamps
 abbrev pub content_of : SnapshotValue → List (Stamped DocumentValue)
 content_of s = content s.entries
+
+-- how many segments there are, and how many numbers were given to segments, together
+abbrev pub segments_and_numbers : SnapshotValue → ℕ
+segments_and_numbers s = s.next_id + length s.entries
 
 -- the segments stand by rising numbers
 abbrev pub IdsRise : List EntryValue → Type 0
@@ -54,6 +58,13 @@ after_commit cut batch s = record {
 -- why a batch can't be committed
 abbrev pub commit_fault : Cut → List (Stamped Op) → SnapshotValue → Option Refusal
 commit_fault cut batch s = numbers_fault (s.next_id + new_segments cut batch)
+
+-- what a commit gives: the snapshot that it leaves, whose content is what is alive after the adds of the content before
+-- and the batch, or a refusal
+pub record GivesCommit (cut : Cut) (batch : List (Stamped Op)) (old : SnapshotValue) (result : Result SnapshotValue Refusal)
+    : Type 0 where
+  pub snapshot : Gives (λ new. new) result (ok_unless (commit_fault cut batch old) (after_commit cut batch old))
+  pub content : IfOk result (λ new. content_of new ≡ alive old.schema (adds (content_of old) ++ batch))
 
 -- why the segments of these numbers can't be merged
 abbrev pub merge_fault : List ℕ → SnapshotValue → Option Refusal

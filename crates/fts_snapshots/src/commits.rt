@@ -5,7 +5,9 @@ mod cut;
 mod group;
 mod jobs;
 mod new_segment;
+mod prepared;
 
-pub(crate) use commit::{entries_in_turn, entries_of_jobs, jobs_of_batch, push_live};
-pub(crate) use group::groups;
+pub(crate) use commit::entries_in_turn;
+pub use commit::push_live;
 pub use jobs::CommitJob;
+pub use prepared::PreparedCommit;

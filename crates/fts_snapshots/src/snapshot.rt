@@ -1,26 +1,23 @@
 // What is seen of an index at one time, and what commits and merges make of it.
-ghost use Rattle.std.specs.Prelude.{◌≡◌, ◌+◌, ◌^◌, ◌≤◌, ◌++◌, [], None, map, length, IfOk, IsOkUnless};
-ghost use Rattle.fts_model.specs.Operations.{alive, adds};
+ghost use Rattle.std.specs.Prelude.{◌≡◌, ◌^◌, [], None, map, IfOk, IsOkUnless};
 ghost use Rattle.fts_base.specs.Results.{Gives, ok_unless};
 ghost use Rattle.fts_snapshots.specs.Entries.{content};
 ghost use Rattle.fts_snapshots.specs.Infos.{info_of, candidate_ids};
 ghost use Rattle.fts_snapshots.specs.Cuts.{IsCut};
-ghost use Rattle.fts_snapshots.specs.Commits.{committed, misfit, new_segments};
+ghost use Rattle.fts_snapshots.specs.Commits.{misfit};
 ghost use Rattle.fts_snapshots.specs.Merges.{entries_at, names_fault};
 ghost use Rattle.fts_snapshots.specs.MergedSegments.{merged_of};
+ghost use Rattle.fts_snapshots.specs.PreparedCommits.{prepared};
 ghost use Rattle.fts_snapshots.specs.Successors.{Fits};
 ghost use Rattle.fts_snapshots.specs.LateMerges.{end_fault, after_end, after_merge};
-ghost use Rattle.fts_snapshots.specs.Snapshots.{IsBehind, IsSnapshot, after_commit, commit_fault, merge_fault};
+ghost use Rattle.fts_snapshots.specs.Snapshots.{IsBehind, IsSnapshot, GivesCommit, commit_fault, merge_fault};
 
-use crate::commits::{entries_in_turn, entries_of_jobs, groups, jobs_of_batch};
-use crate::entries::{Entry, SegmentInfo, are_used_up};
+use crate::commits::{PreparedCommit, entries_in_turn};
+use crate::entries::{Entry, SegmentInfo};
 use crate::merges::{MergeJob, MergedSegment, candidates, end_entries, named_entries};
 use fts_model::{Cut, Op, Refusal, Schema, Stamped};
-use fts_pool::Gate;
 use std::alloc::{AllocError, Global};
 use std::marker::Model;
-use std::sync::Wait;
-use std::thread::Threads;
 
 /// The segments of an index at one time, by rising numbers. It never changes: a commit or a merge makes another one,
 /// and a refused one nothing.
@@ -70,47 +67,49 @@ impl Snapshot {
         &self.entries
     }
 
-    /// The snapshot after a batch that fits the schema and comes behind the documents that are there. Its adds are cut
-    /// into new segments; one without a live document is gone. The jobs, one for each segment that was there and then
-    /// one for each new one, are run by up to so many threads, 1 to 64.
-    ///
-    /// `StampsUsedUp` where the number of a new segment would be 2^62 or more.
-    pub fn commit<R: Threads + Wait + Sync, G: Gate>(
-        &self,
-        rt: &R,
-        alloc: Global,
-        batch: &[Stamped<Op>],
-        cut: Cut,
-        workers: usize,
-        gate: &G,
-    ) -> Result<Snapshot, Refusal>
-        requires cut { IsCut cut }
-        requires workers { (1 ≤ workers) × (workers ≤ 64) }
-        requires behind { IsBehind (content self.now.entries) batch.now }
-        requires fits { misfit self.now.schema batch.now ≡ None }
-        ensures snapshot { Gives (λ new. new) result
-            (ok_unless (commit_fault cut batch.now self.now) (after_commit cut batch.now self.now)) }
-        ensures content { IfOk result (λ new.
-            content new.entries ≡ alive self.now.schema (adds (content self.now.entries) ++ batch.now)) }
+    /// The snapshot of these segments.
+    pub(crate) fn of(schema: Schema, entries: Vec<Entry>, next_id: u64) -> Snapshot
+        requires { IsSnapshot (record { schema = schema; entries = entries.items; next_id = next_id }) }
+        ensures { result ≡ record { schema = schema; entries = entries.items; next_id = next_id } }
     {
-        let groups = groups(alloc, cut, batch)?;
-        if are_used_up(self.next_id, groups.len()) {
-            return Err(Refusal::StampsUsedUp);
+        Snapshot {
+            schema,
+            entries,
+            next_id,
         }
-        let jobs = jobs_of_batch(
-            alloc,
-            &self.schema,
-            &self.entries,
-            self.next_id,
-            batch,
-            &groups,
-        )?;
-        let entries = entries_of_jobs(rt, alloc, &jobs, workers, gate)?;
-        self.after_jobs(cut, batch, groups.len(), entries)
     }
 
-    /// The same by the calling thread alone, which waits for no other: where there is no runtime, as in a library that
-    /// another program calls.
+    /// The number of the next segment.
+    pub(crate) fn next_id(&self) -> u64
+        ensures next { result ≡ self.now.next_id }
+        ensures snapshot { IsSnapshot self.now }
+    {
+        self.next_id
+    }
+
+    /// Begins a commit of a batch that fits the schema and comes behind the documents that are there: its adds are cut
+    /// into new segments. The jobs that it is made of may be run in any threads.
+    ///
+    /// `StampsUsedUp` where the number of a new segment would be 2^62 or more.
+    pub fn prepare_commit<'a>(
+        &'a self,
+        alloc: Global,
+        batch: &'a [Stamped<Op>],
+        cut: Cut,
+    ) -> Result<PreparedCommit<'a>, Refusal>
+        requires cut { IsCut cut }
+        requires behind { IsBehind (content self.now.entries) batch.now }
+        requires fits { misfit self.now.schema batch.now ≡ None }
+        ensures { Gives (λ commit. commit) result
+            (ok_unless (commit_fault cut batch.now self.now) (prepared cut batch.now self.now)) }
+    {
+        PreparedCommit::new(alloc, cut, batch, self)
+    }
+
+    /// The snapshot after a batch that fits the schema and comes behind the documents that are there. Its adds are cut
+    /// into new segments; one without a live document is gone. The calling thread does all of it.
+    ///
+    /// `StampsUsedUp` where the number of a new segment would be 2^62 or more.
     pub fn commit_alone(
         &self,
         alloc: Global,
@@ -120,55 +119,12 @@ impl Snapshot {
         requires cut { IsCut cut }
         requires behind { IsBehind (content self.now.entries) batch.now }
         requires fits { misfit self.now.schema batch.now ≡ None }
-        ensures snapshot { Gives (λ new. new) result
-            (ok_unless (commit_fault cut batch.now self.now) (after_commit cut batch.now self.now)) }
-        ensures content { IfOk result (λ new.
-            content new.entries ≡ alive self.now.schema (adds (content self.now.entries) ++ batch.now)) }
+        ensures { GivesCommit cut batch.now self.now result }
     {
-        let groups = groups(alloc, cut, batch)?;
-        if are_used_up(self.next_id, groups.len()) {
-            return Err(Refusal::StampsUsedUp);
-        }
-        let jobs = jobs_of_batch(
-            alloc,
-            &self.schema,
-            &self.entries,
-            self.next_id,
-            batch,
-            &groups,
-        )?;
+        let commit = self.prepare_commit(alloc, batch, cut)?;
+        let jobs = commit.jobs(alloc)?;
         let entries = entries_in_turn(alloc, &jobs)?;
-        self.after_jobs(cut, batch, groups.len(), entries)
-    }
-
-    /// The snapshot after a batch whose adds are cut into so many groups, of the segments that its jobs left.
-    fn after_jobs(
-        &self,
-        cut: Cut,
-        batch: &[Stamped<Op>],
-        groups: usize,
-        entries: Vec<Entry>,
-    ) -> Result<Snapshot, Refusal>
-        requires cut { IsCut cut }
-        requires behind { IsBehind (content self.now.entries) batch.now }
-        requires groups { groups ≡ new_segments cut batch.now }
-        requires room { self.now.next_id + groups ≤ 2 ^ 62 }
-        requires entries { entries.items
-            ≡ committed cut self.now.schema batch.now self.now.next_id self.now.entries }
-        ensures snapshot { IfOk result (λ new. new ≡ after_commit cut batch.now self.now) }
-        ensures content { IfOk result (λ new.
-            content new.entries ≡ alive self.now.schema (adds (content self.now.entries) ++ batch.now)) }
-        ensures memory { IsOkUnless result Refusal.Memory }
-    {
-        // The cut and the batch are what the contract speaks of.
-        let _ = cut;
-        let _ = batch.len();
-        let schema = self.schema.clone()?;
-        Ok(Snapshot {
-            schema,
-            entries,
-            next_id: self.next_id + groups as u64,
-        })
+        commit.finish(entries)
     }
 
     /// A merge that is begun, run and ended at once, with the refusals of these three.

@@ -1,6 +1,6 @@
 // Rounds of one lane.
 ghost use Rattle.std.specs.Prelude.{◌≡◌, IfOk};
-ghost use Rattle.fts_snapshots.specs.Rounds.{SameLane};
+ghost use Rattle.fts_rounds.specs.Rounds.{SameLane};
 
 use crate::fixtures::document;
 use fts_index::{Batch, Lane, LaneEnd, Writer};

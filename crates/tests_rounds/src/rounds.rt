@@ -3,7 +3,7 @@
 ghost use Rattle.std.specs.Prelude.{◌≡◌, ◌≤◌, ℕ, ◌<◌, length, map, slice_index_or, All};
 ghost use Rattle.std.specs.List.{range_with_len};
 ghost use Rattle.fts_pool.specs.Totals.{times};
-ghost use Rattle.fts_snapshots.specs.Rounds.{IsLaneOf, SameLane, fresh, lanes_of};
+ghost use Rattle.fts_rounds.specs.Rounds.{IsLaneOf, SameLane, fresh, lanes_of};
 
 mod abandonment;
 

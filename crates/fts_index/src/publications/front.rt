@@ -4,8 +4,9 @@ ghost use Rattle.std.specs.Prelude.{◌≡◌, ◌<◌, ◌≤◌, ◌⊎◌, �
 ghost use Rattle.std.specs.Arc.{arc_value};
 ghost use mathlib.Core.List.{IsPrefix};
 ghost use Rattle.fts_snapshots.specs.Snapshots.{content_of};
+ghost use Rattle.fts_snapshots.specs.Stamps.{IsStamped};
 ghost use Rattle.fts_index.specs.Publications.{opening, publication, published, schema_of};
-ghost use Rattle.fts_index.specs.Publications.{Follows, IsFront, IsOneCommit, IsStamped};
+ghost use Rattle.fts_index.specs.Publications.{Follows, IsFront, IsOneCommit};
 ghost use Rattle.fts_index.specs.PublicationsHistory.{head_of};
 
 use crate::publications::commit::Commit;
@@ -29,8 +30,9 @@ pub struct Front {
 impl Model for Front {
     ghost use Rattle.std.specs.Prelude.{◌≡◌, ◌+◌, length};
     ghost use Rattle.std.specs.Arc.{arc_value};
+    ghost use Rattle.fts_snapshots.specs.Stamps.{IsStamped};
     ghost use Rattle.fts_index.specs.Publications.{ArePublications, FrontValue, IsFront};
-    ghost use Rattle.fts_index.specs.Publications.{IsStamped, newest, publication};
+    ghost use Rattle.fts_index.specs.Publications.{newest, publication};
 
     ghost Value = { FrontValue };
 

@@ -3,8 +3,9 @@ ghost use Rattle.std.specs.Prelude.{◌≡◌, ◌<◌, ◌^◌, ◌⊎◌, ◌�
 ghost use Rattle.std.specs.Prelude.{IfErr, OnOk, OnErr, IsOkUnless, MatchResult, length};
 ghost use Rattle.std.specs.Arc.{arc_value};
 ghost use Rattle.fts_snapshots.specs.Snapshots.{content_of};
+ghost use Rattle.fts_snapshots.specs.Stamps.{IsStamped};
 ghost use Rattle.fts_index.specs.Publications.{opening, newest, publication, published, schema_of};
-ghost use Rattle.fts_index.specs.Publications.{Follows, IsFront, IsOneCommit, IsStamped};
+ghost use Rattle.fts_index.specs.Publications.{Follows, IsFront, IsOneCommit};
 ghost use Rattle.fts_index.specs.PublicationsShown.{name_of, told_name};
 
 use crate::publications::commit::Commit;

@@ -4,7 +4,7 @@ ghost use Rattle.fts_model.specs.Queries.{query_fits, request_fits};
 ghost use Rattle.fts_model.specs.QueryValues.{query_value};
 ghost use Rattle.fts_model.specs.Answers.{answer};
 ghost use Rattle.fts_snapshots.specs.Snapshots.{content_of};
-ghost use Rattle.fts_index.specs.Searches.{OpensInAll};
+ghost use Rattle.fts_searches.specs.Searches.{OpensInAll};
 ghost use Rattle.fts_index.specs.Publications.{IsFront};
 
 use crate::publications::front::Front;

@@ -3,9 +3,10 @@ ghost use Rattle.std.specs.Prelude.{◌≡◌, true};
 ghost use Rattle.fts_model.specs.Queries.{query_fits, request_fits};
 ghost use Rattle.fts_model.specs.QueryValues.{query_value};
 
-use fts_collect::{Part, collect};
+use fts_collect::Part;
 use fts_model::{Query, Refusal, Request};
 use fts_pool::Job;
+use fts_searches::part_of;
 use fts_snapshots::Entry;
 use std::alloc::Global;
 
@@ -50,13 +51,6 @@ impl Job for SearchJob<'_> {
     ghost gives = { AnswersSearch };
 
     fn run(&self) -> Result<Part, Refusal> {
-        let entry = self.entry;
-        collect(
-            self.alloc,
-            entry.segment(),
-            entry.live(),
-            self.query,
-            self.request,
-        )
+        part_of(self.alloc, self.entry, self.query, self.request)
     }
 }

@@ -1,6 +1,6 @@
 // The parts of a commit between the jobs: which operations strike at all, and which segments stay.
-ghost use Rattle.std.specs.Prelude.{◌≡◌, ◌≤◌, ◌<◌, ◌+◌, ◌^◌, ◌++◌, ◌∷◌, [], List, length};
-ghost use Rattle.std.specs.Prelude.{map, filter, IfOk, IfErr, OnOk, IsOkUnless, All};
+ghost use Rattle.std.specs.Prelude.{◌≡◌, ◌≤◌, ◌+◌, ◌^◌, ◌++◌, ◌∷◌, [], List, length};
+ghost use Rattle.std.specs.Prelude.{map, filter, IfOk, OnOk, IsOkUnless, All};
 ghost use Rattle.fts_model.specs.declared.schema.Field.{Field};
 ghost use Rattle.fts_model.specs.declared.operation.Stamped.{Stamped};
 ghost use Rattle.fts_model.specs.Documents.{DocumentValue};
@@ -8,17 +8,13 @@ ghost use Rattle.fts_model.specs.Operations.{survives};
 ghost use Rattle.fts_segment.specs.Segments.{AllFit};
 ghost use Rattle.fts_snapshots.specs.Entries.{has_live};
 ghost use Rattle.fts_snapshots.specs.Commits.{struck, fresh_from};
-ghost use Rattle.fts_snapshots.specs.Jobs.{entry_of, AreAnswers};
-ghost use Rattle.fts_snapshots.specs.declared.commits.jobs.CommitJob.{CommitJob};
+ghost use Rattle.fts_snapshots.specs.Jobs.{entry_of};
 
 use crate::commits::group::Group;
 use crate::commits::jobs::{CommitJob, commit_jobs};
 use crate::entries::Entry;
 use fts_model::{Op, Refusal, Schema, Stamped};
-use fts_pool::{Gate, Job, run_all};
 use std::alloc::{AllocError, Global};
-use std::sync::Wait;
-use std::thread::Threads;
 
 /// A batch without the adds behind its last delete: these strike nothing.
 fn strikers(batch: &[Stamped<Op>]) -> &[Stamped<Op>]
@@ -35,29 +31,13 @@ fn strikers(batch: &[Stamped<Op>]) -> &[Stamped<Op>]
 }
 
 /// Puts a segment behind others, if it has a live document.
-pub(crate) fn push_live(entries: &mut Vec<Entry>, entry: Entry) -> Result<(), AllocError>
+pub fn push_live(entries: &mut Vec<Entry>, entry: Entry) -> Result<(), AllocError>
     ensures { OnOk result (entries.new.items ≡ entries.old.items ++ filter has_live (entry ∷ [])) }
 {
     if entry.has_live() {
         entries.push(entry)?;
     }
     Ok(())
-}
-
-/// The segments that jobs left, without those that have no live document; or the first refusal.
-fn assemble(alloc: Global, answers: Vec<Result<Entry, Refusal>>) -> Result<Vec<Entry>, Refusal>
-    ensures ok { IfOk result (λ entries. (jobs : List CommitJob) → AreAnswers jobs answers.items →
-        entries.items ≡ filter has_live (map entry_of jobs)) }
-    ensures memory { IfErr result (λ e. (jobs : List CommitJob) → AreAnswers jobs answers.items → e ≡ Refusal.Memory) }
-{
-    let mut entries = Vec::new(alloc);
-    for answer in answers {
-        match answer {
-            Ok(entry) => push_live(&mut entries, entry)?,
-            Err(refusal) => return Err(refusal),
-        }
-    }
-    Ok(entries)
 }
 
 /// The jobs of a batch, whose adds stand in these groups: one for each old segment, and then one for each group, whose
@@ -78,23 +58,7 @@ pub(crate) fn jobs_of_batch<'a>(
     commit_jobs(alloc, schema, strikers(batch), entries, next, groups)
 }
 
-/// The segments that jobs leave and that have a live document. The jobs are run by up to so many threads.
-pub(crate) fn entries_of_jobs<R: Threads + Wait + Sync, G: Gate>(
-    rt: &R,
-    alloc: Global,
-    jobs: &[CommitJob<'_>],
-    workers: usize,
-    gate: &G,
-) -> Result<Vec<Entry>, Refusal>
-    requires { (1 ≤ workers) × (workers ≤ 64) }
-    ensures ok { IfOk result (λ entries. entries.items ≡ filter has_live (map entry_of jobs.now)) }
-    ensures memory { IsOkUnless result Refusal.Memory }
-{
-    let answers = run_all(rt, alloc, jobs, workers, gate)?;
-    assemble(alloc, answers)
-}
-
-/// The same by the calling thread, one job after the other.
+/// The segments that jobs leave and that have a live document, of jobs that are run one after the other.
 pub(crate) fn entries_in_turn(alloc: Global, jobs: &[CommitJob<'_>]) -> Result<Vec<Entry>, Refusal>
     ensures ok { IfOk result (λ entries. entries.items ≡ filter has_live (map entry_of jobs.now)) }
     ensures memory { IsOkUnless result Refusal.Memory }

@@ -4,7 +4,7 @@ ghost use Rattle.fts_model.specs.Operations.{survives};
 ghost use Rattle.fts_segment.specs.Segments.{AllFit};
 ghost use Rattle.fts_model.specs.Limits.{most_built};
 ghost use Rattle.fts_snapshots.specs.Commits.{struck, fresh, fresh_from};
-ghost use Rattle.fts_snapshots.specs.Jobs.{entry_of, AreAnswers};
+ghost use Rattle.fts_snapshots.specs.Jobs.{entry_of, Answers};
 
 use crate::commits::group::Group;
 use crate::commits::new_segment::NewSegment;
@@ -12,7 +12,6 @@ use crate::entries::Entry;
 use fts_bits::Bits;
 use fts_merge::strike;
 use fts_model::{Document, Op, Refusal, Schema, Stamped};
-use fts_pool::Job;
 use fts_segment::{Builder, Segment};
 use std::alloc::{AllocError, Global};
 
@@ -33,14 +32,11 @@ pub struct CommitJob<'a> {
     task: Task<'a>,
 }
 
-impl Job for CommitJob<'_> {
-    ghost use Rattle.fts_snapshots.specs.Jobs.{Answers};
-
-    type Out = Result<Entry, Refusal>;
-
-    ghost gives = { Answers };
-
-    fn run(&self) -> Result<Entry, Refusal> {
+impl CommitJob<'_> {
+    /// Runs the job. It answers the segment that it leaves, and the only refusal is `Memory`.
+    pub fn run(&self) -> Result<Entry, Refusal>
+        ensures { Answers self.now result }
+    {
         match &self.task {
             Task::Strike(entry) => struck(self.alloc, self.ops, entry),
             Task::Build(segment) => fresh(self.alloc, self.ops, segment),

@@ -2,8 +2,8 @@ use Rattle.std.proofs.Common.{◌<◌, ◌≤◌, List, length, map, sum_by, inl
 use Rattle.fts_snapshots.specs.Entries.{EntryValue}
 use Rattle.fts_snapshots.specs.declared.entries.entry.SegmentInfo.{SegmentInfo}
 use Rattle.fts_snapshots.specs.Snapshots.{IsSnapshot}
-use Rattle.fts_engine.proofs.CommitLemmas.{memory_alone}
-use Rattle.fts_engine.proofs.MergeLemmas.{merges_named, no_fault_in_all, ids_counted, live_documents, nonempty}
+use Rattle.fts_snapshots.proofs.CountLemmas.{ids_counted, live_documents, memory_alone, no_fault_in_all, nonempty}
+use Rattle.fts_engine.proofs.MergeLemmas.{merges_named}
 use Rattle.fts_engine.proofs.segments.merge_all.Goals as goal
 
 pub returns-in-None-clause-refused : goal.returns-in-None-clause-refused

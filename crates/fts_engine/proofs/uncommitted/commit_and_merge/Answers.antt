@@ -1,6 +1,7 @@
 use Rattle.std.proofs.Common.{◌∙◌, ap}
 use Rattle.fts_engine.specs.UncommittedOperations.{ops_of}
-use Rattle.fts_engine.proofs.CommitLemmas.{commits_batch, no_batch_fault, memory_alone}
+use Rattle.fts_snapshots.proofs.CountLemmas.{memory_alone}
+use Rattle.fts_engine.proofs.CommitLemmas.{commits_batch, no_batch_fault}
 use Rattle.fts_engine.proofs.EngineLemmas.{commits_then_merges}
 use Rattle.fts_engine.proofs.uncommitted.commit_and_merge.Goals as goal
 

@@ -1,5 +1,5 @@
 use Rattle.std.proofs.Common.{List, Result, Ok, Err, IfErr, subst}
-use Rattle.fts_snapshots.specs.Rounds.{Gathered, Opened}
+use Rattle.fts_rounds.specs.Rounds.{Gathered, Opened}
 use Rattle.fts_index.specs.Writers.{WriterValue}
 use Rattle.fts_model.specs.declared.operation.Op.{Op}
 use Rattle.fts_model.specs.declared.operation.Stamped.{Stamped}

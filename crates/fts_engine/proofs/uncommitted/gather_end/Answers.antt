@@ -1,8 +1,8 @@
 use Rattle.std.proofs.Common.{◌≡◌, ◌<◌, ◌+◌, ◌==◌, ℕ, Bool, true, cond, List, [], ◌∷◌, ◌⊎◌, inl, inr, subst, arith}
 use Rattle.std.proofs.lemmas.Bool.Decides.{nat_tests}
 use Rattle.fts_pool.specs.Totals.{times}
-use Rattle.fts_snapshots.specs.Rounds.{Held, lanes_of}
-use Rattle.fts_snapshots.specs.Shuffles.{IsLeastMissing}
+use Rattle.fts_rounds.specs.Rounds.{Held, lanes_of}
+use Rattle.fts_rounds.specs.Shuffles.{IsLeastMissing}
 use Rattle.fts_base.specs.declared.refusal.Refusal.{Refusal}
 use Rattle.fts_base.specs.declared.refusal.Refusal.TheVariants.{Memory, LaneMissing}
 use Rattle.fts_engine.proofs.uncommitted.gather_end.Goals as goal

@@ -4,7 +4,7 @@ use Rattle.std.proofs.lemmas.Result.{IfOk-weaker}
 use Rattle.fts_model.specs.QueryValues.{query_value}
 use Rattle.fts_index.specs.SearchJobs.{asked_of}
 use Rattle.fts_snapshots.proofs.JobLemmas.{for_memory_alone}
-use Rattle.fts_index.proofs.SearchLemmas.{parts_told, refused_for_memory}
+use Rattle.fts_index.proofs.SearchJobLemmas.{parts_told, refused_for_memory}
 use Rattle.fts_index.proofs.searches.segment_parts.Goals as goal
 
 pub returns-clause-parts : goal.returns-clause-parts

@@ -1,5 +1,5 @@
 -- It stays the same lane.
-use Rattle.fts_snapshots.specs.Rounds.{SameLane}
+use Rattle.fts_rounds.specs.Rounds.{SameLane}
 use Rattle.test_writers.proofs.batches.filled.Given as goal
 
 abbrev pub invariant-loop-op : goal.invariant-loop-op

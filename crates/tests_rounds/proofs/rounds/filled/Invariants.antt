@@ -1,5 +1,5 @@
 -- It stays the same lane.
-use Rattle.fts_snapshots.specs.Rounds.{SameLane}
+use Rattle.fts_rounds.specs.Rounds.{SameLane}
 use Rattle.tests_rounds.proofs.rounds.filled.Given as goal
 
 abbrev pub invariant-loop : goal.invariant-loop

@@ -1,6 +1,6 @@
 -- The threads' ends are those of the lanes that the round was opened with.
 use Rattle.std.proofs.Common.{refl}
-use Rattle.fts_snapshots.proofs.RoundsDealtLemmas.{all_of_round, all_once}
+use Rattle.fts_rounds.proofs.RoundsDealtLemmas.{all_of_round, all_once}
 use Rattle.tests_rounds.proofs.rounds.gathered.Goals as goal
 
 pub gather-requires-clause-lanes : goal.gather-requires-clause-lanes

@@ -3,7 +3,8 @@ use Rattle.fts_model.specs.declared.operation.Stamped.{Stamped}
 use Rattle.fts_model.specs.Documents.{DocumentValue}
 use Rattle.fts_model.specs.Operations.{alive, adds}
 use Rattle.fts_snapshots.specs.Snapshots.{SnapshotValue, IsBehind, content_of}
-use Rattle.fts_index.proofs.WriterLemmas.{batch_behind, first_behind, left_stamped}
+use Rattle.fts_snapshots.proofs.StampLemmas.{batch_behind, left_stamped}
+use Rattle.fts_index.proofs.WriterLemmas.{first_behind}
 use Rattle.fts_index.proofs.writer.Writer.commit.Goals as goal
 
 pub commit-requires-clause-behind : goal.commit-requires-clause-behind

@@ -1,0 +1,55 @@
+-- The answers of the jobs of a commit.
+use Rattle.std.proofs.Common.{◌≡◌, ◌<◌, ◌+◌, ℕ, zero, suc, refl, List, [], ◌∷◌, ◌++◌, length, get_or, take, map, filter, Result, Ok, Err, sym, subst, ◌∙◌, arith}
+use Rattle.std.specs.List.{AllZip}
+use Rattle.std.proofs.lemmas.List.{length-map}
+use Rattle.fts_base.specs.declared.refusal.Refusal.{Refusal}
+use Rattle.fts_base.specs.declared.refusal.Refusal.TheVariants.{Memory}
+use Rattle.fts_snapshots.specs.Entries.{EntryValue, has_live}
+use Rattle.fts_snapshots.specs.Jobs.{entry_of, Answers}
+use Rattle.fts_snapshots.specs.declared.commits.jobs.CommitJob.{CommitJob}
+use Rattle.fts_snapshots.proofs.JobLemmas.{kept_in_turn}
+use Rattle.fts_index.specs.CommitJobs.{AreAnswers, AnswersCommit, job_of}
+use Rattle.fts_index.specs.declared.commits.shared.SharedJob.{SharedJob}
+
+-- the answer of a job is its own
+answer_at : (jobs : List CommitJob) (results : List (Result EntryValue Refusal)) (k : ℕ) (job : CommitJob) (result : Result EntryValue Refusal) → AreAnswers jobs results → k < length results →
+    result ≡ get_or results k result → Answers (get_or jobs k job) result
+answer_at jobs results k job result a l e = subst (λ r. Answers (get_or jobs k job) r) (sym e) (a.each k job result (omega (arith, l, a.count)))
+
+-- a job refuses for memory alone
+pub memory_only : (jobs : List CommitJob) (results : List (Result EntryValue Refusal)) (k : ℕ) (result : Result EntryValue Refusal) (refusal : Refusal) → AreAnswers jobs results → k < length results →
+    result ≡ get_or results k result → result ≡ Err refusal → refusal ≡ Memory
+memory_only [] results k result refusal a l e f = absurd (omega (arith, l, a.count))
+memory_only (job ∷ jobs) results k result refusal a l e f =
+    (subst (λ r. Answers (get_or (job ∷ jobs) k job) r) f (answer_at (job ∷ jobs) results k job result a l e)).1
+
+-- one job's segment more
+pub kept_more : (jobs : List CommitJob) (results : List (Result EntryValue Refusal)) (k : ℕ) (result : Result EntryValue Refusal) (entry : EntryValue) (kept : List EntryValue) → AreAnswers jobs results →
+    k < length results → result ≡ get_or results k result → result ≡ Ok entry → kept ≡ filter has_live (map entry_of (take k jobs)) →
+    kept ++ filter has_live (entry ∷ []) ≡ filter has_live (map entry_of (take (k + 1) jobs))
+kept_more [] results k result entry kept a l e f h = absurd (omega (arith, l, a.count))
+kept_more (job ∷ jobs) results k result entry kept a l e f h =
+    let here = get_or (job ∷ jobs) k job in
+    let within : k < length (job ∷ jobs) = omega (arith, l, a.count) in
+    let same : entry ≡ entry_of here = (subst (λ r. Answers here r) f (answer_at (job ∷ jobs) results k job result a l e)).0 in
+    kept_in_turn (job ∷ jobs) k job here entry kept within refl same h
+
+zip-count : (shared : List SharedJob) (results : List (Result EntryValue Refusal)) → AllZip AnswersCommit shared results → length results ≡ length shared
+zip-count [] [] h = refl
+zip-count [] (result ∷ results) h = absurd h
+zip-count (job ∷ shared) [] h = absurd h
+zip-count (job ∷ shared) (result ∷ results) h = omega (arith, zip-count shared results h.1)
+
+zip-each : (shared : List SharedJob) (results : List (Result EntryValue Refusal)) (i : ℕ) (job : CommitJob) (result : Result EntryValue Refusal) →
+    AllZip AnswersCommit shared results → i < length (map job_of shared) → Answers (get_or (map job_of shared) i job) (get_or results i result)
+zip-each [] results i job result h within = absurd (omega (arith, within))
+zip-each (first ∷ shared) [] i job result h within = absurd h
+zip-each (first ∷ shared) (answer ∷ results) zero job result h within = h.0
+zip-each (first ∷ shared) (answer ∷ results) (suc i) job result h within = zip-each shared results i job result h.1 (omega (arith, within))
+
+-- the answers of a pool
+pub answers_of_all : (jobs : List CommitJob) (shared : List SharedJob) (results : List (Result EntryValue Refusal)) → map job_of shared ≡ jobs → AllZip AnswersCommit shared results → AreAnswers jobs results
+answers_of_all jobs shared results e h = subst (λ js. AreAnswers js results) e (record {
+  count = zip-count shared results h ∙ sym (length-map shared job_of);
+  each = λ i job result within. zip-each shared results i job result h within;
+})

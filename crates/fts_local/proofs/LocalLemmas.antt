@@ -1,0 +1,92 @@
+-- What an engine of one thread keeps from call to call.
+use Rattle.std.proofs.Common.{◌≡◌, ◌+◌, ◌*◌, ◌≤◌, ℕ, true, None, List, [], ◌∷◌, ◌++◌, length, refl, sym, ap, subst, ◌∙◌, arith}
+use Rattle.std.specs.List.{range_with_len}
+use Rattle.std.proofs.lemmas.List.{length-append}
+use Rattle.fts_model.specs.declared.operation.Op.{Op}
+use Rattle.fts_model.specs.declared.operation.Stamped.{Stamped}
+use Rattle.fts_model.specs.declared.cut.Cut.{Cut}
+use Rattle.fts_model.specs.Operations.{adds, alive, op_fits}
+use Rattle.fts_snapshots.specs.Commits.{misfit}
+use Rattle.fts_snapshots.specs.LateMerges.{after_merge}
+use Rattle.fts_snapshots.specs.Snapshots.{SnapshotValue, after_commit, content_of, merge_fault, segments_and_numbers}
+use Rattle.fts_snapshots.specs.Stamps.{stamps_of}
+use Rattle.fts_snapshots.proofs.CountLemmas.{commit_counted, merge_counted, misfit-push}
+use Rattle.fts_snapshots.proofs.StampLemmas.{numbered-push}
+use Rattle.fts_local.specs.declared.commit.LocalCommit.{LocalCommit}
+use Rattle.fts_local.specs.LocalIndexes.{CommitsLocally, IsLocalEngine, MergesLocally}
+
+-- the next operation waits
+pub local_submitted : (commit : LocalCommit) (pending : List (Stamped Op)) (cut : Cut) (calls stamp : ℕ) (op : Op) → IsLocalEngine commit pending cut calls → stamp ≡ commit.stamp + length pending + 1 →
+    op_fits commit.snapshot.schema op ≡ true → IsLocalEngine commit (pending ++ record { stamp = stamp; value = op } ∷ []) cut (calls + 1)
+local_submitted commit pending cut calls stamp op i at fits =
+    let one : Stamped Op = record { stamp = stamp; value = op } in
+    let more : length (pending ++ one ∷ []) ≡ length pending + 1 = length-append pending (one ∷ []) in
+    record {
+      cuts = i.cuts;
+      numbered = numbered-push (commit.stamp + 1) pending one i.numbered (omega (arith, at));
+      fit = misfit-push commit.snapshot.schema pending one i.fit fits;
+      stamps = omega (arith, more, i.stamps);
+      segments = omega (arith, more, i.segments);
+    }
+
+-- what waited is committed
+pub local_committed : (old new : LocalCommit) (pending : List (Stamped Op)) (cut : Cut) (calls : ℕ) → IsLocalEngine old pending cut calls → CommitsLocally pending old new → IsLocalEngine new [] cut (calls + 1)
+local_committed old new pending cut calls i c = record {
+  cuts = i.cuts;
+  numbered = refl;
+  fit = refl;
+  stamps = omega (arith, c.stamp, i.stamps);
+  segments = omega (arith, c.segments, i.segments);
+}
+
+-- the segments of the last commit are merged
+pub local_merged : (old new : LocalCommit) (pending : List (Stamped Op)) (cut : Cut) (calls : ℕ) → IsLocalEngine old pending cut calls → MergesLocally 1 old new → IsLocalEngine new pending cut (calls + 1)
+local_merged old new pending cut calls i m = record {
+  cuts = i.cuts;
+  numbered = subst (λ n. stamps_of pending ≡ range_with_len (n + 1) (length pending)) (sym m.stamp) i.numbered;
+  fit = subst (λ s. misfit s pending ≡ None) (sym m.schema) i.fit;
+  stamps = omega (arith, m.stamp, i.stamps);
+  segments = omega (arith, m.segments, i.segments);
+}
+
+-- a commit of operations, as an engine sees it
+pub commits_locally : (cut : Cut) (ops : List (Stamped Op)) (old new : LocalCommit) → new.snapshot ≡ after_commit cut ops old.snapshot →
+    content_of new.snapshot ≡ alive old.snapshot.schema (adds (content_of old.snapshot) ++ ops) → new.stamp ≡ old.stamp + length ops + 1 → CommitsLocally ops old new
+commits_locally cut ops old new is content at = record {
+  schema = ap (λ (s : SnapshotValue). s.schema) is;
+  documents = content;
+  stamp = at;
+  segments = subst (λ s. segments_and_numbers s ≤ segments_and_numbers old.snapshot + 2 * length ops) (sym is) (commit_counted cut ops old.snapshot);
+}
+
+-- a merge, as an engine sees it
+pub merges_locally : (more : ℕ) (ids : List ℕ) (old new : LocalCommit) → new.snapshot ≡ after_merge ids old.snapshot → merge_fault ids old.snapshot ≡ None → 2 ≤ length ids + more →
+    content_of new.snapshot ≡ content_of old.snapshot → new.stamp ≡ old.stamp → MergesLocally more old new
+merges_locally more ids old new is fine enough content at = record {
+  schema = ap (λ (s : SnapshotValue). s.schema) is;
+  documents = content;
+  stamp = at;
+  segments = subst (λ s. segments_and_numbers s ≤ segments_and_numbers old.snapshot + more) (sym is) (merge_counted more ids old.snapshot fine enough);
+}
+
+-- a commit that stays as it is
+pub merges_nothing : (more : ℕ) (commit : LocalCommit) → MergesLocally more commit commit
+merges_nothing more commit = record { schema = refl; documents = refl; stamp = refl; segments = omega arith }
+
+-- merges one behind the other
+pub merges_then : (a b c : LocalCommit) → MergesLocally 0 a b → MergesLocally 0 b c → MergesLocally 0 a c
+merges_then a b c ab bc = record {
+  schema = bc.schema ∙ ab.schema;
+  documents = bc.documents ∙ ab.documents;
+  stamp = bc.stamp ∙ ab.stamp;
+  segments = omega (arith, ab.segments, bc.segments);
+}
+
+-- a commit with merges behind it is a commit
+pub commits_then_merges : (ops : List (Stamped Op)) (old mid new : LocalCommit) → CommitsLocally ops old mid → MergesLocally 0 mid new → CommitsLocally ops old new
+commits_then_merges ops old mid new c m = record {
+  schema = m.schema ∙ c.schema;
+  documents = m.documents ∙ c.documents;
+  stamp = m.stamp ∙ c.stamp;
+  segments = omega (arith, m.segments, c.segments);
+}

@@ -1,0 +1,51 @@
+-- An index over a commit and the operations since, kept by one thread.
+use Rattle.std.specs.Prelude.{◌≡◌, ℕ, ◌+◌, ◌*◌, ◌≤◌, None, List, ◌++◌, length}
+use Rattle.std.specs.List.{range_with_len}
+use Rattle.fts_model.specs.declared.cut.Cut.{Cut}
+use Rattle.fts_model.specs.declared.operation.Op.{Op}
+use Rattle.fts_model.specs.declared.operation.Stamped.{Stamped}
+use Rattle.fts_model.specs.Operations.{alive, adds}
+use Rattle.fts_snapshots.specs.Commits.{misfit}
+use Rattle.fts_snapshots.specs.Cuts.{IsCut}
+use Rattle.fts_snapshots.specs.Stamps.{stamps_of}
+use Rattle.fts_snapshots.specs.Snapshots.{content_of, segments_and_numbers}
+use Rattle.fts_steps.specs.Indexes.{Index}
+use Rattle.fts_local.specs.declared.commit.LocalCommit.{LocalCommit}
+
+-- what a commit stands for, with the operations since
+abbrev pub local_index : LocalCommit → List (Stamped Op) → Index
+local_index commit pending = record {
+  schema = commit.snapshot.schema;
+  documents = content_of commit.snapshot;
+  commit_stamp = commit.stamp;
+  pending = pending;
+}
+
+-- an engine: what it stands for, and how many calls changed it
+pub record LocalValue : Type 0 where
+  pub index : Index
+  pub calls : ℕ
+
+-- What holds of an engine after so many calls that changed it: the operations have the stamps behind the commit's, and
+-- each call took one stamp, and two of segments and their numbers together, at most.
+pub record IsLocalEngine (commit : LocalCommit) (pending : List (Stamped Op)) (cut : Cut) (calls : ℕ) : Type 0 where
+  pub cuts : IsCut cut
+  pub numbered : stamps_of pending ≡ range_with_len (commit.stamp + 1) (length pending)
+  pub fit : misfit commit.snapshot.schema pending ≡ None
+  pub stamps : commit.stamp + length pending ≤ calls
+  pub segments : segments_and_numbers commit.snapshot + 2 * length pending ≤ 2 * calls
+
+-- Operations were committed behind a commit. Each of them took one segment and its number at most.
+pub record CommitsLocally (ops : List (Stamped Op)) (old new : LocalCommit) : Type 0 where
+  pub schema : new.snapshot.schema ≡ old.snapshot.schema
+  pub documents : content_of new.snapshot ≡ alive old.snapshot.schema (adds (content_of old.snapshot) ++ ops)
+  pub stamp : new.stamp ≡ old.stamp + length ops + 1
+  pub segments : segments_and_numbers new.snapshot ≤ segments_and_numbers old.snapshot + 2 * length ops
+
+-- The segments of a commit were merged, which changes nothing that is found, and takes so many more segments and numbers
+-- at most.
+pub record MergesLocally (more : ℕ) (old new : LocalCommit) : Type 0 where
+  pub schema : new.snapshot.schema ≡ old.snapshot.schema
+  pub documents : content_of new.snapshot ≡ content_of old.snapshot
+  pub stamp : new.stamp ≡ old.stamp
+  pub segments : segments_and_numbers new.snapshot ≤ segments_and_numbers old.snapshot + more

@@ -1,0 +1,128 @@
+// An index over segments that needs nothing but memory: no other thread, and nothing to wait for.
+ghost use Rattle.std.specs.Prelude.{◌≡◌};
+
+use crate::changes::{commit_and_merge, merge_all};
+use crate::commit::LocalCommit;
+use fts_model::{Answer, Cut, Op, Query, Refusal, Request, Schema, Stamp, Stamped};
+use fts_searches::search_alone;
+use fts_snapshots::Snapshot;
+use fts_steps::{Engine, EngineOver, Fork, Merge, Options};
+use std::alloc::{AllocError, Global};
+use std::marker::Model;
+use std::sync::Arc;
+
+/// The most operations that wait for a commit.
+const MOST_PENDING: usize = 1_000_000;
+
+/// The last commit, which forks share, and the operations since.
+///
+/// All work is done by the calling thread, so of the options it heeds the cut and the merges.
+#[derive(Drop)]
+pub struct LocalEngine {
+    alloc: Global,
+    cut: Cut,
+    merge: Merge,
+    commit: Arc<LocalCommit>,
+    pending: Vec<Stamped<Op>>,
+    /// How many calls changed something.
+    calls: u64,
+}
+
+impl Model for LocalEngine {
+    ghost use Rattle.std.specs.Arc.{arc_value};
+    ghost use Rattle.fts_local.specs.LocalIndexes.{IsLocalEngine, LocalValue, local_index};
+
+    ghost Value = { LocalValue };
+
+    ghost view = { λ e. record { index = local_index (arc_value e.commit) e.pending.items; calls = e.calls } };
+
+    ghost invariant = { λ e. IsLocalEngine (arc_value e.commit) e.pending.items e.cut e.calls };
+}
+
+impl Fork for LocalEngine {
+    fn fork(&self) -> Result<Self, AllocError> {
+        let commit = Arc::try_clone(&self.commit)?;
+        Ok(LocalEngine {
+            alloc: self.alloc,
+            cut: self.cut,
+            merge: self.merge,
+            commit,
+            pending: Vec::new(self.alloc),
+            calls: self.calls,
+        })
+    }
+}
+
+impl Engine for LocalEngine {
+    ghost index = { λ e. e.index };
+
+    ghost changes = { λ e. e.calls };
+
+    fn schema(&self) -> &Schema {
+        self.commit.snapshot.schema()
+    }
+
+    fn commit_stamp(&self) -> Stamp {
+        self.commit.stamp
+    }
+
+    fn next_stamp(&self) -> Stamp {
+        self.commit.stamp + self.pending.len() as u64 + 1
+    }
+
+    fn submit(&mut self, op: Op) -> Result<Stamp, Refusal> {
+        self.calls += 1;
+        if self.pending.len() >= MOST_PENDING {
+            return Err(Refusal::LaneFull);
+        }
+        let stamp = self.commit.stamp + self.pending.len() as u64 + 1;
+        self.pending.push(Stamped { stamp, value: op })?;
+        Ok(stamp)
+    }
+}
+
+impl<R: AllocGlobal + Sync> EngineOver<R> for LocalEngine {
+    fn open(rt: &R, options: Options, schema: Schema) -> Result<Self, Refusal> {
+        let alloc = rt.alloc();
+        let snapshot = Snapshot::new(alloc, schema);
+        let commit = Arc::new(alloc, LocalCommit { stamp: 0, snapshot })?;
+        Ok(LocalEngine {
+            alloc,
+            cut: options.cut,
+            merge: options.merge,
+            commit,
+            pending: Vec::new(alloc),
+            calls: 0,
+        })
+    }
+
+    fn commit(&mut self, _rt: &R) -> Result<Stamp, Refusal> {
+        self.calls += 1;
+        self.commit = commit_and_merge(
+            self.alloc,
+            &self.commit,
+            &self.pending,
+            self.cut,
+            self.merge,
+        )?;
+        self.pending.clear();
+        Ok(self.commit.stamp)
+    }
+
+    fn rollback(&mut self, _rt: &R) -> Result<Stamp, Refusal> {
+        self.calls += 1;
+        self.pending.clear();
+        Ok(self.commit.stamp)
+    }
+
+    fn merge(&mut self, _rt: &R) -> Result<u64, Refusal> {
+        self.calls += 1;
+        merge_all(self.alloc, &mut self.commit)
+    }
+
+    fn search(&mut self, rt: &R, query: &Query, request: &Request) -> Result<Answer, Refusal> {
+        search_alone(rt.alloc(), &self.commit.snapshot, query, request)
+    }
+
+    fn close(self, _rt: &R) {}
+}

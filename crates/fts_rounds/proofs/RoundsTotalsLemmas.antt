@@ -1,0 +1,15 @@
+-- How many stamps the views of all seats have at most.
+use Rattle.std.proofs.Common.{ℕ, suc, ◌*◌, ◌≤◌, List, [], ◌∷◌, refl, arith}
+use Rattle.std.proofs.Math.Nat.{add-mul}
+use Rattle.fts_pool.proofs.TotalsLemmas.{Each}
+use Rattle.fts_rounds.specs.declared.stamps.RoundLimits.{RoundLimits}
+use Rattle.fts_rounds.specs.declared.stamps.Drawn.{Drawn}
+use Rattle.fts_rounds.specs.RoundsDrawn.{lane_count, stamp_count, Fits}
+
+-- together they have at most cap stamps a lane
+pub count_le : (t : RoundLimits) (next : ℕ) (views : List Drawn) → Each (Fits t next) views → stamp_count views ≤ lane_count views * t.cap
+count_le t next [] fit = omega arith
+count_le t next (x ∷ xs) fit =
+    let here = (fit 0 x refl).most in
+    let rest = count_le t next xs (λ id v at. fit (suc id) v at) in
+    omega (arith, add-mul x.lanes (lane_count xs) t.cap)

@@ -1,0 +1,52 @@
+-- Commits that were prepared, and finished.
+use Rattle.std.proofs.Common.{◌≡◌, ◌++◌, ◌⊎◌, inl, inr, None, Some, Ok, Err, List, Result, IfOk, IsOkUnless, sym, ap, ◌∙◌}
+use Rattle.std.proofs.lemmas.List.Elements.{recursion_from_All}
+use Rattle.fts_base.specs.declared.refusal.Refusal.{Refusal}
+use Rattle.fts_base.specs.declared.refusal.Refusal.TheVariants.{Memory}
+use Rattle.fts_base.specs.Results.{ok_unless}
+use Rattle.fts_model.specs.declared.cut.Cut.{Cut}
+use Rattle.fts_model.specs.declared.operation.Op.{Op}
+use Rattle.fts_model.specs.declared.operation.Stamped.{Stamped}
+use Rattle.fts_model.specs.Operations.{alive, adds}
+use Rattle.fts_snapshots.specs.Entries.{EntryValue, content}
+use Rattle.fts_snapshots.specs.PreparedCommits.{IsPrepared, PreparedValue, prepared}
+use Rattle.fts_snapshots.specs.Snapshots.{GivesCommit, IsSnapshot, SnapshotValue, after_commit, commit_fault, content_of}
+use Rattle.fts_snapshots.proofs.CommitLemmas.{content-committed}
+use Rattle.fts_snapshots.proofs.CountLemmas.{refused_by}
+use Rattle.fts_snapshots.proofs.SnapshotLemmas.{snapshot_after_commit, rise_behind}
+use Rattle.fts_snapshots.proofs.SourceLemmas.{unless_ok}
+
+-- the snapshot that a prepared commit leaves
+abbrev pub left : PreparedValue → SnapshotValue
+left p = after_commit p.cut p.batch p.snapshot
+
+pub left_is : (p : PreparedValue) → IsPrepared p → IsSnapshot (left p)
+left_is p i = snapshot_after_commit p.cut p.batch p.snapshot i.cut i.snapshot (rise_behind (content_of p.snapshot) p.batch i.snapshot.stamps i.behind) i.room
+
+pub content-left : (p : PreparedValue) → IsPrepared p → content_of (left p) ≡ alive p.snapshot.schema (adds (content_of p.snapshot) ++ p.batch)
+content-left p i =
+    let s = p.snapshot in
+    content-committed p.cut s.schema p.batch s.next_id s.entries (recursion_from_All (λ (e : EntryValue). e.segment.schema ≡ s.schema) s.entries i.snapshot.schemas)
+    (rise_behind (content_of s) p.batch i.snapshot.stamps i.behind)
+
+-- what is finished of a prepared commit is what the commit gives
+pub gives_commit : (cut : Cut) (batch : List (Stamped Op)) (s : SnapshotValue) (p : PreparedValue) (r : Result SnapshotValue Refusal) → ok_unless (commit_fault cut batch s) (prepared cut batch s) ≡ Ok p →
+    IfOk r (λ new. new ≡ left p) → IfOk r (λ new. content_of new ≡ alive p.snapshot.schema (adds (content_of p.snapshot) ++ p.batch)) → IsOkUnless r Memory → GivesCommit cut batch s r
+gives_commit cut batch s p (Ok new) is same holds memory =
+    let both = unless_ok (commit_fault cut batch s) (prepared cut batch s) p is in
+    record {
+      snapshot = ap (λ f. ok_unless f (after_commit cut batch s)) both.0 ∙ ap Ok (sym (same ∙ ap left both.1));
+      content = holds ∙ ap (λ (q : PreparedValue). alive q.snapshot.schema (adds (content_of q.snapshot) ++ q.batch)) both.1;
+    }
+gives_commit cut batch s p (Err e) is same holds memory = record { snapshot = inl memory; content = tt }
+
+-- nor does a commit give anything that can't be prepared
+pub not_prepared : (cut : Cut) (batch : List (Stamped Op)) (s : SnapshotValue) (e : Refusal) → (e ≡ Memory) ⊎ (ok_unless (commit_fault cut batch s) (prepared cut batch s) ≡ Err e) →
+    GivesCommit cut batch s (Err e)
+not_prepared cut batch s e h =
+    let because : (e ≡ Memory) ⊎ (commit_fault cut batch s ≡ Some e) = refused_by (commit_fault cut batch s) (prepared cut batch s) e h in
+    record {
+      snapshot = elim because as (λ _. (e ≡ Memory) ⊎ (ok_unless (commit_fault cut batch s) (after_commit cut batch s) ≡ Err e))
+          [ inl m ↦ inl m | inr f ↦ inr (ap (λ g. ok_unless g (after_commit cut batch s)) f) ];
+      content = tt;
+    }

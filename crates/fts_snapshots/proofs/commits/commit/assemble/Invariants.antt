@@ -1,9 +1,0 @@
--- What stays true in the loop of `commits::commit::assemble`.
-use Rattle.std.proofs.Common.{◌≡◌, List, length, map, filter, take}
-use Rattle.fts_snapshots.specs.Entries.{has_live}
-use Rattle.fts_snapshots.specs.Jobs.{entry_of, AreAnswers}
-use Rattle.fts_snapshots.specs.declared.commits.jobs.CommitJob.{CommitJob}
-use Rattle.fts_snapshots.proofs.commits.commit.assemble.Given as goal
-
-abbrev pub invariant-loop-answer : goal.invariant-loop-answer
-invariant-loop-answer l = (jobs : List CommitJob) → AreAnswers jobs l.fn.answers.items → l.entries.items ≡ filter has_live (map entry_of (take (length l.yielded) jobs))

@@ -1,8 +1,0 @@
--- The number is not among the ends so far.
-use Rattle.std.proofs.Common.{◌≡◌, take}
-use Rattle.fts_pool.specs.Totals.{times}
-use Rattle.fts_snapshots.specs.Rounds.{lanes_of}
-use Rattle.fts_snapshots.proofs.rounds.round.has_lane.Given as goal
-
-abbrev pub invariant-loop-end : goal.invariant-loop-end
-invariant-loop-end l = times l.lane (lanes_of (take l.end-index l.ends)) ≡ 0

@@ -1,0 +1,34 @@
+-- Commits that were prepared, whose jobs may be run in any threads.
+use Rattle.std.specs.Prelude.{◌≡◌, ◌+◌, ◌≤◌, ◌^◌, None, List}
+use Rattle.fts_model.specs.declared.operation.Op.{Op}
+use Rattle.fts_model.specs.declared.operation.Stamped.{Stamped}
+use Rattle.fts_model.specs.declared.cut.Cut.{Cut}
+use Rattle.fts_snapshots.specs.Cuts.{IsCut}
+use Rattle.fts_snapshots.specs.Commits.{all_after, committed, misfit, new_segments}
+use Rattle.fts_snapshots.specs.Entries.{EntryValue}
+use Rattle.fts_snapshots.specs.Snapshots.{IsBehind, IsSnapshot, SnapshotValue, content_of}
+
+-- a commit that was prepared: of this batch, cut in this way, on this snapshot
+pub record PreparedValue : Type 0 where
+  pub cut : Cut
+  pub batch : List (Stamped Op)
+  pub snapshot : SnapshotValue
+
+abbrev pub prepared : Cut → List (Stamped Op) → SnapshotValue → PreparedValue
+prepared cut batch snapshot = record { cut = cut; batch = batch; snapshot = snapshot }
+
+-- what holds of every prepared commit: nothing is wrong with it
+pub record IsPrepared (p : PreparedValue) : Type 0 where
+  pub cut : IsCut p.cut
+  pub behind : IsBehind (content_of p.snapshot) p.batch
+  pub fits : misfit p.snapshot.schema p.batch ≡ None
+  pub room : p.snapshot.next_id + new_segments p.cut p.batch ≤ 2 ^ 62
+  pub snapshot : IsSnapshot p.snapshot
+
+-- the segments that its jobs leave, one a job
+abbrev pub entries_left : PreparedValue → List EntryValue
+entries_left p = all_after p.cut p.snapshot.schema p.batch p.snapshot.next_id p.snapshot.entries
+
+-- those of them that stay
+abbrev pub entries_kept : PreparedValue → List EntryValue
+entries_kept p = committed p.cut p.snapshot.schema p.batch p.snapshot.next_id p.snapshot.entries
