@@ -1,5 +1,5 @@
 // A session and its last reply.
-ghost use Rattle.std.specs.Prelude.{◌≡◌, ◌≢◌, [], IfSome, pos, string_bytes};
+ghost use Rattle.std.specs.Prelude.{◌≡◌, ◌≢◌, ◌≤◌, ◌^◌, [], IfSome, length, pos, string_bytes};
 ghost use Rattle.fts_session.specs.Finds.{at_commit, reply_to_search};
 ghost use Rattle.fts_session.specs.Outputs.{start, reply_to, after_line};
 
@@ -30,6 +30,19 @@ fn options() -> Options {
     }
 }
 
+/// Why a line isn't tried: 2 where it is too long, 3 where there were 2^61 lines; else 0.
+fn fault(session: &Session<LocalEngine>, line: &[u8]) -> i32
+    ensures { result ≡ pos 0 → (length line.now ≤ 4194304) × (session.now.number ≤ 2 ^ 61) }
+{
+    if line.len() > LONGEST {
+        2
+    } else if session.lines() >= MOST_LINES {
+        3
+    } else {
+        0
+    }
+}
+
 impl State {
     /// Before the first line.
     pub(crate) fn new(alloc: Global) -> State
@@ -54,11 +67,9 @@ impl State {
             mut reply,
         } = self;
         reply.clear();
-        if line.len() > LONGEST {
-            return (State { session, reply }, 2);
-        }
-        if session.lines() >= MOST_LINES {
-            return (State { session, reply }, 3);
+        let fault = fault(&session, line);
+        if fault != 0 {
+            return (State { session, reply }, fault);
         }
         let code = match session.answer(&((), alloc), line, &mut reply) {
             Ok(()) => 0,
@@ -79,11 +90,9 @@ impl State {
             mut reply,
         } = self;
         reply.clear();
-        if line.len() > LONGEST {
-            return (State { session, reply }, 2);
-        }
-        if session.lines() >= MOST_LINES {
-            return (State { session, reply }, 3);
+        let fault = fault(&session, line);
+        if fault != 0 {
+            return (State { session, reply }, fault);
         }
         let code = match session.find(&((), alloc), line, &mut reply) {
             Ok(()) => 0,

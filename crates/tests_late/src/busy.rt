@@ -9,6 +9,9 @@ use std::sync::Wait;
 use std::thread::{Threads, for_each_mut, join};
 use test_writers::{count, writer};
 
+/// How many documents there are in the end.
+const LAST: u64 = 1_001;
+
 /// The numbers of a writer's segments.
 fn ids(rt: &impl Abort, alloc: Global, writer: &Writer) -> Vec<u64> {
     let mut ids = Vec::new(alloc);
@@ -34,14 +37,18 @@ fn found<R: Threads + Wait + Sync + Abort>(rt: &R, alloc: Global, reader: &mut R
     found
 }
 
-/// Searches a thousand times, and never finds less than before.
+/// Searches until the last commit is found, and never finds less than before.
 fn search_on<R: Threads + Wait + Sync + Abort>(rt: &R, alloc: Global, reader: &mut Reader) {
     let mut most = 0;
-    for _ in 0..1000 {
+    for _ in 0..1_000_000 {
         let found = found(rt, alloc, reader);
         assert!(rt; most <= found);
+        if found == LAST {
+            return;
+        }
         most = found;
     }
+    panic!(rt; "the last commit isn't found");
 }
 
 /// Searches by each reader in a thread of its own.
@@ -74,7 +81,7 @@ fn side_by_side<R: Threads + Wait + Sync + Abort>(rt: &R, alloc: Global, writer:
         || search_all(rt, alloc, readers.as_mut_slice()),
     );
     for reader in readers.iter_mut() {
-        assert_eq!(rt; found(rt, alloc, reader), 1001);
+        assert_eq!(rt; found(rt, alloc, reader), LAST);
     }
 }
 

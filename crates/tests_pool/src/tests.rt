@@ -95,7 +95,7 @@ fn squares<R: AllocGlobal + Threads + Wait + Sync + Abort>(rt: &R, jobs: &[Squar
         Ok(squares) => squares,
         Err(_) => {
             each_ran(rt, jobs, 0);
-            run_all(rt, rt.alloc(), jobs, 3, &Open).expect(rt, "squares")
+            run_all(rt, rt.alloc(), jobs, 3, &Open).expect(rt, "squares again")
         }
     }
 }

@@ -205,38 +205,6 @@ fn lines_behind_white_space(rt: HostRuntime) {
     replies_to::<_, ListEngine>(&rt, &script, &replies(&rt, script.len(), true));
 }
 
-/// Runs the script over a writer with room for its replies. A run that ends for memory has written the replies to the
-/// lines before the one that the last byte belongs to.
-fn ends_for_memory<G: AllocGlobal + Abort + Sync, E: EngineOver<G>>(
-    rt: &G,
-    script: &[u8],
-    room: usize,
-) -> bool {
-    let mut writer = writer_of(rt, 1000, 0, None);
-    writer.bytes.reserve(room).expect(rt, "room");
-    let reader = reader_of(script, 1, 0, io::ErrorKind::Other);
-    let (outcome, reader, written) = run_over::<_, E, _, _>(rt, reader, writer, Options::default());
-    if outcome == Ok(()) {
-        assert_eq!(rt; written.bytes, replies(rt, script.len(), true));
-        return false;
-    }
-    assert_eq!(rt; outcome, Err(Fault::Memory));
-    let taken = script.len().wrapping_sub(reader.bytes.len());
-    let wanted = replies(rt, taken.saturating_sub(1), false);
-    assert_eq!(rt; written.bytes, wanted, "byte {taken}");
-    true
-}
-
-// Each growth is refused in turn from outside; the second run has its memory.
-#[test]
-fn a_refused_growth_keeps_whole_replies(rt: HostRuntime) {
-    let script = input(&rt);
-    let room = replies(&rt, script.len(), true).len();
-    if ends_for_memory::<_, ListEngine>(&rt, &script, room) {
-        assert!(rt; !ends_for_memory::<_, ListEngine>(&rt, &script, room));
-    }
-}
-
 /// Whether a script fails at this read, with the replies to the lines before it.
 fn read_fails<G: AllocGlobal + Abort + Sync, E: EngineOver<G>>(
     rt: &G,

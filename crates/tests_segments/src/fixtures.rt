@@ -58,9 +58,9 @@ pub(crate) fn add(
     if !document.fits(schema) || docs >= 1_048_576 {
         panic!(rt; "a document that can't be added");
     }
-    if builder.add(stamp, document).is_err() {
-        assert_eq!(rt; builder.docs(), docs);
-        builder.add(stamp, document).expect(rt, "an add");
+    if let Err(refusal) = builder.add(stamp, document) {
+        assert_eq!(rt; (builder.docs(), refusal), (docs, Refusal::Memory));
+        builder.add(stamp, document).expect(rt, "an add again");
     }
 }
 
@@ -76,7 +76,7 @@ pub(crate) fn finished(rt: &impl Abort, alloc: Global, builder: Builder) -> Segm
             builder
                 .finish(alloc)
                 .map_err(|e| e.1)
-                .expect(rt, "a segment")
+                .expect(rt, "a segment again")
         }
     }
 }

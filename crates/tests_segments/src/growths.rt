@@ -15,7 +15,7 @@ use std::process::Abort;
 fn copied(rt: &impl Abort, segment: &Segment) -> Segment {
     match segment.clone() {
         Ok(copy) => copy,
-        Err(AllocError) => segment.clone().expect(rt, "a copy"),
+        Err(AllocError) => segment.clone().expect(rt, "a copy again"),
     }
 }
 
@@ -48,7 +48,7 @@ fn first(
     match cursor_of(alloc, segment, live, query) {
         Err(Refusal::Memory) => {
             let cursor = cursor_of(alloc, segment, live, query);
-            cursor.expect(rt, "a cursor").doc()
+            cursor.expect(rt, "a cursor again").doc()
         }
         cursor => cursor.expect(rt, "a cursor").doc(),
     }
@@ -86,7 +86,7 @@ fn part_of(
     match collect(alloc, segment, &live, query, request) {
         Err(Refusal::Memory) => {
             let part = collect(alloc, segment, &live, query, request);
-            part.expect(rt, "a part")
+            part.expect(rt, "a part again")
         }
         part => part.expect(rt, "a part"),
     }
@@ -100,7 +100,7 @@ fn joined(rt: &impl Abort, alloc: Global, parts: Vec<Part>, request: &Request) -
             assert_eq!(rt; refusal, Refusal::Memory);
             Part::join(alloc, parts, request)
                 .map_err(|e| e.1)
-                .expect(rt, "an answer")
+                .expect(rt, "an answer again")
         }
     }
 }
@@ -134,7 +134,7 @@ fn struck(rt: &impl Abort, alloc: Global, segment: &Segment, live: &Bits, stamp:
         panic!(rt; "not one bit a document");
     }
     match strike(alloc, segment, live, &ops) {
-        Err(Refusal::Memory) => strike(alloc, segment, live, &ops).expect(rt, "bits"),
+        Err(Refusal::Memory) => strike(alloc, segment, live, &ops).expect(rt, "bits again"),
         struck => struck.expect(rt, "bits"),
     }
 }
@@ -152,7 +152,7 @@ fn merged(
     }
     let sources = [Source::new(segment, first), Source::new(segment, second)];
     match merge(alloc, &sources) {
-        Err(Refusal::Memory) => merge(alloc, &sources).expect(rt, "a segment"),
+        Err(Refusal::Memory) => merge(alloc, &sources).expect(rt, "a segment again"),
         merged => merged.expect(rt, "a segment"),
     }
 }

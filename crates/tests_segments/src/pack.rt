@@ -41,7 +41,7 @@ fn a_refused_block_can_be_packed_again(rt: HostRuntime) {
         Ok(block) => block,
         Err(refusal) => {
             assert_eq!(rt; refusal, Refusal::Memory);
-            Block::pack(rt.alloc(), &numbers).expect(&rt, "a block")
+            Block::pack(rt.alloc(), &numbers).expect(&rt, "a block again")
         }
     };
     let mut out = [0; BLOCK];
@@ -151,7 +151,7 @@ fn a_refused_list_can_be_built_again(rt: HostRuntime) {
         Ok(list) => list,
         Err(refusal) => {
             assert_eq!(rt; refusal, Refusal::Memory);
-            List::build(rt.alloc(), &documents).expect(&rt, "a list")
+            List::build(rt.alloc(), &documents).expect(&rt, "a list again")
         }
     };
     let mut out = [0; 128];
@@ -207,7 +207,7 @@ fn built(rt: &impl Abort, alloc: Global, values: &[Option<u64>]) -> Column
         Ok(column) => column,
         Err(refusal) => {
             assert_eq!(rt; refusal, Refusal::Memory);
-            Column::build(alloc, values).expect(rt, "a column")
+            Column::build(alloc, values).expect(rt, "a column again")
         }
     }
 }
@@ -241,7 +241,7 @@ fn copied(rt: &impl Abort, alloc: Global, bits: &Bits) -> Bits {
         Ok(copy) => copy,
         Err(refusal) => {
             assert_eq!(rt; refusal, Refusal::Memory);
-            bits.copied(alloc).expect(rt, "bits")
+            bits.copied(alloc).expect(rt, "bits again")
         }
     }
 }
@@ -250,11 +250,11 @@ fn copied(rt: &impl Abort, alloc: Global, bits: &Bits) -> Bits {
 fn refused_bits_can_be_made_again(rt: HostRuntime) {
     let bits = match Bits::all_set(rt.alloc(), 65) {
         Ok(bits) => bits,
-        Err(_) => Bits::all_set(rt.alloc(), 65).expect(&rt, "bits"),
+        Err(_) => Bits::all_set(rt.alloc(), 65).expect(&rt, "bits again"),
     };
     let clear = match Bits::all_clear(rt.alloc(), 65) {
         Ok(clear) => clear,
-        Err(_) => Bits::all_clear(rt.alloc(), 65).expect(&rt, "bits"),
+        Err(_) => Bits::all_clear(rt.alloc(), 65).expect(&rt, "bits again"),
     };
     assert!(rt; bits.len() == 65 && bits != clear);
     assert!(rt; bits == copied(&rt, rt.alloc(), &bits));

@@ -23,7 +23,7 @@ fn made(rt: &impl Abort, alloc: Global, fields: Vec<Field>) -> Schema {
             assert_eq!(rt; (title.name.as_str(), price.kind), ("title", Kind::U64));
             Schema::new(alloc, fields)
                 .map_err(|e| e.1)
-                .expect(rt, "a schema")
+                .expect(rt, "a schema again")
         }
     }
 }
@@ -32,7 +32,7 @@ fn made(rt: &impl Abort, alloc: Global, fields: Vec<Field>) -> Schema {
 fn copied(rt: &impl Abort, schema: &Schema) -> Schema {
     match schema.clone() {
         Ok(copy) => copy,
-        Err(AllocError) => schema.clone().expect(rt, "a copy"),
+        Err(AllocError) => schema.clone().expect(rt, "a copy again"),
     }
 }
 
