@@ -1,5 +1,5 @@
 -- The first hits by their keys.
-use Rattle.std.proofs.Common.{◌≡◌, ℕ, ◌-◌, ◌^◌, ◌<◌, ◌≤◌, ◌==◌, nat_le, nat_lt, Bool, true, false, cond, ⊎_elim, inl, inr, List, [], ◌∷◌, ◌++◌, length, take, map, fold, Option, Some, None, unwrap_or, refl, sym, ap, subst, ◌∙◌, arith, All, AllPairs, IfSome, get_or, option_map, suc, drop, drop-cons}
+use Rattle.std.proofs.Common.{◌≡◌, ℕ, ◌-◌, ◌^◌, ◌<◌, ◌≤◌, ◌==◌, ◌&&◌, nat_le, nat_lt, Bool, true, false, cond, ⊎_elim, inl, inr, List, [], ◌∷◌, ◌++◌, length, take, map, fold, Option, Some, None, unwrap_or, refl, sym, ap, subst, ◌∙◌, arith, All, AllPairs, IfSome, get_or, option_map, suc, drop, drop-cons}
 use Rattle.std.specs.Prelude.{slice_get, slice_index_or, option_and_then}
 use Rattle.std.specs.List.{filter, filter_map, cons_option}
 use Rattle.std.specs.Option.{option_map_or, option_to_list}
@@ -287,3 +287,10 @@ in_range numbers (Some r) doc x h e = elim (cases_lt doc (length numbers)) [
   | inl inside ↦ subst (λ (o : Option ℕ). IfSome o (λ y. (r.0 ≤ y) × (y ≤ r.1))) e (h.2 doc None inside)
   | inr past ↦ absurd (let f : None ≡ Some x = sym (get_or_past numbers doc None past) ∙ e in cc)
 ]
+
+-- which numbers rank no farther
+pub near_rising : (least farthest x : ℕ) → least ≤ x → is_within least farthest (Some x) ≡ nat_le (rank_in Rising x) farthest
+near_rising least farthest x low = ap (λ b. b && nat_le x farthest) (le-leb least x low)
+
+pub near_falling : (greatest farthest x : ℕ) → x ≤ greatest → greatest < 2 ^ 64 → farthest < 2 ^ 64 → is_within (2 ^ 64 - 1 - farthest) greatest (Some x) ≡ nat_le (rank_in Falling x) farthest
+near_falling greatest farthest x high fits small = grind arith
