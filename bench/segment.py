@@ -50,7 +50,7 @@ def tell_bytes(name, documents):
                 runs.append((doc, []))
             runs[-1][1].append(position)
     terms = [places[word] for word in sorted(places, key=str.encode)]
-    lists = sum(packed(differences([doc for doc, _ in runs]), 16) for runs in terms if len(runs) > 1)
+    lists = sum(packed(differences([doc for doc, _ in runs]), 16) for runs in terms if len(runs) > 12)
     counts = [len(run) for runs in terms for _, run in runs]
     gaps = [gap for runs in terms for _, run in runs for gap in differences(run)]
     positions = packed(counts, 16) + packed(gaps, 16) + 8 * -(-len(counts) // 128)
