@@ -39,7 +39,13 @@ fn push_value(column: &Column, doc: u32, out: &mut [u64; 128], count: usize) -> 
 
 /// Writes those of the documents whose number in a column is `low` or more and `high` or less, in their order, to the
 /// front of `out`, and gives how many they are. What is behind them may be anything.
-pub(crate) fn docs_within(column: &Column, docs: &[u32], low: u64, high: u64, out: &mut [u32; 128]) -> usize
+pub(crate) fn docs_within(
+    column: &Column,
+    docs: &[u32],
+    low: u64,
+    high: u64,
+    out: &mut [u32; 128],
+) -> usize
     requires { length docs.now ≤ 128 }
     ensures count { result ≤ length docs.now }
     ensures docs { take result out.new
