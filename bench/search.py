@@ -44,7 +44,7 @@ STEPS = {
 
 def our_times():
     times = {}
-    crates = "fts_collect fts_query fts_segment fts_pack fts_model serde_json anyhow"
+    crates = "fts_collect fts_query fts_segment fts_bits fts_model serde_json anyhow"
     for kind, _, nanos, openings in outputs("search", crates, runs=RUNS):
         times[kind] = min(times.get(kind, (1 << 62, 0)), (int(nanos), int(openings)))
     return times

@@ -2,7 +2,6 @@ pub mod ApartLemmas
 pub mod CollectLemmas
 pub mod FirstLemmas
 pub mod FitLemmas
-mod GatherLemmas
 pub mod GroupsLemmas
 pub mod KeptLemmas
 pub mod KeysLemmas

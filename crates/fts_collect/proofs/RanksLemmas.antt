@@ -1,12 +1,12 @@
 -- The first hits by their keys.
-use Rattle.std.proofs.Common.{◌≡◌, ℕ, ◌-◌, ◌^◌, ◌<◌, ◌≤◌, ◌==◌, ◌&&◌, nat_le, nat_lt, Bool, true, false, cond, ⊎_elim, inl, inr, List, [], ◌∷◌, ◌++◌, length, take, map, fold, Option, Some, None, unwrap_or, refl, sym, ap, subst, ◌∙◌, arith, All, AllPairs, IfSome, get_or, option_map, suc, drop, drop-cons}
+use Rattle.std.proofs.Common.{◌≡◌, ℕ, ◌-◌, ◌^◌, ◌<◌, ◌≤◌, ◌==◌, nat_lt, Bool, true, false, cond, ⊎_elim, List, [], ◌∷◌, ◌++◌, length, take, map, fold, Option, Some, None, refl, sym, ap, ◌∙◌, arith, All, AllPairs, IfSome, get_or, option_map, suc, drop, drop-cons}
 use Rattle.std.specs.Prelude.{slice_get, slice_index_or, option_and_then}
-use Rattle.std.specs.List.{filter, filter_map, cons_option}
+use Rattle.std.specs.List.{filter_map, cons_option}
 use Rattle.std.specs.Option.{option_map_or, option_to_list}
 use Rattle.std.specs.Ordering.{nat_cmp, ordering_then, is_lt, match_ordering}
 use Rattle.std.specs.declared.cmp.Ordering.{Ordering}
 use Rattle.std.specs.declared.cmp.Ordering.TheVariants.{Less, Equal, Greater}
-use Rattle.std.proofs.lemmas.Bool.{cases_lt, le-leb, lt-leb}
+use Rattle.std.proofs.lemmas.Bool.{cases_lt}
 use Rattle.std.proofs.lemmas.Bool.Decides.{nat_tests}
 use Rattle.std.proofs.lemmas.Option.{slice_get-get_or, slice_get_past}
 use Rattle.std.proofs.lemmas.List.{get_or_past, length-map, take-map}
@@ -23,7 +23,6 @@ use Rattle.fts_model.specs.Documents.{DocumentValue, CanHave, value_in_field}
 use Rattle.fts_model.specs.Operations.{kind_at}
 use Rattle.fts_model.specs.Answers.{cmp_by, comes_before, hit_in, hits_in, number_in_field, put_hit, top}
 use Rattle.fts_model.proofs.Lists.{pairs_none, pairs_front, pairs_behind}
-use Rattle.fts_column.specs.Column.{IsRangeOf, is_within}
 use Rattle.fts_segment.specs.Segments.{SegmentValue, column, number_of}
 use Rattle.fts_collect.specs.declared.top_k.Key.{Key}
 use Rattle.fts_collect.specs.Internals.Tallies.{number_at}
@@ -250,47 +249,3 @@ keep-from k keys order documents numbers docs i some within =
     let first : drop (i - 1) docs ≡ get_or docs (i - 1) 0 ∷ drop i docs =
     drop-cons docs (i - 1) 0 (omega (arith, some, within)) ∙ ap (λ j. get_or docs (i - 1) 0 ∷ drop j docs) behind in
     sym (ap (λ ds. keep_keys k keys (keys_at order documents numbers ds)) first ∙ keep-option k keys (key_at order documents numbers (get_or docs (i - 1) 0)) (keys_at order documents numbers (drop i docs)))
-
--- hits whose numbers rank farther than any of the first keys have no part in what these are with more
-pub keep-near : (k : ℕ) (keys : List Key) (order : Order) (documents : List (Stamped DocumentValue)) (numbers : List (Option ℕ)) (farthest low high : ℕ) (docs : List ℕ) →
-    ((key : Key) → farthest < key.rank → take k (put_key keys key) ≡ keys) →
-    ((doc x : ℕ) → slice_index_or numbers doc None ≡ Some x → is_within low high (Some x) ≡ nat_le (rank_in order x) farthest) →
-    keep_keys k keys (keys_at order documents numbers (filter (λ doc. is_within low high (slice_index_or numbers doc None)) docs)) ≡ keep_keys k keys (keys_at order documents numbers docs)
-keep-near k keys order documents numbers farthest low high [] beyond near = refl
-keep-near k keys order documents numbers farthest low high (doc ∷ docs) beyond near =
-    let more = keys_at order documents numbers in
-    let kept = filter (λ doc. is_within low high (slice_index_or numbers doc None)) docs in
-    let mk : ℕ → Key = λ x. record { rank = rank_in order x; stamp = stamp_at documents doc; doc = doc } in
-    let rest = keep-near k keys order documents numbers farthest low high docs beyond near in
-    elim (slice_index_or numbers doc None) as (λ o. slice_index_or numbers doc None ≡ o → keep_keys k keys (more (cond (is_within low high o) (doc ∷ kept) kept)) ≡ keep_keys k keys (cons_option (option_map mk o) (more docs))) [
-      | None ↦ λ e. rest
-      | Some x ↦ λ e. elim (cases_lt farthest (rank_in order x)) [
-        | inl over ↦
-            ap (λ b. keep_keys k keys (more (cond b (doc ∷ kept) kept))) (near doc x e ∙ lt-leb (rank_in order x) farthest over)
-            ∙ rest ∙ sym (ap (λ ks. keep_keys k ks (more docs)) (beyond (mk x) over))
-        | inr within ↦
-            ap (λ b. keep_keys k keys (more (cond b (doc ∷ kept) kept))) (near doc x e ∙ le-leb (rank_in order x) farthest within)
-            ∙ keep-option k keys (key_at order documents numbers doc) (more kept)
-            ∙ ap (λ ks. keep_keys k ks (option_to_list (key_at order documents numbers doc))) rest
-            ∙ sym (keep-option k keys (key_at order documents numbers doc) (more docs))
-            ∙ ap (λ o. keep_keys k keys (cons_option (option_map mk o) (more docs))) e
-      ]
-    ] refl
-
--- the numbers of a column lie within its range
-pub in_range : (numbers : List (Option ℕ)) (range : Option (ℕ × ℕ)) (doc x : ℕ) → IsRangeOf numbers range → slice_index_or numbers doc None ≡ Some x → ((unwrap_or range (0, 0)).0 ≤ x) × (x ≤ (unwrap_or range (0, 0)).1)
-in_range numbers None doc x h e = absurd (elim (cases_lt doc (length numbers)) [
-  | inl inside ↦ (let f : None ≡ Some x = sym (h doc None inside) ∙ e in cc)
-  | inr past ↦ (let f : None ≡ Some x = sym (get_or_past numbers doc None past) ∙ e in cc)
-])
-in_range numbers (Some r) doc x h e = elim (cases_lt doc (length numbers)) [
-  | inl inside ↦ subst (λ (o : Option ℕ). IfSome o (λ y. (r.0 ≤ y) × (y ≤ r.1))) e (h.2 doc None inside)
-  | inr past ↦ absurd (let f : None ≡ Some x = sym (get_or_past numbers doc None past) ∙ e in cc)
-]
-
--- which numbers rank no farther
-pub near_rising : (least farthest x : ℕ) → least ≤ x → is_within least farthest (Some x) ≡ nat_le (rank_in Rising x) farthest
-near_rising least farthest x low = ap (λ b. b && nat_le x farthest) (le-leb least x low)
-
-pub near_falling : (greatest farthest x : ℕ) → x ≤ greatest → greatest < 2 ^ 64 → farthest < 2 ^ 64 → is_within (2 ^ 64 - 1 - farthest) greatest (Some x) ≡ nat_le (rank_in Falling x) farthest
-near_falling greatest farthest x high fits small = grind arith

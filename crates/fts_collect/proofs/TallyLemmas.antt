@@ -3,7 +3,7 @@ use Rattle.std.proofs.Common.{◌≡◌, ℕ, zero, suc, ◌+◌, ◌-◌, ◌^�
 use Rattle.std.specs.Ordering.{nat_cmp, is_eq, match_ordering}
 use Rattle.std.specs.declared.cmp.Ordering.TheVariants.{Less, Equal, Greater}
 use Rattle.std.proofs.lemmas.Bool.{ltb-false, lt-ltb, cases_Bool, cases_lt, eqb-true, eqb-false}
-use Rattle.std.proofs.lemmas.List.Elements.{All-nil, All-cons, All-head, All-tail}
+use Rattle.std.proofs.lemmas.List.Elements.{All-nil, All-head, All-tail, filter_map-append}
 use Rattle.std.proofs.lemmas.List.Kept.{AllPairs-cons}
 use Rattle.std.proofs.lemmas.List.Sorted.{IsNonDecreasingBy-from_sort, sum_by-IsPermutation}
 use Rattle.std.specs.List.{cons_option, filter_map}
@@ -139,6 +139,11 @@ below_other x y h e = omega (arith, h, eqb-false x y e)
 before_all : (x y z : ℕ) → x < y → y ≤ z → x < z
 before_all x y z h l = omega (arith, h, l)
 
+-- what may be there, alone
+one_kept : {Y : Type 0} (o : Option Y) → cons_option o [] ≡ option_to_list o
+one_kept None = refl
+one_kept (Some x) = refl
+
 -- a group below all numbers that come stays in front
 fold-front : (x count : ℕ) (rest : List (ℕ × ℕ)) (numbers : List ℕ) → All (λ y. x < y) numbers →
     fold (count_one nat_cmp) ((x, count) ∷ rest) numbers ≡ (x, count) ∷ fold (count_one nat_cmp) rest numbers
@@ -201,21 +206,32 @@ counts_of-permuted numbers others is =
       sum_by-IsPermutation (λ m. cond (is_eq (nat_cmp n m)) 1 0) numbers others is,
     ))
 
+-- what the first elements are mapped to, with one more of them
+pub kept-more : {Y : Type 0} (h : ℕ → Option Y) (docs : List ℕ) (i : ℕ) → i < length docs →
+    filter_map h (take (i + 1) docs) ≡ filter_map h (take i docs) ++ option_to_list (h (get_or docs i 0))
+kept-more h docs i lt =
+    ap (filter_map h) (take_more docs i 0 lt) ∙ filter_map-append h (take i docs) (get_or docs i 0 ∷ [])
+    ∙ ap (λ xs. filter_map h (take i docs) ++ xs) (one_kept (h (get_or docs i 0)))
+
 -- a number of a column is one of those that it has places for
-within_at : (column : List (Option ℕ)) (least count doc x : ℕ) → AreWithin column least count → slice_index_or column doc None ≡ Some x → (least ≤ x) × (x < least + count)
+pub within_at : (column : List (Option ℕ)) (least count doc x : ℕ) → AreWithin column least count → slice_index_or column doc None ≡ Some x → (least ≤ x) × (x < least + count)
 within_at column least count doc x within is =
     let P : Option ℕ → Type 0 = λ v. IfSome v (λ x. (least ≤ x) × (x < least + count)) in
     ⊎_elim (λ (inside : doc < length column). subst P is (within doc None inside))
     (λ (past : length column ≤ doc). let none : None ≡ Some x = sym (get_or_past column doc None past) ∙ is in absurd (let contra : None ≡ Some x = none in cc))
     (cases_lt doc (length column))
 
--- the numbers of documents are among those that there are places for
-pub present-within : (column : List (Option ℕ)) (least count : ℕ) (docs : List ℕ) → AreWithin column least count → All (λ x. (least ≤ x) × (x < least + count)) (present_at column docs)
-present-within column least count [] h = All-nil (λ x. (least ≤ x) × (x < least + count))
-present-within column least count (doc ∷ docs) h =
-    let P : ℕ → Type 0 = λ x. (least ≤ x) × (x < least + count) in
-    let rest = present-within column least count docs h in
-    elim (slice_index_or column doc None) as (λ o. slice_index_or column doc None ≡ o → All P (cons_option o (present_at column docs))) [
-      | None ↦ λ e. rest
-      | Some x ↦ λ e. All-cons P x (present_at column docs) (within_at column least count doc x h e) rest
-    ] refl
+-- the number of a document is counted at its place, if it has one
+pub AreCounts-doc : (numbers : List ℕ) (column : List (Option ℕ)) (doc least : ℕ) (counts : List ℕ) (x : ℕ) → AreWithin column least (length counts) →
+    slice_index_or column doc None ≡ Some x → AreCounts numbers least counts →
+    AreCounts (numbers ++ option_to_list (slice_index_or column doc None)) least (set counts (x - least) (min (get_or counts (x - least) 0 + 1) (2 ^ 64 - 1)))
+AreCounts-doc numbers column doc least counts x within is counted =
+    let at = within_at column least (length counts) doc x within is in
+    let P : Option ℕ → Type 0 = λ o. AreCounts (numbers ++ option_to_list o) least (set counts (x - least) (min (get_or counts (x - least) 0 + 1) (2 ^ 64 - 1))) in
+    subst P (sym is) (AreCounts-one numbers least counts x at.0 at.1 counted)
+
+-- more documents are put behind those before
+pub present_at-behind : (numbers : List ℕ) (column : List (Option ℕ)) (docs : List ℕ) (i : ℕ) → i < length docs →
+    (numbers ++ present_at column (take i docs)) ++ option_to_list (slice_index_or column (get_or docs i 0) None) ≡ numbers ++ present_at column (take (i + 1) docs)
+present_at-behind numbers column docs i h =
+    append_assoc numbers (present_at column (take i docs)) (option_to_list (slice_index_or column (get_or docs i 0) None)) ∙ ap (λ xs. numbers ++ xs) (sym (kept-more (λ doc. slice_index_or column doc None) docs i h))

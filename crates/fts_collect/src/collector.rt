@@ -110,7 +110,7 @@ fn empty_tally(alloc: Global, segment: &Segment, field: Option<usize>) -> Result
     }
 }
 
-/// Counts up to 128 hits by what the column of the field of the groups keeps for them.
+/// Counts hits by what the column of the field of the groups keeps for them.
 fn count_hits(
     segment: &Segment,
     field: Option<usize>,
@@ -118,7 +118,6 @@ fn count_hits(
     tally: &mut Tally,
 ) -> Result<(), AllocError>
     requires fits { IfSome field (λ f. is_ordered_field segment.now.schema f ≡ true) }
-    requires few { length docs.now ≤ 128 }
     requires places { IsTallyOf segment.now field tally.old }
     ensures places { OnOk result (IsTallyOf segment.now field tally.new) }
     ensures counted { OnOk result ((before : List ℕ) →
@@ -154,7 +153,7 @@ fn groups_told(
     }
 }
 
-/// Offers up to 128 hits to the top list.
+/// Offers hits to the top list.
 fn rank_hits(
     segment: &Segment,
     wanted: Option<Top>,
@@ -162,7 +161,6 @@ fn rank_hits(
     top_k: &mut TopK,
 ) -> Result<(), AllocError>
     requires fits { IfSome wanted (λ t. is_number_field segment.now.schema t.by ≡ true) }
-    requires few { length docs.now ≤ 128 }
     requires within { All (λ doc. doc < length segment.now.documents) docs.now }
     ensures { OnOk result ((before : List ℕ) → HasRanked segment.now wanted before top_k.old →
         HasRanked segment.now wanted (before ++ docs.now) top_k.new) }
@@ -197,7 +195,7 @@ fn top_told(
     }
 }
 
-/// Takes up to 128 hits more.
+/// Takes more hits.
 fn see(
     segment: &Segment,
     request: &Request,
@@ -205,7 +203,6 @@ fn see(
     seen: &mut Seen,
 ) -> Result<(), AllocError>
     requires fits { request_fits segment.now.schema request.now ≡ true }
-    requires few { length docs.now ≤ 128 }
     requires within { All (λ doc. doc < length segment.now.documents) docs.now }
     requires places { IsTallyOf segment.now request.now.groups seen.old.tally }
     ensures { OnOk result ((before : List ℕ) → HasSeen segment.now request.now before seen.old →

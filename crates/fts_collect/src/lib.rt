@@ -10,7 +10,6 @@
 #![tactic(auto)]
 
 mod collector;
-mod gathered;
 mod groups;
 mod order;
 mod part;

@@ -1,10 +1,7 @@
 // The first hits of a segment, picked by their numbers in a column.
-ghost use Rattle.std.specs.Prelude.{◌≡◌, ◌<◌, ◌≤◌, ◌^◌, ◌++◌, ◌∷◌, ℕ, [], All, IfOk, None, OnOk, Some, length, map};
-ghost use Rattle.std.specs.Prelude.{nat_le, option_to_list, slice_index_or};
-ghost use Rattle.fts_column.specs.Column.{is_within};
+ghost use Rattle.std.specs.Prelude.{◌≡◌, ◌<◌, ◌≤◌, ◌^◌, ◌++◌, ◌∷◌, [], All, IfOk, OnOk, length, map, option_to_list};
 ghost use Rattle.fts_collect.specs.Internals.Ranks.{hit_of, keep_keys, key_at, keys_at, rank_in};
 
-use crate::gathered::docs_within;
 use crate::tally::number_at;
 use crate::top_k::{Key, TopK};
 use fts_column::Column;
@@ -48,21 +45,9 @@ fn offer_hit(
     top_k.offer(Key { rank, stamp, doc })
 }
 
-/// The bounds of the numbers in a column that rank no farther than this.
-fn numbers_to(column: &Column, order: Order, farthest: u64) -> (u64, u64)
-    ensures { (doc x : ℕ) → slice_index_or column.now doc None ≡ Some x →
-        is_within result.0 result.1 (Some x) ≡ nat_le (rank_in order x) farthest }
-{
-    let (least, greatest) = column.range().unwrap_or((0, 0));
-    match order {
-        Order::Rising => (least, farthest),
-        Order::Falling => (u64::MAX - farthest, greatest),
-    }
-}
-
 /// Offers the hits that have a number in a column, the last first: where ranks fall from document to document, each hit
 /// would else keep out those before it, and few are kept out at one compare.
-fn offer_each(
+pub(crate) fn offer_hits(
     segment: &Segment,
     column: &Column,
     order: Order,
@@ -80,31 +65,6 @@ fn offer_each(
         offer_hit(segment, column, order, docs[i], top_k)?;
     }
     Ok(())
-}
-
-/// Offers up to 128 hits. Once there is a bound, only those that lie before it are looked at one by one.
-pub(crate) fn offer_hits(
-    segment: &Segment,
-    column: &Column,
-    order: Order,
-    docs: &[u32],
-    top_k: &mut TopK,
-) -> Result<(), AllocError>
-    requires few { length docs.now ≤ 128 }
-    requires within { All (λ doc. doc < length segment.now.documents) docs.now }
-    ensures { OnOk result (top_k.new ≡ record top_k.old {
-      keys =
-          keep_keys top_k.old.k top_k.old.keys
-          (keys_at order segment.now.documents column.now docs.now);
-    }) }
-{
-    let Some(farthest) = top_k.farthest() else {
-        return offer_each(segment, column, order, docs, top_k);
-    };
-    let (low, high) = numbers_to(column, order, farthest);
-    let mut near = [0; 128];
-    let count = docs_within(column, docs, low, high, &mut near);
-    offer_each(segment, column, order, &near[..count], top_k)
 }
 
 /// Puts the hit of a key behind others. The document is a copy, which shares it.

@@ -1,10 +1,9 @@
 // Hits counted by their numbers in a column.
-ghost use Rattle.std.specs.Prelude.{◌≡◌, ◌≤◌, ◌<◌, ◌+◌, ◌-◌, ◌++◌, ◌^◌, ℕ, List, All, IfOk, OnOk, length, min};
-ghost use Rattle.std.specs.Prelude.{slice_index, slice_set};
+ghost use Rattle.std.specs.Prelude.{◌≡◌, ◌≤◌, ◌<◌, ◌+◌, ◌-◌, ◌++◌, ◌^◌, ℕ, List, IfOk, OnOk, length, min, None};
+ghost use Rattle.std.specs.Prelude.{option_to_list, slice_index, slice_index_or, slice_set};
 ghost use Rattle.fts_collect.specs.Internals.Tallies.{AreCounts, AreWithin, counts_from, counts_of_sorted, number_at};
 ghost use Rattle.fts_collect.specs.Internals.Tallies.{present_at};
 
-use crate::gathered::values_of;
 use fts_bits::u64_to_i64;
 use fts_column::Column;
 use fts_model::{Kind, Number};
@@ -56,40 +55,54 @@ fn count_number(counts: &mut [u64], place: usize)
     counts[place] = counts[place].saturating_add(1);
 }
 
-/// Counts numbers, each at its place from the least on.
-fn count_numbers(numbers: &[u64], least: u64, counts: &mut [u64])
-    requires { All (λ x. (least ≤ x) × (x < least + length counts.old)) numbers.now }
-    ensures counted { (before : List ℕ) → AreCounts before least counts.old →
-        AreCounts (before ++ numbers.now) least counts.new }
+/// Counts the number of a document in a column, if it has one.
+fn count_doc(column: &Column, doc: u32, least: u64, counts: &mut [u64])
+    requires { AreWithin column.now least (length counts.old) }
+    ensures counted { (numbers : List ℕ) → AreCounts numbers least counts.old →
+        AreCounts (numbers ++ option_to_list (slice_index_or column.now doc None)) least counts.new }
     ensures long { length counts.new ≡ length counts.old }
 {
-    for number in numbers {
-        count_number(counts, (*number - least) as usize);
+    match column.get(doc as usize) {
+        None => {}
+        Some(number) => count_number(counts, (number - least) as usize),
     }
 }
 
-/// Counts the numbers of up to 128 documents in a column.
+/// Counts the numbers of documents in a column.
 fn count_docs(column: &Column, docs: &[u32], least: u64, counts: &mut [u64])
-    requires few { length docs.now ≤ 128 }
-    requires within { AreWithin column.now least (length counts.old) }
-    ensures counted { (before : List ℕ) → AreCounts before least counts.old →
-        AreCounts (before ++ present_at column.now docs.now) least counts.new }
+    requires { AreWithin column.now least (length counts.old) }
+    ensures counted { (numbers : List ℕ) → AreCounts numbers least counts.old →
+        AreCounts (numbers ++ present_at column.now docs.now) least counts.new }
     ensures long { length counts.new ≡ length counts.old }
 {
-    let mut numbers = [0; 128];
-    let count = values_of(column, docs, &mut numbers);
-    count_numbers(&numbers[..count], least, counts);
+    for doc in docs {
+        count_doc(column, *doc, least, counts);
+    }
 }
 
-/// Puts the numbers of up to 128 documents in a column behind others.
+/// Puts the number of a document in a column behind others, if it has one.
+fn push_doc(column: &Column, doc: u32, numbers: &mut Vec<u64>) -> Result<(), AllocError>
+    ensures { OnOk result (numbers.new.items
+        ≡ numbers.old.items ++ option_to_list (slice_index_or column.now doc None)) }
+{
+    match column.get(doc as usize) {
+        None => Ok(()),
+        Some(number) => {
+            numbers.push(number)?;
+            Ok(())
+        }
+    }
+}
+
+/// Puts the numbers of documents in a column behind others.
 fn push_docs(column: &Column, docs: &[u32], numbers: &mut Vec<u64>) -> Result<(), AllocError>
-    requires { length docs.now ≤ 128 }
     ensures { OnOk result (numbers.new.items
         ≡ numbers.old.items ++ present_at column.now docs.now) }
 {
-    let mut more = [0; 128];
-    let count = values_of(column, docs, &mut more);
-    numbers.extend_from_slice(&more[..count])
+    for doc in docs {
+        push_doc(column, *doc, numbers)?;
+    }
+    Ok(())
 }
 
 /// The numbers of hits in a column.
@@ -105,7 +118,7 @@ pub(crate) enum Tally {
 const MOST_COUNTS: u64 = 65_536;
 
 impl Tally {
-    ghost use Rattle.std.specs.Prelude.{◌≡◌, ◌<◌, ◌≤◌, ◌++◌, ◌^◌, ℕ, List, [], IfOk, OnOk, length};
+    ghost use Rattle.std.specs.Prelude.{◌≡◌, ◌<◌, ◌++◌, ◌^◌, ℕ, List, [], IfOk, OnOk, length};
     ghost use Rattle.fts_collect.specs.Internals.Tallies.{IsTally, IsTallyFor, counts_of, present_at};
 
     /// Of no hits. There is a place for each number where they lie close together.
@@ -122,10 +135,9 @@ impl Tally {
         }
     }
 
-    /// Takes the numbers of up to 128 hits more.
+    /// Takes the numbers of more hits.
     pub(crate) fn take(&mut self, column: &Column, docs: &[u32]) -> Result<(), AllocError>
-        requires few { length docs.now ≤ 128 }
-        requires places { IsTallyFor column.now self.old }
+        requires { IsTallyFor column.now self.old }
         ensures taken { OnOk result ((numbers : List ℕ) → IsTally numbers self.old →
             IsTally (numbers ++ present_at column.now docs.now) self.new) }
         ensures for_column { OnOk result (IsTallyFor column.now self.new) }

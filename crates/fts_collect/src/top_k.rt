@@ -1,5 +1,5 @@
 // The least of many keys, of which few are held at a time.
-ghost use Rattle.std.specs.Prelude.{◌≡◌, ◌<◌, ◌≤◌, ℕ, [], IfSome, OnOk, All, length, take, true};
+ghost use Rattle.std.specs.Prelude.{◌≡◌, ◌≤◌, ℕ, [], IfSome, OnOk, All, length, take, true};
 ghost use Rattle.fts_collect.specs.Internals.Keys.{first_keys, key_lt, put_key};
 
 use std::alloc::{AllocError, Global};
@@ -46,25 +46,14 @@ impl TopK {
         }
     }
 
-    /// The greatest rank that one of the least keys may have, if there is one.
-    pub(crate) fn farthest(&self) -> Option<u64>
-        ensures { IfSome result (λ rank. (key : Key) → rank < key.rank →
-            take self.now.k (put_key self.now.keys key) ≡ self.now.keys) }
-    {
-        match self.bound {
-            None => None,
-            Some(bound) => Some(bound.rank),
-        }
-    }
-
     /// Whether no key of this rank is one of the least.
     pub(crate) fn is_beyond(&self, rank: u64) -> bool
         ensures { result ≡ true → (key : Key) → key.rank ≡ rank →
             take self.now.k (put_key self.now.keys key) ≡ self.now.keys }
     {
-        match self.farthest() {
+        match self.bound {
             None => false,
-            Some(farthest) => rank > farthest,
+            Some(bound) => rank > bound.rank,
         }
     }
 

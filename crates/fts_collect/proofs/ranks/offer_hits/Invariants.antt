@@ -1,6 +1,6 @@
 use Rattle.std.proofs.Common.{◌≡◌, drop}
 use Rattle.fts_collect.specs.Internals.Ranks.{keep_keys, keys_at}
-use Rattle.fts_collect.proofs.ranks.offer_each.Given as goal
+use Rattle.fts_collect.proofs.ranks.offer_hits.Given as goal
 
 abbrev pub invariant-loop-i : goal.invariant-loop-i
 invariant-loop-i l =
