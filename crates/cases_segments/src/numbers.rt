@@ -25,13 +25,18 @@ fn block(trial: &mut Trial, case: &Value) {
     }
 }
 
+/// Opens what is told of packed numbers: their width, and then the words in which they lie.
+fn open_words(trial: &mut Trial, width: u32) {
+    trial.open_object();
+    trial.name("width");
+    trial.give_number(u64::from(width));
+    trial.name("words");
+}
+
 /// The width of a block, and the words in which its numbers lie.
 fn block_words(trial: &mut Trial, case: &Value) {
     if let Some(block) = packed(trial, case) {
-        trial.open_object();
-        trial.name("width");
-        trial.give_number(u64::from(block.width()));
-        trial.name("words");
+        open_words(trial, block.width());
         trial.give_documents(block.words());
         trial.close_object();
     }
@@ -82,10 +87,7 @@ fn built(trial: &mut Trial, case: &Value) -> Option<Column> {
 /// The width of a column, and the words in which its values lie.
 fn column_words(trial: &mut Trial, case: &Value) {
     if let Some(column) = built(trial, case) {
-        trial.open_object();
-        trial.name("width");
-        trial.give_number(u64::from(column.width()));
-        trial.name("words");
+        open_words(trial, column.width());
         trial.give_stamps(column.words());
         trial.close_object();
     }
