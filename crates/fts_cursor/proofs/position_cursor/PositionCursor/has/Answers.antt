@@ -1,6 +1,5 @@
 -- What is left of the positions from the one that is asked for on is what is left of all.
 use Rattle.std.proofs.Common.{◌≡◌, ℕ, List, [], get_or, refl, ap, ap₂, subst, sym, ◌∙◌}
-use Rattle.fts_postings.specs.Meeting.{has}
 use Rattle.fts_postings.specs.Remaining.{at_least}
 use Rattle.fts_cursor.specs.declared.position_cursor.PositionCursor.TheInside.{Inside}
 use Rattle.fts_cursor.proofs.WalkLemmas.{at_least-later, has-same}

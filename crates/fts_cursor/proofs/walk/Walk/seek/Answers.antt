@@ -1,5 +1,5 @@
 -- The first that is left tells whether the position is there.
-use Rattle.std.proofs.Common.{◌≡◌, ℕ, ◌≤◌, ◌==◌, List, ◌∷◌, Option, Some, None, ap, subst, sym, ◌∙◌, arith}
+use Rattle.std.proofs.Common.{ℕ, ◌≤◌, ◌==◌, ◌∷◌, Option, ap, subst, sym, ◌∙◌, arith}
 use Rattle.fts_postings.specs.Meeting.{has}
 use Rattle.fts_postings.specs.Remaining.{at_least}
 use Rattle.fts_segment.specs.PositionsLeft.{positions_left}
