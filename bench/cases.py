@@ -383,6 +383,11 @@ def write_collectors():
         s.case(f"Ties stand in the order of stamps, {first[0]} first made", "answer",
                {"count": 4, "top": [[1, 5], [2, 5], [3, 5]]},
                query="*", top=top("price", 3, "rising"))
+    for zeros, apart in [(2, 23), (2, 24), (8_192, 65_535), (8_192, 65_536)]:
+        runs = [{"times": zeros, "of": [{"price": 0}]}, {"times": 1, "of": [{"price": apart}]}]
+        s.case(f"{zeros} prices of 0 and one of {apart} are made", "make", zeros + 1, runs=runs)
+        s.case(f"Beside {zeros} prices of 0 that of {apart} is a group of its own", "answer",
+               {"count": zeros + 1, "groups": [[0, zeros], [apart, 1]]}, query="*", groups="price")
     for docs, blocks in [(128, 1), (129, 2), (1000, 8)]:
         s.case(f"{docs} common titles are made", "make", docs, runs=[{"times": docs, "of": [{"title": "common"}]}])
         s.case(f"Each block of {docs} documents is opened once", "answer_openings", blocks, query="title:common")
