@@ -112,6 +112,38 @@ fn joined(alloc: Global, sources: &[Source<'_>]) -> Result<Segment, AllocError>
     }
 }
 
+// Whether sources have so many documents at most.
+fn are_few(sources: &[Source<'_>], most: usize) -> bool {
+    let mut room = most;
+    for source in sources {
+        let docs = source.segment().docs();
+        if docs > room {
+            return false;
+        }
+        room -= docs;
+    }
+    true
+}
+
+// The same where the sources behind the first are joined before it is joined to them.
+fn joined_in_turn(alloc: Global, sources: &[Source<'_>]) -> Result<Segment, AllocError>
+    requires some { 1 < length sources.now }
+    requires schemas { AreOfOneSchema sources.now }
+    requires few { live_count sources.now ≤ most_merged }
+    ensures { IfOk result (λ segment. segment ≡ joined_segment sources.now) }
+{
+    let others = joined(alloc, &sources[1..])?;
+    let Ok(live) = Bits::all_set(alloc, others.docs()) else {
+        return Err(AllocError);
+    };
+    let first = &sources[0];
+    let both = [
+        Source::new(first.segment(), first.live()),
+        Source::new(&others, &live),
+    ];
+    joined(alloc, &both)
+}
+
 /// One segment of the live documents of sources, of which there is at least one and all have one schema. The documents
 /// stand in the order of the sources, and those of a source in the order of their numbers. They are handles, and the
 /// terms in them are joined of those of the sources: no text is read again.
@@ -122,6 +154,11 @@ pub fn join(alloc: Global, sources: &[Source<'_>]) -> Result<Segment, Refusal>
     ensures ok { IfOk result (λ segment. segment ≡ joined_segment sources.now) }
     ensures memory { IfErr result (λ e. e ≡ Memory) }
 {
+    // The terms of a large segment are compared with those of one more, and not with those of each small one.
+    if sources.len() > 2 && are_few(&sources[1..], sources[0].segment().docs() / 8) {
+        let segment = joined_in_turn(alloc, sources)?;
+        return Ok(segment);
+    }
     let segment = joined(alloc, sources)?;
     Ok(segment)
 }
