@@ -17,6 +17,20 @@ use Rattle.fts_segment.proofs.FindLemmas.{same_from_equal, turned}
 use Rattle.fts_segment.proofs.KeywordsLemmas.{here, either, none}
 use Rattle.fts_segment.proofs.PartLemmas.{IsFrom, AreFrom, IsMet, IsBelowAll, joined-given, joined-passed, joined-other, sound-all, below-all-after, below-all-passed, met-below}
 
+-- where there is no document there is no posting
+pub no_documents : (postings : List Posting) → documents postings ≡ [] → postings ≡ []
+no_documents [] h = refl
+no_documents (p ∷ postings) h = absurd (let no : p.doc ∷ documents postings ≡ [] = h in cc)
+
+-- nothing is put for no posting
+pub none_put : {X : Type 0} (xs : List X) (x : X) (postings : List Posting) → postings ≡ [] → xs ≡ xs ++ unless_none postings x
+none_put {X} xs x postings none = sym (let P : List Posting → List X = λ ps. xs ++ unless_none ps x in ap P none ∙ append-nil xs)
+
+-- and one element for some
+pub some_put : {X : Type 0} (xs new : List X) (x : X) (postings : List Posting) → postings ≢ [] → new ≡ xs ++ x ∷ [] → new ≡ xs ++ unless_none postings x
+some_put xs new x [] some put = absurd (some refl)
+some_put xs new x (p ∷ postings) some put = put
+
 -- each name is before a term
 abbrev pub AreBefore : List ℕ → List (List ℕ) → Type 0
 AreBefore term names = AllByRecursion (λ name. slice_cmp nat_cmp name term ≡ Less) names

@@ -7,7 +7,7 @@ use Rattle.std.proofs.lemmas.List.Sums.{sum_by-cons}
 use Rattle.std.proofs.lemmas.Option.{slice_get_within, get_or_from_slice_get}
 use Rattle.fts_pack.specs.Documents.{block_at}
 use Rattle.fts_pack.proofs.DocumentsLemmas.{take_block}
-use Rattle.fts_segment.specs.Parts.{AreInARow, PartValue, renumbered, placed, moved}
+use Rattle.fts_segment.specs.Parts.{AreInARow, PartValue, number_in, renumbered, placed, moved}
 use Rattle.fts_segment.specs.Postings.{Posting, posting_at, postings_of, documents, position_lists}
 
 -- what is left of a list, the first apart
@@ -62,6 +62,18 @@ AreInARow-renumbered first live all fit = record {
   are = λ doc within. numbered_at first live doc all (omega (arith, within, length-renumbered first live));
   fit = omega (arith, all, fit, length-renumbered first live);
 }
+
+-- a posting whose document has a new number is placed there
+pub placed-some : (o : Option (Option ℕ)) (number : ℕ) (posting : Posting) → Some number ≡ number_in o → placed o posting ≡ posting_at number posting.positions ∷ []
+placed-some None number posting h = absurd (let no : Some number ≡ None = h in cc)
+placed-some (Some None) number posting h = absurd (let no : Some number ≡ None = h in cc)
+placed-some (Some (Some n)) number posting h = let same : n ≡ number = let e : Some number ≡ Some n = h in cc in ap (λ n. posting_at n posting.positions ∷ []) same
+
+-- and another one nowhere
+pub placed-none : (o : Option (Option ℕ)) (posting : Posting) → None ≡ number_in o → placed o posting ≡ []
+placed-none None posting h = refl
+placed-none (Some None) posting h = refl
+placed-none (Some (Some n)) posting h = absurd (let no : None ≡ Some n = h in cc)
 
 moved-append : (numbers : List (Option ℕ)) (xs ys : List Posting) → moved numbers (xs ++ ys) ≡ moved numbers xs ++ moved numbers ys
 moved-append numbers [] ys = refl

@@ -109,11 +109,11 @@ take-position_lists_at (suc k) (n ∷ ns) gs =
     ∙ ap (λ m. documents_at 0 (take n (take m gs)) ∷ position_lists_at (take k ns) (drop n (take m gs))) (sym (total-cons n (take k ns)))
 
 -- the lists between two
-pub range-position_lists_at : (start end first : ℕ) (counts gs : List ℕ) → first ≡ sum (take start counts) →
-    position_lists_at (slice_range counts start end) (slice_range gs first (first + sum (slice_range counts start end))) ≡ slice_range (position_lists_at counts gs) start end
-range-position_lists_at start end first counts gs is =
+pub range-position_lists_at : (start end first many : ℕ) (counts gs : List ℕ) → first ≡ sum (take start counts) → many ≡ sum (slice_range counts start end) →
+    position_lists_at (slice_range counts start end) (slice_range gs first (first + many)) ≡ slice_range (position_lists_at counts gs) start end
+range-position_lists_at start end first many counts gs is many_is =
     let some = slice_range counts start end in
-    let left : first + sum some - first ≡ sum some = omega arith in
+    let left : first + many - first ≡ sum some = omega (arith, many_is) in
     ap₂ (λ n m. position_lists_at some (take n (drop m gs))) left is
     ∙ sym (ap (take (end - start)) (drop-position_lists_at start counts gs) ∙ take-position_lists_at (end - start) (drop start counts) (drop (sum (take start counts)) gs))
 

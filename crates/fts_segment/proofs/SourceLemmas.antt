@@ -1,9 +1,9 @@
 -- What the live documents of sources have, source by source.
-use Rattle.std.proofs.Common.{◌≡◌, ◌≢◌, ◌+◌, ◌<◌, ◌≤◌, ◌^◌, ℕ, zero, suc, Bool, true, false, cond, List, [], ◌∷◌, ◌++◌, Option, Some, None, map, length, take, drop, get_or, count_by, flat_map, replicate, refl, sym, ap, ap₂, subst, ◌∙◌, arith, All, append_assoc}
+use Rattle.std.proofs.Common.{◌≡◌, ◌≢◌, ◌+◌, ◌-◌, ◌<◌, ◌≤◌, ◌^◌, ℕ, zero, suc, Bool, true, false, cond, List, [], ◌∷◌, ◌++◌, Option, Some, None, map, length, take, drop, get_or, count_by, flat_map, replicate, refl, sym, ap, ap₂, subst, ◌∙◌, arith, All, append_assoc}
 use Rattle.std.specs.Prelude.{slice_get}
 use Rattle.std.specs.List.{AllByRecursion, list_any}
 use Rattle.std.specs.List.Sorted.{IsStrictlyIncreasing}
-use Rattle.std.proofs.lemmas.List.{append-nil, drop_all, drop_more, get_or-map, map-append, length-append, length-map}
+use Rattle.std.proofs.lemmas.List.{append-nil, drop_all, drop_more, get_or-map, map-append, length-append, length-map, take_all}
 use Rattle.std.proofs.lemmas.List.Elements.{All-head, All-tail, All-cons, All-nil, All-append}
 use Rattle.std.proofs.lemmas.List.Sums.{sum_by-cons}
 use Rattle.fts_model.specs.declared.schema.Field.{Field}
@@ -288,19 +288,28 @@ all_set zero = refl
 all_set (suc n) = omega (arith, all_set n, sum_by-cons (λ (bit : Bool). cond bit 1 0) true (replicate n true))
 
 -- the segment of sources that were joined before, as a source
-abbrev pub before : List SourceValue → SourceValue
-before ss = record { segment = joined_segment ss; live = replicate (length (contents ss)) true }
+abbrev pub joined_source : List SourceValue → SourceValue
+joined_source ss = record { segment = joined_segment ss; live = replicate (length (contents ss)) true }
+
+-- a source that has the segment and the bits of another is that
+pub same_source : (source other : SourceValue) (segment : SegmentValue) (live : List Bool) → source ≡ record { segment = segment; live = live } → segment ≡ other.segment → live ≡ other.live → source ≡ other
+same_source source other segment live is same bits = let of : SegmentValue → List Bool → SourceValue = λ s b. record { segment = s; live = b } in is ∙ ap₂ of same bits
+
+-- sources are the first one and those behind it
+pub first_and_others : (ss : List SourceValue) (s : SourceValue) → 0 < length ss → s ≡ get_or ss 0 s → s ∷ take (length ss - 1) (drop 1 ss) ≡ ss
+first_and_others [] s some is = absurd (omega (arith, some))
+first_and_others (t ∷ ss) s some is = ap₂ (λ (u : SourceValue) us. u ∷ us) is (take_all (suc (length ss) - 1) ss (omega arith))
 
 -- sources that are joined in turn
-pub joined_in_turn : (s : SourceValue) (ss : List SourceValue) → joined_segment (s ∷ before ss ∷ []) ≡ joined_segment (s ∷ ss)
+pub joined_in_turn : (s : SourceValue) (ss : List SourceValue) → joined_segment (s ∷ joined_source ss ∷ []) ≡ joined_segment (s ∷ ss)
 joined_in_turn s ss =
-    let all : contents (before ss ∷ []) ≡ contents ss = append-nil (where_set (contents ss) (replicate (length (contents ss)) true)) ∙ where_set-all (contents ss) in
+    let all : contents (joined_source ss ∷ []) ≡ contents ss = append-nil (where_set (contents ss) (replicate (length (contents ss)) true)) ∙ where_set-all (contents ss) in
     let whole : List (Stamped DocumentValue) → SegmentValue = λ ds. record { schema = s.segment.schema; documents = content_of s.segment s.live ++ ds } in
     ap whole all
 
-pub few_in_turn : (s : SourceValue) (ss : List SourceValue) → live_count (s ∷ before ss ∷ []) ≤ live_count (s ∷ ss)
+pub few_in_turn : (s : SourceValue) (ss : List SourceValue) → live_count (s ∷ joined_source ss ∷ []) ≤ live_count (s ∷ ss)
 few_in_turn s ss =
-    omega (arith, live_count-cons s (before ss ∷ []), live_count-cons (before ss) [], live_count-cons s ss, all_set (length (contents ss)), length-contents ss)
+    omega (arith, live_count-cons s (joined_source ss ∷ []), live_count-cons (joined_source ss) [], live_count-cons s ss, all_set (length (contents ss)), length-contents ss)
 
 -- the others have the same schema as the first
 pub schemas_behind : (s : SourceValue) (ss : List SourceValue) → 0 < length ss → AreOfOneSchema (s ∷ ss) → AreOfOneSchema ss × (schema_of ss ≡ s.segment.schema)
@@ -311,7 +320,7 @@ schemas_behind s (t ∷ ss) some h =
     let first : t.segment.schema ≡ s.segment.schema = All-head (Same s.segment.schema) t ss rest in
     (subst (λ schema. All (Same schema) (t ∷ ss)) (sym first) rest, first)
 
-pub schemas_in_turn : (s : SourceValue) (ss : List SourceValue) → 0 < length ss → AreOfOneSchema (s ∷ ss) → AreOfOneSchema (s ∷ before ss ∷ [])
+pub schemas_in_turn : (s : SourceValue) (ss : List SourceValue) → 0 < length ss → AreOfOneSchema (s ∷ ss) → AreOfOneSchema (s ∷ joined_source ss ∷ [])
 schemas_in_turn s ss some h =
     let Same : SourceValue → Type 0 = λ u. u.segment.schema ≡ s.segment.schema in
-    All-cons Same s (before ss ∷ []) refl (All-cons Same (before ss) [] (schemas_behind s ss some h).1 (All-nil Same))
+    All-cons Same s (joined_source ss ∷ []) refl (All-cons Same (joined_source ss) [] (schemas_behind s ss some h).1 (All-nil Same))

@@ -3,7 +3,7 @@ use Rattle.std.proofs.Common.{◌≡◌, ◌+◌, ◌-◌, ◌*◌, ◌/◌, ◌
 use Rattle.std.specs.Prelude.{slice_range}
 use Rattle.std.proofs.lemmas.Bool.{cases_lt}
 use Rattle.std.proofs.lemmas.Grind.{same_number_lists}
-use Rattle.std.proofs.lemmas.List.{drop-drop, get_or-drop, get_or-take, length-take-le, take_all}
+use Rattle.std.proofs.lemmas.List.{drop-drop, drop_more, get_or-drop, get_or-take, length-take-le, take_all}
 use Rattle.std.proofs.lemmas.List.Sums.{sum_by_more, sum_by-take-le}
 use Rattle.std.proofs.Math.Seq.{take-add}
 use Rattle.fts_pack.specs.Documents.{block_at}
@@ -74,6 +74,10 @@ range_min xs start end = elim (cases_lt end (length xs)) [
       take_all (min end (length xs) - start) (drop start xs) (omega (arith, past, length-drop start xs))
       ∙ sym (take_all (end - start) (drop start xs) (omega (arith, past, length-drop start xs)))
 ]
+
+-- one member
+pub range_one : {X : Type 0} (xs : List X) (at : ℕ) (d : X) → at < length xs → slice_range xs at (at + 1) ≡ get_or xs at d ∷ []
+range_one xs at d within = ap (λ n. take n (drop at xs)) (let one : at + 1 - at ≡ 1 = omega arith in one) ∙ ap (take 1) (drop_more xs at d within)
 
 -- so many numbers are between
 pub length-range : {X : Type 0} (xs : List X) (start count : ℕ) → start + count ≤ length xs → length (slice_range xs start (start + count)) ≡ count

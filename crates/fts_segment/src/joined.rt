@@ -125,23 +125,27 @@ fn are_few(sources: &[Source<'_>], most: usize) -> bool {
     true
 }
 
-// The same where the sources behind the first are joined before it is joined to them.
-fn joined_in_turn(alloc: Global, sources: &[Source<'_>]) -> Result<Segment, AllocError>
-    requires some { 1 < length sources.now }
-    requires schemas { AreOfOneSchema sources.now }
-    requires few { live_count sources.now ≤ most_merged }
-    ensures { IfOk result (λ segment. segment ≡ joined_segment sources.now) }
+// The same for a source and others behind it, where the others are joined before.
+fn joined_in_turn(
+    alloc: Global,
+    first: &Source<'_>,
+    others: &[Source<'_>],
+) -> Result<Segment, AllocError>
+    requires some { 0 < length others.now }
+    requires schemas { AreOfOneSchema (first.now ∷ others.now) }
+    requires few { live_count (first.now ∷ others.now) ≤ most_merged }
+    ensures { IfOk result (λ segment. segment ≡ joined_segment (first.now ∷ others.now)) }
 {
-    let others = joined(alloc, &sources[1..])?;
-    let Ok(live) = Bits::all_set(alloc, others.docs()) else {
+    let second = joined(alloc, others)?;
+    let Ok(live) = Bits::all_set(alloc, second.docs()) else {
         return Err(AllocError);
     };
-    let first = &sources[0];
     let both = [
         Source::new(first.segment(), first.live()),
-        Source::new(&others, &live),
+        Source::new(&second, &live),
     ];
-    joined(alloc, &both)
+    let segment = joined(alloc, &both)?;
+    Ok(segment)
 }
 
 /// One segment of the live documents of sources, of which there is at least one and all have one schema. The documents
@@ -155,8 +159,11 @@ pub fn join(alloc: Global, sources: &[Source<'_>]) -> Result<Segment, Refusal>
     ensures memory { IfErr result (λ e. e ≡ Memory) }
 {
     // The terms of a large segment are compared with those of one more, and not with those of each small one.
-    if sources.len() > 2 && are_few(&sources[1..], sources[0].segment().docs() / 8) {
-        let segment = joined_in_turn(alloc, sources)?;
+    if let [first, others @ ..] = sources
+        && others.len() > 1
+        && are_few(others, first.segment().docs() / 8)
+    {
+        let segment = joined_in_turn(alloc, first, others)?;
         return Ok(segment);
     }
     let segment = joined(alloc, sources)?;

@@ -65,7 +65,8 @@ fn pass_all(
     Ok(())
 }
 
-// Puts the next term of parts behind those of a writer, unless no posting of it is left. `docs` is room for its documents.
+// Puts the next term of parts behind those of a writer, unless no posting of it is left. `docs` is room for its
+// documents.
 fn join_term(
     writer: &mut PostingsWriter,
     alloc: Global,
@@ -90,7 +91,8 @@ fn join_term(
     if docs.is_empty() {
         return Ok(());
     }
-    writer.end_term(alloc, term, docs)
+    writer.end_term(alloc, term, docs)?;
+    Ok(())
 }
 
 /// The dictionary of parts: the terms that have a posting left, in order, each with those that the parts have for it.

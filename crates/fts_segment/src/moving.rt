@@ -1,5 +1,6 @@
 // Moves the postings of a term to documents of other numbers.
-ghost use Rattle.std.specs.Prelude.{◌≡◌, ◌+◌, ◌-◌, ◌<◌, ◌≤◌, ◌^◌, ◌++◌, [], All, drop, length, map, OnOk, slice_get, slice_index_or};
+ghost use Rattle.std.specs.Prelude.{◌≡◌, ◌+◌, ◌-◌, ◌<◌, ◌≤◌, ◌^◌, ◌++◌, [], All, OnOk, drop, length, map};
+ghost use Rattle.std.specs.Prelude.{slice_get, slice_index_or};
 ghost use Rattle.fts_segment.specs.Parts.{moved, placed};
 ghost use Rattle.fts_segment.specs.PositionListLogs.{IsPositionListLog, logged_position_lists};
 ghost use Rattle.fts_segment.specs.Postings.{documents, position_lists, posting_at, postings_of};
@@ -49,18 +50,19 @@ fn move_posting(
 ) -> Result<(), AllocError>
     requires is { IsPositionListLog log.old }
     requires within { list < length (lists_in lists.old) }
-    requires room { list + 1 < 2 ^ 64 }
     ensures same { lists_in lists.new ≡ lists_in lists.old }
     ensures is { OnOk result (IsPositionListLog log.new) }
-    ensures docs { OnOk result (docs.new.items ≡ docs.old.items
-        ++ documents (placed (slice_get numbers.now doc) (posting_at doc (slice_index_or (lists_in lists.old) list [])))) }
-    ensures lists { OnOk result (logged_position_lists log.new ≡ logged_position_lists log.old
-        ++ position_lists (placed (slice_get numbers.now doc) (posting_at doc (slice_index_or (lists_in lists.old) list [])))) }
+    ensures docs { let posting = posting_at doc (slice_index_or (lists_in lists.old) list []) in
+        OnOk result (docs.new.items ≡ docs.old.items ++ documents (placed (slice_get numbers.now doc) posting)) }
+    ensures lists { let posting = posting_at doc (slice_index_or (lists_in lists.old) list []) in
+        OnOk result (logged_position_lists log.new
+        ≡ logged_position_lists log.old ++ position_lists (placed (slice_get numbers.now doc) posting)) }
 {
     match numbers.get(doc) {
         Some(number) => {
             docs.push(number)?;
-            lists.move_lists(list, list + 1, log)
+            lists.move_lists(list, list + 1, log)?;
+            Ok(())
         }
         None => Ok(()),
     }
@@ -77,7 +79,6 @@ fn move_some(
 ) -> Result<(), AllocError>
     requires is { IsPositionListLog log.old }
     requires within { length block.now ≤ length (lists_in lists.old) - start }
-    requires room { start + length block.now < 2 ^ 64 }
     ensures same { lists_in lists.new ≡ lists_in lists.old }
     ensures is { OnOk result (IsPositionListLog log.new) }
     ensures docs { OnOk result (docs.new.items ≡ docs.old.items
@@ -102,7 +103,6 @@ fn move_each(
 ) -> Result<(), AllocError>
     requires is { IsPositionListLog log.old }
     requires within { length list.now ≤ length (lists_in lists.old) - start }
-    requires room { start + length list.now < 2 ^ 64 }
     ensures same { lists_in lists.new ≡ lists_in lists.old }
     ensures is { OnOk result (IsPositionListLog log.new) }
     ensures docs { OnOk result (docs.new.items ≡ docs.old.items
@@ -143,8 +143,12 @@ pub(crate) fn move_postings(
     match numbers.first() {
         Some(first) => {
             shift(list, first, docs)?;
-            lists.move_lists(positions.start, positions.end, log)
+            lists.move_lists(positions.start, positions.end, log)?;
+            Ok(())
         }
-        None => move_each(list, positions.start, numbers, lists, docs, log),
+        None => {
+            move_each(list, positions.start, numbers, lists, docs, log)?;
+            Ok(())
+        }
     }
 }

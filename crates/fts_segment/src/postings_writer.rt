@@ -105,7 +105,8 @@ impl PostingsWriter {
         };
         self.names.push(name)?;
         self.lists.push(list)?;
-        self.positions.end_term()
+        self.positions.end_term()?;
+        Ok(())
     }
 
     /// The dictionary of the terms, with their positions packed.

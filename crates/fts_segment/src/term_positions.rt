@@ -111,7 +111,8 @@ impl PositionLog {
             ≡ logged_term_position_lists self.old ++ position_lists_of places.now ∷ []) }
     {
         push_position_lists(&mut self.lists, list, places)?;
-        self.end_term()
+        self.end_term()?;
+        Ok(())
     }
 
     /// Ends a term, whose positions are the lists that were put behind those of the terms before.

@@ -1,5 +1,5 @@
 // Packed numbers that are copied in runs: a block at a time lies unpacked.
-ghost use Rattle.std.specs.Prelude.{◌≡◌, ◌+◌, ◌<◌, ◌≤◌, ◌++◌, ℕ, IfOk, OnOk, length, slice_index, slice_range};
+ghost use Rattle.std.specs.Prelude.{◌≡◌, ◌+◌, ◌^◌, ◌<◌, ◌≤◌, ◌++◌, ℕ, IfOk, OnOk, length, slice_index, slice_range};
 
 use fts_pack::{BLOCK, Numbers};
 use std::alloc::AllocError;
@@ -13,6 +13,7 @@ pub(crate) struct Unpacked<'a> {
     /// How many numbers it has.
     count: usize,
     block: [u32; BLOCK],
+    ghost few: { length numbers.now < 2 ^ 64 },
     ghost near: { count ≤ 128 },
     ghost within: { start + count ≤ length numbers.now },
     ghost are: { (i : ℕ) → i < count → slice_index block i ≡ slice_index numbers.now (start + i) },
@@ -23,6 +24,8 @@ impl<'a> Unpacked<'a> {
     pub(crate) fn new(numbers: &'a Numbers) -> Unpacked<'a>
         ensures { result.numbers.now ≡ numbers.now }
     {
+        // Shows the proof that indexes fit.
+        let _ = numbers.len();
         Unpacked {
             numbers,
             start: 0,

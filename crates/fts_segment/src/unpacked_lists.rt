@@ -16,7 +16,6 @@ pub(crate) struct UnpackedLists<'a> {
     list: usize,
     /// Where its positions begin.
     start: usize,
-    ghost few: { length gaps.numbers.now < 2 ^ 64 },
     ghost whole: { sum counts.numbers.now ≡ length gaps.numbers.now },
     ghost fit: { All (λ list. All (λ p. p < 2 ^ 32) list) (position_lists_at counts.numbers.now gaps.numbers.now) },
     ghost within: { list ≤ length counts.numbers.now },
@@ -34,8 +33,6 @@ impl<'a> UnpackedLists<'a> {
         requires fit { All (λ list. All (λ p. p < 2 ^ 32) list) (position_lists_at counts.now gaps.now) }
         ensures { lists_in result ≡ position_lists_at counts.now gaps.now }
     {
-        // Shows the proof that indexes of positions fit.
-        let _ = gaps.len();
         UnpackedLists {
             counts: Unpacked::new(counts),
             gaps: Unpacked::new(gaps),

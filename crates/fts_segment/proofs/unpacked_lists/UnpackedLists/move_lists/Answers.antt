@@ -8,7 +8,7 @@ use Rattle.fts_segment.specs.UnpackedLists.{lists_in}
 use Rattle.fts_segment.proofs.PackedLemmas.{AreLogged-append, length-position_lists_at, position_lists_at-append, range-position_lists_at}
 use Rattle.fts_segment.proofs.UnpackedLemmas.{length-range, range_min, range_none, sum-range, sum-within}
 use Rattle.fts_segment.proofs.unpacked_lists.UnpackedLists.move_lists.Goals as goal
-use Rattle.fts_segment.proofs.unpacked_lists.UnpackedLists.move_lists.Goals.{After-deref, After-total-positions}
+use Rattle.fts_segment.proofs.unpacked_lists.UnpackedLists.move_lists.Goals.{After-deref}
 
 pub returns-then-start-end-clause-moved : goal.returns-then-start-end-clause-moved
 returns-then-start-end-clause-moved c =
@@ -39,11 +39,11 @@ within_of c =
 
 pub total-positions-requires : goal.total-positions-requires
 total-positions-requires c =
-    let a = (goal.at.total-positions-requires c).After-deref in omega (arith, within_of a, c.seek.new.self.few)
+    let a = (goal.at.total-positions-requires c).After-deref in omega (arith, within_of a, c.seek.new.self.gaps.few)
 
 pub overflow_add-self : goal.overflow_add-self
 overflow_add-self c =
-    let a = (goal.at.overflow_add-self c).After-deref in omega (arith, c.total-positions.ensures, within_of a, c.seek.new.self.few)
+    let a = (goal.at.overflow_add-self c).After-deref in omega (arith, c.total-positions.ensures, within_of a, c.seek.new.self.gaps.few)
 
 pub copy-requires-2 : goal.copy-requires-2
 copy-requires-2 c =
@@ -51,7 +51,7 @@ copy-requires-2 c =
 
 pub overflow_add-self-2 : goal.overflow_add-self-2
 overflow_add-self-2 c =
-    let a = (goal.at.overflow_add-self-2 c).After-deref in omega (arith, c.total-positions.ensures, within_of a, c.seek.new.self.few)
+    let a = (goal.at.overflow_add-self-2 c).After-deref in omega (arith, c.total-positions.ensures, within_of a, c.seek.new.self.gaps.few)
 
 pub invariant_of-self-2 : goal.invariant_of-self-2
 invariant_of-self-2 c =
@@ -62,7 +62,6 @@ invariant_of-self-2 c =
     let two = c.copy-2.ensures.same in
     let Fit : List (List ℕ) → Type 0 = All (λ list. All (λ p. p < 2 ^ 32) list) in
     record {
-      few = omega (arith, ap length two, s.few);
       whole = ap sum one ∙ s.whole ∙ sym (ap length two);
       fit = subst Fit (sym (ap₂ position_lists_at one two)) s.fit;
       within = omega (arith, ap length one, c.min-end.ensures, c.len.ensures, ap length c.seek.ensures.counts);
@@ -70,16 +69,14 @@ invariant_of-self-2 c =
       ap (λ ns. sum (take c.min-end.result ns)) one);
     }
 
--- the lists that were moved
-moved_of : (c : After-total-positions) → let s = c.seek.new.self in
-    position_lists_at (slice_range s.counts.numbers.now c.args.start c.min-end.result) (slice_range s.gaps.numbers.now s.start (s.start + c.total-positions.result))
+-- the lists that are moved, where `many` are their positions
+moved_of : (c : After-deref) (many : ℕ) → many ≡ sum (take (length c.deref.result.now - c.len-first.result) (drop c.len-first.result c.deref.result.now)) → let s = c.seek.new.self in
+    position_lists_at (slice_range s.counts.numbers.now c.args.start c.min-end.result) (slice_range s.gaps.numbers.now s.start (s.start + many))
     ≡ slice_range (position_lists_at s.counts.numbers.now s.gaps.numbers.now) c.args.start c.min-end.result
-moved_of c =
-    let a = (goal.at.copy-requires-2 c).After-deref in
+moved_of c many is =
     let s = c.seek.new.self in
     let counts = s.counts.numbers.now in
-    ap (λ n. position_lists_at (slice_range counts c.args.start c.min-end.result) (slice_range s.gaps.numbers.now s.start (s.start + n))) (c.total-positions.ensures ∙ ap sum (some_of a))
-    ∙ range-position_lists_at c.args.start c.min-end.result s.start counts s.gaps.numbers.now (s.begins ∙ ap (λ n. sum (take n counts)) c.seek.ensures.there)
+    range-position_lists_at c.args.start c.min-end.result s.start many counts s.gaps.numbers.now (s.begins ∙ ap (λ n. sum (take n counts)) c.seek.ensures.there) (is ∙ ap sum (some_of c))
 
 pub returns-clause-is : goal.returns-clause-is
 returns-clause-is c =
@@ -94,7 +91,7 @@ returns-clause-is c =
     let within : s.start + c.total-positions.result ≤ length gaps = omega (arith, c.total-positions.ensures, within_of a) in
     let whole : sum some ≡ length others = sym (ap sum (some_of a)) ∙ sym c.total-positions.ensures ∙ sym (length-range gaps s.start c.total-positions.result within) in
     let few : length (log.gaps.items ++ others) < 2 ^ 64 = omega (arith, ap length c.in_ok-copy-2.ensures.copied, c.copy-2.new.out.ok.0) in
-    let fit = subst (All Each) (sym (moved_of (goal.at.returns-clause-is c).After-total-positions))
+    let fit = subst (All Each) (sym (moved_of a c.total-positions.result c.total-positions.ensures))
     (All-take Each (c.min-end.result - c.args.start) (drop c.args.start (position_lists_at counts gaps)) (All-drop Each c.args.start (position_lists_at counts gaps) s.fit)) in
     rw (c.in_ok-copy.ensures.copied, c.in_ok-copy-2.ensures.copied) (AreLogged-append log.counts.items some log.gaps.items others c.requires whole few fit)
 
@@ -111,5 +108,5 @@ returns-clause-moved c =
     ap₂ position_lists_at c.in_ok-copy.ensures.copied c.in_ok-copy-2.ensures.copied
     ∙ position_lists_at-append log.counts.items some log.gaps.items others c.requires.whole
     ∙ ap (λ ls. logged_position_lists log ++ ls)
-    (moved_of (goal.at.returns-clause-moved c).After-total-positions ∙ ap (slice_range lists c.args.start) end ∙ range_min lists c.args.start c.args.end
+    (moved_of (goal.at.returns-clause-moved c).After-deref c.total-positions.result c.total-positions.ensures ∙ ap (slice_range lists c.args.start) end ∙ range_min lists c.args.start c.args.end
     ∙ ap (λ ls. slice_range ls c.args.start c.args.end) (ap₂ position_lists_at c.seek.ensures.counts c.seek.ensures.gaps))
