@@ -104,7 +104,7 @@ documents-shifted numbers first (doc ∷ docs) [] row paired within = absurd (om
 documents-shifted numbers first (doc ∷ docs) (list ∷ lists) row paired within =
     let Within : ℕ → Type 0 = λ doc. doc < length numbers in
     ap (λ o. documents (placed o (posting_at doc list) ++ moved numbers (postings_of docs lists))) (row.are doc (All-head Within doc docs within))
-    ∙ ap (λ ds. first + doc ∷ ds) (documents-shifted numbers first docs lists row (omega (arith, paired)) (All-tail Within doc docs within))
+    ∙ ap (λ ds. (first + doc) ∷ ds) (documents-shifted numbers first docs lists row (omega (arith, paired)) (All-tail Within doc docs within))
 
 pub lists-shifted : (numbers : List (Option ℕ)) (first : ℕ) (docs : List ℕ) (lists : List (List ℕ)) → AreInARow numbers first → length docs ≡ length lists → All (λ doc. doc < length numbers) docs →
     position_lists (moved numbers (postings_of docs lists)) ≡ lists

@@ -26,9 +26,9 @@ terms_of c =
 numbers_of : (c : In_ok-numbers) → c.in_ok-numbers.numbers ≡ renumbered c.args.next c.args.source.now.live
 numbers_of c = c.in_ok-numbers.ensures ∙ ap (renumbered c.args.next) c.live.ensures.live
 
-pub new-requires : goal.new-requires
-new-requires c =
-    let a = (goal.at.new-requires c).In_ok-numbers in
+pub new-requires-2 : goal.new-requires-2
+new-requires-2 c =
+    let a = (goal.at.new-requires-2 c).In_ok-numbers in
     let source = c.args.source.now in
     let value : Stamped DocumentValue → Option FieldValue = λ d. value_in_field d.value c.args.field in
     terms-whole c.args.kind (values_in c.args.field source.segment.documents) c.dictionary-terms.result.now c.in_ok-numbers.numbers (terms_of a)
@@ -40,4 +40,4 @@ returns-clause-is c =
     let kind = c.args.kind in
     let source = c.args.source.now in
     let d = c.dictionary-terms.result.now in
-    subst (IsPart kind c.args.field c.args.next source) (sym c.new.ensures) (part-is kind c.args.field c.args.next source d c.in_ok-numbers.numbers (terms_of a) (numbers_of a))
+    subst (IsPart kind c.args.field c.args.next source) (sym c.new-2.ensures) (part-is kind c.args.field c.args.next source d c.in_ok-numbers.numbers (terms_of a) (numbers_of a))

@@ -22,15 +22,15 @@ opened_of c =
 within_of : (c : After-open-count) → c.loop-block.block * 128 < length c.args.list.now
 within_of c = omega (arith, count_of c, c.loop-block-test.true)
 
-pub overflow_mul-move_some : goal.overflow_mul-move_some
-overflow_mul-move_some c =
+pub overflow_mul-block : goal.overflow_mul-block
+overflow_mul-block c =
     let lists = c.args.lists.now in
-    omega (arith, within_of (goal.at.overflow_mul-move_some c).After-open-count, c.requires.within, length-position_lists_at lists.counts.numbers.now lists.gaps.numbers.now, lists.counts.few)
+    omega (arith, within_of (goal.at.overflow_mul-block c).After-open-count, c.requires.within, length-position_lists_at lists.counts.numbers.now lists.gaps.numbers.now, lists.counts.few)
 
-pub overflow_add-move_some : goal.overflow_add-move_some
-overflow_add-move_some c =
+pub overflow_add-start : goal.overflow_add-start
+overflow_add-start c =
     let lists = c.args.lists.now in
-    omega (arith, within_of (goal.at.overflow_add-move_some c).After-open-count, c.requires.within, length-position_lists_at lists.counts.numbers.now lists.gaps.numbers.now, lists.counts.few)
+    omega (arith, within_of (goal.at.overflow_add-start c).After-open-count, c.requires.within, length-position_lists_at lists.counts.numbers.now lists.gaps.numbers.now, lists.counts.few)
 
 pub move_some-requires-clause-within : goal.move_some-requires-clause-within
 move_some-requires-clause-within c =

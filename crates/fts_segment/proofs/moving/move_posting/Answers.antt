@@ -8,20 +8,20 @@ use Rattle.fts_segment.proofs.PackedLemmas.{length-position_lists_at}
 use Rattle.fts_segment.proofs.UnpackedLemmas.{range_one}
 use Rattle.fts_segment.proofs.moving.move_posting.Goals as goal
 
-pub overflow_add-in-Some : goal.overflow_add-in-Some
-overflow_add-in-Some c =
+pub overflow_add-list : goal.overflow_add-list
+overflow_add-list c =
     let l = c.args.lists.now in omega (arith, c.requires.within, length-position_lists_at l.counts.numbers.now l.gaps.numbers.now, l.counts.few)
 
-pub returns-in_ok-move_lists-clause-docs : goal.returns-in_ok-move_lists-clause-docs
-returns-in_ok-move_lists-clause-docs c =
+pub returns-in_ok-move_lists-in-Some-clause-docs : goal.returns-in_ok-move_lists-in-Some-clause-docs
+returns-in_ok-move_lists-in-Some-clause-docs c =
     let posting = posting_at c.args.doc (get_or (lists_in c.args.lists.now) c.args.list []) in
-    c.in_ok-push.ensures.items ∙ ap (λ ps. c.args.docs.now.items ++ documents ps) (sym (placed-some (slice_get c.args.numbers.now c.args.doc) c.in-Some.number posting c.in-Some.ensures))
+    c.in_ok-push-in-Some.ensures.items ∙ ap (λ ps. c.args.docs.now.items ++ documents ps) (sym (placed-some (slice_get c.args.numbers.now c.args.doc) c.in-Some.number posting c.in-Some.ensures))
 
-pub returns-in_ok-move_lists-clause-lists : goal.returns-in_ok-move_lists-clause-lists
-returns-in_ok-move_lists-clause-lists c =
+pub returns-in_ok-move_lists-in-Some-clause-lists : goal.returns-in_ok-move_lists-in-Some-clause-lists
+returns-in_ok-move_lists-in-Some-clause-lists c =
     let lists = lists_in c.args.lists.now in
     let posting = posting_at c.args.doc (get_or lists c.args.list []) in
-    c.in_ok-move_lists.ensures.moved
+    c.in_ok-move_lists-in-Some.ensures.moved
     ∙ ap (λ ls. logged_position_lists c.args.log.now ++ ls)
     (range_one lists c.args.list [] c.requires.within ∙ ap position_lists (sym (placed-some (slice_get c.args.numbers.now c.args.doc) c.in-Some.number posting c.in-Some.ensures)))
 

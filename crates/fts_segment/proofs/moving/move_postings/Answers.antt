@@ -22,32 +22,32 @@ move_each-requires-clause-within c =
     let some = drop p.start p.lists.now in
     omega (arith, c.requires.paired, length-take (p.end - p.start) some, length-drop p.start p.lists.now, ap length c.requires.lists)
 
-pub returns-in_ok-move_lists-clause-docs : goal.returns-in_ok-move_lists-clause-docs
-returns-in_ok-move_lists-clause-docs c =
-    c.in_ok-shift.ensures
+pub returns-in_ok-move_lists-in-Some-clause-docs : goal.returns-in_ok-move_lists-in-Some-clause-docs
+returns-in_ok-move_lists-in-Some-clause-docs c =
+    c.in_ok-shift-in-Some.ensures
     ∙ ap (λ ds. c.args.docs.now.items ++ ds) (sym (documents-shifted c.args.numbers.now c.in-Some.first c.args.list.now (position_lists_in c.args.positions) c.in-Some.ensures c.requires.paired c.requires.numbered))
 
-pub returns-in_ok-move_lists-clause-lists : goal.returns-in_ok-move_lists-clause-lists
-returns-in_ok-move_lists-clause-lists c =
+pub returns-in_ok-move_lists-in-Some-clause-lists : goal.returns-in_ok-move_lists-in-Some-clause-lists
+returns-in_ok-move_lists-in-Some-clause-lists c =
     let p = c.args.positions in
-    c.in_ok-move_lists.ensures.moved ∙ ap (λ ls. logged_position_lists c.args.log.now ++ slice_range ls p.start p.end) c.requires.lists
+    c.in_ok-move_lists-in-Some.ensures.moved ∙ ap (λ ls. logged_position_lists c.args.log.now ++ slice_range ls p.start p.end) c.requires.lists
     ∙ ap (λ ls. logged_position_lists c.args.log.now ++ ls) (sym (lists-shifted c.args.numbers.now c.in-Some.first c.args.list.now (position_lists_in p) c.in-Some.ensures c.requires.paired c.requires.numbered))
 
-pub returns-in_ok-move_each-clause-docs : goal.returns-in_ok-move_each-clause-docs
-returns-in_ok-move_each-clause-docs c =
+pub returns-in_ok-move_each-in-None-clause-docs : goal.returns-in_ok-move_each-in-None-clause-docs
+returns-in_ok-move_each-in-None-clause-docs c =
     let list = c.args.list.now in
     let p = c.args.positions in
     let some = drop p.start p.lists.now in
     let long : length list ≤ p.end - p.start = omega (arith, c.requires.paired, length-take (p.end - p.start) some) in
-    c.in_ok-move_each.ensures.docs ∙ ap (λ ls. c.args.docs.now.items ++ documents (moved c.args.numbers.now (postings_of list (drop p.start ls)))) c.requires.lists
+    c.in_ok-move_each-in-None.ensures.docs ∙ ap (λ ls. c.args.docs.now.items ++ documents (moved c.args.numbers.now (postings_of list (drop p.start ls)))) c.requires.lists
     ∙ ap (λ ps. c.args.docs.now.items ++ documents (moved c.args.numbers.now ps)) (sym (postings_of-take list (p.end - p.start) some long))
 
-pub returns-in_ok-move_each-clause-lists : goal.returns-in_ok-move_each-clause-lists
-returns-in_ok-move_each-clause-lists c =
+pub returns-in_ok-move_each-in-None-clause-lists : goal.returns-in_ok-move_each-in-None-clause-lists
+returns-in_ok-move_each-in-None-clause-lists c =
     let list = c.args.list.now in
     let p = c.args.positions in
     let some = drop p.start p.lists.now in
     let long : length list ≤ p.end - p.start = omega (arith, c.requires.paired, length-take (p.end - p.start) some) in
     let logged = logged_position_lists c.args.log.now in
-    c.in_ok-move_each.ensures.lists ∙ ap (λ ls. logged ++ position_lists (moved c.args.numbers.now (postings_of list (drop p.start ls)))) c.requires.lists
+    c.in_ok-move_each-in-None.ensures.lists ∙ ap (λ ls. logged ++ position_lists (moved c.args.numbers.now (postings_of list (drop p.start ls)))) c.requires.lists
     ∙ ap (λ ps. logged ++ position_lists (moved c.args.numbers.now ps)) (sym (postings_of-take list (p.end - p.start) some long))

@@ -5,6 +5,7 @@ use Rattle.fts_segment.specs.Postings.{Posting, posting_at, documents, position_
 use Rattle.fts_segment.specs.PositionListLogs.{logged_position_lists}
 use Rattle.fts_segment.specs.UnpackedLists.{lists_in}
 use Rattle.fts_segment.proofs.MovingLemmas.{moved-one}
+use Rattle.fts_segment.proofs.PackedLemmas.{length-position_lists_at}
 use Rattle.fts_segment.proofs.moving.move_some.Goals as goal
 
 pub loop-index-preserved : goal.loop-index-preserved
@@ -25,3 +26,8 @@ loop-index-preserved c =
 
 pub move_posting-requires-clause-within : goal.move_posting-requires-clause-within
 move_posting-requires-clause-within c = omega (arith, c.loop-index-test.true, c.requires.within, ap length c.loop-index.invariant.same)
+
+pub overflow_add-start : goal.overflow_add-start
+overflow_add-start c =
+    let l = c.args.lists.now in
+    omega (arith, c.loop-index-test.true, c.requires.within, length-position_lists_at l.counts.numbers.now l.gaps.numbers.now, l.counts.few)
