@@ -19,7 +19,7 @@ use Rattle.fts_segment.specs.Occurrences.{occurrences, values_in, tokens_of, is_
 use Rattle.fts_segment.specs.Positions.{position_lists_with}
 use Rattle.fts_segment.specs.Postings.{Posting, posting_at, documents}
 use Rattle.fts_segment.specs.Segments.{SegmentValue, AllFit, AreDocuments, positions_among}
-use Rattle.fts_segment.specs.Sources.{SourceValue, AreOfOneSchema, HasBits, live_count, contents, schema_of, joined_segment}
+use Rattle.fts_segment.specs.Sources.{SourceValue, AreOfOneSchema, HasBits, both, live_count, contents, schema_of, joined_segment}
 use Rattle.fts_segment.specs.TermPositionLists.{term_position_lists}
 use Rattle.fts_segment.specs.Parts.{PartValue, renumbered, placed, moved, found, joined, part_from, postings_with, IsSound, IsWhole, IsPart, AreParts, IsJoined}
 use Rattle.fts_segment.proofs.HoldingLemmas.{docs_with-rise}
@@ -291,9 +291,11 @@ all_set (suc n) = omega (arith, all_set n, sum_by-cons (λ (bit : Bool). cond bi
 abbrev pub joined_source : List SourceValue → SourceValue
 joined_source ss = record { segment = joined_segment ss; live = replicate (length (contents ss)) true }
 
--- a source that has the segment and the bits of another is that
-pub same_source : (source other : SourceValue) (segment : SegmentValue) (live : List Bool) → source ≡ record { segment = segment; live = live } → segment ≡ other.segment → live ≡ other.live → source ≡ other
-same_source source other segment live is same bits = let of : SegmentValue → List Bool → SourceValue = λ s b. record { segment = s; live = b } in is ∙ ap₂ of same bits
+-- two sources by their segments and bits
+pub same_both : (s t : SourceValue) (first second : SegmentValue) (first_live second_live : List Bool) → first ≡ s.segment → first_live ≡ s.live → second ≡ t.segment → second_live ≡ t.live →
+    both first first_live second second_live ≡ s ∷ t ∷ []
+same_both s t first second first_live second_live first_is first_bits second_is second_bits =
+    ap₂ (λ a b. both a b second second_live) first_is first_bits ∙ ap₂ (λ a b. both s.segment s.live a b) second_is second_bits
 
 -- sources are the first one and those behind it
 pub first_and_others : (ss : List SourceValue) (s : SourceValue) → 0 < length ss → s ≡ get_or ss 0 s → s ∷ take (length ss - 1) (drop 1 ss) ≡ ss

@@ -8,7 +8,7 @@ ghost use Rattle.fts_model.specs.declared.operation.Stamped.{Stamped};
 ghost use Rattle.fts_segment.specs.Contents.{content_of};
 ghost use Rattle.fts_segment.specs.FieldIndexes.{AreIndexes};
 ghost use Rattle.fts_segment.specs.Segments.{AllFit, AreDocuments};
-ghost use Rattle.fts_segment.specs.Sources.{AreOfOneSchema, contents, joined_segment, live_count, schema_of};
+ghost use Rattle.fts_segment.specs.Sources.{AreOfOneSchema, both, contents, joined_segment, live_count, schema_of};
 
 use crate::field_index::FieldIndex;
 use crate::segment::{Segment, Stored};
@@ -125,6 +125,29 @@ fn are_few(sources: &[Source<'_>], most: usize) -> bool {
     true
 }
 
+// One segment of the live documents of two.
+fn joined_both(
+    alloc: Global,
+    first: &Segment,
+    first_live: &Bits,
+    second: &Segment,
+    second_live: &Bits,
+) -> Result<Segment, AllocError>
+    requires first_bits { length first_live.now ≡ length first.now.documents }
+    requires second_bits { length second_live.now ≡ length second.now.documents }
+    requires schemas { AreOfOneSchema (both first.now first_live.now second.now second_live.now) }
+    requires few { live_count (both first.now first_live.now second.now second_live.now) ≤ most_merged }
+    ensures { IfOk result (λ segment. segment
+        ≡ joined_segment (both first.now first_live.now second.now second_live.now)) }
+{
+    let sources = [
+        Source::new(first, first_live),
+        Source::new(second, second_live),
+    ];
+    let segment = joined(alloc, &sources)?;
+    Ok(segment)
+}
+
 // The same for a source and others behind it, where the others are joined before.
 fn joined_in_turn(
     alloc: Global,
@@ -140,11 +163,7 @@ fn joined_in_turn(
     let Ok(live) = Bits::all_set(alloc, second.docs()) else {
         return Err(AllocError);
     };
-    let both = [
-        Source::new(first.segment(), first.live()),
-        Source::new(&second, &live),
-    ];
-    let segment = joined(alloc, &both)?;
+    let segment = joined_both(alloc, first.segment(), first.live(), &second, &live)?;
     Ok(segment)
 }
 
