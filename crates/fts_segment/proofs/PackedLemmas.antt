@@ -26,9 +26,6 @@ next_left gs at end next lower within =
     ap (documents_at next) (slice_range-more gs at end lower within)
     ∙ ap (λ n. (next + g) ∷ documents_at n (slice_range gs (at + 1) end)) (let one : suc (next + g) ≡ next + g + 1 = omega arith in one)
 
-pub none_left : (gs : List ℕ) (at end next : ℕ) → end ≤ at → documents_at next (slice_range gs at end) ≡ []
-none_left gs at end next past = ap (λ n. documents_at next (take n (drop at gs))) (let none : end - at ≡ 0 = omega arith in none)
-
 pub length-position_lists_at : (counts gs : List ℕ) → length (position_lists_at counts gs) ≡ length counts
 length-position_lists_at [] gs = refl
 length-position_lists_at (n ∷ ns) gs = ap suc (length-position_lists_at ns (drop n gs))

@@ -25,14 +25,6 @@ less_differs a b less = elim (bytes_eq b a) as (λ t. bytes_eq b a ≡ t → t �
   | false ↦ λ differ. refl
 ] refl
 
-pub less_differs_turned : (a b : List ℕ) → slice_cmp nat_cmp a b ≡ Less → bytes_eq a b ≡ false
-less_differs_turned a b less = elim (bytes_eq a b) as (λ t. bytes_eq a b ≡ t → t ≡ false) [
-  | true ↦ λ same.
-      let one : a ≡ b = (bytes_eq-Decides a b).0 same in
-      let clash : Less ≡ Equal = sym less ∙ ap (λ x. slice_cmp nat_cmp x b) one ∙ tied_itself nat_list_cmp_total b in cc
-  | false ↦ λ differ. refl
-] refl
-
 IsBelow-trans : (a b : List ℕ) (names : List (List ℕ)) → slice_cmp nat_cmp a b ≡ Less → IsBelow b names → IsBelow a names
 IsBelow-trans a b [] less h = tt
 IsBelow-trans a b (n ∷ names) less h = (nat_list_cmp_total.trans a b n less h.0, IsBelow-trans a b names less h.1)
@@ -222,22 +214,6 @@ postings_by-at (l ∷ lists) [] i e within = absurd (omega (arith, e))
 postings_by-at (l ∷ lists) (p ∷ positions) zero e within = refl
 postings_by-at (l ∷ lists) (p ∷ positions) (suc i) e within = postings_by-at lists positions i (omega (arith, e)) (omega (arith, within))
 
--- the next of the names that are left
-pub first-left : (names : List (List ℕ)) (at : ℕ) → at < length names → slice_get (drop at names) 0 ≡ Some (get_or names at [])
-first-left names at within = ap (λ ns. slice_get ns 0) (drop_more names at [] within)
-
-pub none-left : (names : List (List ℕ)) (at : ℕ) → length names ≤ at → slice_get (drop at names) 0 ≡ None
-none-left names at past = ap (λ ns. slice_get ns 0) (drop_all at names past)
-
--- whether a term is the next name
-pub begins-first : (term next : List ℕ) (names : List (List ℕ)) → slice_get names 0 ≡ Some next → begins term names ≡ bytes_eq next term
-begins-first term next [] h = absurd (let no : None ≡ Some next = h in cc)
-begins-first term next (n ∷ names) h = let same : n ≡ next = cc in ap (λ x. bytes_eq x term) same
-
-pub begins-none : (term : List ℕ) (names : List (List ℕ)) → slice_get names 0 ≡ None → begins term names ≡ false
-begins-none term [] h = refl
-begins-none term (n ∷ names) h = absurd (let no : Some n ≡ None = h in cc)
-
 -- where it is, one is left
 pub begins-within : (term : List ℕ) (names : List (List ℕ)) (at : ℕ) → begins term (drop at names) ≡ true → at < length names
 begins-within term names at h = elim (cases_lt at (length names)) [
@@ -269,10 +245,3 @@ passed-here term at d numbers is h =
     let part : List (List ℕ) → List (List Posting) → PartValue = λ ns ps. record { names = ns; postings = ps; numbers = numbers } in
     ap (λ b. cond b (part (drop 1 (drop at d.names)) (drop 1 (drop at (postings_by lists positions)))) (part_from at d numbers)) h
     ∙ ap₂ part (ap (drop 1) (drop_more d.names at [] within)) (ap (drop 1) (drop_more (postings_by lists positions) at [] many))
-
--- where a term isn't its next name, it gives nothing and stays
-pub given-other : (term : List ℕ) (p : PartValue) → begins term p.names ≡ false → given term p ≡ []
-given-other term p h = ap (λ b. cond b (moved p.numbers (get_or p.postings 0 [])) []) h
-
-pub passed-other : (term : List ℕ) (p : PartValue) → begins term p.names ≡ false → passed term p ≡ p
-passed-other term p h = ap (λ b. cond b (record { names = drop 1 p.names; postings = drop 1 p.postings; numbers = p.numbers }) p) h

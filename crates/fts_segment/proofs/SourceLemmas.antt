@@ -273,11 +273,6 @@ fit-contents schema (s ∷ ss) same h =
     let here : All P s.segment.documents = subst (λ fields. AllFit fields s.segment.documents) (All-head R s ss same) (All-head Q s ss h) in
     All-append P (content_of s.segment s.live) (contents ss) (All-where_set P s.segment.documents s.live here) (fit-contents schema ss (All-tail R s ss same) (All-tail Q s ss h))
 
--- the schema of sources is that of the first
-pub schema_of-first : (ss : List SourceValue) (s : SourceValue) → 0 < length ss → s ≡ get_or ss 0 s → s.segment.schema ≡ schema_of ss
-schema_of-first [] s some is = absurd (omega (arith, some))
-schema_of-first (t ∷ ss) s some is = ap (λ (u : SourceValue). u.segment.schema) is
-
 -- all of them where all bits are set
 where_set-all : {X : Type 0} (xs : List X) → where_set xs (replicate (length xs) true) ≡ xs
 where_set-all [] = refl
@@ -296,11 +291,6 @@ pub same_both : (s t : SourceValue) (first second : SegmentValue) (first_live se
     both first first_live second second_live ≡ s ∷ t ∷ []
 same_both s t first second first_live second_live first_is first_bits second_is second_bits =
     ap₂ (λ a b. both a b second second_live) first_is first_bits ∙ ap₂ (λ a b. both s.segment s.live a b) second_is second_bits
-
--- sources are the first one and those behind it
-pub first_and_others : (ss : List SourceValue) (s : SourceValue) → 0 < length ss → s ≡ get_or ss 0 s → s ∷ take (length ss - 1) (drop 1 ss) ≡ ss
-first_and_others [] s some is = absurd (omega (arith, some))
-first_and_others (t ∷ ss) s some is = ap₂ (λ (u : SourceValue) us. u ∷ us) is (take_all (suc (length ss) - 1) ss (omega arith))
 
 -- sources that are joined in turn
 pub joined_in_turn : (s : SourceValue) (ss : List SourceValue) → joined_segment (s ∷ joined_source ss ∷ []) ≡ joined_segment (s ∷ ss)

@@ -148,7 +148,7 @@ fn joined_both(
     Ok(segment)
 }
 
-// The same for a source and others behind it, where the others are joined before.
+// One segment of the live documents of a source and of others behind it, where the others are joined before.
 fn joined_in_turn(
     alloc: Global,
     first: &Source<'_>,

@@ -114,7 +114,14 @@ fn move_each(
     let mut documents = [0; BLOCK];
     for block in 0..source.blocks() {
         let count = source.open(block, &mut documents);
-        move_some(&documents[..count], start + block * BLOCK, numbers, lists, docs, log)?;
+        move_some(
+            &documents[..count],
+            start + block * BLOCK,
+            numbers,
+            lists,
+            docs,
+            log,
+        )?;
     }
     Ok(())
 }

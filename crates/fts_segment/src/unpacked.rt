@@ -60,7 +60,12 @@ impl<'a> Unpacked<'a> {
     }
 
     // Puts numbers behind others, from `start` to `end` as far as one block has them, and gives where they end.
-    fn copy_some(&mut self, start: usize, end: usize, out: &mut Vec<u32>) -> Result<usize, AllocError>
+    fn copy_some(
+        &mut self,
+        start: usize,
+        end: usize,
+        out: &mut Vec<u32>,
+    ) -> Result<usize, AllocError>
         requires some { start < end }
         requires within { end ≤ length self.old.numbers.now }
         ensures same { self.new.numbers.now ≡ self.old.numbers.now }
@@ -77,7 +82,12 @@ impl<'a> Unpacked<'a> {
     }
 
     /// Puts the numbers from `start` to `end` behind others.
-    pub(crate) fn copy(&mut self, start: usize, end: usize, out: &mut Vec<u32>) -> Result<(), AllocError>
+    pub(crate) fn copy(
+        &mut self,
+        start: usize,
+        end: usize,
+        out: &mut Vec<u32>,
+    ) -> Result<(), AllocError>
         requires { end ≤ length self.old.numbers.now }
         ensures same { self.new.numbers.now ≡ self.old.numbers.now }
         ensures copied { OnOk result

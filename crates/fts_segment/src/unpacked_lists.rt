@@ -88,7 +88,8 @@ impl<'a> UnpackedLists<'a> {
         let first = log.counts.len();
         self.counts.copy(start, end, &mut log.counts)?;
         let positions = total(&log.counts[first..]);
-        self.gaps.copy(self.start, self.start + positions, &mut log.gaps)?;
+        self.gaps
+            .copy(self.start, self.start + positions, &mut log.gaps)?;
         self.list = end;
         self.start += positions;
         Ok(())

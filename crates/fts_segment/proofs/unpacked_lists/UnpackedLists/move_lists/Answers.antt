@@ -65,8 +65,15 @@ invariant_of-self-2 c =
       whole = ap sum one ∙ s.whole ∙ sym (ap length two);
       fit = subst Fit (sym (ap₂ position_lists_at one two)) s.fit;
       within = omega (arith, ap length one, c.min-end.ensures, c.len.ensures, ap length c.seek.ensures.counts);
-      begins = omega (arith, c.total-positions.ensures, ap sum (some_of a), sum-range counts c.args.start c.min-end.result (omega (arith, c.if-start-end.false)), s.begins, ap (λ n. sum (take n counts)) c.seek.ensures.there,
-      ap (λ ns. sum (take c.min-end.result ns)) one);
+      begins = omega (
+        arith,
+        c.total-positions.ensures,
+        ap sum (some_of a),
+        sum-range counts c.args.start c.min-end.result (omega (arith, c.if-start-end.false)),
+        s.begins,
+        ap (λ n. sum (take n counts)) c.seek.ensures.there,
+        ap (λ ns. sum (take c.min-end.result ns)) one,
+      );
     }
 
 -- the lists that are moved, where `many` are their positions
