@@ -1,11 +1,9 @@
 -- Lists of positions as they are packed.
-use Rattle.std.proofs.Common.{◌≡◌, ◌≢◌, ◌+◌, ◌-◌, ◌*◌, ◌/◌, ◌%◌, ◌^◌, ◌<◌, ◌≤◌, ◌==◌, ℕ, suc, zero, Bool, true, false, cond, List, [], ◌∷◌, ◌++◌, map, length, get_or, take, drop, sum, refl, sym, ap, ap₂, subst, ◌∙◌, inl, inr, arith, All, length-append, length-drop}
+use Rattle.std.proofs.Common.{◌≡◌, ◌+◌, ◌-◌, ◌*◌, ◌/◌, ◌%◌, ◌^◌, ◌<◌, ◌≤◌, ℕ, suc, zero, List, [], ◌∷◌, ◌++◌, map, length, get_or, take, drop, sum, refl, sym, ap, ap₂, subst, ◌∙◌, arith, All, length-append, length-drop}
 use Rattle.std.specs.Prelude.{slice_range}
-use Rattle.std.proofs.lemmas.Bool.{cases_lt, eqb-true, eqb-false}
-use Rattle.std.proofs.lemmas.List.{drop_more, drop-drop, drop-take, take-append-le, drop-append-le, take_all, length_push, length-take-le, get_or_append_left, nil_from_length, append-nil, take-take}
+use Rattle.std.proofs.lemmas.List.{drop_more, drop-drop, drop-take, take-append-le, drop-append-le, take_all, length-take-le, nil_from_length, take-take}
 use Rattle.std.proofs.lemmas.List.Elements.{All-append, All-cons, All-nil, All-head, All-tail}
 use Rattle.std.proofs.lemmas.List.Sums.{sum_by-cons, sum_by-append, sum_by-take-le, sum_by_more}
-use Rattle.std.proofs.Math.Seq.{take-append_seam, get_or-append_seam}
 use Rattle.fts_pack.specs.Documents.{block_at, block_count, documents_at, gaps}
 use Rattle.fts_pack.specs.SourceLaws.{length-block_at}
 use Rattle.fts_pack.proofs.DocumentsLemmas.{documents_at-gaps, length-documents_at, length-gaps}

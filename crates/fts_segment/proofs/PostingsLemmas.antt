@@ -1,12 +1,12 @@
 -- The postings of a term, out of its documents and its positions in them.
-use Rattle.std.proofs.Common.{◌≡◌, ◌≢◌, ◌+◌, ◌<◌, ℕ, zero, suc, Bool, true, false, cond, List, [], ◌∷◌, ◌++◌, Option, map, length, get_or, nat_eq, nat_lt, refl, sym, ap, ap₂, subst, ◌∙◌, ⊎_elim, arith, All, Contains}
+use Rattle.std.proofs.Common.{◌≡◌, ◌≢◌, ◌+◌, ◌<◌, ℕ, zero, suc, Bool, true, false, cond, List, [], ◌∷◌, Option, map, length, get_or, nat_eq, nat_lt, refl, sym, ap, ap₂, subst, ◌∙◌, ⊎_elim, arith, All, Contains}
 use Rattle.std.specs.List.{AllByRecursion, dedup, dedup_from, list_any}
 use Rattle.std.specs.Str.{bytes_eq}
 use Rattle.std.specs.Ordering.{nat_cmp}
 use Rattle.std.specs.Cmp.Lexicographic.{slice_cmp}
 use Rattle.std.specs.declared.cmp.Ordering.TheVariants.{Less}
 use Rattle.std.proofs.lemmas.Bool.{lt-ltb}
-use Rattle.std.proofs.lemmas.List.{get_or-map, length-map}
+use Rattle.std.proofs.lemmas.List.{length-map}
 use Rattle.std.proofs.lemmas.List.Elements.{All-head, All-tail, All-cons, All-nil}
 use Rattle.std.proofs.lemmas.Slice.Eq.{bytes_eq-Decides}
 use Rattle.fts_model.specs.declared.schema.Kind.{Kind}
@@ -15,11 +15,11 @@ use Rattle.fts_segment.specs.Dictionaries.{occurs, IsDictionaryOf}
 use Rattle.fts_segment.specs.Occurrences.{OccurrenceValue, occurrences, tokens_of, is_token, docs_of, docs_with}
 use Rattle.fts_segment.specs.Positions.{position_lists_with}
 use Rattle.fts_segment.specs.Postings.{Posting, posting_at, postings_of, documents, position_lists}
-use Rattle.fts_segment.specs.Segments.{numbers_where, positions_among}
+use Rattle.fts_segment.specs.Segments.{positions_among}
 use Rattle.fts_segment.specs.Sorted.{Ascends}
 use Rattle.fts_segment.specs.Parts.{postings_by, postings_with, found, joined, Ascend, IsBelow, IsSound, IsJoined, PartValue}
 use Rattle.fts_segment.proofs.HoldingLemmas.{docs_with-occurrences, numbers_where-cons}
-use Rattle.fts_segment.proofs.KeywordsLemmas.{Climbs, climbs_by_place, either, there, none}
+use Rattle.fts_segment.proofs.KeywordsLemmas.{Climbs, climbs_by_place, either, none}
 use Rattle.fts_segment.proofs.PositionsLemmas.{position_lists-cons}
 
 -- postings have the documents and the lists that they are made of

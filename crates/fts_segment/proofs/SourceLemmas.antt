@@ -1,9 +1,9 @@
 -- What the live documents of sources have, source by source.
-use Rattle.std.proofs.Common.{◌≡◌, ◌≢◌, ◌+◌, ◌-◌, ◌<◌, ◌≤◌, ◌^◌, ℕ, zero, suc, Bool, true, false, cond, List, [], ◌∷◌, ◌++◌, Option, Some, None, map, length, take, drop, get_or, count_by, flat_map, replicate, refl, sym, ap, ap₂, subst, ◌∙◌, arith, All, append_assoc}
+use Rattle.std.proofs.Common.{◌≡◌, ◌+◌, ◌<◌, ◌≤◌, ℕ, zero, suc, Bool, true, false, cond, List, [], ◌∷◌, ◌++◌, Option, Some, None, map, length, drop, get_or, count_by, replicate, refl, sym, ap, ap₂, subst, ◌∙◌, arith, All, append_assoc}
 use Rattle.std.specs.Prelude.{slice_get}
 use Rattle.std.specs.List.{AllByRecursion, list_any}
 use Rattle.std.specs.List.Sorted.{IsStrictlyIncreasing}
-use Rattle.std.proofs.lemmas.List.{append-nil, drop_all, drop_more, get_or-map, map-append, length-append, length-map, take_all}
+use Rattle.std.proofs.lemmas.List.{append-nil, drop_all, drop_more, get_or-map, map-append, length-append, length-map}
 use Rattle.std.proofs.lemmas.List.Elements.{All-head, All-tail, All-cons, All-nil, All-append}
 use Rattle.std.proofs.lemmas.List.Sums.{sum_by-cons}
 use Rattle.fts_model.specs.declared.schema.Field.{Field}
@@ -18,7 +18,7 @@ use Rattle.fts_segment.specs.FieldIndexes.{AreTerms}
 use Rattle.fts_segment.specs.Occurrences.{occurrences, values_in, tokens_of, is_token, docs_with, HasFewTokens}
 use Rattle.fts_segment.specs.Positions.{position_lists_with}
 use Rattle.fts_segment.specs.Postings.{Posting, posting_at, documents}
-use Rattle.fts_segment.specs.Segments.{SegmentValue, AllFit, AreDocuments, positions_among}
+use Rattle.fts_segment.specs.Segments.{SegmentValue, AllFit, positions_among}
 use Rattle.fts_segment.specs.Sources.{SourceValue, AreOfOneSchema, HasBits, both, live_count, contents, schema_of, joined_segment}
 use Rattle.fts_segment.specs.TermPositionLists.{term_position_lists}
 use Rattle.fts_segment.specs.Parts.{PartValue, renumbered, placed, moved, found, joined, part_from, postings_with, IsSound, IsWhole, IsPart, AreParts, IsJoined}

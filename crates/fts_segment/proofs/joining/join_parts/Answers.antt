@@ -1,6 +1,6 @@
-use Rattle.std.proofs.Common.{◌≡◌, ◌++◌, Some, None, List, ℕ, flat_map, map, ap, refl, ◌∙◌, sym, subst, ◌<◌}
+use Rattle.std.proofs.Common.{◌≡◌, Some, None, List, flat_map, map, ap, refl, ◌∙◌, sym, subst, ◌<◌}
 use Rattle.std.specs.Prelude.{option_map}
-use Rattle.fts_segment.specs.Parts.{PartValue, given, passed, least_of, joined}
+use Rattle.fts_segment.specs.Parts.{PartValue, given, passed, least_of}
 use Rattle.fts_segment.specs.PositionLogs.{logged_term_position_lists}
 use Rattle.fts_segment.proofs.PartLemmas.{left, fewer}
 use Rattle.fts_segment.proofs.JoiningLemmas.{IsJoining-start, IsJoining-next, IsJoined-end, all-given, postings-rise, least-from, met-of-least}

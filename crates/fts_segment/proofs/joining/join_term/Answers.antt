@@ -1,11 +1,11 @@
-use Rattle.std.proofs.Common.{◌≡◌, ◌≢◌, ◌++◌, ◌∷◌, List, ℕ, [], vec_len, flat_map, length, ap, sym, subst, ◌∙◌, arith, append-nil}
+use Rattle.std.proofs.Common.{◌≡◌, ◌++◌, ◌∷◌, List, ℕ, [], vec_len, flat_map, length, ap, sym, subst, ◌∙◌, arith, append-nil}
 use Rattle.std.specs.List.Sorted.{IsStrictlyIncreasing}
 use Rattle.std.proofs.lemmas.Bool.{eqb-true, eqb-false}
 use Rattle.std.proofs.lemmas.List.{nil_from_length}
 use Rattle.fts_base.specs.Pieces.{pieces, AreEnds}
 use Rattle.fts_segment.specs.Parts.{given}
 use Rattle.fts_segment.specs.PositionListLogs.{logged_position_lists}
-use Rattle.fts_segment.specs.Postings.{Posting, documents, position_lists}
+use Rattle.fts_segment.specs.Postings.{documents, position_lists}
 use Rattle.fts_segment.proofs.JoiningLemmas.{no_documents, none_put, some_put}
 use Rattle.fts_segment.proofs.joining.join_term.Goals as goal
 use Rattle.fts_segment.proofs.joining.join_term.Goals.{After-is_empty}

@@ -1,4 +1,4 @@
-use Rattle.std.proofs.Common.{◌≡◌, ◌++◌, Some, length, flat_map, ap, ◌∙◌, sym, arith, ◌<◌}
+use Rattle.std.proofs.Common.{◌≡◌, ◌++◌, Some, flat_map, ap, ◌∙◌, sym, arith}
 use Rattle.std.specs.Prelude.{slice_get}
 use Rattle.std.proofs.lemmas.Option.{slice_get-get_or}
 use Rattle.fts_segment.specs.Parts.{given, passed}

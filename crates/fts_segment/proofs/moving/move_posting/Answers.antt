@@ -1,4 +1,4 @@
-use Rattle.std.proofs.Common.{◌≡◌, ◌+◌, ◌++◌, ◌∷◌, [], append-nil, ap, sym, ◌∙◌, get_or, arith}
+use Rattle.std.proofs.Common.{◌++◌, [], append-nil, ap, sym, ◌∙◌, get_or, arith}
 use Rattle.std.specs.Prelude.{slice_get}
 use Rattle.fts_segment.specs.Postings.{posting_at, documents, position_lists}
 use Rattle.fts_segment.specs.PositionListLogs.{logged_position_lists}

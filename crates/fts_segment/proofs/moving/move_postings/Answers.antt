@@ -1,4 +1,4 @@
-use Rattle.std.proofs.Common.{◌≡◌, ◌++◌, ◌+◌, ◌-◌, ◌^◌, ◌≤◌, ◌<◌, All, length, length-drop, take, drop, map, ap, sym, ◌∙◌, arith}
+use Rattle.std.proofs.Common.{◌++◌, ◌+◌, ◌-◌, ◌^◌, ◌≤◌, ◌<◌, length, length-drop, drop, ap, sym, ◌∙◌, arith}
 use Rattle.std.specs.Prelude.{slice_range}
 use Rattle.std.proofs.lemmas.List.{length-take}
 use Rattle.std.proofs.lemmas.List.Elements.{All-weaker}
@@ -6,7 +6,6 @@ use Rattle.fts_segment.specs.Parts.{moved}
 use Rattle.fts_segment.specs.PositionListLogs.{logged_position_lists}
 use Rattle.fts_segment.specs.Postings.{documents, position_lists, postings_of}
 use Rattle.fts_segment.specs.TermPositionLists.{position_lists_in}
-use Rattle.fts_segment.specs.UnpackedLists.{lists_in}
 use Rattle.fts_segment.proofs.MovingLemmas.{documents-shifted, lists-shifted, postings_of-take}
 use Rattle.fts_segment.proofs.moving.move_postings.Goals as goal
 

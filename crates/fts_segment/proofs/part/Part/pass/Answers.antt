@@ -1,9 +1,9 @@
-use Rattle.std.proofs.Common.{◌≡◌, ◌<◌, ◌++◌, true, List, ℕ, [], All, length, get_or, drop, ap, ap₂, sym, subst, ◌∙◌, arith}
+use Rattle.std.proofs.Common.{◌≡◌, ◌<◌, ◌++◌, true, [], All, length, get_or, drop, ap, ap₂, sym, subst, ◌∙◌, arith}
 use Rattle.std.proofs.lemmas.List.{get_or_read}
-use Rattle.fts_segment.specs.Parts.{PartValue, begins, given, passed, part_from, moved}
+use Rattle.fts_segment.specs.Parts.{PartValue, begins, given, passed, moved}
 use Rattle.fts_segment.specs.PositionListLogs.{logged_position_lists}
-use Rattle.fts_segment.specs.Postings.{Posting, documents, position_lists, postings_of}
-use Rattle.fts_segment.specs.TermPositionLists.{term_position_lists, position_lists_in}
+use Rattle.fts_segment.specs.Postings.{documents, position_lists, postings_of}
+use Rattle.fts_segment.specs.TermPositionLists.{position_lists_in}
 use Rattle.fts_segment.proofs.PartLemmas.{begins-within, given-here, passed-here}
 use Rattle.fts_segment.proofs.part.Part.pass.Goals as goal
 use Rattle.fts_segment.proofs.part.Part.pass.Goals.{After-get-positions}
