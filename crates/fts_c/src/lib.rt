@@ -6,14 +6,15 @@
 //! and true lengths: the callers in C test for null.
 #![tactic(auto)]
 
-ghost use Rattle.std.specs.Prelude.{◌≡◌, ◌≢◌, ◌≤◌, [], Option, Some, length, pos, take, IfSome, MatchOption, string_bytes};
+ghost use Rattle.std.specs.Prelude.{◌≡◌, ◌≢◌, ◌≤◌, Option, Some, length, pos, take, IfSome, MatchOption, string_bytes};
 ghost use Rattle.std.specs.Box.Ownership.{box_owns};
 ghost use Rattle.std.specs.contracts.impls.GlobalAllocator.TheImpl.{ghosts};
 ghost use Rattle.fts_c.specs.declared.state.State.{State};
 ghost use Rattle.fts_c.specs.contracts.state.State.{the_row};
 ghost use Rattle.fts_c.specs.Held.{held};
-ghost use Rattle.fts_session.specs.Finds.{at_commit, reply_to_search};
-ghost use Rattle.fts_session.specs.Outputs.{start, reply_to, after_line};
+ghost use Rattle.fts_c.specs.Calls.{Executes, Searches, TellsReply};
+ghost use Rattle.fts_session.specs.Finds.{at_commit};
+ghost use Rattle.fts_session.specs.Outputs.{start};
 
 mod state;
 
@@ -92,12 +93,7 @@ fn unwrap(handle: Handle) -> Box<State, Global>
 }
 
 fn execute(handle: Handle, alloc: Global, line: &[u8]) -> (Handle, i32)
-    ensures reply { result.1 ≡ pos 0 →
-        string_bytes result.0.state.reply ≡ reply_to handle.state.session line.now }
-    ensures session { result.1 ≡ pos 0 →
-        result.0.state.session ≡ after_line handle.state.session line.now }
-    ensures same { result.1 ≢ pos 0 → result.0.state.session ≡ handle.state.session }
-    ensures none { result.1 ≢ pos 0 → string_bytes result.0.state.reply ≡ [] }
+    ensures { Executes handle.state line.now result.0.state result.1 }
 {
     let mut state = unwrap(handle);
     let code = replace_with(&mut *state, (alloc, line), |state, (alloc, line)| {
@@ -134,12 +130,7 @@ pub extern "C" fn fts_open(slot: &mut Slot, alloc: Global) -> i32
 /// 4,194,304 bytes, 3 where there were 2^61 lines.
 #[unsafe(no_mangle)]
 pub extern "C" fn fts_execute(handle: &mut Handle, alloc: Global, line: &[u8]) -> i32
-    ensures reply { result ≡ pos 0 →
-        string_bytes handle.new.state.reply ≡ reply_to handle.old.state.session line.now }
-    ensures session { result ≡ pos 0 →
-        handle.new.state.session ≡ after_line handle.old.state.session line.now }
-    ensures same { result ≢ pos 0 → handle.new.state.session ≡ handle.old.state.session }
-    ensures none { result ≢ pos 0 → string_bytes handle.new.state.reply ≡ [] }
+    ensures { Executes handle.old.state line.now handle.new.state result }
 {
     replace_with(handle, (alloc, line), |handle, (alloc, line)| {
         execute(handle, alloc, line)
@@ -176,11 +167,7 @@ fn copy(from: &[u8], out: &mut [u8])
 
 /// How long the last reply is. It is copied where there is room.
 fn reply(handle: &mut Handle, alloc: Global, out: &mut [u8]) -> usize
-    ensures session { handle.new.state.session ≡ handle.old.state.session }
-    ensures same { string_bytes handle.new.state.reply ≡ string_bytes handle.old.state.reply }
-    ensures length { result ≡ length (string_bytes handle.old.state.reply) }
-    ensures copied { result ≤ length out.old →
-        take result out.new ≡ string_bytes handle.old.state.reply }
+    ensures { TellsReply handle.old.state handle.new.state result out.old out.new }
 {
     let reply = replace_with(handle, alloc, |handle, alloc| without_reply(handle, alloc));
     let n = reply.len();
@@ -192,11 +179,7 @@ fn reply(handle: &mut Handle, alloc: Global, out: &mut [u8]) -> usize
 /// How long the last reply is. It is copied where there is room.
 #[unsafe(no_mangle)]
 pub extern "C" fn fts_reply(handle: &mut Handle, alloc: Global, out: &mut [u8]) -> usize
-    ensures session { handle.new.state.session ≡ handle.old.state.session }
-    ensures same { string_bytes handle.new.state.reply ≡ string_bytes handle.old.state.reply }
-    ensures length { result ≡ length (string_bytes handle.old.state.reply) }
-    ensures copied { result ≤ length out.old →
-        take result out.new ≡ string_bytes handle.old.state.reply }
+    ensures { TellsReply handle.old.state handle.new.state result out.old out.new }
 {
     reply(handle, alloc, out)
 }
@@ -252,10 +235,7 @@ pub extern "C" fn fts_searcher_again(searcher: &mut Handle, slot: &mut Slot, all
 }
 
 fn search(handle: Handle, alloc: Global, line: &[u8]) -> (Handle, i32)
-    ensures reply { result.1 ≡ pos 0 →
-        string_bytes result.0.state.reply ≡ reply_to_search handle.state.session line.now }
-    ensures same { result.0.state.session ≡ handle.state.session }
-    ensures none { result.1 ≢ pos 0 → string_bytes result.0.state.reply ≡ [] }
+    ensures { Searches handle.state line.now result.0.state result.1 }
 {
     let mut state = unwrap(handle);
     let code = replace_with(&mut *state, (alloc, line), |state, (alloc, line)| {
@@ -268,10 +248,7 @@ fn search(handle: Handle, alloc: Global, line: &[u8]) -> (Handle, i32)
 /// nothing changes. Another command is answered as `BadCommand`. The codes are those of `fts_execute`.
 #[unsafe(no_mangle)]
 pub extern "C" fn fts_search(searcher: &mut Handle, alloc: Global, line: &[u8]) -> i32
-    ensures reply { result ≡ pos 0 →
-        string_bytes searcher.new.state.reply ≡ reply_to_search searcher.old.state.session line.now }
-    ensures same { searcher.new.state.session ≡ searcher.old.state.session }
-    ensures none { result ≢ pos 0 → string_bytes searcher.new.state.reply ≡ [] }
+    ensures { Searches searcher.old.state line.now searcher.new.state result }
 {
     replace_with(searcher, (alloc, line), |searcher, (alloc, line)| {
         search(searcher, alloc, line)
@@ -281,11 +258,7 @@ pub extern "C" fn fts_search(searcher: &mut Handle, alloc: Global, line: &[u8]) 
 /// The reply to the last search, as by `fts_reply`.
 #[unsafe(no_mangle)]
 pub extern "C" fn fts_searcher_reply(searcher: &mut Handle, alloc: Global, out: &mut [u8]) -> usize
-    ensures session { searcher.new.state.session ≡ searcher.old.state.session }
-    ensures same { string_bytes searcher.new.state.reply ≡ string_bytes searcher.old.state.reply }
-    ensures length { result ≡ length (string_bytes searcher.old.state.reply) }
-    ensures copied { result ≤ length out.old →
-        take result out.new ≡ string_bytes searcher.old.state.reply }
+    ensures { TellsReply searcher.old.state searcher.new.state result out.old out.new }
 {
     reply(searcher, alloc, out)
 }

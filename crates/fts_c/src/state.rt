@@ -1,7 +1,9 @@
 // A session and its last reply.
-ghost use Rattle.std.specs.Prelude.{◌≡◌, ◌≢◌, ◌≤◌, ◌^◌, [], IfSome, length, pos, string_bytes};
-ghost use Rattle.fts_session.specs.Finds.{at_commit, reply_to_search};
-ghost use Rattle.fts_session.specs.Outputs.{start, reply_to, after_line};
+ghost use Rattle.std.specs.Prelude.{◌≡◌, [], IfSome, MatchResult, pos, string_bytes};
+ghost use Rattle.fts_session.specs.Finds.{at_commit};
+ghost use Rattle.fts_session.specs.Outputs.{start};
+ghost use Rattle.fts_c.specs.Calls.{Executes, Searches};
+ghost use Rattle.fts_c.specs.Codes.{fault_of};
 
 use fts_local::LocalEngine;
 use fts_session::Session;
@@ -30,16 +32,13 @@ fn options() -> Options {
     }
 }
 
-/// Why a line isn't tried: 2 where it is too long, 3 where there were 2^61 lines; else 0.
-fn fault(session: &Session<LocalEngine>, line: &[u8]) -> i32
-    ensures { result ≡ pos 0 → (length line.now ≤ 4194304) × (session.now.number ≤ 2 ^ 61) }
+/// The code of a line that was tried: 0, or 1 where memory was refused.
+fn code_of(tried: Result<(), AllocError>) -> i32
+    ensures { MatchResult tried (λ _. result ≡ pos 0) (λ _. result ≡ pos 1) }
 {
-    if line.len() > LONGEST {
-        2
-    } else if session.lines() >= MOST_LINES {
-        3
-    } else {
-        0
+    match tried {
+        Ok(()) => 0,
+        Err(AllocError) => 1,
     }
 }
 
@@ -54,51 +53,47 @@ impl State {
         }
     }
 
-    /// The state behind a line, and a code: 0, or 1 where memory was refused, 2 where the line is too long, 3 where
-    /// there were 2^61 lines. At any but 0 there is no reply, and the session is as it was.
-    pub(crate) fn after(self, alloc: Global, line: &[u8]) -> (State, i32)
-        ensures reply { result.1 ≡ pos 0 → string_bytes result.0.reply ≡ reply_to self.session line.now }
-        ensures session { result.1 ≡ pos 0 → result.0.session ≡ after_line self.session line.now }
-        ensures same { result.1 ≢ pos 0 → result.0.session ≡ self.session }
-        ensures none { result.1 ≢ pos 0 → string_bytes result.0.reply ≡ [] }
+    /// Takes the last reply away, and tells why a line isn't tried, as a code: 2 where it is too long, 3 where there
+    /// were 2^61 lines; else 0.
+    fn begin(&mut self, line: &[u8]) -> i32
+        ensures fault { result ≡ fault_of self.old.session line.now }
+        ensures same { self.new.session ≡ self.old.session }
+        ensures none { string_bytes self.new.reply ≡ [] }
     {
-        let State {
-            mut session,
-            mut reply,
-        } = self;
-        reply.clear();
-        let fault = fault(&session, line);
-        if fault != 0 {
-            return (State { session, reply }, fault);
+        self.reply.clear();
+        if line.len() > LONGEST {
+            2
+        } else if self.session.lines() >= MOST_LINES {
+            3
+        } else {
+            0
         }
-        let code = match session.answer(&((), alloc), line, &mut reply) {
-            Ok(()) => 0,
-            Err(AllocError) => 1,
-        };
-        (State { session, reply }, code)
     }
 
-    /// The state behind a search, and a code as of `after`. The session is as it was, and at any but 0 there is no
-    /// reply.
-    pub(crate) fn after_search(self, alloc: Global, line: &[u8]) -> (State, i32)
-        ensures reply { result.1 ≡ pos 0 → string_bytes result.0.reply ≡ reply_to_search self.session line.now }
-        ensures same { result.0.session ≡ self.session }
-        ensures none { result.1 ≢ pos 0 → string_bytes result.0.reply ≡ [] }
+    /// The state behind a line, and its code.
+    #[tactic(auto, using(crate::proofs::CodeLemmas::answerable_where_tried, crate::proofs::CodeLemmas::code_of_fault, crate::proofs::CodeLemmas::code_where_tried))]
+    pub(crate) fn after(mut self, alloc: Global, line: &[u8]) -> (State, i32)
+        ensures { Executes self line.now result.0 result.1 }
     {
-        let State {
-            mut session,
-            mut reply,
-        } = self;
-        reply.clear();
-        let fault = fault(&session, line);
+        let fault = self.begin(line);
         if fault != 0 {
-            return (State { session, reply }, fault);
+            return (self, fault);
         }
-        let code = match session.find(&((), alloc), line, &mut reply) {
-            Ok(()) => 0,
-            Err(AllocError) => 1,
-        };
-        (State { session, reply }, code)
+        let answered = self.session.answer(&((), alloc), line, &mut self.reply);
+        (self, code_of(answered))
+    }
+
+    /// The state behind a search, and its code.
+    #[tactic(auto, using(crate::proofs::CodeLemmas::answerable_where_tried, crate::proofs::CodeLemmas::code_of_fault, crate::proofs::CodeLemmas::code_where_tried))]
+    pub(crate) fn after_search(mut self, alloc: Global, line: &[u8]) -> (State, i32)
+        ensures { Searches self line.now result.0 result.1 }
+    {
+        let fault = self.begin(line);
+        if fault != 0 {
+            return (self, fault);
+        }
+        let found = self.session.find(&((), alloc), line, &mut self.reply);
+        (self, code_of(found))
     }
 
     /// A state of its own over the last commit, before its first line.
