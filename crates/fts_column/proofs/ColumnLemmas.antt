@@ -7,7 +7,7 @@ use Rattle.std.proofs.lemmas.Option.{get_or_from_slice_get}
 use Rattle.std.proofs.lemmas.Nat.{pow_pos}
 use Rattle.std.proofs.lemmas.Bool.{cases_lt}
 use Rattle.fts_bits.specs.Digits.{IsWidthOf, numbers_in, words_of}
-use Rattle.fts_column.specs.Column.{IsColumn, IsRangeOf, range_with, least_of, spread_of, offsets, values_at}
+use Rattle.fts_column.specs.Column.{HaveOffsets, IsColumn, IsRangeOf, range_with, least_of, spread_of, offsets, values_at}
 use borrow.Rule.Slice.PartMut.{put_mid}
 use Rattle.fts_column.specs.Lanes.{AreLanesOf}
 use Rattle.fts_bits.proofs.PackingLemmas.{Below-from_all, numbers_in-words_of, length-numbers_in}
@@ -105,6 +105,14 @@ value_again (Some x) least h = ap Some (omega (arith, h))
 
 All-tail : (P : Option ℕ → Type 0) (v : Option ℕ) (values : List (Option ℕ)) → All P (v ∷ values) → All P values
 All-tail P v values h = λ k d inside. h (suc k) d (omega (arith, inside))
+
+-- the values of a range have offsets of as many bits as its spread
+pub HaveOffsets-range : (values : List (Option ℕ)) (range : Option (ℕ × ℕ)) (width : ℕ) → length values ≤ 2 ^ 32 → IsRangeOf values range → spread_of range < 2 ^ width → HaveOffsets (least_of range) width values
+HaveOffsets-range values range width few is small = record {
+  few = few;
+  above = above_least values range is;
+  fits = offsets_fit values range width is small;
+}
 
 pub values_at-offsets : (least : ℕ) (values : List (Option ℕ)) → All (λ v. IfSome v (λ x. least ≤ x)) values → values_at least (map is_some values) (offsets least values) ≡ values
 values_at-offsets least [] h = refl
