@@ -48,10 +48,11 @@ def has(document, field, text):
 
 
 def phrase(document, words):
+    """Whether the words stand one behind the other, where None is any one span."""
     at = {}
     for place, run in tokens(document.get("title", "")):
         at[place] = run
-    return any(all(at.get(place + n) == word for n, word in enumerate(words)) for place in at)
+    return any(all(word in (None, at.get(place + n)) for n, word in enumerate(words)) for place in at)
 
 
 def within(document, field, least, most):

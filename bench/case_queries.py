@@ -1,4 +1,6 @@
 """The cases of queries and of cursors: for each query the documents that the model finds."""
+from itertools import product
+
 from case_model import GREATEST, Subject, error, has, named, phrase, within
 
 LONG = ["a " + "x" * 40 + " b", "a " + "x" * 39 + " b"]
@@ -228,4 +230,51 @@ def write_cursors():
     for name, query, match in NESTED:
         s.case(f"Of 300 live documents a cursor finds those of {name}", "found",
                [n for n in range(400) if n % 4 != 1 and match(documents[n])], query=query)
+    s.write()
+
+
+def quoted(words):
+    """The query of these words in quotes, in which a span that is too long stands for any one span."""
+    return 'title:"' + " ".join(word or "x" * 40 for word in words) + '"'
+
+
+def write_phrases():
+    s = Subject("phrases")
+    again = ["b a a b a", "a a b b a", "a b b a b a", "a a a", "b b b", "a b"]
+    s.case("Six titles are made in which words stand again", "make", 6, documents=[{"title": text} for text in again])
+    for sentence, words, found in [
+            ("A phrase stands behind places where only its first word does", "aba", [0, 2]),
+            ("A phrase that begins with a word twice stands where that does", "aab", [0, 1]),
+            ("A phrase whose second word is its first stands where that is twice", "bba", [1, 2]),
+            ("A phrase stands behind its own words in another order", "bab", [2]),
+            ("A word three times doesn't stand where it is twice", "aaa", [3]),
+            ("A word four times doesn't stand where it is three times", "aaaa", []),
+            ("A word stands two behind itself, whatever is between", ["a", None, "a"], [0, 2, 3]),
+            ("A word stands three behind another, whatever is between", ["b", None, None, "a"], [2])]:
+        s.case(sentence, "found", found, query=quoted(words))
+    anew = ["c c c c c a b", "a b", "b a", "c a b", "b b b b a", "a b"]
+    s.case("Six titles are made in which a phrase stands early and late", "make", 6,
+           documents=[{"title": text} for text in anew])
+    s.case("A phrase that stood late in one title is found early in the next", "found", [0, 1, 3, 5], query=quoted("ab"))
+    s.case("Words that stood in the other order in one title are found in the next", "found", [2, 4], query=quoted("ba"))
+    s.case("A cursor goes over the titles of a phrase, also by searches", "walk", [0, 1, 3, 5, None], query=quoted("ab"),
+           steps=["doc", "advance", "doc", {"seek": 2}, "doc", {"seek": 4}, "doc", "advance", "doc"])
+    long = ["b " * 300 + "a " * 300, ("a " * 9 + "b ") * 50, "b a " * 300]
+    s.case("Three titles of 500 words and more are made", "make", 3, documents=[{"title": text} for text in long])
+    for sentence, words, found in [
+            ("A word is nowhere before one that stands before it 300 times", "ab", [1, 2]),
+            ("Behind 300 times a word the other is found", "ba", [0, 1, 2]),
+            ("A word nine times is found between others", "a" * 9, [0, 1]),
+            ("A word ten times isn't found where every tenth is another", "a" * 10, [0]),
+            ("Two words in turn are found 300 times where they stand so often", "ba" * 300, [2]),
+            ("Two words in turn aren't found once more than they stand", "ba" * 301, []),
+            ("Two words in turn are found from the second one on, once less", "ab" * 299, [2])]:
+        s.case(sentence, "found", found, query=quoted(words))
+    letters = lambda count: ["".join(word) for word in product("ab", repeat=count)]
+    every = [{"title": " ".join(word)} for count in range(1, 7) for word in letters(count)]
+    s.case("All titles of one to six words a and b are made", "make", len(every), documents=every)
+    gaps = [[a, None, *b] for a in "ab" for b in letters(1) + letters(2)]
+    for words in [*letters(2), *letters(3), *letters(4), *gaps]:
+        s.case(f"Of all titles those are found with {' '.join(word or 'any' for word in words)}", "found",
+               [n for n, one in enumerate(every) if phrase(one, words)], query=quoted(words))
     s.write()

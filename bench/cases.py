@@ -4,7 +4,7 @@ import json
 import os
 
 from case_model import GREATEST, HERE, Subject, answer, error, named, tokens
-from case_queries import LONG, t, write_cursors, write_queries
+from case_queries import LONG, t, write_cursors, write_phrases, write_queries
 from case_random import write_cuttings, write_generated, write_walks
 
 
@@ -383,6 +383,11 @@ def write_collectors():
         s.case(f"Ties stand in the order of stamps, {first[0]} first made", "answer",
                {"count": 4, "top": [[1, 5], [2, 5], [3, 5]]},
                query="*", top=top("price", 3, "rising"))
+    for zeros, apart in [(2, 23), (2, 24), (8_192, 65_535), (8_192, 65_536)]:
+        runs = [{"times": zeros, "of": [{"price": 0}]}, {"times": 1, "of": [{"price": apart}]}]
+        s.case(f"{zeros} prices of 0 and one of {apart} are made", "make", zeros + 1, runs=runs)
+        s.case(f"Beside {zeros} prices of 0 that of {apart} is a group of its own", "answer",
+               {"count": zeros + 1, "groups": [[0, zeros], [apart, 1]]}, query="*", groups="price")
     for docs, blocks in [(128, 1), (129, 2), (1000, 8)]:
         s.case(f"{docs} common titles are made", "make", docs, runs=[{"times": docs, "of": [{"title": "common"}]}])
         s.case(f"Each block of {docs} documents is opened once", "answer_openings", blocks, query="title:common")
@@ -526,6 +531,6 @@ def write_wrong():
 if __name__ == "__main__":
     os.makedirs(HERE, exist_ok=True)
     for write in [write_tokens, write_schemas, write_documents, write_scan, write_queries, write_segments,
-                  write_cursors, write_collectors,
+                  write_cursors, write_phrases, write_collectors,
                   write_merges, write_packing, write_generated, write_walks, write_cuttings, write_lists, write_wrong]:
         write()

@@ -1,24 +1,20 @@
 -- Numbers that are counted.
-use Rattle.std.proofs.Common.{◌≡◌, ℕ, zero, suc, ◌+◌, ◌-◌, ◌^◌, ◌<◌, ◌≤◌, ◌==◌, nat_lt, min, Bool, true, false, cond, ⊎_elim, List, [], ◌∷◌, ◌++◌, length, take, map, set, replicate, fold, Option, Some, None, refl, sym, ap, subst, ◌∙◌, arith, append_assoc, length-append, All, AllPairs, IfSome, get_or}
-use Rattle.std.specs.Ordering.{nat_cmp, is_eq, match_ordering}
+use Rattle.std.proofs.Common.{◌≡◌, ℕ, zero, suc, ◌+◌, ◌-◌, ◌^◌, ◌<◌, ◌≤◌, ◌==◌, nat_lt, min, Bool, true, false, cond, ⊎_elim, List, [], ◌∷◌, ◌++◌, length, take, set, replicate, Option, Some, None, refl, sym, ap, subst, ◌∙◌, arith, append_assoc, length-append, IfSome, get_or}
+use Rattle.std.specs.Ordering.{nat_cmp, match_ordering}
 use Rattle.std.specs.declared.cmp.Ordering.TheVariants.{Less, Equal, Greater}
-use Rattle.std.proofs.lemmas.Bool.{ltb-false, lt-ltb, cases_Bool, cases_lt, eqb-true, eqb-false}
-use Rattle.std.proofs.lemmas.List.Elements.{All-nil, All-head, All-tail, filter_map-append}
-use Rattle.std.proofs.lemmas.List.Kept.{AllPairs-cons}
-use Rattle.std.proofs.lemmas.List.Sorted.{IsNonDecreasingBy-from_sort, sum_by-IsPermutation}
+use Rattle.std.proofs.lemmas.Bool.{ltb-false, lt-ltb, cases_Bool, cases_lt}
+use Rattle.std.proofs.lemmas.List.Elements.{filter_map-append}
 use Rattle.std.specs.List.{cons_option, filter_map}
 use Rattle.std.specs.Option.{option_to_list}
-use Rattle.std.specs.Prelude.{nat_eq, slice_index_or}
-use Rattle.std.specs.List.Sorted.{IsPermutation, IsSortedByKey}
-use Rattle.itertools.specs.List.{dedup_with_count_from}
-use Rattle.fts_model.proofs.Lists.{pairs_none, pairs_front, pairs_behind}
-use Rattle.fts_scan.proofs.Counts.{Below, nat_order, order_above, count_in-fold, hits_counted-fold, one_list_of_groups, rising-fold, positive-fold}
+use Rattle.std.specs.Prelude.{slice_index_or}
+use Rattle.fts_scan.proofs.Counts.{nat_order, hits_counted-fold}
+use Rattle.fts_scan.proofs.Runs.{count_one-behind}
 use Rattle.std.proofs.lemmas.List.Sums.{fold_push}
 use Rattle.std.proofs.lemmas.List.{take_more, get_or_past}
 use Rattle.std.proofs.lemmas.Cmp.{nat_cmp_total, tied_itself}
 use Rattle.fts_model.specs.Answers.{count_one}
 use Rattle.fts_scan.specs.Scans.{hits_counted}
-use Rattle.fts_collect.specs.Internals.Tallies.{counts_from, counts_of, counts_of_sorted, present_at, AreCounts, AreWithin}
+use Rattle.fts_collect.specs.Internals.Tallies.{counts_from, counts_of, present_at, AreCounts, AreWithin}
 
 -- numbers that omega finds equal
 one : 0 + 1 ≡ 1
@@ -54,13 +50,6 @@ count_one-front x start (count ∷ counts) h =
       | false ↦ count_one-front x (start + 1) counts (omega (arith, h))
     ]
 
--- a number above the first is counted behind it
-count_one-behind : (x start count : ℕ) (rest : List (ℕ × ℕ)) → start < x →
-    count_one nat_cmp ((start, count) ∷ rest) x ≡ (start, count) ∷ count_one nat_cmp rest x
-count_one-behind x start count rest h =
-    ap (λ o. match_ordering o ((x, 1) ∷ (start, count) ∷ rest) ((start, count + 1) ∷ rest) ((start, count) ∷ count_one nat_cmp rest x))
-    (order_above nat_order start x (below start x h))
-
 -- the first number is counted once more
 first_more : (start count : ℕ) (counts : List ℕ) → counts_from start ((count + 1) ∷ counts) ≡ count_one nat_cmp (counts_from start (count ∷ counts)) start
 first_more start count counts =
@@ -90,7 +79,7 @@ counts_from-set start (count ∷ counts) (suc i) h =
     let later = counts_from-set (start + 1) counts i (omega (arith, h)) ∙ ap (λ x. count_one nat_cmp rest x) (next start i) in
     elim (nat_lt 0 count) as (λ b. cond b ((start, count) ∷ counts_from (start + 1) (set counts i (get_or counts i 0 + 1))) (counts_from (start + 1) (set counts i (get_or counts i 0 + 1)))
     ≡ count_one nat_cmp (cond b ((start, count) ∷ rest) rest) n) [
-      | true ↦ ap (λ gs. (start, count) ∷ gs) later ∙ sym (count_one-behind (start + suc i) start count rest (omega arith))
+      | true ↦ ap (λ gs. (start, count) ∷ gs) later ∙ sym (count_one-behind nat_order n start count rest (below start n (omega arith)))
       | false ↦ later
     ]
 
@@ -128,83 +117,10 @@ AreCounts-one numbers least counts x low high is few =
 pub AreCounts-none : (least count : ℕ) → AreCounts [] least (replicate count 0)
 AreCounts-none least count few = counts_from-none least count
 
--- numbers in order
-abbrev Rise : List ℕ → Type 0
-Rise numbers = AllPairs (λ a b. a ≤ b) numbers
-
--- a number not above another that isn't it is below
-below_other : (x y : ℕ) → x ≤ y → nat_eq x y ≡ false → x < y
-below_other x y h e = omega (arith, h, eqb-false x y e)
-
-before_all : (x y z : ℕ) → x < y → y ≤ z → x < z
-before_all x y z h l = omega (arith, h, l)
-
 -- what may be there, alone
 one_kept : {Y : Type 0} (o : Option Y) → cons_option o [] ≡ option_to_list o
 one_kept None = refl
 one_kept (Some x) = refl
-
--- a group below all numbers that come stays in front
-fold-front : (x count : ℕ) (rest : List (ℕ × ℕ)) (numbers : List ℕ) → All (λ y. x < y) numbers →
-    fold (count_one nat_cmp) ((x, count) ∷ rest) numbers ≡ (x, count) ∷ fold (count_one nat_cmp) rest numbers
-fold-front x count rest [] h = refl
-fold-front x count rest (y ∷ ys) h =
-    ap (λ gs. fold (count_one nat_cmp) gs ys) (count_one-behind y x count rest (All-head (λ y. x < y) y ys h))
-    ∙ fold-front x count (count_one nat_cmp rest y) ys (All-tail (λ y. x < y) y ys h)
-
--- the count of a run
-abbrev group_of : ℕ × ℕ → ℕ × ℕ
-group_of run = (run.1, run.0)
-
--- the runs of numbers in order, of which the first was counted already, are their counts, whether the next is the same or not
-runs_at : (n x y : ℕ) (ys : List ℕ) (b : Bool) → nat_eq x y ≡ b → x ≤ y → All (λ z. y ≤ z) ys →
-    ((m : ℕ) → fold (count_one nat_cmp) ((x, m) ∷ []) ys ≡ map group_of (dedup_with_count_from nat_eq m x ys)) →
-    fold (count_one nat_cmp) ((y, 1) ∷ []) ys ≡ map group_of (dedup_with_count_from nat_eq 1 y ys) →
-    fold (count_one nat_cmp) (count_one nat_cmp ((x, n) ∷ []) y) ys
-    ≡ map group_of (cond b (dedup_with_count_from nat_eq (n + 1) x ys) ((n, x) ∷ dedup_with_count_from nat_eq 1 y ys))
-runs_at n x y ys true e up rest same other =
-    let is : x ≡ y = eqb-true x y e in
-    ap (λ z. fold (count_one nat_cmp) (count_one nat_cmp ((x, n) ∷ []) z) ys) (sym is)
-    ∙ ap (λ o. fold (count_one nat_cmp) (match_ordering o ((x, 1) ∷ (x, n) ∷ []) ((x, n + 1) ∷ []) ((x, n) ∷ (x, 1) ∷ [])) ys) (itself x)
-    ∙ same (n + 1)
-runs_at n x y ys false e up rest same other =
-    let apart : x < y = below_other x y up e in
-    ap (λ gs. fold (count_one nat_cmp) gs ys) (count_one-behind y x n [] apart)
-    ∙ fold-front x n ((y, 1) ∷ []) ys (λ k d lt. before_all x y (get_or ys k d) apart (rest k d lt))
-    ∙ ap (λ gs. (x, n) ∷ gs) other
-
-runs_from : (n x : ℕ) (numbers : List ℕ) → Rise (x ∷ numbers) →
-    fold (count_one nat_cmp) ((x, n) ∷ []) numbers ≡ map group_of (dedup_with_count_from nat_eq n x numbers)
-runs_from n x [] up = refl
-runs_from n x (y ∷ ys) up =
-    let behind = pairs_behind (λ a b. a ≤ b) x (y ∷ ys) up in
-    let first = pairs_front (λ a b. a ≤ b) x (y ∷ ys) up in
-    let rest = pairs_front (λ a b. a ≤ b) y ys behind in
-    let skip : Rise (x ∷ ys) = AllPairs-cons (λ a b. a ≤ b) x ys (All-tail (λ z. x ≤ z) y ys first) (pairs_behind (λ a b. a ≤ b) y ys behind) in
-    runs_at n x y ys (nat_eq x y) refl (All-head (λ z. x ≤ z) y ys first) rest (λ m. runs_from m x ys skip) (runs_from 1 y ys behind)
-
--- the runs of numbers in order are their counts
-pub counts_of-sorted : (numbers : List ℕ) → Rise numbers → counts_of_sorted numbers ≡ counts_of numbers
-counts_of-sorted [] up = refl
-counts_of-sorted (x ∷ numbers) up = sym (runs_from 1 x numbers up)
-
--- numbers that were sorted are in order
-pub Rise-sorted : (numbers : List ℕ) → IsSortedByKey (λ n. n) nat_cmp numbers → Rise numbers
-Rise-sorted numbers sorted = λ i j d up lt. IsNonDecreasingBy-from_sort (λ n. n) numbers sorted i j d (omega (arith, up)) lt
-
--- the counts are the same in whatever order the numbers come
-pub counts_of-permuted : (numbers others : List ℕ) → IsPermutation numbers others → counts_of numbers ≡ counts_of others
-counts_of-permuted numbers others is =
-    let none : AllPairs (Below nat_cmp) [] = pairs_none (Below nat_cmp) in
-    let empty : All (λ (g : ℕ × ℕ). 0 < g.1) [] = All-nil (λ (g : ℕ × ℕ). 0 < g.1) in
-    one_list_of_groups nat_order (counts_of numbers) (counts_of others) (rising-fold nat_order [] numbers none) (positive-fold nat_order [] numbers empty)
-    (rising-fold nat_order [] others none) (positive-fold nat_order [] others empty)
-    (λ n. omega (
-      arith,
-      count_in-fold nat_order [] numbers n,
-      count_in-fold nat_order [] others n,
-      sum_by-IsPermutation (λ m. cond (is_eq (nat_cmp n m)) 1 0) numbers others is,
-    ))
 
 -- what the first elements are mapped to, with one more of them
 pub kept-more : {Y : Type 0} (h : ℕ → Option Y) (docs : List ℕ) (i : ℕ) → i < length docs →

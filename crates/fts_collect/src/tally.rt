@@ -1,7 +1,8 @@
 // Hits counted by their numbers in a column.
 ghost use Rattle.std.specs.Prelude.{◌≡◌, ◌≤◌, ◌<◌, ◌+◌, ◌-◌, ◌++◌, ◌^◌, ℕ, List, IfOk, OnOk, length, min, None};
-ghost use Rattle.std.specs.Prelude.{option_to_list, slice_index, slice_index_or, slice_set};
-ghost use Rattle.fts_collect.specs.Internals.Tallies.{AreCounts, AreWithin, counts_from, counts_of_sorted, number_at};
+ghost use Rattle.std.specs.Prelude.{nat_eq, option_to_list, slice_index, slice_index_or, slice_set};
+ghost use Rattle.fts_scan.specs.Scans.{counts_of_sorted};
+ghost use Rattle.fts_collect.specs.Internals.Tallies.{AreCounts, AreWithin, counts_from, number_at};
 ghost use Rattle.fts_collect.specs.Internals.Tallies.{present_at};
 
 use fts_bits::u64_to_i64;
@@ -22,7 +23,7 @@ pub(crate) fn number_at(kind: Kind, number: u64) -> Number
 
 /// The counts of numbers that stand in order: each run of one number is one.
 fn counts_of_sorted(alloc: Global, numbers: &[u64]) -> Result<Vec<(u64, u64)>, AllocError>
-    ensures { IfOk result (λ list. list.items ≡ counts_of_sorted numbers.now) }
+    ensures { IfOk result (λ list. list.items ≡ counts_of_sorted nat_eq numbers.now) }
 {
     numbers
         .iter()
@@ -117,17 +118,30 @@ pub(crate) enum Tally {
 /// The most numbers that are counted each at a place of its own.
 const MOST_COUNTS: u64 = 65_536;
 
+/// So many places are cleared and read in the time in which a number is sorted among others.
+const COUNTS_PER_DOC: u64 = 8;
+
+/// How many places there may be for a column of so many documents: with more, its numbers are sorted sooner.
+fn most_counts(docs: usize) -> u64
+    ensures { result ≤ MOST_COUNTS }
+{
+    (docs as u64)
+        .saturating_mul(COUNTS_PER_DOC)
+        .min(MOST_COUNTS)
+}
+
 impl Tally {
     ghost use Rattle.std.specs.Prelude.{◌≡◌, ◌<◌, ◌++◌, ◌^◌, ℕ, List, [], IfOk, OnOk, length};
     ghost use Rattle.fts_collect.specs.Internals.Tallies.{IsTally, IsTallyFor, counts_of, present_at};
 
-    /// Of no hits. There is a place for each number where they lie close together.
+    /// Of no hits. There is a place for each number where they lie close together for so many documents.
     pub(crate) fn new(alloc: Global, column: &Column) -> Result<Tally, AllocError>
         ensures none { IfOk result (IsTally []) }
         ensures for_column { IfOk result (IsTallyFor column.now) }
     {
+        let most = most_counts(column.len());
         match column.range() {
-            Some((least, greatest)) if greatest - least < MOST_COUNTS => {
+            Some((least, greatest)) if greatest - least < most => {
                 let counts = vec![in alloc; 0u64; (greatest - least) as usize + 1]?;
                 Ok(Tally::Counts { least, counts })
             }

@@ -1,5 +1,5 @@
 -- A range over the ordinals of a keyword field is one over the documents.
-use Rattle.std.proofs.Common.{◌≡◌, ◌^◌, ◌<◌, ◌||◌, ◌&&◌, ℕ, Bool, true, false, nat_le, Option, Some, None, IfSome, List, [], length, get_or, map, Contains, unwrap_or, option_map, refl, sym, ap, ap₂, subst, ◌∙◌, arith}
+use Rattle.std.proofs.Common.{◌≡◌, ◌^◌, ◌<◌, ◌||◌, ◌&&◌, ℕ, Bool, true, false, nat_le, Option, Some, None, IfSome, List, [], length, get_or, map, Contains, unwrap_or, option_map, refl, sym, ap, ap₂, ◌∙◌, arith}
 use Rattle.std.specs.List.{slice_get}
 use Rattle.std.specs.Option.{option_map_or}
 use Rattle.std.specs.declared.ops.Bound.{Bound}

@@ -5,6 +5,7 @@ pub mod PartsLemmas
 pub mod TreeLemmas
 pub mod GatherLemmas
 pub mod PhraseLemmas
+pub mod WalkLemmas
 pub mod HitsLemmas
 pub mod BoolHits
 pub mod LeadingLemmas

@@ -89,10 +89,8 @@ phrase-moved old between new first lent back others lent_others back_others lent
     }
 
 -- a member that is put back as it was
-pub put_back : (ms : List Member) (k : ℕ) (d : Member) (positions : List (List ℕ)) → positions ≡ (get_or ms k d).positions →
-    set ms k (record { list = (get_or ms k d).list; positions = positions; offset = (get_or ms k d).offset }) ≡ ms
-put_back ms k d positions same =
-    ap (λ (ps : List (List ℕ)). set ms k (record { list = (get_or ms k d).list; positions = ps; offset = (get_or ms k d).offset })) same ∙ set-get_or ms k d
+pub put_back : (ms : List Member) (k : ℕ) (d back : Member) → back ≡ get_or ms k d → set ms k back ≡ ms
+put_back ms k d back same = ap (set ms k) same ∙ set-get_or ms k d
 
 -- lists of few documents have few blocks
 few_blocks : (p : Posting) (m : Member) → IsPaired p m → length (documents_in m.list) ≤ 2 ^ 32 → length p.blocks ≤ 2 ^ 32

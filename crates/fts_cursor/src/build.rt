@@ -17,6 +17,7 @@ ghost use Rattle.fts_cursor.specs.TreeValues.{TreeValue, remains};
 use crate::cursor::Cursor;
 use crate::kept::Kept;
 use crate::phrase::{Member, PhraseCursor};
+use crate::position_cursor::PositionCursor;
 use crate::range::of_range;
 use crate::scan::ScanCursor;
 use crate::terms::{are_terms, cursor_over, of_terms};
@@ -237,7 +238,7 @@ fn members_of<'a>(
             None => return Ok(None),
             Some(list) => members.push(Member {
                 list,
-                positions: segment.positions(list),
+                positions: PositionCursor::new(segment.positions(list)),
                 offset: *offset,
             })?,
         }

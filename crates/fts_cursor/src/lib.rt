@@ -24,10 +24,12 @@ mod cursor;
 mod kept;
 mod listed;
 mod phrase;
+mod position_cursor;
 mod range;
 mod scan;
 mod terms;
 mod tree;
+mod walk;
 
 pub use build::cursor_of;
 pub use cursor::Cursor;

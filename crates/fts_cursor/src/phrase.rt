@@ -1,10 +1,9 @@
 // A cursor over the documents in which a phrase stands: positions are read only where all of its terms do.
 ghost use Rattle.std.specs.Prelude.{◌≡◌, ℕ, ◌+◌, ◌-◌, ◌^◌, ◌<◌, ◌≤◌, ◌==◌, Some, true, IfOk};
-ghost use Rattle.std.specs.Prelude.{◌∷◌, drop, filter, length, min, slice_get, take};
+ghost use Rattle.std.specs.Prelude.{◌∷◌, [], drop, filter, length, min, slice_get, slice_index_or, take};
 ghost use Rattle.std.specs.List.{list_all, list_any};
 ghost use Rattle.fts_model.specs.Queries.{query_fits};
 ghost use Rattle.fts_model.specs.QueryValues.{phrase};
-ghost use Rattle.fts_segment.specs.PositionsLeft.{positions_left};
 ghost use Rattle.fts_cursor.specs.declared.phrase.Member.{Member};
 ghost use Rattle.fts_postings.specs.Bounds.{most_at};
 ghost use Rattle.fts_postings.specs.Conjoined.{AllFollow, common_of};
@@ -14,16 +13,17 @@ ghost use Rattle.fts_postings.specs.Remaining.{at_least};
 ghost use Rattle.fts_cursor.specs.Standing.{Continues, Walked};
 ghost use Rattle.fts_cursor.specs.Terms.{AreTied};
 
+use crate::position_cursor::PositionCursor;
 use fts_pack::ListSource;
 use fts_postings::{Conjunction, DocSet};
-use fts_segment::{ListId, PositionReader, Positions};
+use fts_segment::ListId;
 use std::marker::Model;
 
 /// A member of a phrase: the list of its term, its positions in the documents of the list, and its offset.
 #[derive(Drop)]
 pub(crate) struct Member<'a> {
     pub(crate) list: ListId<'a>,
-    pub(crate) positions: PositionReader<'a>,
+    pub(crate) positions: PositionCursor<'a>,
     pub(crate) offset: u32,
 }
 
@@ -182,24 +182,23 @@ fn all_follow(
     ensures same { others.new ≡ others.old }
 {
     for (k, member) in others.iter_mut().enumerate() {
-        let positions = member.positions.get(terms.other_posting(k));
-        let sum = u64::from(position) + u64::from(member.offset);
-        if !has_position(positions, offset, sum) {
+        if !follows(member, terms.other_posting(k), offset, position) {
             return false;
         }
     }
     true
 }
 
-// Whether one of the positions makes a sum with an offset.
-fn has_position(positions: Positions, offset: u32, sum: u64) -> bool
-    ensures { result ≡ list_any (λ q. q + offset == sum) (positions_left positions.entry) }
+// Whether a member stands as far behind a position as its offset is behind another one, in the document of a posting.
+fn follows(member: &mut Member, posting: usize, offset: u32, position: u32) -> bool
+    ensures follows { result
+        ≡ list_any (λ q. q + offset == position + member.old.offset)
+        (slice_index_or member.old.positions posting []) }
+    ensures same { member.new ≡ member.old }
 {
-    let mut positions = positions;
-    while let Some(position) = positions.next() {
-        if u64::from(position) + u64::from(offset) == sum {
-            return true;
-        }
+    let sum = u64::from(position) + u64::from(member.offset);
+    match sum.checked_sub(u64::from(offset)) {
+        Some(wanted) => member.positions.has(posting, wanted),
+        None => false,
     }
-    false
 }

@@ -1,8 +1,8 @@
 -- What the steps of the plain search are.
-use Rattle.std.specs.Prelude.{◌≡◌, ℕ, suc, ◌+◌, ◌^◌, ◌<◌, Bool, true, false, not, List, [], ◌∷◌, Option, Some, None, if◌then◌else◌, length, slice_get}
+use Rattle.std.specs.Prelude.{◌≡◌, ℕ, suc, ◌+◌, ◌^◌, ◌<◌, Bool, true, false, not, List, [], ◌∷◌, Option, Some, None, if◌then◌else◌, length, map}
 use Rattle.std.specs.List.{list_all, list_any}
-use Rattle.std.specs.Ordering.{match_ordering, is_eq}
-use Rattle.std.specs.Option.{option_map_or}
+use Rattle.std.specs.Ordering.{is_eq}
+use Rattle.itertools.specs.List.{dedup_with_count}
 use Rattle.fts_scan.specs.declared.strings.Strings.{Strings}
 use Rattle.fts_scan.specs.declared.strings.Strings.TheVariants.{One, Many}
 use Rattle.fts_model.specs.declared.value.GroupValue.{GroupValue}
@@ -11,19 +11,18 @@ use Rattle.fts_model.specs.declared.answer.Hit.{Hit}
 use Rattle.fts_model.specs.Answers.{group_cmp, comes_before}
 use Rattle.fts_model.specs.Documents.{bytes_of}
 
--- how many groups are below a value, up to the first that is not
-abbrev pub group_place : List (GroupValue × ℕ) → GroupValue → ℕ
-group_place [] v = 0
-group_place (group ∷ groups) v = match_ordering (group_cmp v group.0) 0 0 (suc (group_place groups v))
-
 -- how many hits the groups have together
 abbrev pub hits_counted : {V : Type 0} → List (V × ℕ) → ℕ
 hits_counted [] = 0
 hits_counted (group ∷ groups) = group.1 + hits_counted groups
 
--- the group at this place is of a value
-abbrev pub is_group_at : List (GroupValue × ℕ) → ℕ → GroupValue → Bool
-is_group_at groups place v = option_map_or (λ group. is_eq (group_cmp v group.0)) (slice_get groups place) false
+-- whether two values are that of one group
+abbrev pub is_one_group : GroupValue → GroupValue → Bool
+is_one_group v w = is_eq (group_cmp v w)
+
+-- the counts of values in order: each run of one value, by a test of which are one
+abbrev pub counts_of_sorted : {V : Type 0} → (V → V → Bool) → List V → List (V × ℕ)
+counts_of_sorted same values = map (λ run. (run.1, run.0)) (dedup_with_count same values)
 
 -- how many hits of a list stand before the first that a hit comes before
 abbrev pub hit_place : Order → List Hit → Hit → ℕ

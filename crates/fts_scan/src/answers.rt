@@ -1,19 +1,20 @@
-// The answer over the documents that are alive: the hits are counted, grouped and put into a top
-// list one by one.
-ghost use Rattle.std.specs.Prelude.{◌≡◌, ◌<◌, ◌≤◌, ◌+◌, ◌^◌, ◌++◌, ◌∷◌, [], IfOk, OnOk, Ok, option_map, option_to_list};
+// The answer over the documents that are alive: the hits are counted, their values in the field of the groups are
+// sorted, so that equal ones stand together, and the top list takes the hits one by one.
+ghost use Rattle.std.specs.Prelude.{◌≡◌, ◌++◌, ◌∷◌, [], IfOk, OnOk, Ok, option_map, option_to_list};
 ghost use Rattle.std.specs.Prelude.{fold, take};
 ghost use Rattle.fts_base.specs.Results.{Gives};
 ghost use Rattle.fts_model.specs.QueryValues.{query_value};
 ghost use Rattle.fts_model.specs.Queries.{hits};
-ghost use Rattle.fts_model.specs.Answers.{answer, number_in_field, group_cmp, group_in, count_one, groups, comes_before, hit_in};
+ghost use Rattle.fts_model.specs.Answers.{answer, number_in_field, group_in, groups_in, groups, comes_before, hit_in};
 ghost use Rattle.fts_model.specs.Answers.{put_hit, top};
-ghost use Rattle.fts_scan.specs.Scans.{hits_counted, group_place, is_group_at, hit_place};
+ghost use Rattle.fts_scan.specs.Scans.{counts_of_sorted, is_one_group, hit_place};
 
 use crate::matcher::query_matches;
 use fts_model::{
     Answer, Document, FieldValue, GroupValue, Hit, Number, Order, Query, Refusal, Request, Schema,
     Stamped, Top,
 };
+use itertools::Itertools;
 use std::alloc::{AllocError, Global};
 use std::cmp::Ordering;
 
@@ -75,60 +76,54 @@ fn number_in_field(document: &Document, field: usize) -> Option<Number>
     }
 }
 
-/// How many groups are below a value, up to the first that is not.
-fn group_place(groups: &[(GroupValue, u64)], value: &GroupValue) -> usize
-    ensures { result ≡ group_place groups.now value.now }
-{
-    for (i, group) in groups.iter().enumerate() {
-        if value.compare(&group.0) != Ordering::Greater {
-            return i;
-        }
-    }
-    groups.len()
-}
-
-/// Whether the group at this place is of a value.
-fn is_group_at(groups: &[(GroupValue, u64)], place: usize, value: &GroupValue) -> bool
-    ensures { result ≡ is_group_at groups.now place value.now }
-{
-    match groups.get(place) {
-        None => false,
-        Some(group) => value.compare(&group.0) == Ordering::Equal,
-    }
-}
-
-/// Counts one more hit that has this value.
-fn count_value(groups: &mut Vec<(GroupValue, u64)>, value: GroupValue) -> Result<(), AllocError>
-    requires { hits_counted groups.old.items + 1 < 2 ^ 64 }
-    ensures { OnOk result (groups.new.items ≡ count_one group_cmp groups.old.items value) }
-{
-    let place = group_place(groups, &value);
-    if is_group_at(groups, place, &value) {
-        groups[place].1 += 1;
-        return Ok(());
-    }
-    groups.insert(place, (value, 1))?;
-    Ok(())
-}
-
-/// Counts one more hit, if it has a value in a field.
-fn count_hit(
-    groups: &mut Vec<(GroupValue, u64)>,
+/// Puts the value that a hit has in a field behind others, if it has one.
+fn push_value(
+    values: &mut Vec<GroupValue>,
     field: usize,
     hit: &Stamped<Document>,
 ) -> Result<(), AllocError>
-    requires { hits_counted groups.old.items + 1 < 2 ^ 64 }
-    ensures { OnOk result (groups.new.items
-        ≡ fold (count_one group_cmp) groups.old.items
-        (option_to_list (group_in hit.now.value field))) }
+    ensures { OnOk result (values.new.items
+        ≡ values.old.items ++ option_to_list (group_in hit.now.value field)) }
 {
     let Some(value) = hit.value.value(field) else {
         return Ok(());
     };
     match GroupValue::of(value)? {
         None => Ok(()),
-        Some(value) => count_value(groups, value),
+        Some(value) => {
+            values.push(value)?;
+            Ok(())
+        }
     }
+}
+
+/// The values that hits have in a field.
+fn values_in(
+    alloc: Global,
+    field: usize,
+    hits: &[Stamped<Document>],
+) -> Result<Vec<GroupValue>, AllocError>
+    ensures { IfOk result (λ values. values.items ≡ groups_in field hits.now) }
+{
+    let mut values = Vec::new(alloc);
+    for hit in hits {
+        push_value(&mut values, field, hit)?;
+    }
+    Ok(values)
+}
+
+/// The counts of values that stand in order: each run of one value is one.
+fn counts_of_sorted(
+    alloc: Global,
+    values: Vec<GroupValue>,
+) -> Result<Vec<(GroupValue, u64)>, AllocError>
+    ensures { IfOk result (λ counts. counts.items ≡ counts_of_sorted is_one_group values.items) }
+{
+    values
+        .into_iter()
+        .dedup_by_with_count(|a, b| a.compare(b) == Ordering::Equal)
+        .map(|(count, value)| (value, count as u64))
+        .collect(alloc)
 }
 
 /// The values that hits have in a field, rising, each with the number of hits that have it.
@@ -139,11 +134,9 @@ fn groups(
 ) -> Result<Vec<(GroupValue, u64)>, AllocError>
     ensures { IfOk result (λ found. found.items ≡ groups field hits.now) }
 {
-    let mut groups = Vec::new(alloc);
-    for hit in hits {
-        count_hit(&mut groups, field, hit)?;
-    }
-    Ok(groups)
+    let mut values = values_in(alloc, field, hits)?;
+    values.sort_unstable_by(|a, b| a.compare(b));
+    counts_of_sorted(alloc, values)
 }
 
 /// Whether one hit stands before another in a top list.

@@ -1,5 +1,5 @@
 -- What was joined of parts, and what is left of them.
-use Rattle.std.proofs.Common.{◌≡◌, ◌≢◌, ◌+◌, ◌<◌, ◌≤◌, ◌⊎◌, inl, inr, ⊎_elim, ℕ, zero, suc, Bool, true, false, cond, List, [], ◌∷◌, ◌++◌, Option, Some, None, map, length, flat_map, All, Contains, refl, sym, ap, ap₂, subst, ◌∙◌, arith, Ordering, Less, Equal, Greater}
+use Rattle.std.proofs.Common.{◌≡◌, ◌≢◌, ◌⊎◌, inl, inr, ⊎_elim, ℕ, suc, true, false, cond, List, [], ◌∷◌, ◌++◌, Option, Some, None, map, flat_map, Contains, refl, sym, ap, ap₂, subst, ◌∙◌, Less, Equal, Greater}
 use Rattle.std.specs.Prelude.{slice_get}
 use Rattle.std.specs.List.{AllByRecursion}
 use Rattle.std.specs.List.Sorted.{IsStrictlyIncreasing}
@@ -10,14 +10,26 @@ use Rattle.std.proofs.lemmas.Cmp.{nat_list_cmp_total, tied_itself}
 use Rattle.std.proofs.lemmas.Slice.Eq.{bytes_eq-Decides}
 use Rattle.std.proofs.lemmas.List.{append-nil, map_push}
 use Rattle.std.proofs.lemmas.List.Elements.{Contains-append_left, Contains-append_right}
-use Rattle.fts_segment.specs.declared.term_groups.Place.{Place}
-use Rattle.fts_segment.specs.Dictionaries.{docs_in, unless_none}
-use Rattle.fts_segment.specs.Positions.{position_lists_of}
-use Rattle.fts_segment.specs.PositionLists.{IsPositionList}
+use Rattle.fts_segment.specs.Dictionaries.{unless_none}
+use Rattle.fts_segment.specs.Postings.{Posting, documents, position_lists}
 use Rattle.fts_segment.specs.Parts.{PartValue, found, joined, moved, IsBelow, Ascend, IsSound, IsJoined, begins, passed, given, lesser, least_of}
 use Rattle.fts_segment.proofs.FindLemmas.{same_from_equal, turned}
 use Rattle.fts_segment.proofs.KeywordsLemmas.{here, either, none}
 use Rattle.fts_segment.proofs.PartLemmas.{IsFrom, AreFrom, IsMet, IsBelowAll, joined-given, joined-passed, joined-other, sound-all, below-all-after, below-all-passed, met-below}
+
+-- where there is no document there is no posting
+pub no_documents : (postings : List Posting) → documents postings ≡ [] → postings ≡ []
+no_documents [] h = refl
+no_documents (p ∷ postings) h = absurd (let no : p.doc ∷ documents postings ≡ [] = h in cc)
+
+-- nothing is put for no posting
+pub none_put : {X : Type 0} (xs : List X) (x : X) (postings : List Posting) → postings ≡ [] → xs ≡ xs ++ unless_none postings x
+none_put {X} xs x postings none = sym (let P : List Posting → List X = λ ps. xs ++ unless_none ps x in ap P none ∙ append-nil xs)
+
+-- and one element for some
+pub some_put : {X : Type 0} (xs new : List X) (x : X) (postings : List Posting) → postings ≢ [] → new ≡ xs ++ x ∷ [] → new ≡ xs ++ unless_none postings x
+some_put xs new x [] some put = absurd (some refl)
+some_put xs new x (p ∷ postings) some put = put
 
 -- each name is before a term
 abbrev pub AreBefore : List ℕ → List (List ℕ) → Type 0
@@ -40,8 +52,8 @@ pub record IsJoining (all rest : List PartValue) (names lists : List (List ℕ))
   pub sound : AllByRecursion IsSound rest
   pub ascend : Ascend names
   pub below : AllByRecursion (λ name. IsBelowAll name rest) names
-  pub listed : lists ≡ map (λ q. docs_in (joined all q)) names
-  pub positioned : positions ≡ map (λ q. position_lists_of (joined all q)) names
+  pub listed : lists ≡ map (λ q. documents (joined all q)) names
+  pub positioned : positions ≡ map (λ q. position_lists (joined all q)) names
   pub some : AllByRecursion (λ q. joined all q ≢ []) names
   pub left : (q : List ℕ) → Contains names q ⊎ (joined rest q ≡ joined all q)
 
@@ -67,29 +79,23 @@ not-among term (n ∷ names) h c = ⊎_elim
     (λ behind. not-among term names h.1 behind) (either n term names c)
 
 -- what the parts have for the next term is all that they had
-pub all-given : (term : List ℕ) (places : List Place) (all rest : List PartValue) (names lists : List (List ℕ)) (positions : List (List (List ℕ))) → IsJoining all rest names lists positions →
-    AreFrom term rest → IsMet term rest → places ≡ flat_map (given term) rest → joined all term ≡ places
-all-given term places all rest names lists positions j from met is = ⊎_elim
+pub all-given : (term : List ℕ) (postings : List Posting) (all rest : List PartValue) (names lists : List (List ℕ)) (positions : List (List (List ℕ))) → IsJoining all rest names lists positions →
+    AreFrom term rest → IsMet term rest → postings ≡ flat_map (given term) rest → joined all term ≡ postings
+all-given term postings all rest names lists positions j from met is = ⊎_elim
     (λ (among : Contains names term). absurd (not-among term names (are-before term rest names met j.below) among))
     (λ (same : joined rest term ≡ joined all term). sym same ∙ joined-given term rest j.sound from ∙ sym is) (j.left term)
 
--- so these places are such as can be written
-pub places-rise : (term : List ℕ) (places : List Place) (all rest : List PartValue) (names lists : List (List ℕ)) (positions : List (List (List ℕ))) → IsJoining all rest names lists positions →
-    AreFrom term rest → IsMet term rest → places ≡ flat_map (given term) rest → ((q : List ℕ) → IsStrictlyIncreasing (docs_in (joined all q))) → IsStrictlyIncreasing (docs_in places)
-places-rise term places all rest names lists positions j from met is rise =
-    let P : List Place → Type 0 = λ ps. IsStrictlyIncreasing (docs_in ps) in
-    subst P (all-given term places all rest names lists positions j from met is) (rise term)
+-- so these postings are such as can be written
+pub postings-rise : (term : List ℕ) (postings : List Posting) (all rest : List PartValue) (names lists : List (List ℕ)) (positions : List (List (List ℕ))) → IsJoining all rest names lists positions →
+    AreFrom term rest → IsMet term rest → postings ≡ flat_map (given term) rest → ((q : List ℕ) → IsStrictlyIncreasing (documents (joined all q))) → IsStrictlyIncreasing (documents postings)
+postings-rise term postings all rest names lists positions j from met is rise =
+    let P : List Posting → Type 0 = λ ps. IsStrictlyIncreasing (documents ps) in
+    subst P (all-given term postings all rest names lists positions j from met is) (rise term)
 
-pub places-positions : (term : List ℕ) (places : List Place) (all rest : List PartValue) (names lists : List (List ℕ)) (positions : List (List (List ℕ))) → IsJoining all rest names lists positions →
-    AreFrom term rest → IsMet term rest → places ≡ flat_map (given term) rest → ((q : List ℕ) → All IsPositionList (position_lists_of (joined all q))) → All IsPositionList (position_lists_of places)
-places-positions term places all rest names lists positions j from met is fit =
-    let P : List Place → Type 0 = λ ps. All IsPositionList (position_lists_of ps) in
-    subst P (all-given term places all rest names lists positions j from met is) (fit term)
-
--- a term is passed that no part has a place for
+-- a term is passed that no part has a posting for
 pass-none : (term : List ℕ) (all rest : List PartValue) (names lists : List (List ℕ)) (positions : List (List (List ℕ))) → IsJoining all rest names lists positions →
     AreFrom term rest → joined all term ≡ [] → IsJoining all (map (passed term) rest) names lists positions
-pass-none term all rest names lists positions j from no_place = record {
+pass-none term all rest names lists positions j from no_posting = record {
   sound = sound-all term rest j.sound;
   ascend = j.ascend;
   below = all-below-after term rest names j.below;
@@ -100,22 +106,22 @@ pass-none term all rest names lists positions j from no_place = record {
     | true ↦ λ same.
         let one : term ≡ q = (bytes_eq-Decides term q).0 same in
         let Q : List ℕ → Type 0 = λ t. joined (map (passed term) rest) t ≡ joined all t in
-        inr (subst Q one (joined-passed term rest j.sound from ∙ sym no_place))
+        inr (subst Q one (joined-passed term rest j.sound from ∙ sym no_posting))
     | false ↦ λ differ. ⊎_elim (λ among. inl among) (λ same. inr (joined-other term q rest j.sound differ ∙ same)) (j.left q)
   ] refl;
 }
 
--- and one that they have places for
+-- and one that they have postings for
 pass-some : (term : List ℕ) (all rest : List PartValue) (names lists : List (List ℕ)) (positions : List (List (List ℕ))) → IsJoining all rest names lists positions →
     AreFrom term rest → IsMet term rest → joined all term ≢ [] →
-    IsJoining all (map (passed term) rest) (names ++ term ∷ []) (lists ++ docs_in (joined all term) ∷ []) (positions ++ position_lists_of (joined all term) ∷ [])
-pass-some term all rest names lists positions j from met some_place = record {
+    IsJoining all (map (passed term) rest) (names ++ term ∷ []) (lists ++ documents (joined all term) ∷ []) (positions ++ position_lists (joined all term) ∷ [])
+pass-some term all rest names lists positions j from met some_posting = record {
   sound = sound-all term rest j.sound;
   ascend = ascend-push term names j.ascend (are-before term rest names met j.below);
   below = all-push (λ name. IsBelowAll name (map (passed term) rest)) names term (all-below-after term rest names j.below) (below-all-passed term rest j.sound from);
-  listed = ap (λ ls. ls ++ docs_in (joined all term) ∷ []) j.listed ∙ sym (map_push (λ q. docs_in (joined all q)) names term);
-  positioned = ap (λ ps. ps ++ position_lists_of (joined all term) ∷ []) j.positioned ∙ sym (map_push (λ q. position_lists_of (joined all q)) names term);
-  some = all-push (λ q. joined all q ≢ []) names term j.some some_place;
+  listed = ap (λ ls. ls ++ documents (joined all term) ∷ []) j.listed ∙ sym (map_push (λ q. documents (joined all q)) names term);
+  positioned = ap (λ ps. ps ++ position_lists (joined all term) ∷ []) j.positioned ∙ sym (map_push (λ q. position_lists (joined all q)) names term);
+  some = all-push (λ q. joined all q ≢ []) names term j.some some_posting;
   left = λ q. elim (bytes_eq term q) as (λ b. bytes_eq term q ≡ b → Contains (names ++ term ∷ []) q ⊎ (joined (map (passed term) rest) q ≡ joined all q)) [
     | true ↦ λ same.
         let one : term ≡ q = (bytes_eq-Decides term q).0 same in
@@ -126,20 +132,20 @@ pass-some term all rest names lists positions j from met some_place = record {
 }
 
 -- a term is passed
-pub IsJoining-next : (term : List ℕ) (places : List Place) (all rest : List PartValue) (names lists : List (List ℕ)) (positions : List (List (List ℕ))) → IsJoining all rest names lists positions →
-    AreFrom term rest → IsMet term rest → joined all term ≡ places →
-    IsJoining all (map (passed term) rest) (names ++ unless_none places term) (lists ++ unless_none places (docs_in places)) (positions ++ unless_none places (position_lists_of places))
+pub IsJoining-next : (term : List ℕ) (postings : List Posting) (all rest : List PartValue) (names lists : List (List ℕ)) (positions : List (List (List ℕ))) → IsJoining all rest names lists positions →
+    AreFrom term rest → IsMet term rest → joined all term ≡ postings →
+    IsJoining all (map (passed term) rest) (names ++ unless_none postings term) (lists ++ unless_none postings (documents postings)) (positions ++ unless_none postings (position_lists postings))
 IsJoining-next term [] all rest names lists positions j from met is =
     let P : List (List ℕ) → List (List ℕ) → List (List (List ℕ)) → Type 0 = λ ns ls qs. IsJoining all (map (passed term) rest) ns ls qs in
     subst (λ ns. P ns (lists ++ []) (positions ++ [])) (sym (append-nil names)) (subst (λ ls. P names ls (positions ++ [])) (sym (append-nil lists))
     (subst (P names lists) (sym (append-nil positions)) (pass-none term all rest names lists positions j from is)))
-IsJoining-next term (p ∷ places) all rest names lists positions j from met is =
-    let P : List Place → Type 0 = λ ps. IsJoining all (map (passed term) rest) (names ++ term ∷ []) (lists ++ docs_in ps ∷ []) (positions ++ position_lists_of ps ∷ []) in
-    subst P is (pass-some term all rest names lists positions j from met (λ no. let clash : p ∷ places ≡ [] = sym is ∙ no in cc))
+IsJoining-next term (p ∷ postings) all rest names lists positions j from met is =
+    let P : List Posting → Type 0 = λ ps. IsJoining all (map (passed term) rest) (names ++ term ∷ []) (lists ++ documents ps ∷ []) (positions ++ position_lists ps ∷ []) in
+    subst P is (pass-some term all rest names lists positions j from met (λ no. let clash : p ∷ postings ≡ [] = sym is ∙ no in cc))
 
 -- a part with no name has nothing
-nothing : (p : PartValue) (term : List ℕ) → p.names ≡ [] → moved p.numbers (found p.names p.places term) ≡ []
-nothing p term e = ap (λ ns. moved p.numbers (found ns p.places term)) e
+nothing : (p : PartValue) (term : List ℕ) → p.names ≡ [] → moved p.numbers (found p.names p.postings term) ≡ []
+nothing p term e = ap (λ ns. moved p.numbers (found ns p.postings term)) e
 
 none-first : (o : Option (List ℕ)) (names : List (List ℕ)) → lesser o (slice_get names 0) ≡ None → (o ≡ None) × (names ≡ [])
 none-first None [] h = (refl, refl)
@@ -221,5 +227,5 @@ IsJoined-end all rest names lists positions j h = record {
   listed = j.listed;
   positioned = j.positioned;
   some = j.some;
-  whole = λ q some_place. ⊎_elim (λ among. among) (λ (same : joined rest q ≡ joined all q). absurd (some_place (sym same ∙ (least-none None rest h).1 q))) (j.left q);
+  whole = λ q some_posting. ⊎_elim (λ among. among) (λ (same : joined rest q ≡ joined all q). absurd (some_posting (sym same ∙ (least-none None rest h).1 q))) (j.left q);
 }

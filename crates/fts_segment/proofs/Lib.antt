@@ -16,11 +16,12 @@ pub mod NumberLemmas
 pub mod BetweenLemmas
 pub mod PositionListsLemmas
 pub mod PackedLemmas
+pub mod UnpackedLemmas
 mod PositionListVectors
 pub mod TokenLemmas
 pub mod PositionsLemmas
 pub mod MovingLemmas
 pub mod PartLemmas
 pub mod JoiningLemmas
-pub mod SpreadLemmas
+pub mod PostingsLemmas
 pub mod SourceLemmas

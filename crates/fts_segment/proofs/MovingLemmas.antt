@@ -1,14 +1,14 @@
--- New numbers, and places by them, one at a time.
-use Rattle.std.proofs.Common.{◌≡◌, ◌+◌, ◌*◌, ◌^◌, ◌<◌, ◌≤◌, ℕ, Bool, true, false, cond, List, [], ◌∷◌, ◌++◌, Option, Some, None, length, take, drop, map, zero, suc, flat_map, count_by, get_or, refl, sym, ap, ◌∙◌, arith}
+-- New numbers, and postings by them, one at a time.
+use Rattle.std.proofs.Common.{◌≡◌, ◌+◌, ◌-◌, ◌*◌, ◌^◌, ◌<◌, ◌≤◌, ℕ, Bool, true, false, cond, List, [], ◌∷◌, ◌++◌, Option, Some, None, All, length, take, drop, map, zero, suc, flat_map, count_by, get_or, refl, sym, ap, ◌∙◌, arith}
 use Rattle.std.specs.Prelude.{slice_get, slice_set}
-use Rattle.std.proofs.lemmas.List.{append_assoc, append-nil, drop_more, take_more, length-take-le}
+use Rattle.std.proofs.lemmas.List.{append_assoc, append-nil, drop-drop, drop_more, map-append, take_more, length-take-le}
+use Rattle.std.proofs.lemmas.List.Elements.{All-head, All-tail}
 use Rattle.std.proofs.lemmas.List.Sums.{sum_by-cons}
 use Rattle.std.proofs.lemmas.Option.{slice_get_within, get_or_from_slice_get}
 use Rattle.fts_pack.specs.Documents.{block_at}
 use Rattle.fts_pack.proofs.DocumentsLemmas.{take_block}
-use Rattle.fts_segment.specs.declared.term_groups.Place.{Place}
-use Rattle.fts_segment.specs.Parts.{renumbered, placed, moved, number_in, places_in, places_at}
-use Rattle.fts_segment.proofs.PositionListsLemmas.{place_at}
+use Rattle.fts_segment.specs.Parts.{AreInARow, PartValue, number_in, renumbered, placed, moved}
+use Rattle.fts_segment.specs.Postings.{Posting, posting_at, postings_of, documents, position_lists}
 
 -- what is left of a list, the first apart
 pub dropped_at : {X : Type 0} (xs : List X) (i : ℕ) (x : X) → slice_get xs i ≡ Some x → drop i xs ≡ x ∷ drop (i + 1) xs
@@ -37,71 +37,126 @@ pub counted-room : (next first i : ℕ) (live : List Bool) (bit : Bool) → slic
 counted-room next first i live true is set h room = omega (arith, counted-step live i true is, h, room)
 counted-room next first i live false is set h room = absurd (let no : false ≡ true = set in cc)
 
-pub moved-append : (numbers : List (Option ℕ)) (xs ys : List Place) → moved numbers (xs ++ ys) ≡ moved numbers xs ++ moved numbers ys
+-- there is a number for each document
+pub length-renumbered : (next : ℕ) (live : List Bool) → length (renumbered next live) ≡ length live
+length-renumbered next [] = refl
+length-renumbered next (true ∷ live) = ap suc (length-renumbered (next + 1) live)
+length-renumbered next (false ∷ live) = ap suc (length-renumbered next live)
+
+few_set : (live : List Bool) → count_by (λ bit. bit) live ≤ length live
+few_set [] = omega arith
+few_set (true ∷ live) = omega (arith, few_set live, sum_by-cons (λ (bit : Bool). cond bit 1 0) true live)
+few_set (false ∷ live) = omega (arith, few_set live, sum_by-cons (λ (bit : Bool). cond bit 1 0) false live)
+
+-- where all documents are live, their numbers are in a row
+numbered_at : (next : ℕ) (live : List Bool) (doc : ℕ) → count_by (λ bit. bit) live ≡ length live → doc < length live → slice_get (renumbered next live) doc ≡ Some (Some (next + doc))
+numbered_at next [] doc all within = absurd (omega (arith, within))
+numbered_at next (true ∷ live) zero all within = ap (λ n. Some (Some n)) (let same : next ≡ next + 0 = omega arith in same)
+numbered_at next (true ∷ live) (suc doc) all within =
+    numbered_at (next + 1) live doc (omega (arith, all, sum_by-cons (λ (bit : Bool). cond bit 1 0) true live)) (omega (arith, within))
+    ∙ ap (λ n. Some (Some n)) (let same : next + 1 + doc ≡ next + suc doc = omega arith in same)
+numbered_at next (false ∷ live) doc all within = absurd (omega (arith, all, few_set live, sum_by-cons (λ (bit : Bool). cond bit 1 0) false live))
+
+pub AreInARow-renumbered : (first : ℕ) (live : List Bool) → count_by (λ bit. bit) live ≡ length live → first + count_by (λ bit. bit) live < 2 ^ 32 → AreInARow (renumbered first live) first
+AreInARow-renumbered first live all fit = record {
+  are = λ doc within. numbered_at first live doc all (omega (arith, within, length-renumbered first live));
+  fit = omega (arith, all, fit, length-renumbered first live);
+}
+
+-- a posting whose document has a new number is placed there
+pub placed-some : (o : Option (Option ℕ)) (number : ℕ) (posting : Posting) → Some number ≡ number_in o → placed o posting ≡ posting_at number posting.positions ∷ []
+placed-some None number posting h = absurd (let no : Some number ≡ None = h in cc)
+placed-some (Some None) number posting h = absurd (let no : Some number ≡ None = h in cc)
+placed-some (Some (Some n)) number posting h = let same : n ≡ number = let e : Some number ≡ Some n = h in cc in ap (λ n. posting_at n posting.positions ∷ []) same
+
+-- and another one nowhere
+pub placed-none : (o : Option (Option ℕ)) (posting : Posting) → None ≡ number_in o → placed o posting ≡ []
+placed-none None posting h = refl
+placed-none (Some None) posting h = refl
+placed-none (Some (Some n)) posting h = absurd (let no : None ≡ Some n = h in cc)
+
+moved-append : (numbers : List (Option ℕ)) (xs ys : List Posting) → moved numbers (xs ++ ys) ≡ moved numbers xs ++ moved numbers ys
 moved-append numbers [] ys = refl
 moved-append numbers (x ∷ xs) ys =
     ap (λ zs. placed (slice_get numbers x.doc) x ++ zs) (moved-append numbers xs ys) ∙ sym (append_assoc (placed (slice_get numbers x.doc) x) (moved numbers xs) (moved numbers ys))
 
--- the places of a document that has a new number are places of that
-pub moved-live : (numbers : List (Option ℕ)) (doc number : ℕ) (positions : List ℕ) → slice_get numbers doc ≡ Some (Some number) → moved numbers (map (place_at doc) positions) ≡ map (place_at number) positions
-moved-live numbers doc number [] h = refl
-moved-live numbers doc number (p ∷ ps) h =
-    ap (λ o. placed o (place_at doc p) ++ moved numbers (map (place_at doc) ps)) h ∙ ap (λ zs. place_at number p ∷ zs) (moved-live numbers doc number ps h)
+postings_none : (docs : List ℕ) → postings_of docs [] ≡ []
+postings_none [] = refl
+postings_none (doc ∷ docs) = refl
 
--- those of another are left out
-pub moved-dead : (numbers : List (Option ℕ)) (doc : ℕ) (positions : List ℕ) → ((number : ℕ) → slice_get numbers doc ≡ Some (Some number) → ⊥) → moved numbers (map (place_at doc) positions) ≡ []
-moved-dead numbers doc [] h = refl
-moved-dead numbers doc (p ∷ ps) h =
-    ap (λ zs. zs ++ moved numbers (map (place_at doc) ps)) (by (slice_get numbers doc) refl) ∙ moved-dead numbers doc ps h
-  where
-    by : (o : Option (Option ℕ)) → slice_get numbers doc ≡ o → placed (slice_get numbers doc) (place_at doc p) ≡ []
-    by None is = ap (λ o. placed o (place_at doc p)) is
-    by (Some None) is = ap (λ o. placed o (place_at doc p)) is
-    by (Some (Some number)) is = absurd (h number is)
+pub postings_of-append : (docs others : List ℕ) (lists : List (List ℕ)) → postings_of (docs ++ others) lists ≡ postings_of docs lists ++ postings_of others (drop (length docs) lists)
+postings_of-append [] others lists = refl
+postings_of-append (doc ∷ docs) others [] = sym (postings_none others)
+postings_of-append (doc ∷ docs) others (list ∷ lists) = ap (λ ps. posting_at doc list ∷ ps) (postings_of-append docs others lists)
 
--- the places in a document by the new numbers
-pub moved-places : (numbers : List (Option ℕ)) (doc : ℕ) (positions : List ℕ) → moved numbers (map (place_at doc) positions) ≡ places_in (number_in (slice_get numbers doc)) positions
-moved-places numbers doc positions = by (slice_get numbers doc) refl
-  where
-    by : (o : Option (Option ℕ)) → slice_get numbers doc ≡ o → moved numbers (map (place_at doc) positions) ≡ places_in (number_in (slice_get numbers doc)) positions
-    by None is = moved-dead numbers doc positions (λ number some. let clash : None ≡ Some (Some number) = sym is ∙ some in cc) ∙ sym (ap (λ o. places_in (number_in o) positions) is)
-    by (Some None) is = moved-dead numbers doc positions (λ number some. let clash : Some None ≡ Some (Some number) = sym is ∙ some in cc) ∙ sym (ap (λ o. places_in (number_in o) positions) is)
-    by (Some (Some number)) is = moved-live numbers doc number positions is ∙ sym (ap (λ o. places_in (number_in o) positions) is)
+-- more lists than documents don't count
+pub postings_of-take : (docs : List ℕ) (n : ℕ) (lists : List (List ℕ)) → length docs ≤ n → postings_of docs (take n lists) ≡ postings_of docs lists
+postings_of-take [] n lists h = refl
+postings_of-take (doc ∷ docs) zero lists h = absurd (omega (arith, h))
+postings_of-take (doc ∷ docs) (suc n) [] h = refl
+postings_of-take (doc ∷ docs) (suc n) (list ∷ lists) h = ap (λ ps. posting_at doc list ∷ ps) (postings_of-take docs n lists (omega (arith, h)))
 
-pub places_at-append : (first : ℕ) (lists : List (List ℕ)) (xs ys : List ℕ) → places_at first lists (xs ++ ys) ≡ places_at first lists xs ++ places_at (first + length xs) lists ys
-places_at-append first lists [] ys = ap (λ n. places_at n lists ys) (let same : first ≡ first + 0 = omega arith in same)
-places_at-append first lists (x ∷ xs) ys =
-    let there : first + 1 + length xs ≡ first + suc (length xs) = omega arith in
-    let here = map (place_at x) (get_or lists first []) in
-    ap (λ zs. here ++ zs) (places_at-append (first + 1) lists xs ys ∙ ap (λ n. places_at (first + 1) lists xs ++ places_at n lists ys) there)
-    ∙ sym (append_assoc here (places_at (first + 1) lists xs) (places_at (first + suc (length xs)) lists ys))
+-- numbers in a row leave out no posting
+pub documents-shifted : (numbers : List (Option ℕ)) (first : ℕ) (docs : List ℕ) (lists : List (List ℕ)) → AreInARow numbers first → length docs ≡ length lists → All (λ doc. doc < length numbers) docs →
+    documents (moved numbers (postings_of docs lists)) ≡ map (λ doc. first + doc) docs
+documents-shifted numbers first [] lists row paired within = refl
+documents-shifted numbers first (doc ∷ docs) [] row paired within = absurd (omega (arith, paired))
+documents-shifted numbers first (doc ∷ docs) (list ∷ lists) row paired within =
+    let Within : ℕ → Type 0 = λ doc. doc < length numbers in
+    ap (λ o. documents (placed o (posting_at doc list) ++ moved numbers (postings_of docs lists))) (row.are doc (All-head Within doc docs within))
+    ∙ ap (λ ds. (first + doc) ∷ ds) (documents-shifted numbers first docs lists row (omega (arith, paired)) (All-tail Within doc docs within))
+
+pub lists-shifted : (numbers : List (Option ℕ)) (first : ℕ) (docs : List ℕ) (lists : List (List ℕ)) → AreInARow numbers first → length docs ≡ length lists → All (λ doc. doc < length numbers) docs →
+    position_lists (moved numbers (postings_of docs lists)) ≡ lists
+lists-shifted numbers first [] [] row paired within = refl
+lists-shifted numbers first [] (list ∷ lists) row paired within = absurd (omega (arith, paired))
+lists-shifted numbers first (doc ∷ docs) [] row paired within = absurd (omega (arith, paired))
+lists-shifted numbers first (doc ∷ docs) (list ∷ lists) row paired within =
+    let Within : ℕ → Type 0 = λ doc. doc < length numbers in
+    ap (λ o. position_lists (placed o (posting_at doc list) ++ moved numbers (postings_of docs lists))) (row.are doc (All-head Within doc docs within))
+    ∙ ap (λ ls. list ∷ ls) (lists-shifted numbers first docs lists row (omega (arith, paired)) (All-tail Within doc docs within))
+
+-- what more documents have
+moved-more : {X : Type 0} (f : Posting → X) (numbers : List (Option ℕ)) (some more all : List ℕ) (lists : List (List ℕ)) (before out new : List X) → all ≡ some ++ more →
+    out ≡ before ++ map f (moved numbers (postings_of some lists)) → new ≡ out ++ map f (moved numbers (postings_of more (drop (length some) lists))) → new ≡ before ++ map f (moved numbers (postings_of all lists))
+moved-more f numbers some more all lists before out new is so_far put =
+    let old = moved numbers (postings_of some lists) in
+    let one = moved numbers (postings_of more (drop (length some) lists)) in
+    let whole : moved numbers (postings_of all lists) ≡ old ++ one =
+    ap (λ ds. moved numbers (postings_of ds lists)) is ∙ ap (moved numbers) (postings_of-append some more lists) ∙ moved-append numbers (postings_of some lists) (postings_of more (drop (length some) lists)) in
+    put ∙ ap (λ zs. zs ++ map f one) so_far ∙ append_assoc before (map f old) (map f one) ∙ ap (λ zs. before ++ zs) (sym (map-append f old one) ∙ ap (map f) (sym whole))
 
 -- one posting more
-pub moved-one : (numbers : List (Option ℕ)) (lists : List (List ℕ)) (docs : List ℕ) (first i d e : ℕ) (before out new : List Place) → i < length docs → d ≡ get_or docs i e →
-    out ≡ before ++ moved numbers (places_at first lists (take i docs)) → new ≡ out ++ places_in (number_in (slice_get numbers d)) (get_or lists (first + i) []) →
-    new ≡ before ++ moved numbers (places_at first lists (take (i + 1) docs))
-moved-one numbers lists docs first i d e before out new within here so_far put =
-    let one = map (place_at d) (get_or lists (first + i) []) in
-    let old = places_at first lists (take i docs) in
+pub moved-one : {X : Type 0} (f : Posting → X) (numbers : List (Option ℕ)) (lists : List (List ℕ)) (docs : List ℕ) (start i d e : ℕ) (before out new : List X) → i < length docs → d ≡ get_or docs i e →
+    length docs ≤ length lists - start → out ≡ before ++ map f (moved numbers (postings_of (take i docs) (drop start lists))) →
+    new ≡ out ++ map f (placed (slice_get numbers d) (posting_at d (get_or lists (start + i) []))) →
+    new ≡ before ++ map f (moved numbers (postings_of (take (i + 1) docs) (drop start lists)))
+moved-one f numbers lists docs start i d e before out new within here room so_far put =
     let more : take (i + 1) docs ≡ take i docs ++ d ∷ [] = take_more docs i e within ∙ ap (λ (n : ℕ). take i docs ++ n ∷ []) (sym here) in
-    let count : first + length (take i docs) ≡ first + i = ap (λ n. first + n) (length-take-le i docs (omega (arith, within))) in
-    let all : places_at first lists (take (i + 1) docs) ≡ old ++ one = ap (places_at first lists) more ∙ places_at-append first lists (take i docs) (d ∷ [])
-    ∙ ap (λ n. old ++ (map (place_at d) (get_or lists n []) ++ [])) count ∙ ap (λ zs. old ++ zs) (append-nil one) in
-    put ∙ ap (λ zs. out ++ zs) (sym (moved-places numbers d (get_or lists (first + i) []))) ∙ ap (λ zs. zs ++ moved numbers one) so_far ∙ append_assoc before (moved numbers old) (moved numbers one)
-    ∙ ap (λ zs. before ++ zs) (sym (moved-append numbers old one) ∙ ap (moved numbers) (sym all))
+    let count : length (take i docs) ≡ i = length-take-le i docs (omega (arith, within)) in
+    let there : drop (length (take i docs)) (drop start lists) ≡ get_or lists (start + i) [] ∷ drop (start + i + 1) lists =
+    ap (λ n. drop n (drop start lists)) count ∙ drop-drop i start lists ∙ drop_more lists (start + i) [] (omega (arith, within, room)) in
+    let one : moved numbers (postings_of (d ∷ []) (drop (length (take i docs)) (drop start lists))) ≡ placed (slice_get numbers d) (posting_at d (get_or lists (start + i) [])) =
+    ap (λ ls. moved numbers (postings_of (d ∷ []) ls)) there ∙ append-nil (placed (slice_get numbers d) (posting_at d (get_or lists (start + i) []))) in
+    moved-more f numbers (take i docs) (d ∷ []) (take (i + 1) docs) (drop start lists) before out new more so_far (put ∙ ap (λ ps. out ++ map f ps) (sym one))
 
 -- one block more
-pub moved-block : (numbers : List (Option ℕ)) (lists : List (List ℕ)) (docs : List ℕ) (block : ℕ) (before out new : List Place) → block * 128 ≤ length docs →
-    out ≡ before ++ moved numbers (places_at 0 lists (take (block * 128) docs)) → new ≡ out ++ moved numbers (places_at (block * 128) lists (block_at docs block)) →
-    new ≡ before ++ moved numbers (places_at 0 lists (take ((block + 1) * 128) docs))
-moved-block numbers lists docs block before out new within so_far put =
-    let old = places_at 0 lists (take (block * 128) docs) in
-    let one = places_at (block * 128) lists (block_at docs block) in
-    let count : 0 + length (take (block * 128) docs) ≡ block * 128 = omega (arith, length-take-le (block * 128) docs within) in
-    let all : places_at 0 lists (take ((block + 1) * 128) docs) ≡ old ++ one = ap (places_at 0 lists) (take_block docs block) ∙ places_at-append 0 lists (take (block * 128) docs) (block_at docs block)
-    ∙ ap (λ n. old ++ places_at n lists (block_at docs block)) count in
-    put ∙ ap (λ zs. zs ++ moved numbers one) so_far ∙ append_assoc before (moved numbers old) (moved numbers one)
-    ∙ ap (λ zs. before ++ zs) (sym (moved-append numbers old one) ∙ ap (moved numbers) (sym all))
+pub moved-block : {X : Type 0} (f : Posting → X) (numbers : List (Option ℕ)) (lists : List (List ℕ)) (docs : List ℕ) (start block : ℕ) (before out new : List X) → block * 128 ≤ length docs →
+    out ≡ before ++ map f (moved numbers (postings_of (take (block * 128) docs) (drop start lists))) → new ≡ out ++ map f (moved numbers (postings_of (block_at docs block) (drop (start + block * 128) lists))) →
+    new ≡ before ++ map f (moved numbers (postings_of (take ((block + 1) * 128) docs) (drop start lists)))
+moved-block f numbers lists docs start block before out new within so_far put =
+    let count : length (take (block * 128) docs) ≡ block * 128 = length-take-le (block * 128) docs within in
+    let there : drop (length (take (block * 128) docs)) (drop start lists) ≡ drop (start + block * 128) lists = ap (λ n. drop n (drop start lists)) count ∙ drop-drop (block * 128) start lists in
+    moved-more f numbers (take (block * 128) docs) (block_at docs block) (take ((block + 1) * 128) docs) (drop start lists) before out new (take_block docs block) so_far
+    (put ∙ ap (λ ls. out ++ map f (moved numbers (postings_of (block_at docs block) ls))) (sym there))
+
+-- one block more of documents with a number added
+pub shifted-block : (f : ℕ → ℕ) (docs : List ℕ) (block : ℕ) (before out new : List ℕ) → out ≡ before ++ map f (take (block * 128) docs) → new ≡ out ++ map f (block_at docs block) →
+    new ≡ before ++ map f (take ((block + 1) * 128) docs)
+shifted-block f docs block before out new so_far put =
+    let old = take (block * 128) docs in
+    put ∙ ap (λ zs. zs ++ map f (block_at docs block)) so_far ∙ append_assoc before (map f old) (map f (block_at docs block))
+    ∙ ap (λ zs. before ++ zs) (sym (map-append f old (block_at docs block)) ∙ ap (map f) (sym (take_block docs block)))
 
 -- members of which the first ones were changed
 pub at-front : {X : Type 0} (f : X → X) (xs : List X) (i : ℕ) → slice_get (map f (take i xs) ++ drop i xs) i ≡ slice_get xs i
@@ -124,8 +179,10 @@ set-front f items xs i x y is at new =
     (ap (λ zs. slice_set zs i y) is ∙ ap (slice_set (map f (take i xs) ++ drop i xs) i) new ∙ set-suc f xs i x here ∙ ap (λ k. map f (take k xs) ++ drop k xs) one, here)
 
 -- one part more has given
-pub given-front : {X : Type 0} (f : X → List Place) (out new : List Place) (xs : List X) (i : ℕ) (x : X) (all : List Place) → slice_get xs i ≡ Some x → new ≡ out ++ f x → out ++ flat_map f (drop i xs) ≡ all →
-    new ++ flat_map f (drop (i + 1) xs) ≡ all
-given-front f out new xs i x all at is h =
-    ap (λ zs. zs ++ flat_map f (drop (i + 1) xs)) is ∙ append_assoc out (f x) (flat_map f (drop (i + 1) xs))
-    ∙ ap (λ zs. out ++ flat_map f zs) (sym (dropped_at xs i x at)) ∙ h
+pub given-front : {X : Type 0} (f : PartValue → List Posting) (g : Posting → X) (out new : List X) (xs : List PartValue) (i : ℕ) (x : PartValue) (all : List X) → slice_get xs i ≡ Some x → new ≡ out ++ map g (f x) →
+    out ++ map g (flat_map f (drop i xs)) ≡ all → new ++ map g (flat_map f (drop (i + 1) xs)) ≡ all
+given-front f g out new xs i x all at is h =
+    let rest = flat_map f (drop (i + 1) xs) in
+    ap (λ zs. zs ++ map g rest) is ∙ append_assoc out (map g (f x)) (map g rest)
+    ∙ ap (λ zs. out ++ zs) (sym (map-append g (f x) rest))
+    ∙ ap (λ ps. out ++ map g (flat_map f ps)) (sym (dropped_at xs i x at)) ∙ h

@@ -1,16 +1,14 @@
 -- Lists of positions as they are packed.
-use Rattle.std.proofs.Common.{◌≡◌, ◌≢◌, ◌+◌, ◌-◌, ◌*◌, ◌/◌, ◌%◌, ◌^◌, ◌<◌, ◌≤◌, ◌==◌, ℕ, suc, zero, Bool, true, false, cond, List, [], ◌∷◌, ◌++◌, map, length, get_or, take, drop, sum, refl, sym, ap, ap₂, subst, ◌∙◌, inl, inr, arith, All, length-append, length-drop}
+use Rattle.std.proofs.Common.{◌≡◌, ◌+◌, ◌-◌, ◌*◌, ◌/◌, ◌%◌, ◌^◌, ◌<◌, ◌≤◌, ℕ, suc, zero, List, [], ◌∷◌, ◌++◌, map, length, get_or, take, drop, sum, refl, sym, ap, ap₂, subst, ◌∙◌, arith, All, length-append, length-drop}
 use Rattle.std.specs.Prelude.{slice_range}
-use Rattle.std.proofs.lemmas.Bool.{cases_lt, eqb-true, eqb-false}
-use Rattle.std.proofs.lemmas.List.{drop_more, drop-drop, take-append-le, drop-append-le, take_all, length_push, length-take-le, get_or_append_left, nil_from_length, append-nil, take-take}
-use Rattle.std.proofs.lemmas.List.Elements.{All-push, All-head, All-tail}
+use Rattle.std.proofs.lemmas.List.{drop_more, drop-drop, drop-take, take-append-le, drop-append-le, take_all, length-take-le, nil_from_length, take-take}
+use Rattle.std.proofs.lemmas.List.Elements.{All-append, All-cons, All-nil, All-head, All-tail}
 use Rattle.std.proofs.lemmas.List.Sums.{sum_by-cons, sum_by-append, sum_by-take-le, sum_by_more}
-use Rattle.std.proofs.Math.Seq.{take-append_seam, get_or-append_seam}
 use Rattle.fts_pack.specs.Documents.{block_at, block_count, documents_at, gaps}
 use Rattle.fts_pack.specs.SourceLaws.{length-block_at}
 use Rattle.fts_pack.proofs.DocumentsLemmas.{documents_at-gaps, length-documents_at, length-gaps}
 use Rattle.fts_pack.proofs.SumLemmas.{sum-take-add}
-use Rattle.fts_segment.specs.PositionLists.{IsPositionList, position_lists_at, ArePacked}
+use Rattle.fts_segment.specs.PositionLists.{IsPositionList, position_lists_at, AreLogged, ArePacked}
 use Rattle.fts_segment.specs.PositionListBounds.{AreBoundsOf}
 
 slice_range-more : (gs : List ℕ) (at end : ℕ) → at < end → end ≤ length gs → slice_range gs at end ≡ get_or gs at 0 ∷ slice_range gs (at + 1) end
@@ -25,9 +23,6 @@ next_left gs at end next lower within =
     let g = get_or gs at 0 in
     ap (documents_at next) (slice_range-more gs at end lower within)
     ∙ ap (λ n. (next + g) ∷ documents_at n (slice_range gs (at + 1) end)) (let one : suc (next + g) ≡ next + g + 1 = omega arith in one)
-
-pub none_left : (gs : List ℕ) (at end next : ℕ) → end ≤ at → documents_at next (slice_range gs at end) ≡ []
-none_left gs at end next past = ap (λ n. documents_at next (take n (drop at gs))) (let none : end - at ≡ 0 = omega arith in none)
 
 pub length-position_lists_at : (counts gs : List ℕ) → length (position_lists_at counts gs) ≡ length counts
 length-position_lists_at [] gs = refl
@@ -44,75 +39,78 @@ position_list_at (n ∷ ns) gs (suc k) within =
     position_list_at ns (drop n gs) k (omega arith)
     ∙ ap (λ xs. documents_at 0 (take (get_or ns k 0) xs)) (drop-drop (sum (take k ns)) n gs ∙ ap (λ m. drop m gs) (sym (total-cons n (take k ns))))
 
--- one list more
-pub position_lists_at-push : (counts gs more : List ℕ) → sum counts ≡ length gs → position_lists_at (counts ++ length more ∷ []) (gs ++ more) ≡ position_lists_at counts gs ++ documents_at 0 more ∷ []
-position_lists_at-push [] gs more whole =
-    let none : gs ≡ [] = nil_from_length gs (omega (arith, whole)) in
-    ap (λ xs. documents_at 0 (take (length more) (xs ++ more)) ∷ []) none ∙ ap (λ xs. documents_at 0 xs ∷ []) (take_all (length more) more (omega arith))
-position_lists_at-push (n ∷ ns) gs more whole =
+-- lists behind others
+pub position_lists_at-append : (counts more gs others : List ℕ) → sum counts ≡ length gs → position_lists_at (counts ++ more) (gs ++ others) ≡ position_lists_at counts gs ++ position_lists_at more others
+position_lists_at-append [] more gs others whole =
+    let none : gs ≡ [] = nil_from_length gs (omega (arith, whole)) in ap (λ xs. position_lists_at more (xs ++ others)) none
+position_lists_at-append (n ∷ ns) more gs others whole =
     let all : n + sum ns ≡ length gs = sym (total-cons n ns) ∙ whole in
     let rest : sum ns ≡ length (drop n gs) = omega (arith, length-drop n gs) in
-    ap₂ (λ xs ys. documents_at 0 xs ∷ position_lists_at (ns ++ length more ∷ []) ys) (take-append-le n gs more (omega arith)) (drop-append-le n gs more (omega arith))
-    ∙ ap (λ rs. documents_at 0 (take n gs) ∷ rs) (position_lists_at-push ns (drop n gs) more rest)
+    ap₂ (λ xs ys. documents_at 0 xs ∷ position_lists_at (ns ++ more) ys) (take-append-le n gs others (omega arith)) (drop-append-le n gs others (omega arith))
+    ∙ ap (λ rs. documents_at 0 (take n gs) ∷ rs) (position_lists_at-append ns more (drop n gs) others rest)
 
-sum-push : (ns : List ℕ) (n : ℕ) → sum (ns ++ n ∷ []) ≡ sum ns + n
-sum-push ns n = sum_by-append (λ (x : ℕ). x) ns (n ∷ []) ∙ ap (λ m. sum ns + m) (total-cons n [] ∙ (let none : n + 0 ≡ n = omega arith in none))
+-- one list
+position_list_alone : (list : List ℕ) → IsPositionList list → position_lists_at (length list ∷ []) (gaps 0 list) ≡ list ∷ []
+position_list_alone list is = ap (λ r. r ∷ []) (ap (documents_at 0) (take_all (length list) (gaps 0 list) (omega (arith, length-gaps 0 list))) ∙ documents_at-gaps 0 list is.rises)
 
--- what is packed of one list more
-pub position_lists_at-more : (counts starts gs list : List ℕ) → ArePacked counts starts gs → IsPositionList list → position_lists_at (counts ++ length list ∷ []) (gs ++ gaps 0 list) ≡ position_lists_at counts gs ++ list ∷ []
-position_lists_at-more counts starts gs list h is =
-    ap (λ n. position_lists_at (counts ++ n ∷ []) (gs ++ gaps 0 list)) (sym (length-gaps 0 list))
-    ∙ position_lists_at-push counts gs (gaps 0 list) h.whole ∙ ap (λ r. position_lists_at counts gs ++ r ∷ []) (documents_at-gaps 0 list is.rises)
+pub position_lists_at-push : (counts gs list : List ℕ) → sum counts ≡ length gs → IsPositionList list → position_lists_at (counts ++ length list ∷ []) (gs ++ gaps 0 list) ≡ position_lists_at counts gs ++ list ∷ []
+position_lists_at-push counts gs list whole is =
+    position_lists_at-append counts (length list ∷ []) gs (gaps 0 list) whole ∙ ap (λ rs. position_lists_at counts gs ++ rs) (position_list_alone list is)
 
--- the starts with that of one list more, where it is the first of 128
-pub record AreStarts (counts starts : List ℕ) : Type 0 where
-  pub many : length starts ≡ block_count (length counts)
-  pub starts_are : (block : ℕ) → block < length starts → get_or starts block 0 ≡ sum (take (block * 128) counts)
-
-old_start : (counts starts gs : List ℕ) (n block : ℕ) → ArePacked counts starts gs → block < length starts → get_or starts block 0 ≡ sum (take (block * 128) (counts ++ n ∷ []))
-old_start counts starts gs n block h within =
-    h.starts_are block within ∙ ap sum (sym (take-append-le (block * 128) counts (n ∷ []) (omega (arith, h.many))))
-
-AreStarts-push : (counts starts gs : List ℕ) (n : ℕ) (b : Bool) → ArePacked counts starts gs → (length counts % 128 == 0) ≡ b → AreStarts (counts ++ n ∷ []) (starts ++ cond b (length gs ∷ []) [])
-AreStarts-push counts starts gs n true h test =
-    let even : length counts % 128 ≡ 0 = eqb-true (length counts % 128) 0 test in
-    let long = length_push starts (length gs) in
-    let more = length_push counts n in
-    record {
-      many = omega (arith, long, more, h.many);
-      starts_are = λ block within. elim (cases_lt block (length starts)) [
-        | inl old ↦ get_or_append_left starts (length gs ∷ []) 0 block old ∙ old_start counts starts gs n block h old
-        | inr last ↦
-            let here : block ≡ length starts = omega (arith, long) in
-            let all : block * 128 ≡ length counts = omega (arith, h.many) in
-            ap (λ k. get_or (starts ++ length gs ∷ []) k 0) here ∙ get_or-append_seam starts (length gs) [] 0 ∙ sym h.whole
-            ∙ ap sum (sym (ap (λ k. take k (counts ++ n ∷ [])) all ∙ take-append_seam counts (n ∷ [])))
-      ];
-    }
-AreStarts-push counts starts gs n false h test =
-    let odd : length counts % 128 ≢ 0 = eqb-false (length counts % 128) 0 test in
-    let more = length_push counts n in
-    let P : List ℕ → Type 0 = AreStarts (counts ++ n ∷ []) in
-    subst P (sym (append-nil starts)) (record {
-      many = omega (arith, more, h.many);
-      starts_are = λ block within. old_start counts starts gs n block h within;
-    })
-
--- so is all that is packed
-pub ArePacked-push : (counts starts next gs list : List ℕ) → ArePacked counts starts gs → IsPositionList list → All (λ p. p < 2 ^ 32) list → length (gs ++ gaps 0 list) < 2 ^ 64 →
-    next ≡ starts ++ cond (length counts % 128 == 0) (length gs ∷ []) [] → ArePacked (counts ++ length list ∷ []) next (gs ++ gaps 0 list)
-ArePacked-push counts starts next gs list h is fit few next_is =
-    let size : length (gs ++ gaps 0 list) ≡ length gs + length list = length-append gs (gaps 0 list) ∙ ap (λ m. length gs + m) (length-gaps 0 list) in
+-- so is all that is logged
+pub AreLogged-append : (counts more gs others : List ℕ) → AreLogged counts gs → sum more ≡ length others → length (gs ++ others) < 2 ^ 64 → All (λ list. All (λ p. p < 2 ^ 32) list) (position_lists_at more others) →
+    AreLogged (counts ++ more) (gs ++ others)
+AreLogged-append counts more gs others h whole few fit =
     let Fit : List ℕ → Type 0 = λ list. All (λ p. p < 2 ^ 32) list in
     let All_fit : List (List ℕ) → Type 0 = All Fit in
-    let at = subst (AreStarts (counts ++ length list ∷ [])) (sym next_is) (AreStarts-push counts starts gs (length list) (length counts % 128 == 0) h refl) in
     record {
-      whole = sum-push counts (length list) ∙ ap (λ m. m + length list) h.whole ∙ sym size;
+      whole = omega (arith, sum_by-append (λ (x : ℕ). x) counts more, h.whole, whole, length-append gs others);
       few = few;
-      many = at.many;
-      starts_are = at.starts_are;
-      fit = subst All_fit (sym (position_lists_at-more counts starts gs list h is)) (All-push Fit (position_lists_at counts gs) list h.fit fit);
+      fit = subst All_fit (sym (position_lists_at-append counts more gs others h.whole)) (All-append Fit (position_lists_at counts gs) (position_lists_at more others) h.fit fit);
     }
+
+pub AreLogged-push : (counts gs list : List ℕ) → AreLogged counts gs → IsPositionList list → All (λ p. p < 2 ^ 32) list → length (gs ++ gaps 0 list) < 2 ^ 64 → AreLogged (counts ++ length list ∷ []) (gs ++ gaps 0 list)
+AreLogged-push counts gs list h is fit few =
+    let Fit : List ℕ → Type 0 = λ list. All (λ p. p < 2 ^ 32) list in
+    let All_fit : List (List ℕ) → Type 0 = All Fit in
+    let alone : sum (length list ∷ []) ≡ length (gaps 0 list) = omega (arith, total-cons (length list) [], length-gaps 0 list) in
+    AreLogged-append counts (length list ∷ []) gs (gaps 0 list) h alone few (subst All_fit (sym (position_list_alone list is)) (All-cons Fit list [] fit (All-nil Fit)))
+
+-- what is logged is packed, with where each 128 lists begin
+pub ArePacked-logged : (counts starts gs : List ℕ) → AreLogged counts gs → length starts ≡ block_count (length counts) → ((block : ℕ) → block < length starts → get_or starts block 0 ≡ sum (take (block * 128) counts)) → ArePacked counts starts gs
+ArePacked-logged counts starts gs h many are = record {
+  whole = h.whole;
+  few = h.few;
+  many = many;
+  starts_are = are;
+  fit = h.fit;
+}
+
+-- the lists from one on
+drop-position_lists_at : (k : ℕ) (counts gs : List ℕ) → drop k (position_lists_at counts gs) ≡ position_lists_at (drop k counts) (drop (sum (take k counts)) gs)
+drop-position_lists_at zero counts gs = refl
+drop-position_lists_at (suc k) [] gs = refl
+drop-position_lists_at (suc k) (n ∷ ns) gs =
+    drop-position_lists_at k ns (drop n gs) ∙ ap (position_lists_at (drop k ns)) (drop-drop (sum (take k ns)) n gs ∙ ap (λ m. drop m gs) (sym (total-cons n (take k ns))))
+
+-- the first lists
+take-position_lists_at : (k : ℕ) (counts gs : List ℕ) → take k (position_lists_at counts gs) ≡ position_lists_at (take k counts) (take (sum (take k counts)) gs)
+take-position_lists_at zero counts gs = refl
+take-position_lists_at (suc k) [] gs = refl
+take-position_lists_at (suc k) (n ∷ ns) gs =
+    let more = sum (take k ns) in
+    let first : take n (take (n + more) gs) ≡ take n gs = take-take n (n + more) gs (omega arith) in
+    ap₂ (λ xs rs. documents_at 0 xs ∷ rs) (sym first) (take-position_lists_at k ns (drop n gs) ∙ ap (position_lists_at (take k ns)) (sym (drop-take n more gs)))
+    ∙ ap (λ m. documents_at 0 (take n (take m gs)) ∷ position_lists_at (take k ns) (drop n (take m gs))) (sym (total-cons n (take k ns)))
+
+-- the lists between two
+pub range-position_lists_at : (start end first many : ℕ) (counts gs : List ℕ) → first ≡ sum (take start counts) → many ≡ sum (slice_range counts start end) →
+    position_lists_at (slice_range counts start end) (slice_range gs first (first + many)) ≡ slice_range (position_lists_at counts gs) start end
+range-position_lists_at start end first many counts gs is many_is =
+    let some = slice_range counts start end in
+    let left : first + many - first ≡ sum some = omega (arith, many_is) in
+    ap₂ (λ n m. position_lists_at some (take n (drop m gs))) left is
+    ∙ sym (ap (take (end - start)) (drop-position_lists_at start counts gs) ∙ take-position_lists_at (end - start) (drop start counts) (drop (sum (take start counts)) gs))
 
 -- a list of this number is there
 pub position_list_within : (counts gs : List ℕ) (value : List (List ℕ)) (number : ℕ) → position_lists_at counts gs ≡ value → number < length value → number < length counts

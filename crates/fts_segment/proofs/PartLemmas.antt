@@ -1,5 +1,5 @@
 -- Parts as terms are passed.
-use Rattle.std.proofs.Common.{◌≡◌, ◌≢◌, ◌+◌, ◌<◌, ◌≤◌, inl, inr, ℕ, zero, suc, Bool, true, false, cond, List, [], ◌∷◌, ◌++◌, Option, Some, None, map, length, flat_map, sum_by, drop, get_or, refl, sym, ap, ap₂, subst, ◌∙◌, arith, Ordering, Less, Equal, Greater}
+use Rattle.std.proofs.Common.{◌≡◌, ◌≢◌, ◌+◌, ◌<◌, ◌≤◌, inl, inr, ℕ, zero, suc, Bool, true, false, cond, List, [], ◌∷◌, ◌++◌, Option, Some, None, map, length, flat_map, sum_by, drop, get_or, refl, sym, ap, ap₂, subst, ◌∙◌, arith, Less, Equal, Greater}
 use Rattle.std.specs.Prelude.{slice_get}
 use Rattle.std.specs.List.{AllByRecursion}
 use Rattle.std.specs.Str.{bytes_eq}
@@ -11,11 +11,10 @@ use Rattle.std.proofs.lemmas.Bool.{cases_lt}
 use Rattle.std.proofs.lemmas.List.{drop_all, drop_more}
 use Rattle.std.proofs.lemmas.List.Sums.{sum_by-cons}
 use Rattle.fts_segment.specs.declared.dictionary.Dictionary.{Dictionary}
-use Rattle.fts_segment.specs.declared.position_lists.Bounds.{Bounds}
 use Rattle.fts_segment.specs.TermPositionLists.{term_position_lists}
-use Rattle.fts_segment.specs.declared.term_groups.Place.{Place}
+use Rattle.fts_segment.specs.Postings.{Posting, postings_of}
 use Rattle.fts_segment.proofs.FindLemmas.{same_from_equal, turned}
-use Rattle.fts_segment.specs.Parts.{PartValue, IsPartOf, part_from, places_at, places_by, found, joined, moved, IsBelow, Ascend, IsSound, begins, passed, given}
+use Rattle.fts_segment.specs.Parts.{PartValue, IsWhole, part_from, postings_by, found, joined, moved, IsBelow, Ascend, IsSound, begins, passed, given}
 
 -- names of which one is before the other are not one
 less_differs : (a b : List ℕ) → slice_cmp nat_cmp a b ≡ Less → bytes_eq b a ≡ false
@@ -26,23 +25,15 @@ less_differs a b less = elim (bytes_eq b a) as (λ t. bytes_eq b a ≡ t → t �
   | false ↦ λ differ. refl
 ] refl
 
-pub less_differs_turned : (a b : List ℕ) → slice_cmp nat_cmp a b ≡ Less → bytes_eq a b ≡ false
-less_differs_turned a b less = elim (bytes_eq a b) as (λ t. bytes_eq a b ≡ t → t ≡ false) [
-  | true ↦ λ same.
-      let one : a ≡ b = (bytes_eq-Decides a b).0 same in
-      let clash : Less ≡ Equal = sym less ∙ ap (λ x. slice_cmp nat_cmp x b) one ∙ tied_itself nat_list_cmp_total b in cc
-  | false ↦ λ differ. refl
-] refl
-
 IsBelow-trans : (a b : List ℕ) (names : List (List ℕ)) → slice_cmp nat_cmp a b ≡ Less → IsBelow b names → IsBelow a names
 IsBelow-trans a b [] less h = tt
 IsBelow-trans a b (n ∷ names) less h = (nat_list_cmp_total.trans a b n less h.0, IsBelow-trans a b names less h.1)
 
 -- nothing is found of a term that is before all names
-pub found-below : (term : List ℕ) (names : List (List ℕ)) (places : List (List Place)) → IsBelow term names → found names places term ≡ []
-found-below term [] places h = refl
+pub found-below : (term : List ℕ) (names : List (List ℕ)) (postings : List (List Posting)) → IsBelow term names → found names postings term ≡ []
+found-below term [] postings h = refl
 found-below term (n ∷ names) [] h = refl
-found-below term (n ∷ names) (l ∷ places) h = ap (λ b. cond b l (found names places term)) (less_differs term n h.0) ∙ found-below term names places h.1
+found-below term (n ∷ names) (l ∷ postings) h = ap (λ b. cond b l (found names postings term)) (less_differs term n h.0) ∙ found-below term names postings h.1
 
 -- a term is not behind the next name of a part
 abbrev pub IsFrom : List ℕ → List (List ℕ) → Type 0
@@ -61,12 +52,12 @@ next_name term name from differ =
     ] refl
 
 -- a part behind a term has only names behind it
-pub below-passed : (term : List ℕ) (names : List (List ℕ)) (places : List (List Place)) (numbers : List (Option ℕ)) → Ascend names → IsFrom term names →
-    IsBelow term (passed term (record { names = names; places = places; numbers = numbers })).names
-below-passed term [] places numbers up from = tt
-below-passed term (n ∷ names) places numbers up from =
-    let next : PartValue = record { names = names; places = drop 1 places; numbers = numbers } in
-    let same_part : PartValue = record { names = n ∷ names; places = places; numbers = numbers } in
+pub below-passed : (term : List ℕ) (names : List (List ℕ)) (postings : List (List Posting)) (numbers : List (Option ℕ)) → Ascend names → IsFrom term names →
+    IsBelow term (passed term (record { names = names; postings = postings; numbers = numbers })).names
+below-passed term [] postings numbers up from = tt
+below-passed term (n ∷ names) postings numbers up from =
+    let next : PartValue = record { names = names; postings = drop 1 postings; numbers = numbers } in
+    let same_part : PartValue = record { names = n ∷ names; postings = postings; numbers = numbers } in
     let P : Bool → Type 0 = λ b. IsBelow term (cond {A = PartValue} b next same_part).names in
     elim (bytes_eq n term) as (λ b. bytes_eq n term ≡ b → P b) [
       | true ↦ λ same. let one : n ≡ term = (bytes_eq-Decides n term).0 same in let Q : List ℕ → Type 0 = λ x. IsBelow x names in subst Q one up.0
@@ -74,52 +65,52 @@ below-passed term (n ∷ names) places numbers up from =
     ] refl
 
 -- a part gives what is found in it
-pub given-found : (term : List ℕ) (names : List (List ℕ)) (places : List (List Place)) (numbers : List (Option ℕ)) → Ascend names → length names ≡ length places → IsFrom term names →
-    moved numbers (found names places term) ≡ given term (record { names = names; places = places; numbers = numbers })
-given-found term [] places numbers up paired from = refl
+pub given-found : (term : List ℕ) (names : List (List ℕ)) (postings : List (List Posting)) (numbers : List (Option ℕ)) → Ascend names → length names ≡ length postings → IsFrom term names →
+    moved numbers (found names postings term) ≡ given term (record { names = names; postings = postings; numbers = numbers })
+given-found term [] postings numbers up paired from = refl
 given-found term (n ∷ names) [] numbers up paired from = absurd (omega (arith, paired))
-given-found term (n ∷ names) (l ∷ places) numbers up paired from =
-    elim (bytes_eq n term) as (λ b. bytes_eq n term ≡ b → moved numbers (cond b l (found names places term)) ≡ cond b (moved numbers l) []) [
+given-found term (n ∷ names) (l ∷ postings) numbers up paired from =
+    elim (bytes_eq n term) as (λ b. bytes_eq n term ≡ b → moved numbers (cond b l (found names postings term)) ≡ cond b (moved numbers l) []) [
       | true ↦ λ same. refl
-      | false ↦ λ differ. ap (moved numbers) (found-below term names places (IsBelow-trans term n names (next_name term n from differ) up.0))
+      | false ↦ λ differ. ap (moved numbers) (found-below term names postings (IsBelow-trans term n names (next_name term n from differ) up.0))
     ] refl
 
 -- and nothing of it is left
-pub found-passed : (term : List ℕ) (p : PartValue) → IsSound p → IsFrom term p.names → found (passed term p).names (passed term p).places term ≡ []
-found-passed term p sound from = found-below term (passed term p).names (passed term p).places (below-passed term p.names p.places p.numbers sound.ascend from)
+pub found-passed : (term : List ℕ) (p : PartValue) → IsSound p → IsFrom term p.names → found (passed term p).names (passed term p).postings term ≡ []
+found-passed term p sound from = found-below term (passed term p).names (passed term p).postings (below-passed term p.names p.postings p.numbers sound.ascend from)
 
 -- other terms are left as they were
-pub found-other : (term other : List ℕ) (names : List (List ℕ)) (places : List (List Place)) (numbers : List (Option ℕ)) → length names ≡ length places → bytes_eq term other ≡ false →
-    let p : PartValue = record { names = names; places = places; numbers = numbers } in
-    moved (passed term p).numbers (found (passed term p).names (passed term p).places other) ≡ moved numbers (found names places other)
-found-other term other [] places numbers paired differ = refl
+pub found-other : (term other : List ℕ) (names : List (List ℕ)) (postings : List (List Posting)) (numbers : List (Option ℕ)) → length names ≡ length postings → bytes_eq term other ≡ false →
+    let p : PartValue = record { names = names; postings = postings; numbers = numbers } in
+    moved (passed term p).numbers (found (passed term p).names (passed term p).postings other) ≡ moved numbers (found names postings other)
+found-other term other [] postings numbers paired differ = refl
 found-other term other (n ∷ names) [] numbers paired differ = absurd (omega (arith, paired))
-found-other term other (n ∷ names) (l ∷ places) numbers paired differ =
-    let all : PartValue = record { names = n ∷ names; places = l ∷ places; numbers = numbers } in
-    let rest : PartValue = record { names = names; places = places; numbers = numbers } in
-    elim (bytes_eq n term) as (λ b. bytes_eq n term ≡ b → moved (cond b rest all).numbers (found (cond b rest all).names (cond b rest all).places other) ≡ moved numbers (cond (bytes_eq n other) l (found names places other))) [
+found-other term other (n ∷ names) (l ∷ postings) numbers paired differ =
+    let all : PartValue = record { names = n ∷ names; postings = l ∷ postings; numbers = numbers } in
+    let rest : PartValue = record { names = names; postings = postings; numbers = numbers } in
+    elim (bytes_eq n term) as (λ b. bytes_eq n term ≡ b → moved (cond b rest all).numbers (found (cond b rest all).names (cond b rest all).postings other) ≡ moved numbers (cond (bytes_eq n other) l (found names postings other))) [
       | true ↦ λ same.
           let one : n ≡ term = (bytes_eq-Decides n term).0 same in
           let apart : bytes_eq n other ≡ false = ap (λ x. bytes_eq x other) one ∙ differ in
-          ap (λ b. moved numbers (cond b l (found names places other))) (sym apart)
+          ap (λ b. moved numbers (cond b l (found names postings other))) (sym apart)
       | false ↦ λ apart. refl
     ] refl
 
 -- parts behind a term are sound
-pub sound-passed : (term : List ℕ) (names : List (List ℕ)) (places : List (List Place)) (numbers : List (Option ℕ)) → IsSound (record { names = names; places = places; numbers = numbers }) → IsSound (passed term (record { names = names; places = places; numbers = numbers }))
-sound-passed term [] places numbers s = s
+pub sound-passed : (term : List ℕ) (names : List (List ℕ)) (postings : List (List Posting)) (numbers : List (Option ℕ)) → IsSound (record { names = names; postings = postings; numbers = numbers }) → IsSound (passed term (record { names = names; postings = postings; numbers = numbers }))
+sound-passed term [] postings numbers s = s
 sound-passed term (n ∷ names) [] numbers s = absurd (omega (arith, s.paired))
-sound-passed term (n ∷ names) (l ∷ places) numbers s =
-    elim (bytes_eq n term) as (λ b. IsSound (cond b (record { names = names; places = places; numbers = numbers }) (record { names = n ∷ names; places = l ∷ places; numbers = numbers }))) [
+sound-passed term (n ∷ names) (l ∷ postings) numbers s =
+    elim (bytes_eq n term) as (λ b. IsSound (cond b (record { names = names; postings = postings; numbers = numbers }) (record { names = n ∷ names; postings = l ∷ postings; numbers = numbers }))) [
       | true ↦ record { ascend = s.ascend.1; paired = omega (arith, s.paired) }
       | false ↦ s
     ]
 
 -- what was below a part stays below it
-pub below-after : (name term : List ℕ) (names : List (List ℕ)) (places : List (List Place)) (numbers : List (Option ℕ)) → IsBelow name names → IsBelow name (passed term (record { names = names; places = places; numbers = numbers })).names
-below-after name term [] places numbers h = tt
-below-after name term (n ∷ names) places numbers h =
-    elim (bytes_eq n term) as (λ b. IsBelow name (cond {A = PartValue} b (record { names = names; places = drop 1 places; numbers = numbers }) (record { names = n ∷ names; places = places; numbers = numbers })).names) [
+pub below-after : (name term : List ℕ) (names : List (List ℕ)) (postings : List (List Posting)) (numbers : List (Option ℕ)) → IsBelow name names → IsBelow name (passed term (record { names = names; postings = postings; numbers = numbers })).names
+below-after name term [] postings numbers h = tt
+below-after name term (n ∷ names) postings numbers h =
+    elim (bytes_eq n term) as (λ b. IsBelow name (cond {A = PartValue} b (record { names = names; postings = drop 1 postings; numbers = numbers }) (record { names = n ∷ names; postings = postings; numbers = numbers })).names) [
       | true ↦ h.1
       | false ↦ h
     ]
@@ -131,7 +122,7 @@ AreFrom term ps = AllByRecursion (λ p. IsFrom term p.names) ps
 pub joined-given : (term : List ℕ) (ps : List PartValue) → AllByRecursion IsSound ps → AreFrom term ps → joined ps term ≡ flat_map (given term) ps
 joined-given term [] sound from = refl
 joined-given term (p ∷ ps) sound from =
-    ap₂ (λ a b. a ++ b) (given-found term p.names p.places p.numbers sound.0.ascend sound.0.paired from.0) (joined-given term ps sound.1 from.1)
+    ap₂ (λ a b. a ++ b) (given-found term p.names p.postings p.numbers sound.0.ascend sound.0.paired from.0) (joined-given term ps sound.1 from.1)
 
 pub joined-passed : (term : List ℕ) (ps : List PartValue) → AllByRecursion IsSound ps → AreFrom term ps → joined (map (passed term) ps) term ≡ []
 joined-passed term [] sound from = refl
@@ -141,11 +132,11 @@ joined-passed term (p ∷ ps) sound from =
 pub joined-other : (term other : List ℕ) (ps : List PartValue) → AllByRecursion IsSound ps → bytes_eq term other ≡ false → joined (map (passed term) ps) other ≡ joined ps other
 joined-other term other [] sound differ = refl
 joined-other term other (p ∷ ps) sound differ =
-    ap₂ (λ a b. a ++ b) (found-other term other p.names p.places p.numbers sound.0.paired differ) (joined-other term other ps sound.1 differ)
+    ap₂ (λ a b. a ++ b) (found-other term other p.names p.postings p.numbers sound.0.paired differ) (joined-other term other ps sound.1 differ)
 
 pub sound-all : (term : List ℕ) (ps : List PartValue) → AllByRecursion IsSound ps → AllByRecursion IsSound (map (passed term) ps)
 sound-all term [] h = tt
-sound-all term (p ∷ ps) h = (sound-passed term p.names p.places p.numbers h.0, sound-all term ps h.1)
+sound-all term (p ∷ ps) h = (sound-passed term p.names p.postings p.numbers h.0, sound-all term ps h.1)
 
 -- a name is before all names of parts
 abbrev pub IsBelowAll : List ℕ → List PartValue → Type 0
@@ -153,11 +144,11 @@ IsBelowAll name ps = AllByRecursion (λ p. IsBelow name p.names) ps
 
 pub below-all-after : (name term : List ℕ) (ps : List PartValue) → IsBelowAll name ps → IsBelowAll name (map (passed term) ps)
 below-all-after name term [] h = tt
-below-all-after name term (p ∷ ps) h = (below-after name term p.names p.places p.numbers h.0, below-all-after name term ps h.1)
+below-all-after name term (p ∷ ps) h = (below-after name term p.names p.postings p.numbers h.0, below-all-after name term ps h.1)
 
 pub below-all-passed : (term : List ℕ) (ps : List PartValue) → AllByRecursion IsSound ps → AreFrom term ps → IsBelowAll term (map (passed term) ps)
 below-all-passed term [] sound from = tt
-below-all-passed term (p ∷ ps) sound from = (below-passed term p.names p.places p.numbers sound.0.ascend from.0, below-all-passed term ps sound.1 from.1)
+below-all-passed term (p ∷ ps) sound from = (below-passed term p.names p.postings p.numbers sound.0.ascend from.0, below-all-passed term ps sound.1 from.1)
 
 -- a term is the next one of a part
 pub begins-below : (name term : List ℕ) (names : List (List ℕ)) → begins term names ≡ true → IsBelow name names → slice_cmp nat_cmp name term ≡ Less
@@ -180,10 +171,10 @@ abbrev pub left : List PartValue → ℕ
 left ps = sum_by (λ p. length p.names) ps
 
 fewer-part : (term : List ℕ) (p : PartValue) (names : List (List ℕ)) → p.names ≡ names → length (passed term p).names ≤ length names
-fewer-part term p [] e = let P : List (List ℕ) → Type 0 = λ ns. length (cond (begins term ns) (record { names = drop 1 p.names; places = drop 1 p.places; numbers = p.numbers }) p).names ≤ 0 in
+fewer-part term p [] e = let P : List (List ℕ) → Type 0 = λ ns. length (cond (begins term ns) (record { names = drop 1 p.names; postings = drop 1 p.postings; numbers = p.numbers }) p).names ≤ 0 in
     subst P (sym e) (omega (arith, ap length e))
 fewer-part term p (n ∷ names) e =
-    elim (begins term p.names) as (λ b. length (cond b (record { names = drop 1 p.names; places = drop 1 p.places; numbers = p.numbers }) p).names ≤ suc (length names)) [
+    elim (begins term p.names) as (λ b. length (cond b (record { names = drop 1 p.names; postings = drop 1 p.postings; numbers = p.numbers }) p).names ≤ suc (length names)) [
       | true ↦ let P : List (List ℕ) → Type 0 = λ ns. length (drop 1 ns) ≤ suc (length names) in subst P (sym e) (let k : length names ≤ suc (length names) = omega arith in k)
       | false ↦ omega (arith, ap length e)
     ]
@@ -191,7 +182,7 @@ fewer-part term p (n ∷ names) e =
 fewer-begun : (term : List ℕ) (p : PartValue) (names : List (List ℕ)) → p.names ≡ names → begins term p.names ≡ true → length (passed term p).names < length p.names
 fewer-begun term p [] e h = absurd (let no : false ≡ true = ap (begins term) (sym e) ∙ h in cc)
 fewer-begun term p (n ∷ names) e h =
-    let P : Bool → Type 0 = λ b. length (cond b (record { names = drop 1 p.names; places = drop 1 p.places; numbers = p.numbers }) p).names < length p.names in
+    let P : Bool → Type 0 = λ b. length (cond b (record { names = drop 1 p.names; postings = drop 1 p.postings; numbers = p.numbers }) p).names < length p.names in
     let Q : List (List ℕ) → Type 0 = λ ns. length (drop 1 ns) < length ns in
     subst P (sym h) (subst Q (sym e) (let k : length names < suc (length names) = omega arith in k))
 
@@ -211,33 +202,17 @@ fewer-at term (q ∷ ps) (suc i) p e h =
 pub fewer : (term : List ℕ) (ps : List PartValue) → IsMet term ps → left (map (passed term) ps) < left ps
 fewer term ps met = fewer-at term ps met.1 met.0 met.2 met.3
 
-pub length-places_by : (lists : List (List ℕ)) (positions : List (List (List ℕ))) → length lists ≡ length positions → length (places_by lists positions) ≡ length lists
-length-places_by [] positions e = refl
-length-places_by (l ∷ lists) [] e = absurd (omega (arith, e))
-length-places_by (l ∷ lists) (p ∷ positions) e = ap suc (length-places_by lists positions (omega (arith, e)))
+pub length-postings_by : (lists : List (List ℕ)) (positions : List (List (List ℕ))) → length lists ≡ length positions → length (postings_by lists positions) ≡ length lists
+length-postings_by [] positions e = refl
+length-postings_by (l ∷ lists) [] e = absurd (omega (arith, e))
+length-postings_by (l ∷ lists) (p ∷ positions) e = ap suc (length-postings_by lists positions (omega (arith, e)))
 
-places_by-at : (lists : List (List ℕ)) (positions : List (List (List ℕ))) (i : ℕ) → length lists ≡ length positions → i < length lists →
-    get_or (places_by lists positions) i [] ≡ places_at 0 (get_or positions i []) (get_or lists i [])
-places_by-at [] positions i e within = absurd (omega (arith, within))
-places_by-at (l ∷ lists) [] i e within = absurd (omega (arith, e))
-places_by-at (l ∷ lists) (p ∷ positions) zero e within = refl
-places_by-at (l ∷ lists) (p ∷ positions) (suc i) e within = places_by-at lists positions i (omega (arith, e)) (omega (arith, within))
-
--- the next of the names that are left
-pub first-left : (names : List (List ℕ)) (at : ℕ) → at < length names → slice_get (drop at names) 0 ≡ Some (get_or names at [])
-first-left names at within = ap (λ ns. slice_get ns 0) (drop_more names at [] within)
-
-pub none-left : (names : List (List ℕ)) (at : ℕ) → length names ≤ at → slice_get (drop at names) 0 ≡ None
-none-left names at past = ap (λ ns. slice_get ns 0) (drop_all at names past)
-
--- whether a term is the next name
-pub begins-first : (term next : List ℕ) (names : List (List ℕ)) → slice_get names 0 ≡ Some next → begins term names ≡ bytes_eq next term
-begins-first term next [] h = absurd (let no : None ≡ Some next = h in cc)
-begins-first term next (n ∷ names) h = let same : n ≡ next = cc in ap (λ x. bytes_eq x term) same
-
-pub begins-none : (term : List ℕ) (names : List (List ℕ)) → slice_get names 0 ≡ None → begins term names ≡ false
-begins-none term [] h = refl
-begins-none term (n ∷ names) h = absurd (let no : Some n ≡ None = h in cc)
+postings_by-at : (lists : List (List ℕ)) (positions : List (List (List ℕ))) (i : ℕ) → length lists ≡ length positions → i < length lists →
+    get_or (postings_by lists positions) i [] ≡ postings_of (get_or lists i []) (get_or positions i [])
+postings_by-at [] positions i e within = absurd (omega (arith, within))
+postings_by-at (l ∷ lists) [] i e within = absurd (omega (arith, e))
+postings_by-at (l ∷ lists) (p ∷ positions) zero e within = refl
+postings_by-at (l ∷ lists) (p ∷ positions) (suc i) e within = postings_by-at lists positions i (omega (arith, e)) (omega (arith, within))
 
 -- where it is, one is left
 pub begins-within : (term : List ℕ) (names : List (List ℕ)) (at : ℕ) → begins term (drop at names) ≡ true → at < length names
@@ -247,33 +222,26 @@ begins-within term names at h = elim (cases_lt at (length names)) [
 ]
 
 -- what the part gives for its next name, and what is left behind it
-pub given-here : (term : List ℕ) (at : ℕ) (d : Dictionary) (bounds : Bounds) (numbers : List (Option ℕ)) → IsPartOf d bounds → begins term (drop at d.names) ≡ true →
-    given term (part_from at d numbers) ≡ moved numbers (places_at 0 (get_or (term_position_lists d.positions) at []) (get_or d.lists.items at []))
-given-here term at d bounds numbers is h =
+pub given-here : (term : List ℕ) (at : ℕ) (d : Dictionary) (numbers : List (Option ℕ)) → IsWhole d numbers → begins term (drop at d.names) ≡ true →
+    given term (part_from at d numbers) ≡ moved numbers (postings_of (get_or d.lists.items at []) (get_or (term_position_lists d.positions) at []))
+given-here term at d numbers is h =
     let within = begins-within term d.names at h in
     let lists = d.lists.items in
     let positions = term_position_lists d.positions in
     let paired : length lists ≡ length positions = sym is.listed ∙ is.positioned in
     let there : at < length lists = omega (arith, within, is.listed) in
-    ap (λ b. cond b (moved numbers (get_or (drop at (places_by lists positions)) 0 [])) []) h
-    ∙ ap (λ ps. moved numbers (get_or ps 0 [])) (drop_more (places_by lists positions) at [] (omega (arith, there, length-places_by lists positions paired)))
-    ∙ ap (moved numbers) (places_by-at lists positions at paired there)
+    ap (λ b. cond b (moved numbers (get_or (drop at (postings_by lists positions)) 0 [])) []) h
+    ∙ ap (λ ps. moved numbers (get_or ps 0 [])) (drop_more (postings_by lists positions) at [] (omega (arith, there, length-postings_by lists positions paired)))
+    ∙ ap (moved numbers) (postings_by-at lists positions at paired there)
 
-pub passed-here : (term : List ℕ) (at : ℕ) (d : Dictionary) (bounds : Bounds) (numbers : List (Option ℕ)) → IsPartOf d bounds → begins term (drop at d.names) ≡ true →
+pub passed-here : (term : List ℕ) (at : ℕ) (d : Dictionary) (numbers : List (Option ℕ)) → IsWhole d numbers → begins term (drop at d.names) ≡ true →
     passed term (part_from at d numbers) ≡ part_from (at + 1) d numbers
-passed-here term at d bounds numbers is h =
+passed-here term at d numbers is h =
     let within = begins-within term d.names at h in
     let lists = d.lists.items in
     let positions = term_position_lists d.positions in
     let paired : length lists ≡ length positions = sym is.listed ∙ is.positioned in
-    let many : at < length (places_by lists positions) = omega (arith, within, is.listed, length-places_by lists positions paired) in
-    let part : List (List ℕ) → List (List Place) → PartValue = λ ns ps. record { names = ns; places = ps; numbers = numbers } in
-    ap (λ b. cond b (part (drop 1 (drop at d.names)) (drop 1 (drop at (places_by lists positions)))) (part_from at d numbers)) h
-    ∙ ap₂ part (ap (drop 1) (drop_more d.names at [] within)) (ap (drop 1) (drop_more (places_by lists positions) at [] many))
-
--- where a term isn't its next name, it gives nothing and stays
-pub given-other : (term : List ℕ) (p : PartValue) → begins term p.names ≡ false → given term p ≡ []
-given-other term p h = ap (λ b. cond b (moved p.numbers (get_or p.places 0 [])) []) h
-
-pub passed-other : (term : List ℕ) (p : PartValue) → begins term p.names ≡ false → passed term p ≡ p
-passed-other term p h = ap (λ b. cond b (record { names = drop 1 p.names; places = drop 1 p.places; numbers = p.numbers }) p) h
+    let many : at < length (postings_by lists positions) = omega (arith, within, is.listed, length-postings_by lists positions paired) in
+    let part : List (List ℕ) → List (List Posting) → PartValue = λ ns ps. record { names = ns; postings = ps; numbers = numbers } in
+    ap (λ b. cond b (part (drop 1 (drop at d.names)) (drop 1 (drop at (postings_by lists positions)))) (part_from at d numbers)) h
+    ∙ ap₂ part (ap (drop 1) (drop_more d.names at [] within)) (ap (drop 1) (drop_more (postings_by lists positions) at [] many))

@@ -29,14 +29,14 @@ use Rattle.fts_segment.proofs.TokenLemmas.{IsPositionList-tokens}
 use Rattle.fts_segment.proofs.FieldLemmas.{holds-tokens, field_at, field_holds}
 
 -- the places of a term in a document are the positions of its tokens
-pub token_places : (q : List ℕ) (doc : ℕ) (ts : List (ℕ × List ℕ)) → places_with q (map (occurrence_at doc) ts) ≡ map (place_at doc) (positions_among q ts)
+token_places : (q : List ℕ) (doc : ℕ) (ts : List (ℕ × List ℕ)) → places_with q (map (occurrence_at doc) ts) ≡ map (place_at doc) (positions_among q ts)
 token_places q doc [] = refl
 token_places q doc (t ∷ ts) =
     let Here : Bool → Type 0 = λ b. map place_of (cond b (occurrence_at doc t ∷ filter (is_term q) (map (occurrence_at doc) ts)) (filter (is_term q) (map (occurrence_at doc) ts)))
     ≡ map (place_at doc) (map (λ (t : ℕ × List ℕ). t.0) (cond b (t ∷ filter (is_token q) ts) (filter (is_token q) ts))) in
     elim (is_token q t) as Here [ true ↦ ap (λ (ps : List Place). place_at doc t.0 ∷ ps) (token_places q doc ts) | false ↦ token_places q doc ts ]
 
-pub places_with-append : (q : List ℕ) (os ps : List OccurrenceValue) → places_with q (os ++ ps) ≡ places_with q os ++ places_with q ps
+places_with-append : (q : List ℕ) (os ps : List OccurrenceValue) → places_with q (os ++ ps) ≡ places_with q os ++ places_with q ps
 places_with-append q os ps = ap (map place_of) (filter-append (is_term q) os ps) ∙ map-append place_of (filter (is_term q) os) (filter (is_term q) ps)
 
 later_places : (q : List ℕ) (kind : Kind) (doc : ℕ) (vs : List (Option FieldValue)) → All (λ p. doc < p.doc) (places_with q (occurrences kind (doc + 1) vs))
@@ -56,17 +56,23 @@ some_token q (t ∷ ts) =
 map_filter-cons : {X Y : Type 0} (f : X → Y) (p : X → Bool) (x : X) (xs : List X) → map f (filter p (x ∷ xs)) ≡ cond (p x) (f x ∷ map f (filter p xs)) (map f (filter p xs))
 map_filter-cons f p x xs = elim (p x) as (λ b. map f (cond b (x ∷ filter p xs) (filter p xs)) ≡ cond b (f x ∷ map f (filter p xs)) (map f (filter p xs))) [ true ↦ refl | false ↦ refl ]
 
+-- the position lists of a value, and of those behind it
+pub position_lists-cons : (q : List ℕ) (kind : Kind) (doc : ℕ) (v : Option FieldValue) (vs : List (Option FieldValue)) → let rest = position_lists_with q (occurrences kind (doc + 1) vs) in
+    position_lists_with q (occurrences kind doc (v ∷ vs)) ≡ cond (list_any (is_token q) (tokens_of kind v)) (positions_among q (tokens_of kind v) ∷ rest) rest
+position_lists-cons q kind doc v vs =
+    let ns = positions_among q (tokens_of kind v) in
+    let rest = places_with q (occurrences kind (doc + 1) vs) in
+    ap position_lists_of (places_with-append q (occurrences_at kind doc v) (occurrences kind (doc + 1) vs) ∙ ap (λ ps. ps ++ rest) (token_places q doc (tokens_of kind v)))
+    ∙ position_list_first doc ns rest (later_places q kind doc vs)
+    ∙ ap (λ b. cond b (ns ∷ position_lists_of rest) (position_lists_of rest)) (some_token q (tokens_of kind v))
+
 -- the position lists of a term's occurrences are its positions in the values that have it
 pub position_lists_with-occurrences : (q : List ℕ) (kind : Kind) (doc : ℕ) (vs : List (Option FieldValue)) → position_lists_with q (occurrences kind doc vs) ≡ value_position_lists kind (values.Text q) vs
 position_lists_with-occurrences q kind doc [] = refl
 position_lists_with-occurrences q kind doc (v ∷ vs) =
-    let ns = positions_among q (tokens_of kind v) in
-    let rest = places_with q (occurrences kind (doc + 1) vs) in
     let f : Option FieldValue → List ℕ = λ v. positions_among q (tokens_of kind v) in
-    ap position_lists_of (places_with-append q (occurrences_at kind doc v) (occurrences kind (doc + 1) vs) ∙ ap (λ ps. ps ++ rest) (token_places q doc (tokens_of kind v)))
-    ∙ position_list_first doc ns rest (later_places q kind doc vs)
-    ∙ ap (λ b. cond b (ns ∷ position_lists_of rest) (position_lists_of rest)) (some_token q (tokens_of kind v) ∙ holds-tokens kind q v)
-    ∙ ap (λ rs. cond (holds kind (values.Text q) v) (ns ∷ rs) rs) (position_lists_with-occurrences q kind (doc + 1) vs)
+    position_lists-cons q kind doc v vs ∙ ap (λ b. cond b (f v ∷ position_lists_with q (occurrences kind (doc + 1) vs)) (position_lists_with q (occurrences kind (doc + 1) vs))) (holds-tokens kind q v)
+    ∙ ap (λ rs. cond (holds kind (values.Text q) v) (f v ∷ rs) rs) (position_lists_with-occurrences q kind (doc + 1) vs)
     ∙ sym (map_filter-cons f (holds kind (values.Text q)) v vs)
 
 -- so they are position lists

@@ -1,9 +1,9 @@
 -- What the live documents of sources have, source by source.
-use Rattle.std.proofs.Common.{◌≡◌, ◌≢◌, ◌+◌, ◌<◌, ◌≤◌, ◌^◌, ℕ, zero, suc, Bool, true, false, cond, List, [], ◌∷◌, ◌++◌, Option, Some, None, map, length, take, drop, get_or, count_by, flat_map, refl, sym, ap, ap₂, subst, ◌∙◌, arith, All, append_assoc}
+use Rattle.std.proofs.Common.{◌≡◌, ◌+◌, ◌<◌, ◌≤◌, ℕ, zero, suc, Bool, true, false, cond, List, [], ◌∷◌, ◌++◌, Option, Some, None, map, length, drop, get_or, count_by, replicate, refl, sym, ap, ap₂, subst, ◌∙◌, arith, All, append_assoc}
 use Rattle.std.specs.Prelude.{slice_get}
-use Rattle.std.specs.List.{AllByRecursion}
+use Rattle.std.specs.List.{AllByRecursion, list_any}
 use Rattle.std.specs.List.Sorted.{IsStrictlyIncreasing}
-use Rattle.std.proofs.lemmas.List.{append-nil, drop_all, drop_more, map-append, length-append, length-map}
+use Rattle.std.proofs.lemmas.List.{append-nil, drop_all, drop_more, get_or-map, map-append, length-append, length-map}
 use Rattle.std.proofs.lemmas.List.Elements.{All-head, All-tail, All-cons, All-nil, All-append}
 use Rattle.std.proofs.lemmas.List.Sums.{sum_by-cons}
 use Rattle.fts_model.specs.declared.schema.Field.{Field}
@@ -13,22 +13,18 @@ use Rattle.fts_model.specs.declared.operation.Stamped.{Stamped}
 use Rattle.fts_model.specs.Documents.{DocumentValue, fits, value_in_field}
 use Rattle.fts_model.specs.Schemas.{holds_numbers}
 use Rattle.fts_segment.specs.declared.dictionary.Dictionary.{Dictionary}
-use Rattle.fts_segment.specs.declared.term_groups.Place.{Place}
 use Rattle.fts_segment.specs.Contents.{where_set, content_of}
-use Rattle.fts_segment.specs.Dictionaries.{docs_in}
 use Rattle.fts_segment.specs.FieldIndexes.{AreTerms}
-use Rattle.fts_segment.specs.Occurrences.{OccurrenceValue, occurrences, occurrences_at, values_in, tokens_of, docs_with, HasFewTokens}
-use Rattle.fts_segment.specs.Positions.{places_with, position_lists_of, position_lists_with}
-use Rattle.fts_segment.specs.PositionLists.{IsPositionList}
-use Rattle.fts_segment.specs.Segments.{SegmentValue, AllFit, AreDocuments, positions_among}
-use Rattle.fts_segment.specs.Sources.{SourceValue, HasBits, live_count, contents, schema_of}
+use Rattle.fts_segment.specs.Occurrences.{occurrences, values_in, tokens_of, is_token, docs_with, HasFewTokens}
+use Rattle.fts_segment.specs.Positions.{position_lists_with}
+use Rattle.fts_segment.specs.Postings.{Posting, posting_at, documents}
+use Rattle.fts_segment.specs.Segments.{SegmentValue, AllFit, positions_among}
+use Rattle.fts_segment.specs.Sources.{SourceValue, AreOfOneSchema, HasBits, both, live_count, contents, schema_of, joined_segment}
 use Rattle.fts_segment.specs.TermPositionLists.{term_position_lists}
-use Rattle.fts_segment.specs.Parts.{PartValue, renumbered, moved, found, joined, part_from, places_by, IsSound, IsPart, AreParts, IsJoined}
+use Rattle.fts_segment.specs.Parts.{PartValue, renumbered, placed, moved, found, joined, part_from, postings_with, IsSound, IsWhole, IsPart, AreParts, IsJoined}
 use Rattle.fts_segment.proofs.HoldingLemmas.{docs_with-rise}
-use Rattle.fts_segment.proofs.MovingLemmas.{dropped_at, moved-append, moved-live, moved-dead}
-use Rattle.fts_segment.proofs.PositionListsLemmas.{place_at}
-use Rattle.fts_segment.proofs.PositionsLemmas.{token_places, places_with-append, ArePositionLists-occurrences}
-use Rattle.fts_segment.proofs.SpreadLemmas.{found-dictionary, sound-dictionary, docs_in-places, dictionary-joined}
+use Rattle.fts_segment.proofs.MovingLemmas.{dropped_at}
+use Rattle.fts_segment.proofs.PostingsLemmas.{postings-cons, paired-occurrences, docs-within, documents-postings_of, found-dictionary, sound-dictionary, dictionary-joined}
 
 -- there are as many live members as bits are set
 pub length-where_set : {X : Type 0} (xs : List X) (bits : List Bool) → length bits ≡ length xs → length (where_set xs bits) ≡ count_by (λ bit. bit) bits
@@ -74,54 +70,59 @@ few-contents kind field (s ∷ ss) h =
     subst P (sym (values_in-append field (content_of s.segment s.live) (contents ss)))
     (All-append (HasFewTokens kind) (values_in field (content_of s.segment s.live)) (values_in field (contents ss)) here (few-contents kind field ss (All-tail Q s ss h)))
 
--- the occurrences of values behind others
-occurrences-append : (kind : Kind) (doc : ℕ) (xs ys : List (Option FieldValue)) → occurrences kind doc (xs ++ ys) ≡ occurrences kind doc xs ++ occurrences kind (doc + length xs) ys
-occurrences-append kind doc [] ys = ap (λ n. occurrences kind n ys) (let same : doc ≡ doc + 0 = omega arith in same)
-occurrences-append kind doc (x ∷ xs) ys =
-    let after : doc + 1 + length xs ≡ doc + suc (length xs) = omega arith in
-    ap (λ os. occurrences_at kind doc x ++ os) (occurrences-append kind (doc + 1) xs ys ∙ ap (λ n. occurrences kind (doc + 1) xs ++ occurrences kind n ys) after)
-    ∙ sym (append_assoc (occurrences_at kind doc x) (occurrences kind (doc + 1) xs) (occurrences kind (doc + suc (length xs)) ys))
-
 get_behind : {X : Type 0} (xs : List X) (y : X) (ys : List X) → slice_get (xs ++ y ∷ ys) (length xs) ≡ Some y
 get_behind [] y ys = refl
 get_behind (x ∷ xs) y ys = get_behind xs y ys
 
--- the places in a value, and in those behind it
-places-cons : (q : List ℕ) (kind : Kind) (doc : ℕ) (v : Option FieldValue) (vs : List (Option FieldValue)) →
-    places_with q (occurrences kind doc (v ∷ vs)) ≡ map (place_at doc) (positions_among q (tokens_of kind v)) ++ places_with q (occurrences kind (doc + 1) vs)
-places-cons q kind doc v vs =
-    places_with-append q (occurrences_at kind doc v) (occurrences kind (doc + 1) vs) ∙ ap (λ ps. ps ++ places_with q (occurrences kind (doc + 1) vs)) (token_places q doc (tokens_of kind v))
+-- postings of which the first may be there
+moved-cond : (numbers : List (Option ℕ)) (b : Bool) (p : Posting) (ps : List Posting) → moved numbers (cond b (p ∷ ps) ps) ≡ cond b (placed (slice_get numbers p.doc) p ++ moved numbers ps) (moved numbers ps)
+moved-cond numbers true p ps = refl
+moved-cond numbers false p ps = refl
 
 -- one value more
-moved-step : (q : List ℕ) (kind : Kind) (ns : List (Option ℕ)) (m : Option ℕ) (ms : List (Option ℕ)) (v : Option FieldValue) (vs : List (Option FieldValue)) (rest : List Place) →
-    moved ((ns ++ m ∷ []) ++ ms) (places_with q (occurrences kind (length (ns ++ m ∷ [])) vs)) ≡ rest →
-    moved (ns ++ m ∷ ms) (places_with q (occurrences kind (length ns) (v ∷ vs))) ≡ moved (ns ++ m ∷ ms) (map (place_at (length ns)) (positions_among q (tokens_of kind v))) ++ rest
+moved-step : (q : List ℕ) (kind : Kind) (ns : List (Option ℕ)) (m : Option ℕ) (ms : List (Option ℕ)) (v : Option FieldValue) (vs : List (Option FieldValue)) (rest : List Posting) →
+    moved ((ns ++ m ∷ []) ++ ms) (postings_with q (occurrences kind (length (ns ++ m ∷ [])) vs)) ≡ rest →
+    moved (ns ++ m ∷ ms) (postings_with q (occurrences kind (length ns) (v ∷ vs)))
+    ≡ cond (list_any (is_token q) (tokens_of kind v)) (placed (Some m) (posting_at (length ns) (positions_among q (tokens_of kind v))) ++ rest) rest
 moved-step q kind ns m ms v vs rest h =
     let all = ns ++ m ∷ ms in
-    let here = map (place_at (length ns)) (positions_among q (tokens_of kind v)) in
+    let b = list_any (is_token q) (tokens_of kind v) in
+    let here = posting_at (length ns) (positions_among q (tokens_of kind v)) in
+    let others = postings_with q (occurrences kind (length ns + 1) vs) in
     let count : length (ns ++ m ∷ []) ≡ length ns + 1 = omega (arith, length-append ns (m ∷ [])) in
-    let same : moved all (places_with q (occurrences kind (length ns + 1) vs)) ≡ rest =
-    ap₂ (λ a n. moved a (places_with q (occurrences kind n vs))) (sym (append_assoc ns (m ∷ []) ms)) (sym count) ∙ h in
-    ap (moved all) (places-cons q kind (length ns) v vs) ∙ moved-append all here (places_with q (occurrences kind (length ns + 1) vs)) ∙ ap (λ ps. moved all here ++ ps) same
+    let same : moved all others ≡ rest = ap₂ (λ a n. moved a (postings_with q (occurrences kind n vs))) (sym (append_assoc ns (m ∷ []) ms)) (sym count) ∙ h in
+    ap (moved all) (postings-cons q kind (length ns) v vs) ∙ moved-cond all b here others
+    ∙ ap₂ (λ o r. cond b (placed o here ++ r) r) (get_behind ns m ms) same
 
--- the places in live documents are those in all of them, by the new numbers
-places-live : (q : List ℕ) (kind : Kind) (ns : List (Option ℕ)) (next : ℕ) (vs : List (Option FieldValue)) (bits : List Bool) → length bits ≡ length vs →
-    moved (ns ++ renumbered next bits) (places_with q (occurrences kind (length ns) vs)) ≡ places_with q (occurrences kind next (where_set vs bits))
-places-live q kind ns next [] [] e = refl
-places-live q kind ns next [] (b ∷ bits) e = absurd (omega (arith, e))
-places-live q kind ns next (v ∷ vs) [] e = absurd (omega (arith, e))
-places-live q kind ns next (v ∷ vs) (true ∷ bits) e =
-    let rest = places_with q (occurrences kind (next + 1) (where_set vs bits)) in
-    let ms = renumbered (next + 1) bits in
-    moved-step q kind ns (Some next) ms v vs rest (places-live q kind (ns ++ Some next ∷ []) (next + 1) vs bits (omega (arith, e)))
-    ∙ ap (λ ps. ps ++ rest) (moved-live (ns ++ Some next ∷ ms) (length ns) next (positions_among q (tokens_of kind v)) (get_behind ns (Some next) ms))
-    ∙ sym (places-cons q kind next v (where_set vs bits))
-places-live q kind ns next (v ∷ vs) (false ∷ bits) e =
-    let rest = places_with q (occurrences kind next (where_set vs bits)) in
-    let ms = renumbered next bits in
-    moved-step q kind ns None ms v vs rest (places-live q kind (ns ++ None ∷ []) next vs bits (omega (arith, e)))
-    ∙ ap (λ ps. ps ++ rest) (moved-dead (ns ++ None ∷ ms) (length ns) (positions_among q (tokens_of kind v))
-    (λ number is. let clash : Some None ≡ Some (Some number) = sym (get_behind ns None ms) ∙ is in cc))
+-- the postings in live documents are those in all of them, by the new numbers
+postings-live : (q : List ℕ) (kind : Kind) (ns : List (Option ℕ)) (next : ℕ) (vs : List (Option FieldValue)) (bits : List Bool) → length bits ≡ length vs →
+    moved (ns ++ renumbered next bits) (postings_with q (occurrences kind (length ns) vs)) ≡ postings_with q (occurrences kind next (where_set vs bits))
+postings-live q kind ns next [] [] e = refl
+postings-live q kind ns next [] (b ∷ bits) e = absurd (omega (arith, e))
+postings-live q kind ns next (v ∷ vs) [] e = absurd (omega (arith, e))
+postings-live q kind ns next (v ∷ vs) (true ∷ bits) e =
+    moved-step q kind ns (Some next) (renumbered (next + 1) bits) v vs (postings_with q (occurrences kind (next + 1) (where_set vs bits)))
+    (postings-live q kind (ns ++ Some next ∷ []) (next + 1) vs bits (omega (arith, e)))
+    ∙ sym (postings-cons q kind next v (where_set vs bits))
+postings-live q kind ns next (v ∷ vs) (false ∷ bits) e =
+    let rest = postings_with q (occurrences kind next (where_set vs bits)) in
+    moved-step q kind ns None (renumbered next bits) v vs rest (postings-live q kind (ns ++ None ∷ []) next vs bits (omega (arith, e)))
+    ∙ elim (list_any (is_token q) (tokens_of kind v)) as (λ b. cond b rest rest ≡ rest) [ true ↦ refl | false ↦ refl ]
+
+-- the postings in values behind others
+postings-append : (q : List ℕ) (kind : Kind) (doc : ℕ) (xs ys : List (Option FieldValue)) →
+    postings_with q (occurrences kind doc (xs ++ ys)) ≡ postings_with q (occurrences kind doc xs) ++ postings_with q (occurrences kind (doc + length xs) ys)
+postings-append q kind doc [] ys = ap (λ n. postings_with q (occurrences kind n ys)) (let same : doc ≡ doc + 0 = omega arith in same)
+postings-append q kind doc (x ∷ xs) ys =
+    let b = list_any (is_token q) (tokens_of kind x) in
+    let here = posting_at doc (positions_among q (tokens_of kind x)) in
+    let some = postings_with q (occurrences kind (doc + 1) xs) in
+    let others = postings_with q (occurrences kind (doc + suc (length xs)) ys) in
+    let after : doc + 1 + length xs ≡ doc + suc (length xs) = omega arith in
+    postings-cons q kind doc x (xs ++ ys)
+    ∙ ap (λ ps. cond b (here ∷ ps) ps) (postings-append q kind (doc + 1) xs ys ∙ ap (λ n. some ++ postings_with q (occurrences kind n ys)) after)
+    ∙ elim b as (λ b. cond b (here ∷ (some ++ others)) (some ++ others) ≡ cond b (here ∷ some) some ++ others) [ true ↦ refl | false ↦ refl ]
+    ∙ ap (λ ps. ps ++ others) (sym (postings-cons q kind doc x xs))
 
 -- the part of a source
 pub part-is : (kind : Kind) (field next : ℕ) (source : SourceValue) (dictionary : Dictionary) (numbers : List (Option ℕ)) → AreTerms kind (values_in field source.segment.documents) dictionary →
@@ -130,8 +131,26 @@ part-is kind field next source dictionary numbers terms are =
     let os = occurrences kind 0 (values_in field source.segment.documents) in
     let positions = term_position_lists dictionary.positions in record {
       sound = sound-dictionary os dictionary.names dictionary.lists.items positions numbers terms.dictionary_is;
-      places_are = found-dictionary os dictionary.names dictionary.lists.items positions terms.dictionary_is;
+      postings_are = found-dictionary os dictionary.names dictionary.lists.items positions terms.dictionary_is;
       numbers_are = are;
+    }
+
+-- each term of a dictionary has its lists
+pub terms-whole : (kind : Kind) (vs : List (Option FieldValue)) (dictionary : Dictionary) (numbers : List (Option ℕ)) → AreTerms kind vs dictionary → length numbers ≡ length vs → IsWhole dictionary numbers
+terms-whole kind vs dictionary numbers terms count =
+    let os = occurrences kind 0 vs in
+    let names = dictionary.names in
+    let d = terms.dictionary_is in
+    let list : (i : ℕ) → i < length names → get_or dictionary.lists.items i [] ≡ docs_with (get_or names i []) os =
+    λ i within. ap (λ ls. get_or ls i []) d.listed ∙ get_or-map (λ q. docs_with q os) names i [] [] within in
+    let position : (i : ℕ) → i < length names → get_or (term_position_lists dictionary.positions) i [] ≡ position_lists_with (get_or names i []) os =
+    λ i within. ap (λ ls. get_or ls i []) d.positioned ∙ get_or-map (λ q. position_lists_with q os) names i [] [] within in
+    record {
+      listed = sym (ap length d.listed ∙ length-map names (λ q. docs_with q os));
+      positioned = sym (ap length d.positioned ∙ length-map names (λ q. position_lists_with q os));
+      paired = λ i within. ap length (list i within) ∙ paired-occurrences (get_or names i []) kind 0 vs ∙ sym (ap length (position i within));
+      numbered = λ i within. let P : List ℕ → Type 0 = All (λ doc. doc < length numbers) in
+          subst P (sym (list i within)) (docs-within (get_or names i []) kind 0 (length numbers) vs (omega (arith, count)));
     }
 
 -- how many live documents a source has
@@ -157,9 +176,9 @@ AreParts-push kind field next (t ∷ ss) (q ∷ ps) s p are is =
     let P : ℕ → Type 0 = λ n. IsPart kind field n s p in
     (are.0, AreParts-push kind field (next + live_in t) ss ps s p are.1 (subst P (let same : next + live_count (t ∷ ss) ≡ next + live_in t + live_count ss = omega (arith, live_count-cons t ss) in same) is))
 
--- the places that parts have are those in the live documents of the sources
+-- the postings that parts have are those in the live documents of the sources
 parts-joined : (q : List ℕ) (kind : Kind) (field next : ℕ) (ss : List SourceValue) (ps : List PartValue) → All HasBits ss → AreParts kind field next ss ps →
-    joined ps q ≡ places_with q (occurrences kind next (values_in field (contents ss)))
+    joined ps q ≡ postings_with q (occurrences kind next (values_in field (contents ss)))
 parts-joined q kind field next [] [] bits are = refl
 parts-joined q kind field next [] (p ∷ ps) bits are = absurd are
 parts-joined q kind field next (s ∷ ss) [] bits are = absurd are
@@ -170,14 +189,13 @@ parts-joined q kind field next (s ∷ ss) (p ∷ ps) bits are =
     let live = where_set vs s.live in
     let others = values_in field (contents ss) in
     let long : length s.live ≡ length vs = here ∙ sym (length-map s.segment.documents value) in
-    let first : moved p.numbers (found p.names p.places q) ≡ places_with q (occurrences kind next live) =
-    ap₂ moved are.0.numbers_are (are.0.places_are q) ∙ places-live q kind [] next vs s.live long in
+    let first : moved p.numbers (found p.names p.postings q) ≡ postings_with q (occurrences kind next live) =
+    ap₂ moved are.0.numbers_are (are.0.postings_are q) ∙ postings-live q kind [] next vs s.live long in
     let all : values_in field (contents (s ∷ ss)) ≡ live ++ others = values_in-append field (content_of s.segment s.live) (contents ss) ∙ ap (λ ws. ws ++ others) (where_set-map value s.segment.documents s.live) in
     ap₂ (λ a b. a ++ b) first (parts-joined q kind field (next + live_in s) ss ps (All-tail HasBits s ss bits) are.1)
-    ∙ ap (λ n. places_with q (occurrences kind next live) ++ places_with q (occurrences kind (next + n) others)) (sym (length-where_set vs s.live long))
-    ∙ sym (places_with-append q (occurrences kind next live) (occurrences kind (next + length live) others))
-    ∙ ap (places_with q) (sym (occurrences-append kind next live others))
-    ∙ ap (λ ws. places_with q (occurrences kind next ws)) (sym all)
+    ∙ ap (λ n. postings_with q (occurrences kind next live) ++ postings_with q (occurrences kind (next + n) others)) (sym (length-where_set vs s.live long))
+    ∙ sym (postings-append q kind next live others)
+    ∙ ap (λ ws. postings_with q (occurrences kind next ws)) (sym all)
 
 pub sound-parts : (kind : Kind) (field next : ℕ) (ss : List SourceValue) (ps : List PartValue) → AreParts kind field next ss ps → AllByRecursion IsSound ps
 sound-parts kind field next [] [] are = tt
@@ -185,16 +203,12 @@ sound-parts kind field next [] (p ∷ ps) are = absurd are
 sound-parts kind field next (s ∷ ss) [] are = absurd are
 sound-parts kind field next (s ∷ ss) (p ∷ ps) are = (are.0.sound, sound-parts kind field (next + live_in s) ss ps are.1)
 
-pub parts-rise : (kind : Kind) (field : ℕ) (ss : List SourceValue) (ps : List PartValue) → All HasBits ss → AreParts kind field 0 ss ps → (q : List ℕ) → IsStrictlyIncreasing (docs_in (joined ps q))
+pub parts-rise : (kind : Kind) (field : ℕ) (ss : List SourceValue) (ps : List PartValue) → All HasBits ss → AreParts kind field 0 ss ps → (q : List ℕ) → IsStrictlyIncreasing (documents (joined ps q))
 parts-rise kind field ss ps bits are q =
+    let vs = values_in field (contents ss) in
+    let os = occurrences kind 0 vs in
     let P : List ℕ → Type 0 = λ ds. IsStrictlyIncreasing ds in
-    subst P (sym (ap docs_in (parts-joined q kind field 0 ss ps bits are) ∙ docs_in-places q (occurrences kind 0 (values_in field (contents ss))))) (docs_with-rise q kind 0 (values_in field (contents ss)))
-
-pub parts-positions : (kind : Kind) (field : ℕ) (ss : List SourceValue) (ps : List PartValue) → All HasBits ss → AreParts kind field 0 ss ps →
-    All (λ s. All (HasFewTokens kind) (values_in field s.segment.documents)) ss → (q : List ℕ) → All IsPositionList (position_lists_of (joined ps q))
-parts-positions kind field ss ps bits are few q =
-    let P : List Place → Type 0 = λ places. All IsPositionList (position_lists_of places) in
-    subst P (sym (parts-joined q kind field 0 ss ps bits are)) (ArePositionLists-occurrences q kind (values_in field (contents ss)) (few-contents kind field ss few))
+    subst P (sym (ap documents (parts-joined q kind field 0 ss ps bits are) ∙ documents-postings_of (docs_with q os) (position_lists_with q os) (paired-occurrences q kind 0 vs))) (docs_with-rise q kind 0 vs)
 
 -- the dictionary that parts make is that of the live documents
 pub terms-joined : (kind : Kind) (field : ℕ) (ss : List SourceValue) (ps : List PartValue) (dictionary : Dictionary) → holds_numbers kind ≡ false → All HasBits ss → AreParts kind field 0 ss ps →
@@ -203,7 +217,7 @@ pub terms-joined : (kind : Kind) (field : ℕ) (ss : List SourceValue) (ps : Lis
 terms-joined kind field ss ps dictionary kind_is bits are few j = record {
   kind_is = kind_is;
   few = few-contents kind field ss few;
-  dictionary_is = dictionary-joined (occurrences kind 0 (values_in field (contents ss))) ps dictionary.names dictionary.lists.items (term_position_lists dictionary.positions)
+  dictionary_is = dictionary-joined kind (values_in field (contents ss)) ps dictionary.names dictionary.lists.items (term_position_lists dictionary.positions)
       (λ q. parts-joined q kind field 0 ss ps bits are) j;
 }
 
@@ -259,14 +273,46 @@ fit-contents schema (s ∷ ss) same h =
     let here : All P s.segment.documents = subst (λ fields. AllFit fields s.segment.documents) (All-head R s ss same) (All-head Q s ss h) in
     All-append P (content_of s.segment s.live) (contents ss) (All-where_set P s.segment.documents s.live here) (fit-contents schema ss (All-tail R s ss same) (All-tail Q s ss h))
 
--- the schema of sources is that of the first
-pub schema_of-first : (ss : List SourceValue) (s : SourceValue) → 0 < length ss → s ≡ get_or ss 0 s → s.segment.schema ≡ schema_of ss
-schema_of-first [] s some is = absurd (omega (arith, some))
-schema_of-first (t ∷ ss) s some is = ap (λ (u : SourceValue). u.segment.schema) is
+-- all of them where all bits are set
+where_set-all : {X : Type 0} (xs : List X) → where_set xs (replicate (length xs) true) ≡ xs
+where_set-all [] = refl
+where_set-all (x ∷ xs) = ap (λ ys. x ∷ ys) (where_set-all xs)
 
--- each term of a dictionary has its lists
-pub terms-listed : (kind : Kind) (vs : List (Option FieldValue)) (dictionary : Dictionary) → AreTerms kind vs dictionary → length dictionary.names ≡ length dictionary.lists.items
-terms-listed kind vs dictionary terms = sym (ap length terms.dictionary_is.listed ∙ length-map dictionary.names (λ q. docs_with q (occurrences kind 0 vs)))
+all_set : (n : ℕ) → count_by (λ bit. bit) (replicate n true) ≡ n
+all_set zero = refl
+all_set (suc n) = omega (arith, all_set n, sum_by-cons (λ (bit : Bool). cond bit 1 0) true (replicate n true))
 
-pub terms-positioned : (kind : Kind) (vs : List (Option FieldValue)) (dictionary : Dictionary) → AreTerms kind vs dictionary → length dictionary.names ≡ length (term_position_lists dictionary.positions)
-terms-positioned kind vs dictionary terms = sym (ap length terms.dictionary_is.positioned ∙ length-map dictionary.names (λ q. position_lists_with q (occurrences kind 0 vs)))
+-- the segment of sources that were joined before, as a source
+abbrev pub joined_source : List SourceValue → SourceValue
+joined_source ss = record { segment = joined_segment ss; live = replicate (length (contents ss)) true }
+
+-- two sources by their segments and bits
+pub same_both : (s t : SourceValue) (first second : SegmentValue) (first_live second_live : List Bool) → first ≡ s.segment → first_live ≡ s.live → second ≡ t.segment → second_live ≡ t.live →
+    both first first_live second second_live ≡ s ∷ t ∷ []
+same_both s t first second first_live second_live first_is first_bits second_is second_bits =
+    ap₂ (λ a b. both a b second second_live) first_is first_bits ∙ ap₂ (λ a b. both s.segment s.live a b) second_is second_bits
+
+-- sources that are joined in turn
+pub joined_in_turn : (s : SourceValue) (ss : List SourceValue) → joined_segment (s ∷ joined_source ss ∷ []) ≡ joined_segment (s ∷ ss)
+joined_in_turn s ss =
+    let all : contents (joined_source ss ∷ []) ≡ contents ss = append-nil (where_set (contents ss) (replicate (length (contents ss)) true)) ∙ where_set-all (contents ss) in
+    let whole : List (Stamped DocumentValue) → SegmentValue = λ ds. record { schema = s.segment.schema; documents = content_of s.segment s.live ++ ds } in
+    ap whole all
+
+pub few_in_turn : (s : SourceValue) (ss : List SourceValue) → live_count (s ∷ joined_source ss ∷ []) ≤ live_count (s ∷ ss)
+few_in_turn s ss =
+    omega (arith, live_count-cons s (joined_source ss ∷ []), live_count-cons (joined_source ss) [], live_count-cons s ss, all_set (length (contents ss)), length-contents ss)
+
+-- the others have the same schema as the first
+pub schemas_behind : (s : SourceValue) (ss : List SourceValue) → 0 < length ss → AreOfOneSchema (s ∷ ss) → AreOfOneSchema ss × (schema_of ss ≡ s.segment.schema)
+schemas_behind s [] some h = absurd (omega (arith, some))
+schemas_behind s (t ∷ ss) some h =
+    let Same : List Field → SourceValue → Type 0 = λ schema u. u.segment.schema ≡ schema in
+    let rest : All (Same s.segment.schema) (t ∷ ss) = All-tail (Same s.segment.schema) s (t ∷ ss) h in
+    let first : t.segment.schema ≡ s.segment.schema = All-head (Same s.segment.schema) t ss rest in
+    (subst (λ schema. All (Same schema) (t ∷ ss)) (sym first) rest, first)
+
+pub schemas_in_turn : (s : SourceValue) (ss : List SourceValue) → 0 < length ss → AreOfOneSchema (s ∷ ss) → AreOfOneSchema (s ∷ joined_source ss ∷ [])
+schemas_in_turn s ss some h =
+    let Same : SourceValue → Type 0 = λ u. u.segment.schema ≡ s.segment.schema in
+    All-cons Same s (joined_source ss ∷ []) refl (All-cons Same (joined_source ss) [] (schemas_behind s ss some h).1 (All-nil Same))

@@ -1,5 +1,5 @@
 -- Sorted names, each once.
-use Rattle.std.proofs.Common.{◌≡◌, ◌≢◌, ◌+◌, ◌<◌, ◌≤◌, ℕ, zero, suc, Bool, true, false, cond, List, [], ◌∷◌, ◌++◌, Some, map, length, get_or, set, take, refl, sym, ap, ap₂, subst, ◌∙◌, inl, inr, arith, All, Bor, bytes_eq, length-set, length-append, Ordering, Less, Equal, Greater}
+use Rattle.std.proofs.Common.{◌≡◌, ◌≢◌, ◌+◌, ◌<◌, ◌≤◌, ℕ, zero, suc, true, false, cond, List, [], ◌∷◌, ◌++◌, Some, map, length, get_or, set, take, refl, sym, ap, ap₂, subst, ◌∙◌, inl, inr, arith, All, Bor, bytes_eq, length-set, length-append, Ordering, Less, Equal, Greater}
 use Rattle.std.specs.Prelude.{slice_get}
 use Rattle.std.specs.Ordering.{nat_cmp, is_lt, ordering_then}
 use Rattle.std.specs.Cmp.{IsTotalOrder, nat_cmp_total}

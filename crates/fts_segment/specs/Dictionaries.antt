@@ -24,10 +24,10 @@ pub record IsDictionaryOf (os : List OccurrenceValue) (names lists : List (List 
   pub occur : All (λ q. occurs os q ≡ true) names
   pub whole : (q : List ℕ) → occurs os q ≡ true → Contains names q
 
--- one element, unless there is no place
-abbrev pub unless_none : {X : Type 0} → List Place → X → List X
+-- one element, unless a list is empty
+abbrev pub unless_none : {X Y : Type 0} → List Y → X → List X
 unless_none [] x = []
-unless_none (p ∷ ps) x = x ∷ []
+unless_none (y ∷ ys) x = x ∷ []
 
 -- the names that have a place, of names with their places
 abbrev pub names_listed : List (List Place) → List (List ℕ) → List (List ℕ)

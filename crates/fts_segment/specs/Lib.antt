@@ -20,5 +20,7 @@ pub mod PositionLogs
 pub mod TermPositionLists
 pub mod ListIds
 pub mod PositionsLeft
+pub mod UnpackedLists
+pub mod Postings
 pub mod Sources
 pub mod Parts

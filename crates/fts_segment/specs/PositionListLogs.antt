@@ -1,10 +1,10 @@
 -- Lists of positions that are to be packed.
 use Rattle.std.specs.Prelude.{ℕ, List}
 use Rattle.fts_segment.specs.declared.position_lists.PositionListLog.{PositionListLog}
-use Rattle.fts_segment.specs.PositionLists.{position_lists_at, ArePacked}
+use Rattle.fts_segment.specs.PositionLists.{position_lists_at, AreLogged}
 
 abbrev pub logged_position_lists : PositionListLog → List (List ℕ)
 logged_position_lists log = position_lists_at log.counts.items log.gaps.items
 
 abbrev pub IsPositionListLog : PositionListLog → Type 0
-IsPositionListLog log = ArePacked log.counts.items log.starts.items log.gaps.items
+IsPositionListLog log = AreLogged log.counts.items log.gaps.items

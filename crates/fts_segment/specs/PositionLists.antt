@@ -14,7 +14,13 @@ abbrev pub position_lists_at : List ℕ → List ℕ → List (List ℕ)
 position_lists_at [] gaps = []
 position_lists_at (count ∷ counts) gaps = documents_at 0 (take count gaps) ∷ position_lists_at counts (drop count gaps)
 
--- the differences are those of the lists, and the first of each 128 lists begins at its start
+-- the differences are those of the lists
+pub record AreLogged (counts gaps : List ℕ) : Type 0 where
+  pub whole : sum counts ≡ length gaps
+  pub few : length gaps < 2 ^ 64
+  pub fit : All (λ list. All (λ p. p < 2 ^ 32) list) (position_lists_at counts gaps)
+
+-- the same, and the first of each 128 lists begins at its start
 pub record ArePacked (counts starts gaps : List ℕ) : Type 0 where
   pub whole : sum counts ≡ length gaps
   pub few : length gaps < 2 ^ 64

@@ -8,7 +8,7 @@ ghost use Rattle.fts_model.specs.declared.operation.Stamped.{Stamped};
 ghost use Rattle.fts_segment.specs.Contents.{content_of};
 ghost use Rattle.fts_segment.specs.FieldIndexes.{AreIndexes};
 ghost use Rattle.fts_segment.specs.Segments.{AllFit, AreDocuments};
-ghost use Rattle.fts_segment.specs.Sources.{AreOfOneSchema, contents, joined_segment, live_count, schema_of};
+ghost use Rattle.fts_segment.specs.Sources.{AreOfOneSchema, both, contents, joined_segment, live_count, schema_of};
 
 use crate::field_index::FieldIndex;
 use crate::segment::{Segment, Stored};
@@ -112,6 +112,61 @@ fn joined(alloc: Global, sources: &[Source<'_>]) -> Result<Segment, AllocError>
     }
 }
 
+// Whether sources have so many documents at most.
+fn are_few(sources: &[Source<'_>], most: usize) -> bool {
+    let mut room = most;
+    for source in sources {
+        let docs = source.segment().docs();
+        if docs > room {
+            return false;
+        }
+        room -= docs;
+    }
+    true
+}
+
+// One segment of the live documents of two.
+fn joined_both(
+    alloc: Global,
+    first: &Segment,
+    first_live: &Bits,
+    second: &Segment,
+    second_live: &Bits,
+) -> Result<Segment, AllocError>
+    requires first_bits { length first_live.now ≡ length first.now.documents }
+    requires second_bits { length second_live.now ≡ length second.now.documents }
+    requires schemas { AreOfOneSchema (both first.now first_live.now second.now second_live.now) }
+    requires few { live_count (both first.now first_live.now second.now second_live.now) ≤ most_merged }
+    ensures { IfOk result (λ segment. segment
+        ≡ joined_segment (both first.now first_live.now second.now second_live.now)) }
+{
+    let sources = [
+        Source::new(first, first_live),
+        Source::new(second, second_live),
+    ];
+    let segment = joined(alloc, &sources)?;
+    Ok(segment)
+}
+
+// One segment of the live documents of a source and of others behind it, where the others are joined before.
+fn joined_in_turn(
+    alloc: Global,
+    first: &Source<'_>,
+    others: &[Source<'_>],
+) -> Result<Segment, AllocError>
+    requires some { 0 < length others.now }
+    requires schemas { AreOfOneSchema (first.now ∷ others.now) }
+    requires few { live_count (first.now ∷ others.now) ≤ most_merged }
+    ensures { IfOk result (λ segment. segment ≡ joined_segment (first.now ∷ others.now)) }
+{
+    let second = joined(alloc, others)?;
+    let Ok(live) = Bits::all_set(alloc, second.docs()) else {
+        return Err(AllocError);
+    };
+    let segment = joined_both(alloc, first.segment(), first.live(), &second, &live)?;
+    Ok(segment)
+}
+
 /// One segment of the live documents of sources, of which there is at least one and all have one schema. The documents
 /// stand in the order of the sources, and those of a source in the order of their numbers. They are handles, and the
 /// terms in them are joined of those of the sources: no text is read again.
@@ -122,6 +177,14 @@ pub fn join(alloc: Global, sources: &[Source<'_>]) -> Result<Segment, Refusal>
     ensures ok { IfOk result (λ segment. segment ≡ joined_segment sources.now) }
     ensures memory { IfErr result (λ e. e ≡ Memory) }
 {
+    // The terms of a large segment are compared with those of one more, and not with those of each small one.
+    if let [first, others @ ..] = sources
+        && others.len() > 1
+        && are_few(others, first.segment().docs() / 8)
+    {
+        let segment = joined_in_turn(alloc, first, others)?;
+        return Ok(segment);
+    }
     let segment = joined(alloc, sources)?;
     Ok(segment)
 }

@@ -11,7 +11,7 @@ ghost use Rattle.fts_segment.specs.Sources.{contents, live_count, HasBits};
 use crate::dictionary::Dictionary;
 use crate::joining::join_parts;
 use crate::part::Part;
-use crate::renumbering::renumber;
+use crate::renumbering::NewNumbers;
 use crate::source::Source;
 use fts_model::Kind;
 use std::alloc::{AllocError, Global};
@@ -32,7 +32,7 @@ fn part_of<'a>(
     ensures bits { HasBits source.now }
 {
     let terms = source.segment().dictionary(field);
-    let numbers = renumber(alloc, next as u32, source.live())?;
+    let numbers = NewNumbers::new(alloc, next as u32, source.live())?;
     Ok(Part::new(terms, numbers))
 }
 

@@ -1,17 +1,18 @@
-// Joins dictionaries: the terms of all in order, each with its places, one dictionary behind the other.
-ghost use Rattle.std.specs.Prelude.{◌≡◌, ◌++◌, ℕ, List, [], None, All, IfOk, OnOk, map, flat_map, option_map};
+// Joins dictionaries: the terms of all in order, each with its postings, one dictionary behind the other.
+ghost use Rattle.std.specs.Prelude.{◌≡◌, ◌++◌, ℕ, List, [], None, IfOk, OnOk, map, flat_map, option_map};
 ghost use Rattle.std.specs.List.{AllByRecursion};
 ghost use Rattle.std.specs.List.Sorted.{IsStrictlyIncreasing};
-ghost use Rattle.fts_segment.specs.Dictionaries.{docs_in};
+ghost use Rattle.fts_segment.specs.Dictionaries.{unless_none};
 ghost use Rattle.fts_segment.specs.Parts.{given, passed, least_of, lesser, joined, IsSound, IsJoined};
-ghost use Rattle.fts_segment.specs.Positions.{position_lists_of};
-ghost use Rattle.fts_segment.specs.PositionLists.{IsPositionList};
+ghost use Rattle.fts_segment.specs.PositionListLogs.{IsPositionListLog, logged_position_lists};
+ghost use Rattle.fts_segment.specs.PositionLogs.{IsPositionLog, logged_term_position_lists};
+ghost use Rattle.fts_segment.specs.Postings.{documents, position_lists};
 ghost use Rattle.fts_segment.specs.TermPositionLists.{term_position_lists};
 
 use crate::dictionary::Dictionary;
 use crate::part::Part;
-use crate::postings_writer::{PostingsWriter, put};
-use crate::term_groups::Place;
+use crate::position_lists::PositionListLog;
+use crate::postings_writer::PostingsWriter;
 use std::alloc::{AllocError, Global};
 
 // The first of two terms in order.
@@ -43,33 +44,68 @@ fn least<'a>(parts: &[Part<'a>]) -> Option<&'a [u8]>
     least
 }
 
-// Passes a term in each part, and puts its places behind others.
-fn pass_all(parts: &mut [Part<'_>], term: &[u8], out: &mut Vec<Place>) -> Result<(), AllocError>
+// Passes a term in each part, and puts their postings behind others.
+fn pass_all(
+    parts: &mut [Part<'_>],
+    term: &[u8],
+    docs: &mut Vec<u32>,
+    log: &mut PositionListLog,
+) -> Result<(), AllocError>
+    requires { IsPositionListLog log.old }
+    ensures is { OnOk result (IsPositionListLog log.new) }
     ensures parts { OnOk result (parts.new ≡ map (passed term.now) parts.old) }
-    ensures out { OnOk result
-        (out.new.items ≡ out.old.items ++ flat_map (given term.now) parts.old) }
+    ensures docs { OnOk result
+        (docs.new.items ≡ docs.old.items ++ documents (flat_map (given term.now) parts.old)) }
+    ensures lists { OnOk result (logged_position_lists log.new
+        ≡ logged_position_lists log.old ++ position_lists (flat_map (given term.now) parts.old)) }
 {
     for part in parts {
-        part.pass(term, out)?;
+        part.pass(term, docs, log)?;
     }
     Ok(())
 }
 
-/// The dictionary of parts: the terms that have a place left, in order, each with those that the parts have for it.
+// Puts the next term of parts behind those of a writer, unless no posting of it is left. `docs` is room for its
+// documents.
+fn join_term(
+    writer: &mut PostingsWriter,
+    alloc: Global,
+    docs: &mut Vec<u32>,
+    parts: &mut [Part<'_>],
+    term: &[u8],
+) -> Result<(), AllocError>
+    requires rise { IsStrictlyIncreasing (documents (flat_map (given term.now) parts.old)) }
+    requires is { IsPositionLog writer.old.positions }
+    ensures parts { OnOk result (parts.new ≡ map (passed term.now) parts.old) }
+    ensures names { OnOk result (writer.new.names
+        ≡ writer.old.names ++ unless_none (flat_map (given term.now) parts.old) term.now) }
+    ensures lists { OnOk result (writer.new.lists.items ≡ writer.old.lists.items
+        ++ unless_none (flat_map (given term.now) parts.old) (documents (flat_map (given term.now) parts.old))) }
+    ensures positions { OnOk result (logged_term_position_lists writer.new.positions
+        ≡ logged_term_position_lists writer.old.positions
+        ++ unless_none (flat_map (given term.now) parts.old) (position_lists (flat_map (given term.now) parts.old))) }
+    ensures is { OnOk result (IsPositionLog writer.new.positions) }
+{
+    docs.clear();
+    pass_all(parts, term, docs, &mut writer.positions.lists)?;
+    if docs.is_empty() {
+        return Ok(());
+    }
+    writer.end_term(alloc, term, docs)?;
+    Ok(())
+}
+
+/// The dictionary of parts: the terms that have a posting left, in order, each with those that the parts have for it.
 pub(crate) fn join_parts(alloc: Global, parts: &mut [Part<'_>]) -> Result<Dictionary, AllocError>
     requires sound { AllByRecursion IsSound parts.old }
-    requires rise { (q : List ℕ) → IsStrictlyIncreasing (docs_in (joined parts.old q)) }
-    requires positions { (q : List ℕ) → All IsPositionList (position_lists_of (joined parts.old q)) }
+    requires rise { (q : List ℕ) → IsStrictlyIncreasing (documents (joined parts.old q)) }
     ensures { IfOk result (λ dictionary. IsJoined parts.old
         dictionary.names dictionary.lists.items (term_position_lists dictionary.positions)) }
 {
     let mut writer = PostingsWriter::new(alloc);
-    let mut places = Vec::new(alloc);
-    let mut room = Vec::new(alloc);
+    let mut docs = Vec::new(alloc);
     while let Some(term) = least(parts) {
-        places.clear();
-        pass_all(parts, term, &mut places)?;
-        put(&mut writer, alloc, &mut room, term, &places)?;
+        join_term(&mut writer, alloc, &mut docs, parts, term)?;
     }
     let dictionary = writer.finish(alloc)?;
     Ok(dictionary)

@@ -43,6 +43,8 @@ mod term_groups;
 mod term_log;
 mod term_order;
 mod term_positions;
+mod unpacked;
+mod unpacked_lists;
 
 pub use builder::Builder;
 pub use joined::join;

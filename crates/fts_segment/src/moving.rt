@@ -1,111 +1,161 @@
-// Moves the places of a term to documents of other numbers.
-ghost use Rattle.std.specs.Prelude.{◌≡◌, ◌+◌, ◌<◌, ◌^◌, ◌++◌, ◌∷◌, [], length, map, OnOk, slice_get, slice_index_or};
-ghost use Rattle.fts_segment.specs.Parts.{moved, number_in, places_at, places_in};
-ghost use Rattle.fts_segment.specs.PositionListBounds.{AreBounds};
-ghost use Rattle.fts_segment.specs.PositionsLeft.{positions_left};
+// Moves the postings of a term to documents of other numbers.
+ghost use Rattle.std.specs.Prelude.{◌≡◌, ◌+◌, ◌-◌, ◌<◌, ◌≤◌, ◌^◌, ◌++◌, [], All, OnOk, drop, length, map};
+ghost use Rattle.std.specs.Prelude.{slice_get, slice_index_or};
+ghost use Rattle.fts_segment.specs.Parts.{moved, placed};
+ghost use Rattle.fts_segment.specs.PositionListLogs.{IsPositionListLog, logged_position_lists};
+ghost use Rattle.fts_segment.specs.Postings.{documents, position_lists, posting_at, postings_of};
 ghost use Rattle.fts_segment.specs.TermPositionLists.{position_lists_in};
+ghost use Rattle.fts_segment.specs.UnpackedLists.{lists_in};
 
-use crate::position_lists::Bounds;
-use crate::positions::Positions;
-use crate::term_groups::Place;
+use crate::position_lists::PositionListLog;
+use crate::renumbering::NewNumbers;
 use crate::term_positions::TermPositionLists;
+use crate::unpacked_lists::UnpackedLists;
 use fts_pack::{BLOCK, Blocks, List};
 use std::alloc::AllocError;
 
-// Puts the places at positions in a document behind others.
-fn push_places(positions: Positions<'_>, doc: u32, out: &mut Vec<Place>) -> Result<(), AllocError>
-    ensures { OnOk result (out.new.items ≡ out.old.items
-        ++ map (λ position. record { doc = doc; position = position }) (positions_left positions.entry)) }
+// Puts documents behind others, with a number added to each.
+fn push_shifted(docs: &mut Vec<u32>, first: u32, block: &[u32]) -> Result<(), AllocError>
+    requires { All (λ doc. first + doc < 2 ^ 32) block.now }
+    ensures { OnOk result (docs.new.items ≡ docs.old.items ++ map (λ doc. first + doc) block.now) }
 {
-    let mut positions = positions;
-    while let Some(position) = positions.next() {
-        out.push(Place { doc, position })?;
+    for doc in block {
+        docs.push(first + *doc)?;
     }
     Ok(())
 }
 
-// The new number of a document, if it has one.
-fn number_in(numbers: &[Option<u32>], doc: u32) -> Option<u32>
-    ensures { result ≡ number_in (slice_get numbers.now doc) }
+// Puts the documents of a list behind others, with a number added to each.
+fn shift(list: &List, first: u32, docs: &mut Vec<u32>) -> Result<(), AllocError>
+    requires { All (λ doc. first + doc < 2 ^ 32) list.now }
+    ensures { OnOk result (docs.new.items ≡ docs.old.items ++ map (λ doc. first + doc) list.now) }
 {
-    match numbers.get(doc as usize) {
-        Some(Some(number)) => Some(*number),
-        Some(None) | None => None,
+    let mut source = list.source();
+    let mut documents = [0; BLOCK];
+    for block in 0..source.blocks() {
+        let count = source.open(block, &mut documents);
+        push_shifted(docs, first, &documents[..count])?;
     }
+    Ok(())
 }
 
-// Puts the places of a posting behind others, if its document has a new number.
+// Moves a posting whose positions are the list of this number, if its document has a new number.
 fn move_posting(
     doc: u32,
-    posting: usize,
-    positions: TermPositionLists<'_>,
-    bounds: &mut Bounds,
-    numbers: &[Option<u32>],
-    out: &mut Vec<Place>,
+    list: usize,
+    numbers: &NewNumbers,
+    lists: &mut UnpackedLists<'_>,
+    docs: &mut Vec<u32>,
+    log: &mut PositionListLog,
 ) -> Result<(), AllocError>
-    requires bounds { AreBounds positions.lists.now bounds.old }
-    ensures bounds { AreBounds positions.entry.lists.now bounds.new }
-    ensures out { OnOk result (out.new.items
-        ≡ out.old.items ++ places_in (number_in (slice_get numbers.now doc))
-        (slice_index_or (position_lists_in positions.entry) posting [])) }
+    requires is { IsPositionListLog log.old }
+    requires within { list < length (lists_in lists.old) }
+    ensures same { lists_in lists.new ≡ lists_in lists.old }
+    ensures is { OnOk result (IsPositionListLog log.new) }
+    ensures docs { let posting = posting_at doc (slice_index_or (lists_in lists.old) list []) in
+        OnOk result (docs.new.items ≡ docs.old.items ++ documents (placed (slice_get numbers.now doc) posting)) }
+    ensures lists { let posting = posting_at doc (slice_index_or (lists_in lists.old) list []) in
+        OnOk result (logged_position_lists log.new
+        ≡ logged_position_lists log.old ++ position_lists (placed (slice_get numbers.now doc) posting)) }
 {
-    match number_in(numbers, doc) {
+    match numbers.get(doc) {
         Some(number) => {
-            push_places(positions.get(posting, bounds), number, out)?;
+            docs.push(number)?;
+            lists.move_lists(list, list + 1, log)?;
             Ok(())
         }
         None => Ok(()),
     }
 }
 
-// Puts the places of some postings behind others, of which the first has the number `first`.
-fn move_postings(
-    docs: &[u32],
-    first: usize,
-    positions: TermPositionLists<'_>,
-    bounds: &mut Bounds,
-    numbers: &[Option<u32>],
-    out: &mut Vec<Place>,
+// Moves some postings of which the first has the list of the number `start`.
+fn move_some(
+    block: &[u32],
+    start: usize,
+    numbers: &NewNumbers,
+    lists: &mut UnpackedLists<'_>,
+    docs: &mut Vec<u32>,
+    log: &mut PositionListLog,
 ) -> Result<(), AllocError>
-    requires bounds { AreBounds positions.lists.now bounds.old }
-    requires few { first + length docs.now < 2 ^ 64 }
-    ensures bounds { AreBounds positions.entry.lists.now bounds.new }
-    ensures out { OnOk result (out.new.items ≡ out.old.items ++ moved numbers.now
-        (places_at first (position_lists_in positions.entry) docs.now)) }
+    requires is { IsPositionListLog log.old }
+    requires within { length block.now ≤ length (lists_in lists.old) - start }
+    ensures same { lists_in lists.new ≡ lists_in lists.old }
+    ensures is { OnOk result (IsPositionListLog log.new) }
+    ensures docs { OnOk result (docs.new.items ≡ docs.old.items
+        ++ documents (moved numbers.now (postings_of block.now (drop start (lists_in lists.old))))) }
+    ensures lists { OnOk result (logged_position_lists log.new ≡ logged_position_lists log.old
+        ++ position_lists (moved numbers.now (postings_of block.now (drop start (lists_in lists.old))))) }
 {
-    for (index, doc) in docs.iter().enumerate() {
-        move_posting(*doc, first + index, positions, bounds, numbers, out)?;
+    for (index, doc) in block.iter().enumerate() {
+        move_posting(*doc, start + index, numbers, lists, docs, log)?;
     }
     Ok(())
 }
 
-/// Puts the places of a term behind others, by the new numbers of its documents.
-pub(crate) fn move_places(
+// Moves the postings of a list of which the first has the list of positions of the number `start`.
+fn move_each(
     list: &List,
-    positions: TermPositionLists<'_>,
-    bounds: &mut Bounds,
-    numbers: &[Option<u32>],
-    out: &mut Vec<Place>,
+    start: usize,
+    numbers: &NewNumbers,
+    lists: &mut UnpackedLists<'_>,
+    docs: &mut Vec<u32>,
+    log: &mut PositionListLog,
 ) -> Result<(), AllocError>
-    requires bounds { AreBounds positions.lists.now bounds.old }
-    ensures bounds { AreBounds positions.entry.lists.now bounds.new }
-    ensures out { OnOk result (out.new.items ≡ out.old.items ++ moved numbers.now
-        (places_at 0 (position_lists_in positions.entry) list.now)) }
+    requires is { IsPositionListLog log.old }
+    requires within { length list.now ≤ length (lists_in lists.old) - start }
+    ensures same { lists_in lists.new ≡ lists_in lists.old }
+    ensures is { OnOk result (IsPositionListLog log.new) }
+    ensures docs { OnOk result (docs.new.items ≡ docs.old.items
+        ++ documents (moved numbers.now (postings_of list.now (drop start (lists_in lists.old))))) }
+    ensures lists { OnOk result (logged_position_lists log.new ≡ logged_position_lists log.old
+        ++ position_lists (moved numbers.now (postings_of list.now (drop start (lists_in lists.old))))) }
 {
-    // Shows the proof that indexes of postings fit.
-    let _ = list.len();
     let mut source = list.source();
-    let mut docs = [0; BLOCK];
+    let mut documents = [0; BLOCK];
     for block in 0..source.blocks() {
-        let count = source.open(block, &mut docs);
-        move_postings(
-            &docs[..count],
-            block * BLOCK,
-            positions,
-            bounds,
+        let count = source.open(block, &mut documents);
+        move_some(
+            &documents[..count],
+            start + block * BLOCK,
             numbers,
-            out,
+            lists,
+            docs,
+            log,
         )?;
     }
     Ok(())
+}
+
+/// Puts the postings of a term behind others, by the new numbers of their documents: these behind `docs`, and their
+/// positions behind those of a log. Where no document is dead, positions are moved as a whole.
+pub(crate) fn move_postings(
+    list: &List,
+    positions: TermPositionLists<'_>,
+    numbers: &NewNumbers,
+    lists: &mut UnpackedLists<'_>,
+    docs: &mut Vec<u32>,
+    log: &mut PositionListLog,
+) -> Result<(), AllocError>
+    requires is { IsPositionListLog log.old }
+    requires lists { lists_in lists.old ≡ positions.lists.now }
+    requires paired { length list.now ≡ length (position_lists_in positions) }
+    requires numbered { All (λ doc. doc < length numbers.now) list.now }
+    ensures same { lists_in lists.new ≡ lists_in lists.old }
+    ensures is { OnOk result (IsPositionListLog log.new) }
+    ensures docs { OnOk result (docs.new.items ≡ docs.old.items
+        ++ documents (moved numbers.now (postings_of list.now (position_lists_in positions.entry)))) }
+    ensures lists { OnOk result (logged_position_lists log.new ≡ logged_position_lists log.old
+        ++ position_lists (moved numbers.now (postings_of list.now (position_lists_in positions.entry)))) }
+{
+    match numbers.first() {
+        Some(first) => {
+            shift(list, first, docs)?;
+            lists.move_lists(positions.start, positions.end, log)?;
+            Ok(())
+        }
+        None => {
+            move_each(list, positions.start, numbers, lists, docs, log)?;
+            Ok(())
+        }
+    }
 }

@@ -1,23 +1,25 @@
 // A dictionary that is passed term by term, as it is joined with others.
-ghost use Rattle.std.specs.Prelude.{◌≡◌, ◌++◌, length, option_map, slice_get, OnOk};
-ghost use Rattle.fts_segment.specs.Parts.{begins, given, passed, part_from};
-ghost use Rattle.fts_segment.specs.TermPositionLists.{term_position_lists};
+ghost use Rattle.std.specs.Prelude.{◌≡◌, ◌++◌, option_map, slice_get, OnOk};
+ghost use Rattle.fts_segment.specs.Parts.{begins, given, passed, part_from, IsWhole};
+ghost use Rattle.fts_segment.specs.PositionListLogs.{IsPositionListLog, logged_position_lists};
+ghost use Rattle.fts_segment.specs.Postings.{documents, position_lists};
 
 use crate::dictionary::Dictionary;
-use crate::moving::move_places;
-use crate::position_lists::Bounds;
-use crate::term_groups::Place;
+use crate::moving::move_postings;
+use crate::position_lists::PositionListLog;
+use crate::renumbering::NewNumbers;
+use crate::unpacked_lists::UnpackedLists;
 use std::alloc::AllocError;
 use std::marker::Model;
 
 /// What is left of a dictionary, with new numbers of its documents. Contracts see the terms that are left with their
-/// places, and the numbers.
+/// postings, and the numbers.
 #[derive(Drop)]
 pub(crate) struct Part<'a> {
     dictionary: &'a Dictionary,
-    numbers: Vec<Option<u32>>,
+    numbers: NewNumbers,
     at: usize,
-    bounds: Bounds,
+    lists: UnpackedLists<'a>,
 }
 
 impl<'a> Model for Part<'a> {
@@ -25,24 +27,22 @@ impl<'a> Model for Part<'a> {
 
     ghost Value = { PartValue };
 
-    ghost view = { λ p. part_from p.at p.dictionary.now p.numbers.items };
+    ghost view = { λ p. part_from p.at p.dictionary.now p.numbers };
 
-    ghost invariant = { λ p. IsPartOf p.dictionary.now p.bounds };
+    ghost invariant = { λ p. IsPartOf p.dictionary.now p.numbers p.lists };
 }
 
 impl<'a> Part<'a> {
     /// A whole dictionary.
-    pub(crate) fn new(dictionary: &'a Dictionary, numbers: Vec<Option<u32>>) -> Part<'a>
-        requires listed { length dictionary.now.names ≡ length dictionary.now.lists.items }
-        requires positioned { length dictionary.now.names
-            ≡ length (term_position_lists dictionary.now.positions) }
-        ensures { result ≡ part_from 0 dictionary.now numbers.items }
+    pub(crate) fn new(dictionary: &'a Dictionary, numbers: NewNumbers) -> Part<'a>
+        requires { IsWhole dictionary.now numbers }
+        ensures { result ≡ part_from 0 dictionary.now numbers }
     {
         Part {
             dictionary,
             numbers,
             at: 0,
-            bounds: Bounds::new(),
+            lists: dictionary.positions.lists.unpacked(),
         }
     }
 
@@ -67,15 +67,26 @@ impl<'a> Part<'a> {
         }
     }
 
-    /// Passes a term, where it is the next one, and puts its places behind others.
-    pub(crate) fn pass(&mut self, term: &[u8], out: &mut Vec<Place>) -> Result<(), AllocError>
+    /// Passes a term, where it is the next one, and puts its postings behind others: their documents behind `docs`, and
+    /// their positions behind those of a log.
+    pub(crate) fn pass(
+        &mut self,
+        term: &[u8],
+        docs: &mut Vec<u32>,
+        log: &mut PositionListLog,
+    ) -> Result<(), AllocError>
+        requires { IsPositionListLog log.old }
+        ensures is { OnOk result (IsPositionListLog log.new) }
         ensures part { OnOk result (self.new ≡ passed term.now self.old) }
-        ensures out { OnOk result (out.new.items ≡ out.old.items ++ given term.now self.old) }
+        ensures docs { OnOk result
+            (docs.new.items ≡ docs.old.items ++ documents (given term.now self.old)) }
+        ensures lists { OnOk result (logged_position_lists log.new
+            ≡ logged_position_lists log.old ++ position_lists (given term.now self.old)) }
     {
         if self.is_next(term) {
             let list = &self.dictionary.lists[self.at];
             let positions = self.dictionary.positions.get(self.at);
-            move_places(list, positions, &mut self.bounds, &self.numbers, out)?;
+            move_postings(list, positions, &self.numbers, &mut self.lists, docs, log)?;
             self.at += 1;
         }
         Ok(())

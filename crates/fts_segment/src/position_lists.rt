@@ -1,13 +1,15 @@
 // Lists of positions, packed: how many each has, and of each the first position and then differences less 1.
-ghost use Rattle.std.specs.Prelude.{◌≡◌, ◌+◌, ◌<◌, ◌≤◌, ◌++◌, ◌∷◌, ◌^◌, ◌%◌, ◌==◌, [], ℕ, IfOk, OnOk, Some, cond};
+ghost use Rattle.std.specs.Prelude.{◌≡◌, ◌+◌, ◌*◌, ◌<◌, ◌≤◌, ◌++◌, ◌∷◌, ◌^◌, [], ℕ, IfOk, OnOk, Some};
 ghost use Rattle.std.specs.Prelude.{length, slice_index, slice_index_or, sum, take};
 ghost use Rattle.fts_pack.specs.Documents.{block_count};
 ghost use Rattle.fts_segment.specs.PositionLists.{IsPositionList};
 ghost use Rattle.fts_segment.specs.PositionListBounds.{AreBounds};
 ghost use Rattle.fts_segment.specs.PositionListLogs.{IsPositionListLog, logged_position_lists};
 ghost use Rattle.fts_segment.specs.PositionsLeft.{positions_left};
+ghost use Rattle.fts_segment.specs.UnpackedLists.{lists_in};
 
 use crate::positions::Positions;
+use crate::unpacked_lists::UnpackedLists;
 use fts_pack::{BLOCK, Numbers, push_gaps};
 use std::alloc::{AllocError, Global};
 use std::marker::Model;
@@ -49,11 +51,19 @@ impl PositionLists {
         let Ok(gaps) = Numbers::build(alloc, &log.gaps) else {
             return Err(AllocError);
         };
+        let starts = starts_of(alloc, &log.counts)?;
         Ok(PositionLists {
             counts,
-            starts: log.starts,
+            starts,
             gaps,
         })
+    }
+
+    /// The lists, as they are moved to a log.
+    pub(crate) fn unpacked(&self) -> UnpackedLists<'_>
+        ensures { lists_in result ≡ self.now }
+    {
+        UnpackedLists::new(&self.counts, &self.gaps)
     }
 
     /// The list of this number, and no positions where there is none.
@@ -126,11 +136,41 @@ impl Bounds {
     }
 }
 
+/// How many positions lists of these counts have.
+pub(crate) fn total(counts: &[u32]) -> usize
+    requires { sum counts.now < 2 ^ 64 }
+    ensures { result ≡ sum counts.now }
+{
+    let mut total = 0;
+    for count in counts {
+        total += *count as usize;
+    }
+    total
+}
+
+// Where the positions of the first of each 128 lists begin.
+fn starts_of(alloc: Global, counts: &[u32]) -> Result<Vec<usize>, AllocError>
+    requires { sum counts.now < 2 ^ 64 }
+    ensures many { IfOk result (λ starts. length starts.items ≡ block_count (length counts.now)) }
+    ensures starts { IfOk result (λ starts. (block : ℕ) → block < length starts.items
+        → slice_index starts.items block ≡ sum (take (block * 128) counts.now)) }
+{
+    let blocks = counts.len().div_ceil(BLOCK);
+    let mut starts = Vec::with_capacity(alloc, blocks)?;
+    let mut start = 0;
+    for block in 0..blocks {
+        starts.push(start)?;
+        let from = block * BLOCK;
+        let end = counts.len().min(from + BLOCK);
+        start += total(&counts[from..end]);
+    }
+    Ok(starts)
+}
+
 /// Lists of positions as they come, as they are to be packed.
 #[derive(Drop)]
 pub(crate) struct PositionListLog {
     pub(crate) counts: Vec<u32>,
-    pub(crate) starts: Vec<usize>,
     pub(crate) gaps: Vec<u32>,
 }
 
@@ -146,7 +186,6 @@ impl PositionListLog {
     {
         PositionListLog {
             counts: Vec::new(alloc),
-            starts: Vec::new(alloc),
             gaps: Vec::new(alloc),
         }
     }
@@ -166,20 +205,8 @@ impl PositionListLog {
         ensures pushed { OnOk result (logged_position_lists self.new
             ≡ logged_position_lists self.old ++ list.now ∷ []) }
     {
-        push_start(&mut self.starts, self.counts.len(), self.gaps.len())?;
         push_gaps(&mut self.gaps, 0, list)?;
         self.counts.push(list.len() as u32)?;
         Ok(())
     }
-}
-
-// Keeps where the positions of the next list begin, if it is the first of 128.
-fn push_start(starts: &mut Vec<usize>, lists: usize, start: usize) -> Result<(), AllocError>
-    ensures { OnOk result (starts.new.items
-        ≡ starts.old.items ++ cond (lists % 128 == 0) (start ∷ []) []) }
-{
-    if lists % BLOCK == 0 {
-        starts.push(start)?;
-    }
-    Ok(())
 }

@@ -10,14 +10,13 @@ use crate::dictionary::Dictionary;
 use crate::names::Names;
 use crate::term_groups::{Place, TermGroups};
 use crate::term_positions::{PositionLog, TermPositions};
-use fts_pack::List;
 use std::alloc::{AllocError, Global};
 
 /// Terms with their lists, and their positions as they are to be packed.
 #[derive(Drop)]
 pub(crate) struct PostingsWriter {
     pub(crate) names: Names,
-    pub(crate) lists: Vec<List>,
+    pub(crate) lists: Vec<fts_pack::List>,
     pub(crate) positions: PositionLog,
 }
 
@@ -34,12 +33,14 @@ pub(crate) fn set_docs(docs: &mut Vec<u32>, places: &[Place]) -> Result<(), Allo
 }
 
 impl PostingsWriter {
-    ghost use Rattle.std.specs.Prelude.{◌≡◌, ◌++◌, ◌∷◌, [], All, IfOk, OnOk};
+    ghost use Rattle.std.specs.Prelude.{◌≡◌, ◌++◌, ◌∷◌, [], ℕ, List, All, IfOk, OnOk, length};
     ghost use Rattle.std.specs.List.Sorted.{IsStrictlyIncreasing};
     ghost use Rattle.fts_segment.specs.Dictionaries.{docs_in};
     ghost use Rattle.fts_segment.specs.Positions.{position_lists_of};
     ghost use Rattle.fts_segment.specs.PositionLists.{IsPositionList};
-    ghost use Rattle.fts_segment.specs.PositionLogs.{IsPositionLog, logged_term_position_lists};
+    ghost use Rattle.fts_base.specs.Pieces.{pieces, AreEnds};
+    ghost use Rattle.fts_segment.specs.PositionListLogs.{IsPositionListLog, logged_position_lists};
+    ghost use Rattle.fts_segment.specs.PositionLogs.{HasTerm, IsPositionLog, logged_term_position_lists};
     ghost use Rattle.fts_segment.specs.TermPositionLists.{term_position_lists};
 
     /// No term.
@@ -75,12 +76,37 @@ impl PostingsWriter {
         ensures is { OnOk result (IsPositionLog self.new.positions) }
     {
         set_docs(room, places)?;
-        let Ok(list) = List::build(alloc, room) else {
+        let Ok(list) = fts_pack::List::build(alloc, room) else {
             return Err(AllocError);
         };
         self.names.push(name)?;
         self.lists.push(list)?;
         self.positions.push(room, places)
+    }
+
+    /// Puts a term behind the others, that has these documents and whose positions were put behind those of the others.
+    pub(crate) fn end_term(
+        &mut self,
+        alloc: Global,
+        name: &[u8],
+        docs: &[u32],
+    ) -> Result<(), AllocError>
+        requires rise { IsStrictlyIncreasing docs.now }
+        requires is { IsPositionListLog self.old.positions.lists }
+        ensures names { OnOk result (self.new.names ≡ self.old.names ++ name.now ∷ []) }
+        ensures lists { OnOk result (self.new.lists.items ≡ self.old.lists.items ++ docs.now ∷ []) }
+        ensures positions { (before more : List (List ℕ))
+            → AreEnds 0 self.old.positions.ends.items (length before)
+            → logged_position_lists self.old.positions.lists ≡ before ++ more
+            → OnOk result (HasTerm self.new.positions (pieces 0 before self.old.positions.ends.items) more) }
+    {
+        let Ok(list) = fts_pack::List::build(alloc, docs) else {
+            return Err(AllocError);
+        };
+        self.names.push(name)?;
+        self.lists.push(list)?;
+        self.positions.end_term()?;
+        Ok(())
     }
 
     /// The dictionary of the terms, with their positions packed.

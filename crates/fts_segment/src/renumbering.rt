@@ -1,17 +1,74 @@
 // New numbers of the documents of a segment of whose documents some are live.
-ghost use Rattle.std.specs.Prelude.{◌≡◌, ◌+◌, ◌<◌, ◌^◌, ◌++◌, ◌∷◌, [], true, count_by, IfOk, OnOk, Some, None};
-ghost use Rattle.std.specs.Prelude.{if◌then◌else◌};
-ghost use Rattle.fts_segment.specs.Parts.{renumbered};
+ghost use Rattle.std.specs.Prelude.{◌≡◌, ◌+◌, ◌<◌, ◌^◌, ◌++◌, ◌∷◌, [], true, count_by, IfOk, IfSome, OnOk, Some, None};
+ghost use Rattle.std.specs.Prelude.{if◌then◌else◌, slice_get};
+ghost use Rattle.fts_segment.specs.Parts.{AreInARow, number_in, renumbered};
 
 use fts_bits::Bits;
 use std::alloc::{AllocError, Global};
+use std::marker::Model;
 
-/// The new number of each document, where the first live one gets the number `first`; a dead one has none.
-pub(crate) fn renumber(
-    alloc: Global,
-    first: u32,
-    live: &Bits,
-) -> Result<Vec<Option<u32>>, AllocError>
+/// New numbers of documents, of which a dead one has none. Contracts see the list of these.
+#[derive(Drop)]
+pub(crate) struct NewNumbers {
+    numbers: Vec<Option<u32>>,
+    /// The first number, where no document is dead: they are in a row then.
+    first: Option<u32>,
+}
+
+impl Model for NewNumbers {
+    ghost use Rattle.std.specs.Prelude.{IfSome, List, Option, ℕ};
+    ghost use Rattle.fts_segment.specs.Parts.{AreInARow};
+
+    ghost Value = { List (Option ℕ) };
+
+    ghost view = { λ n. n.numbers.items };
+
+    ghost invariant = { λ n. IfSome n.first (AreInARow n.numbers.items) };
+}
+
+impl NewNumbers {
+    /// The new number of each document, where the first live one gets the number `first`.
+    pub(crate) fn new(alloc: Global, first: u32, live: &Bits) -> Result<NewNumbers, AllocError>
+        requires { first + count_by (λ bit. bit) live.now < 2 ^ 32 }
+        ensures { IfOk result (λ numbers. numbers ≡ renumbered first live.now) }
+    {
+        let numbers = renumber(alloc, first, live)?;
+        let first = first_in_a_row(first, live);
+        Ok(NewNumbers { numbers, first })
+    }
+
+    /// The new number of a document, if it has one.
+    pub(crate) fn get(&self, doc: u32) -> Option<u32>
+        ensures { result ≡ number_in (slice_get self.now doc) }
+    {
+        match self.numbers.get(doc as usize) {
+            Some(Some(number)) => Some(*number),
+            Some(None) | None => None,
+        }
+    }
+
+    /// The number of the first document, where none is dead.
+    pub(crate) fn first(&self) -> Option<u32>
+        ensures { IfSome result (AreInARow self.now) }
+    {
+        self.first
+    }
+}
+
+// The first number, where all documents are live.
+fn first_in_a_row(first: u32, live: &Bits) -> Option<u32>
+    requires { first + count_by (λ bit. bit) live.now < 2 ^ 32 }
+    ensures { IfSome result (AreInARow (renumbered first live.now)) }
+{
+    if live.count_ones() == live.len() {
+        Some(first)
+    } else {
+        None
+    }
+}
+
+// The new number of each document, where the first live one gets the number `first`; a dead one has none.
+fn renumber(alloc: Global, first: u32, live: &Bits) -> Result<Vec<Option<u32>>, AllocError>
     requires { first + count_by (λ bit. bit) live.now < 2 ^ 32 }
     ensures { IfOk result (λ numbers. numbers.items ≡ renumbered first live.now) }
 {

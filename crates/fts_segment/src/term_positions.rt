@@ -84,10 +84,12 @@ pub(crate) struct PositionLog {
 }
 
 impl PositionLog {
-    ghost use Rattle.std.specs.Prelude.{◌≡◌, ◌++◌, ◌∷◌, [], All, OnOk};
+    ghost use Rattle.std.specs.Prelude.{◌≡◌, ◌++◌, ◌∷◌, [], ℕ, List, All, OnOk, length};
     ghost use Rattle.fts_segment.specs.Positions.{position_lists_of};
     ghost use Rattle.fts_segment.specs.PositionLists.{IsPositionList};
-    ghost use Rattle.fts_segment.specs.PositionLogs.{IsPositionLog, logged_term_position_lists};
+    ghost use Rattle.fts_base.specs.Pieces.{pieces, AreEnds};
+    ghost use Rattle.fts_segment.specs.PositionListLogs.{IsPositionListLog, logged_position_lists};
+    ghost use Rattle.fts_segment.specs.PositionLogs.{HasTerm, IsPositionLog, logged_term_position_lists};
 
     /// Of no term.
     pub(crate) fn new(alloc: Global) -> PositionLog
@@ -109,6 +111,17 @@ impl PositionLog {
             ≡ logged_term_position_lists self.old ++ position_lists_of places.now ∷ []) }
     {
         push_position_lists(&mut self.lists, list, places)?;
+        self.end_term()?;
+        Ok(())
+    }
+
+    /// Ends a term, whose positions are the lists that were put behind those of the terms before.
+    pub(crate) fn end_term(&mut self) -> Result<(), AllocError>
+        requires { IsPositionListLog self.old.lists }
+        ensures { (before more : List (List ℕ)) → AreEnds 0 self.old.ends.items (length before)
+            → logged_position_lists self.old.lists ≡ before ++ more
+            → OnOk result (HasTerm self.new (pieces 0 before self.old.ends.items) more) }
+    {
         self.ends.push(self.lists.len())?;
         Ok(())
     }

@@ -1,10 +1,13 @@
 -- What a session answers, against what a script does.
-use Rattle.std.specs.Prelude.{◌≡◌, ℕ, ◌+◌, ◌≤◌, ◌⊎◌, Option, MatchOption, Result, Ok, Err}
+use Rattle.std.specs.Prelude.{◌≡◌, ℕ, ◌+◌, ◌^◌, ◌≤◌, ◌⊎◌, ◌++◌, List, length, Option, MatchOption}
+use Rattle.std.specs.Prelude.{Result, Ok, Err, OnOk, OnErr}
 use Rattle.serde_json.specs.View.{view}
 use Rattle.fts_base.specs.declared.refusal.Refusal.{Refusal}
 use Rattle.fts_base.specs.declared.refusal.Refusal.TheVariants.{Memory}
+use Rattle.fts_command.specs.Commands.{longest}
 use Rattle.fts_steps.specs.Indexes.{Index}
 use Rattle.fts_session.specs.Replies.{Outcome}
+use Rattle.fts_session.specs.Outputs.{SessionValue}
 use Rattle.fts_session.specs.declared.reply.Reply.{Reply}
 
 -- What was answered, and what an index came to, is the outcome that was wanted; at a refusal the index is as it was,
@@ -20,3 +23,13 @@ ChangesAtMost changes n index = MatchOption index (Unit {0}) (λ engine. changes
 -- each bound before is one after, with one more
 abbrev pub ChangesOnce : {E : Type 0} → (E → ℕ) → Option E → Option E → Type 0
 ChangesOnce changes old new = (n : ℕ) → ChangesAtMost changes n old → ChangesAtMost changes (n + 1) new
+
+-- a line that can be answered: its number has room, and it isn't longer than a line may be
+pub record IsAnswerable (s : SessionValue) (line : List ℕ) : Type 0 where
+  pub line_number_fits : s.number ≤ 2 ^ 61
+  pub fits_line : length line ≤ longest
+
+-- A call put these bytes behind those that were there, or none where it failed.
+pub record Appends {X E : Type 0} (result : Result X E) (old new bytes : List ℕ) : Type 0 where
+  pub ok : OnOk result (new ≡ old ++ bytes)
+  pub err : OnErr result (new ≡ old)

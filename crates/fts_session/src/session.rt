@@ -1,11 +1,10 @@
 // A script line by line: what it has come to, and its replies.
-ghost use Rattle.std.specs.Prelude.{◌≡◌, ◌+◌, ◌^◌, ◌≤◌, ◌++◌, false, IfOk, OnOk, OnErr, length, string_bytes};
+ghost use Rattle.std.specs.Prelude.{◌≡◌, ◌+◌, ◌^◌, ◌≤◌, false, IfOk, OnOk, OnErr, string_bytes};
 ghost use Rattle.fts_session.specs.Text.{is_blank};
-ghost use Rattle.fts_command.specs.Commands.{longest};
 ghost use Rattle.fts_session.specs.Finds.{at_commit, reply_to_search};
 ghost use Rattle.fts_session.specs.Outputs.{start, after_line, reply_to};
 ghost use Rattle.fts_session.specs.KeptLines.{TooLong, after_kept, reply_to_kept};
-ghost use Rattle.fts_session.specs.Sessions.{ChangesAtMost};
+ghost use Rattle.fts_session.specs.Sessions.{Appends, ChangesAtMost, IsAnswerable};
 
 use crate::commands::{answer_find, answer_whole};
 use crate::reply::Reply;
@@ -66,12 +65,9 @@ impl<E: Engine> Session<E> {
     ) -> Result<(), AllocError>
     where
         E: EngineOver<R>,
-        requires line_number_fits { self.old.number ≤ 2 ^ 61 }
-        requires fits_line { length line.now ≤ longest }
-        ensures reply { OnOk result
-            (string_bytes out.new ≡ string_bytes out.old ++ reply_to self.old line.now) }
+        requires { IsAnswerable self.old line.now }
+        ensures reply { Appends result (string_bytes out.old) (string_bytes out.new) (reply_to self.old line.now) }
         ensures script { OnOk result (self.new ≡ after_line self.old line.now) }
-        ensures err { OnErr result (string_bytes out.new ≡ string_bytes out.old) }
         ensures kept { OnErr result (self.new ≡ self.old) }
         ensures not_blank { OnErr result (is_blank line.now ≡ false) }
         ensures lines_counted { self.new.number ≤ self.old.number + 1 }
@@ -96,10 +92,9 @@ impl<E: Engine> Session<E> {
         out: &mut String,
     ) -> Result<(), AllocError>
         requires line_number_fits { self.old.number ≤ 2 ^ 61 }
-        ensures reply { OnOk result (string_bytes out.new
-            ≡ string_bytes out.old ++ reply_to_kept self.old (TooLong blank)) }
+        ensures reply { Appends result (string_bytes out.old) (string_bytes out.new)
+            (reply_to_kept self.old (TooLong blank)) }
         ensures script { OnOk result (self.new ≡ after_kept self.old (TooLong blank)) }
-        ensures err { OnErr result (string_bytes out.new ≡ string_bytes out.old) }
         ensures kept { OnErr result (self.new ≡ self.old) }
         ensures not_blank { OnErr result (blank ≡ false) }
         ensures lines_counted { self.new.number ≤ self.old.number + 1 }
@@ -122,12 +117,10 @@ impl<E: Engine> Session<E> {
     ) -> Result<(), AllocError>
     where
         E: EngineOver<R>,
-        requires line_number_fits { self.old.number ≤ 2 ^ 61 }
-        requires fits_line { length line.now ≤ longest }
-        ensures reply { OnOk result (string_bytes out.new
-            ≡ string_bytes out.old ++ reply_to_search self.old line.now) }
+        requires { IsAnswerable self.old line.now }
         ensures same { self.new ≡ self.old }
-        ensures err { OnErr result (string_bytes out.new ≡ string_bytes out.old) }
+        ensures reply { Appends result (string_bytes out.old) (string_bytes out.new)
+            (reply_to_search self.old line.now) }
     {
         answer_find(rt, &mut self.index, self.number + 1, line, out)
     }

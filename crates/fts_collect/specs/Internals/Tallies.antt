@@ -1,6 +1,6 @@
 -- How hits are counted by their numbers in a column.
-use Rattle.std.specs.Prelude.{◌≡◌, ℕ, ◌+◌, ◌^◌, ◌<◌, ◌≤◌, nat_lt, nat_eq, List, [], ◌∷◌, Option, None, if◌then◌else◌}
-use Rattle.std.specs.Prelude.{length, map, slice_index_or, fold, All, IfSome}
+use Rattle.std.specs.Prelude.{◌≡◌, ℕ, ◌+◌, ◌^◌, ◌<◌, ◌≤◌, nat_lt, List, [], ◌∷◌, Option, None, if◌then◌else◌}
+use Rattle.std.specs.Prelude.{length, slice_index_or, fold, All, IfSome}
 use Rattle.std.specs.List.{filter_map}
 use Rattle.std.specs.Ordering.{nat_cmp}
 use Rattle.fts_model.specs.declared.schema.Kind.{Kind}
@@ -11,7 +11,6 @@ use Rattle.fts_model.specs.Answers.{count_one}
 use Rattle.fts_collect.specs.declared.tally.Tally.{Tally}
 use Rattle.fts_collect.specs.declared.tally.Tally.TheVariants.{Counts, Numbers}
 use Rattle.fts_bits.specs.Signed.{i64_of}
-use Rattle.itertools.specs.List.{dedup_with_count}
 
 -- the number that a column of this kind keeps as this one
 abbrev pub number_at : Kind → ℕ → Number
@@ -31,10 +30,6 @@ abbrev pub counts_from : ℕ → List ℕ → List (ℕ × ℕ)
 counts_from x [] = []
 counts_from x (count ∷ counts) =
     if nat_lt 0 count then (x, count) ∷ counts_from (x + 1) counts else counts_from (x + 1) counts
-
--- the counts of numbers in order: each run of one number
-abbrev pub counts_of_sorted : List ℕ → List (ℕ × ℕ)
-counts_of_sorted numbers = map (λ same. (same.1, same.0)) (dedup_with_count nat_eq numbers)
 
 -- the counts of numbers, each counted as it comes
 abbrev pub counts_of : List ℕ → List (ℕ × ℕ)

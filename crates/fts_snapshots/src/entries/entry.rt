@@ -7,13 +7,19 @@ use std::alloc::{AllocError, Global};
 use std::marker::Model;
 use std::sync::Arc;
 
-/// A segment with its number and a bit for each of its documents, which is set where the document is live. A copy
-/// shares both.
+/// A segment with its number and a bit for each of its documents, which is set where the document is live. A copy is
+/// one handle more on all of it.
 #[derive(Drop)]
 pub struct Entry {
+    shared: Arc<Shared>,
+}
+
+/// What all copies of an entry share.
+#[derive(Drop)]
+struct Shared {
     id: u64,
     segment: Segment,
-    live: Arc<Bits>,
+    live: Bits,
 }
 
 impl Model for Entry {
@@ -22,9 +28,17 @@ impl Model for Entry {
 
     ghost Value = { EntryValue };
 
-    ghost view = { λ e. record { id = e.id; segment = e.segment; live = arc_value e.live } };
+    ghost view = { λ e. record {
+      id = (arc_value e.shared).id;
+      segment = (arc_value e.shared).segment;
+      live = (arc_value e.shared).live;
+    } };
 
-    ghost invariant = { λ e. IsEntry (record { id = e.id; segment = e.segment; live = arc_value e.live }) };
+    ghost invariant = { λ e. IsEntry (record {
+      id = (arc_value e.shared).id;
+      segment = (arc_value e.shared).segment;
+      live = (arc_value e.shared).live;
+    }) };
 }
 
 /// How large a segment of a snapshot is.
@@ -55,15 +69,15 @@ impl Entry {
         requires { IsEntry (record { id = id; segment = segment; live = live }) }
         ensures { IfOk result (λ entry. entry ≡ record { id = id; segment = segment; live = live }) }
     {
-        let live = Arc::new(alloc, live)?;
-        Ok(Entry { id, segment, live })
+        let shared = Arc::new(alloc, Shared { id, segment, live })?;
+        Ok(Entry { shared })
     }
 
     /// The number of the segment.
     pub fn id(&self) -> u64
         ensures { result ≡ self.now.id }
     {
-        self.id
+        self.shared.id
     }
 
     /// The segment.
@@ -71,7 +85,7 @@ impl Entry {
         ensures segment { result.now ≡ self.now.segment }
         ensures bits { IsEntry self.now }
     {
-        &self.segment
+        &self.shared.segment
     }
 
     /// The bits of its documents.
@@ -79,7 +93,7 @@ impl Entry {
         ensures live { result.now ≡ self.now.live }
         ensures bits { IsEntry self.now }
     {
-        &self.live
+        &self.shared.live
     }
 
     /// How many documents are live.
@@ -87,7 +101,7 @@ impl Entry {
         ensures count { result ≡ live_count self.now }
         ensures few { result ≤ most_merged }
     {
-        self.live.count_ones()
+        self.live().count_ones()
     }
 
     /// Whether a document is live.
@@ -102,7 +116,8 @@ impl Entry {
     pub fn is_live(&self, document: usize) -> bool
         ensures { result ≡ is_set self.now.live document }
     {
-        document < self.live.len() && self.live.get(document)
+        let live = self.live();
+        document < live.len() && live.get(document)
     }
 
     /// How large the segment is.
@@ -110,9 +125,9 @@ impl Entry {
         ensures { result ≡ info_of self.now }
     {
         SegmentInfo {
-            id: self.id,
-            docs: self.segment.docs(),
-            live: self.live.count_ones(),
+            id: self.id(),
+            docs: self.segment().docs(),
+            live: self.live_count(),
         }
     }
 }
@@ -122,9 +137,7 @@ impl Clone for Entry {
 
     fn clone(&self) -> Result<Self, AllocError> {
         Ok(Entry {
-            id: self.id,
-            segment: self.segment.clone()?,
-            live: Arc::try_clone(&self.live)?,
+            shared: Arc::try_clone(&self.shared)?,
         })
     }
 }

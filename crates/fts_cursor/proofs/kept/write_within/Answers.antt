@@ -3,7 +3,7 @@ use Rattle.std.proofs.Common.{◌+◌, ◌-◌, ◌++◌, length, min, refl, ap,
 use Rattle.std.proofs.lemmas.List.{length-append}
 use Rattle.fts_postings.specs.Windows.{marked}
 use Rattle.fts_postings.proofs.MarksLemmas.{length-marked}
-use Rattle.fts_cursor.proofs.WithinLemmas.{AreMarks, AreMarks-of, marked_inside, two_words}
+use Rattle.fts_cursor.proofs.WithinLemmas.{AreMarks-of, marked_inside, two_words}
 use Rattle.fts_cursor.proofs.kept.write_within.Goals as goal
 
 pub write-count-requires-clause-few : goal.write-count-requires-clause-few

@@ -1,7 +1,7 @@
 -- A range goes over its column, or over the documents where it has no bounds.
-use Rattle.std.proofs.Common.{◌≡◌, ◌-◌, ◌||◌, length, ap, ap₂, sym, ◌∙◌, arith}
+use Rattle.std.proofs.Common.{◌≡◌, ◌-◌, length, ap, sym, ◌∙◌, arith}
 use Rattle.fts_cursor.specs.Ranges.{is_bounded}
-use Rattle.fts_cursor.specs.Scans.{has_value, has_within}
+use Rattle.fts_cursor.specs.Scans.{has_value}
 use Rattle.fts_postings.specs.Windows.{passing}
 use Rattle.fts_cursor.proofs.RangeLemmas.{not_true, open_hits}
 use Rattle.fts_cursor.proofs.range.of_range.Goals as goal

@@ -1,31 +1,20 @@
-use Rattle.std.proofs.Common.{◌<◌, ◌≤◌, ℕ, List, ◌++◌, ◌∷◌, [], length, take, fold, sym, ap, ◌∙◌, arith, length-take}
-use Rattle.std.specs.Option.{option_to_list}
-use Rattle.std.proofs.lemmas.List.{take_more}
+use Rattle.std.proofs.Common.{◌≡◌, ◌∙◌, ℕ, List, [], IfOk, fold, refl, ap, subst, rules}
+use Rattle.std.specs.Ordering.{is_lt}
+use Rattle.std.proofs.lemmas.List.Sorted.{ranks_by}
+use Rattle.std.proofs.lemmas.Fn.{always_returns_same}
 use Rattle.fts_model.specs.declared.value.GroupValue.{GroupValue}
-use Rattle.fts_model.specs.declared.operation.Stamped.{Stamped}
-use Rattle.fts_model.specs.Documents.{DocumentValue}
-use Rattle.fts_model.specs.Answers.{groups, count_one, group_cmp, group_in}
-use Rattle.fts_scan.specs.Scans.{hits_counted}
-use Rattle.fts_scan.proofs.AnswersSteps.{groups-more, hits_counted-groups}
+use Rattle.fts_model.specs.Answers.{count_one, group_cmp}
+use Rattle.fts_scan.specs.Scans.{is_one_group}
+use Rattle.fts_scan.proofs.AnswersOrder.{group_order}
+use Rattle.fts_scan.proofs.Runs.{runs-sorted}
 use Rattle.fts_scan.proofs.answers.groups.Goals as goal
 
-pub count_hit-requires : goal.count_hit-requires
-count_hit-requires c =
-    let hits = c.args.hits.now in
-    let i = c.loop-hit.hit-index in
-    let few : hits_counted c.loop-hit.groups.items ≤ length (take i hits) = omega (arith, ap hits_counted c.loop-hit.invariant, hits_counted-groups c.args.field (take i hits)) in
-    omega (arith, length-take i hits)
-
-pub loop-hit-preserved : goal.loop-hit-preserved
-loop-hit-preserved c =
-    let hits = c.args.hits.now in
-    let i = c.loop-hit.hit-index in
-    let hit = c.hit-item.result in
-    let within : i < length hits = omega arith in
-    let behind = λ (x : Stamped DocumentValue). groups c.args.field (take i hits ++ x ∷ []) in
-    let counted = λ (gs : List (GroupValue × ℕ)). fold (count_one group_cmp) gs (option_to_list (group_in hit.value c.args.field)) in
-    c.in_ok-count_hit.ensures
-    ∙ ap counted c.loop-hit.invariant
-    ∙ sym (groups-more c.args.field (take i hits) hit)
-    ∙ ap behind c.hit-item.is
-    ∙ ap (groups c.args.field) (sym (take_more hits i hit within))
+pub returns : goal.returns
+returns c =
+    let sorted = c.sort_unstable_by.new.self.items in
+    let up = c.sort_unstable_by.ensures.sorted (λ a b. is_lt (group_cmp a b)) (ranks_by group_order.total (λ (v : GroupValue). v)) (always_returns_same _ _ _ (λ a r g k. search rules)) in
+    let P : List (GroupValue × ℕ) → Type 0 = λ counts. IfOk c.counts_of_sorted.result (λ found. found.items ≡ counts) in
+    subst P
+    (runs-sorted group_order is_one_group (λ x y. refl) c.in_ok-values.values.items sorted c.sort_unstable_by.ensures.permutation up
+    ∙ ap (fold (count_one group_cmp) []) c.in_ok-values.ensures)
+    c.counts_of_sorted.ensures

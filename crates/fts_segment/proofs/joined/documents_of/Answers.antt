@@ -1,4 +1,4 @@
-use Rattle.std.proofs.Common.{◌≡◌, ◌≤◌, All, length, subst, arith, ◌∙◌, sym, ap, append-nil, drop, ◌++◌}
+use Rattle.std.proofs.Common.{◌≤◌, All, length, subst, arith, ◌∙◌, sym, ap, append-nil, ◌++◌}
 use Rattle.std.proofs.lemmas.List.{drop_all, take_all}
 use Rattle.std.proofs.lemmas.List.Elements.{All-more}
 use Rattle.fts_model.specs.Documents.{IsDocument}

@@ -1,5 +1,5 @@
 -- The index of one field more stands behind the others.
-use Rattle.std.proofs.Common.{◌≡◌, ◌+◌, Some, All, sym, subst, ap, ◌∙◌}
+use Rattle.std.proofs.Common.{◌≡◌, ◌+◌, Some, sym, subst, ap, ◌∙◌}
 use Rattle.std.specs.Prelude.{slice_get}
 use Rattle.std.proofs.lemmas.List.Elements.{All-weaker}
 use Rattle.fts_model.specs.declared.schema.Kind.{Kind}

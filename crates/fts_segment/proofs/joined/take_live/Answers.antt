@@ -1,4 +1,4 @@
-use Rattle.std.proofs.Common.{◌≡◌, ◌<◌, ◌++◌, Some, ap, sym, ◌∙◌, arith, length}
+use Rattle.std.proofs.Common.{◌≡◌, ◌<◌, ◌++◌, Some, ap, ◌∙◌, arith, length}
 use Rattle.std.specs.Prelude.{slice_get}
 use Rattle.fts_segment.specs.Contents.{content_of}
 use Rattle.fts_segment.specs.Segments.{SegmentValue}

@@ -1,12 +1,10 @@
-use Rattle.std.proofs.Common.{All, List, ℕ, sym, subst}
+use Rattle.std.proofs.Common.{List, ℕ, sym, subst}
 use Rattle.std.specs.List.{AllByRecursion}
 use Rattle.std.specs.List.Sorted.{IsStrictlyIncreasing}
-use Rattle.fts_segment.specs.Dictionaries.{docs_in}
 use Rattle.fts_segment.specs.Parts.{PartValue, IsJoined, IsSound, joined}
-use Rattle.fts_segment.specs.PositionLists.{IsPositionList}
-use Rattle.fts_segment.specs.Positions.{position_lists_of}
+use Rattle.fts_segment.specs.Postings.{documents}
 use Rattle.fts_segment.specs.TermPositionLists.{term_position_lists}
-use Rattle.fts_segment.proofs.SourceLemmas.{sound-parts, parts-rise, parts-positions, terms-joined}
+use Rattle.fts_segment.proofs.SourceLemmas.{sound-parts, parts-rise, terms-joined}
 use Rattle.fts_segment.proofs.joined_terms.joined_terms.Goals as goal
 
 pub join_parts-requires-clause-sound : goal.join_parts-requires-clause-sound
@@ -16,13 +14,8 @@ join_parts-requires-clause-sound c =
 
 pub join_parts-requires-clause-rise : goal.join_parts-requires-clause-rise
 join_parts-requires-clause-rise c =
-    let P : List PartValue → Type 0 = λ ps. (q : List ℕ) → IsStrictlyIncreasing (docs_in (joined ps q)) in
+    let P : List PartValue → Type 0 = λ ps. (q : List ℕ) → IsStrictlyIncreasing (documents (joined ps q)) in
     subst P (sym c.deref_mut.ensures.value) (parts-rise c.args.kind c.args.field c.args.sources.now c.in_ok-parts.parts.items c.in_ok-parts.ensures.bits c.in_ok-parts.ensures.are)
-
-pub join_parts-requires-clause-positions : goal.join_parts-requires-clause-positions
-join_parts-requires-clause-positions c =
-    let P : List PartValue → Type 0 = λ ps. (q : List ℕ) → All IsPositionList (position_lists_of (joined ps q)) in
-    subst P (sym c.deref_mut.ensures.value) (parts-positions c.args.kind c.args.field c.args.sources.now c.in_ok-parts.parts.items c.in_ok-parts.ensures.bits c.in_ok-parts.ensures.are c.in_ok-parts.ensures.few)
 
 pub returns : goal.returns
 returns c =

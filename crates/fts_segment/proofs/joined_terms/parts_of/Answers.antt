@@ -1,9 +1,9 @@
-use Rattle.std.proofs.Common.{◌≡◌, ◌+◌, ◌≤◌, All, Some, List, take, drop, length, get_or, subst, arith, ◌∙◌, sym, ap, count_by, ◌++◌, ◌∷◌, []}
+use Rattle.std.proofs.Common.{◌≡◌, ◌+◌, All, Some, List, take, drop, subst, arith, ◌∙◌, sym, ap, count_by, ◌++◌, ◌∷◌, []}
 use Rattle.std.proofs.lemmas.List.{take_all, take_more}
 use Rattle.std.proofs.lemmas.List.Elements.{All-more}
 use Rattle.fts_model.specs.Operations.{kind_at}
 use Rattle.fts_segment.specs.Occurrences.{values_in, HasFewTokens}
-use Rattle.fts_segment.specs.Parts.{AreParts, IsPart, PartValue}
+use Rattle.fts_segment.specs.Parts.{AreParts, IsPart}
 use Rattle.fts_segment.specs.Sources.{SourceValue, HasBits, live_count}
 use Rattle.fts_segment.proofs.SourceLemmas.{AreParts-push, dropped, live_count-cons, live_count-push, live_in}
 use Rattle.fts_segment.proofs.joined_terms.parts_of.Goals as goal

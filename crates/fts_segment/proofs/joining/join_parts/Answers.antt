@@ -1,9 +1,9 @@
-use Rattle.std.proofs.Common.{◌≡◌, ◌++◌, Some, None, List, ℕ, flat_map, map, ap, ◌∙◌, sym, subst, arith, ◌<◌}
+use Rattle.std.proofs.Common.{◌≡◌, Some, None, List, flat_map, map, ap, refl, ◌∙◌, sym, subst, ◌<◌}
 use Rattle.std.specs.Prelude.{option_map}
-use Rattle.fts_segment.specs.Parts.{PartValue, given, passed, least_of, joined}
+use Rattle.fts_segment.specs.Parts.{PartValue, given, passed, least_of}
 use Rattle.fts_segment.specs.PositionLogs.{logged_term_position_lists}
-use Rattle.fts_segment.proofs.PartLemmas.{AreFrom, IsMet, left, fewer}
-use Rattle.fts_segment.proofs.JoiningLemmas.{IsJoining-start, IsJoining-next, IsJoined-end, all-given, places-rise, places-positions, least-from, met-of-least}
+use Rattle.fts_segment.proofs.PartLemmas.{left, fewer}
+use Rattle.fts_segment.proofs.JoiningLemmas.{IsJoining-start, IsJoining-next, IsJoined-end, all-given, postings-rise, least-from, met-of-least}
 use Rattle.fts_segment.proofs.joining.join_parts.Goals as goal
 
 pub loop-term-init : goal.loop-term-init
@@ -13,23 +13,13 @@ loop-term-init c = record {
   is = c.new-writer.ensures.is;
 }
 
-pub put-requires-clause-rise : goal.put-requires-clause-rise
-put-requires-clause-rise c =
+pub join_term-requires-clause-rise : goal.join_term-requires-clause-rise
+join_term-requires-clause-rise c =
     let rest = c.loop-term.parts in
     let term = c.in-Some.term.now in
+    let w = c.loop-term.writer in
     let least : least_of None rest ≡ Some term = sym c.least.ensures ∙ ap (option_map (λ t. t.now)) c.in-Some.is in
-    let places : c.deref.result.now ≡ flat_map (given term) rest = c.deref.ensures.value ∙ c.in_ok-pass_all.ensures.out ∙ ap (λ ps. ps ++ flat_map (given term) rest) c.clear.ensures.items in
-    places-rise term c.deref.result.now c.args.parts.now rest c.loop-term.writer.names c.loop-term.writer.lists.items (logged_term_position_lists c.loop-term.writer.positions)
-    c.loop-term.invariant.joining (least-from None rest term least).1 (met-of-least rest term least) places c.requires.rise
-
-pub put-requires-clause-positions : goal.put-requires-clause-positions
-put-requires-clause-positions c =
-    let rest = c.loop-term.parts in
-    let term = c.in-Some.term.now in
-    let least : least_of None rest ≡ Some term = sym c.least.ensures ∙ ap (option_map (λ t. t.now)) c.in-Some.is in
-    let places : c.deref.result.now ≡ flat_map (given term) rest = c.deref.ensures.value ∙ c.in_ok-pass_all.ensures.out ∙ ap (λ ps. ps ++ flat_map (given term) rest) c.clear.ensures.items in
-    places-positions term c.deref.result.now c.args.parts.now rest c.loop-term.writer.names c.loop-term.writer.lists.items (logged_term_position_lists c.loop-term.writer.positions)
-    c.loop-term.invariant.joining (least-from None rest term least).1 (met-of-least rest term least) places c.requires.positions
+    postings-rise term (flat_map (given term) rest) c.args.parts.now rest w.names w.lists.items (logged_term_position_lists w.positions) c.loop-term.invariant.joining (least-from None rest term least).1 (met-of-least rest term least) refl c.requires.rise
 
 pub loop-term-smaller : goal.loop-term-smaller
 loop-term-smaller c =
@@ -37,7 +27,7 @@ loop-term-smaller c =
     let term = c.in-Some.term.now in
     let least : least_of None rest ≡ Some term = sym c.least.ensures ∙ ap (option_map (λ t. t.now)) c.in-Some.is in
     let fewer_left : left (map (passed term) rest) < left rest = fewer term rest (met-of-least rest term least) in
-    subst (λ (ps : List PartValue). left ps < left rest) (sym c.in_ok-pass_all.ensures.parts) fewer_left
+    subst (λ (ps : List PartValue). left ps < left rest) (sym c.in_ok-join_term.ensures.parts) fewer_left
 
 pub loop-term-preserved : goal.loop-term-preserved
 loop-term-preserved c =
@@ -49,12 +39,12 @@ loop-term-preserved c =
     let least : least_of None rest ≡ Some term = sym c.least.ensures ∙ ap (option_map (λ t. t.now)) c.in-Some.is in
     let from = (least-from None rest term least).1 in
     let met = met-of-least rest term least in
-    let places : c.deref.result.now ≡ flat_map (given term) rest = c.deref.ensures.value ∙ c.in_ok-pass_all.ensures.out ∙ ap (λ ps. ps ++ flat_map (given term) rest) c.clear.ensures.items in
-    let all = all-given term c.deref.result.now c.args.parts.now rest names lists positions c.loop-term.invariant.joining from met places in
+    let postings = flat_map (given term) rest in
+    let all = all-given term postings c.args.parts.now rest names lists positions c.loop-term.invariant.joining from met refl in
     record {
-      joining = rw (c.in_ok-pass_all.ensures.parts, c.in_ok-put.ensures.names, c.in_ok-put.ensures.lists, c.in_ok-put.ensures.positions)
-          (IsJoining-next term c.deref.result.now c.args.parts.now rest names lists positions c.loop-term.invariant.joining from met all);
-      is = c.in_ok-put.ensures.is;
+      joining = rw (c.in_ok-join_term.ensures.parts, c.in_ok-join_term.ensures.names, c.in_ok-join_term.ensures.lists, c.in_ok-join_term.ensures.positions)
+          (IsJoining-next term postings c.args.parts.now rest names lists positions c.loop-term.invariant.joining from met all);
+      is = c.in_ok-join_term.ensures.is;
     }
 
 pub returns : goal.returns

@@ -1,4 +1,4 @@
-use Rattle.std.proofs.Common.{◌≡◌, ◌-◌, ◌<◌, ◌∙◌, suc, Some, map, length, bytes_eq, ap, sym, arith}
+use Rattle.std.proofs.Common.{◌≡◌, ◌-◌, ◌∙◌, suc, Some, map, length, bytes_eq, ap, sym, arith}
 use Rattle.std.specs.Prelude.{slice_get, option_map}
 use Rattle.std.proofs.lemmas.Bool.Decides.{Decides-eqb, same_from_decides}
 use Rattle.std.proofs.lemmas.List.{length-map}

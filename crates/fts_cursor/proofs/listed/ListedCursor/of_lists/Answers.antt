@@ -1,6 +1,6 @@
 -- Sorted, each once, they are the documents of the lists.
-use Rattle.std.proofs.Common.{◌≡◌, ℕ, List, All, Contains, nat_eq, sym, subst, ◌∙◌}
-use Rattle.std.specs.List.{dedup, flat_map}
+use Rattle.std.proofs.Common.{◌≡◌, ℕ, List, All, Contains, nat_eq, sym, subst}
+use Rattle.std.specs.List.{dedup}
 use Rattle.std.specs.List.Sorted.{IsStrictlyIncreasing}
 use Rattle.std.proofs.lemmas.List.Elements.{All-contains, All-contains_itself}
 use Rattle.std.proofs.lemmas.List.Filters.{dedup_is, All-dedup}

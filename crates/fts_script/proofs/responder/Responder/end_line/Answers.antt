@@ -9,7 +9,7 @@ returns-then-is_empty-clause-reply g c =
     on_ok_weaker c.answer.result
     (λ h. h ∙ ap (λ v. string_bytes c.args.self.now.replies ++ v)
     (sym (reply_to_kept-whole c.args.self.now.session c.args.self.now.line c.args.piece.now (c.is_empty.ensures.0 c.if-is_empty.true))))
-    c.answer.ensures.reply
+    c.answer.ensures.reply.ok
 
 pub returns-then-is_empty-clause-script : goal.returns-then-is_empty-clause-script
 returns-then-is_empty-clause-script g c =

@@ -1,48 +1,64 @@
-use Rattle.std.proofs.Common.{◌≡◌, ◌<◌, ◌++◌, true, List, ℕ, [], length, get_or, drop, ap, sym, subst, ◌∙◌, arith}
+use Rattle.std.proofs.Common.{◌≡◌, ◌<◌, ◌++◌, true, [], All, length, get_or, drop, ap, ap₂, sym, subst, ◌∙◌, arith}
 use Rattle.std.proofs.lemmas.List.{get_or_read}
-use Rattle.fts_segment.specs.Parts.{PartValue, begins, given, passed, part_from, moved, places_at, IsPartOf}
-use Rattle.fts_segment.specs.PositionListBounds.{AreBounds}
-use Rattle.fts_segment.specs.TermPositionLists.{term_position_lists, position_lists_in}
+use Rattle.fts_segment.specs.Parts.{PartValue, begins, given, passed, moved}
+use Rattle.fts_segment.specs.PositionListLogs.{logged_position_lists}
+use Rattle.fts_segment.specs.Postings.{documents, position_lists, postings_of}
+use Rattle.fts_segment.specs.TermPositionLists.{position_lists_in}
 use Rattle.fts_segment.proofs.PartLemmas.{begins-within, given-here, passed-here}
 use Rattle.fts_segment.proofs.part.Part.pass.Goals as goal
+use Rattle.fts_segment.proofs.part.Part.pass.Goals.{After-get-positions}
 
-pub move_places-requires : goal.move_places-requires
-move_places-requires c = record { bounds = subst (λ (lists : List (List ℕ)). AreBounds lists c.self.inside.bounds) (sym c.get-positions.ensures.lists) c.self.invariant.bounds_are }
+-- the term is the next name of the dictionary
+next_of : (c : After-get-positions) → let p = c.self.inside in begins c.args.term.now (drop p.at p.dictionary.now.names) ≡ true
+next_of c = ap (λ (q : PartValue). begins c.args.term.now q.names) c.self.view_is ∙ sym c.is_next.ensures ∙ c.if-is_next.true
+
+within_of : (c : After-get-positions) → c.self.inside.at < length c.self.inside.dictionary.now.names
+within_of c = begins-within c.args.term.now c.self.inside.dictionary.now.names c.self.inside.at (next_of c)
+
+-- its documents
+list_of : (c : After-get-positions) → c.index-list.result.now ≡ get_or c.self.inside.dictionary.now.lists.items c.self.inside.at []
+list_of c = let d = c.self.inside.dictionary.now in
+    get_or_read d.lists.items c.self.inside.at _ (omega (arith, within_of c, c.self.invariant.whole.listed)) c.index-list.ensures []
+
+-- and what the part gives for it
+given_of : (c : After-get-positions) → moved c.self.inside.numbers (postings_of c.index-list.result.now (position_lists_in c.get-positions.result)) ≡ given c.args.term.now c.args.self.now
+given_of c =
+    let p = c.self.inside in
+    ap₂ (λ list lists. moved p.numbers (postings_of list lists)) (list_of c) c.get-positions.ensures.positions
+    ∙ sym (given-here c.args.term.now p.at p.dictionary.now p.numbers c.self.invariant.whole (next_of c)) ∙ ap (given c.args.term.now) c.self.view_is
+
+pub move_postings-requires-clause-lists : goal.move_postings-requires-clause-lists
+move_postings-requires-clause-lists c = c.self.invariant.lists_are ∙ sym c.get-positions.ensures.lists
+
+pub move_postings-requires-clause-paired : goal.move_postings-requires-clause-paired
+move_postings-requires-clause-paired c =
+    let a = (goal.at.move_postings-requires-clause-paired c).After-get-positions in
+    ap length (list_of a) ∙ c.self.invariant.whole.paired c.self.inside.at (within_of a) ∙ sym (ap length c.get-positions.ensures.positions)
+
+pub move_postings-requires-clause-numbered : goal.move_postings-requires-clause-numbered
+move_postings-requires-clause-numbered c =
+    let a = (goal.at.move_postings-requires-clause-numbered c).After-get-positions in
+    let p = c.self.inside in
+    subst (All (λ doc. doc < length p.numbers)) (sym (list_of a)) (c.self.invariant.whole.numbered p.at (within_of a))
 
 pub invariant_of-self : goal.invariant_of-self
-invariant_of-self c = record {
-  listed = c.self.invariant.listed;
-  positioned = c.self.invariant.positioned;
-  bounds_are = subst (λ (lists : List (List ℕ)). AreBounds lists c.move_places.new.bounds) c.get-positions.ensures.lists c.move_places.ensures.bounds;
-}
+invariant_of-self c = record { whole = c.self.invariant.whole; lists_are = c.move_postings.ensures.same ∙ c.self.invariant.lists_are }
 
 pub invariant_of-self-then-is_next : goal.invariant_of-self-then-is_next
-invariant_of-self-then-is_next c = record {
-  listed = c.self.invariant.listed;
-  positioned = c.self.invariant.positioned;
-  bounds_are = subst (λ (lists : List (List ℕ)). AreBounds lists c.move_places.new.bounds) c.get-positions.ensures.lists c.move_places.ensures.bounds;
-}
+invariant_of-self-then-is_next c = record { whole = c.self.invariant.whole; lists_are = c.move_postings.ensures.same ∙ c.self.invariant.lists_are }
 
-pub returns-in_ok-move_places-clause-part : goal.returns-in_ok-move_places-clause-part
-returns-in_ok-move_places-clause-part c =
+pub returns-in_ok-move_postings-clause-part : goal.returns-in_ok-move_postings-clause-part
+returns-in_ok-move_postings-clause-part c =
+    let a = (goal.at.returns-in_ok-move_postings-clause-part c).After-get-positions in
     let p = c.self.inside in
-    let term = c.args.term.now in
-    let next : begins term (drop p.at p.dictionary.now.names) ≡ true = ap (λ (q : PartValue). begins term q.names) c.self.view_is ∙ sym c.is_next.ensures ∙ c.if-is_next.true in
-    sym (passed-here term p.at p.dictionary.now p.bounds p.numbers.items c.self.invariant next) ∙ ap (passed term) c.self.view_is
+    sym (passed-here c.args.term.now p.at p.dictionary.now p.numbers c.self.invariant.whole (next_of a)) ∙ ap (passed c.args.term.now) c.self.view_is
 
-pub returns-in_ok-move_places-clause-out : goal.returns-in_ok-move_places-clause-out
-returns-in_ok-move_places-clause-out c =
-    let p = c.self.inside in
-    let d = p.dictionary.now in
-    let term = c.args.term.now in
-    let out = c.args.out.now.items in
-    let numbers = p.numbers.items in
-    let list = c.index-list.result.now in
-    let positions = get_or (term_position_lists d.positions) p.at [] in
-    let next : begins term (drop p.at d.names) ≡ true = ap (λ (q : PartValue). begins term q.names) c.self.view_is ∙ sym c.is_next.ensures ∙ c.if-is_next.true in
-    let within : p.at < length d.lists.items = omega (arith, begins-within term d.names p.at next, c.self.invariant.listed) in
-    c.in_ok-move_places.ensures.out
-    ∙ ap (λ ns. out ++ moved ns (places_at 0 (position_lists_in c.get-positions.result) list)) c.deref.ensures.value
-    ∙ ap (λ ls. out ++ moved numbers (places_at 0 ls list)) c.get-positions.ensures.positions
-    ∙ ap (λ l. out ++ moved numbers (places_at 0 positions l)) (get_or_read d.lists.items p.at _ within c.index-list.ensures [])
-    ∙ ap (λ ps. out ++ ps) (sym (given-here term p.at d p.bounds numbers c.self.invariant next) ∙ ap (given term) c.self.view_is)
+pub returns-in_ok-move_postings-clause-docs : goal.returns-in_ok-move_postings-clause-docs
+returns-in_ok-move_postings-clause-docs c =
+    let a = (goal.at.returns-in_ok-move_postings-clause-docs c).After-get-positions in
+    c.in_ok-move_postings.ensures.docs ∙ ap (λ ps. c.args.docs.now.items ++ documents ps) (given_of a)
+
+pub returns-in_ok-move_postings-clause-lists : goal.returns-in_ok-move_postings-clause-lists
+returns-in_ok-move_postings-clause-lists c =
+    let a = (goal.at.returns-in_ok-move_postings-clause-lists c).After-get-positions in
+    c.in_ok-move_postings.ensures.lists ∙ ap (λ ps. logged_position_lists c.args.log.now ++ position_lists ps) (given_of a)

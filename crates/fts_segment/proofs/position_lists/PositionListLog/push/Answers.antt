@@ -1,9 +1,9 @@
-use Rattle.std.proofs.Common.{◌≡◌, ◌<◌, ◌++◌, ◌∷◌, ◌%◌, ◌==◌, ◌^◌, [], cond, length, ap, ap₂, ◌∙◌, arith}
+use Rattle.std.proofs.Common.{◌≡◌, ◌<◌, ◌++◌, ◌^◌, length, ap, ap₂, ◌∙◌, arith}
 use Rattle.std.proofs.Math.Facts.{Fits-lt-pow}
 use Rattle.std.proofs.lemmas.List.{get_or_default}
 use Rattle.fts_pack.specs.Documents.{gaps}
 use Rattle.fts_segment.specs.PositionLists.{position_lists_at}
-use Rattle.fts_segment.proofs.PackedLemmas.{ArePacked-push, position_lists_at-more}
+use Rattle.fts_segment.proofs.PackedLemmas.{AreLogged-push, position_lists_at-push}
 use Rattle.fts_segment.proofs.position_lists.PositionListLog.push.Goals as goal
 
 pub returns-clause-is : goal.returns-clause-is
@@ -12,15 +12,10 @@ returns-clause-is c =
     let list = c.args.list.now in
     let put : c.push_gaps.new.numbers.items ≡ log.gaps.items ++ gaps 0 list = c.in_ok-push_gaps.ensures in
     let few : length (log.gaps.items ++ gaps 0 list) < 2 ^ 64 = omega (arith, ap length put, c.push_gaps.new.numbers.ok.0) in
-    let count : c.len.result ≡ length log.counts.items = omega (arith, c.len.ensures, log.counts.ok.0) in
-    let at : c.len-2.result ≡ length log.gaps.items = omega (arith, c.len-2.ensures, log.gaps.ok.0) in
-    let start : c.push_start.new.starts.items ≡ log.starts.items ++ cond (length log.counts.items % 128 == 0) (length log.gaps.items ∷ []) [] =
-    c.in_ok-push_start.ensures ∙ ap₂ (λ n m. log.starts.items ++ cond (n % 128 == 0) (m ∷ []) []) count at in
     rw (c.in_ok-push.ensures.items, put)
-    (ArePacked-push log.counts.items log.starts.items c.push_start.new.starts.items log.gaps.items list c.requires.is c.requires.list
-    (λ k d inside. rw (get_or_default list k d 0 inside) (Fits-lt-pow (c.type_inv.list k))) few start)
+    (AreLogged-push log.counts.items log.gaps.items list c.requires.is c.requires.list (λ k d inside. rw (get_or_default list k d 0 inside) (Fits-lt-pow (c.type_inv.list k))) few)
 
 pub returns-clause-pushed : goal.returns-clause-pushed
 returns-clause-pushed c =
     let log = c.args.self.now in
-    ap₂ position_lists_at c.in_ok-push.ensures.items c.in_ok-push_gaps.ensures ∙ position_lists_at-more log.counts.items log.starts.items log.gaps.items c.args.list.now c.requires.is c.requires.list
+    ap₂ position_lists_at c.in_ok-push.ensures.items c.in_ok-push_gaps.ensures ∙ position_lists_at-push log.counts.items log.gaps.items c.args.list.now c.requires.is.whole c.requires.list

@@ -1,5 +1,5 @@
 -- The numbers of a field's index are those of the segment's documents.
-use Rattle.std.proofs.Common.{◌≡◌, ℕ, false, List, Option, ap, sym, subst, ◌∙◌}
+use Rattle.std.proofs.Common.{ℕ, false, List, Option, ap, sym, subst, ◌∙◌}
 use Rattle.std.specs.Option.{option_map_or}
 use Rattle.fts_model.specs.Operations.{kind_at}
 use Rattle.fts_model.specs.Schemas.{holds_numbers, is_ordered}

@@ -4,4 +4,4 @@ use Rattle.fts_snapshots.proofs.EntryLemmas.{count-le-length}
 use Rattle.fts_snapshots.proofs.entries.entry.Entry.live_count.Goals as goal
 
 pub returns-clause-few : goal.returns-clause-few
-returns-clause-few c = omega (arith, count-le-length c.deref.result.now, ap length c.deref.ensures, c.self.invariant.bits, c.self.invariant.few, c.count_ones.ensures)
+returns-clause-few c = omega (arith, count-le-length c.live.result.now, ap length c.live.ensures.live, c.live.ensures.bits.bits, c.live.ensures.bits.few, c.count_ones.ensures)

@@ -1,0 +1,25 @@
+-- Postings of a term: the documents that have it, each with its positions there.
+use Rattle.std.specs.Prelude.{ℕ, List, [], ◌∷◌, map}
+
+-- a document, and the positions of a term in it
+pub record Posting : Type 0 where
+  pub doc : ℕ
+  pub positions : List ℕ
+
+-- a posting of this document
+abbrev pub posting_at : ℕ → List ℕ → Posting
+posting_at doc positions = record { doc = doc; positions = positions }
+
+-- the postings of documents with these lists of positions
+abbrev pub postings_of : List ℕ → List (List ℕ) → List Posting
+postings_of [] lists = []
+postings_of (doc ∷ docs) [] = []
+postings_of (doc ∷ docs) (list ∷ lists) = posting_at doc list ∷ postings_of docs lists
+
+-- the documents of postings
+abbrev pub documents : List Posting → List ℕ
+documents postings = map (λ p. p.doc) postings
+
+-- the positions of postings, a list for each
+abbrev pub position_lists : List Posting → List (List ℕ)
+position_lists postings = map (λ p. p.positions) postings
