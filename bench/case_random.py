@@ -207,3 +207,77 @@ def write_cuttings():
         s.case(f"Cutting {cutting}: {len(parts)} segments answer as all that are left", "answer",
                answer([(n + 1, documents[n]) for n in live], asked[1], groups, request.get("top")), query=asked[0], **request)
     s.write()
+
+
+# For each joining, how many documents its sources have, and one in how many of them is struck: all where it is 0, none where it is 1.
+JOININGS = [
+    ("two sources, nothing struck", [300, 200], [1, 1]),
+    ("two sources, a third struck", [260, 330], [3, 3]),
+    ("a large source and two small ones", [320, 15, 20], [4, 2, 3]),
+    ("a large source, nothing struck, and three small ones", [300, 12, 1, 20], [1, 1, 1, 2]),
+    ("a source without a live document between others", [90, 40, 80, 30], [2, 0, 1, 5]),
+    ("seven sources", [40, 150, 1, 60, 25, 80, 13], [3, 2, 1, 4, 1, 3, 2]),
+    ("sixteen sources", [30, 8, 25, 41, 3, 60, 17, 22, 1, 35, 28, 19, 50, 11, 6, 44], [2, 1, 3, 1, 2, 4, 1, 3, 1, 2, 5, 1, 3, 2, 1, 4]),
+]
+
+
+def stays(chance, odds):
+    """Whether a document stays: all do where the odds are 1, and none where they are 0; of others one in so many is struck."""
+    return odds == 1 or odds > 1 and chance.below(odds) > 0
+
+
+def write_joined(s, name, rows):
+    """What is found in merged documents: each term of titles, tags and numbers, and the columns."""
+    for term in sorted({term for _, terms in rows for term in terms if term} | {"a", "w99"}):
+        at = [(n, [k for k, other in enumerate(terms) if other == term]) for n, (_, terms) in enumerate(rows)]
+        at = [(n, places) for n, places in at if places]
+        sought = {"field": 0, "text": term}
+        s.case(f"{name}: {term} is in the documents that are left with it", "postings", [n for n, _ in at], term=sought)
+        s.case(f"{name}: {term} stands there where it was written", "all_positions", [p for _, p in at] or None, term=sought)
+    for number in range(0, 50, 5):
+        s.case(f"{name}: the tag T {number} is in those that are left with it", "postings",
+               [n for n, (d, _) in enumerate(rows) if d.get("tag") == f"T {number}"], term={"field": 1, "text": f"T {number}"})
+    for number in range(0, 100, 25):
+        for field, kind, key, value in [(2, "u64", "price", number), (3, "i64", "temp", number - 50)]:
+            s.case(f"{name}: the {key} {value} is in those that are left with it", "postings",
+                   [n for n, (d, _) in enumerate(rows) if d.get(key) == value], term={"field": field, kind: value})
+    tags = sorted({d["tag"].encode() for d, _ in rows if "tag" in d})
+    s.case(f"{name}: each tag has the place that it has among those that are left", "column",
+           [tags.index(d["tag"].encode()) if "tag" in d else None for d, _ in rows], field=1)
+    s.case(f"{name}: each price is in its place of the column", "column", [d.get("price") for d, _ in rows], field=2)
+    s.case(f"{name}: each temp is in its place, as the u64 in the same order", "column",
+           [d["temp"] + 2**63 if "temp" in d else None for d, _ in rows], field=3)
+
+
+def write_joins():
+    """Segments of which some documents are struck, merged into one: before and after, all that is found is compared."""
+    s, chance = Subject("joins"), Chance(31)
+    for name, sizes, odds in JOININGS:
+        stamp, left, origins = 0, [], []
+        name = name[0].upper() + name[1:]
+        for source, (size, odd) in enumerate(zip(sizes, odds)):
+            rows = [written(chance) for _ in range(size)]
+            live = [n for n in range(size) if stays(chance, odd)]
+            s.case(f"{name}: source {source} has {size} documents", "and_make" if source else "make", size,
+                   documents=[d for d, _ in rows], stamps=[stamp + n + 1 for n in range(size)])
+            s.case(f"{name}: {len(live)} documents of source {source} are live", "clear", len(live),
+                   docs=[n for n in range(size) if n not in live])
+            left += [rows[n] for n in live]
+            origins += [[stamp + n + 1, source, n] for n in live]
+            stamp += size
+        asked = [("title:a", lambda d: has(d, "title", "a"), "tag", {"by": "price", "k": 50, "order": "rising"}),
+                 ('title:"a b"', lambda d: phrase(d, ["a", "b"]), "price", {"by": "temp", "k": 9, "order": "falling"}),
+                 ("price:[10 TO 60] -title:rust", lambda d: within(d, "price", 10, 60) and not has(d, "title", "rust"), "temp", None)]
+        stamped = [(stamp, document) for (stamp, _, _), (document, _) in zip(origins, left)]
+
+        def ask(when):
+            for query, match, groups, top in asked:
+                request = {"groups": groups, **({"top": top} if top else {})}
+                s.case(f"{name}: {when} `{query}` finds what a look at each live document finds", "answer",
+                       answer(stamped, match, groups, top), query=query, **request)
+
+        ask("before the merge")
+        s.case(f"{name}: the merged documents are the live ones in the order of their sources", "join", origins)
+        ask("behind the merge")
+        write_joined(s, name, left)
+    s.write()

@@ -91,6 +91,7 @@ fn add_all(
     documents: &[Stamped<Document>],
 )
     requires { builder.old.segment.schema ≡ schema.now }
+    ensures { builder.new.segment.schema ≡ schema.now }
 {
     for document in documents {
         if !document.value.fits(schema) || builder.docs() >= 1_048_576 {
@@ -101,11 +102,11 @@ fn add_all(
     }
 }
 
-/// A builder for a case, of a merge where the case says so.
-fn builder_of(trial: &mut Trial, case: &Value, schema: &Schema) -> Option<Builder>
+/// A builder of a segment, or of a merged one.
+fn builder_of(trial: &mut Trial, merging: bool, schema: &Schema) -> Option<Builder>
     ensures { IfSome result (λ builder. builder.segment.schema ≡ schema.now) }
 {
-    let builder = if optional_flag(trial, case, "merging") {
+    let builder = if merging {
         Builder::merging(trial.alloc(), schema)
     } else {
         Builder::new(trial.alloc(), schema)
@@ -114,13 +115,15 @@ fn builder_of(trial: &mut Trial, case: &Value, schema: &Schema) -> Option<Builde
 }
 
 /// The segment of documents.
-fn segment_with(
+pub(crate) fn segment_with(
     trial: &mut Trial,
-    case: &Value,
+    merging: bool,
     schema: &Schema,
     documents: &[Stamped<Document>],
-) -> Option<Segment> {
-    let mut builder = builder_of(trial, case, schema)?;
+) -> Option<Segment>
+    ensures { IfSome result (λ segment. segment.schema ≡ schema.now) }
+{
+    let mut builder = builder_of(trial, merging, schema)?;
     add_all(trial, &mut builder, schema, documents);
     match builder.finish(trial.alloc()) {
         Ok(segment) => Some(segment),
@@ -135,7 +138,8 @@ fn segment_with(
 fn segment_of(trial: &mut Trial, case: &Value) -> Option<Segment> {
     let schema = schema_of(trial, case)?;
     let documents = documents_of(trial, &schema, case);
-    segment_with(trial, case, &schema, &documents)
+    let merging = optional_flag(trial, case, "merging");
+    segment_with(trial, merging, &schema, &documents)
 }
 
 /// The segment of a case's documents, all of them live.

@@ -6,6 +6,7 @@ mod bench;
 mod collectors;
 mod content;
 mod indexed;
+mod joins;
 mod matches;
 mod merges;
 mod numbers;
@@ -21,7 +22,7 @@ use std::io;
 use std::process::ExitCode;
 
 /// What a case of each word may have beside its sentence, its word and what it gives.
-const MEMBERS: [(&str, &[&str]); 44] = [
+const MEMBERS: [(&str, &[&str]); 45] = [
     ("tokens", &["text"]),
     ("places", &["text"]),
     ("fold", &["text", "behind"]),
@@ -72,6 +73,7 @@ const MEMBERS: [(&str, &[&str]); 44] = [
     ("merge", &["first", "second"]),
     ("merged_postings", &["first", "second", "term"]),
     ("merged_column", &["first", "second", "field"]),
+    ("join", &[]),
 ];
 
 /// Refuses a word that isn't there, and a member that its cases don't have.
@@ -165,6 +167,9 @@ impl Driver for Segments {
         }
         if word == "clear" {
             return self.clear(trial, case);
+        }
+        if word == "join" {
+            return joins::join(trial, &mut self.made);
         }
         if !without_segments(trial, word, case) {
             in_segments(trial, word, case, &self.made);

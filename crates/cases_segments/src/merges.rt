@@ -82,7 +82,7 @@ fn merged_of(trial: &mut Trial, case: &Value, segment: &Segment) -> Option<Merge
 }
 
 /// Gives each merged document as its stamp, its source and its number there.
-fn give_merged(trial: &mut Trial, merged: &Merged) {
+pub(crate) fn give_merged(trial: &mut Trial, merged: &Merged) {
     let segment = merged.segment();
     trial.open();
     for (doc, origin) in merged.origins().iter().enumerate() {

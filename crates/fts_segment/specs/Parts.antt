@@ -74,9 +74,11 @@ pub record IsWhole (dictionary : Dictionary) (numbers : List (Option ℕ)) : Typ
   pub numbered : (i : ℕ) → i < length dictionary.names →
       All (λ doc. doc < length numbers) (slice_index_or dictionary.lists.items i [])
 
--- the same, and the lists that are moved are those of the dictionary
-pub record IsPartOf (dictionary : Dictionary) (numbers : List (Option ℕ)) (lists : UnpackedLists) : Type 0 where
+-- the same, the term is that of the number `at`, and the lists that are moved are those of the dictionary
+pub record IsPartOf (at : ℕ) (dictionary : Dictionary) (numbers : List (Option ℕ)) (term : Option (List ℕ)) (lists : UnpackedLists)
+    : Type 0 where
   pub whole : IsWhole dictionary numbers
+  pub next : term ≡ slice_get (drop at dictionary.names) 0
   pub lists_are : lists_in lists ≡ dictionary.positions.lists
 
 -- the postings of a term

@@ -1,5 +1,5 @@
 // A dictionary that is passed term by term, as it is joined with others.
-ghost use Rattle.std.specs.Prelude.{◌≡◌, ◌++◌, option_map, slice_get, OnOk};
+ghost use Rattle.std.specs.Prelude.{◌≡◌, ◌++◌, drop, option_map, slice_get, OnOk};
 ghost use Rattle.fts_segment.specs.Parts.{begins, given, passed, part_from, IsWhole};
 ghost use Rattle.fts_segment.specs.PositionListLogs.{IsPositionListLog, logged_position_lists};
 ghost use Rattle.fts_segment.specs.Postings.{documents, position_lists};
@@ -19,17 +19,31 @@ pub(crate) struct Part<'a> {
     dictionary: &'a Dictionary,
     numbers: NewNumbers,
     at: usize,
+    /// The next term.
+    term: Option<&'a [u8]>,
     lists: UnpackedLists<'a>,
 }
 
 impl<'a> Model for Part<'a> {
+    ghost use Rattle.std.specs.Prelude.{option_map};
     ghost use Rattle.fts_segment.specs.Parts.{PartValue, IsPartOf, part_from};
 
     ghost Value = { PartValue };
 
     ghost view = { λ p. part_from p.at p.dictionary.now p.numbers };
 
-    ghost invariant = { λ p. IsPartOf p.dictionary.now p.numbers p.lists };
+    ghost invariant = { λ p. IsPartOf p.at p.dictionary.now p.numbers (option_map (λ t. t.now) p.term) p.lists };
+}
+
+// The term of this number, if there is one.
+fn term_at(dictionary: &Dictionary, at: usize) -> Option<&[u8]>
+    ensures { option_map (λ t. t.now) result ≡ slice_get (drop at dictionary.now.names) 0 }
+{
+    if at < dictionary.names.len() {
+        Some(dictionary.names.get(at))
+    } else {
+        None
+    }
 }
 
 impl<'a> Part<'a> {
@@ -42,6 +56,7 @@ impl<'a> Part<'a> {
             dictionary,
             numbers,
             at: 0,
+            term: term_at(dictionary, 0),
             lists: dictionary.positions.lists.unpacked(),
         }
     }
@@ -50,18 +65,14 @@ impl<'a> Part<'a> {
     pub(crate) fn term(&self) -> Option<&'a [u8]>
         ensures { option_map (λ t. t.now) result ≡ slice_get self.now.names 0 }
     {
-        if self.at < self.dictionary.names.len() {
-            Some(self.dictionary.names.get(self.at))
-        } else {
-            None
-        }
+        self.term
     }
 
     // Whether a term is the next one.
     fn is_next(&self, term: &[u8]) -> bool
         ensures { result ≡ begins term.now self.now.names }
     {
-        match self.term() {
+        match self.term {
             Some(next) => next == term,
             None => false,
         }
@@ -88,6 +99,7 @@ impl<'a> Part<'a> {
             let positions = self.dictionary.positions.get(self.at);
             move_postings(list, positions, &self.numbers, &mut self.lists, docs, log)?;
             self.at += 1;
+            self.term = term_at(self.dictionary, self.at);
         }
         Ok(())
     }

@@ -42,10 +42,11 @@ move_postings-requires-clause-numbered c =
     subst (All (λ doc. doc < length p.numbers)) (sym (list_of a)) (c.self.invariant.whole.numbered p.at (within_of a))
 
 pub invariant_of-self : goal.invariant_of-self
-invariant_of-self c = record { whole = c.self.invariant.whole; lists_are = c.move_postings.ensures.same ∙ c.self.invariant.lists_are }
+invariant_of-self c = record { whole = c.self.invariant.whole; next = c.self.invariant.next; lists_are = c.move_postings.ensures.same ∙ c.self.invariant.lists_are }
 
 pub invariant_of-self-then-is_next : goal.invariant_of-self-then-is_next
-invariant_of-self-then-is_next c = record { whole = c.self.invariant.whole; lists_are = c.move_postings.ensures.same ∙ c.self.invariant.lists_are }
+invariant_of-self-then-is_next c =
+    record { whole = c.self.invariant.whole; next = c.term_at-self-inside.ensures; lists_are = c.move_postings.ensures.same ∙ c.self.invariant.lists_are }
 
 pub returns-in_ok-move_postings-clause-part : goal.returns-in_ok-move_postings-clause-part
 returns-in_ok-move_postings-clause-part c =
