@@ -7,7 +7,7 @@ use Rattle.std.proofs.lemmas.Option.{get_or_from_slice_get}
 use Rattle.std.proofs.lemmas.Nat.{pow_pos}
 use Rattle.std.proofs.lemmas.Bool.{cases_lt}
 use Rattle.fts_bits.specs.Digits.{IsWidthOf, numbers_in, words_of}
-use Rattle.fts_column.specs.Column.{IsColumn, IsRangeOf, range_with, least_of, spread_of, offsets, values_at}
+use Rattle.fts_column.specs.Column.{HaveOffsets, IsColumn, IsRangeOf, range_with, least_of, spread_of, offsets, values_at}
 use borrow.Rule.Slice.PartMut.{put_mid}
 use Rattle.fts_column.specs.Lanes.{AreLanesOf}
 use Rattle.fts_bits.proofs.PackingLemmas.{Below-from_all, numbers_in-words_of, length-numbers_in}
@@ -119,6 +119,13 @@ unwrap_least (Some range) = refl
 pub unwrap_spread : (range : Option (ℕ × ℕ)) → (unwrap_or range (0, 0)).1 - (unwrap_or range (0, 0)).0 ≡ spread_of range
 unwrap_spread None = refl
 unwrap_spread (Some range) = refl
+
+-- the values of a range, of which both ends are known, have offsets of as many bits as its spread
+pub HaveOffsets-range : (values : List (Option ℕ)) (range : Option (ℕ × ℕ)) (width : ℕ) (ends : ℕ × ℕ) → length values ≤ 2 ^ 32 → IsRangeOf values range → ends ≡ unwrap_or range (0, 0) → ends.1 - ends.0 < 2 ^ width → HaveOffsets ends.0 width values
+HaveOffsets-range values range width ends few is known small =
+    let least : ends.0 ≡ least_of range = ap (λ r. r.0) known ∙ unwrap_least range in
+    let spread : ends.1 - ends.0 ≡ spread_of range = ap (λ r. r.1 - r.0) known ∙ unwrap_spread range in
+    rw least (record { few = few; above = above_least values range is; fits = offsets_fit values range width is (rw spread at small) })
 
 spread_fits : (range : Option (ℕ × ℕ)) → IfSome range (λ r. r.1 < 2 ^ 64) → spread_of range < 2 ^ 64
 spread_fits None h = pow_pos 64

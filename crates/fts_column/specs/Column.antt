@@ -31,6 +31,12 @@ spread_of (Some range) = range.1 - range.0
 abbrev pub offsets : ℕ → List (Option ℕ) → List ℕ
 offsets least values = map (λ v. option_map_or (λ x. x - least) v 0) values
 
+-- values, one for each of 2^32 documents at most, whose offsets from the least have this many bits at most
+pub record HaveOffsets (least width : ℕ) (values : List (Option ℕ)) : Type 0 where
+  pub few : length values ≤ 2 ^ 32
+  pub above : All (λ v. IfSome v (λ x. least ≤ x)) values
+  pub fits : All (λ x. x < 2 ^ width) (offsets least values)
+
 -- the values at these offsets, where they are present
 abbrev pub values_at : ℕ → List Bool → List ℕ → List (Option ℕ)
 values_at least (bit ∷ present) (x ∷ numbers) =

@@ -1,14 +1,14 @@
 // One value a document, or none: how far it is above the least, in as few bits as the greatest needs, and a bit for
 // presence. The same again in lanes, from which values are read.
-ghost use Rattle.std.specs.Prelude.{◌≡◌, ◌≤◌, ◌<◌, ◌+◌, ◌-◌, ◌*◌, ◌%◌, ◌^◌, ◌==◌, ℕ, List, [], ◌∷◌, Option, None, All};
+ghost use Rattle.std.specs.Prelude.{◌≡◌, ◌≤◌, ◌<◌, ◌+◌, ◌-◌, ◌*◌, ◌%◌, ◌^◌, ◌==◌, ℕ, List, [], ◌∷◌, Option, None};
 ghost use Rattle.std.specs.Prelude.{IfOk, IfSome, IsOkUnless, drop, is_some, length, map, min, slice_index};
 ghost use Rattle.std.specs.Prelude.{slice_index_or, take};
 ghost use Rattle.fts_bits.specs.Bits.{number_of};
 ghost use Rattle.fts_bits.specs.Digits.{IsWidthOf, numbers_in, words_of};
 ghost use Rattle.std.specs.Option.{option_map_or};
 ghost use Rattle.std.specs.Int.{bit_at};
-ghost use Rattle.fts_column.specs.Column.{IsColumn, IsRangeOf, is_within, least_of, offsets, range_with, spread_of};
-ghost use Rattle.fts_column.specs.Column.{values_at};
+ghost use Rattle.fts_column.specs.Column.{HaveOffsets, IsColumn, IsRangeOf, is_within, least_of, offsets, range_with};
+ghost use Rattle.fts_column.specs.Column.{spread_of, values_at};
 ghost use Rattle.fts_column.specs.Lanes.{in_lanes};
 
 use crate::lanes::Lanes;
@@ -236,10 +236,8 @@ fn packed_offsets(
     least: u64,
     values: &[Option<u64>],
 ) -> Result<Vec<u64>, AllocError>
-    requires few { length values.now ≤ 2 ^ 32 }
     requires narrow { width ≤ 64 }
-    requires above { All (λ v. IfSome v (λ x. least ≤ x)) values.now }
-    requires fits { All (λ x. x < 2 ^ width) (offsets least values.now) }
+    requires offsets { HaveOffsets least width values.now }
     ensures { IfOk result (λ words. words.items ≡ words_of 64 width (offsets least values.now)) }
 {
     let count = packing::word_count_64(values.len() * width as usize);

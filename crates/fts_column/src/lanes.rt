@@ -1,7 +1,7 @@
 // Numbers in lanes of one width: each is read by one load, and 64 are compared at once.
 ghost use Rattle.std.specs.Prelude.{◌≡◌, ℕ, ◌+◌, ◌-◌, ◌*◌, ◌%◌, ◌^◌, ◌<◌, ◌≤◌, All, IfOk, IfSome, length};
 ghost use Rattle.std.specs.Prelude.{slice_index};
-ghost use Rattle.fts_column.specs.Column.{offsets};
+ghost use Rattle.fts_column.specs.Column.{HaveOffsets, offsets};
 ghost use Rattle.fts_column.specs.Lanes.{AreLanesOf, AreMarked, in_lanes};
 
 use crate::column::offset;
@@ -16,8 +16,8 @@ pub(crate) enum Lanes {
 }
 
 impl Lanes {
-    ghost use Rattle.std.specs.Prelude.{◌≡◌, ℕ, ◌+◌, ◌%◌, ◌^◌, ◌<◌, ◌≤◌, All, IfOk, IfSome, drop, length, slice_index};
-    ghost use Rattle.fts_column.specs.Column.{offsets};
+    ghost use Rattle.std.specs.Prelude.{◌≡◌, ◌+◌, ◌<◌, ◌≤◌, IfOk, drop, length, slice_index};
+    ghost use Rattle.fts_column.specs.Column.{HaveOffsets, offsets};
     ghost use Rattle.fts_column.specs.Lanes.{AreLanesOf, AreMarked, in_lanes};
 
     /// How far each value is above the least, and 0 for a missing one, where this takes `width` bits at most.
@@ -27,9 +27,7 @@ impl Lanes {
         least: u64,
         values: &[Option<u64>],
     ) -> Result<Lanes, AllocError>
-        requires few { length values.now ≤ 2 ^ 32 }
-        requires above { All (λ v. IfSome v (λ x. least ≤ x)) values.now }
-        requires fits { All (λ x. x < 2 ^ width) (offsets least values.now) }
+        requires { HaveOffsets least width values.now }
         ensures { IfOk result (λ lanes. AreLanesOf (offsets least values.now) (in_lanes lanes)) }
     {
         if width <= 32 {
@@ -82,10 +80,8 @@ fn words_of(
     least: u64,
     values: &[Option<u64>],
 ) -> Result<Vec<u32>, AllocError>
-    requires few { length values.now ≤ 2 ^ 32 }
     requires narrow { width ≤ 32 }
-    requires above { All (λ v. IfSome v (λ x. least ≤ x)) values.now }
-    requires fits { All (λ x. x < 2 ^ width) (offsets least values.now) }
+    requires offsets { HaveOffsets least width values.now }
     ensures { IfOk result (λ list. AreLanesOf (offsets least values.now) list.items) }
 {
     let mut words = vec![in alloc; 0u32; lane_count(values.len())]?;

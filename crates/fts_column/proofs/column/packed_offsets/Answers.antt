@@ -17,8 +17,8 @@ loop-value-preserved c =
     let inside : index < length numbers = omega (arith, length-offsets c.args.least c.args.values.now) in
     let number : c.from.result ≡ get_or numbers index 0 = c.from.ensures ∙ c.offset.ensures ∙ sym (offset_at c.args.least index 0 c.args.values.now c.loop-value-test.true) in
     elim c.if-filled-ge64.branch [
-      | then-filled-ge64+in_ok-push w ↦ written_full 64 c.args.width numbers c.loop-value.words.items _ index _ _ _ _ _ _ _ c.loop-value.invariant inside number c.requires.fits c.requires.narrow refl (ap (bit_and _) w.from-then-filled-ge64.ensures) (ap (λ v. v.items) w.words-is ∙ w.in_ok-push.ensures.items) w.pending-is w.filled-is w.if-filled-ge64.true
-      | else-filled-ge64 w ↦ (rw w.words-is (written_short 64 c.args.width numbers _ index _ _ _ _ _ c.loop-value.invariant inside number c.requires.fits c.requires.narrow w.pending-is w.filled-is w.if-filled-ge64.false))
+      | then-filled-ge64+in_ok-push w ↦ written_full 64 c.args.width numbers c.loop-value.words.items _ index _ _ _ _ _ _ _ c.loop-value.invariant inside number c.requires.offsets.fits c.requires.narrow refl (ap (bit_and _) w.from-then-filled-ge64.ensures) (ap (λ v. v.items) w.words-is ∙ w.in_ok-push.ensures.items) w.pending-is w.filled-is w.if-filled-ge64.true
+      | else-filled-ge64 w ↦ (rw w.words-is (written_short 64 c.args.width numbers _ index _ _ _ _ _ c.loop-value.invariant inside number c.requires.offsets.fits c.requires.narrow w.pending-is w.filled-is w.if-filled-ge64.false))
     ]
 
 pub returns : goal.returns

@@ -10,7 +10,7 @@ pub overflow_cast-offset : goal.overflow_cast-offset
 overflow_cast-offset c =
     let numbers = offsets c.args.least c.args.values.now in
     let number : c.offset.result ≡ get_or numbers c.loop-doc.doc 0 = c.offset.ensures ∙ sym (offset_at c.args.least c.loop-doc.doc 0 c.args.values.now c.loop-doc-test.true) in
-    let small : get_or numbers c.loop-doc.doc 0 < 2 ^ c.args.width = c.requires.fits c.loop-doc.doc 0 (omega (arith, c.loop-doc-test.true, length-offsets c.args.least c.args.values.now)) in
+    let small : get_or numbers c.loop-doc.doc 0 < 2 ^ c.args.width = c.requires.offsets.fits c.loop-doc.doc 0 (omega (arith, c.loop-doc-test.true, length-offsets c.args.least c.args.values.now)) in
     let power : 2 ^ c.args.width ≤ 2 ^ 32 = pow_mono c.requires.narrow in
     Fits-of_lt (omega (arith, number, small, power))
 

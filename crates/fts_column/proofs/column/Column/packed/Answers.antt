@@ -2,22 +2,14 @@ use Rattle.std.proofs.Common.{◌≡◌, ◌<◌, ◌^◌, ◌-◌, ◌∙◌, a
 use Rattle.fts_bits.specs.Digits.{words_of}
 use Rattle.fts_column.specs.Column.{spread_of, least_of, offsets}
 use Rattle.fts_column.specs.Lanes.{AreLanesOf, in_lanes}
-use Rattle.fts_column.proofs.ColumnLemmas.{IsColumn-built, column_values, offsets_fit, unwrap_least, unwrap_spread}
+use Rattle.fts_column.proofs.ColumnLemmas.{HaveOffsets-range, IsColumn-built, column_values, unwrap_least, unwrap_spread}
 use Rattle.fts_column.proofs.column.Column.packed.Goals as goal
 
-pub packed_offsets-requires-clause-fits : goal.packed_offsets-requires-clause-fits
-packed_offsets-requires-clause-fits c =
-    let range = c.range_of-range.result in
-    let least : c.unwrap_or-least.result.0 ≡ least_of range = ap (λ r. r.0) c.unwrap_or-least.ensures ∙ unwrap_least range in
-    let spread : c.unwrap_or-least.result.1 - c.unwrap_or-least.result.0 ≡ spread_of range = ap (λ r. r.1 - r.0) c.unwrap_or-least.ensures ∙ unwrap_spread range in
-    rw least (offsets_fit c.args.values.now range _ c.range_of-range.ensures.range (rw spread at c.bit_length-width.ensures.holds))
+pub packed_offsets-requires-clause-offsets : goal.packed_offsets-requires-clause-offsets
+packed_offsets-requires-clause-offsets c = HaveOffsets-range c.args.values.now c.range_of-range.result _ c.unwrap_or-least.result c.requires c.range_of-range.ensures.range c.unwrap_or-least.ensures c.bit_length-width.ensures.holds
 
-pub of_offsets-requires-clause-fits : goal.of_offsets-requires-clause-fits
-of_offsets-requires-clause-fits c =
-    let range = c.range_of-range.result in
-    let least : c.unwrap_or-least.result.0 ≡ least_of range = ap (λ r. r.0) c.unwrap_or-least.ensures ∙ unwrap_least range in
-    let spread : c.unwrap_or-least.result.1 - c.unwrap_or-least.result.0 ≡ spread_of range = ap (λ r. r.1 - r.0) c.unwrap_or-least.ensures ∙ unwrap_spread range in
-    rw least (offsets_fit c.args.values.now range _ c.range_of-range.ensures.range (rw spread at c.bit_length-width.ensures.holds))
+pub of_offsets-requires : goal.of_offsets-requires
+of_offsets-requires c = HaveOffsets-range c.args.values.now c.range_of-range.result _ c.unwrap_or-least.result c.requires c.range_of-range.ensures.range c.unwrap_or-least.ensures c.bit_length-width.ensures.holds
 
 pub invariant_of-result : goal.invariant_of-result
 invariant_of-result c =
