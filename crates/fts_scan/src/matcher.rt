@@ -120,32 +120,6 @@ fn leads(
     Ok(true)
 }
 
-/// Looks in one of these texts, whose first span has this number, for a token that is the first member of a pattern, and
-/// the others stand with it. Where none is there, the text behind begins at the number that comes back.
-fn seek_lead(
-    texts: Strings<'_>,
-    text: &str,
-    start: usize,
-    first: &(u32, Text),
-    others: &[(u32, Text)],
-    scratch: &mut String,
-) -> Result<Option<usize>, AllocError>
-    requires room { HasRoom 0 (strings texts) }
-    requires near { start + length text.now + 2 < 2 ^ 63 }
-    ensures sought { IfOk result
-        (IsSought (list_any (leads (tokens_of_texts 0 (strings texts.entry)) first.now others.now)
-        (tokens_from start text.now)) (following start text.now)) }
-    ensures near { IfOk result (λ next. IfSome next (λ n. n ≤ start + length text.now + 1)) }
-{
-    let mut tokens = Tokens::starting(text, start);
-    while let Some(place) = tokens.next_token() {
-        if leads(texts, text, place, first, others, scratch)? {
-            return Ok(None);
-        }
-    }
-    Ok(Some(tokens.following()))
-}
-
 /// Whether some token of these texts is the first member of a pattern, and the others stand with it.
 fn any_leads(
     texts: Strings<'_>,
@@ -161,10 +135,14 @@ fn any_leads(
 {
     let mut start = 0;
     for number in 0..texts.len() {
-        match seek_lead(texts, texts.get(number), start, first, others, scratch)? {
-            None => return Ok(true),
-            Some(next) => start = next,
+        let text = texts.get(number);
+        let mut tokens = Tokens::starting(text, start);
+        while let Some(place) = tokens.next_token() {
+            if leads(texts, text, place, first, others, scratch)? {
+                return Ok(true);
+            }
         }
+        start = tokens.following();
     }
     Ok(false)
 }
