@@ -1,5 +1,5 @@
 -- Documents that are taken from the front of a list, one after the other.
-use Rattle.std.proofs.Common.{◌≡◌, ℕ, ◌+◌, ◌-◌, ◌<◌, ◌≤◌, Some, None, List, [], ◌∷◌, ◌++◌, length, get_or, set, take, drop, min, refl, sym, ap, ap₂, subst, ◌∙◌, inl, inr, arith}
+use Rattle.std.proofs.Common.{◌≡◌, ℕ, ◌+◌, ◌-◌, ◌<◌, ◌≤◌, Some, None, List, [], ◌∷◌, ◌++◌, append_assoc, length, get_or, set, take, drop, min, refl, sym, ap, ap₂, subst, ◌∙◌, inl, inr, arith}
 use Rattle.std.specs.List.{slice_get}
 use Rattle.std.proofs.lemmas.Bool.{cases_lt}
 use Rattle.std.proofs.lemmas.List.{append-nil, drop-take, length-append, nil_from_length, take-append-drop, take-append-le, take-take, take_more, take_more_set, take_all, drop_all, drop-drop, get_or-drop, length-drop}
@@ -101,3 +101,58 @@ stretch_copied numbers here rest next out written at len filled count is size in
       front = copied ∙ ap (λ xs. take filled out ++ xs) (sym (take-take count (len - at) (drop at numbers) fits) ∙ ap (take count) front ∙ sym (take-append-le count (drop at here) rest (omega (arith, fits, length-drop at here, size))));
       left_is = left;
     }
+
+-- the first of what was left lie behind those that filled the front, and are left no more
+pub record IsTakenBehind (left next out written : List ℕ) (filled end : ℕ) : Type 0 where
+  pub order : filled ≤ end
+  pub within : end ≤ filled + length left
+  pub room : end ≤ 128
+  pub front : take end written ≡ take filled out ++ take (end - filled) left
+  pub left_is : next ≡ drop (end - filled) left
+
+pub IsTakenBehind-none : (left out : List ℕ) (filled : ℕ) → filled < 128 → IsTakenBehind left left out out filled filled
+IsTakenBehind-none left out filled room =
+    let none : filled - filled ≡ 0 = omega arith in
+    record {
+      order = omega arith;
+      within = omega arith;
+      room = omega (arith, room);
+      front = sym (append-nil (take filled out)) ∙ sym (ap (λ n. take filled out ++ take n left) none);
+      left_is = sym (ap (λ n. drop n left) none);
+    }
+
+-- a stretch more
+pub IsTakenBehind-more : (left mid next out written later : List ℕ) (filled end count : ℕ) → IsTakenBehind left mid out written filled end → IsStretch mid next written later end count → IsTakenBehind left next out later filled (end + count)
+IsTakenBehind-more left mid next out written later filled end count h s =
+    let taken = end - filled in
+    let more : end + count - filled ≡ taken + count = omega (arith, h.order) in
+    record {
+      order = omega (arith, h.order);
+      within = omega (arith, h.within, h.order, s.within, ap length h.left_is, length-drop taken left);
+      room = s.room;
+      front =
+          s.front ∙ ap₂ (λ xs ys. xs ++ take count ys) h.front h.left_is
+          ∙ append_assoc (take filled out) (take taken left) (take count (drop taken left))
+          ∙ ap (λ xs. take filled out ++ xs) (sym (take-add taken count left) ∙ sym (ap (λ n. take n left) more));
+      left_is = s.left_is ∙ ap (drop count) h.left_is ∙ drop-drop count taken left ∙ ap (λ n. drop n left) (omega (arith, more));
+    }
+
+-- as many as there is room for, or all
+pub IsStretch-behind : (left next out written : List ℕ) (filled end count : ℕ) → IsTakenBehind left next out written filled end → count ≡ end - filled → (0 < length left → filled < end) → IsStretch left next out written filled count
+IsStretch-behind left next out written filled end count h is some =
+    let whole : filled + count ≡ end = omega (arith, h.order, is) in
+    record {
+      some = λ there. omega (arith, some there, is);
+      within = omega (arith, h.within, is, h.order);
+      room = omega (arith, whole, h.room);
+      front = ap (λ n. take n written) whole ∙ h.front ∙ ap (λ n. take filled out ++ take n left) (sym is);
+      left_is = h.left_is ∙ ap (λ n. drop n left) (sym is);
+    }
+
+-- where a stretch of nothing follows, something was taken if there was any
+pub behind_some : (left mid out written : List ℕ) (filled end : ℕ) → IsTakenBehind left mid out written filled end → (0 < length mid → ⊥) → 0 < length left → filled < end
+behind_some left mid out written filled end h none some =
+    elim (cases_lt filled end) [
+      | inl more ↦ more
+      | inr all ↦ absurd (none (let none_taken : end - filled ≡ 0 = omega (arith, all) in omega (arith, some, ap length h.left_is, length-drop (end - filled) left, none_taken)))
+    ]

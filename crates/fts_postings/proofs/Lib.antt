@@ -8,5 +8,6 @@ pub mod ConjoinedLemmas
 pub mod UnionLemmas
 pub mod WindowLemmas
 pub mod MarksLemmas
+pub mod MarkingLemmas
 mod TakingLemmas
 mod PlacesLemmas

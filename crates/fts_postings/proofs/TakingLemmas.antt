@@ -1,11 +1,11 @@
 -- The marked documents of a word that are taken at once.
-use Rattle.std.proofs.Common.{◌≡◌, ℕ, zero, suc, ◌+◌, ◌-◌, ◌*◌, ◌/◌, ◌%◌, ◌^◌, ◌<◌, ◌≤◌, Bool, true, false, cond, ◌==◌, count_ones, List, [], ◌∷◌, ◌++◌, length, take, drop, set, refl, sym, ap, ap₂, subst, ◌∙◌, inl, inr, arith}
+use Rattle.std.proofs.Common.{◌≡◌, ℕ, zero, suc, ◌+◌, ◌-◌, ◌/◌, ◌%◌, ◌^◌, ◌<◌, ◌≤◌, Bool, cond, ◌==◌, count_ones, List, [], ◌∷◌, ◌++◌, length, take, drop, refl, sym, ap, ap₂, subst, ◌∙◌, inl, inr, arith}
 use Rattle.std.specs.Int.{bit_at}
 use Rattle.std.proofs.Math.Seq.{take-append_seam}
 use Rattle.std.proofs.lemmas.Bool.{cases_Bool, cases_lt, eqb-false, eqb-true}
-use Rattle.std.proofs.lemmas.List.{drop-append-le, drop_all, length-append, take_more_set}
+use Rattle.std.proofs.lemmas.List.{drop-append-le, drop_all, length-append}
 use Rattle.std.proofs.lemmas.Nat.{ones_le_self}
-use Rattle.std.proofs.lemmas.Nat.Bits.{bit_at_above, bit_at_lowest, bit_at-lt, bit_at-suc}
+use Rattle.std.proofs.lemmas.Nat.Bits.{bit_at_above, bit_at_lowest, bit_at-suc}
 use lib.Count.{ones_step}
 use Rattle.fts_pack.specs.Documents.{Rises}
 use Rattle.fts_postings.specs.Fills.{IsStretch}

@@ -1,15 +1,18 @@
 // A cursor over the blocks of one list, of which one is open at a time.
 ghost use Rattle.std.specs.Prelude.{◌≡◌, ℕ, ◌+◌, ◌-◌, ◌^◌, ◌<◌, ◌≤◌, List, [], drop, length, min, slice_index_or, take};
-ghost use Rattle.std.specs.Prelude.{if◌then◌else◌, nat_lt};
+ghost use Rattle.std.specs.Prelude.{◌||◌, All, if◌then◌else◌, nat_lt, slice_index};
 ghost use Rattle.std.specs.List.Sorted.{IsStrictlyIncreasing};
 ghost use Rattle.fts_pack.specs.Documents.{blocks_of, last_of};
 ghost use Rattle.fts_postings.specs.Fills.{IsStretch};
+ghost use Rattle.fts_postings.specs.Meeting.{has};
 ghost use Rattle.fts_postings.specs.Posting.{Follows, Walks, blocks_reached, here, members_of, opened_by_step};
 ghost use Rattle.fts_postings.specs.Posting.{remaining_of};
 ghost use Rattle.fts_postings.specs.Remaining.{at_least, IsPlaceOf};
+ghost use Rattle.fts_postings.specs.Windows.{found_in};
 
 use crate::doc_set::DocSet;
 use crate::stretch::{copy_part, place_of};
+use crate::window::Window;
 use fts_pack::Blocks;
 use std::marker::Model;
 
@@ -86,6 +89,29 @@ impl<B: Blocks> PostingCursor<B> {
         ensures { min (2 ^ 64 - 1) (length (remaining_of self.now)) ≤ result }
     {
         (self.source.blocks() - self.block).saturating_mul(128)
+    }
+
+    /// Marks the documents of the open block that have a place in the window, of which it stands at one, leaves them
+    /// behind, and gives how many they are.
+    #[inline]
+    pub fn mark_open(&mut self, window: &mut Window) -> usize
+        requires some { 0 < length (remaining_of self.old) }
+        requires low { remaining_of self.old ≡ at_least window.old.from (remaining_of self.old) }
+        requires place { slice_index (remaining_of self.old) 0 ≤ window.old.last }
+        ensures some { 0 < result }
+        ensures within { result ≤ length (remaining_of self.old) }
+        ensures remaining { remaining_of self.new ≡ drop result (remaining_of self.old) }
+        ensures walks { Walks self.old self.new }
+        ensures place { (window.new.from ≡ window.old.from) × (window.new.last ≡ window.old.last) }
+        ensures places { All (λ d. d ≤ window.old.last) (take result (remaining_of self.old)) }
+        ensures marked { (d : ℕ) →
+            has (found_in window.new.base window.new.from window.new.last window.new.words) d
+            ≡ (has (found_in window.old.base window.old.from window.old.last window.old.words) d
+            || has (take result (remaining_of self.old)) d) }
+    {
+        let count = window.mark_some(&self.numbers[self.at..self.len]);
+        self.leave(count);
+        count
     }
 
     // Leaves everything behind.

@@ -1,6 +1,7 @@
 // The documents found among the next 4,096, as bits.
-ghost use Rattle.std.specs.Prelude.{◌≡◌, ◌+◌, ◌^◌, ◌<◌, ◌≤◌, ◌∷◌, [], IfSome, MatchBool, drop, false, length, slice_get, true};
-ghost use Rattle.fts_postings.specs.Meeting.{with_one};
+ghost use Rattle.std.specs.Prelude.{◌≡◌, ℕ, ◌+◌, ◌^◌, ◌<◌, ◌≤◌, ◌∷◌, ◌||◌, [], All, IfSome, MatchBool, drop, false, length};
+ghost use Rattle.std.specs.Prelude.{slice_get, slice_index, take, true};
+ghost use Rattle.fts_postings.specs.Meeting.{has, with_one};
 ghost use Rattle.fts_postings.specs.Remaining.{at_least};
 ghost use Rattle.fts_postings.specs.Fills.{IsStretch};
 ghost use Rattle.fts_postings.specs.Windows.{found_in, is_found};
@@ -73,6 +74,27 @@ impl Window {
         self.words[place / 64] |= 1 << (place % 64);
     }
 
+    /// Marks the first of the documents, up to one that has no place, and gives how many they are.
+    #[inline]
+    pub fn mark_some(&mut self, docs: &[u32]) -> usize
+        requires { All (λ d. self.old.from ≤ d) docs.now }
+        ensures place { (self.new.from ≡ self.old.from) × (self.new.last ≡ self.old.last) }
+        ensures within { result ≤ length docs.now }
+        ensures some { 0 < length docs.now → slice_index docs.now 0 ≤ self.old.last → 0 < result }
+        ensures places { All (λ d. d ≤ self.old.last) (take result docs.now) }
+        ensures marked { (d : ℕ) → has (found_in self.new.base self.new.from self.new.last self.new.words) d
+            ≡ (has (found_in self.old.base self.old.from self.old.last self.old.words) d || has (take result docs.now) d) }
+    {
+        for index in 0..docs.len() {
+            let doc = docs[index];
+            if !self.covers(doc) {
+                return index;
+            }
+            self.mark(doc);
+        }
+        docs.len()
+    }
+
     /// The first document that is marked. Places without marks before it are left behind.
     #[inline]
     pub fn first(&mut self) -> Option<u32>
@@ -115,9 +137,30 @@ impl Window {
     }
 
     /// Writes the first documents that are marked behind the first `filled` of `out`, leaves them behind, and gives how
-    /// many they are: those of a whole word where there is room for them, and else one.
+    /// many they are: as many as there is room for.
     #[inline]
     pub fn take_some(&mut self, out: &mut [u32; 128], filled: usize) -> usize
+        requires { filled < 128 }
+        ensures last { self.new.last ≡ self.old.last }
+        ensures taken { IsStretch
+            (found_in self.old.base self.old.from self.old.last self.old.words)
+            (found_in self.new.base self.new.from self.new.last self.new.words)
+            out.old out.new filled result }
+    {
+        let mut end = filled;
+        while end < 128 {
+            let count = self.take_next(out, end);
+            if count == 0 {
+                return end - filled;
+            }
+            end += count;
+        }
+        128 - filled
+    }
+
+    // The same for the documents of a whole word where there is room for them, and else for one.
+    #[inline]
+    fn take_next(&mut self, out: &mut [u32; 128], filled: usize) -> usize
         requires { filled < 128 }
         ensures last { self.new.last ≡ self.old.last }
         ensures taken { IsStretch

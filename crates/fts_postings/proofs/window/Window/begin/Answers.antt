@@ -1,5 +1,5 @@
 -- The words up to the last place are 0.
-use Rattle.std.proofs.Common.{◌<◌, ◌≢◌, length, get_or, arith, ◌∙◌, get_or-set_other, get_or-set_same, below_more}
+use Rattle.std.proofs.Common.{arith}
 use Rattle.fts_postings.proofs.WindowLemmas.{found-nothing}
 use Rattle.fts_postings.proofs.window.Window.begin.Goals as goal
 

@@ -1,6 +1,6 @@
 -- One bit is set, and the others stay.
-use Rattle.std.proofs.Common.{◌≢◌, ◌-◌, ◌/◌, ◌%◌, ◌<◌, arith, ◌∙◌}
-use Rattle.fts_postings.proofs.WindowLemmas.{found-mark, found-set}
+use Rattle.std.proofs.Common.{arith}
+use Rattle.fts_postings.proofs.WindowLemmas.{found-set}
 use Rattle.fts_postings.proofs.window.Window.mark.Goals as goal
 
 pub returns-clause-marked : goal.returns-clause-marked

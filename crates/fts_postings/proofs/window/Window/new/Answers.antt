@@ -1,5 +1,5 @@
 -- No place has a mark.
-use Rattle.std.proofs.Common.{arith, get_or, replicate}
+use Rattle.std.proofs.Common.{arith, replicate}
 use Rattle.fts_postings.proofs.WindowLemmas.{found-nothing, none_replicated}
 use Rattle.fts_postings.proofs.window.Window.new.Goals as goal
 
