@@ -114,6 +114,21 @@ impl<B: Blocks> PostingCursor<B> {
         count
     }
 
+    /// How many documents remain, or the greatest `usize`. Opens each block that is left, and leaves all behind.
+    pub fn count(&mut self) -> usize
+        ensures count { result ≡ min (2 ^ 64 - 1) (length (remaining_of self.old)) }
+        ensures none { remaining_of self.new ≡ [] }
+        ensures walks { Walks self.old self.new }
+    {
+        let mut count = 0usize;
+        while self.at < self.len {
+            let here = self.len - self.at;
+            self.leave(here);
+            count = count.saturating_add(here);
+        }
+        count
+    }
+
     // Leaves everything behind.
     pub(crate) fn finish(&mut self)
         ensures nothing { remaining_of self.new ≡ [] }
