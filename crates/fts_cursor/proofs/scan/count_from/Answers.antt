@@ -1,8 +1,6 @@
 -- A stretch is counted, and the others are left.
-use Rattle.std.proofs.Common.{◌+◌, ◌-◌, length, min, ap, arith}
-use Rattle.std.proofs.lemmas.List.{length-append}
+use Rattle.std.proofs.Common.{◌-◌, length, ap, arith}
 use Rattle.fts_cursor.specs.Scans.{keeps}
-use Rattle.fts_postings.specs.Windows.{passing}
 use Rattle.fts_postings.proofs.CostLemmas.{scan_cost}
 use Rattle.fts_cursor.proofs.ScanLemmas.{length-stretch, none_behind}
 use Rattle.fts_cursor.proofs.scan.count_from.Goals as goal

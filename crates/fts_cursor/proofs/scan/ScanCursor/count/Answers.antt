@@ -1,5 +1,5 @@
 -- What is left of the stretch and the later ones are counted; behind all nothing is left.
-use Rattle.std.proofs.Common.{◌+◌, ◌-◌, ◌≤◌, refl, ap, sym, arith, length}
+use Rattle.std.proofs.Common.{◌-◌, ◌≤◌, length, refl, ap, sym, arith}
 use Rattle.fts_cursor.specs.Scans.{keeps}
 use Rattle.fts_postings.proofs.CostLemmas.{scan_cost}
 use Rattle.fts_cursor.proofs.ScanLemmas.{length-left, none_behind, none_in_stretch}
