@@ -66,11 +66,12 @@ impl<'a> Cursor<'a> {
         self.tree.openings()
     }
 
-    /// How many documents remain, where they needn't be gone through one after the other for that, and leaves them
-    /// behind then: for a range that is read from a column in a segment all of whose documents are live, 64 at a time.
+    /// How many documents remain, or the greatest `usize`, where they needn't be gone through one after the other for
+    /// that, and leaves them behind then: for a list, and for a range that is read from a column, in a segment all of
+    /// whose documents are live.
     pub fn count(&mut self) -> Option<usize>
         ensures counted { MatchOption result (self.new ≡ self.old)
-            (λ count. (count ≡ length self.old.remaining) × (self.new.remaining ≡ [])) }
+            (λ count. (count ≡ min (2 ^ 64 - 1) (length self.old.remaining)) × (self.new.remaining ≡ [])) }
         ensures walked { Walked self.old self.new }
     {
         match self.live {

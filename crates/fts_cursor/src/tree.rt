@@ -283,16 +283,21 @@ impl<'a> Tree<'a> {
         }
     }
 
-    /// How many documents remain, where they needn't be gone through one after the other for that, and leaves them
-    /// behind then.
+    /// How many documents remain, or the greatest `usize`, where they needn't be gone through one after the other for
+    /// that, and leaves them behind then.
     pub(crate) fn count(&mut self) -> Option<usize>
         ensures counted { MatchOption result (self.new ≡ self.old)
-            (λ count. (count ≡ length self.old.remaining) × (self.new.remaining ≡ [])) }
+            (λ count. (count ≡ min (2 ^ 64 - 1) (length self.old.remaining)) × (self.new.remaining ≡ [])) }
         ensures walked { Walked self.old.standing self.new.standing }
     {
         match &mut self.node {
             Node::Scan(scan) => {
                 let count = scan.count();
+                self.doc = None;
+                Some(count)
+            }
+            Node::Postings(postings) => {
+                let count = postings.count();
                 self.doc = None;
                 Some(count)
             }
