@@ -13,6 +13,7 @@ use Rattle.fts_model.specs.Documents.{DocumentValue, value_in_field}
 use Rattle.fts_cursor.specs.Scans.{has_value, keeps, kept_from, kept_in}
 use Rattle.fts_postings.specs.Windows.{passing}
 use Rattle.fts_cursor.specs.declared.kept.Kept.{Kept}
+use Rattle.fts_cursor.specs.declared.kept.Kept.TheVariants.{Every}
 use Rattle.fts_postings.proofs.RemainingLemmas.{Rises-front, at_least-append, at_least_all, at_least_place}
 use Rattle.fts_postings.proofs.MeetingLemmas.{filter-at_least}
 use Rattle.fts_postings.proofs.PostingLemmas.{all_below}
@@ -58,6 +59,34 @@ passing-stretch p from docs = elim (cases_lt (docs - from) 128) [
       let all : 128 ≡ min 128 (docs - from) = omega (arith, long) in
       ap (passing p from) e ∙ passing-append p from 128 (docs - (from + 128)) ∙ ap (λ m. passing p from m ++ passing p (from + 128) (docs - (from + 128))) all
 ]
+
+-- every document is kept
+pub length-every : (a n : ℕ) → length (passing (keeps Every) a n) ≡ n
+length-every a zero = refl
+length-every a (suc n) = omega (arith, length-every (a + 1) n)
+
+-- how many are kept in the first stretch, and in the others
+pub length-stretch : (p : ℕ → Bool) (from docs : ℕ) → length (passing p from (docs - from)) ≡ length (passing p from (min 128 (docs - from))) + length (passing p (from + 128) (docs - (from + 128)))
+length-stretch p from docs = ap length (passing-stretch p from docs) ∙ length-append (passing p from (min 128 (docs - from))) (passing p (from + 128) (docs - (from + 128)))
+
+-- behind the last document there is none
+pub none_behind : (p : ℕ → Bool) (from docs : ℕ) → docs ≤ from → passing p from (docs - from) ≡ []
+none_behind p from docs past = let none : docs - from ≡ 0 = omega (arith, past) in ap (passing p from) none
+
+pub none_in_stretch : (p : ℕ → Bool) (from docs : ℕ) → docs ≤ from → passing p from (min 128 (docs - from)) ≡ []
+none_in_stretch p from docs past = let none : min 128 (docs - from) ≡ 0 = omega (arith, past) in ap (passing p from) none
+
+-- how many are left, of the stretch and behind it
+pub length-left : (p : ℕ → Bool) (from docs at len : ℕ) → len ≡ length (passing p from (min 128 (docs - from))) → (from < docs → at < len) → length (drop at (passing p from (docs - from))) ≡ (len - at) + length (passing p (from + 128) (docs - (from + 128)))
+length-left p from docs at len size stands =
+    let whole = passing p from (docs - from) in
+    let rest = passing p (from + 128) (docs - (from + 128)) in
+    elim (cases_lt from docs) [
+      | inl inside ↦ omega (arith, length-drop at whole, length-stretch p from docs, size, stands inside)
+      | inr past ↦
+          let none = ap length (none_behind p from docs past) in
+          omega (arith, length-drop at whole, length-stretch p from docs, size, none)
+    ]
 
 -- past the end nothing is left
 pub none_kept : (p : ℕ → Bool) (from docs at : ℕ) → 0 < length (drop at (passing p from (docs - from))) → from < docs

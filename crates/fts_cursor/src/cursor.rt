@@ -1,5 +1,6 @@
 // The cursor of a query: of the documents that match, those that are live remain.
-ghost use Rattle.std.specs.Prelude.{◌≡◌, ◌-◌, ◌^◌, ◌≤◌, true, [], drop, filter, length, min, slice_get, take};
+ghost use Rattle.std.specs.Prelude.{◌≡◌, ◌-◌, ◌^◌, ◌≤◌, true, [], MatchOption, drop, filter, length, min, slice_get};
+ghost use Rattle.std.specs.Prelude.{take};
 ghost use Rattle.fts_cursor.specs.Hits.{is_live};
 ghost use Rattle.fts_postings.specs.Bounds.{most_at};
 ghost use Rattle.fts_postings.specs.Meeting.{FirstPasses};
@@ -63,6 +64,19 @@ impl<'a> Cursor<'a> {
             → self.now.openings ≡ most_at self.now.bound None }
     {
         self.tree.openings()
+    }
+
+    /// How many documents remain, where they needn't be gone through one after the other for that, and leaves them
+    /// behind then: for a range that is read from a column in a segment all of whose documents are live, 64 at a time.
+    pub fn count(&mut self) -> Option<usize>
+        ensures counted { MatchOption result (self.new ≡ self.old)
+            (λ count. (count ≡ length self.old.remaining) × (self.new.remaining ≡ [])) }
+        ensures walked { Walked self.old self.new }
+    {
+        match self.live {
+            None => self.tree.count(),
+            Some(_) => None,
+        }
     }
 }
 

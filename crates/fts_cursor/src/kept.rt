@@ -41,6 +41,21 @@ pub(crate) fn write(kept: Kept, docs: usize, from: usize, out: &mut [u32; 128]) 
     }
 }
 
+/// How many of the 128 documents from `from` on are kept.
+pub(crate) fn count(kept: Kept, docs: usize, from: usize) -> usize
+    requires few { docs ≤ 2 ^ 32 }
+    requires are_for { AreFor kept docs }
+    requires inside { from < docs }
+    requires aligned { from % 64 ≡ 0 }
+    ensures { result ≡ length (kept_in kept.entry from docs) }
+{
+    match kept {
+        Kept::Every => (docs - from).min(128),
+        Kept::Within { column, low, high } => count_within(column, low, high, from),
+        Kept::Valued { segment, field } => write_valued(segment, field, from, &mut [0; 128]),
+    }
+}
+
 fn write_every(docs: usize, from: usize, out: &mut [u32; 128]) -> usize
     requires few { docs ≤ 2 ^ 32 }
     requires inside { from < docs }
@@ -67,6 +82,18 @@ fn write_within(column: &Column, low: u64, high: u64, from: usize, out: &mut [u3
     let second = column.marks_within(from + 64, low, high);
     let count = marks::write(first, from, out, 0);
     marks::write(second, from + 64, out, count)
+}
+
+fn count_within(column: &Column, low: u64, high: u64, from: usize) -> usize
+    requires few { length column.now ≤ 2 ^ 32 }
+    requires inside { from < length column.now }
+    requires aligned { from % 64 ≡ 0 }
+    ensures { result ≡ length (passing (has_within low high column.now) from
+        (min 128 (length column.now - from))) }
+{
+    let first = column.marks_within(from, low, high);
+    let second = column.marks_within(from + 64, low, high);
+    (first.count_ones() + second.count_ones()) as usize
 }
 
 fn write_valued(segment: &Segment, field: usize, from: usize, out: &mut [u32; 128]) -> usize

@@ -81,7 +81,8 @@ impl DocSet for ListedCursor {
 fn joined(alloc: Global, lists: &[fts_pack::List]) -> Result<Vec<u32>, AllocError>
     ensures { IfOk result (λ documents. documents.items ≡ flat_map (λ list. list) lists.now) }
 {
-    let mut documents = Vec::new(alloc);
+    // No list is empty.
+    let mut documents = Vec::with_capacity(alloc, lists.len())?;
     for list in lists {
         push_list(&mut documents, list)?;
     }

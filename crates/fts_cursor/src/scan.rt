@@ -1,5 +1,5 @@
 // A cursor over the documents that are kept by their number alone.
-ghost use Rattle.std.specs.Prelude.{◌≡◌, ◌%◌, ◌^◌, ◌-◌, ◌<◌, ◌≤◌, length, slice_index, take};
+ghost use Rattle.std.specs.Prelude.{◌≡◌, ◌%◌, ◌^◌, ◌-◌, ◌<◌, ◌≤◌, [], length, slice_index, take};
 ghost use Rattle.fts_postings.specs.Fills.{IsStretch};
 ghost use Rattle.fts_postings.specs.Remaining.{at_least};
 ghost use Rattle.fts_cursor.specs.Scans.{AreFor, kept_from, kept_in};
@@ -8,6 +8,9 @@ use crate::kept::{self, Kept};
 use fts_postings::DocSet;
 use fts_postings::stretch::{copy_part, place_of};
 use std::marker::Model;
+
+// A stretch that begins behind each document, since these have 32 bits.
+const BEHIND_ALL: usize = 8_589_934_592;
 
 /// A cursor over the documents that are kept. Those of the stretch in which it stands lie in the value.
 #[derive(Drop)]
@@ -55,6 +58,19 @@ impl<'a> ScanCursor<'a> {
         ensures { length self.now ≤ result }
     {
         self.docs.saturating_sub(self.from)
+    }
+
+    /// How many documents remain. Leaves them behind, and lists none of those of later stretches.
+    pub(crate) fn count(&mut self) -> usize
+        ensures count { result ≡ length self.old }
+        ensures none { self.new ≡ [] }
+    {
+        let here = self.len.saturating_sub(self.at);
+        let later = count_from(self.kept, self.docs, self.from + 128);
+        self.from = BEHIND_ALL;
+        self.at = 0;
+        self.len = 0;
+        here + later
     }
 
     // Copies what fits of the rest of the stretch behind what fills `out` so far, and leaves it behind.
@@ -168,4 +184,20 @@ fn find(
         from += 128;
     }
     (from, 0)
+}
+
+// How many documents from one on are kept.
+fn count_from(kept: Kept, docs: usize, from: usize) -> usize
+    requires few { docs ≤ 2 ^ 32 }
+    requires are_for { AreFor kept docs }
+    requires aligned { from % 64 ≡ 0 }
+    ensures { result ≡ length (kept_from kept.entry from docs) }
+{
+    let mut count = 0;
+    let mut from = from;
+    while from < docs {
+        count += kept::count(kept, docs, from);
+        from += 128;
+    }
+    count
 }

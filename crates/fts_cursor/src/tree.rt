@@ -1,5 +1,6 @@
 // Cursors of queries within one another, each of which knows the first document that remains of it.
-ghost use Rattle.std.specs.Prelude.{◌≡◌, ℕ, ◌-◌, ◌^◌, ◌<◌, ◌≤◌, ◌∷◌, All, [], true, drop, length, min, slice_get, take};
+ghost use Rattle.std.specs.Prelude.{◌≡◌, ℕ, ◌-◌, ◌^◌, ◌<◌, ◌≤◌, ◌∷◌, All, [], MatchOption, true, drop, length, min};
+ghost use Rattle.std.specs.Prelude.{slice_get, take};
 ghost use Rattle.std.specs.List.Sorted.{IsStrictlyIncreasing};
 ghost use Rattle.fts_postings.specs.Bounds.{most_at};
 ghost use Rattle.fts_postings.specs.Conjoined.{bound_of, common_of, counts_of};
@@ -279,6 +280,23 @@ impl<'a> Tree<'a> {
             if doc < target {
                 self.doc = skip(&mut self.node, target);
             }
+        }
+    }
+
+    /// How many documents remain, where they needn't be gone through one after the other for that, and leaves them
+    /// behind then.
+    pub(crate) fn count(&mut self) -> Option<usize>
+        ensures counted { MatchOption result (self.new ≡ self.old)
+            (λ count. (count ≡ length self.old.remaining) × (self.new.remaining ≡ [])) }
+        ensures walked { Walked self.old.standing self.new.standing }
+    {
+        match &mut self.node {
+            Node::Scan(scan) => {
+                let count = scan.count();
+                self.doc = None;
+                Some(count)
+            }
+            _ => None,
         }
     }
 
