@@ -213,8 +213,41 @@ fn see(
     rank_hits(segment, request.top, docs, &mut seen.top_k)
 }
 
-/// Takes all hits that remain of a cursor, 128 at a time.
+/// Whether nothing is asked for but how many hits there are.
+fn asks_count_alone(request: &Request) -> bool
+    ensures { result ≡ true → (request.now.groups ≡ None) × (request.now.top ≡ None) }
+{
+    request.groups.is_none() && request.top.is_none()
+}
+
+/// Takes all hits that remain of a cursor: counts them alone, where nothing else is asked for and the cursor can tell.
 fn see_all(
+    segment: &Segment,
+    request: &Request,
+    cursor: &mut Cursor<'_>,
+    seen: &mut Seen,
+) -> Result<(), AllocError>
+    requires fits { request_fits segment.now.schema request.now ≡ true }
+    requires within { All (λ doc. doc < length segment.now.documents) cursor.old.remaining }
+    requires none { HasSeen segment.now request.now [] seen.old }
+    ensures seen { OnOk result (HasSeen segment.now request.now cursor.old.remaining seen.new) }
+    ensures end { OnOk result (cursor.new.remaining ≡ []) }
+    ensures walked { OnOk result (Walked cursor.old cursor.new) }
+{
+    if !asks_count_alone(request) {
+        return see_each(segment, request, cursor, seen);
+    }
+    match cursor.count() {
+        None => see_each(segment, request, cursor, seen),
+        Some(count) => {
+            seen.count = seen.count.saturating_add(count as u64);
+            Ok(())
+        }
+    }
+}
+
+/// Takes all hits that remain of a cursor, 128 at a time.
+fn see_each(
     segment: &Segment,
     request: &Request,
     cursor: &mut Cursor<'_>,

@@ -2,7 +2,7 @@ use Rattle.std.proofs.Common.{◌≡◌, ◌∙◌, ◌-◌, ◌<◌, length, ap
 use Rattle.std.proofs.lemmas.List.{length-drop}
 use Rattle.fts_cursor.proofs.TreeLemmas.{Walked-trans}
 use Rattle.fts_collect.proofs.SeenLemmas.{under_way-all, under_way-first, under_way-next}
-use Rattle.fts_collect.proofs.collector.see_all.Goals as goal
+use Rattle.fts_collect.proofs.collector.see_each.Goals as goal
 
 pub loop-len-init : goal.loop-len-init
 loop-len-init c =
