@@ -1,9 +1,11 @@
 -- A disjunction: the documents of its window, and what remains of its parts behind it.
-use Rattle.std.proofs.Common.{◌≡◌, ℕ, zero, suc, ◌+◌, ◌-◌, ◌<◌, ◌≤◌, Bool, true, false, cond, ◌||◌, ◌&&◌, ◌==◌, nat_le, Some, None, List, [], ◌∷◌, ◌++◌, length, get_or, set, take, drop, refl, sym, ap, ap₂, subst, ◌∙◌, inl, inr, arith}
+use Rattle.std.proofs.Common.{◌≡◌, ℕ, zero, suc, ◌+◌, ◌-◌, ◌<◌, ◌≤◌, All, Bool, true, false, cond, ◌||◌, ◌&&◌, ◌==◌, nat_le, Some, None, List, [], ◌∷◌, ◌++◌, length, get_or, set, take, drop, refl, sym, ap, ap₂, subst, ◌∙◌, inl, inr, arith}
 use Rattle.std.specs.List.{AllZip, slice_get}
 use Rattle.std.specs.List.Sorted.{IsStrictlyIncreasing}
 use Rattle.std.proofs.lemmas.Bool.{cases_Bool, cases_lt, le-leb, lt-leb, false≢true}
-use Rattle.std.proofs.lemmas.List.{drop-append-le, length-append, take-append-le, take_more, take_all, map-append}
+use Rattle.std.proofs.lemmas.List.{drop-append-le, length-append, take-append-drop, take-append-le, take_more, take_all, map-append}
+use Rattle.std.proofs.lemmas.List.Elements.{All-drop}
+use Rattle.std.proofs.lemmas.List.Folds.{list_any-append}
 use Rattle.std.proofs.lemmas.Option.{slice_get_within}
 use Rattle.fts_pack.specs.Documents.{Rises}
 use Rattle.fts_postings.specs.Fills.{IsStretch}
@@ -17,6 +19,7 @@ use Rattle.fts_cursor.specs.declared.tree.Node.TheVariants.{Or}
 use Rattle.fts_postings.specs.declared.window.Window.{Window}
 use Rattle.fts_postings.proofs.RemainingLemmas.{Rises-from_increasing, at_least_all, first-at_least, increasing-from_Rises, nothing_first}
 use Rattle.fts_postings.proofs.MeetingLemmas.{Rises-lower, above_is_other, below_is_other, has-at_least, has-before_first, has-below, has-first, has-none, is_itself}
+use Rattle.fts_postings.proofs.MarkingLemmas.{at_least_behind, at_least_each, at_least_kept}
 use Rattle.fts_postings.proofs.PassingLemmas.{Rises-passing}
 use Rattle.fts_cursor.proofs.PartsLemmas.{TreeContinues-beside, TreeContinues-same, TreeContinues-together, UpTo, UpTo-next, UpTo-none, union-left}
 use Rattle.fts_postings.proofs.UnionLemmas.{Rises-union, at_least-with_all, by_order, first_of, has-union, has-with_one, in_some-append, leaves, or_false, union_first, with_one-front}
@@ -89,6 +92,10 @@ or_shift true true c = refl
 or_shift true false c = refl
 or_shift false b c = refl
 
+or_group : (a b c : Bool) → ((a || b) || c) ≡ (a || (b || c))
+or_group true b c = refl
+or_group false b c = refl
+
 and_nothing : (b : Bool) → (b && false) ≡ false
 and_nothing true = refl
 and_nothing false = refl
@@ -140,6 +147,26 @@ module _ (initial now : List ℕ) (old new : Window) (h : IsMarking initial now 
         ∙ ap (λ b. has (found new) d || b) (sym (has_split doc d now first))
         ∙ h.same d;
   }
+
+  pub marking_up : now ≡ at_least new.from now
+  marking_up = subst (λ n. now ≡ at_least n now) (sym h.place.0) h.up
+
+  -- a stretch more
+  pub IsMarking-stretch : (count : ℕ) (later : List ℕ) (w : Window) → later ≡ drop count now → (w.from ≡ new.from) × (w.last ≡ new.last) → All (λ d. d ≤ new.last) (take count now)
+      → ((d : ℕ) → has (found w) d ≡ (has (found new) d || has (take count now) d)) → IsMarking initial later old w
+  IsMarking-stretch count later w is place places marked =
+      let low : All (λ d. old.from ≤ d) now = subst (λ xs. All (λ d. old.from ≤ d) xs) (sym h.up) (at_least_each old.from now) in
+      let below : All (λ d. d < old.last + 1) (take count now) = λ k d inside. omega (arith, places k d inside, h.place.1) in
+      record {
+        place = (place.0 ∙ h.place.0, place.1 ∙ h.place.1);
+        up = is ∙ sym (ap (at_least old.from) is ∙ at_least_kept old.from (drop count now) (All-drop (λ d. old.from ≤ d) count now low));
+        left = ap (at_least (old.last + 1)) is ∙ at_least_behind (old.last + 1) count now below ∙ h.left;
+        same = λ d.
+            ap₂ (λ b ys. b || has ys d) (marked d) is
+            ∙ or_group (has (found new) d) (has (take count now) d) (has (drop count now) d)
+            ∙ ap (λ b. has (found new) d || b) (sym (list_any-append (λ x. x == d) (take count now) (drop count now)) ∙ ap (λ xs. has xs d) (take-append-drop count now))
+            ∙ h.same d;
+      }
 
   pub marking_past : (doc : ℕ) → Some doc ≡ slice_get now 0 → new.last < doc → now ≡ at_least (old.last + 1) now
   marking_past doc first past = stays_from_first (old.last + 1) doc now rises first (omega (arith, past, h.place.1))

@@ -16,3 +16,4 @@ pub mod RangeLemmas
 pub mod KeywordRangeLemmas
 pub mod CostLemmas
 pub mod ListedLemmas
+pub mod LiveLemmas

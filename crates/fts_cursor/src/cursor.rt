@@ -122,7 +122,8 @@ impl<'a> DocSet for Cursor<'a> {
     }
 }
 
-// Takes the next 128 documents whose bit is set of a tree that stands at one of them.
+// Takes the next 128 documents whose bit is set of a tree that stands at one of them: those among the next 128, and as
+// many more by steps as of these aren't live.
 fn fill_live(tree: &mut Tree, live: &Bits, out: &mut [u32; 128]) -> usize
     requires { FirstPasses (is_live live.now) tree.old.remaining }
     ensures count { result ≡ min 128 (length (filter (is_live live.now) tree.old.remaining)) }
@@ -132,7 +133,10 @@ fn fill_live(tree: &mut Tree, live: &Bits, out: &mut [u32; 128]) -> usize
     ensures settled { FirstPasses (is_live live.now) tree.new.remaining }
     ensures walked { Walked tree.old.standing tree.new.standing }
 {
-    for filled in 0..128 {
+    let taken = tree.fill(out);
+    let kept = keep_live(live, taken, out);
+    settle(tree, live);
+    for filled in kept..128 {
         match tree.doc() {
             Some(doc) => out[filled] = doc,
             None => return filled,
@@ -141,6 +145,22 @@ fn fill_live(tree: &mut Tree, live: &Bits, out: &mut [u32; 128]) -> usize
         settle(tree, live);
     }
     128
+}
+
+// Keeps those of the first documents whose bit is set, and gives how many they are.
+fn keep_live(live: &Bits, count: usize, docs: &mut [u32; 128]) -> usize
+    requires { count ≤ 128 }
+    ensures kept { take result docs.new ≡ filter (is_live live.now) (take count docs.old) }
+    ensures few { result ≤ count }
+    ensures size { result ≡ length (filter (is_live live.now) (take count docs.old)) }
+{
+    let mut kept = 0;
+    for index in 0..count {
+        let doc = docs[index];
+        docs[kept] = doc;
+        kept += usize::from(is_live(live, doc));
+    }
+    kept
 }
 
 // Whether the document's bit is set. What has no bit isn't live.

@@ -1,6 +1,6 @@
 // The documents found among the next 4,096, as bits.
-ghost use Rattle.std.specs.Prelude.{◌≡◌, ℕ, ◌+◌, ◌^◌, ◌<◌, ◌≤◌, ◌∷◌, ◌||◌, [], All, IfSome, MatchBool, drop, false, length};
-ghost use Rattle.std.specs.Prelude.{slice_get, slice_index, take, true};
+ghost use Rattle.std.specs.Prelude.{◌≡◌, ℕ, ◌+◌, ◌^◌, ◌<◌, ◌≤◌, ◌∷◌, ◌||◌, [], All, IfSome, MatchBool, drop, false};
+ghost use Rattle.std.specs.Prelude.{length, slice_get, slice_index, take, true};
 ghost use Rattle.fts_postings.specs.Meeting.{has, with_one};
 ghost use Rattle.fts_postings.specs.Remaining.{at_least};
 ghost use Rattle.fts_postings.specs.Fills.{IsStretch};
@@ -83,7 +83,8 @@ impl Window {
         ensures some { 0 < length docs.now → slice_index docs.now 0 ≤ self.old.last → 0 < result }
         ensures places { All (λ d. d ≤ self.old.last) (take result docs.now) }
         ensures marked { (d : ℕ) → has (found_in self.new.base self.new.from self.new.last self.new.words) d
-            ≡ (has (found_in self.old.base self.old.from self.old.last self.old.words) d || has (take result docs.now) d) }
+            ≡ (has (found_in self.old.base self.old.from self.old.last self.old.words) d
+            || has (take result docs.now) d) }
     {
         for index in 0..docs.len() {
             let doc = docs[index];

@@ -149,7 +149,7 @@ fn mark_any(part: &mut Tree, window: &mut Window)
     }
 }
 
-// The same for a list, with no choice between cursors a document. Gives the first document behind the window.
+// The same for a list, a block at a time. Gives the first document behind the window.
 fn mark_postings(postings: &mut PostingCursor<ListSource>, window: &mut Window) -> Option<u32>
     requires { remaining_of postings.old ≡ at_least window.old.from (remaining_of postings.old) }
     ensures remaining { remaining_of postings.new
@@ -164,8 +164,7 @@ fn mark_postings(postings: &mut PostingCursor<ListSource>, window: &mut Window) 
         if !window.covers(doc) {
             return Some(doc);
         }
-        window.mark(doc);
-        postings.advance();
+        let _ = postings.mark_open(window);
     }
     None
 }

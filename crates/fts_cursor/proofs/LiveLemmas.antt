@@ -1,0 +1,55 @@
+-- Those of some documents that are live, at the front of what they lay in.
+use Rattle.std.proofs.Common.{◌≡◌, ℕ, ◌+◌, ◌<◌, ◌≤◌, Bool, true, false, cond, List, ◌++◌, length, get_or, set, take, drop, refl, sym, ap, ap₂, ◌∙◌, inl, inr, arith}
+use Rattle.std.specs.List.{filter}
+use Rattle.std.proofs.Math.Seq.{drop-append_seam, take-append_seam}
+use Rattle.std.proofs.lemmas.Bool.{cases_Bool}
+use Rattle.std.proofs.lemmas.Grind.{get_or_default_zero}
+use Rattle.std.proofs.lemmas.List.{drop-set-lt, length-append, length-set, length-take-le, take-append-drop, take-set-le}
+use Rattle.std.proofs.lemmas.List.Elements.{filter-append}
+use Rattle.std.proofs.lemmas.List.Filters.{FiltersInPlace, FiltersInPlace-more_no, FiltersInPlace-more_set}
+use mir.Val.{bool_byte}
+use Rattle.fts_postings.proofs.FillLemmas.{Taken}
+
+byte_is : (b : Bool) → bool_byte b ≡ cond {A = ℕ} b 1 0
+byte_is true = refl
+byte_is false = refl
+
+-- one more, which is written in any case
+pub kept_more : (p : ℕ → Bool) (xs ys : List ℕ) (k i x more : ℕ) (b : Bool) → FiltersInPlace p xs ys k i → i < length ys → x ≡ get_or ys i 0 → b ≡ p x → more ≡ k + bool_byte b → FiltersInPlace p xs (set ys k x) more (i + 1)
+kept_more p xs ys k i x more b h inside is test adds =
+    let more_is : more ≡ k + cond (p x) 1 0 = adds ∙ ap (λ n. k + n) (byte_is b) ∙ ap (λ c. k + cond c 1 0) test in
+    let read : x ≡ get_or ys i x = is ∙ sym (get_or_default_zero ys i x inside) in
+    elim (cases_Bool (p x)) [
+      | inl live ↦
+          let one : more ≡ k + 1 = more_is ∙ ap (λ b. k + cond b 1 0) live in
+          rw one (FiltersInPlace-more_set h inside live read)
+      | inr dead ↦
+          let none : more ≡ k = more_is ∙ ap (λ b. k + cond b 1 0) dead ∙ omega arith in
+          let n = FiltersInPlace-more_no h inside dead read in
+          rw none (record {
+            front = take-set-le k ys k x (omega arith) ∙ n.front;
+            rest = drop-set-lt (i + 1) ys k x (omega (arith, h.behind)) ∙ n.rest;
+            behind = n.behind;
+            within = n.within;
+            long = length-set ys k x ∙ n.long;
+          })
+    ]
+
+module _ (p : ℕ → Bool) (xs ys : List ℕ) (k i count : ℕ) (h : FiltersInPlace p xs ys k i) (all : i ≡ count) where
+  pub kept_all : take k ys ≡ filter p (take count xs)
+  kept_all = h.front ∙ ap (λ n. filter p (take n xs)) all
+
+  pub kept_size : k ≡ length (filter p (take count xs))
+  kept_size = sym (length-take-le k ys (omega (arith, h.behind, h.within, h.long))) ∙ ap length kept_all
+
+-- of the next documents those that are live were taken
+pub Taken-live : (p : ℕ → Bool) (whole next front out : List ℕ) (n kept : ℕ) → front ≡ take n whole → filter p next ≡ filter p (drop n whole) → take kept out ≡ filter p front → kept ≡ length (filter p front) → Taken (filter p whole) (filter p next) out kept
+Taken-live p whole next front out n kept front_is next_is written size =
+    let taken = filter p front in
+    let left = filter p (drop n whole) in
+    let split : filter p whole ≡ taken ++ left = sym (ap (filter p) (take-append-drop n whole)) ∙ filter-append p (take n whole) (drop n whole) ∙ ap (λ xs. filter p xs ++ left) (sym front_is) in
+    record {
+      left_is = next_is ∙ sym (ap₂ (λ k xs. drop k xs) size split ∙ drop-append_seam taken left);
+      front = written ∙ sym (ap₂ (λ k xs. take k xs) size split ∙ take-append_seam taken left);
+      within = omega (arith, size, ap length split, length-append taken left);
+    }
