@@ -1,5 +1,5 @@
 -- How the hits of a cursor are seen, some at a time.
-use Rattle.std.proofs.Common.{◌≡◌, ℕ, ◌+◌, ◌-◌, ◌^◌, ◌<◌, min, List, [], ◌∷◌, ◌++◌, length, take, drop, Some, None, Option, refl, sym, ap, subst, ◌∙◌, arith, append_assoc, All}
+use Rattle.std.proofs.Common.{◌≡◌, ℕ, ◌+◌, ◌<◌, List, [], ◌∷◌, ◌++◌, length, take, drop, Some, None, Option, refl, sym, ap, subst, ◌∙◌, arith, append_assoc, All}
 use Rattle.std.specs.Prelude.{slice_get}
 use Rattle.std.specs.List.{cons_option}
 use Rattle.std.proofs.lemmas.List.{take-append-drop}
@@ -11,7 +11,7 @@ use Rattle.fts_model.specs.declared.query.Request.{Request}
 use Rattle.fts_model.specs.Documents.{DocumentValue}
 use Rattle.fts_segment.specs.Segments.{SegmentValue}
 use Rattle.fts_collect.specs.declared.collector.Seen.{Seen}
-use Rattle.fts_collect.specs.Internals.Collected.{HasCounted, HasRanked, HasSeen, IsUnderWay, hits_at}
+use Rattle.fts_collect.specs.Internals.Collected.{HasSeen, IsUnderWay, hits_at}
 
 -- where none of the first hits is at hand, there are no hits
 no_first : (xs : List ℕ) → take 128 xs ≡ [] → drop 128 xs ≡ []
@@ -40,16 +40,6 @@ under_way-next segment request all docs remaining more others old new under take
       ∙ append_assoc under.before docs remaining
       ∙ under.rest;
   end = λ empty. rest ∙ no_first remaining (sym at ∙ empty);
-}
-
--- hits were seen where they were counted alone, since nothing else is asked for
-pub HasSeen-counted : (segment : SegmentValue) (request : Request) (docs : List ℕ) (seen : Seen) (count : ℕ) → request.groups ≡ None → request.top ≡ None → HasSeen segment request [] seen →
-    count ≡ min (seen.count + length docs) (2 ^ 64 - 1) → HasSeen segment request docs (record seen { count = count })
-HasSeen-counted segment request docs seen count groups top none is = record {
-  count = omega (arith, is, none.count);
-  places = none.places;
-  groups = subst (λ g. HasCounted segment g docs seen.tally) (sym groups) tt;
-  top = subst (λ t. HasRanked segment t docs seen.top_k) (sym top) tt;
 }
 
 -- what holds of elements holds of those behind the first
