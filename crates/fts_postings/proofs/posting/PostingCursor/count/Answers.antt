@@ -12,8 +12,13 @@ within g c =
     let s = c.self.inside in
     let blocks = g.B.Blocks.contents s.source in
     let block = get_or blocks s.block [] in
-    omega (arith, ap (λ p. length (remaining_of p)) c.self.view_is,
-        length-append (drop s.at block) (flat_map (λ b. b) (drop (suc s.block) blocks)), length-drop s.at block, c.self.invariant.size)
+    omega (
+      arith,
+      ap (λ p. length (remaining_of p)) c.self.view_is,
+      length-append (drop s.at block) (flat_map (λ b. b) (drop (suc s.block) blocks)),
+      length-drop s.at block,
+      c.self.invariant.size,
+    )
 
 -- a list without a first
 empty : (xs : List ℕ) → (0 < length xs → ⊥) → xs ≡ []
@@ -30,15 +35,26 @@ behind g c =
 
 pub loop-self-preserved : goal.loop-self-preserved
 loop-self-preserved g c = record {
-  sum = omega (arith, c.loop-self.invariant.sum, within g c, ap length c.leave.ensures.remaining,
-      length-drop (c.self.inside.len - c.self.inside.at) (remaining_of c.loop-self.self), c.saturating_add-count.ensures);
+  sum = omega (
+    arith,
+    c.loop-self.invariant.sum,
+    within g c,
+    ap length c.leave.ensures.remaining,
+    length-drop (c.self.inside.len - c.self.inside.at) (remaining_of c.loop-self.self),
+    c.saturating_add-count.ensures,
+  );
   fits = omega (arith, c.saturating_add-count.ensures);
   walks = Walks-trans _ _ _ c.loop-self.invariant.walks c.leave.ensures.walks;
 }
 
 pub loop-self-smaller : goal.loop-self-smaller
-loop-self-smaller g c = omega (arith, within g c, ap length c.leave.ensures.remaining,
-    length-drop (c.self.inside.len - c.self.inside.at) (remaining_of c.loop-self.self), c.loop-self-test.true)
+loop-self-smaller g c = omega (
+  arith,
+  within g c,
+  ap length c.leave.ensures.remaining,
+  length-drop (c.self.inside.len - c.self.inside.at) (remaining_of c.loop-self.self),
+  c.loop-self-test.true,
+)
 
 pub returns-clause-count : goal.returns-clause-count
 returns-clause-count g c = omega (arith, c.loop-self.invariant.sum, ap length (behind g c), c.loop-self.invariant.fits)
