@@ -3,24 +3,31 @@
 //! A handle is a pointer, which one call at a time may use. A line of a script goes in, and its reply comes out, to the
 //! byte that the script's definition says. A searcher is a handle too: a session of its own over the last commit of
 //! another, which another thread may have, and which takes searches alone. What a caller owes is a handle that is open,
-//! and true lengths: the callers in C test for null.
+//! and true lengths: the callers in C test for null. What each call leaves, and which code it answers, is a definition of
+//! `specs/Calls.antt`.
 #![tactic(auto)]
 
-ghost use Rattle.std.specs.Prelude.{◌≡◌, ◌≢◌, ◌≤◌, [], Option, Some, length, pos, take, IfSome, MatchOption, string_bytes};
+ghost use Rattle.std.specs.Prelude.{◌≡◌, Option, Some, IfOk};
 ghost use Rattle.std.specs.Box.Ownership.{box_owns};
 ghost use Rattle.std.specs.contracts.impls.GlobalAllocator.TheImpl.{ghosts};
 ghost use Rattle.fts_c.specs.declared.state.State.{State};
 ghost use Rattle.fts_c.specs.contracts.state.State.{the_row};
+ghost use Rattle.fts_c.specs.Calls.{copied, Executes, Opens, Searches, TellsReply};
 ghost use Rattle.fts_c.specs.Held.{held};
-ghost use Rattle.fts_session.specs.Finds.{at_commit, reply_to_search};
-ghost use Rattle.fts_session.specs.Outputs.{start, reply_to, after_line};
+ghost use Rattle.fts_session.specs.Finds.{at_commit};
+ghost use Rattle.fts_session.specs.Outputs.{start};
 
+mod codes;
 mod state;
 
+use codes::{MEMORY, OK};
 use core::mem::{replace, replace_with};
+use fts_local::LocalEngine;
+use fts_session::Session;
+use fts_steps::{Cut, Merge, Options};
 use loose::Loose;
 use state::State;
-use std::alloc::Global;
+use std::alloc::{AllocError, Global};
 use std::marker::Model;
 
 /// A session behind a pointer.
@@ -91,42 +98,43 @@ fn unwrap(handle: Handle) -> Box<State, Global>
     handle.into_loose().into_box()
 }
 
-fn execute(handle: Handle, alloc: Global, line: &[u8]) -> (Handle, i32)
-    ensures reply { result.1 ≡ pos 0 →
-        string_bytes result.0.state.reply ≡ reply_to handle.state.session line.now }
-    ensures session { result.1 ≡ pos 0 →
-        result.0.state.session ≡ after_line handle.state.session line.now }
-    ensures same { result.1 ≢ pos 0 → result.0.state.session ≡ handle.state.session }
-    ensures none { result.1 ≢ pos 0 → string_bytes result.0.state.reply ≡ [] }
-{
-    let mut state = unwrap(handle);
-    let code = replace_with(&mut *state, (alloc, line), |state, (alloc, line)| {
-        state.after(alloc, line)
-    });
-    (wrap(state), code)
-}
-
-/// Puts a state into a place: 0, or 1 where memory was refused.
-fn put(slot: &mut Slot, alloc: Global, state: State) -> i32
-    ensures ok { result ≡ pos 0 → MatchOption slot.new.state ⊥ (λ s. s.session ≡ state.session) }
-    ensures same { result ≢ pos 0 → slot.new ≡ slot.old }
-{
-    match Box::new(alloc, state) {
-        Ok(state) => {
-            *slot = Slot::full(wrap(state));
-            0
-        }
-        Err(_) => 1,
+/// Segments of up to 65,536 documents, and merges behind commits, so that many small commits leave few segments.
+fn options() -> Options {
+    Options {
+        workers: 1,
+        cut: Cut::Runs(65_536),
+        merge: Merge::Policy,
     }
 }
 
-/// Opens a session: 0, or 1 where memory was refused.
+/// Puts a session into a place, or answers that memory was refused.
+fn open(slot: &mut Slot, alloc: Global, session: Session<LocalEngine>) -> i32
+    ensures { Opens session slot.new.state slot.old slot.new result }
+{
+    let reply = String::new(alloc);
+    match Box::new(alloc, State { session, reply }) {
+        Ok(state) => {
+            *slot = Slot::full(wrap(state));
+            OK
+        }
+        Err(_) => MEMORY,
+    }
+}
+
+/// Opens a session before the first line of a script: 0, or 1 where memory was refused.
 #[unsafe(no_mangle)]
 pub extern "C" fn fts_open(slot: &mut Slot, alloc: Global) -> i32
-    ensures ok { result ≡ pos 0 → MatchOption slot.new.state ⊥ (λ s. s.session ≡ start) }
-    ensures same { result ≢ pos 0 → slot.new ≡ slot.old }
+    ensures { Opens start slot.new.state slot.old slot.new result }
 {
-    put(slot, alloc, State::new(alloc))
+    open(slot, alloc, Session::new(options()))
+}
+
+fn execute(handle: Handle, alloc: Global, line: &[u8]) -> (Handle, i32)
+    ensures { Executes handle.state line.now result.0.state result.1 }
+{
+    let mut state = unwrap(handle);
+    let code = state.execute(alloc, line);
+    (wrap(state), code)
 }
 
 /// Executes a line, without its LF. At 0 the reply is that of the definition, and the session goes on as it says. At
@@ -134,12 +142,7 @@ pub extern "C" fn fts_open(slot: &mut Slot, alloc: Global) -> i32
 /// 4,194,304 bytes, 3 where there were 2^61 lines.
 #[unsafe(no_mangle)]
 pub extern "C" fn fts_execute(handle: &mut Handle, alloc: Global, line: &[u8]) -> i32
-    ensures reply { result ≡ pos 0 →
-        string_bytes handle.new.state.reply ≡ reply_to handle.old.state.session line.now }
-    ensures session { result ≡ pos 0 →
-        handle.new.state.session ≡ after_line handle.old.state.session line.now }
-    ensures same { result ≢ pos 0 → handle.new.state.session ≡ handle.old.state.session }
-    ensures none { result ≢ pos 0 → string_bytes handle.new.state.reply ≡ [] }
+    ensures { Executes handle.old.state line.now handle.new.state result }
 {
     replace_with(handle, (alloc, line), |handle, (alloc, line)| {
         execute(handle, alloc, line)
@@ -148,7 +151,7 @@ pub extern "C" fn fts_execute(handle: &mut Handle, alloc: Global, line: &[u8]) -
 
 fn without_reply(handle: Handle, alloc: Global) -> (Handle, String)
     ensures session { result.0.state.session ≡ handle.state.session }
-    ensures reply { string_bytes result.1 ≡ string_bytes handle.state.reply }
+    ensures reply { result.1 ≡ handle.state.reply }
 {
     let mut state = unwrap(handle);
     let reply = replace(&mut state.reply, String::new(alloc));
@@ -157,7 +160,7 @@ fn without_reply(handle: Handle, alloc: Global) -> (Handle, String)
 
 fn with_reply(handle: Handle, reply: String) -> (Handle, ())
     ensures session { result.0.state.session ≡ handle.state.session }
-    ensures reply { string_bytes result.0.state.reply ≡ string_bytes reply }
+    ensures reply { result.0.state.reply ≡ reply }
 {
     let mut state = unwrap(handle);
     state.reply = reply;
@@ -165,38 +168,30 @@ fn with_reply(handle: Handle, reply: String) -> (Handle, ())
 }
 
 /// Copies bytes where there is room for them.
-fn copy(from: &[u8], out: &mut [u8])
-    ensures { length from.now ≤ length out.old → take (length from.now) out.new ≡ from.now }
+fn copy(bytes: &[u8], out: &mut [u8])
+    ensures { out.new ≡ copied bytes.now out.old }
 {
-    let n = from.len();
+    let n = bytes.len();
     if n <= out.len() {
-        out[..n].copy_from_slice(from);
+        out[..n].copy_from_slice(bytes);
     }
 }
 
-/// How long the last reply is. It is copied where there is room.
+/// Tells the size of the last reply, and copies it where there is room.
 fn reply(handle: &mut Handle, alloc: Global, out: &mut [u8]) -> usize
-    ensures session { handle.new.state.session ≡ handle.old.state.session }
-    ensures same { string_bytes handle.new.state.reply ≡ string_bytes handle.old.state.reply }
-    ensures length { result ≡ length (string_bytes handle.old.state.reply) }
-    ensures copied { result ≤ length out.old →
-        take result out.new ≡ string_bytes handle.old.state.reply }
+    ensures { TellsReply handle.old.state handle.new.state out.old out.new result }
 {
     let reply = replace_with(handle, alloc, |handle, alloc| without_reply(handle, alloc));
-    let n = reply.len();
+    let size = reply.len();
     copy(reply.as_bytes(), out);
     replace_with(handle, reply, |handle, reply| with_reply(handle, reply));
-    n
+    size
 }
 
 /// How long the last reply is. It is copied where there is room.
 #[unsafe(no_mangle)]
 pub extern "C" fn fts_reply(handle: &mut Handle, alloc: Global, out: &mut [u8]) -> usize
-    ensures session { handle.new.state.session ≡ handle.old.state.session }
-    ensures same { string_bytes handle.new.state.reply ≡ string_bytes handle.old.state.reply }
-    ensures length { result ≡ length (string_bytes handle.old.state.reply) }
-    ensures copied { result ≤ length out.old →
-        take result out.new ≡ string_bytes handle.old.state.reply }
+    ensures { TellsReply handle.old.state handle.new.state out.old out.new result }
 {
     reply(handle, alloc, out)
 }
@@ -207,60 +202,49 @@ pub extern "C" fn fts_close(handle: Handle) {
     drop(unwrap(handle));
 }
 
-fn forked(handle: Handle, alloc: Global) -> (Handle, Option<State>)
-    ensures session { result.0.state.session ≡ handle.state.session }
-    ensures fork { IfSome result.1 (λ fork. fork.session ≡ at_commit handle.state.session) }
+fn fork(handle: Handle) -> (Handle, Result<Session<LocalEngine>, AllocError>)
+    ensures same { result.0.state ≡ handle.state }
+    ensures fork { IfOk result.1 (λ fork. fork ≡ at_commit handle.state.session) }
 {
     let state = unwrap(handle);
-    let fork = state.fork(alloc);
+    let fork = state.session.fork();
     (wrap(state), fork)
 }
 
 /// Puts a searcher of the last commit into a place.
-fn fork(handle: &mut Handle, slot: &mut Slot, alloc: Global) -> i32
-    ensures session { handle.new.state.session ≡ handle.old.state.session }
-    ensures ok { result ≡ pos 0 → MatchOption slot.new.state ⊥
-        (λ s. s.session ≡ at_commit handle.old.state.session) }
-    ensures same { result ≢ pos 0 → slot.new ≡ slot.old }
+fn open_searcher(handle: &mut Handle, slot: &mut Slot, alloc: Global) -> i32
+    ensures same { handle.new.state ≡ handle.old.state }
+    ensures opens { Opens (at_commit handle.old.state.session) slot.new.state slot.old slot.new result }
 {
-    match replace_with(handle, alloc, |handle, alloc| forked(handle, alloc)) {
-        Some(state) => put(slot, alloc, state),
-        None => 1,
+    match replace_with(handle, (), |handle, ()| fork(handle)) {
+        Ok(session) => open(slot, alloc, session),
+        Err(AllocError) => MEMORY,
     }
 }
 
 /// Opens a searcher of the last commit, which it searches for ever: 0, or 1 where memory was refused.
 #[unsafe(no_mangle)]
 pub extern "C" fn fts_searcher(handle: &mut Handle, slot: &mut Slot, alloc: Global) -> i32
-    ensures session { handle.new.state.session ≡ handle.old.state.session }
-    ensures ok { result ≡ pos 0 → MatchOption slot.new.state ⊥
-        (λ s. s.session ≡ at_commit handle.old.state.session) }
-    ensures same { result ≢ pos 0 → slot.new ≡ slot.old }
+    ensures same { handle.new.state ≡ handle.old.state }
+    ensures opens { Opens (at_commit handle.old.state.session) slot.new.state slot.old slot.new result }
 {
-    fork(handle, slot, alloc)
+    open_searcher(handle, slot, alloc)
 }
 
 /// Opens another searcher of a searcher's commit, for another thread, with the codes of `fts_searcher`.
 #[unsafe(no_mangle)]
 pub extern "C" fn fts_searcher_again(searcher: &mut Handle, slot: &mut Slot, alloc: Global) -> i32
-    ensures session { searcher.new.state.session ≡ searcher.old.state.session }
-    ensures ok { result ≡ pos 0 → MatchOption slot.new.state ⊥
-        (λ s. s.session ≡ at_commit searcher.old.state.session) }
-    ensures same { result ≢ pos 0 → slot.new ≡ slot.old }
+    ensures same { searcher.new.state ≡ searcher.old.state }
+    ensures opens { Opens (at_commit searcher.old.state.session) slot.new.state slot.old slot.new result }
 {
-    fork(searcher, slot, alloc)
+    open_searcher(searcher, slot, alloc)
 }
 
 fn search(handle: Handle, alloc: Global, line: &[u8]) -> (Handle, i32)
-    ensures reply { result.1 ≡ pos 0 →
-        string_bytes result.0.state.reply ≡ reply_to_search handle.state.session line.now }
-    ensures same { result.0.state.session ≡ handle.state.session }
-    ensures none { result.1 ≢ pos 0 → string_bytes result.0.state.reply ≡ [] }
+    ensures { Searches handle.state line.now result.0.state result.1 }
 {
     let mut state = unwrap(handle);
-    let code = replace_with(&mut *state, (alloc, line), |state, (alloc, line)| {
-        state.after_search(alloc, line)
-    });
+    let code = state.search(alloc, line);
     (wrap(state), code)
 }
 
@@ -268,10 +252,7 @@ fn search(handle: Handle, alloc: Global, line: &[u8]) -> (Handle, i32)
 /// nothing changes. Another command is answered as `BadCommand`. The codes are those of `fts_execute`.
 #[unsafe(no_mangle)]
 pub extern "C" fn fts_search(searcher: &mut Handle, alloc: Global, line: &[u8]) -> i32
-    ensures reply { result ≡ pos 0 →
-        string_bytes searcher.new.state.reply ≡ reply_to_search searcher.old.state.session line.now }
-    ensures same { searcher.new.state.session ≡ searcher.old.state.session }
-    ensures none { result ≢ pos 0 → string_bytes searcher.new.state.reply ≡ [] }
+    ensures { Searches searcher.old.state line.now searcher.new.state result }
 {
     replace_with(searcher, (alloc, line), |searcher, (alloc, line)| {
         search(searcher, alloc, line)
@@ -281,11 +262,7 @@ pub extern "C" fn fts_search(searcher: &mut Handle, alloc: Global, line: &[u8]) 
 /// The reply to the last search, as by `fts_reply`.
 #[unsafe(no_mangle)]
 pub extern "C" fn fts_searcher_reply(searcher: &mut Handle, alloc: Global, out: &mut [u8]) -> usize
-    ensures session { searcher.new.state.session ≡ searcher.old.state.session }
-    ensures same { string_bytes searcher.new.state.reply ≡ string_bytes searcher.old.state.reply }
-    ensures length { result ≡ length (string_bytes searcher.old.state.reply) }
-    ensures copied { result ≤ length out.old →
-        take result out.new ≡ string_bytes searcher.old.state.reply }
+    ensures { TellsReply searcher.old.state searcher.new.state out.old out.new result }
 {
     reply(searcher, alloc, out)
 }

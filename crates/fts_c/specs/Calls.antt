@@ -1,0 +1,43 @@
+-- What a call leaves behind a handle, and the code that it answers.
+use Rattle.std.specs.Prelude.{◌≡◌, ◌≢◌, ℕ, ℤ, false, nat_le, if◌then◌else◌, Option, MatchOption}
+use Rattle.std.specs.Prelude.{List, [], ◌++◌, length, drop, string_bytes}
+use Rattle.fts_session.specs.Finds.{reply_to_search}
+use Rattle.fts_session.specs.Outputs.{SessionValue, after_line, reply_to}
+use Rattle.fts_session.specs.Text.{is_blank}
+use Rattle.fts_c.specs.declared.codes.TheConstants.{OK, MEMORY}
+use Rattle.fts_c.specs.declared.state.State.{State}
+use Rattle.fts_c.specs.Codes.{IsCodeOf, IsOfTried}
+
+-- A session was put into a place, without a reply: that is the state which the place holds now. Where memory was
+-- refused, the place is as it was.
+pub record Opens {P : Type 0} (session : SessionValue) (held : Option State) (old new : P) (code : ℤ) : Type 0 where
+  pub code_is : IsOfTried code
+  pub ok : code ≡ OK → MatchOption held ⊥ (λ s. (s.session ≡ session) × (string_bytes s.reply ≡ []))
+  pub same : code ≡ MEMORY → new ≡ old
+
+-- A line was executed: the reply is the definition's, and the session goes on as it says. At another code there is no
+-- reply, and the session is as it was. A blank line needs no memory.
+pub record Executes (old : State) (line : List ℕ) (new : State) (code : ℤ) : Type 0 where
+  pub code_is : IsCodeOf old.session line code
+  pub reply : code ≡ OK → string_bytes new.reply ≡ reply_to old.session line
+  pub session : code ≡ OK → new.session ≡ after_line old.session line
+  pub same : code ≢ OK → new.session ≡ old.session
+  pub none : code ≢ OK → string_bytes new.reply ≡ []
+  pub not_blank : code ≡ MEMORY → is_blank line ≡ false
+
+-- A search was answered: the reply is the definition's, and at another code there is none. The session is as it was.
+pub record Searches (old : State) (line : List ℕ) (new : State) (code : ℤ) : Type 0 where
+  pub code_is : IsCodeOf old.session line code
+  pub reply : code ≡ OK → string_bytes new.reply ≡ reply_to_search old.session line
+  pub same : new.session ≡ old.session
+  pub none : code ≢ OK → string_bytes new.reply ≡ []
+
+-- a buffer behind a copy: the bytes stand at its beginning where there is room for them, and else it is as it was
+abbrev pub copied : List ℕ → List ℕ → List ℕ
+copied bytes out = if nat_le (length bytes) (length out) then bytes ++ drop (length bytes) out else out
+
+-- The size of the last reply was told, and its bytes were copied where there was room for them. Nothing changed.
+pub record TellsReply (old new : State) (out after : List ℕ) (told : ℕ) : Type 0 where
+  pub same : new ≡ old
+  pub size : told ≡ length (string_bytes old.reply)
+  pub bytes : after ≡ copied (string_bytes old.reply) out

@@ -1,0 +1,13 @@
+// What a call answers to C, as `fts.h` names it.
+
+/// It was done.
+pub const OK: i32 = 0;
+
+/// Memory was refused.
+pub const MEMORY: i32 = 1;
+
+/// The line has more than 4,194,304 bytes.
+pub const LINE_TOO_LONG: i32 = 2;
+
+/// There were 2^61 lines.
+pub const USED_UP: i32 = 3;
