@@ -1,23 +1,31 @@
-"""Times commits of one add each and merges of `fts run`, beside commits of one row each in SQLite's FTS5 in memory.
+"""Times commits of one add each, builds, deletes and merges of `fts run`, beside SQLite's FTS5, Lucene and Xapian.
 
     python3 bench/commits.py [COMMITS] [DOCUMENTS] [PROGRAM]
 
-Build the program first (README.md). COMMITS (2,000) documents of 30 words, a keyword and a `u64` are added and
-committed one at a time, with `--merge off` and with `--merge policy`: microseconds from writing both lines until both
-replies have come, the median, the mean, the hundredth that is slowest and the slowest of all. Then DOCUMENTS (100,000)
-are added, committed as 16 segments and merged into one, and again with a tenth of them struck before: seconds for each.
-A pipe and Python take some 20 of the microseconds.
+Build the program first (README.md). Lucene and Xapian are asked where they are installed (of Debian liblucene8-java with a JDK, and
+libxapian-dev). COMMITS (2,000) documents of 30 words, a keyword and a `u64` are added and committed one at a time, with `--merge off` and
+with `--merge policy`: microseconds by the clock from writing both lines until both replies have come, the median, the mean, the
+hundredth that is slowest and the slowest of all. Then DOCUMENTS (100,000) are added and committed as 16 segments, and merged into one, and
+again with a tenth of them struck before: seconds for each. A pipe and Python take some 20 of the microseconds, and lines of JSON a
+good part of a build. FTS5 keeps segments of its own: its `optimize` is the merge, and `tag` is a word for it. Xapian has none: its
+compacted copy stands for a merge.
 """
 import bisect
+import glob
 import itertools
 import json
+import pathlib
 import random
+import shutil
 import sqlite3
 import statistics
 import subprocess
 import sys
+import tempfile
 import time
 
+HERE = pathlib.Path(__file__).resolve().parent
+JARS = [*glob.glob("/usr/share/java/lucene-core-*.jar"), *glob.glob("/usr/share/java/lucene-analyzers-common-*.jar")]
 COMMITS = int(sys.argv[1]) if len(sys.argv) > 1 else 2_000
 COUNT = int(sys.argv[2]) if len(sys.argv) > 2 else 100_000
 PROGRAM = sys.argv[3] if len(sys.argv) > 3 else "crates/fts/out/fts"
@@ -77,6 +85,11 @@ def rows(documents):
     return times
 
 
+def told(name, documents, strikes, build, strike, merge):
+    print(f"{name}, {documents:,} documents{', a tenth struck' * strikes}: build and commit {build:.2f} s, "
+          f"strike {strike:.3f} s, merge {merge:.2f} s")
+
+
 def merges(documents, strikes):
     session = Session("--runs", str(-(-len(documents) // 16)))
     session.ask(SCHEMA)
@@ -85,18 +98,58 @@ def merges(documents, strikes):
         build += session.ask(*({"add": d} for d in documents[start:start + 100]))[1]
     build += session.ask({"commit": True})[1]
     strike = session.ask({"delete": {"tag": "t3"}}, {"commit": True})[1] if strikes else 0
-    print(f"{len(documents):,} documents{', a tenth struck' * strikes}: build and commit {build:.2f} s, "
-          f"strike {strike:.3f} s, merge of 16 segments {session.ask({'merge': True})[1]:.2f} s")
+    told("fts", len(documents), strikes, build, strike, session.ask({"merge": True})[1])
+
+
+def optimized(documents, strikes):
+    table = sqlite3.connect(":memory:", isolation_level=None)
+    table.execute("create virtual table t using fts5(body, tag)")
+    times = [time.perf_counter()]
+    table.execute("begin")
+    table.executemany("insert into t values (?, ?)", ((d["body"], d["tag"]) for d in documents))
+    table.execute("commit")
+    times.append(time.perf_counter())
+    if strikes:
+        table.execute("delete from t where t match 'tag:t3'")
+    times.append(time.perf_counter())
+    table.execute("insert into t(t) values('optimize')")
+    times.append(time.perf_counter())
+    told("FTS5", len(documents), strikes, *(after - before for before, after in itertools.pairwise(times)))
+
+
+def peer(name, documents, *command):
+    """What a program tells that is given the documents."""
+    text = "".join(f"{d['body']}\t{d['tag']}\t{d['n']}\n" for d in documents)
+    said = subprocess.run(command, input=text, capture_output=True, text=True, check=True).stdout
+    seconds = [int(line) / 1e9 for line in said.split()]
+    shown(f"{name}, a commit each", seconds[:COMMITS])
+    for strikes in (False, True):
+        told(name, COUNT, strikes, *seconds[COMMITS + 3 * strikes:][:3])
+
+
+def peers(documents, scratch):
+    if JARS and shutil.which("javac"):
+        subprocess.run(["javac", "-cp", ":".join(JARS), "-d", scratch, HERE / "LuceneWriting.java"], check=True)
+        peer("Lucene", documents, "java", "-Xmx4g", "-cp", ":".join([scratch, *JARS]), "LuceneWriting", str(COMMITS), str(COUNT))
+    if shutil.which("xapian-config"):
+        flags = subprocess.run(["xapian-config", "--cxxflags", "--libs"], check=True, capture_output=True, text=True).stdout.split()
+        program = f"{scratch}/writing"
+        subprocess.run(["g++", "-O2", "-std=c++20", HERE / "xapian_writing.cpp", "-o", program, *flags], check=True)
+        peer("Xapian", documents, program, f"{scratch}/base", str(COMMITS), str(COUNT))
 
 
 def main():
     chance = random.Random(1)
     documents = [document(chance, number) for number in range(max(COMMITS, COUNT))]
-    shown("FTS5, a row each", rows(documents[:COMMITS]))
     for policy in ("off", "policy"):
-        shown(f"--merge {policy}", commits(documents[:COMMITS], policy))
+        shown(f"fts, --merge {policy}", commits(documents[:COMMITS], policy))
+    shown("FTS5, a row each", rows(documents[:COMMITS]))
     for strikes in (False, True):
         merges(documents[:COUNT], strikes)
+    for strikes in (False, True):
+        optimized(documents[:COUNT], strikes)
+    with tempfile.TemporaryDirectory(dir="/dev/shm" if pathlib.Path("/dev/shm").is_dir() else None) as scratch:
+        peers(documents, scratch)
 
 
 main()
