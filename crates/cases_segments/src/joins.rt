@@ -84,8 +84,10 @@ fn merged(trial: &mut Trial, schema: &Schema, again: &[Segment], made: &[Bench])
     requires { All (λ made. made.schema ≡ schema.now) again.now }
 {
     let mut sources = Vec::new(trial.alloc());
-    for (segment, bench) in again.iter().zip(made) {
-        push_source(trial, &mut sources, schema, segment, &bench.live);
+    for index in 0..again.len() {
+        if let Some(bench) = made.get(index) {
+            push_source(trial, &mut sources, schema, &again[index], &bench.live);
+        }
     }
     if sources.is_empty() {
         trial.fail(Trouble::Impossible("no documents were made"));
