@@ -53,9 +53,9 @@ counted_word words base from order marks is last mask within mask_is =
     let some : at ≤ places = omega (arith, order, within) in
     let fits : inside < 2 ^ places = omega (arith, and_le_r marks mask, mask_is, pow_pos places) in
     let same : (k : ℕ) → k < places → is_marked start marks (start + k) ≡ (bit_at inside k == 1) = λ k lt.
-        let e : start + k - start ≡ k = omega arith in
-        let b : bit_at marks k ≡ bit_at inside k = omega (arith, bit_at_and marks mask k, bit_at_ones places k lt, ap (λ n. bit_at n k) mask_is, bit_at-lt marks k) in
-        ap (λ j. bit_at marks j == 1) e ∙ ap (λ x. x == 1) b in
+    let e : start + k - start ≡ k = omega arith in
+    let b : bit_at marks k ≡ bit_at inside k = omega (arith, bit_at_and marks mask k, bit_at_ones places k lt, ap (λ n. bit_at n k) mask_is, bit_at-lt marks k) in
+    ap (λ j. bit_at marks j == 1) e ∙ ap (λ x. x == 1) b in
     let here : length (passing test from (places - at)) ≡ count_ones inside =
     ap length (word_part words base from order marks is places some (omega arith)) ∙ ones_passing places start inside (is_marked start marks) fits same in
     let all : suc last - from ≡ (places - at) + more = omega (arith, order, within) in
