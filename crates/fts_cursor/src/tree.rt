@@ -18,7 +18,7 @@ mod intersection;
 use crate::listed::ListedCursor;
 use crate::phrase::PhraseCursor;
 use crate::scan::ScanCursor;
-use buffered_union::{BufferedUnion, fill_gathered, gather, refill};
+use buffered_union::{BufferedUnion, count_gathered, fill_gathered, gather, refill};
 use exclusion::{Exclusion, settle};
 use fts_pack::ListSource;
 use fts_postings::{Conjunction, DocSet, PostingCursor, Window};
@@ -298,6 +298,11 @@ impl<'a> Tree<'a> {
             }
             Node::Postings(postings) => {
                 let count = postings.count();
+                self.doc = None;
+                Some(count)
+            }
+            Node::Or(buffered) => {
+                let count = count_gathered(buffered, self.doc);
                 self.doc = None;
                 Some(count)
             }
