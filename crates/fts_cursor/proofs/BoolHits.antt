@@ -41,6 +41,16 @@ and_late false b c = refl
 pub should_hits : (segment : SegmentValue) (must should : List Query) → must ≡ [] → union (map (hits_of segment) should) ≡ numbers_where (kept_by segment.schema must should) 0 segment.documents
 should_hits segment must should none = hits_union segment should ∙ ap (λ qs. numbers_where (kept_by segment.schema qs should) 0 segment.documents) (sym none)
 
+or_false : (b : Bool) → b ≡ (b || false)
+or_false true = refl
+or_false false = refl
+
+-- one query alone
+pub single_hits : (segment : SegmentValue) (q : Query) → hits_of segment q ≡ union (map (hits_of segment) (q ∷ []))
+single_hits segment q =
+    numbers_where-same (λ (e : Stamped DocumentValue). matches_in segment.schema e.value q) (λ e. list_any (matches_in segment.schema e.value) (q ∷ [])) 0 segment.documents
+    (λ k d inside. or_false (matches_in segment.schema (get_or segment.documents k d).value q)) ∙ sym (hits_union segment (q ∷ []))
+
 -- the documents that all musts find
 pub all_kept : (segment : SegmentValue) (must should : List Query) → 0 < length must → numbers_where (λ e. list_all (matches_in segment.schema e.value) must) 0 segment.documents ≡ numbers_where (kept_by segment.schema must should) 0 segment.documents
 all_kept segment [] should some = absurd (omega (arith, some))

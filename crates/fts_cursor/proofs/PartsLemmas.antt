@@ -165,11 +165,3 @@ union-left t (p ∷ ps) (q ∷ qs) h =
 -- the parts up to one that was written, with what remains of it
 pub remains-more : (now : List TreeValue) (index : ℕ) (q : TreeValue) → index < length now → remains (take (index + 1) (set now index q)) ≡ remains (take index now) ++ q.remaining ∷ []
 remains-more now index q inside = ap remains (take_more_set now index q inside) ∙ map-append (λ s. s.remaining) (take index now) (q ∷ [])
-
--- the documents of one alone
-pub union-single : (parts : List TreeValue) (part : TreeValue) → length parts ≡ 1 → ((p : TreeValue) → parts ≡ p ∷ [] → part ≡ p) → IsStrictlyIncreasing part.remaining → part.remaining ≡ union (remains parts)
-union-single [] part one is rises = absurd (omega (arith, one))
-union-single (p ∷ []) part one is rises =
-    let same : part ≡ p = is p refl in
-    sym (ap (λ (s : TreeValue). with_all s.remaining []) (sym same) ∙ with_all-nil 0 part.remaining (Rises-from_increasing part.remaining rises))
-union-single (p ∷ q ∷ ps) part one is rises = absurd (omega (arith, one))

@@ -1,8 +1,9 @@
 -- The window is empty at first, so the parts have all.
-use Rattle.std.proofs.Common.{subst, arith}
+use Rattle.std.proofs.Common.{◌≡◌, subst, arith, ap, ◌∙◌}
+use Rattle.std.proofs.lemmas.Result.{IfOk-weaker}
 use Rattle.fts_postings.specs.Meeting.{union}
-use Rattle.fts_cursor.specs.TreeValues.{remains}
-use Rattle.fts_cursor.specs.Trees.{IsNow}
+use Rattle.fts_cursor.specs.TreeValues.{TreeValue, remains}
+use Rattle.fts_cursor.specs.Trees.{IsNow, tree_value}
 use Rattle.fts_cursor.specs.declared.tree.Node.TheVariants.{Or}
 use Rattle.fts_postings.proofs.RemainingLemmas.{at_least_all}
 use Rattle.fts_postings.proofs.UnionLemmas.{Rises-union}
@@ -18,8 +19,10 @@ made c =
 pub refill-doc-requires : goal.refill-doc-requires
 refill-doc-requires c = c.new-window.ensures
 
-pub invariant_of-result : goal.invariant_of-result
-invariant_of-result c = (made c).stands
+pub of-requires : goal.of-requires
+of-requires c = (made c).stands
 
 pub returns : goal.returns
-returns c = (made c).is
+returns c =
+    IfOk-weaker c.of.result (λ (t : TreeValue). t ≡ tree_value (Or c.refill-doc.new.buffered)) (λ t. t.remaining ≡ union (remains c.args.parts.items))
+    (λ t is. ap (λ (s : TreeValue). s.remaining) is ∙ (made c).is) c.of.ensures
