@@ -91,7 +91,7 @@ impl<'a> Tree<'a> {
     // Of a node that stands at the document.
     fn of(alloc: Global, doc: Option<u32>, node: Node<'a>) -> Result<Tree<'a>, AllocError>
         requires { StandsAt doc node }
-        ensures { IfOk result (λ t. t ≡ tree_value node) }
+        ensures { IfOk result (λ t. t ≡ tree_value node.entry) }
     {
         let node = Box::new(alloc, node)?;
         Ok(Tree {
