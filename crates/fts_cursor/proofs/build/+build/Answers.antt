@@ -34,9 +34,9 @@ tree_of-any_of-requires t c =
     let part = (lie t (goal.at.tree_of-any_of-requires t c).In-Bool).2 in
     (rw c.deref-then-is_empty.ensures.value part.falls, ap (list_all (fits_in c.args.segment.now.schema)) c.deref-then-is_empty.ensures.value ∙ part.fits)
 
-pub tree_of-trees_of-requires-else-are_terms : goal.tree_of-trees_of-requires-else-are_terms
-tree_of-trees_of-requires-else-are_terms t c =
-    let part = (lie t (goal.at.tree_of-trees_of-requires-else-are_terms t c).In-Bool).0 in
+pub tree_of-trees_of-requires : goal.tree_of-trees_of-requires
+tree_of-trees_of-requires t c =
+    let part = (lie t (goal.at.tree_of-trees_of-requires t c).In-Bool).0 in
     let less : 3 * depth_of c.in-Bool.must.items + 1 < t = omega (arith, part.falls) in
     (rw c.deref-else-are_terms.ensures.value less, ap (list_all (fits_in c.args.segment.now.schema)) c.deref-else-are_terms.ensures.value ∙ part.fits)
 
@@ -108,3 +108,8 @@ tree_of-returns-in_ok-dropped-in-Bool-2-clause-hits t c =
     let dropped_is : c.in_ok-dropped-in-Bool-2.dropped.value ≡ c.in_ok-dropped-in-Bool.dropped = search rules in
     let dropped = ap (λ (s : TreeValue). s.remaining) dropped_is ∙ c.in_ok-dropped-in-Bool.ensures.hits ∙ ap union (ap (map (hits_of segment)) c.deref-in-Bool.ensures.value) in
     IfOk-weaker c.without.result _ _ (λ tree is. is ∙ bool_apart segment c.args.query.now c.in-Bool.must.items c.in-Bool.must_not.items c.in-Bool.should.items c.in_ok-kept-in-Bool-4.kept.value.remaining c.in_ok-dropped-in-Bool-2.dropped.value.remaining bool (ap (λ (s : TreeValue). s.remaining) kept_is ∙ (keeps t (goal.at.tree_of-returns-in_ok-dropped-in-Bool-2-clause-hits t c).Joined-is_empty).hits) dropped) c.without.ensures
+
+pub any_of-returns-in-len1-clause-hits : goal.any_of-returns-in-len1-clause-hits
+any_of-returns-in-len1-clause-hits t c =
+    let segment = c.args.segment.now in
+    IfOk-weaker c.tree_of.result _ _ (λ tree is. is ∙ single_hits segment c.in-len1.query.now ∙ ap (λ qs. union (map (hits_of segment) qs)) (sym c.in-len1.is)) c.tree_of.ensures.hits

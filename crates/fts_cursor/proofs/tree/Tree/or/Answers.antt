@@ -25,4 +25,4 @@ of-requires c = (made c).stands
 pub returns : goal.returns
 returns c =
     IfOk-weaker c.of.result (λ (t : TreeValue). t ≡ tree_value (Or c.refill-doc.new.buffered)) (λ t. t.remaining ≡ union (remains c.args.parts.items))
-    (λ t is. ap (λ (s : TreeValue). s.remaining) is ∙ (made c).is) c.of.ensures
+    (λ t is. ap (λ (s : TreeValue). s.remaining) is ∙ (made (goal.at.returns c).After-refill-doc).is) c.of.ensures
