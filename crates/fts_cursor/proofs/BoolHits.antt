@@ -1,5 +1,5 @@
 -- The documents of a Boolean query, by those of the queries in it, and those of which all bits are set.
-use Rattle.std.proofs.Common.{◌≡◌, ℕ, zero, suc, ◌+◌, ◌<◌, ◌==◌, Bool, true, false, not, ◌&&◌, ◌||◌, List, [], ◌∷◌, ◌++◌, drop, get_or, length, map, take, refl, sym, ap, ap₂, subst, ◌∙◌, inl, inr, arith}
+use Rattle.std.proofs.Common.{◌≡◌, ℕ, zero, suc, ◌+◌, ◌<◌, ◌≤◌, ◌==◌, Bool, true, false, not, ◌&&◌, ◌||◌, List, [], ◌∷◌, ◌++◌, drop, get_or, length, map, take, refl, sym, ap, ap₂, subst, ◌∙◌, inl, inr, arith}
 use Rattle.std.specs.Prelude.{if◌then◌else◌}
 use Rattle.std.specs.List.{AllZip, count_by, filter, list_all, list_any}
 use Rattle.std.specs.Option.{option_map_or}
@@ -44,6 +44,12 @@ should_hits segment must should none = hits_union segment should ∙ ap (λ qs. 
 or_false : (b : Bool) → b ≡ (b || false)
 or_false true = refl
 or_false false = refl
+
+-- a list of one is that one
+pub only_one : (queries : List Query) (q : Query) → q ≡ get_or queries 0 q → 1 ≤ length queries → length queries < 2 → queries ≡ q ∷ []
+only_one [] q is some few = absurd (omega (arith, some))
+only_one (p ∷ []) q is some few = ap (λ x. x ∷ []) (sym is)
+only_one (p ∷ r ∷ qs) q is some few = absurd (omega (arith, few))
 
 -- one query alone
 pub single_hits : (segment : SegmentValue) (q : Query) → hits_of segment q ≡ union (map (hits_of segment) (q ∷ []))

@@ -11,7 +11,7 @@ use Rattle.fts_model.proofs.QueriesBoolean.{fits_in, matches_at_bool, matches_in
 use Rattle.fts_cursor.specs.Builds.{Opens, is_term}
 use Rattle.fts_postings.specs.Meeting.{union}
 use Rattle.fts_cursor.specs.TreeValues.{TreeValue}
-use Rattle.fts_cursor.proofs.BoolHits.{IsBool, bool_apart, bool_kept, paired_more, single_hits, some_from}
+use Rattle.fts_cursor.proofs.BoolHits.{IsBool, bool_apart, bool_kept, only_one, paired_more, single_hits, some_from}
 use Rattle.fts_cursor.proofs.DepthLemmas.{depth, depth_at, depth_of, one_of_all, parts_fall}
 use Rattle.fts_cursor.proofs.HitsLemmas.{hits_of}
 use Rattle.fts_cursor.proofs.OpensLemmas.{Keeps, keeps_mixed, keeps_shoulds, keeps_terms, nothing_found, opens_apart, opens_kept, parts_fit, remains_more, value_of_bool}
@@ -112,4 +112,5 @@ tree_of-returns-in_ok-dropped-in-Bool-2-clause-hits t c =
 pub any_of-returns-in-len1-clause-hits : goal.any_of-returns-in-len1-clause-hits
 any_of-returns-in-len1-clause-hits t c =
     let segment = c.args.segment.now in
-    IfOk-weaker c.tree_of.result _ _ (λ tree is. is ∙ single_hits segment c.in-len1.query.now ∙ ap (λ qs. union (map (hits_of segment) qs)) (sym c.in-len1.is)) c.tree_of.ensures.hits
+    let one = only_one c.args.queries.now c.query-item.result c.query-item.is c.in-len1.len_at_least c.in-len1.len_below in
+    IfOk-weaker c.tree_of.result _ _ (λ tree is. is ∙ single_hits segment c.query-item.result ∙ ap (λ qs. union (map (hits_of segment) qs)) (sym one)) c.tree_of.ensures.hits

@@ -29,8 +29,9 @@ Tree::seek-returns-else-doc-target-clause-remaining t c =
 
 pub Tree::seek-returns-in_default-clause-remaining : goal.Tree::seek-returns-in_default-clause-remaining
 Tree::seek-returns-in_default-clause-remaining t c =
-    let none : c.args.self.now.remaining ≡ [] = ap (λ (s : TreeValue). s.remaining) (sym c.self.view_is ∙ ap value_of c.in_default.is) in
-    rw none refl
+    let empty = ap (λ (s : TreeValue). s.remaining) (ap value_of c.in_default.is) in
+    let none : c.args.self.now.remaining ≡ [] = ap (λ (s : TreeValue). s.remaining) (sym c.self.view_is) ∙ empty in
+    empty ∙ sym (ap (at_least c.args.target) none)
 
 pub Tree::seek-returns-in_default-doc-clause-remaining : goal.Tree::seek-returns-in_default-doc-clause-remaining
 Tree::seek-returns-in_default-doc-clause-remaining t c =
