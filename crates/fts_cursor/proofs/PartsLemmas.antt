@@ -10,9 +10,9 @@ use Rattle.fts_postings.specs.Meeting.{IsLeast, has, in_all, union, with_all}
 use Rattle.fts_postings.specs.Conjoined.{IsAhead}
 use Rattle.fts_cursor.specs.Standing.{at_most}
 use Rattle.fts_cursor.specs.TreeValues.{Left, Narrowed, TreeContinues, TreeValue, beside, heights, remains, together}
-use Rattle.fts_postings.proofs.RemainingLemmas.{Rises-from_increasing, at_least-at_least, first-at_least}
+use Rattle.fts_postings.proofs.RemainingLemmas.{at_least-at_least, first-at_least}
 use Rattle.fts_postings.proofs.MeetingLemmas.{has-before_first, has-first, has-none, in_all-lacking, in_all-each, has-at_least}
-use Rattle.fts_postings.proofs.UnionLemmas.{at_least-with_all, with_all-nil}
+use Rattle.fts_postings.proofs.UnionLemmas.{at_least-with_all}
 
 -- the first parts stand in a relation to what they were, and the others are as they were
 pub record UpTo (R : TreeValue → TreeValue → Type 0) (initial now : List TreeValue) (index : ℕ) : Type 0 where
