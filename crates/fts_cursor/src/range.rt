@@ -15,7 +15,6 @@ ghost use Rattle.fts_segment.specs.Between.{AreBetween};
 
 use crate::kept::Kept;
 use crate::listed::ListedCursor;
-use crate::scan::ScanCursor;
 use crate::tree::Tree;
 use fts_bits::i64_to_u64;
 use fts_column::Column;
@@ -39,7 +38,7 @@ pub(crate) fn of_range<'a>(
 {
     if is_open(lower) && is_open(upper) {
         let kept = Kept::Valued { segment, field };
-        return Ok(Tree::scan(ScanCursor::new(kept, segment.docs())));
+        return Tree::scan(alloc, kept, segment.docs());
     }
     if segment.schema().kind(field).holds_numbers() {
         of_numbers(alloc, segment, field, lower, upper)
@@ -115,10 +114,10 @@ fn between<'a>(
     ensures { IfOk result (λ t. t.remaining ≡ passing (has_within low high column.now) 0 docs) }
 {
     if are_few(lists, docs / 256) {
-        return Ok(Tree::listed(ListedCursor::of_lists(alloc, lists)?));
+        return Tree::listed(alloc, ListedCursor::of_lists(alloc, lists)?);
     }
     let kept = Kept::Within { column, low, high };
-    Ok(Tree::scan(ScanCursor::new(kept, docs)))
+    Tree::scan(alloc, kept, docs)
 }
 
 // Whether the lists have so many documents at most. None is empty, so a few of them tell.

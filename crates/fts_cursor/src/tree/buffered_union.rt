@@ -9,7 +9,7 @@ ghost use Rattle.fts_cursor.specs.TreeValues.{Left, TreeContinues, remains};
 ghost use Rattle.fts_cursor.specs.Standing.{Walked};
 ghost use Rattle.fts_cursor.specs.Trees.{AreBeyond, AreMarked, IsNow, StandsAt, found, gathered, tree_value};
 
-use crate::tree::{Node, Tree};
+use crate::tree::{Node, Source, Tree};
 use fts_pack::ListSource;
 use fts_postings::{DocSet, PostingCursor, Window};
 
@@ -144,7 +144,10 @@ fn mark_part(part: &mut Tree, window: &mut Window)
     ensures place { (window.new.from ≡ window.old.from) × (window.new.last ≡ window.old.last) }
     ensures marked { AreMarked (has part.old.remaining) window.old window.new }
 {
-    match &mut part.node {
+    let Source::Cursor(node) = &mut part.source else {
+        return;
+    };
+    match &mut **node {
         Node::Postings(postings) => part.doc = mark_postings(postings, window),
         _ => mark_any(part, window),
     }
