@@ -1,13 +1,15 @@
 -- Single bits in words, and what a write of one changes.
 use Rattle.std.proofs.Common.{◌≡◌, ℕ, zero, suc, ◌+◌, ◌-◌, ◌*◌, ◌/◌, ◌%◌, ◌^◌, ◌<◌, ◌≤◌, ◌≢◌, inl, inr, List, [], ◌∷◌, ◌++◌, Bool, true, false, ◌==◌, replicate, slice_get, Some, length, get_or, take, drop, set, bit_and, bit_or, count_by, refl, sym, ap, ap₂, ◌∙◌, subst, arith, mul-one, mod-eq_of_lt, suc-mul, lit<, cond, add_comm, pow-suc, lt_of_le_of_lt, Decides}
-use Rattle.std.proofs.lemmas.List.Sums.{sum_by-cons}
+use Rattle.std.proofs.lemmas.List.Folds.{sum_by-replicate}
+use Rattle.std.proofs.lemmas.List.Sums.{count_by-le-length, sum_by-cons, sum_by-set}
 use Rattle.std.specs.Int.{bit_at, w64}
 use Rattle.std.specs.Int.Count.{ones}
 use Rattle.std.proofs.lemmas.Nat.{pow_pos, mod_below, shr_split, div-add-mod', pow-add, one_shl, pow_below, ones_cat, ones-le, or_lt, and_le_l, mod_low, mod-pow-add, shr-shr, shl_whole, or_comm, or_shifted}
 use lib.Count.{ones_step}
+use mir.Val.{bool_byte}
 use Rattle.std.proofs.lemmas.Nat.Bits.{same_from_bits, bit_at_above, bit_at_cat_low, bit_at_ones, bit_at-zero, bit_at_set_same, bit_at_set_other, bit_at_clear_same, bit_at_clear_other, shr_and_one}
 use Rattle.std.proofs.lemmas.List.{get_or-map, ext_get_or, length-set, length-map, get_or-set_same, get_or-set_other, get_or-replicate, length-replicate, replicate_more, set_at, length_push, take_more, take-append-drop}
-use Rattle.std.proofs.lemmas.Option.{slice_get-get_or}
+use Rattle.std.proofs.lemmas.Option.{get_or_from_slice_get, slice_get-get_or}
 use Rattle.std.proofs.lemmas.Bool.{cases_lt, cases_eq}
 use Rattle.std.proofs.lemmas.Bool.Decides.{same_from_decides, Decides-eqb}
 use Rattle.std.proofs.lemmas.Slice.Eq.{slice_eq-Decides}
@@ -353,3 +355,32 @@ eq_other_len len other words others v w v_is w_is differ =
       λ e. absurd (differ (sym (length-flags len words) ∙ ap length (v_is ∙ e ∙ sym w_is) ∙ length-flags other others)),
     ) in
     same_from_decides (len == other) (pointwise beq v w) by_len (slice_eq-Decides booleans_Decides v w (pointwise beq v w) refl)
+
+-- how many bits are set once one is put
+abbrev pub one_if : Bool → ℕ
+one_if bit = cond bit 1 0
+
+pub byte_is : (bit : Bool) → bool_byte bit ≡ one_if bit
+byte_is true = refl
+byte_is false = refl
+
+module _ (bits : List Bool) (doc : ℕ) (was : Bool) (inside : doc < length bits) (there : slice_get bits doc ≡ Some was) where
+  digit_there : one_if (get_or bits doc false) ≡ one_if was
+  digit_there = ap one_if (get_or_from_slice_get bits doc was false there)
+
+  pub ones_above : one_if was ≤ count_by (λ bit. bit) bits
+  ones_above = omega (arith, sum_by-set one_if bits doc false false inside, digit_there)
+
+  pub ones_put : (bit : Bool) (after : List Bool) (ones x y : ℕ) → ones ≡ count_by (λ b. b) bits → x ≡ one_if was → y ≡ one_if bit → after ≡ set bits doc bit → ones - x + y ≡ count_by (λ b. b) after
+  ones_put bit after ones x y is x_is y_is put =
+      let sum : ones - x + y ≡ count_by (λ b. b) (set bits doc bit) = omega (arith, ones_above, sum_by-set one_if bits doc bit false inside, digit_there, is, x_is, y_is) in
+      sum ∙ ap (count_by (λ b. b)) (sym put)
+
+  -- there are no more than bits
+  pub ones_room : (bit : Bool) (ones x y : ℕ) → ones ≡ count_by (λ b. b) bits → x ≡ one_if was → y ≡ one_if bit → ones - x + y ≤ length bits
+  ones_room bit ones x y is x_is y_is =
+      omega (arith, ones_put bit (set bits doc bit) ones x y is x_is y_is refl, count_by-le-length (λ b. b) (set bits doc bit), length-set bits doc bit)
+
+-- all are set, or none
+pub ones_replicated : (bits : List Bool) (n : ℕ) (b : Bool) → bits ≡ replicate n b → n * one_if b ≡ count_by (λ bit. bit) bits
+ones_replicated bits n b is = sym (ap (count_by (λ bit. bit)) is ∙ sum_by-replicate one_if n b)
