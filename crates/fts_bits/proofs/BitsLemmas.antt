@@ -185,24 +185,6 @@ flags-empty len =
     (λ i lt. let inside : i < len = omega (arith, length-flags len words) in
     flag_at len i words false inside ∙ ap (λ n. bit_at n i == 1) (joined-replicate_zero (word_count 64 len)) ∙ ap (λ b. b == 1) (bit_at-zero i) ∙ sym (get_or-replicate len i false false inside))
 
--- the ones of one word more
-pub ones-more : (words : List ℕ) (index : ℕ) → Below 64 words → index < length words → ones (joined 64 (take (index + 1) words)) ≡ ones (joined 64 (take index words)) + ones (get_or words index 0)
-unfolding joined
-ones-more words index below inside =
-    let front = take index words in
-    let word = get_or words index 0 in
-    let small : joined 64 front < 2 ^ (length front * 64) = joined-below 64 front (Below-take 64 index words below) in
-    let e : joined 64 (front ++ word ∷ []) ≡ (0 * 2 ^ 64 + word) * 2 ^ (length front * 64) + joined 64 front = joined-append 64 front (word ∷ []) in
-    let whole : joined 64 (take (index + 1) words) ≡ word * 2 ^ (length front * 64) + joined 64 front = ap (joined 64) (take_more words index 0 inside) ∙ e ∙ omega arith in
-    ap ones whole ∙ ones_cat (length front * 64) word (joined 64 front) small ∙ add_comm (ones word) (ones (joined 64 front))
-
--- there are no more ones than bits
-pub ones-within : (len index : ℕ) (words : List ℕ) → IsBits len words → ones (joined 64 (take index words)) ≤ len
-ones-within len index words h =
-    let front = take index words in
-    let e : joined 64 words ≡ joined 64 (drop index words) * 2 ^ (length front * 64) + joined 64 front = ap (joined 64) (sym (take-append-drop index words)) ∙ joined-append 64 front (drop index words) in
-    ones-le len (joined 64 front) (omega (arith, h.unused, e))
-
 -- a digit is 1 where its boolean is true
 flag_counts : (n : ℕ) → cond (n % 2 == 1) 1 0 ≡ n % 2
 flag_counts n = go (n % 2) (mod_below n 2 (omega arith)) where
@@ -210,13 +192,6 @@ flag_counts n = go (n % 2) (mod_below n 2 (omega arith)) where
   go zero h = refl
   go (suc zero) h = refl
   go (suc (suc d)) h = absurd (omega arith)
-
-pub count_by-flags : (len n : ℕ) → n < 2 ^ len → count_by (λ bit. bit) (flags (digits 1 len n)) ≡ ones n
-unfolding digits
-count_by-flags zero n small = omega (arith, ones-le 0 n small)
-count_by-flags (suc len) n small =
-    let half : n / 2 < 2 ^ len = omega (arith, small, pow-suc 2 len) in
-    sum_by-cons (λ bit. cond bit 1 0) (n % 2 == 1) (flags (digits 1 len (n / 2))) ∙ ap₂ (λ a b. a + b) (flag_counts n) (count_by-flags len (n / 2) half) ∙ sym (ones_step n)
 
 Below-marks : (bits : List Bool) → Below 1 (marks bits)
 Below-marks [] i = pow_pos 1
@@ -308,14 +283,6 @@ bit_put false words place n below inside n_is =
     let mask = all_ones - 1 * 2 ^ (place % 64) % 2 ^ 64 in
     bit_written words place (bit_and n mask) 0 below inside (lt_of_le_of_lt (and_le_l n mask) small) (bit_at_clear_same w64 n (place % 64) start) (λ i lt ne. bit_at_clear_other w64 n (place % 64) start i lt ne ∙ ap (λ m. bit_at m i) n_is)
 
-pub ones-joined_nil : ones (joined 64 []) ≡ 0
-unfolding joined
-ones-joined_nil = omega (arith, ones-le 0 0 (lit< tt))
-
-pub count_by-flags_words : (len : ℕ) (words : List ℕ) → IsBits len words → count_by (λ bit. bit) (flags (numbers_in 64 1 len words)) ≡ ones (joined 64 words)
-unfolding numbers_in
-count_by-flags_words len words h = count_by-flags len (joined 64 words) h.unused
-
 -- a document's bit, and the word that it is in, are there
 pub doc_inside : (len doc : ℕ) (words : List ℕ) (value : List Bool) → flags (numbers_in 64 1 len words) ≡ value → IsBits len words → doc < length value → (doc < len) × (doc / 64 < length words)
 doc_inside len doc words value view h inside =
@@ -329,11 +296,6 @@ bits-put bit len doc n words value view h inside n_is =
     let written = bit_put bit words doc n h.fits place.1 n_is in
     let same : (b : Bool) → (cond b 1 0 == 1) ≡ b = elim [ true ↦ refl | false ↦ refl ] in
     (IsBits-written len doc (cond bit 1 0) words _ h place.0 written, flags-written len doc (cond bit 1 0) words _ place.0 written ∙ ap (set (flags (numbers_in 64 1 len words)) doc) (same bit) ∙ ap (λ v. set v doc bit) view)
-
--- a count of ones, one word on
-pub ones-counted : (len index count : ℕ) (words read : List ℕ) → read ≡ words → IsBits len words → index < length read → count ≡ ones (joined 64 (take index read)) → count + ones (get_or read index 0) ≡ ones (joined 64 (take (index + 1) words))
-ones-counted len index count words read same h inside counted =
-    ap (λ n. n + ones (get_or read index 0)) counted ∙ sym (ones-more read index (subst (Below 64) (sym same) h.fits) inside) ∙ ap (λ xs. ones (joined 64 (take (index + 1) xs))) same
 
 pub rest_inside : (len : ℕ) → 0 < len % 64 → len / 64 < word_count 64 len
 unfolding word_count

@@ -149,7 +149,8 @@ impl Bits {
         self.words.get(index).copied().unwrap_or(0)
     }
 
-    /// How many bits are set.
+    /// How many bits are set. It is kept, so nothing is counted.
+    #[inline]
     pub fn count_ones(&self) -> usize
         ensures { result ≡ count_by (λ bit. bit) self.now }
     {
