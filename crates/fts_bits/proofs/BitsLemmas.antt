@@ -1,14 +1,12 @@
 -- Single bits in words, and what a write of one changes.
-use Rattle.std.proofs.Common.{◌≡◌, ℕ, zero, suc, ◌+◌, ◌-◌, ◌*◌, ◌/◌, ◌%◌, ◌^◌, ◌<◌, ◌≤◌, ◌≢◌, inl, inr, List, [], ◌∷◌, ◌++◌, Bool, true, false, ◌==◌, replicate, slice_get, Some, length, get_or, take, drop, set, bit_and, bit_or, count_by, refl, sym, ap, ap₂, ◌∙◌, subst, arith, mul-one, mod-eq_of_lt, suc-mul, lit<, cond, add_comm, pow-suc, lt_of_le_of_lt, Decides}
+use Rattle.std.proofs.Common.{◌≡◌, ℕ, zero, suc, ◌+◌, ◌-◌, ◌*◌, ◌/◌, ◌%◌, ◌^◌, ◌<◌, ◌≤◌, ◌≢◌, inl, inr, List, [], ◌∷◌, ◌++◌, Bool, true, false, ◌==◌, replicate, slice_get, Some, length, get_or, take, drop, set, bit_and, bit_or, count_by, refl, sym, ap, ap₂, ◌∙◌, subst, arith, mul-one, mod-eq_of_lt, suc-mul, lit<, cond, lt_of_le_of_lt, Decides}
 use Rattle.std.proofs.lemmas.List.Folds.{sum_by-replicate}
-use Rattle.std.proofs.lemmas.List.Sums.{count_by-le-length, sum_by-cons, sum_by-set}
+use Rattle.std.proofs.lemmas.List.Sums.{count_by-le-length, sum_by-set}
 use Rattle.std.specs.Int.{bit_at, w64}
-use Rattle.std.specs.Int.Count.{ones}
-use Rattle.std.proofs.lemmas.Nat.{pow_pos, mod_below, shr_split, div-add-mod', pow-add, one_shl, pow_below, ones_cat, ones-le, or_lt, and_le_l, mod_low, mod-pow-add, shr-shr, shl_whole, or_comm, or_shifted}
-use lib.Count.{ones_step}
+use Rattle.std.proofs.lemmas.Nat.{pow_pos, mod_below, shr_split, div-add-mod', pow-add, one_shl, pow_below, or_lt, and_le_l, mod_low, mod-pow-add, shr-shr, shl_whole, or_comm, or_shifted}
 use mir.Val.{bool_byte}
 use Rattle.std.proofs.lemmas.Nat.Bits.{same_from_bits, bit_at_above, bit_at_cat_low, bit_at_ones, bit_at-zero, bit_at_set_same, bit_at_set_other, bit_at_clear_same, bit_at_clear_other, shr_and_one}
-use Rattle.std.proofs.lemmas.List.{get_or-map, ext_get_or, length-set, length-map, get_or-set_same, get_or-set_other, get_or-replicate, length-replicate, replicate_more, set_at, length_push, take_more, take-append-drop}
+use Rattle.std.proofs.lemmas.List.{get_or-map, ext_get_or, length-set, length-map, get_or-set_same, get_or-set_other, get_or-replicate, length-replicate, replicate_more, set_at, length_push}
 use Rattle.std.proofs.lemmas.Option.{get_or_from_slice_get, slice_get-get_or}
 use Rattle.std.proofs.lemmas.Bool.{cases_lt, cases_eq}
 use Rattle.std.proofs.lemmas.Bool.Decides.{same_from_decides, Decides-eqb}
@@ -18,8 +16,8 @@ use Rattle.std.specs.Cmp.Lexicographic.{pointwise}
 use Rattle.std.proofs.Math.Bool.{beq}
 use Rattle.fts_bits.specs.Digits.{joined, digits, word_count, words_of, numbers_in}
 use Rattle.fts_bits.specs.Bits.{IsBits, flags, marks, number_of}
-use Rattle.fts_bits.proofs.DigitsLemmas.{Below, Below-push, read_one, get_or-digits, length-digits, joined-below, joined-append, joined-digits, digits-joined, joined-drop, joined-drop_split, joined-take}
-use Rattle.fts_bits.proofs.PackingLemmas.{Below-drop, Below-take, length-numbers_in}
+use Rattle.fts_bits.proofs.DigitsLemmas.{Below, Below-push, read_one, get_or-digits, length-digits, joined-append, joined-digits, digits-joined, joined-drop, joined-drop_split, joined-take}
+use Rattle.fts_bits.proofs.PackingLemmas.{Below-drop, length-numbers_in}
 
 -- the greatest number of 64 bits
 abbrev pub all_ones : ℕ
