@@ -47,7 +47,7 @@ pub fn cursor_of<'a>(
     match tree_of(alloc, segment, query) {
         Err(AllocError) => Err(Refusal::Memory),
         Ok(tree) => {
-            if all_set(live, tree.cost()) {
+            if all_set(live) {
                 Ok(Cursor::all(tree))
             } else {
                 Ok(Cursor::live(tree, live))
@@ -56,14 +56,10 @@ pub fn cursor_of<'a>(
     }
 }
 
-// Whether all bits are set, of which so many are looked at else. They are counted only where that costs less: a word
-// for 64 of them.
-fn all_set(live: &Bits, cost: usize) -> bool
+// Whether all bits are set.
+fn all_set(live: &Bits) -> bool
     ensures { result ≡ true → count_by (λ bit. bit) live.now ≡ length live.now }
 {
-    if cost < live.len() / 64 {
-        return false;
-    }
     live.count_ones() == live.len()
 }
 
