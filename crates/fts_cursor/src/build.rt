@@ -203,11 +203,7 @@ fn of_all(alloc: Global, segment: &Segment) -> Result<Tree<'_>, AllocError>
 }
 
 // The documents that have a term.
-fn of_term<'a>(
-    alloc: Global,
-    segment: &'a Segment,
-    term: &Term,
-) -> Result<Tree<'a>, AllocError>
+fn of_term<'a>(alloc: Global, segment: &'a Segment, term: &Term) -> Result<Tree<'a>, AllocError>
     ensures remaining { IfOk result (λ t. t.remaining ≡ postings segment.now term.now) }
     ensures bound { IfOk result
         (λ t. t.bound ≡ at_most (block_count (length (postings segment.now term.now)))) }

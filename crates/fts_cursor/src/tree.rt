@@ -102,11 +102,7 @@ impl<'a> Tree<'a> {
 
     /// Of those of so many documents that are kept.
     #[inline(never)]
-    pub(crate) fn scan(
-        alloc: Global,
-        kept: Kept<'a>,
-        docs: usize,
-    ) -> Result<Tree<'a>, AllocError>
+    pub(crate) fn scan(alloc: Global, kept: Kept<'a>, docs: usize) -> Result<Tree<'a>, AllocError>
         requires few { docs ≤ 2 ^ 32 }
         requires are_for { AreFor kept docs }
         ensures remaining { IfOk result (λ t. t.remaining ≡ kept_from kept.entry 0 docs) }
