@@ -3,8 +3,8 @@
 //! A handle is a pointer, which one call at a time may use. A line of a script goes in, and its reply comes out, to the
 //! byte that the script's definition says. A searcher is a handle too: a session of its own over the last commit of
 //! another, which another thread may have, and which takes searches alone. What a caller owes is a handle that is open,
-//! and true lengths: the callers in C test for null. What each call leaves, and which code it answers, is a definition of
-//! `specs/Calls.antt`.
+//! and true lengths: the callers in C test for null. What each call leaves, and which code it answers, is a definition
+//! of `specs/Calls.antt`.
 #![tactic(auto)]
 
 ghost use Rattle.std.specs.Prelude.{◌≡◌, Option, Some, IfOk};

@@ -1,5 +1,6 @@
 // Ranges, as what a column keeps: numbers, or ordinals of texts.
-ghost use Rattle.std.specs.Prelude.{◌≡◌, ℕ, ◌^◌, ◌<◌, ◌≤◌, ◌||◌, IfOk, None, Some, false, length, not, slice_index_or, true};
+ghost use Rattle.std.specs.Prelude.{◌≡◌, ℕ, ◌^◌, ◌<◌, ◌≤◌, ◌||◌, IfOk, None, Some, false, length, not};
+ghost use Rattle.std.specs.Prelude.{slice_index_or, true};
 ghost use Rattle.std.specs.Option.{option_map_or};
 ghost use Rattle.fts_model.specs.Operations.{kind_at};
 ghost use Rattle.fts_model.specs.declared.schema.Kind.TheVariants as kinds;
@@ -7,7 +8,8 @@ ghost use Rattle.fts_model.specs.Queries.{is_number_field, is_range_of};
 ghost use Rattle.fts_model.specs.QueryValues.{range};
 ghost use Rattle.fts_cursor.specs.Hits.{segment_hits};
 ghost use Rattle.fts_segment.specs.Segments.{keywords};
-ghost use Rattle.fts_cursor.specs.Ranges.{IsGreatestOf, IsLastOrdinal, IsLeastOf, IsWhole, IsWholeBound, is_bounded, key_of};
+ghost use Rattle.fts_cursor.specs.Ranges.{IsGreatestOf, IsLastOrdinal, IsLeastOf, IsWhole, IsWholeBound, is_bounded};
+ghost use Rattle.fts_cursor.specs.Ranges.{key_of};
 ghost use Rattle.fts_cursor.specs.Ranges.{ordinal_from};
 ghost use Rattle.fts_cursor.specs.Scans.{has_within};
 ghost use Rattle.fts_postings.specs.Windows.{passing};
