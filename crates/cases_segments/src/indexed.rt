@@ -1,5 +1,5 @@
-// Cases of what a segment holds: `postings`, `positions`, `all_positions`, `column`, `keyword`, `equal_range`, `stored` and
-// `stamps`.
+// Cases of what a segment holds: `postings`, `positions`, `all_positions`, `column`, `keyword`, `equal_range`, `stored`
+// and `stamps`.
 ghost use Rattle.std.specs.Prelude.{◌≡◌, Some, true};
 ghost use Rattle.fts_model.specs.declared.schema.Kind.TheVariants as kinds;
 ghost use Rattle.fts_model.specs.Operations.{kind_at};
@@ -104,8 +104,8 @@ fn kind_of(segment: &Segment, field: usize) -> Option<Kind>
     Some(segment.schema().fields().get(field)?.kind)
 }
 
-/// The numbers of a field, as they are kept, or the ordinals of its keywords, or `null` where it is neither a number field
-/// nor a keyword field.
+/// The numbers of a field, as they are kept, or the ordinals of its keywords, or `null` where it is neither a number
+/// field nor a keyword field.
 pub(crate) fn column(trial: &mut Trial, case: &Value, segment: &Segment) {
     let field = size(trial, case, "field");
     match kind_of(segment, field) {
@@ -143,8 +143,8 @@ fn keyword(trial: &mut Trial, case: &Value, segment: &Segment) {
     }
 }
 
-/// How many different keywords of a field are before a text, and how many aren't behind it, or `null` where the field has
-/// no keywords.
+/// How many different keywords of a field are before a text, and how many aren't behind it, or `null` where the field
+/// has no keywords.
 fn equal_range(trial: &mut Trial, case: &Value, segment: &Segment) {
     let field = size(trial, case, "field");
     let text = text(trial, case, "text");

@@ -112,8 +112,8 @@ fn bench_of(trial: &mut Trial, merged: &Merged) -> Option<Bench> {
     Some(Bench { segment, live })
 }
 
-/// Merges all segments that were made, each with its live bits, and puts the merged one in their place. Gives each of its
-/// documents as its stamp, its source and its number there.
+/// Merges all segments that were made, each with its live bits, and puts the merged one in their place. Gives each of
+/// its documents as its stamp, its source and its number there.
 pub(crate) fn join(trial: &mut Trial, made: &mut Vec<Bench>) {
     let Some(merged) = merged_of(trial, made) else {
         return;

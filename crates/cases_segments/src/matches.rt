@@ -109,8 +109,8 @@ fn give_three(trial: &mut Trial, scan: &[u32], steps: &[u32], stretches: &[u32])
     trial.close_object();
 }
 
-/// Gives the documents that a query finds, or, where `counts` says so, how many they are. Where a scan, a cursor's steps
-/// and its stretches find others, those of all three.
+/// Gives the documents that a query finds, or, where `counts` says so, how many they are. Where a scan, a cursor's
+/// steps and its stretches find others, those of all three.
 fn give_found(trial: &mut Trial, bench: &Bench, query: &Query, counts: bool) {
     let scan = scanned(trial, bench, query);
     let steps = stepped(trial, bench, query);

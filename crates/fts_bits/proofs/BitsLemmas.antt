@@ -1,13 +1,13 @@
 -- Single bits in words, and what a write of one changes.
-use Rattle.std.proofs.Common.{◌≡◌, ℕ, zero, suc, ◌+◌, ◌-◌, ◌*◌, ◌/◌, ◌%◌, ◌^◌, ◌<◌, ◌≤◌, ◌≢◌, inl, inr, List, [], ◌∷◌, ◌++◌, Bool, true, false, ◌==◌, replicate, slice_get, Some, length, get_or, take, drop, set, bit_and, bit_or, count_by, refl, sym, ap, ap₂, ◌∙◌, subst, arith, mul-one, mod-eq_of_lt, suc-mul, lit<, cond, add_comm, pow-suc, lt_of_le_of_lt, Decides}
-use Rattle.std.proofs.lemmas.List.Sums.{sum_by-cons}
+use Rattle.std.proofs.Common.{◌≡◌, ℕ, zero, suc, ◌+◌, ◌-◌, ◌*◌, ◌/◌, ◌%◌, ◌^◌, ◌<◌, ◌≤◌, ◌≢◌, inl, inr, List, [], ◌∷◌, ◌++◌, Bool, true, false, ◌==◌, replicate, slice_get, Some, length, get_or, take, drop, set, bit_and, bit_or, count_by, refl, sym, ap, ap₂, ◌∙◌, subst, arith, mul-one, mod-eq_of_lt, suc-mul, lit<, cond, lt_of_le_of_lt, Decides}
+use Rattle.std.proofs.lemmas.List.Folds.{sum_by-replicate}
+use Rattle.std.proofs.lemmas.List.Sums.{count_by-le-length, sum_by-set}
 use Rattle.std.specs.Int.{bit_at, w64}
-use Rattle.std.specs.Int.Count.{ones}
-use Rattle.std.proofs.lemmas.Nat.{pow_pos, mod_below, shr_split, div-add-mod', pow-add, one_shl, pow_below, ones_cat, ones-le, or_lt, and_le_l, mod_low, mod-pow-add, shr-shr, shl_whole, or_comm, or_shifted}
-use lib.Count.{ones_step}
+use Rattle.std.proofs.lemmas.Nat.{pow_pos, mod_below, shr_split, div-add-mod', pow-add, one_shl, pow_below, or_lt, and_le_l, mod_low, mod-pow-add, shr-shr, shl_whole, or_comm, or_shifted}
+use mir.Val.{bool_byte}
 use Rattle.std.proofs.lemmas.Nat.Bits.{same_from_bits, bit_at_above, bit_at_cat_low, bit_at_ones, bit_at-zero, bit_at_set_same, bit_at_set_other, bit_at_clear_same, bit_at_clear_other, shr_and_one}
-use Rattle.std.proofs.lemmas.List.{get_or-map, ext_get_or, length-set, length-map, get_or-set_same, get_or-set_other, get_or-replicate, length-replicate, replicate_more, set_at, length_push, take_more, take-append-drop}
-use Rattle.std.proofs.lemmas.Option.{slice_get-get_or}
+use Rattle.std.proofs.lemmas.List.{get_or-map, ext_get_or, length-set, length-map, get_or-set_same, get_or-set_other, get_or-replicate, length-replicate, replicate_more, set_at, length_push}
+use Rattle.std.proofs.lemmas.Option.{get_or_from_slice_get, slice_get-get_or}
 use Rattle.std.proofs.lemmas.Bool.{cases_lt, cases_eq}
 use Rattle.std.proofs.lemmas.Bool.Decides.{same_from_decides, Decides-eqb}
 use Rattle.std.proofs.lemmas.Slice.Eq.{slice_eq-Decides}
@@ -16,8 +16,8 @@ use Rattle.std.specs.Cmp.Lexicographic.{pointwise}
 use Rattle.std.proofs.Math.Bool.{beq}
 use Rattle.fts_bits.specs.Digits.{joined, digits, word_count, words_of, numbers_in}
 use Rattle.fts_bits.specs.Bits.{IsBits, flags, marks, number_of}
-use Rattle.fts_bits.proofs.DigitsLemmas.{Below, Below-push, read_one, get_or-digits, length-digits, joined-below, joined-append, joined-digits, digits-joined, joined-drop, joined-drop_split, joined-take}
-use Rattle.fts_bits.proofs.PackingLemmas.{Below-drop, Below-take, length-numbers_in}
+use Rattle.fts_bits.proofs.DigitsLemmas.{Below, Below-push, read_one, get_or-digits, length-digits, joined-append, joined-digits, digits-joined, joined-drop, joined-drop_split, joined-take}
+use Rattle.fts_bits.proofs.PackingLemmas.{Below-drop, length-numbers_in}
 
 -- the greatest number of 64 bits
 abbrev pub all_ones : ℕ
@@ -183,24 +183,6 @@ flags-empty len =
     (λ i lt. let inside : i < len = omega (arith, length-flags len words) in
     flag_at len i words false inside ∙ ap (λ n. bit_at n i == 1) (joined-replicate_zero (word_count 64 len)) ∙ ap (λ b. b == 1) (bit_at-zero i) ∙ sym (get_or-replicate len i false false inside))
 
--- the ones of one word more
-pub ones-more : (words : List ℕ) (index : ℕ) → Below 64 words → index < length words → ones (joined 64 (take (index + 1) words)) ≡ ones (joined 64 (take index words)) + ones (get_or words index 0)
-unfolding joined
-ones-more words index below inside =
-    let front = take index words in
-    let word = get_or words index 0 in
-    let small : joined 64 front < 2 ^ (length front * 64) = joined-below 64 front (Below-take 64 index words below) in
-    let e : joined 64 (front ++ word ∷ []) ≡ (0 * 2 ^ 64 + word) * 2 ^ (length front * 64) + joined 64 front = joined-append 64 front (word ∷ []) in
-    let whole : joined 64 (take (index + 1) words) ≡ word * 2 ^ (length front * 64) + joined 64 front = ap (joined 64) (take_more words index 0 inside) ∙ e ∙ omega arith in
-    ap ones whole ∙ ones_cat (length front * 64) word (joined 64 front) small ∙ add_comm (ones word) (ones (joined 64 front))
-
--- there are no more ones than bits
-pub ones-within : (len index : ℕ) (words : List ℕ) → IsBits len words → ones (joined 64 (take index words)) ≤ len
-ones-within len index words h =
-    let front = take index words in
-    let e : joined 64 words ≡ joined 64 (drop index words) * 2 ^ (length front * 64) + joined 64 front = ap (joined 64) (sym (take-append-drop index words)) ∙ joined-append 64 front (drop index words) in
-    ones-le len (joined 64 front) (omega (arith, h.unused, e))
-
 -- a digit is 1 where its boolean is true
 flag_counts : (n : ℕ) → cond (n % 2 == 1) 1 0 ≡ n % 2
 flag_counts n = go (n % 2) (mod_below n 2 (omega arith)) where
@@ -208,13 +190,6 @@ flag_counts n = go (n % 2) (mod_below n 2 (omega arith)) where
   go zero h = refl
   go (suc zero) h = refl
   go (suc (suc d)) h = absurd (omega arith)
-
-pub count_by-flags : (len n : ℕ) → n < 2 ^ len → count_by (λ bit. bit) (flags (digits 1 len n)) ≡ ones n
-unfolding digits
-count_by-flags zero n small = omega (arith, ones-le 0 n small)
-count_by-flags (suc len) n small =
-    let half : n / 2 < 2 ^ len = omega (arith, small, pow-suc 2 len) in
-    sum_by-cons (λ bit. cond bit 1 0) (n % 2 == 1) (flags (digits 1 len (n / 2))) ∙ ap₂ (λ a b. a + b) (flag_counts n) (count_by-flags len (n / 2) half) ∙ sym (ones_step n)
 
 Below-marks : (bits : List Bool) → Below 1 (marks bits)
 Below-marks [] i = pow_pos 1
@@ -306,14 +281,6 @@ bit_put false words place n below inside n_is =
     let mask = all_ones - 1 * 2 ^ (place % 64) % 2 ^ 64 in
     bit_written words place (bit_and n mask) 0 below inside (lt_of_le_of_lt (and_le_l n mask) small) (bit_at_clear_same w64 n (place % 64) start) (λ i lt ne. bit_at_clear_other w64 n (place % 64) start i lt ne ∙ ap (λ m. bit_at m i) n_is)
 
-pub ones-joined_nil : ones (joined 64 []) ≡ 0
-unfolding joined
-ones-joined_nil = omega (arith, ones-le 0 0 (lit< tt))
-
-pub count_by-flags_words : (len : ℕ) (words : List ℕ) → IsBits len words → count_by (λ bit. bit) (flags (numbers_in 64 1 len words)) ≡ ones (joined 64 words)
-unfolding numbers_in
-count_by-flags_words len words h = count_by-flags len (joined 64 words) h.unused
-
 -- a document's bit, and the word that it is in, are there
 pub doc_inside : (len doc : ℕ) (words : List ℕ) (value : List Bool) → flags (numbers_in 64 1 len words) ≡ value → IsBits len words → doc < length value → (doc < len) × (doc / 64 < length words)
 doc_inside len doc words value view h inside =
@@ -327,11 +294,6 @@ bits-put bit len doc n words value view h inside n_is =
     let written = bit_put bit words doc n h.fits place.1 n_is in
     let same : (b : Bool) → (cond b 1 0 == 1) ≡ b = elim [ true ↦ refl | false ↦ refl ] in
     (IsBits-written len doc (cond bit 1 0) words _ h place.0 written, flags-written len doc (cond bit 1 0) words _ place.0 written ∙ ap (set (flags (numbers_in 64 1 len words)) doc) (same bit) ∙ ap (λ v. set v doc bit) view)
-
--- a count of ones, one word on
-pub ones-counted : (len index count : ℕ) (words read : List ℕ) → read ≡ words → IsBits len words → index < length read → count ≡ ones (joined 64 (take index read)) → count + ones (get_or read index 0) ≡ ones (joined 64 (take (index + 1) words))
-ones-counted len index count words read same h inside counted =
-    ap (λ n. n + ones (get_or read index 0)) counted ∙ sym (ones-more read index (subst (Below 64) (sym same) h.fits) inside) ∙ ap (λ xs. ones (joined 64 (take (index + 1) xs))) same
 
 pub rest_inside : (len : ℕ) → 0 < len % 64 → len / 64 < word_count 64 len
 unfolding word_count
@@ -353,3 +315,32 @@ eq_other_len len other words others v w v_is w_is differ =
       λ e. absurd (differ (sym (length-flags len words) ∙ ap length (v_is ∙ e ∙ sym w_is) ∙ length-flags other others)),
     ) in
     same_from_decides (len == other) (pointwise beq v w) by_len (slice_eq-Decides booleans_Decides v w (pointwise beq v w) refl)
+
+-- how many bits are set once one is put
+abbrev pub one_if : Bool → ℕ
+one_if bit = cond bit 1 0
+
+pub byte_is : (bit : Bool) → bool_byte bit ≡ one_if bit
+byte_is true = refl
+byte_is false = refl
+
+module _ (bits : List Bool) (doc : ℕ) (was : Bool) (inside : doc < length bits) (there : slice_get bits doc ≡ Some was) where
+  digit_there : one_if (get_or bits doc false) ≡ one_if was
+  digit_there = ap one_if (get_or_from_slice_get bits doc was false there)
+
+  pub ones_above : one_if was ≤ count_by (λ bit. bit) bits
+  ones_above = omega (arith, sum_by-set one_if bits doc false false inside, digit_there)
+
+  pub ones_put : (bit : Bool) (after : List Bool) (ones x y : ℕ) → ones ≡ count_by (λ b. b) bits → x ≡ one_if was → y ≡ one_if bit → after ≡ set bits doc bit → ones - x + y ≡ count_by (λ b. b) after
+  ones_put bit after ones x y is x_is y_is put =
+      let sum : ones - x + y ≡ count_by (λ b. b) (set bits doc bit) = omega (arith, ones_above, sum_by-set one_if bits doc bit false inside, digit_there, is, x_is, y_is) in
+      sum ∙ ap (count_by (λ b. b)) (sym put)
+
+  -- there are no more than bits
+  pub ones_room : (bit : Bool) (ones x y : ℕ) → ones ≡ count_by (λ b. b) bits → x ≡ one_if was → y ≡ one_if bit → ones - x + y ≤ length bits
+  ones_room bit ones x y is x_is y_is =
+      omega (arith, ones_put bit (set bits doc bit) ones x y is x_is y_is refl, count_by-le-length (λ b. b) (set bits doc bit), length-set bits doc bit)
+
+-- all are set, or none
+pub ones_replicated : (bits : List Bool) (n : ℕ) (b : Bool) → bits ≡ replicate n b → n * one_if b ≡ count_by (λ bit. bit) bits
+ones_replicated bits n b is = sym (ap (count_by (λ bit. bit)) is ∙ sum_by-replicate one_if n b)

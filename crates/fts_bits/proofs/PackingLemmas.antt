@@ -107,12 +107,6 @@ pub length-numbers_in : (word width count : ℕ) (words : List ℕ) → length (
 unfolding numbers_in
 length-numbers_in word width count words = length-digits width count (joined word words)
 
-pub Below-take : (width count : ℕ) (xs : List ℕ) → Below width xs → Below width (take count xs)
-Below-take width zero xs h i = pow_pos width
-Below-take width (suc count) [] h i = pow_pos width
-Below-take width (suc count) (x ∷ xs) h zero = h 0
-Below-take width (suc count) (x ∷ xs) h (suc i) = Below-take width count xs (λ j. h (suc j)) i
-
 pub Below-drop : (width count : ℕ) (xs : List ℕ) → Below width xs → Below width (drop count xs)
 Below-drop width zero xs h i = h i
 Below-drop width (suc count) [] h i = h i

@@ -1,6 +1,6 @@
 -- One bit a document, as booleans.
-use Rattle.std.specs.Prelude.{◌≡◌, ℕ, ◌^◌, ◌<◌, List, Bool, ◌==◌, length, if◌then◌else◌, map, slice_index}
-use Rattle.fts_bits.specs.Digits.{joined, word_count}
+use Rattle.std.specs.Prelude.{◌≡◌, ℕ, ◌^◌, ◌<◌, List, Bool, ◌==◌, count_by, length, if◌then◌else◌, map, slice_index}
+use Rattle.fts_bits.specs.Digits.{joined, numbers_in, word_count}
 
 -- digits 0 and 1 as booleans: 1 is true
 abbrev pub flags : List ℕ → List Bool
@@ -20,3 +20,8 @@ pub record IsBits (len : ℕ) (words : List ℕ) : Type 0 where
   pub count : length words ≡ word_count 64 len
   pub fits : (k : ℕ) → slice_index words k < 2 ^ 64
   pub unused : joined 64 words < 2 ^ len
+
+-- and so many of the bits are 1
+pub record AreCounted (len ones : ℕ) (words : List ℕ) : Type 0 where
+  pub bits : IsBits len words
+  pub ones_are : ones ≡ count_by (λ bit. bit) (flags (numbers_in 64 1 len words))

@@ -6,7 +6,7 @@ ghost use Rattle.std.specs.Cmp.Lexicographic.{pointwise, lists_per};
 ghost use Rattle.std.proofs.lemmas.Cmp.{lists_equiv};
 ghost use Rattle.std.proofs.Math.Bool.{beq};
 ghost use Rattle.fts_bits.specs.Digits.{numbers_in, words_of};
-ghost use Rattle.fts_bits.specs.Bits.{IsBits, flags, marks, number_of};
+ghost use Rattle.fts_bits.specs.Bits.{AreCounted, flags, marks, number_of};
 
 use crate::packing;
 use fts_base::Refusal;
@@ -17,6 +17,8 @@ use std::marker::Model;
 #[derive(Drop)]
 pub struct Bits {
     len: usize,
+    // How many are set.
+    ones: usize,
     words: Vec<u64>,
 }
 
@@ -25,7 +27,7 @@ impl Model for Bits {
 
     ghost view = { λ b. flags (numbers_in 64 1 b.len b.words.items) };
 
-    ghost invariant = { λ b. IsBits b.len b.words.items };
+    ghost invariant = { λ b. AreCounted b.len b.ones b.words.items };
 }
 
 impl Bits {
@@ -45,7 +47,11 @@ impl Bits {
         if rest > 0 {
             words[len / 64] = (1 << rest) - 1;
         }
-        Ok(Bits { len, words })
+        Ok(Bits {
+            len,
+            ones: len,
+            words,
+        })
     }
 
     /// Bits for so many documents, all clear.
@@ -61,7 +67,11 @@ impl Bits {
         ensures { IfOk result (λ bits. bits ≡ replicate len false) }
     {
         let words = vec![in alloc; 0u64; packing::word_count_64(len)]?;
-        Ok(Bits { len, words })
+        Ok(Bits {
+            len,
+            ones: 0,
+            words,
+        })
     }
 
     /// A copy on the allocator.
@@ -72,6 +82,7 @@ impl Bits {
         let words = Vec::from_slice(alloc, &self.words).map_err(|_| Refusal::Memory)?;
         Ok(Bits {
             len: self.len,
+            ones: self.ones,
             words,
         })
     }
@@ -120,6 +131,8 @@ impl Bits {
         requires { doc < length self.old }
         ensures { self.new ≡ slice_set self.old doc bit }
     {
+        let was = self.get(doc);
+        self.ones = self.ones - usize::from(was) + usize::from(bit);
         if bit {
             self.words[doc / 64] |= 1 << (doc % 64);
         } else {
@@ -136,15 +149,12 @@ impl Bits {
         self.words.get(index).copied().unwrap_or(0)
     }
 
-    /// How many bits are set.
+    /// How many bits are set. It is kept, so nothing is counted.
+    #[inline]
     pub fn count_ones(&self) -> usize
         ensures { result ≡ count_by (λ bit. bit) self.now }
     {
-        let mut count = 0;
-        for word in &self.words {
-            count += word.count_ones() as usize;
-        }
-        count
+        self.ones
     }
 
     /// The words in which the bits lie.

@@ -5,6 +5,8 @@ use Rattle.fts_session.specs.Finds.{reply_to_search}
 use Rattle.fts_session.specs.Outputs.{SessionValue, after_line, reply_to}
 use Rattle.fts_session.specs.Text.{is_blank}
 use Rattle.fts_c.specs.declared.codes.TheConstants.{OK, MEMORY}
+use Rattle.fts_c.specs.declared.state.Call.{Call}
+use Rattle.fts_c.specs.declared.state.Call.TheVariants as calls
 use Rattle.fts_c.specs.declared.state.State.{State}
 use Rattle.fts_c.specs.Codes.{IsCodeOf, IsOfTried}
 
@@ -31,6 +33,11 @@ pub record Searches (old : State) (line : List ℕ) (new : State) (code : ℤ) :
   pub reply : code ≡ OK → string_bytes new.reply ≡ reply_to_search old.session line
   pub same : new.session ≡ old.session
   pub none : code ≢ OK → string_bytes new.reply ≡ []
+
+-- What a call leaves of a line: it was executed, or a search was answered.
+abbrev pub Answers : Call → State → List ℕ → State → ℤ → Type 0
+Answers calls.Execute old line new code = Executes old line new code
+Answers calls.Search old line new code = Searches old line new code
 
 -- a buffer behind a copy: the bytes stand at its beginning where there is room for them, and else it is as it was
 abbrev pub copied : List ℕ → List ℕ → List ℕ

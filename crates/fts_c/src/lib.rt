@@ -3,8 +3,8 @@
 //! A handle is a pointer, which one call at a time may use. A line of a script goes in, and its reply comes out, to the
 //! byte that the script's definition says. A searcher is a handle too: a session of its own over the last commit of
 //! another, which another thread may have, and which takes searches alone. What a caller owes is a handle that is open,
-//! and true lengths: the callers in C test for null. What each call leaves, and which code it answers, is a definition of
-//! `specs/Calls.antt`.
+//! and true lengths: the callers in C test for null. What each call leaves, and which code it answers, is a definition
+//! of `specs/Calls.antt`.
 #![tactic(auto)]
 
 ghost use Rattle.std.specs.Prelude.{◌≡◌, Option, Some, IfOk};
@@ -12,7 +12,7 @@ ghost use Rattle.std.specs.Box.Ownership.{box_owns};
 ghost use Rattle.std.specs.contracts.impls.GlobalAllocator.TheImpl.{ghosts};
 ghost use Rattle.fts_c.specs.declared.state.State.{State};
 ghost use Rattle.fts_c.specs.contracts.state.State.{the_row};
-ghost use Rattle.fts_c.specs.Calls.{copied, Executes, Opens, Searches, TellsReply};
+ghost use Rattle.fts_c.specs.Calls.{copied, Answers, Executes, Opens, Searches, TellsReply};
 ghost use Rattle.fts_c.specs.Held.{held};
 ghost use Rattle.fts_session.specs.Finds.{at_commit};
 ghost use Rattle.fts_session.specs.Outputs.{start};
@@ -26,7 +26,7 @@ use fts_local::LocalEngine;
 use fts_session::Session;
 use fts_steps::{Cut, Merge, Options};
 use loose::Loose;
-use state::State;
+use state::{Call, State};
 use std::alloc::{AllocError, Global};
 use std::marker::Model;
 
@@ -129,12 +129,21 @@ pub extern "C" fn fts_open(slot: &mut Slot, alloc: Global) -> i32
     open(slot, alloc, Session::new(options()))
 }
 
-fn execute(handle: Handle, alloc: Global, line: &[u8]) -> (Handle, i32)
-    ensures { Executes handle.state line.now result.0.state result.1 }
+fn answered(handle: Handle, call: Call, alloc: Global, line: &[u8]) -> (Handle, i32)
+    ensures { Answers call handle.state line.now result.0.state result.1 }
 {
     let mut state = unwrap(handle);
-    let code = state.execute(alloc, line);
+    let code = state.answer(call, alloc, line);
     (wrap(state), code)
+}
+
+/// Answers a line as its call does.
+fn answer(handle: &mut Handle, call: Call, alloc: Global, line: &[u8]) -> i32
+    ensures { Answers call handle.old.state line.now handle.new.state result }
+{
+    replace_with(handle, (call, alloc, line), |handle, (call, alloc, line)| {
+        answered(handle, call, alloc, line)
+    })
 }
 
 /// Executes a line, without its LF. At 0 the reply is that of the definition, and the session goes on as it says. At
@@ -144,9 +153,7 @@ fn execute(handle: Handle, alloc: Global, line: &[u8]) -> (Handle, i32)
 pub extern "C" fn fts_execute(handle: &mut Handle, alloc: Global, line: &[u8]) -> i32
     ensures { Executes handle.old.state line.now handle.new.state result }
 {
-    replace_with(handle, (alloc, line), |handle, (alloc, line)| {
-        execute(handle, alloc, line)
-    })
+    answer(handle, Call::Execute, alloc, line)
 }
 
 fn without_reply(handle: Handle, alloc: Global) -> (Handle, String)
@@ -240,23 +247,13 @@ pub extern "C" fn fts_searcher_again(searcher: &mut Handle, slot: &mut Slot, all
     open_searcher(searcher, slot, alloc)
 }
 
-fn search(handle: Handle, alloc: Global, line: &[u8]) -> (Handle, i32)
-    ensures { Searches handle.state line.now result.0.state result.1 }
-{
-    let mut state = unwrap(handle);
-    let code = state.search(alloc, line);
-    (wrap(state), code)
-}
-
 /// Answers a search, as a line of a script: the reply is that of the definition, over the searcher's commit, and
 /// nothing changes. Another command is answered as `BadCommand`. The codes are those of `fts_execute`.
 #[unsafe(no_mangle)]
 pub extern "C" fn fts_search(searcher: &mut Handle, alloc: Global, line: &[u8]) -> i32
     ensures { Searches searcher.old.state line.now searcher.new.state result }
 {
-    replace_with(searcher, (alloc, line), |searcher, (alloc, line)| {
-        search(searcher, alloc, line)
-    })
+    answer(searcher, Call::Search, alloc, line)
 }
 
 /// The reply to the last search, as by `fts_reply`.

@@ -1,6 +1,6 @@
 // A session and its last reply.
 ghost use Rattle.std.specs.Prelude.{◌≡◌, [], MatchResult, string_bytes};
-ghost use Rattle.fts_c.specs.Calls.{Executes, Searches};
+ghost use Rattle.fts_c.specs.Calls.{Answers, Executes, Searches};
 ghost use Rattle.fts_c.specs.Codes.{IsFault, IsTried};
 
 use crate::codes::{LINE_TOO_LONG, MEMORY, OK, USED_UP};
@@ -19,6 +19,13 @@ const MOST_LINES: u64 = 1 << 61;
 pub struct State {
     pub session: Session<LocalEngine>,
     pub reply: String,
+}
+
+/// What is done with a line.
+#[derive(Clone, Copy)]
+pub(crate) enum Call {
+    Execute,
+    Search,
 }
 
 /// The code of a line that was tried.
@@ -70,6 +77,16 @@ impl State {
         }
         let found = self.session.find(&((), alloc), line, &mut self.reply);
         code_of(found)
+    }
+
+    /// Answers a line as its call does.
+    pub(crate) fn answer(&mut self, call: Call, alloc: Global, line: &[u8]) -> i32
+        ensures { Answers call self.old line.now self.new result }
+    {
+        match call {
+            Call::Execute => self.execute(alloc, line),
+            Call::Search => self.search(alloc, line),
+        }
     }
 }
 

@@ -1,6 +1,6 @@
 // What a segment tells of its live hits.
 ghost use Rattle.std.specs.Prelude.{◌≡◌, ◌<◌, ◌≤◌, ◌++◌, ◌^◌, ℕ, List, [], true, All, IfOk, IfSome, OnOk, IsOkUnless};
-ghost use Rattle.std.specs.Prelude.{Some, length, min, option_map, slice_index_or, ◌-◌};
+ghost use Rattle.std.specs.Prelude.{MatchOption, Some, length, min, option_map, slice_index_or, ◌-◌};
 ghost use Rattle.fts_cursor.specs.Standing.{Walked};
 ghost use Rattle.fts_model.specs.declared.operation.Term.{Term};
 ghost use Rattle.fts_model.specs.Queries.{is_number_field, is_ordered_field, query_fits, request_fits};
@@ -213,14 +213,22 @@ fn see(
     rank_hits(segment, request.top, docs, &mut seen.top_k)
 }
 
-/// Whether nothing is asked for but how many hits there are.
-fn asks_count_alone(request: &Request) -> bool
-    ensures { result ≡ true → (request.now.groups ≡ None) × (request.now.top ≡ None) }
+/// How many hits remain of a cursor, or the greatest `usize`, where nothing else is asked for and the cursor can tell;
+/// it leaves them behind then.
+fn count_alone(request: &Request, cursor: &mut Cursor<'_>) -> Option<usize>
+    ensures alone { IfSome result (λ _. (request.now.groups ≡ None) × (request.now.top ≡ None)) }
+    ensures counted { MatchOption result (cursor.new ≡ cursor.old)
+        (λ count. (count ≡ min (2 ^ 64 - 1) (length cursor.old.remaining)) × (cursor.new.remaining ≡ [])) }
+    ensures walked { Walked cursor.old cursor.new }
 {
-    request.groups.is_none() && request.top.is_none()
+    if request.groups.is_none() && request.top.is_none() {
+        cursor.count()
+    } else {
+        None
+    }
 }
 
-/// Takes all hits that remain of a cursor: counts them alone, where nothing else is asked for and the cursor can tell.
+/// Takes all hits that remain of a cursor: counts them alone, where that is enough, and else takes 128 at a time.
 fn see_all(
     segment: &Segment,
     request: &Request,
@@ -234,32 +242,10 @@ fn see_all(
     ensures end { OnOk result (cursor.new.remaining ≡ []) }
     ensures walked { OnOk result (Walked cursor.old cursor.new) }
 {
-    if !asks_count_alone(request) {
-        return see_each(segment, request, cursor, seen);
+    if let Some(count) = count_alone(request, cursor) {
+        seen.count = seen.count.saturating_add(count as u64);
+        return Ok(());
     }
-    match cursor.count() {
-        None => see_each(segment, request, cursor, seen),
-        Some(count) => {
-            seen.count = seen.count.saturating_add(count as u64);
-            Ok(())
-        }
-    }
-}
-
-/// Takes all hits that remain of a cursor, 128 at a time.
-fn see_each(
-    segment: &Segment,
-    request: &Request,
-    cursor: &mut Cursor<'_>,
-    seen: &mut Seen,
-) -> Result<(), AllocError>
-    requires fits { request_fits segment.now.schema request.now ≡ true }
-    requires within { All (λ doc. doc < length segment.now.documents) cursor.old.remaining }
-    requires none { HasSeen segment.now request.now [] seen.old }
-    ensures seen { OnOk result (HasSeen segment.now request.now cursor.old.remaining seen.new) }
-    ensures end { OnOk result (cursor.new.remaining ≡ []) }
-    ensures walked { OnOk result (Walked cursor.old cursor.new) }
-{
     let mut docs = [0u32; 128];
     let mut len = cursor.fill(&mut docs);
     while len > 0 {

@@ -1,5 +1,6 @@
 -- A column of values, one for each document, of which some are missing.
-use Rattle.std.specs.Prelude.{◌≡◌, ℕ, ◌+◌, ◌-◌, ◌^◌, ◌<◌, ◌≤◌, ◌&&◌, nat_le, false, Bool, List, [], ◌∷◌, Option, Some, None, All, Contains}
+use Rattle.std.specs.Prelude.{◌≡◌, ℕ, ◌+◌, ◌-◌, ◌^◌, ◌<◌, ◌≤◌, ◌&&◌, nat_le, false, Bool, List, [], ◌∷◌, Option, Some}
+use Rattle.std.specs.Prelude.{None, All, Contains}
 use Rattle.std.specs.Prelude.{IfSome, length, map, max, min, if◌then◌else◌}
 use Rattle.std.specs.Option.{option_map_or}
 use Rattle.fts_bits.specs.Digits.{IsWidthOf, words_of}

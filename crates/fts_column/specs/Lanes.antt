@@ -18,4 +18,5 @@ pub record AreLanesOf (numbers lanes : List ℕ) : Type 0 where
 -- bit k of the word is set where number k is within these
 abbrev pub AreMarked : List ℕ → ℕ → ℕ → ℕ → Type 0
 AreMarked numbers low high marks =
-    (k : ℕ) → k < 64 → (bit_at marks k == 1) ≡ (nat_le low (slice_index numbers k) && nat_le (slice_index numbers k) high)
+    (k : ℕ) → k < 64 → (bit_at marks k == 1)
+    ≡ (nat_le low (slice_index numbers k) && nat_le (slice_index numbers k) high)

@@ -1,5 +1,5 @@
 -- The documents of a Boolean query, by those of the queries in it, and those of which all bits are set.
-use Rattle.std.proofs.Common.{◌≡◌, ℕ, zero, suc, ◌+◌, ◌<◌, ◌==◌, Bool, true, false, not, ◌&&◌, ◌||◌, List, [], ◌∷◌, ◌++◌, drop, get_or, length, map, take, refl, sym, ap, ap₂, subst, ◌∙◌, inl, inr, arith}
+use Rattle.std.proofs.Common.{◌≡◌, ℕ, zero, suc, ◌+◌, ◌<◌, ◌≤◌, ◌==◌, Bool, true, false, not, ◌&&◌, ◌||◌, List, [], ◌∷◌, ◌++◌, drop, get_or, length, map, take, refl, sym, ap, ap₂, subst, ◌∙◌, inl, inr, arith}
 use Rattle.std.specs.Prelude.{if◌then◌else◌}
 use Rattle.std.specs.List.{AllZip, count_by, filter, list_all, list_any}
 use Rattle.std.specs.Option.{option_map_or}
@@ -40,6 +40,22 @@ and_late false b c = refl
 -- the shoulds alone
 pub should_hits : (segment : SegmentValue) (must should : List Query) → must ≡ [] → union (map (hits_of segment) should) ≡ numbers_where (kept_by segment.schema must should) 0 segment.documents
 should_hits segment must should none = hits_union segment should ∙ ap (λ qs. numbers_where (kept_by segment.schema qs should) 0 segment.documents) (sym none)
+
+or_false : (b : Bool) → b ≡ (b || false)
+or_false true = refl
+or_false false = refl
+
+-- a list of one is that one
+pub only_one : (queries : List Query) (q : Query) → q ≡ get_or queries 0 q → 1 ≤ length queries → length queries < 2 → queries ≡ q ∷ []
+only_one [] q is some few = absurd (omega (arith, some))
+only_one (p ∷ []) q is some few = ap (λ x. x ∷ []) (sym is)
+only_one (p ∷ r ∷ qs) q is some few = absurd (omega (arith, few))
+
+-- one query alone
+pub single_hits : (segment : SegmentValue) (q : Query) → hits_of segment q ≡ union (map (hits_of segment) (q ∷ []))
+single_hits segment q =
+    numbers_where-same (λ (e : Stamped DocumentValue). matches_in segment.schema e.value q) (λ e. list_any (matches_in segment.schema e.value) (q ∷ [])) 0 segment.documents
+    (λ k d inside. or_false (matches_in segment.schema (get_or segment.documents k d).value q)) ∙ sym (hits_union segment (q ∷ []))
 
 -- the documents that all musts find
 pub all_kept : (segment : SegmentValue) (must should : List Query) → 0 < length must → numbers_where (λ e. list_all (matches_in segment.schema e.value) must) 0 segment.documents ≡ numbers_where (kept_by segment.schema must should) 0 segment.documents

@@ -25,8 +25,8 @@ abbrev pub depth_of : List Query → ℕ
 depth_of qs = depth_all (query_list (map query_value qs))
 
 -- the queries in a Boolean query are less deep
-pub parts_fall : (t : ℕ) (query : Query) (must must_not should : _) → query ≡ views.Bool must must_not should → 2 * depth (query_value query) + 0 ≡ t →
-    (2 * depth_of must.items + 1 < t) × (2 * depth_of must_not.items + 1 < t) × (2 * depth_of should.items + 1 < t)
+pub parts_fall : (t : ℕ) (query : Query) (must must_not should : _) → query ≡ views.Bool must must_not should → 3 * depth (query_value query) + 0 ≡ t →
+    (3 * depth_of must.items + 2 < t) × (3 * depth_of must_not.items + 2 < t) × (3 * depth_of should.items + 2 < t)
 parts_fall t query must must_not should is size =
     let whole : depth (query_value query) ≡ suc (max (depth_of must.items) (max (depth_of must_not.items) (depth_of should.items))) = ap depth (ap query_value is ∙ value_of_bool must must_not should) in
     (omega (arith, whole, size), omega (arith, whole, size), omega (arith, whole, size))

@@ -1,5 +1,5 @@
 -- A disjunction: the documents of its window, and what remains of its parts behind it.
-use Rattle.std.proofs.Common.{◌≡◌, ℕ, zero, suc, ◌+◌, ◌-◌, ◌<◌, ◌≤◌, All, Bool, true, false, cond, ◌||◌, ◌&&◌, ◌==◌, nat_le, Some, None, List, [], ◌∷◌, ◌++◌, length, get_or, set, take, drop, refl, sym, ap, ap₂, subst, ◌∙◌, inl, inr, arith}
+use Rattle.std.proofs.Common.{◌≡◌, ℕ, zero, suc, ◌+◌, ◌-◌, ◌<◌, ◌≤◌, All, Bool, true, false, cond, ◌||◌, ◌&&◌, ◌==◌, nat_le, Option, Some, None, List, [], ◌∷◌, ◌++◌, length, get_or, set, take, drop, refl, sym, ap, ap₂, subst, ◌∙◌, inl, inr, arith}
 use Rattle.std.specs.List.{AllZip, slice_get}
 use Rattle.std.specs.List.Sorted.{IsStrictlyIncreasing}
 use Rattle.std.proofs.lemmas.Bool.{cases_Bool, cases_lt, le-leb, lt-leb, false≢true}
@@ -308,6 +308,15 @@ apart : (w : Window) (lists : List (List ℕ)) → AreBeyond w lists → union (
 apart w lists beyond =
     let behind = Rises-beyond (suc w.last) (union lists) (Rises-union lists) (λ d low. has-union lists d ∙ beyond d (omega (arith, low))) in
     (put_behind 0 w.last (found w) (union lists) (found_rises w) (found_up_to w) behind (omega arith)).0
+
+-- those of the window are some, and with those of the parts all
+pub gathered_count : (doc : ℕ) (next : Option ℕ) (w : Window) (lists : List (List ℕ)) (later : List ℕ) (count : ℕ) → next ≡ Some doc → IsBuffered next w lists → count ≡ length (found w) → later ≡ at_least 0 (union lists)
+    → (0 < count) × (count + length later ≡ length (union (found w ∷ lists)))
+gathered_count doc next w lists later count is h counted left =
+    let some : 0 < length (found w) = slice_get_within (found w) 0 doc (sym h.first ∙ is) in
+    let all : length (union (found w ∷ lists)) ≡ length (found w) + length (union lists) = ap length (apart w lists h.beyond) ∙ length-append (found w) (union lists) in
+    let behind : length later ≡ length (union lists) = ap length (left ∙ at_least_all 0 0 (union lists) (Rises-union lists) (omega arith)) in
+    (omega (arith, some, counted), omega (arith, all, behind, counted))
 
 -- what is taken of the window is taken of all
 pub gathered_stretch : (doc : ℕ) (old new : Window) (lists : List (List ℕ)) (out written : List ℕ) (filled count : ℕ) → IsBuffered (Some doc) old lists → new.last ≡ old.last → IsStretch (found old) (found new) out written filled count → IsStretch (union (found old ∷ lists)) (union (found new ∷ lists)) out written filled count

@@ -1,6 +1,6 @@
 -- What the cursor of a query opens, by the queries in it.
 use Rattle.std.proofs.Common.{◌≡◌, ◌≢◌, ℕ, ◌+◌, ◌<◌, ◌≤◌, Bool, true, false, ◌&&◌, Option, None, List, [], ◌∷◌, ◌++◌, length, map, take, get_or, refl, sym, ap, ap₂, subst, ◌∙◌, inl, inr, arith}
-use Rattle.std.specs.List.{AllZip, filter, list_all}
+use Rattle.std.specs.List.{filter, list_all}
 use Rattle.std.proofs.lemmas.Bool.{and_parts, false≢true}
 use Rattle.std.proofs.lemmas.List.{length-map, map-append, take_more}
 use Rattle.fts_model.specs.declared.operation.Term.{Term}
@@ -104,28 +104,24 @@ abbrev pub kept_value : List Query → List Query → QueryValue
 kept_value must should = boolean (query_list (map query_value must)) no_queries (query_list (map query_value should))
 
 -- one of shoulds alone
-pub opens_shoulds : (segment : SegmentValue) (must should : List Query) (trees : List TreeValue) (s : TreeValue) → must ≡ [] → AllZip (λ t q. Opens segment (query_value q) t.standing) trees should →
-    ((part : TreeValue) → trees ≡ part ∷ [] → s ≡ part) → (trees ≡ [] → s.bound ≡ at_most 0) → Opens segment (kept_value must should) s.standing
-opens_shoulds segment (m ∷ ms) should trees s empty zip alone none = absurd (cc)
-opens_shoulds segment [] [] [] s empty zip alone none = record {
+pub opens_shoulds : (segment : SegmentValue) (must should : List Query) (s : TreeValue) → must ≡ [] → ((q : Query) → should ≡ q ∷ [] → Opens segment (query_value q) s.standing) → (should ≡ [] → s.bound ≡ at_most 0) → Opens segment (kept_value must should) s.standing
+opens_shoulds segment (m ∷ ms) should s empty alone none = absurd (cc)
+opens_shoulds segment [] [] s empty alone none = record {
   one_term = λ u h. elim h [ inl e ↦ absurd (cc) | inr e ↦ absurd (cc) ];
   musts = λ terms e doc. subst (λ (b : Bound). most_at b doc ≤ most_at (bound_for_musts segment terms) doc) (sym (none refl)) (omega arith);
   opened = λ terms e some. omega (arith, as_many [] terms (terms_are [] terms (cc)));
 }
-opens_shoulds segment [] [] (p ∷ ps) s empty zip alone none = absurd zip
-opens_shoulds segment [] (q ∷ qs) [] s empty zip alone none = absurd zip
-opens_shoulds segment [] (q ∷ []) (p ∷ []) s empty zip alone none = record {
+opens_shoulds segment [] (q ∷ []) s empty alone none = record {
   one_term = λ u h. elim h [
     | inl e ↦ absurd (cc)
     | inr e ↦
         let first : query_value q ≡ term u = cc in
-        subst (λ (x : TreeValue). (x.whole ≡ true) × (most_at x.bound None ≡ blocks_with segment u)) (sym (alone p refl)) (zip.0.one_term u (inl first))
+        (alone q refl).one_term u (inl first)
   ];
   musts = λ terms e doc. absurd (cc);
   opened = λ terms e some. absurd (cc);
 }
-opens_shoulds segment [] (q ∷ []) (p ∷ (r ∷ ps)) s empty zip alone none = absurd zip.1
-opens_shoulds segment [] (q ∷ (w ∷ qs)) (p ∷ ps) s empty zip alone none = record {
+opens_shoulds segment [] (q ∷ (w ∷ qs)) s empty alone none = record {
   one_term = λ u h. elim h [ inl e ↦ absurd (cc) | inr e ↦ absurd (cc) ];
   musts = λ terms e doc. absurd (cc);
   opened = λ terms e some. absurd (cc);
@@ -163,11 +159,11 @@ pub record Keeps (segment : SegmentValue) (must should : List Query) (s : TreeVa
   pub hits : s.remaining ≡ numbers_where (kept_by segment.schema must should) 0 segment.documents
   pub opens : Opens segment (kept_value must should) s.standing
 
-pub keeps_shoulds : (segment : SegmentValue) (must should : List Query) (trees : List TreeValue) (s : TreeValue) → must ≡ [] → remains trees ≡ map (hits_of segment) should → AllZip (λ t q. Opens segment (query_value q) t.standing) trees should →
-    s.remaining ≡ union (remains trees) → ((part : TreeValue) → trees ≡ part ∷ [] → s ≡ part) → (trees ≡ [] → s.bound ≡ at_most 0) → Keeps segment must should s
-keeps_shoulds segment must should trees s empty are zip is alone none = record {
-  hits = is ∙ ap union are ∙ should_hits segment must should empty;
-  opens = opens_shoulds segment must should trees s empty zip alone none;
+pub keeps_shoulds : (segment : SegmentValue) (must should : List Query) (s : TreeValue) → must ≡ [] → s.remaining ≡ union (map (hits_of segment) should) →
+    ((q : Query) → should ≡ q ∷ [] → Opens segment (query_value q) s.standing) → (should ≡ [] → s.bound ≡ at_most 0) → Keeps segment must should s
+keeps_shoulds segment must should s empty is alone none = record {
+  hits = is ∙ should_hits segment must should empty;
+  opens = opens_shoulds segment must should s empty alone none;
 }
 
 pub keeps_terms : (segment : SegmentValue) (must should : List Query) (s : TreeValue) → 0 < length must → s.remaining ≡ all_hits segment must →

@@ -10,9 +10,9 @@ use Rattle.fts_postings.specs.Meeting.{IsLeast, has, in_all, union, with_all}
 use Rattle.fts_postings.specs.Conjoined.{IsAhead}
 use Rattle.fts_cursor.specs.Standing.{at_most}
 use Rattle.fts_cursor.specs.TreeValues.{Left, Narrowed, TreeContinues, TreeValue, beside, heights, remains, together}
-use Rattle.fts_postings.proofs.RemainingLemmas.{Rises-from_increasing, at_least-at_least, first-at_least}
+use Rattle.fts_postings.proofs.RemainingLemmas.{at_least-at_least, first-at_least}
 use Rattle.fts_postings.proofs.MeetingLemmas.{has-before_first, has-first, has-none, in_all-lacking, in_all-each, has-at_least}
-use Rattle.fts_postings.proofs.UnionLemmas.{at_least-with_all, with_all-nil}
+use Rattle.fts_postings.proofs.UnionLemmas.{at_least-with_all}
 
 -- the first parts stand in a relation to what they were, and the others are as they were
 pub record UpTo (R : TreeValue → TreeValue → Type 0) (initial now : List TreeValue) (index : ℕ) : Type 0 where
@@ -165,11 +165,3 @@ union-left t (p ∷ ps) (q ∷ qs) h =
 -- the parts up to one that was written, with what remains of it
 pub remains-more : (now : List TreeValue) (index : ℕ) (q : TreeValue) → index < length now → remains (take (index + 1) (set now index q)) ≡ remains (take index now) ++ q.remaining ∷ []
 remains-more now index q inside = ap remains (take_more_set now index q inside) ∙ map-append (λ s. s.remaining) (take index now) (q ∷ [])
-
--- the documents of one alone
-pub union-single : (parts : List TreeValue) (part : TreeValue) → length parts ≡ 1 → ((p : TreeValue) → parts ≡ p ∷ [] → part ≡ p) → IsStrictlyIncreasing part.remaining → part.remaining ≡ union (remains parts)
-union-single [] part one is rises = absurd (omega (arith, one))
-union-single (p ∷ []) part one is rises =
-    let same : part ≡ p = is p refl in
-    sym (ap (λ (s : TreeValue). with_all s.remaining []) (sym same) ∙ with_all-nil 0 part.remaining (Rises-from_increasing part.remaining rises))
-union-single (p ∷ q ∷ ps) part one is rises = absurd (omega (arith, one))

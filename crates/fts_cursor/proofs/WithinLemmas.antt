@@ -1,11 +1,9 @@
 -- The documents of a stretch whose number in a column lies within bounds, as the bits of two words.
-use Rattle.std.proofs.Common.{◌≡◌, ℕ, zero, suc, ◌+◌, ◌-◌, ◌/◌, ◌%◌, ◌^◌, ◌<◌, ◌≤◌, Bool, true, false, cond, ◌==◌, count_ones, Option, None, List, [], ◌∷◌, ◌++◌, length, get_or, min, sym, ap, ap₂, subst, ◌∙◌, inl, inr, arith}
+use Rattle.std.proofs.Common.{◌≡◌, ℕ, suc, ◌+◌, ◌-◌, ◌^◌, ◌<◌, ◌≤◌, Bool, true, false, ◌==◌, Option, None, List, [], ◌++◌, length, get_or, min, sym, ap, ap₂, subst, ◌∙◌, inl, inr, arith}
 use Rattle.std.specs.Int.{bit_at}
-use Rattle.std.proofs.lemmas.Bool.{cases_Bool, cases_lt, eqb-false, eqb-true}
+use Rattle.std.proofs.lemmas.Bool.{cases_lt}
 use Rattle.std.proofs.lemmas.List.{append-nil, get_or_past}
-use Rattle.std.proofs.lemmas.Nat.{ones_le_self}
-use Rattle.std.proofs.lemmas.Nat.Bits.{bit_at_above, bit_at_lowest, bit_at-suc}
-use lib.Count.{ones_step}
+use Rattle.std.proofs.lemmas.Nat.Bits.{bit_at_above}
 use Rattle.fts_column.specs.Column.{is_within}
 use Rattle.fts_cursor.specs.Scans.{has_within}
 use Rattle.fts_postings.specs.Windows.{is_marked, marked, passing}
@@ -58,29 +56,3 @@ two_words low high column from n first second size inside here there =
     ∙ ap₂ (λ xs ys. xs ++ ys)
     (passing-same test (is_marked from first) from a (λ d up down. let e : from + (d - from) ≡ d = omega (arith, up) in subst (λ x. test x ≡ is_marked from first x) e (here.each (d - from) (omega (arith, up, down)))))
     (ap (λ s. passing test s b) start ∙ passing-same test (is_marked (from + 64) second) (from + 64) b (λ d up down. let e : from + 64 + (d - (from + 64)) ≡ d = omega (arith, up) in subst (λ x. test x ≡ is_marked (from + 64) second x) e (there.each (d - (from + 64)) (omega (arith, up, down)))))
-
--- as many pass as there are bits
-ones_passing : (n a m : ℕ) (p : ℕ → Bool) → m < 2 ^ n → ((k : ℕ) → k < n → p (a + k) ≡ (bit_at m k == 1)) → length (passing p a n) ≡ count_ones m
-ones_passing zero a m p small same = omega (arith, small, ones_le_self m)
-ones_passing (suc n) a m p small same =
-    let rest = passing p (a + 1) n in
-    let start : a + 0 ≡ a = omega arith in
-    let first : p a ≡ (m % 2 == 1) = ap p (sym start) ∙ same 0 (omega arith) ∙ ap (λ b. b == 1) (bit_at_lowest m) in
-    let half : m / 2 < 2 ^ n = omega (arith, small) in
-    let more = ones_passing n (a + 1) (m / 2) p half (λ k lt. let e : a + 1 + k ≡ a + suc k = omega arith in ap p e ∙ same (suc k) (omega (arith, lt)) ∙ ap (λ b. b == 1) (bit_at-suc m k)) in
-    elim (cases_Bool (p a)) [
-      | inl kept ↦
-          let odd : m % 2 ≡ 1 = eqb-true (m % 2) 1 (sym first ∙ kept) in
-          let all : length (passing p a (suc n)) ≡ suc (length rest) = ap (λ b. length (cond b (a ∷ rest) rest)) kept in
-          omega (arith, all, odd, more, ones_step m)
-      | inr other ↦
-          let even : m % 2 ≡ 0 = (let ne = eqb-false (m % 2) 1 (sym first ∙ other) in omega (arith, ne)) in
-          let all : length (passing p a (suc n)) ≡ length rest = ap (λ b. length (cond b (a ∷ rest) rest)) other in
-          omega (arith, all, even, more, ones_step m)
-    ]
-
-pub marked-ones : (from marks : ℕ) → marks < 2 ^ 64 → length (marked from (from + 63) marks) ≡ count_ones marks
-marked-ones from marks fits =
-    let whole : suc (from + 63) - from ≡ 64 = omega arith in
-    ap (λ n. length (passing (is_marked from marks) from n)) whole
-    ∙ ones_passing 64 from marks (is_marked from marks) fits (λ k lt. let at : from + k - from ≡ k = omega arith in ap (λ j. bit_at marks j == 1) at)

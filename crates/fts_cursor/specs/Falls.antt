@@ -2,13 +2,14 @@
 use Rattle.std.specs.Prelude.{◌≤◌, max}
 use Rattle.std.proofs.Common.{arith}
 use Rattle.fts_cursor.specs.TreeValues.{most-heights}
-use Rattle.fts_cursor.specs.Trees.{tree_value}
+use Rattle.fts_cursor.specs.Trees.{tree_value, value_of}
 use Rattle.fts_cursor.specs.declared.tree.Node.{Node}
-use Rattle.fts_cursor.specs.declared.tree.Node.TheVariants.{Nothing, Scan, Listed, Postings, Terms, Phrase, And, Or, Without}
-use Rattle.fts_cursor.specs.declared.tree.Tree.TheDeep.{deep-Node}
+use Rattle.fts_cursor.specs.declared.tree.Node.TheVariants.{Scan, Listed, Postings, Terms, Phrase, And, Or, Without}
+use Rattle.fts_cursor.specs.declared.tree.Source.{Source}
+use Rattle.fts_cursor.specs.declared.tree.Source.TheVariants as sources
+use Rattle.fts_cursor.specs.declared.tree.Tree.TheDeep.{deep-Node, deep-Source}
 
-pub node_falls : (node : Node) → max (deep-Node node) 0 ≤ (tree_value node).height
-node_falls Nothing = omega arith
+node_falls : (node : Node) → max (deep-Node node) 0 ≤ (tree_value node).height
 node_falls (Scan documents) = omega arith
 node_falls (Listed documents) = omega arith
 node_falls (Postings p) = omega arith
@@ -17,3 +18,7 @@ node_falls (Phrase s) = omega arith
 node_falls (And parts) = omega (arith, most-heights parts.others.items)
 node_falls (Or buffered) = omega (arith, most-heights buffered.parts.items)
 node_falls (Without parts) = omega arith
+
+pub source_falls : (source : Source) → max (deep-Source source) 0 ≤ (value_of source).height
+source_falls sources.Nothing = omega arith
+source_falls (sources.Cursor node) = omega (arith, node_falls node.value)

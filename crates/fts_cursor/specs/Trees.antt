@@ -14,8 +14,10 @@ use Rattle.fts_cursor.specs.declared.tree.buffered_union.BufferedUnion.{Buffered
 use Rattle.fts_cursor.specs.declared.tree.exclusion.Exclusion.{Exclusion}
 use Rattle.fts_cursor.specs.declared.tree.intersection.Intersection.{Intersection}
 use Rattle.fts_cursor.specs.declared.tree.Node.{Node}
-use Rattle.fts_cursor.specs.declared.tree.Node.TheVariants.{Nothing, Scan, Listed, Postings, Terms, Phrase, And, Or}
+use Rattle.fts_cursor.specs.declared.tree.Node.TheVariants.{Scan, Listed, Postings, Terms, Phrase, And, Or}
 use Rattle.fts_cursor.specs.declared.tree.Node.TheVariants.{Without}
+use Rattle.fts_cursor.specs.declared.tree.Source.{Source}
+use Rattle.fts_cursor.specs.declared.tree.Source.TheVariants.{Nothing, Cursor}
 use Rattle.fts_postings.specs.declared.window.Window.{Window}
 
 -- the documents of a window
@@ -42,7 +44,6 @@ abbrev pub differ : Exclusion → List ℕ
 differ parts = without parts.kept.value.remaining parts.dropped.value.remaining
 
 abbrev pub tree_value : Node → TreeValue
-tree_value Nothing = leaf (record { remaining = []; openings = 0; bound = at_most 0; whole = true })
 tree_value (Scan documents) = leaf (record { remaining = documents; openings = 0; bound = at_most 0; whole = false })
 tree_value (Listed documents) = leaf (record { remaining = documents; openings = 0; bound = at_most 0; whole = false })
 tree_value (Postings p) = leaf (record {
@@ -98,3 +99,19 @@ pub record Met (doc : Option ℕ) (before : List ℕ) (test : ℕ → Bool) (lea
   pub first : doc ≡ slice_get before 0
   pub passes : PassesAt doc test lead
   pub rises : IsStrictlyIncreasing before
+
+-- the documents of a cursor, or none
+abbrev pub value_of : Source → TreeValue
+value_of Nothing = leaf (record { remaining = []; openings = 0; bound = at_most 0; whole = true })
+value_of (Cursor node) = tree_value node.value
+
+-- the cursor, if there is one, stands at the document
+abbrev pub Stands : Option ℕ → Source → Type 0
+Stands doc Nothing = Unit {0}
+Stands doc (Cursor node) = StandsAt doc node.value
+
+-- the document is the first that remains, and the cursor stands there
+pub record IsTree (doc : Option ℕ) (source : Source) : Type 0 where
+  pub first : doc ≡ slice_get (value_of source).remaining 0
+  pub rises : IsStrictlyIncreasing (value_of source).remaining
+  pub stands : Stands doc source

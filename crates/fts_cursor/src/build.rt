@@ -8,7 +8,7 @@ ghost use Rattle.fts_model.specs.QueryValues.{every, phrase, query_value};
 ghost use Rattle.fts_pack.specs.Documents.{block_count};
 ghost use Rattle.fts_segment.specs.Segments.{positions, postings};
 ghost use Rattle.fts_cursor.specs.Hits.{live_hits, segment_hits};
-ghost use Rattle.fts_postings.specs.Meeting.{common};
+ghost use Rattle.fts_postings.specs.Meeting.{common, union};
 ghost use Rattle.fts_cursor.specs.Builds.{IsCursorOf, IsMemberFor, LacksTerm, Opens, text_term};
 ghost use Rattle.fts_segment.specs.ListIds.{documents_in, positions_in};
 ghost use Rattle.fts_cursor.specs.Standing.{at_most};
@@ -19,7 +19,6 @@ use crate::kept::Kept;
 use crate::phrase::{Member, PhraseCursor};
 use crate::position_cursor::PositionCursor;
 use crate::range::of_range;
-use crate::scan::ScanCursor;
 use crate::terms::{are_terms, cursor_over, of_terms};
 use crate::tree::Tree;
 use fts_bits::Bits;
@@ -48,7 +47,7 @@ pub fn cursor_of<'a>(
     match tree_of(alloc, segment, query) {
         Err(AllocError) => Err(Refusal::Memory),
         Ok(tree) => {
-            if all_set(live, tree.cost()) {
+            if all_set(live) {
                 Ok(Cursor::all(tree))
             } else {
                 Ok(Cursor::live(tree, live))
@@ -57,14 +56,10 @@ pub fn cursor_of<'a>(
     }
 }
 
-// Whether all bits are set, of which so many are looked at else. They are counted only where that costs less: a word
-// for 64 of them.
-fn all_set(live: &Bits, cost: usize) -> bool
+// Whether all bits are set.
+fn all_set(live: &Bits) -> bool
     ensures { result ≡ true → count_by (λ bit. bit) live.now ≡ length live.now }
 {
-    if cost < live.len() / 64 {
-        return false;
-    }
     live.count_ones() == live.len()
 }
 
@@ -77,9 +72,9 @@ fn tree_of<'a>(alloc: Global, segment: &'a Segment, query: &Query) -> Result<Tre
     ensures opens { IfOk result (λ t. Opens segment.now (query_value query.now) t.standing) }
 {
     match query {
-        Query::All => Ok(of_all(segment)),
+        Query::All => of_all(alloc, segment),
         Query::None => Ok(Tree::nothing()),
-        Query::Term(term) => Ok(of_term(segment, term)),
+        Query::Term(term) => of_term(alloc, segment, term),
         Query::Phrase { field, pattern } => of_phrase(alloc, segment, *field, pattern),
         Query::Range {
             field,
@@ -92,7 +87,7 @@ fn tree_of<'a>(alloc: Global, segment: &'a Segment, query: &Query) -> Result<Tre
             should,
         } => {
             let kept = if must.is_empty() {
-                Tree::any(trees_of(alloc, segment, should)?)
+                any_of(alloc, segment, should)?
             } else if are_terms(must) {
                 of_terms(alloc, segment, must)?
             } else {
@@ -101,11 +96,33 @@ fn tree_of<'a>(alloc: Global, segment: &'a Segment, query: &Query) -> Result<Tre
             if must_not.is_empty() {
                 return Ok(kept);
             }
-            let dropped = Tree::any(trees_of(alloc, segment, must_not)?);
+            let dropped = any_of(alloc, segment, must_not)?;
             let kept = Box::new(alloc, kept)?;
             let dropped = Box::new(alloc, dropped)?;
-            Ok(Tree::without(kept, dropped))
+            Tree::without(alloc, kept, dropped)
         }
+    }
+}
+
+// The documents that match one of these at least. One alone needs no list.
+#[cycle(build)]
+fn any_of<'a>(
+    alloc: Global,
+    segment: &'a Segment,
+    queries: &[Query],
+) -> Result<Tree<'a>, AllocError>
+    requires fits { list_all (λ q. query_fits segment.now.schema (query_value q)) queries.now
+        ≡ true }
+    ensures hits { IfOk result (λ t. t.remaining
+        ≡ union (map (λ q. segment_hits segment.now (query_value q)) queries.now)) }
+    ensures alone { IfOk result (λ t. (q : Query) → queries.now ≡ q ∷ []
+        → Opens segment.now (query_value q) t.standing) }
+    ensures none { IfOk result (λ t. queries.now ≡ [] → t.bound ≡ at_most 0) }
+{
+    match queries {
+        [] => Ok(Tree::nothing()),
+        [query] => tree_of(alloc, segment, query),
+        _ => Tree::or(alloc, trees_of(alloc, segment, queries)?),
     }
 }
 
@@ -144,7 +161,7 @@ fn all<'a>(alloc: Global, parts: Vec<Tree<'a>>) -> Result<Tree<'a>, AllocError>
     let costs = costs_of(alloc, &parts)?;
     let lead = parts.remove(place_of_least(&costs));
     let lead = Box::new(alloc, lead)?;
-    Ok(Tree::and(lead, parts))
+    Tree::and(alloc, lead, parts)
 }
 
 // How many documents remain of each part at most, or the greatest `usize`.
@@ -179,25 +196,27 @@ fn place_of_least(numbers: &[usize]) -> usize
 }
 
 // Every document.
-fn of_all(segment: &Segment) -> Tree<'_>
-    ensures { result.remaining ≡ segment_hits segment.now every }
+fn of_all(alloc: Global, segment: &Segment) -> Result<Tree<'_>, AllocError>
+    ensures { IfOk result (λ t. t.remaining ≡ segment_hits segment.now every) }
 {
-    Tree::scan(ScanCursor::new(Kept::Every, segment.docs()))
+    Tree::scan(alloc, Kept::Every, segment.docs())
 }
 
 // The documents that have a term.
-fn of_term<'a>(segment: &'a Segment, term: &Term) -> Tree<'a>
-    ensures remaining { result.remaining ≡ postings segment.now term.now }
-    ensures bound { result.bound ≡ at_most (block_count (length (postings segment.now term.now))) }
-    ensures whole { result.whole ≡ true }
+fn of_term<'a>(alloc: Global, segment: &'a Segment, term: &Term) -> Result<Tree<'a>, AllocError>
+    ensures remaining { IfOk result (λ t. t.remaining ≡ postings segment.now term.now) }
+    ensures bound { IfOk result
+        (λ t. t.bound ≡ at_most (block_count (length (postings segment.now term.now)))) }
+    ensures whole { IfOk result (λ t. t.whole ≡ true) }
 {
     match segment.find(term) {
-        None => Tree::nothing(),
-        Some(list) => Tree::postings(PostingCursor::new(segment.postings(list).source())),
+        None => Ok(Tree::nothing()),
+        Some(list) => Tree::postings(alloc, segment.postings(list)),
     }
 }
 
 // The documents with a phrase.
+#[inline(never)]
 fn of_phrase<'a>(
     alloc: Global,
     segment: &'a Segment,
@@ -218,7 +237,7 @@ fn of_phrase<'a>(
     let mut others = members;
     let first = others.remove(0);
     let first = Box::new(alloc, first)?;
-    Ok(Tree::phrase(PhraseCursor::new(terms, first, others)))
+    Tree::phrase(alloc, PhraseCursor::new(terms, first, others))
 }
 
 // The lists of a phrase's terms, and none where one of them has no documents.

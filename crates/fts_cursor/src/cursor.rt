@@ -67,8 +67,8 @@ impl<'a> Cursor<'a> {
     }
 
     /// How many documents remain, or the greatest `usize`, where they needn't be gone through one after the other for
-    /// that, and leaves them behind then: for a list, and for a range that is read from a column, in a segment all of
-    /// whose documents are live.
+    /// that, and leaves them behind then: for a list, for a range that is read from a column, and for a union, in a
+    /// segment all of whose documents are live.
     pub fn count(&mut self) -> Option<usize>
         ensures counted { MatchOption result (self.new ≡ self.old)
             (λ count. (count ≡ min (2 ^ 64 - 1) (length self.old.remaining)) × (self.new.remaining ≡ [])) }

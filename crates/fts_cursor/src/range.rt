@@ -1,5 +1,6 @@
 // Ranges, as what a column keeps: numbers, or ordinals of texts.
-ghost use Rattle.std.specs.Prelude.{◌≡◌, ℕ, ◌^◌, ◌<◌, ◌≤◌, ◌||◌, IfOk, None, Some, false, length, not, slice_index_or, true};
+ghost use Rattle.std.specs.Prelude.{◌≡◌, ℕ, ◌^◌, ◌<◌, ◌≤◌, ◌||◌, IfOk, None, Some, false, length, not};
+ghost use Rattle.std.specs.Prelude.{slice_index_or, true};
 ghost use Rattle.std.specs.Option.{option_map_or};
 ghost use Rattle.fts_model.specs.Operations.{kind_at};
 ghost use Rattle.fts_model.specs.declared.schema.Kind.TheVariants as kinds;
@@ -7,7 +8,8 @@ ghost use Rattle.fts_model.specs.Queries.{is_number_field, is_range_of};
 ghost use Rattle.fts_model.specs.QueryValues.{range};
 ghost use Rattle.fts_cursor.specs.Hits.{segment_hits};
 ghost use Rattle.fts_segment.specs.Segments.{keywords};
-ghost use Rattle.fts_cursor.specs.Ranges.{IsGreatestOf, IsLastOrdinal, IsLeastOf, IsWhole, IsWholeBound, is_bounded, key_of};
+ghost use Rattle.fts_cursor.specs.Ranges.{IsGreatestOf, IsLastOrdinal, IsLeastOf, IsWhole, IsWholeBound, is_bounded};
+ghost use Rattle.fts_cursor.specs.Ranges.{key_of};
 ghost use Rattle.fts_cursor.specs.Ranges.{ordinal_from};
 ghost use Rattle.fts_cursor.specs.Scans.{has_within};
 ghost use Rattle.fts_postings.specs.Windows.{passing};
@@ -15,7 +17,6 @@ ghost use Rattle.fts_segment.specs.Between.{AreBetween};
 
 use crate::kept::Kept;
 use crate::listed::ListedCursor;
-use crate::scan::ScanCursor;
 use crate::tree::Tree;
 use fts_bits::i64_to_u64;
 use fts_column::Column;
@@ -39,7 +40,7 @@ pub(crate) fn of_range<'a>(
 {
     if is_open(lower) && is_open(upper) {
         let kept = Kept::Valued { segment, field };
-        return Ok(Tree::scan(ScanCursor::new(kept, segment.docs())));
+        return Tree::scan(alloc, kept, segment.docs());
     }
     if segment.schema().kind(field).holds_numbers() {
         of_numbers(alloc, segment, field, lower, upper)
@@ -115,10 +116,10 @@ fn between<'a>(
     ensures { IfOk result (λ t. t.remaining ≡ passing (has_within low high column.now) 0 docs) }
 {
     if are_few(lists, docs / 256) {
-        return Ok(Tree::listed(ListedCursor::of_lists(alloc, lists)?));
+        return Tree::listed(alloc, ListedCursor::of_lists(alloc, lists)?);
     }
     let kept = Kept::Within { column, low, high };
-    Ok(Tree::scan(ScanCursor::new(kept, docs)))
+    Tree::scan(alloc, kept, docs)
 }
 
 // Whether the lists have so many documents at most. None is empty, so a few of them tell.

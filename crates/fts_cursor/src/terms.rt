@@ -32,6 +32,7 @@ pub(crate) fn are_terms(queries: &[Query]) -> bool
 }
 
 /// The documents that have each of the terms.
+#[inline(never)]
 pub(crate) fn of_terms<'a>(
     alloc: Global,
     segment: &'a Segment,
@@ -51,7 +52,7 @@ pub(crate) fn of_terms<'a>(
     };
     let lead = cursor_over(lists.shortest);
     let others = cursors_over(alloc, &lists.others)?;
-    Ok(Tree::terms(Conjunction::new(lead, others)))
+    Tree::terms(alloc, Conjunction::new(lead, others))
 }
 
 // Lists, of which the shortest leads.

@@ -1,42 +1,53 @@
 // Cursors of queries within one another, each of which knows the first document that remains of it.
-ghost use Rattle.std.specs.Prelude.{◌≡◌, ℕ, ◌-◌, ◌^◌, ◌<◌, ◌≤◌, ◌∷◌, All, [], MatchOption, true, drop, length, min};
+ghost use Rattle.std.specs.Prelude.{◌≡◌, ℕ, ◌-◌, ◌^◌, ◌<◌, ◌≤◌, All, IfOk, [], MatchOption, true, drop, length, min};
 ghost use Rattle.std.specs.Prelude.{slice_get, take};
 ghost use Rattle.std.specs.List.Sorted.{IsStrictlyIncreasing};
 ghost use Rattle.fts_postings.specs.Bounds.{most_at};
 ghost use Rattle.fts_postings.specs.Conjoined.{bound_of, common_of, counts_of};
 ghost use Rattle.fts_postings.specs.Meeting.{common, has, union, without};
-ghost use Rattle.fts_postings.specs.Posting.{blocks_reached, remaining_of};
+ghost use Rattle.fts_cursor.specs.Scans.{AreFor, kept_from};
 ghost use Rattle.fts_postings.specs.Remaining.{at_least};
 ghost use Rattle.fts_cursor.specs.Standing.{Walked, at_most};
-ghost use Rattle.fts_cursor.specs.TreeValues.{TreeContinues, TreeValue, all_most, all_openings, remains};
+ghost use Rattle.fts_cursor.specs.TreeValues.{TreeContinues, all_most, all_openings, remains};
 ghost use Rattle.fts_cursor.specs.Trees.{IsNow, StandsAt, tree_value};
+ghost use Rattle.fts_pack.specs.Documents.{block_count};
 
 mod buffered_union;
 mod exclusion;
 mod intersection;
 
+use crate::kept::Kept;
 use crate::listed::ListedCursor;
 use crate::phrase::PhraseCursor;
 use crate::scan::ScanCursor;
-use buffered_union::{BufferedUnion, fill_gathered, gather, refill};
+use buffered_union::{BufferedUnion, count_gathered, fill_gathered, gather, refill};
 use exclusion::{Exclusion, settle};
-use fts_pack::ListSource;
+use fts_pack::{List, ListSource};
 use fts_postings::{Conjunction, DocSet, PostingCursor, Window};
 use intersection::{Intersection, align};
+use std::alloc::{AllocError, Global};
 use std::marker::Model;
 
-/// The documents that match a query.
+/// The documents that match a query. A tree is moved often as it is made, so it is small: what it finds them by lies
+/// behind it.
 #[cycle(tree)]
 #[derive(Drop)]
 pub(crate) struct Tree<'a> {
     doc: Option<u32>,
-    node: Node<'a>,
+    source: Source<'a>,
+}
+
+/// Where no document matches there is nothing, and no memory is taken.
+#[cycle(tree)]
+#[derive(Drop)]
+enum Source<'a> {
+    Nothing,
+    Cursor(Box<Node<'a>>),
 }
 
 #[cycle(tree)]
 #[derive(Drop)]
 enum Node<'a> {
-    Nothing,
     Scan(ScanCursor<'a>),
     Listed(ListedCursor),
     Postings(PostingCursor<ListSource<'a>>),
@@ -52,17 +63,17 @@ impl<'a> Model for Tree<'a> {
 
     ghost Value = { TreeValue };
 
-    ghost use Rattle.fts_cursor.specs.Trees.{tree_value, StandsAt};
+    ghost use Rattle.fts_cursor.specs.Trees.{value_of, IsTree};
 
-    ghost view = { λ c. tree_value c.node };
+    ghost view = { λ c. value_of c.source };
 
-    ghost invariant = { λ c. StandsAt c.doc c.node };
+    ghost invariant = { λ c. IsTree c.doc c.source };
 
     ghost size = { λ t. t.height };
 
-    ghost use Rattle.fts_cursor.specs.Falls.{node_falls};
+    ghost use Rattle.fts_cursor.specs.Falls.{source_falls};
 
-    ghost size_decreases = { λ c h. node_falls c.node };
+    ghost size_decreases = { λ c h. source_falls c.source };
 }
 
 impl<'a> Tree<'a> {
@@ -73,131 +84,114 @@ impl<'a> Tree<'a> {
     {
         Tree {
             doc: None,
-            node: Node::Nothing,
+            source: Source::Nothing,
         }
     }
 
-    /// Of what is found by the number alone.
-    pub(crate) fn scan(scan: ScanCursor<'a>) -> Tree<'a>
-        ensures remaining { result.remaining ≡ scan.entry }
-        ensures counts { (result.openings ≡ 0) × (result.bound ≡ at_most 0) }
+    // Of a node that stands at the document.
+    fn of(alloc: Global, doc: Option<u32>, node: Node<'a>) -> Result<Tree<'a>, AllocError>
+        requires { StandsAt doc node }
+        ensures { IfOk result (λ t. t ≡ tree_value node.entry) }
     {
-        let doc = scan.doc();
-        Tree {
+        let node = Box::new(alloc, node)?;
+        Ok(Tree {
             doc,
-            node: Node::Scan(scan),
-        }
+            source: Source::Cursor(node),
+        })
+    }
+
+    /// Of those of so many documents that are kept.
+    #[inline(never)]
+    pub(crate) fn scan(alloc: Global, kept: Kept<'a>, docs: usize) -> Result<Tree<'a>, AllocError>
+        requires few { docs ≤ 2 ^ 32 }
+        requires are_for { AreFor kept docs }
+        ensures remaining { IfOk result (λ t. t.remaining ≡ kept_from kept.entry 0 docs) }
+        ensures counts { IfOk result (λ t. (t.openings ≡ 0) × (t.bound ≡ at_most 0)) }
+    {
+        let scan = ScanCursor::new(kept, docs);
+        Tree::of(alloc, scan.doc(), Node::Scan(scan))
     }
 
     /// Of documents that lie in memory.
-    pub(crate) fn listed(listed: ListedCursor) -> Tree<'a>
-        ensures remaining { result.remaining ≡ listed }
-        ensures counts { (result.openings ≡ 0) × (result.bound ≡ at_most 0) }
+    pub(crate) fn listed(alloc: Global, listed: ListedCursor) -> Result<Tree<'a>, AllocError>
+        ensures remaining { IfOk result (λ t. t.remaining ≡ listed) }
+        ensures counts { IfOk result (λ t. (t.openings ≡ 0) × (t.bound ≡ at_most 0)) }
     {
         let doc = listed.doc();
-        Tree {
-            doc,
-            node: Node::Listed(listed),
-        }
+        Tree::of(alloc, doc, Node::Listed(listed))
     }
 
     /// Of a list.
-    pub(crate) fn postings(postings: PostingCursor<ListSource<'a>>) -> Tree<'a>
-        requires tied { postings.count ≡ postings.opened }
-        ensures remaining { result.remaining ≡ remaining_of postings.entry }
-        ensures openings { result.openings ≡ postings.entry.opened }
-        ensures bound { result.bound ≡ at_most (length postings.entry.blocks) }
-        ensures whole { postings.entry.opened ≡ blocks_reached postings.entry
-            → result.whole ≡ true }
+    #[inline(never)]
+    pub(crate) fn postings(alloc: Global, list: &'a List) -> Result<Tree<'a>, AllocError>
+        ensures remaining { IfOk result (λ t. t.remaining ≡ list.now) }
+        ensures bound { IfOk result (λ t. t.bound ≡ at_most (block_count (length list.now))) }
+        ensures whole { IfOk result (λ t. t.whole ≡ true) }
     {
-        let doc = postings.doc();
-        Tree {
-            doc,
-            node: Node::Postings(postings),
-        }
+        let postings = PostingCursor::new(list.source());
+        Tree::of(alloc, postings.doc(), Node::Postings(postings))
     }
 
     /// Of what lists have in common.
-    pub(crate) fn terms(terms: Conjunction<ListSource<'a>>) -> Tree<'a>
+    pub(crate) fn terms(
+        alloc: Global,
+        terms: Conjunction<ListSource<'a>>,
+    ) -> Result<Tree<'a>, AllocError>
         requires lead { terms.lead.count ≡ terms.lead.opened }
         requires others { All (λ p. p.count ≡ p.opened) terms.others }
-        ensures remaining { result.remaining ≡ common_of terms.entry }
-        ensures openings { result.openings ≡ counts_of terms.entry }
-        ensures bound { result.bound ≡ bound_of terms.entry }
+        ensures remaining { IfOk result (λ t. t.remaining ≡ common_of terms.entry) }
+        ensures openings { IfOk result (λ t. t.openings ≡ counts_of terms.entry) }
+        ensures bound { IfOk result (λ t. t.bound ≡ bound_of terms.entry) }
     {
         let doc = terms.doc();
-        Tree {
-            doc,
-            node: Node::Terms(terms),
-        }
+        Tree::of(alloc, doc, Node::Terms(terms))
     }
 
     /// Of a phrase.
-    pub(crate) fn phrase(phrase: PhraseCursor<'a>) -> Tree<'a>
-        ensures { result.remaining ≡ phrase.entry.remaining }
+    pub(crate) fn phrase(alloc: Global, phrase: PhraseCursor<'a>) -> Result<Tree<'a>, AllocError>
+        ensures { IfOk result (λ t. t.remaining ≡ phrase.entry.remaining) }
     {
         let doc = phrase.doc();
-        Tree {
-            doc,
-            node: Node::Phrase(phrase),
-        }
+        Tree::of(alloc, doc, Node::Phrase(phrase))
     }
 
     /// Of what all have in common. The one that leads is best the one with the fewest documents.
-    pub(crate) fn and(lead: Box<Tree<'a>>, others: Vec<Tree<'a>>) -> Tree<'a>
-        ensures { result.remaining ≡ common lead.entry.value.remaining (remains others.entry.items) }
+    pub(crate) fn and(
+        alloc: Global,
+        lead: Box<Tree<'a>>,
+        others: Vec<Tree<'a>>,
+    ) -> Result<Tree<'a>, AllocError>
+        ensures { IfOk result
+            (λ t. t.remaining ≡ common lead.entry.value.remaining (remains others.entry.items)) }
     {
         let mut parts = Intersection { lead, others };
         let doc = align(&mut parts);
-        Tree {
-            doc,
-            node: Node::And(parts),
-        }
+        Tree::of(alloc, doc, Node::And(parts))
     }
 
     /// Of what one of them has.
-    pub(crate) fn or(parts: Vec<Tree<'a>>) -> Tree<'a>
-        ensures { result.remaining ≡ union (remains parts.entry.items) }
+    #[inline(never)]
+    pub(crate) fn or(alloc: Global, parts: Vec<Tree<'a>>) -> Result<Tree<'a>, AllocError>
+        ensures { IfOk result (λ t. t.remaining ≡ union (remains parts.entry.items)) }
     {
         let window = Window::new();
         let mut buffered = BufferedUnion { parts, window };
         let doc = refill(&mut buffered, 0);
-        Tree {
-            doc,
-            node: Node::Or(buffered),
-        }
-    }
-
-    /// The same, where it is the part itself if there is one alone.
-    pub(crate) fn any(parts: Vec<Tree<'a>>) -> Tree<'a>
-        ensures remaining { result.remaining ≡ union (remains parts.entry.items) }
-        ensures alone { (part : TreeValue) → parts.entry.items ≡ part ∷ [] → result ≡ part }
-        ensures none { parts.entry.items ≡ [] → result.bound ≡ at_most 0 }
-    {
-        if parts.is_empty() {
-            return Tree::nothing();
-        }
-        let mut parts = parts;
-        if parts.len() == 1 {
-            if let Some(part) = parts.pop() {
-                // Shows the proof that its documents rise.
-                let _ = &part.doc;
-                return part;
-            }
-        }
-        Tree::or(parts)
+        Tree::of(alloc, doc, Node::Or(buffered))
     }
 
     /// Of what the first has and the second doesn't.
-    pub(crate) fn without(kept: Box<Tree<'a>>, dropped: Box<Tree<'a>>) -> Tree<'a>
-        ensures { result.remaining ≡ without kept.entry.value.remaining dropped.entry.value.remaining }
+    pub(crate) fn without(
+        alloc: Global,
+        kept: Box<Tree<'a>>,
+        dropped: Box<Tree<'a>>,
+    ) -> Result<Tree<'a>, AllocError>
+        ensures { IfOk result (λ t. t.remaining
+            ≡ without kept.entry.value.remaining dropped.entry.value.remaining) }
     {
         let mut parts = Exclusion { kept, dropped };
         let doc = settle(&mut parts);
-        Tree {
-            doc,
-            node: Node::Without(parts),
-        }
+        Tree::of(alloc, doc, Node::Without(parts))
     }
 
     /// How many blocks were opened since the cursors were made, the making included, or the greatest `u64`: no more
@@ -210,8 +204,11 @@ impl<'a> Tree<'a> {
         ensures end { self.now.whole ≡ true → self.now.remaining ≡ []
             → self.now.openings ≡ most_at self.now.bound None }
     {
-        match &self.node {
-            Node::Nothing | Node::Scan(_) | Node::Listed(_) => 0,
+        let Source::Cursor(node) = &self.source else {
+            return 0;
+        };
+        match &**node {
+            Node::Scan(_) | Node::Listed(_) => 0,
             Node::Postings(postings) => postings.openings(),
             Node::Terms(terms) => terms.openings(),
             Node::Phrase(phrase) => phrase.openings(),
@@ -233,8 +230,10 @@ impl<'a> Tree<'a> {
         ensures bound { min (2 ^ 64 - 1) (length self.now.remaining) ≤ result }
         ensures rises { IsStrictlyIncreasing self.now.remaining }
     {
-        match &self.node {
-            Node::Nothing => 0,
+        let Source::Cursor(node) = &self.source else {
+            return 0;
+        };
+        match &**node {
             Node::Scan(scan) => scan.cost(),
             Node::Listed(listed) => listed.cost(),
             Node::Postings(postings) => postings.cost(),
@@ -265,8 +264,11 @@ impl<'a> Tree<'a> {
         ensures walked { Walked self.old.standing self.new.standing }
         ensures height { self.new.height ≡ self.old.height }
     {
+        let Source::Cursor(node) = &mut self.source else {
+            return;
+        };
         if self.doc.is_some() {
-            self.doc = step(&mut self.node);
+            self.doc = step(&mut **node);
         }
     }
 
@@ -276,9 +278,12 @@ impl<'a> Tree<'a> {
         ensures remaining { self.new.remaining ≡ at_least target self.old.remaining }
         ensures continues { TreeContinues self.old self.new }
     {
+        let Source::Cursor(node) = &mut self.source else {
+            return;
+        };
         if let Some(doc) = self.doc {
             if doc < target {
-                self.doc = skip(&mut self.node, target);
+                self.doc = skip(&mut **node, target);
             }
         }
     }
@@ -290,7 +295,10 @@ impl<'a> Tree<'a> {
             (λ count. (count ≡ min (2 ^ 64 - 1) (length self.old.remaining)) × (self.new.remaining ≡ [])) }
         ensures walked { Walked self.old.standing self.new.standing }
     {
-        match &mut self.node {
+        let Source::Cursor(node) = &mut self.source else {
+            return Some(0);
+        };
+        match &mut **node {
             Node::Scan(scan) => {
                 let count = scan.count();
                 self.doc = None;
@@ -298,6 +306,11 @@ impl<'a> Tree<'a> {
             }
             Node::Postings(postings) => {
                 let count = postings.count();
+                self.doc = None;
+                Some(count)
+            }
+            Node::Or(buffered) => {
+                let count = count_gathered(buffered, self.doc);
                 self.doc = None;
                 Some(count)
             }
@@ -313,7 +326,10 @@ impl<'a> Tree<'a> {
         ensures remaining { self.new.remaining ≡ drop 128 self.old.remaining }
         ensures walked { Walked self.old.standing self.new.standing }
     {
-        let (count, doc) = fill(&mut self.node, self.doc, out);
+        let Source::Cursor(node) = &mut self.source else {
+            return 0;
+        };
+        let (count, doc) = fill(&mut **node, self.doc, out);
         self.doc = doc;
         count
     }
@@ -353,7 +369,6 @@ fn step(node: &mut Node) -> Option<u32>
     ensures height { (tree_value node.new).height ≡ (tree_value node.old).height }
 {
     match node {
-        Node::Nothing => None,
         Node::Scan(scan) => {
             scan.advance();
             scan.doc()
@@ -397,7 +412,6 @@ fn skip(node: &mut Node, target: u32) -> Option<u32>
     ensures continues { TreeContinues (tree_value node.old) (tree_value node.new) }
 {
     match node {
-        Node::Nothing => None,
         Node::Scan(scan) => {
             scan.seek(target);
             scan.doc()
@@ -460,7 +474,7 @@ fn fill(node: &mut Node, doc: Option<u32>, out: &mut [u32; 128]) -> (usize, Opti
             (count, phrase.doc())
         }
         Node::Or(buffered) => fill_gathered(buffered, doc, out),
-        Node::Nothing | Node::And(_) | Node::Without(_) => fill_by_steps(node, doc, out),
+        Node::And(_) | Node::Without(_) => fill_by_steps(node, doc, out),
     }
 }
 

@@ -42,8 +42,8 @@ pub record CommitsLocally (ops : List (Stamped Op)) (old new : LocalCommit) : Ty
   pub stamp : new.stamp ≡ old.stamp + length ops + 1
   pub segments : segments_and_numbers new.snapshot ≤ segments_and_numbers old.snapshot + 2 * length ops
 
--- The segments of a commit were merged, which changes nothing that is found, and takes so many more segments and numbers
--- at most.
+-- The segments of a commit were merged, which changes nothing that is found, and takes so many more segments and
+-- numbers at most.
 pub record MergesLocally (more : ℕ) (old new : LocalCommit) : Type 0 where
   pub schema : new.snapshot.schema ≡ old.snapshot.schema
   pub documents : content_of new.snapshot ≡ content_of old.snapshot

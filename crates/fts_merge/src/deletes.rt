@@ -1,7 +1,8 @@
 // Clears the bits of documents that operations of a later stamp strike.
 ghost use Rattle.std.specs.Prelude.{◌≡◌, ◌+◌, ◌<◌, not, take, nat_lt, All, IfOk, IsOkUnless, List, Bool, fold, length};
 ghost use Rattle.fts_merge.specs.Strikes.{bits_where, bits_after};
-ghost use Rattle.fts_merge.specs.Internals.Deletes.{bound_by, bound_of, IsFound, strikes_found, survives_found, cleared};
+ghost use Rattle.fts_merge.specs.Internals.Deletes.{bound_by, bound_of, IsFound, strikes_found, survives_found};
+ghost use Rattle.fts_merge.specs.Internals.Deletes.{cleared};
 
 use crate::found::{Found, found_in, is_covered, order};
 use fts_bits::Bits;

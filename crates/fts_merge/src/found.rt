@@ -5,7 +5,8 @@ ghost use Rattle.fts_model.specs.declared.schema.Field.{Field};
 ghost use Rattle.fts_model.specs.declared.operation.Op.{Op};
 ghost use Rattle.fts_model.specs.declared.operation.Stamped.{Stamped};
 ghost use Rattle.fts_model.specs.Documents.{DocumentValue};
-ghost use Rattle.fts_merge.specs.Internals.Deletes.{IsFound, StrikeAlike, strikes_by_term, strikes_found, survives_found};
+ghost use Rattle.fts_merge.specs.Internals.Deletes.{IsFound, StrikeAlike, strikes_by_term, strikes_found};
+ghost use Rattle.fts_merge.specs.Internals.Deletes.{survives_found};
 
 use fts_model::{FieldValue, Number, Op, Stamp, Stamped, Term, Text};
 use fts_pack::Blocks;
@@ -174,7 +175,8 @@ fn covers(delete: &Found<'_>, other: &Found<'_>) -> bool
     is_same(delete.term, other.term)
 }
 
-/// Whether a delete strikes nothing more than the one before it. Of deletes in order all but the latest of each term do.
+/// Whether a delete strikes nothing more than the one before it. Of deletes in order all but the latest of each term
+/// do.
 pub(crate) fn is_covered(deletes: &[Found<'_>], number: usize) -> bool
     requires { number < length deletes.now }
     ensures { result ≡ true → (schema : List Field) (d : Stamped DocumentValue)

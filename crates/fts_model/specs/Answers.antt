@@ -58,8 +58,8 @@ group_of (values.Number (I64 n)) = Some (group_values.I64 n)
 abbrev pub group_in : DocumentValue → ℕ → Option GroupValue
 group_in document field = option_and_then group_of (value_in_field document field)
 
--- the order of the values of groups: numbers by their values, keywords by their bytes; those of fields of different kinds,
--- which don't meet, are kept apart
+-- the order of the values of groups: numbers by their values, keywords by their bytes; those of fields of different
+-- kinds, which don't meet, are kept apart
 abbrev pub group_cmp : GroupValue → GroupValue → Ordering
 group_cmp (group_values.U64 n) (group_values.U64 m) = nat_cmp n m
 group_cmp (group_values.U64 n) (group_values.I64 m) = Less
@@ -99,7 +99,8 @@ hits_with field v hits = count_by (λ hit. is_in_group field v hit.value) hits
 -- the groups: the values rise, and one stands there with a count exactly where so many hits have it, and not none
 pub record IsGroups (field : ℕ) (hits : List (Stamped DocumentValue)) (list : List (GroupValue × ℕ)) : Type 0 where
   pub rising : AllPairs (λ a b. group_cmp a.0 b.0 ≡ Less) list
-  pub counted : (v : GroupValue) (count : ℕ) → Contains list (v, count) ↔ ((count ≡ hits_with field v hits) × (0 < count))
+  pub counted : (v : GroupValue) (count : ℕ) →
+      Contains list (v, count) ↔ ((count ≡ hits_with field v hits) × (0 < count))
 
 -- a hit with its number in a field, if it has one
 abbrev pub hit_in : ℕ → Stamped DocumentValue → Option Hit

@@ -62,7 +62,8 @@ op_fits schema DeleteAll = true
 abbrev pub has_token : List (ℕ × List ℕ) → List ℕ → Bool
 has_token ts token = list_any (λ t. bytes_eq t.1 token) ts
 
--- a value of a field of this kind has a term: a text or a list of texts has it as a token, a keyword is it, a number is it
+-- a value of a field of this kind has a term: a text or a list of texts has it as a token, a keyword is it, a number is
+-- it
 abbrev pub value_has : Kind → FieldValue → FieldValue → Bool
 value_has kinds.Text (values.Text text) (values.Text token) = has_token (tokens text) token
 value_has kinds.Text (values.Texts texts) (values.Text token) = has_token (tokens_of_texts 0 texts) token

@@ -175,8 +175,8 @@ is_ordered_field schema field = option_map_or is_ordered (kind_at schema field) 
 abbrev pub is_limit : ℕ → Bool
 is_limit k = nat_le 1 k && nat_le k 10000
 
--- whether a request fits a schema: its groups are by a field whose values have an order, its top list is by a number field,
--- and its limit is one
+-- whether a request fits a schema: its groups are by a field whose values have an order, its top list is by a number
+-- field, and its limit is one
 abbrev pub request_fits : List Field → Request → Bool
 request_fits schema request =
     option_map_or (is_ordered_field schema) request.groups true

@@ -5,7 +5,8 @@ ghost use Rattle.fts_base.specs.Results.{Gives};
 ghost use Rattle.fts_model.specs.Answers.{cmp_by};
 ghost use Rattle.fts_model.specs.QueryValues.{query_value};
 ghost use Rattle.fts_model.specs.Queries.{query_fits, is_bound_of, is_range_of, holds_phrases, is_number_field};
-ghost use Rattle.fts_model.specs.Queries.{is_limit, is_ordered_field, number_field_named, ordered_field_named, groups_of, top_of};
+ghost use Rattle.fts_model.specs.Queries.{is_limit, is_ordered_field, number_field_named, ordered_field_named};
+ghost use Rattle.fts_model.specs.Queries.{groups_of, top_of};
 
 use crate::operation::{Term, kind_at};
 use crate::schema::{Kind, Schema};
@@ -53,8 +54,8 @@ pub enum Query {
         field: usize,
         pattern: Vec<(u32, Text)>,
     },
-    /// The documents with a value of a keyword or number field within the bounds: keywords go by their bytes, numbers by
-    /// their values.
+    /// The documents with a value of a keyword or number field within the bounds: keywords go by their bytes, numbers
+    /// by their values.
     Range {
         field: usize,
         lower: Bound<FieldValue>,
@@ -251,8 +252,8 @@ impl Request {
         Ok(Request { groups, top })
     }
 
-    /// Whether its groups are by a keyword or number field of the schema, its top list by a number field, and its limit is
-    /// one.
+    /// Whether its groups are by a keyword or number field of the schema, its top list by a number field, and its limit
+    /// is one.
     pub fn fits(&self, schema: &Schema) -> bool
         ensures { result ≡ request_fits schema.now self.now }
     {

@@ -68,8 +68,8 @@ impl GroupValue {
         })
     }
 
-    /// How a value stands to another: numbers by their values, keywords by their bytes; one of a `u64` field before one of
-    /// an `i64` field, and both before a keyword.
+    /// How a value stands to another: numbers by their values, keywords by their bytes; one of a `u64` field before one
+    /// of an `i64` field, and both before a keyword.
     pub fn compare(&self, other: &GroupValue) -> Ordering
         ensures { result ≡ group_cmp self.now other.now }
     {

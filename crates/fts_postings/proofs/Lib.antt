@@ -9,5 +9,5 @@ pub mod UnionLemmas
 pub mod WindowLemmas
 pub mod MarksLemmas
 pub mod MarkingLemmas
-mod TakingLemmas
+pub mod TakingLemmas
 mod PlacesLemmas

@@ -1,16 +1,18 @@
 -- The marked documents of a word that are taken at once.
-use Rattle.std.proofs.Common.{◌≡◌, ℕ, zero, suc, ◌+◌, ◌-◌, ◌/◌, ◌%◌, ◌^◌, ◌<◌, ◌≤◌, Bool, cond, ◌==◌, count_ones, List, [], ◌∷◌, ◌++◌, length, take, drop, refl, sym, ap, ap₂, subst, ◌∙◌, inl, inr, arith}
+use Rattle.std.proofs.Common.{◌≡◌, ℕ, zero, suc, ◌+◌, ◌-◌, ◌/◌, ◌%◌, ◌^◌, ◌<◌, ◌≤◌, Bool, cond, ◌==◌, count_ones, List, [], ◌∷◌, ◌++◌, length, get_or, take, drop, refl, sym, ap, ap₂, subst, ◌∙◌, inl, inr, arith}
 use Rattle.std.specs.Int.{bit_at}
+use Rattle.std.specs.Int.RustNames.{bit_and}
 use Rattle.std.proofs.Math.Seq.{take-append_seam}
 use Rattle.std.proofs.lemmas.Bool.{cases_Bool, cases_lt, eqb-false, eqb-true}
 use Rattle.std.proofs.lemmas.List.{drop-append-le, drop_all, length-append}
-use Rattle.std.proofs.lemmas.Nat.{ones_le_self}
-use Rattle.std.proofs.lemmas.Nat.Bits.{bit_at_above, bit_at_lowest, bit_at-suc}
+use Rattle.std.proofs.lemmas.Nat.{and_le_r, ones_le_self, pow_pos}
+use Rattle.std.proofs.lemmas.Nat.Bits.{bit_at_above, bit_at_and, bit_at-lt, bit_at_lowest, bit_at_ones, bit_at-suc}
 use lib.Count.{ones_step}
 use Rattle.fts_pack.specs.Documents.{Rises}
 use Rattle.fts_postings.specs.Fills.{IsStretch}
 use Rattle.fts_postings.specs.Windows.{found_in, is_found, is_marked, marked, passing}
-use Rattle.fts_postings.proofs.PassingLemmas.{Rises-passing}
+use Rattle.fts_postings.proofs.PassingLemmas.{Rises-passing, passing-append}
+use Rattle.fts_postings.proofs.WindowLemmas.{word_part}
 
 -- as many pass as there are bits
 ones_passing : (n a m : ℕ) (p : ℕ → Bool) → m < 2 ^ n → ((k : ℕ) → k < n → p (a + k) ≡ (bit_at m k == 1)) → length (passing p a n) ≡ count_ones m
@@ -37,6 +39,35 @@ marked-ones from marks fits =
     let whole : suc (from + 63) - from ≡ 64 = omega arith in
     ap (λ n. length (passing (is_marked from marks) from n)) whole
     ∙ ones_passing 64 from marks (is_marked from marks) fits (λ k lt. let at : from + k - from ≡ k = omega arith in ap (λ j. bit_at marks j == 1) at)
+
+-- as many are found of a word's documents, from a place up to the last, as there are bits
+pub counted_word : (words : List ℕ) (base from : ℕ) (order : base ≤ from) (marks : ℕ) (is : marks ≡ bit_and (get_or words ((from - base) / 64) 0) (2 ^ 64 - 2 ^ ((from - base) % 64))) (last mask : ℕ)
+    → from ≤ last → mask ≡ 2 ^ (64 - (from - (from - base) % 64 + 63 - last)) - 1 → count_ones (bit_and marks mask) + length (found_in base (from - (from - base) % 64 + 64) last words) ≡ length (found_in base from last words)
+counted_word words base from order marks is last mask within mask_is =
+    let at = (from - base) % 64 in
+    let start = from - at in
+    let places = 64 - (start + 63 - last) in
+    let more = suc last - (start + 64) in
+    let test = is_found base words in
+    let inside = bit_and marks mask in
+    let some : at ≤ places = omega (arith, order, within) in
+    let fits : inside < 2 ^ places = omega (arith, and_le_r marks mask, mask_is, pow_pos places) in
+    let same : (k : ℕ) → k < places → is_marked start marks (start + k) ≡ (bit_at inside k == 1) = λ k lt.
+    let e : start + k - start ≡ k = omega arith in
+    let b : bit_at marks k ≡ bit_at inside k = omega (arith, bit_at_and marks mask k, bit_at_ones places k lt, ap (λ n. bit_at n k) mask_is, bit_at-lt marks k) in
+    ap (λ j. bit_at marks j == 1) e ∙ ap (λ x. x == 1) b in
+    let here : length (passing test from (places - at)) ≡ count_ones inside =
+    ap length (word_part words base from order marks is places some (omega arith)) ∙ ones_passing places start inside (is_marked start marks) fits same in
+    let all : suc last - from ≡ (places - at) + more = omega (arith, order, within) in
+    let rest : length (passing test (from + (places - at)) more) ≡ length (passing test (start + 64) more) = elim (cases_lt last (start + 63)) [
+      | inl short ↦
+          let none : more ≡ 0 = omega (arith, short) in
+          ap (λ n. length (passing test (from + (places - at)) n)) none ∙ sym (ap (λ n. length (passing test (start + 64) n)) none)
+      | inr long ↦ let next : from + (places - at) ≡ start + 64 = omega (arith, order, long) in ap (λ a. length (passing test a more)) next
+    ] in
+    let split : length (found_in base from last words) ≡ length (passing test from (places - at)) + length (passing test (from + (places - at)) more) =
+    ap length (ap (passing test from) all ∙ passing-append test from (places - at) more) ∙ length-append (passing test from (places - at)) (passing test (from + (places - at)) more) in
+    omega (arith, split, here, rest)
 
 -- what is marked in a word lies below its end
 pub marked_few : (from marks bound : ℕ) → marks < 2 ^ 64 → from + 63 < bound → (k : ℕ) → bit_at marks k ≡ 1 → from + k < bound

@@ -194,6 +194,18 @@ module _ (words : List ℕ) (base from : ℕ) (order : base ≤ from) (marks : �
       let k = d - (from - at) in
       found_at k d (omega (arith, up)) (omega (arith, down, up)) (omega (arith, up)) ∙ ap (λ n. bit_at n k == 1) zero_marks ∙ unset 0 k (bit_at-zero k)
 
+  -- up to a place of the word, it marks what the word does
+  pub word_part : (places : ℕ) → at ≤ places → places ≤ 64 → passing (is_found base words) from (places - at) ≡ passing (is_marked (from - at) marks) (from - at) places
+  word_part places more few =
+      let start = from - at in
+      let n = places - at in
+      let begin : start + at ≡ from = omega (arith, order) in
+      let whole : places ≡ at + n = omega (arith, more) in
+      passing-same (is_found base words) (is_marked start marks) from n (λ d up down. found_at (d - start) d (omega (arith, up, order)) (omega (arith, down, order, up, few, more)) (omega (arith, up, order)))
+      ∙ sym (ap (passing (is_marked start marks) start) whole
+      ∙ passing-ahead (is_marked start marks) start at n (λ d up down. unset marks (d - start) (below (d - start) (omega (arith, down, up))))
+      ∙ ap (λ a. passing (is_marked start marks) a n) begin)
+
   -- what it marks, and what the words behind it do
   pub word_split : (last : ℕ) → from - at + 63 ≤ last → found_in base from last words ≡ marked (from - at) (from - at + 63) marks ++ found_in base (from - at + 64) last words
   word_split last long =
@@ -203,13 +215,8 @@ module _ (words : List ℕ) (base from : ℕ) (order : base ≤ from) (marks : �
       let test = is_found base words in
       let all : suc last - from ≡ n + more = omega (arith, order, long) in
       let next : from + n ≡ start + 64 = omega (arith, order) in
-      let begin : start + at ≡ from = omega (arith, order) in
-      let whole : suc (start + 63) - start ≡ at + n = omega arith in
-      let here : passing test from n ≡ marked start (start + 63) marks =
-      passing-same test (is_marked start marks) from n (λ d up down. found_at (d - start) d (omega (arith, up, order)) (omega (arith, down, order, up)) (omega (arith, up, order)))
-      ∙ sym (ap (passing (is_marked start marks) start) whole
-      ∙ passing-ahead (is_marked start marks) start at n (λ d up down. unset marks (d - start) (below (d - start) (omega (arith, down, up))))
-      ∙ ap (λ a. passing (is_marked start marks) a n) begin) in
+      let whole : 64 ≡ suc (start + 63) - start = omega arith in
+      let here : passing test from n ≡ marked start (start + 63) marks = word_part 64 (omega arith) (omega arith) ∙ ap (passing (is_marked start marks) start) whole in
       ap (passing test from) all ∙ passing-append test from n more ∙ ap₂ (λ xs a. xs ++ passing test a more) here next
 
   module _ (some : 0 < marks) (fits : marks < 2 ^ 64) where

@@ -13,8 +13,8 @@ pub fn copy_part(numbers: &[u32; 128], from: usize, count: usize, out: &mut [u32
     out[to..to + count].copy_from_slice(&numbers[from..from + count]);
 }
 
-/// The first place of those in `from..to` that has the target or more: `to` where there is none. Looks at the nearest 16
-/// at once, since what is sought is mostly near, and halves what is left behind them.
+/// The first place of those in `from..to` that has the target or more: `to` where there is none. Looks at the nearest
+/// 16 at once, since what is sought is mostly near, and halves what is left behind them.
 #[inline]
 pub fn place_of(numbers: &[u32], from: usize, to: usize, target: u32) -> usize
     requires order { from ≤ to }

@@ -186,6 +186,37 @@ impl Window {
         count
     }
 
+    /// How many documents are marked. Leaves all behind.
+    pub fn count(&mut self) -> usize
+        ensures count { result ≡ length (found_in self.old.base self.old.from self.old.last self.old.words) }
+        ensures last { self.new.last ≡ self.old.last }
+        ensures none { found_in self.new.base self.new.from self.new.last self.new.words ≡ [] }
+    {
+        let mut count = 0;
+        while self.from <= self.last as u64 {
+            count += self.count_word();
+        }
+        count
+    }
+
+    // Leaves behind the documents of the word in which the first place lies, and gives how many of them are marked.
+    #[inline]
+    fn count_word(&mut self) -> usize
+        requires { self.old.from ≤ self.old.last }
+        ensures count { result + length (found_in self.new.base self.new.from self.new.last self.new.words)
+            ≡ length (found_in self.old.base self.old.from self.old.last self.old.words) }
+        ensures last { self.new.last ≡ self.old.last }
+        ensures further { self.old.from < self.new.from }
+    {
+        let place = (self.from - self.base as u64) as usize;
+        let start = self.from - (place % 64) as u64;
+        let marks = self.words[place / 64] & (u64::MAX << (place % 64));
+        let behind = (start + 63).saturating_sub(self.last as u64);
+        let inside = marks & (u64::MAX >> behind);
+        self.from = start + 64;
+        inside.count_ones() as usize
+    }
+
     /// Leaves the first document behind.
     #[inline]
     pub fn advance(&mut self)

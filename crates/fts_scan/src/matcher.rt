@@ -66,8 +66,8 @@ fn seek_token_at(
     Ok(Some(tokens.following()))
 }
 
-/// Whether another member of a pattern is a token of these texts, as far behind the position of a member as their offsets
-/// are apart.
+/// Whether another member of a pattern is a token of these texts, as far behind the position of a member as their
+/// offsets are apart.
 fn stands_with(
     texts: Strings<'_>,
     member: &(u32, Text),

@@ -21,6 +21,7 @@ mod PositionListVectors
 pub mod TokenLemmas
 pub mod PositionsLemmas
 pub mod MovingLemmas
+pub mod PutsLemmas
 pub mod PartLemmas
 pub mod JoiningLemmas
 pub mod PostingsLemmas

@@ -117,38 +117,33 @@ lists-shifted numbers first (doc ∷ docs) (list ∷ lists) row paired within =
     ∙ ap (λ ls. list ∷ ls) (lists-shifted numbers first docs lists row (omega (arith, paired)) (All-tail Within doc docs within))
 
 -- what more documents have
-moved-more : {X : Type 0} (f : Posting → X) (numbers : List (Option ℕ)) (some more all : List ℕ) (lists : List (List ℕ)) (before out new : List X) → all ≡ some ++ more →
-    out ≡ before ++ map f (moved numbers (postings_of some lists)) → new ≡ out ++ map f (moved numbers (postings_of more (drop (length some) lists))) → new ≡ before ++ map f (moved numbers (postings_of all lists))
-moved-more f numbers some more all lists before out new is so_far put =
-    let old = moved numbers (postings_of some lists) in
-    let one = moved numbers (postings_of more (drop (length some) lists)) in
-    let whole : moved numbers (postings_of all lists) ≡ old ++ one =
-    ap (λ ds. moved numbers (postings_of ds lists)) is ∙ ap (moved numbers) (postings_of-append some more lists) ∙ moved-append numbers (postings_of some lists) (postings_of more (drop (length some) lists)) in
-    put ∙ ap (λ zs. zs ++ map f one) so_far ∙ append_assoc before (map f old) (map f one) ∙ ap (λ zs. before ++ zs) (sym (map-append f old one) ∙ ap (map f) (sym whole))
+moved-more : (numbers : List (Option ℕ)) (some more all : List ℕ) (lists : List (List ℕ)) → all ≡ some ++ more →
+    moved numbers (postings_of all lists) ≡ moved numbers (postings_of some lists) ++ moved numbers (postings_of more (drop (length some) lists))
+moved-more numbers some more all lists is =
+    ap (λ ds. moved numbers (postings_of ds lists)) is ∙ ap (moved numbers) (postings_of-append some more lists) ∙ moved-append numbers (postings_of some lists) (postings_of more (drop (length some) lists))
 
 -- one posting more
-pub moved-one : {X : Type 0} (f : Posting → X) (numbers : List (Option ℕ)) (lists : List (List ℕ)) (docs : List ℕ) (start i d e : ℕ) (before out new : List X) → i < length docs → d ≡ get_or docs i e →
-    length docs ≤ length lists - start → out ≡ before ++ map f (moved numbers (postings_of (take i docs) (drop start lists))) →
-    new ≡ out ++ map f (placed (slice_get numbers d) (posting_at d (get_or lists (start + i) []))) →
-    new ≡ before ++ map f (moved numbers (postings_of (take (i + 1) docs) (drop start lists)))
-moved-one f numbers lists docs start i d e before out new within here room so_far put =
+pub moved-one : (numbers : List (Option ℕ)) (lists : List (List ℕ)) (docs : List ℕ) (start i d e : ℕ) → i < length docs → d ≡ get_or docs i e → length docs ≤ length lists - start →
+    moved numbers (postings_of (take (i + 1) docs) (drop start lists))
+    ≡ moved numbers (postings_of (take i docs) (drop start lists)) ++ placed (slice_get numbers d) (posting_at d (get_or lists (start + i) []))
+moved-one numbers lists docs start i d e within here room =
     let more : take (i + 1) docs ≡ take i docs ++ d ∷ [] = take_more docs i e within ∙ ap (λ (n : ℕ). take i docs ++ n ∷ []) (sym here) in
     let count : length (take i docs) ≡ i = length-take-le i docs (omega (arith, within)) in
     let there : drop (length (take i docs)) (drop start lists) ≡ get_or lists (start + i) [] ∷ drop (start + i + 1) lists =
     ap (λ n. drop n (drop start lists)) count ∙ drop-drop i start lists ∙ drop_more lists (start + i) [] (omega (arith, within, room)) in
     let one : moved numbers (postings_of (d ∷ []) (drop (length (take i docs)) (drop start lists))) ≡ placed (slice_get numbers d) (posting_at d (get_or lists (start + i) [])) =
     ap (λ ls. moved numbers (postings_of (d ∷ []) ls)) there ∙ append-nil (placed (slice_get numbers d) (posting_at d (get_or lists (start + i) []))) in
-    moved-more f numbers (take i docs) (d ∷ []) (take (i + 1) docs) (drop start lists) before out new more so_far (put ∙ ap (λ ps. out ++ map f ps) (sym one))
+    moved-more numbers (take i docs) (d ∷ []) (take (i + 1) docs) (drop start lists) more ∙ ap (λ ps. moved numbers (postings_of (take i docs) (drop start lists)) ++ ps) one
 
 -- one block more
-pub moved-block : {X : Type 0} (f : Posting → X) (numbers : List (Option ℕ)) (lists : List (List ℕ)) (docs : List ℕ) (start block : ℕ) (before out new : List X) → block * 128 ≤ length docs →
-    out ≡ before ++ map f (moved numbers (postings_of (take (block * 128) docs) (drop start lists))) → new ≡ out ++ map f (moved numbers (postings_of (block_at docs block) (drop (start + block * 128) lists))) →
-    new ≡ before ++ map f (moved numbers (postings_of (take ((block + 1) * 128) docs) (drop start lists)))
-moved-block f numbers lists docs start block before out new within so_far put =
+pub moved-block : (numbers : List (Option ℕ)) (lists : List (List ℕ)) (docs : List ℕ) (start block : ℕ) → block * 128 ≤ length docs →
+    moved numbers (postings_of (take ((block + 1) * 128) docs) (drop start lists))
+    ≡ moved numbers (postings_of (take (block * 128) docs) (drop start lists)) ++ moved numbers (postings_of (block_at docs block) (drop (start + block * 128) lists))
+moved-block numbers lists docs start block within =
     let count : length (take (block * 128) docs) ≡ block * 128 = length-take-le (block * 128) docs within in
     let there : drop (length (take (block * 128) docs)) (drop start lists) ≡ drop (start + block * 128) lists = ap (λ n. drop n (drop start lists)) count ∙ drop-drop (block * 128) start lists in
-    moved-more f numbers (take (block * 128) docs) (block_at docs block) (take ((block + 1) * 128) docs) (drop start lists) before out new (take_block docs block) so_far
-    (put ∙ ap (λ ls. out ++ map f (moved numbers (postings_of (block_at docs block) ls))) (sym there))
+    moved-more numbers (take (block * 128) docs) (block_at docs block) (take ((block + 1) * 128) docs) (drop start lists) (take_block docs block)
+    ∙ ap (λ ls. moved numbers (postings_of (take (block * 128) docs) (drop start lists)) ++ moved numbers (postings_of (block_at docs block) ls)) there
 
 -- one block more of documents with a number added
 pub shifted-block : (f : ℕ → ℕ) (docs : List ℕ) (block : ℕ) (before out new : List ℕ) → out ≡ before ++ map f (take (block * 128) docs) → new ≡ out ++ map f (block_at docs block) →
@@ -178,11 +173,11 @@ set-front f items xs i x y is at new =
     let one : suc i ≡ i + 1 = omega arith in
     (ap (λ zs. slice_set zs i y) is ∙ ap (slice_set (map f (take i xs) ++ drop i xs) i) new ∙ set-suc f xs i x here ∙ ap (λ k. map f (take k xs) ++ drop k xs) one, here)
 
--- one part more has given
-pub given-front : {X : Type 0} (f : PartValue → List Posting) (g : Posting → X) (out new : List X) (xs : List PartValue) (i : ℕ) (x : PartValue) (all : List X) → slice_get xs i ≡ Some x → new ≡ out ++ map g (f x) →
-    out ++ map g (flat_map f (drop i xs)) ≡ all → new ++ map g (flat_map f (drop (i + 1) xs)) ≡ all
-given-front f g out new xs i x all at is h =
-    let rest = flat_map f (drop (i + 1) xs) in
-    ap (λ zs. zs ++ map g rest) is ∙ append_assoc out (map g (f x)) (map g rest)
-    ∙ ap (λ zs. out ++ zs) (sym (map-append g (f x) rest))
-    ∙ ap (λ ps. out ++ map g (flat_map f ps)) (sym (dropped_at xs i x at)) ∙ h
+given-suc : (f : PartValue → List Posting) (xs : List PartValue) (i : ℕ) (x : PartValue) → slice_get xs i ≡ Some x → flat_map f (take (suc i) xs) ≡ flat_map f (take i xs) ++ f x
+given-suc f [] i x at = absurd (let no : None ≡ Some x = at in cc)
+given-suc f (y ∷ xs) zero x at = let same : y ≡ x = cc in append-nil (f y) ∙ ap f same
+given-suc f (y ∷ xs) (suc i) x at = ap (λ ps. f y ++ ps) (given-suc f xs i x at) ∙ sym (append_assoc (f y) (flat_map f (take i xs)) (f x))
+
+-- what one part more gives
+pub given-front : (f : PartValue → List Posting) (xs : List PartValue) (i : ℕ) (x : PartValue) → slice_get xs i ≡ Some x → flat_map f (take (i + 1) xs) ≡ flat_map f (take i xs) ++ f x
+given-front f xs i x at = let one : i + 1 ≡ suc i = omega arith in ap (λ n. flat_map f (take n xs)) one ∙ given-suc f xs i x at

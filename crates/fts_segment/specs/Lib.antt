@@ -22,5 +22,6 @@ pub mod ListIds
 pub mod PositionsLeft
 pub mod UnpackedLists
 pub mod Postings
+pub mod Puts
 pub mod Sources
 pub mod Parts

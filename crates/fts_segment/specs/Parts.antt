@@ -75,8 +75,8 @@ pub record IsWhole (dictionary : Dictionary) (numbers : List (Option ℕ)) : Typ
       All (λ doc. doc < length numbers) (slice_index_or dictionary.lists.items i [])
 
 -- the same, the term is that of the number `at`, and the lists that are moved are those of the dictionary
-pub record IsPartOf (at : ℕ) (dictionary : Dictionary) (numbers : List (Option ℕ)) (term : Option (List ℕ)) (lists : UnpackedLists)
-    : Type 0 where
+pub record IsPartOf (at : ℕ) (dictionary : Dictionary) (numbers : List (Option ℕ)) (term : Option (List ℕ))
+    (lists : UnpackedLists) : Type 0 where
   pub whole : IsWhole dictionary numbers
   pub next : term ≡ slice_get (drop at dictionary.names) 0
   pub lists_are : lists_in lists ≡ dictionary.positions.lists

@@ -1,5 +1,6 @@
 // What is looked up in a field: the terms of its texts, its keywords or its numbers.
-ghost use Rattle.std.specs.Prelude.{◌≡◌, ◌≢◌, [], List, Option, None, ◌≤◌, ◌^◌, length, IfOk, IfNone, IfSome, MatchOption};
+ghost use Rattle.std.specs.Prelude.{◌≡◌, ◌≢◌, [], List, Option, None, ◌≤◌, ◌^◌, length, IfOk, IfNone, IfSome};
+ghost use Rattle.std.specs.Prelude.{MatchOption};
 ghost use Rattle.std.specs.Prelude.{All, Some, true, false, slice_get};
 ghost use Rattle.fts_model.specs.declared.value.FieldValue.{FieldValue};
 ghost use Rattle.fts_segment.specs.Between.{AreBetween};

@@ -1,5 +1,6 @@
 // Looks a name up among sorted names, and a number among rising numbers, by halving.
-ghost use Rattle.std.specs.Prelude.{◌≡◌, ◌<◌, ◌≤◌, ◌+◌, ◌^◌, length, slice_get, slice_index, MatchOption, IfOk, IfErr, Some, ℕ};
+ghost use Rattle.std.specs.Prelude.{◌≡◌, ◌<◌, ◌≤◌, ◌+◌, ◌^◌, length, slice_get, slice_index, MatchOption, IfOk};
+ghost use Rattle.std.specs.Prelude.{IfErr, Some, ℕ};
 ghost use Rattle.fts_segment.specs.Keywords.{before, up_to};
 ghost use Rattle.std.specs.List.Sorted.{IsStrictlyIncreasing};
 ghost use Rattle.fts_segment.specs.Sorted.{Ascends};

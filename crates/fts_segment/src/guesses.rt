@@ -19,8 +19,8 @@ struct Slot {
     number: u32,
 }
 
-/// Numbers of names. Whoever chooses names can have them crowd into the same slots, so that some find none: a name that isn't
-/// found here may still have a number.
+/// Numbers of names. Whoever chooses names can have them crowd into the same slots, so that some find none: a name that
+/// isn't found here may still have a number.
 #[derive(Drop)]
 pub(crate) struct Guesses {
     /// A power of two of them, or none.
@@ -53,8 +53,8 @@ impl Guesses {
         None
     }
 
-    /// Puts the number of a name of this hash into one of its slots, if one is free. Where names stand in a quarter of the
-    /// slots, it makes more of them first, as far as there is memory.
+    /// Puts the number of a name of this hash into one of its slots, if one is free. Where names stand in a quarter of
+    /// the slots, it makes more of them first, as far as there is memory.
     pub(crate) fn put(&mut self, alloc: Global, hash: u32, number: usize) {
         let Ok(number) = u32::try_from(number) else {
             return;

@@ -4,9 +4,10 @@ ghost use Rattle.std.specs.List.{AllByRecursion};
 ghost use Rattle.std.specs.List.Sorted.{IsStrictlyIncreasing};
 ghost use Rattle.fts_segment.specs.Dictionaries.{unless_none};
 ghost use Rattle.fts_segment.specs.Parts.{given, passed, least_of, lesser, joined, IsSound, IsJoined};
-ghost use Rattle.fts_segment.specs.PositionListLogs.{IsPositionListLog, logged_position_lists};
+ghost use Rattle.fts_segment.specs.PositionListLogs.{IsPositionListLog};
 ghost use Rattle.fts_segment.specs.PositionLogs.{IsPositionLog, logged_term_position_lists};
 ghost use Rattle.fts_segment.specs.Postings.{documents, position_lists};
+ghost use Rattle.fts_segment.specs.Puts.{Puts};
 ghost use Rattle.fts_segment.specs.TermPositionLists.{term_position_lists};
 
 use crate::dictionary::Dictionary;
@@ -52,12 +53,9 @@ fn pass_all(
     log: &mut PositionListLog,
 ) -> Result<(), AllocError>
     requires { IsPositionListLog log.old }
-    ensures is { OnOk result (IsPositionListLog log.new) }
     ensures parts { OnOk result (parts.new ≡ map (passed term.now) parts.old) }
-    ensures docs { OnOk result
-        (docs.new.items ≡ docs.old.items ++ documents (flat_map (given term.now) parts.old)) }
-    ensures lists { OnOk result (logged_position_lists log.new
-        ≡ logged_position_lists log.old ++ position_lists (flat_map (given term.now) parts.old)) }
+    ensures puts { OnOk result
+        (Puts (flat_map (given term.now) parts.old) docs.old.items log.old docs.new.items log.new) }
 {
     for part in parts {
         part.pass(term, docs, log)?;

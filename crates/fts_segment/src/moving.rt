@@ -2,8 +2,9 @@
 ghost use Rattle.std.specs.Prelude.{◌≡◌, ◌+◌, ◌-◌, ◌<◌, ◌≤◌, ◌^◌, ◌++◌, [], All, OnOk, drop, length, map};
 ghost use Rattle.std.specs.Prelude.{slice_get, slice_index_or};
 ghost use Rattle.fts_segment.specs.Parts.{moved, placed};
-ghost use Rattle.fts_segment.specs.PositionListLogs.{IsPositionListLog, logged_position_lists};
-ghost use Rattle.fts_segment.specs.Postings.{documents, position_lists, posting_at, postings_of};
+ghost use Rattle.fts_segment.specs.PositionListLogs.{IsPositionListLog};
+ghost use Rattle.fts_segment.specs.Postings.{posting_at, postings_of};
+ghost use Rattle.fts_segment.specs.Puts.{Puts};
 ghost use Rattle.fts_segment.specs.TermPositionLists.{position_lists_in};
 ghost use Rattle.fts_segment.specs.UnpackedLists.{lists_in};
 
@@ -51,12 +52,8 @@ fn move_posting(
     requires is { IsPositionListLog log.old }
     requires within { list < length (lists_in lists.old) }
     ensures same { lists_in lists.new ≡ lists_in lists.old }
-    ensures is { OnOk result (IsPositionListLog log.new) }
-    ensures docs { let posting = posting_at doc (slice_index_or (lists_in lists.old) list []) in
-        OnOk result (docs.new.items ≡ docs.old.items ++ documents (placed (slice_get numbers.now doc) posting)) }
-    ensures lists { let posting = posting_at doc (slice_index_or (lists_in lists.old) list []) in
-        OnOk result (logged_position_lists log.new
-        ≡ logged_position_lists log.old ++ position_lists (placed (slice_get numbers.now doc) posting)) }
+    ensures puts { let posting = posting_at doc (slice_index_or (lists_in lists.old) list []) in OnOk result
+        (Puts (placed (slice_get numbers.now doc) posting) docs.old.items log.old docs.new.items log.new) }
 {
     match numbers.get(doc) {
         Some(number) => {
@@ -80,48 +77,11 @@ fn move_some(
     requires is { IsPositionListLog log.old }
     requires within { length block.now ≤ length (lists_in lists.old) - start }
     ensures same { lists_in lists.new ≡ lists_in lists.old }
-    ensures is { OnOk result (IsPositionListLog log.new) }
-    ensures docs { OnOk result (docs.new.items ≡ docs.old.items
-        ++ documents (moved numbers.now (postings_of block.now (drop start (lists_in lists.old))))) }
-    ensures lists { OnOk result (logged_position_lists log.new ≡ logged_position_lists log.old
-        ++ position_lists (moved numbers.now (postings_of block.now (drop start (lists_in lists.old))))) }
+    ensures puts { OnOk result (Puts (moved numbers.now (postings_of block.now (drop start (lists_in lists.old))))
+        docs.old.items log.old docs.new.items log.new) }
 {
     for (index, doc) in block.iter().enumerate() {
         move_posting(*doc, start + index, numbers, lists, docs, log)?;
-    }
-    Ok(())
-}
-
-// Moves the postings of a list of which the first has the list of positions of the number `start`.
-fn move_each(
-    list: &List,
-    start: usize,
-    numbers: &NewNumbers,
-    lists: &mut UnpackedLists<'_>,
-    docs: &mut Vec<u32>,
-    log: &mut PositionListLog,
-) -> Result<(), AllocError>
-    requires is { IsPositionListLog log.old }
-    requires within { length list.now ≤ length (lists_in lists.old) - start }
-    ensures same { lists_in lists.new ≡ lists_in lists.old }
-    ensures is { OnOk result (IsPositionListLog log.new) }
-    ensures docs { OnOk result (docs.new.items ≡ docs.old.items
-        ++ documents (moved numbers.now (postings_of list.now (drop start (lists_in lists.old))))) }
-    ensures lists { OnOk result (logged_position_lists log.new ≡ logged_position_lists log.old
-        ++ position_lists (moved numbers.now (postings_of list.now (drop start (lists_in lists.old))))) }
-{
-    let mut source = list.source();
-    let mut documents = [0; BLOCK];
-    for block in 0..source.blocks() {
-        let count = source.open(block, &mut documents);
-        move_some(
-            &documents[..count],
-            start + block * BLOCK,
-            numbers,
-            lists,
-            docs,
-            log,
-        )?;
     }
     Ok(())
 }
@@ -141,21 +101,20 @@ pub(crate) fn move_postings(
     requires paired { length list.now ≡ length (position_lists_in positions) }
     requires numbered { All (λ doc. doc < length numbers.now) list.now }
     ensures same { lists_in lists.new ≡ lists_in lists.old }
-    ensures is { OnOk result (IsPositionListLog log.new) }
-    ensures docs { OnOk result (docs.new.items ≡ docs.old.items
-        ++ documents (moved numbers.now (postings_of list.now (position_lists_in positions.entry)))) }
-    ensures lists { OnOk result (logged_position_lists log.new ≡ logged_position_lists log.old
-        ++ position_lists (moved numbers.now (postings_of list.now (position_lists_in positions.entry)))) }
+    ensures puts { OnOk result (Puts (moved numbers.now (postings_of list.now (position_lists_in positions.entry)))
+        docs.old.items log.old docs.new.items log.new) }
 {
-    match numbers.first() {
-        Some(first) => {
-            shift(list, first, docs)?;
-            lists.move_lists(positions.start, positions.end, log)?;
-            Ok(())
-        }
-        None => {
-            move_each(list, positions.start, numbers, lists, docs, log)?;
-            Ok(())
-        }
+    if let Some(first) = numbers.first() {
+        shift(list, first, docs)?;
+        lists.move_lists(positions.start, positions.end, log)?;
+        return Ok(());
     }
+    let mut source = list.source();
+    let mut documents = [0; BLOCK];
+    for block in 0..source.blocks() {
+        let count = source.open(block, &mut documents);
+        let start = positions.start + block * BLOCK;
+        move_some(&documents[..count], start, numbers, lists, docs, log)?;
+    }
+    Ok(())
 }

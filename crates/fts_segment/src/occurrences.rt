@@ -4,7 +4,8 @@ ghost use Rattle.std.specs.Prelude.{option_copied};
 ghost use Rattle.fts_text.specs.Places.{IsPlaceFrom, token_at};
 ghost use Rattle.fts_model.specs.Shorts.{IsShort};
 ghost use Rattle.fts_model.specs.declared.schema.Kind.TheVariants.{Text};
-ghost use Rattle.fts_segment.specs.Occurrences.{occurrence_at, occurrences_at, occurrences, values_in, HasFewTokens, HasRoom};
+ghost use Rattle.fts_segment.specs.Occurrences.{occurrence_at, occurrences_at, occurrences, values_in, HasFewTokens};
+ghost use Rattle.fts_segment.specs.Occurrences.{HasRoom};
 ghost use Rattle.fts_text.specs.Tokens.{following, tokens_from, tokens_of_texts};
 
 use crate::term_log::TermLog;
@@ -12,8 +13,8 @@ use fts_model::{Document, FieldValue, Kind, Stamped, Texts};
 use fts_text::{Token, Tokens, fold_into};
 use std::alloc::{AllocError, Global};
 
-// Puts a token of one of a document's texts, whose first span has the number `first`, behind the occurrences so far. `term`
-// is room for it.
+// Puts a token of one of a document's texts, whose first span has the number `first`, behind the occurrences so far.
+// `term` is room for it.
 fn push_token(
     log: &mut TermLog,
     term: &mut String,
@@ -31,8 +32,8 @@ fn push_token(
     log.push(term.as_str(), doc, token.position as u32)
 }
 
-// Puts the tokens of one of a document's texts, whose first span has the number `first`, behind the occurrences so far, and
-// gives the number of the first span of the text behind it.
+// Puts the tokens of one of a document's texts, whose first span has the number `first`, behind the occurrences so far,
+// and gives the number of the first span of the text behind it.
 fn push_tokens(
     log: &mut TermLog,
     term: &mut String,

@@ -1,8 +1,8 @@
 // A dictionary that is passed term by term, as it is joined with others.
-ghost use Rattle.std.specs.Prelude.{◌≡◌, ◌++◌, drop, option_map, slice_get, OnOk};
+ghost use Rattle.std.specs.Prelude.{◌≡◌, drop, option_map, slice_get, OnOk};
 ghost use Rattle.fts_segment.specs.Parts.{begins, given, passed, part_from, IsWhole};
-ghost use Rattle.fts_segment.specs.PositionListLogs.{IsPositionListLog, logged_position_lists};
-ghost use Rattle.fts_segment.specs.Postings.{documents, position_lists};
+ghost use Rattle.fts_segment.specs.PositionListLogs.{IsPositionListLog};
+ghost use Rattle.fts_segment.specs.Puts.{Puts};
 
 use crate::dictionary::Dictionary;
 use crate::moving::move_postings;
@@ -87,12 +87,9 @@ impl<'a> Part<'a> {
         log: &mut PositionListLog,
     ) -> Result<(), AllocError>
         requires { IsPositionListLog log.old }
-        ensures is { OnOk result (IsPositionListLog log.new) }
         ensures part { OnOk result (self.new ≡ passed term.now self.old) }
-        ensures docs { OnOk result
-            (docs.new.items ≡ docs.old.items ++ documents (given term.now self.old)) }
-        ensures lists { OnOk result (logged_position_lists log.new
-            ≡ logged_position_lists log.old ++ position_lists (given term.now self.old)) }
+        ensures puts { OnOk result
+            (Puts (given term.now self.old) docs.old.items log.old docs.new.items log.new) }
     {
         if self.is_next(term) {
             let list = &self.dictionary.lists[self.at];

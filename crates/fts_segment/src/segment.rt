@@ -134,8 +134,9 @@ impl Segment {
         stored.indexes[field].column(stored.schema.kind(field))
     }
 
-    /// The lists of the documents with a number between two, these included, in the column of a number or keyword field:
-    /// one for each different number that documents have there, none of them empty, so a document stands in one at most.
+    /// The lists of the documents with a number between two, these included, in the column of a number or keyword
+    /// field: one for each different number that documents have there, none of them empty, so a document stands in one
+    /// at most.
     pub fn lists_between(&self, field: usize, low: u64, high: u64) -> &[List]
         requires { is_ordered_field self.now.schema field ≡ true }
         ensures numbers { is_number_field self.now.schema field ≡ true

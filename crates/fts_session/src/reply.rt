@@ -1,5 +1,6 @@
 // Replies: made, with room for their lines, before anything changes, so that nothing is refused behind a change.
-ghost use Rattle.std.specs.Prelude.{◌≡◌, ◌+◌, ◌≤◌, ◌++◌, false, length, string_bytes, string_len, string_capacity, IfOk};
+ghost use Rattle.std.specs.Prelude.{◌≡◌, ◌+◌, ◌≤◌, ◌++◌, false, length, string_bytes, string_len, string_capacity};
+ghost use Rattle.std.specs.Prelude.{IfOk};
 ghost use Rattle.serde_json.specs.View.{view};
 ghost use Rattle.serde_json.specs.Written.{has_float};
 ghost use Rattle.fts_session.specs.Replies.{line_of, number_reply, refusal_reply};

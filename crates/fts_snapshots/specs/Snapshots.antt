@@ -1,5 +1,6 @@
 -- Snapshots, what a commit makes of them, and why a commit or a merge is refused.
-use Rattle.std.specs.Prelude.{◌≡◌, ◌<◌, ◌≤◌, ℕ, ◌+◌, ◌^◌, ◌++◌, true, Option, List, Result, IfOk, length, sum_by, All, AllPairs}
+use Rattle.std.specs.Prelude.{◌≡◌, ◌<◌, ◌≤◌, ℕ, ◌+◌, ◌^◌, ◌++◌, true, Option, List, Result, IfOk, length, sum_by, All}
+use Rattle.std.specs.Prelude.{AllPairs}
 use Rattle.fts_model.specs.declared.schema.Field.{Field}
 use Rattle.fts_model.specs.declared.operation.Op.{Op}
 use Rattle.fts_model.specs.declared.operation.Stamped.{Stamped}
@@ -61,8 +62,8 @@ commit_fault cut batch s = numbers_fault (s.next_id + new_segments cut batch)
 
 -- what a commit gives: the snapshot that it leaves, whose content is what is alive after the adds of the content before
 -- and the batch, or a refusal
-pub record GivesCommit (cut : Cut) (batch : List (Stamped Op)) (old : SnapshotValue) (result : Result SnapshotValue Refusal)
-    : Type 0 where
+pub record GivesCommit (cut : Cut) (batch : List (Stamped Op)) (old : SnapshotValue)
+    (result : Result SnapshotValue Refusal) : Type 0 where
   pub snapshot : Gives (λ new. new) result (ok_unless (commit_fault cut batch old) (after_commit cut batch old))
   pub content : IfOk result (λ new. content_of new ≡ alive old.schema (adds (content_of old) ++ batch))
 

@@ -53,6 +53,7 @@ following_left s = behind_spans s.first (s.next_position + length (spans_left s)
 
 -- the first of the spans that were left came, by its place, or none was left
 abbrev pub YieldsSpan : Tokens → Option Token → Tokens → Type 0
-YieldsSpan s r t = MatchOption r ((spans_left s ≡ []) × (spans_left t ≡ []) × (t.next_position ≡ s.next_position) × (t.first ≡ s.first))
+YieldsSpan s r t = MatchOption r
+    ((spans_left s ≡ []) × (spans_left t ≡ []) × (t.next_position ≡ s.next_position) × (t.first ≡ s.first))
     (λ token. (span : Span) × (spans_left s ≡ span ∷ spans_left t) × (token ≡ place_of (s.next_position, span))
     × (t.next_position ≡ s.next_position + 1) × (length t.rest.now < length s.rest.now) × (t.first ≡ s.first))

@@ -82,8 +82,8 @@ impl<'a> Tokens<'a> {
         }
     }
 
-    /// The number of the first span of the text behind this one: two above that of the last span, long ones among them, or
-    /// the text's own first number where it has no span. What is left of the text is gone over. Takes no memory.
+    /// The number of the first span of the text behind this one: two above that of the last span, long ones among them,
+    /// or the text's own first number where it has no span. What is left of the text is gone over. Takes no memory.
     pub fn following(mut self) -> usize
         requires { following_left self < 2 ^ 64 }
         ensures { result ≡ following_left self.entry }

@@ -1,5 +1,5 @@
-// Where one of two jobs of a commit or of a search is held back, another worker runs the other, and each is run once. The
-// writer may be closed by then.
+// Where one of two jobs of a commit or of a search is held back, another worker runs the other, and each is run once.
+// The writer may be closed by then.
 use fts_index::{Cut, Searcher, Writer};
 use fts_model::{Query, Refusal, Request};
 use std::alloc::Global;

@@ -1,5 +1,5 @@
 // What one of several cursors has: the next documents of all are marked in a window, which steps read off.
-ghost use Rattle.std.specs.Prelude.{◌≡◌, ◌+◌, [], All, drop, length, min, slice_get, take};
+ghost use Rattle.std.specs.Prelude.{◌≡◌, ◌+◌, ◌-◌, ◌^◌, [], All, drop, length, min, slice_get, take};
 ghost use Rattle.std.specs.List.{AllZip};
 ghost use Rattle.std.specs.List.Sorted.{IsStrictlyIncreasing};
 ghost use Rattle.fts_postings.specs.Meeting.{IsLeast, has, in_some, lesser_of, union};
@@ -9,7 +9,7 @@ ghost use Rattle.fts_cursor.specs.TreeValues.{Left, TreeContinues, remains};
 ghost use Rattle.fts_cursor.specs.Standing.{Walked};
 ghost use Rattle.fts_cursor.specs.Trees.{AreBeyond, AreMarked, IsNow, StandsAt, found, gathered, tree_value};
 
-use crate::tree::{Node, Tree};
+use crate::tree::{Node, Source, Tree};
 use fts_pack::ListSource;
 use fts_postings::{DocSet, PostingCursor, Window};
 
@@ -61,6 +61,24 @@ pub(crate) fn fill_gathered(
         next = gather(buffered, 0);
     }
     (128, next)
+}
+
+/// How many documents remain of what stands at the document, or the greatest `usize`. Leaves all behind.
+pub(crate) fn count_gathered(buffered: &mut BufferedUnion, doc: Option<u32>) -> usize
+    requires { StandsAt doc (Node.Or buffered.old) }
+    ensures count { result ≡ min (2 ^ 64 - 1) (length (gathered buffered.old)) }
+    ensures now { IsNow None (Node.Or buffered.new) [] }
+    ensures walked { Walked (tree_value (Node.Or buffered.old)).standing
+        (tree_value (Node.Or buffered.new)).standing }
+{
+    let mut count = 0usize;
+    let mut next = doc;
+    while let Some(_first) = next {
+        let here = buffered.window.count();
+        count = count.saturating_add(here);
+        next = refill(buffered, 0);
+    }
+    count
 }
 
 // Moves a window that has nothing left to the first document from the target on, and fills it.
@@ -126,7 +144,10 @@ fn mark_part(part: &mut Tree, window: &mut Window)
     ensures place { (window.new.from ≡ window.old.from) × (window.new.last ≡ window.old.last) }
     ensures marked { AreMarked (has part.old.remaining) window.old window.new }
 {
-    match &mut part.node {
+    let Source::Cursor(node) = &mut part.source else {
+        return;
+    };
+    match &mut **node {
         Node::Postings(postings) => part.doc = mark_postings(postings, window),
         _ => mark_any(part, window),
     }

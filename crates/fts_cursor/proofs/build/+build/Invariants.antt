@@ -9,10 +9,13 @@ use Rattle.fts_cursor.proofs.HitsLemmas.{hits_of}
 use Rattle.fts_cursor.proofs.build.+build.Given as goal
 
 abbrev pub decreases-tree_of : goal.decreases-tree_of
-decreases-tree_of l = 2 * depth (query_value l.query.now) + 0
+decreases-tree_of l = 3 * depth (query_value l.query.now) + 0
+
+abbrev pub decreases-any_of : goal.decreases-any_of
+decreases-any_of l = 3 * depth_of l.queries.now + 2
 
 abbrev pub decreases-trees_of : goal.decreases-trees_of
-decreases-trees_of l = 2 * depth_of l.queries.now + 1
+decreases-trees_of l = 3 * depth_of l.queries.now + 1
 
 abbrev pub invariant-trees_of-loop-query : goal.invariant-trees_of-loop-query
 invariant-trees_of-loop-query l =

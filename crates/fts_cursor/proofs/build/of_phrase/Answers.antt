@@ -1,6 +1,10 @@
 -- The phrase stands in the documents that match.
 use Rattle.std.proofs.Common.{◌≡◌, ◌^◌, ◌≤◌, ◌∷◌, length, ap, ◌∙◌, arith, rules}
+use Rattle.std.proofs.lemmas.Result.{IfOk-weaker}
 use Rattle.std.specs.List.{filter}
+use Rattle.fts_model.specs.QueryValues.{phrase}
+use Rattle.fts_cursor.specs.Hits.{segment_hits}
+use Rattle.fts_cursor.specs.TreeValues.{TreeValue}
 use Rattle.fts_cursor.specs.declared.phrase.Member.{Member}
 use Rattle.fts_postings.specs.Conjoined.{each_remaining}
 use Rattle.fts_postings.specs.Meeting.{common}
@@ -46,5 +50,6 @@ returns c =
     let whole = made c.args.segment.now c.args.field c.args.pattern.now c.in_ok-cursors.cursors.items c.in-Some.members.items c.remove-lead.result c.remove-lead.new.self.items c.remove-first.result c.remove-first.new.self.items c.requires few zip cursors
     c.remove-lead.ensures.value c.remove-lead.ensures.items c.remove-first.ensures.value c.remove-first.ensures.items in
     let first_is : c.in_ok-first.first.value ≡ c.remove-first.result = search rules in
-    c.phrase.ensures ∙ c.new-2.ensures ∙ ap (filter (phrase_at (c.in_ok-first.first.value ∷ c.remove-first.new.self.items))) c.new-terms.ensures.remaining
-    ∙ ap (λ (m : Member). filter (phrase_at (m ∷ c.remove-first.new.self.items)) (common (remaining_of c.remove-lead.result) (each_remaining c.remove-lead.new.self.items))) first_is ∙ whole.hits
+    IfOk-weaker c.phrase.result (λ (t : TreeValue). t.remaining ≡ c.new-2.result.remaining) (λ t. t.remaining ≡ segment_hits c.args.segment.now (phrase c.args.field c.args.pattern.now))
+    (λ t is. is ∙ c.new-2.ensures ∙ ap (filter (phrase_at (c.in_ok-first.first.value ∷ c.remove-first.new.self.items))) c.new-terms.ensures.remaining
+    ∙ ap (λ (m : Member). filter (phrase_at (m ∷ c.remove-first.new.self.items)) (common (remaining_of c.remove-lead.result) (each_remaining c.remove-lead.new.self.items))) first_is ∙ whole.hits) c.phrase.ensures

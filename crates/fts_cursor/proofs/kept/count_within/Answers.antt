@@ -2,7 +2,8 @@
 use Rattle.std.proofs.Common.{◌+◌, ◌-◌, length, min, refl, ap, arith}
 use Rattle.std.proofs.lemmas.List.{length-append}
 use Rattle.fts_postings.specs.Windows.{marked}
-use Rattle.fts_cursor.proofs.WithinLemmas.{AreMarks-of, marked-ones, two_words}
+use Rattle.fts_postings.proofs.TakingLemmas.{marked-ones}
+use Rattle.fts_cursor.proofs.WithinLemmas.{AreMarks-of, two_words}
 use Rattle.fts_cursor.proofs.kept.count_within.Goals as goal
 
 pub returns : goal.returns

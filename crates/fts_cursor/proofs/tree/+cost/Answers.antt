@@ -3,7 +3,7 @@ use Rattle.std.proofs.Common.{◌≡◌, ◌*◌, ◌<◌, List, length, ap, sym
 use Rattle.std.proofs.lemmas.List.{take_all}
 use Rattle.fts_postings.specs.Meeting.{in_all, lacks, union}
 use Rattle.fts_cursor.specs.TreeValues.{TreeValue, remains}
-use Rattle.fts_cursor.specs.Trees.{found, tree_value}
+use Rattle.fts_cursor.specs.Trees.{found, tree_value, value_of}
 use Rattle.fts_cursor.specs.declared.tree.Node.TheVariants.{And, Or, Without}
 use Rattle.fts_cursor.proofs.PartsLemmas.{height_within}
 use Rattle.fts_cursor.proofs.CostLemmas.{all_remaining, all_remaining-more, length-union}
@@ -26,18 +26,18 @@ cost_in-returns t c =
 pub Tree::cost-returns-in-And-clause-bound : goal.Tree::cost-returns-in-And-clause-bound
 Tree::cost-returns-in-And-clause-bound t c =
     let parts = c.in-And.parts in
-    let is : tree_value (And parts) ≡ c.args.self.now = ap tree_value (sym c.in-And.is) ∙ c.self.view_is in
-    omega (arith, ap (λ (s : TreeValue). length s.remaining) is, length-filter-le (in_all (remains parts.others.items)) parts.lead.value.remaining, ap (λ (s : TreeValue). length s.remaining) c.deref.ensures, c.cost-in-And.ensures.bound)
+    let is : tree_value (And parts) ≡ c.args.self.now = ap tree_value (sym c.in-And.is ∙ c.deref.ensures) ∙ ap value_of (sym c.in-Cursor.is) ∙ c.self.view_is in
+    omega (arith, ap (λ (s : TreeValue). length s.remaining) is, length-filter-le (in_all (remains parts.others.items)) parts.lead.value.remaining, ap (λ (s : TreeValue). length s.remaining) c.deref-in-And.ensures, c.cost-in-And.ensures.bound)
 
 pub Tree::cost-returns-in-Without-clause-bound : goal.Tree::cost-returns-in-Without-clause-bound
 Tree::cost-returns-in-Without-clause-bound t c =
     let parts = c.in-Without.parts in
-    let is : tree_value (Without parts) ≡ c.args.self.now = ap tree_value (sym c.in-Without.is) ∙ c.self.view_is in
+    let is : tree_value (Without parts) ≡ c.args.self.now = ap tree_value (sym c.in-Without.is ∙ c.deref.ensures) ∙ ap value_of (sym c.in-Cursor.is) ∙ c.self.view_is in
     omega (arith, ap (λ (s : TreeValue). length s.remaining) is, length-filter-le (lacks parts.dropped.value.remaining) parts.kept.value.remaining, ap (λ (s : TreeValue). length s.remaining) c.deref-in-Without.ensures, c.cost-in-Without.ensures.bound)
 
 pub Tree::cost-returns-in-Or-clause-bound : goal.Tree::cost-returns-in-Or-clause-bound
 Tree::cost-returns-in-Or-clause-bound t c =
     let buffered = c.in-Or.buffered in
-    let is : tree_value (Or buffered) ≡ c.args.self.now = ap tree_value (sym c.in-Or.is) ∙ c.self.view_is in
+    let is : tree_value (Or buffered) ≡ c.args.self.now = ap tree_value (sym c.in-Or.is ∙ c.deref.ensures) ∙ ap value_of (sym c.in-Cursor.is) ∙ c.self.view_is in
     let parts = ap (λ (items : List TreeValue). length (union (remains items))) c.deref-in-Or.ensures.value in
     omega (arith, ap (λ (s : TreeValue). length s.remaining) is, length-with_all (found buffered.window) (union (remains buffered.parts.items)), c.cost-in-Or.ensures, c.cost_in.ensures, parts, c.saturating_add.ensures)

@@ -7,7 +7,7 @@ use Rattle.std.proofs.lemmas.List.{with_items_is}
 use Rattle.fts_postings.specs.Meeting.{IsLeast, common, in_all, in_some, lacks, union}
 use Rattle.fts_cursor.specs.TreeValues.{Left, Narrowed, TreeContinues, TreeValue, heights, remains}
 use Rattle.fts_cursor.specs.Terms.{AreTied}
-use Rattle.fts_cursor.specs.Trees.{AreMarked, IsBuffered, IsNow, found, gathered, tree_value}
+use Rattle.fts_cursor.specs.Trees.{AreMarked, IsBuffered, IsNow, found, gathered, tree_value, value_of}
 use Rattle.std.specs.Vec.{with_items}
 use Rattle.fts_cursor.specs.declared.tree.Node.TheVariants.{Or}
 use Rattle.fts_cursor.proofs.GatherLemmas.{TreeContinues-parts, IsMarking-next, IsMarking-none, IsNow-none, IsNow-some, MarkedUpTo-next, MarkedUpTo-none, fill_ahead, filled, filled_buffered, gathered_from, gathered_next, gathered_within, marking_done, marking_ended, marking_left, marking_low, marking_past}
@@ -22,14 +22,22 @@ use Rattle.fts_cursor.proofs.tree.+tree.Goals.{buffered_union::seek_each-in-Some
 
 pub Tree::seek-returns-else-doc-target-clause-remaining : goal.Tree::seek-returns-else-doc-target-clause-remaining
 Tree::seek-returns-else-doc-target-clause-remaining t c =
+    let same = ap (λ (s : TreeValue). s.remaining) (ap value_of (sym c.in-Cursor.is) ∙ c.self.view_is) in
     let first = sym c.in-Some.is ∙ c.self.invariant.first ∙ ap (λ s. slice_get s.remaining 0) c.self.view_is in
     let rises = subst (λ (s : TreeValue). IsStrictlyIncreasing s.remaining) c.self.view_is c.self.invariant.rises in
-    stays_from_first c.args.target c.in-Some.doc c.args.self.now.remaining rises first c.if-doc-target.false
+    same ∙ stays_from_first c.args.target c.in-Some.doc c.args.self.now.remaining rises first c.if-doc-target.false
 
 pub Tree::seek-returns-in_default-clause-remaining : goal.Tree::seek-returns-in_default-clause-remaining
 Tree::seek-returns-in_default-clause-remaining t c =
-    let none = nothing_first c.args.self.now.remaining (sym c.in_default.is ∙ c.self.invariant.first ∙ ap (λ s. slice_get s.remaining 0) c.self.view_is) in
-    none ∙ sym (ap (at_least c.args.target) none)
+    let empty = ap (λ (s : TreeValue). s.remaining) (ap value_of c.in_default.is) in
+    let none : c.args.self.now.remaining ≡ [] = ap (λ (s : TreeValue). s.remaining) (sym c.self.view_is) ∙ empty in
+    empty ∙ sym (ap (at_least c.args.target) none)
+
+pub Tree::seek-returns-in_default-doc-clause-remaining : goal.Tree::seek-returns-in_default-doc-clause-remaining
+Tree::seek-returns-in_default-doc-clause-remaining t c =
+    let same = ap (λ (s : TreeValue). s.remaining) (ap value_of (sym c.in-Cursor.is) ∙ c.self.view_is) in
+    let none = nothing_first c.args.self.now.remaining (sym c.in_default-doc.is ∙ c.self.invariant.first ∙ ap (λ s. slice_get s.remaining 0) c.self.view_is) in
+    same ∙ none ∙ sym (ap (at_least c.args.target) none)
 
 pub intersection::align-returns-in-Some-bring-clause-met : goal.intersection::align-returns-in-Some-bring-clause-met
 intersection::align-returns-in-Some-bring-clause-met t c =

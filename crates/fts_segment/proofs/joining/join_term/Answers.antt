@@ -12,7 +12,7 @@ use Rattle.fts_segment.proofs.joining.join_term.Goals.{After-is_empty}
 
 -- the documents of the term
 docs_of : (c : After-is_empty) → c.pass_all.new.docs.items ≡ documents (flat_map (given c.args.term.now) c.args.parts.now)
-docs_of c = c.in_ok-pass_all.ensures.docs ∙ ap (λ ds. ds ++ documents (flat_map (given c.args.term.now) c.args.parts.now)) c.clear.ensures.items
+docs_of c = c.in_ok-pass_all.ensures.puts.documents_are ∙ ap (λ ds. ds ++ documents (flat_map (given c.args.term.now) c.args.parts.now)) c.clear.ensures.items
 
 -- there are none where there is no posting
 empty_of : (c : After-is_empty) → flat_map (given c.args.term.now) c.args.parts.now ≡ [] → vec_len c.pass_all.new.docs ≡ 0
@@ -26,7 +26,7 @@ none_of c empty =
 same_of : (c : After-is_empty) → flat_map (given c.args.term.now) c.args.parts.now ≡ [] → logged_position_lists c.pass_all.new.log ≡ logged_position_lists c.args.writer.now.positions.lists
 same_of c none =
     let logged = logged_position_lists c.args.writer.now.positions.lists in
-    c.in_ok-pass_all.ensures.lists ∙ ap (λ ps. logged ++ position_lists ps) none ∙ append-nil logged
+    c.in_ok-pass_all.ensures.puts.positions_are ∙ ap (λ ps. logged ++ position_lists ps) none ∙ append-nil logged
 
 pub returns-then-is_empty-clause-names : goal.returns-then-is_empty-clause-names
 returns-then-is_empty-clause-names c =
@@ -53,7 +53,10 @@ returns-then-is_empty-clause-is c =
     let ends = c.args.writer.now.positions.ends.items in
     let none = none_of a (eqb-true (vec_len c.pass_all.new.docs) 0 (sym c.is_empty.ensures ∙ c.if-is_empty.true)) in
     let P : List (List ℕ) → Type 0 = λ ls. AreEnds 0 ends (length ls) in
-    record { lists = c.in_ok-pass_all.ensures.is; ends = subst P (sym (same_of a none)) c.requires.is.ends }
+    record { lists = c.in_ok-pass_all.ensures.puts.is; ends = subst P (sym (same_of a none)) c.requires.is.ends }
+
+pub end_term-requires-clause-is : goal.end_term-requires-clause-is
+end_term-requires-clause-is c = c.in_ok-pass_all.ensures.puts.is
 
 pub end_term-requires-clause-rise : goal.end_term-requires-clause-rise
 end_term-requires-clause-rise c =
@@ -82,9 +85,9 @@ returns-clause-positions c =
     let postings = flat_map (given c.args.term.now) c.args.parts.now in
     some_put (pieces 0 before log.ends.items) (pieces 0 (logged_position_lists c.end_term.new.self.positions.lists) c.end_term.new.self.positions.ends.items) (position_lists postings) postings
     (λ none. eqb-false (vec_len c.pass_all.new.docs) 0 (sym c.is_empty.ensures ∙ c.if-is_empty.false) (empty_of a none))
-    (c.in_ok-end_term.ensures.positions before (position_lists postings) c.requires.is.ends c.in_ok-pass_all.ensures.lists).terms_are
+    (c.in_ok-end_term.ensures.positions before (position_lists postings) c.requires.is.ends c.in_ok-pass_all.ensures.puts.positions_are).terms_are
 
 pub returns-clause-is : goal.returns-clause-is
 returns-clause-is c =
     let log = c.args.writer.now.positions in
-    (c.in_ok-end_term.ensures.positions (logged_position_lists log.lists) (position_lists (flat_map (given c.args.term.now) c.args.parts.now)) c.requires.is.ends c.in_ok-pass_all.ensures.lists).is
+    (c.in_ok-end_term.ensures.positions (logged_position_lists log.lists) (position_lists (flat_map (given c.args.term.now) c.args.parts.now)) c.requires.is.ends c.in_ok-pass_all.ensures.puts.positions_are).is

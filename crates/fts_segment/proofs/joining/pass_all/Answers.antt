@@ -1,11 +1,17 @@
-use Rattle.std.proofs.Common.{◌≡◌, ◌++◌, Some, flat_map, ap, ◌∙◌, sym, arith}
+use Rattle.std.proofs.Common.{◌≡◌, ◌≤◌, Some, flat_map, length, refl, ap, ◌∙◌, sym, arith}
 use Rattle.std.specs.Prelude.{slice_get}
+use Rattle.std.proofs.lemmas.List.{take_all}
 use Rattle.std.proofs.lemmas.Option.{slice_get-get_or}
 use Rattle.fts_segment.specs.Parts.{given, passed}
-use Rattle.fts_segment.specs.PositionListLogs.{logged_position_lists}
-use Rattle.fts_segment.specs.Postings.{Posting, documents, position_lists}
 use Rattle.fts_segment.proofs.MovingLemmas.{set-front, given-front}
+use Rattle.fts_segment.proofs.PutsLemmas.{puts-as, puts-more, puts-none}
 use Rattle.fts_segment.proofs.joining.pass_all.Goals as goal
+
+pub loop-part-init : goal.loop-part-init
+loop-part-init c = record { passed_are = refl; puts = puts-none c.requires }
+
+pub pass-requires : goal.pass-requires
+pass-requires c = c.loop-part.invariant.puts.is
 
 pub loop-part-preserved : goal.loop-part-preserved
 loop-part-preserved c =
@@ -18,10 +24,13 @@ loop-part-preserved c =
     let here : slice_get items i ≡ Some item = slice_get-get_or items i item (omega (arith, c.loop-part-test.true, l.auto.part-items)) ∙ ap Some (sym c.part-item.is) in
     let step = set-front (passed term) items parts i item c.pass.new.self l.invariant.passed_are here (c.in_ok-pass.ensures.part ∙ ap (passed term) (sym c.part-item.is)) in
     record {
-      is = c.in_ok-pass.ensures.is;
       passed_are = step.0;
-      docs = given-front (given term) (λ (p : Posting). p.doc) l.docs.items c.pass.new.docs.items parts i item (c.args.docs.now.items ++ documents (flat_map (given term) parts)) step.1
-          (c.in_ok-pass.ensures.docs ∙ ap (λ p. l.docs.items ++ documents (given term p)) (sym c.part-item.is)) l.invariant.docs;
-      logged = given-front (given term) (λ (p : Posting). p.positions) (logged_position_lists l.log) (logged_position_lists c.pass.new.log) parts i item (logged_position_lists c.args.log.now ++ position_lists (flat_map (given term) parts)) step.1
-          (c.in_ok-pass.ensures.lists ∙ ap (λ p. logged_position_lists l.log ++ position_lists (given term p)) (sym c.part-item.is)) l.invariant.logged;
+      puts = puts-more (given-front (given term) parts i item step.1) l.invariant.puts (puts-as (ap (given term) c.part-item.is) c.in_ok-pass.ensures.puts);
     }
+
+pub returns-clause-puts : goal.returns-clause-puts
+returns-clause-puts c =
+    let l = c.loop-part in
+    let parts = c.args.parts.now in
+    let beyond : length parts ≤ l.part-index = omega (arith, c.loop-part-test.false, l.auto.part-items) in
+    puts-as (ap (flat_map (given c.args.term.now)) (sym (take_all l.part-index parts beyond))) l.invariant.puts

@@ -1,6 +1,6 @@
-use Rattle.std.proofs.Common.{◌≡◌, replicate, rules, arith}
+use Rattle.std.proofs.Common.{◌≡◌, true, replicate, rules, sym, ◌∙◌, arith}
 use Rattle.fts_bits.specs.Digits.{word_count}
-use Rattle.fts_bits.proofs.BitsLemmas.{all_ones, AreFull, AreFull-whole, AreFull-rest, IsBits-full, flags-full, rest_inside}
+use Rattle.fts_bits.proofs.BitsLemmas.{all_ones, AreFull, AreFull-whole, AreFull-rest, IsBits-full, flags-full, ones_replicated, rest_inside}
 use Rattle.fts_bits.proofs.bits.Bits.filled.Goals as goal
 use Rattle.fts_bits.proofs.bits.Bits.filled.Goals.{then-rest-gt0, else-rest-gt0}
 
@@ -17,7 +17,10 @@ index_mut-requires c =
     omega (arith, c.in_ok-words.ensures.len, c.word_count_64.ensures, rest_inside c.args.len c.if-rest-gt0.true)
 
 pub invariant_of-result : goal.invariant_of-result
-invariant_of-result c = IsBits-full c.args.len _ c.ranges.len.fits (filled c)
+invariant_of-result c = record {
+  bits = IsBits-full c.args.len _ c.ranges.len.fits (filled c);
+  ones_are = sym (sym (ones_replicated _ c.args.len true (flags-full c.args.len _ (filled c))) ∙ omega arith);
+}
 
 pub returns : goal.returns
 returns c = flags-full c.args.len _ (filled c)

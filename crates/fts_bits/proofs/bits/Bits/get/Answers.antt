@@ -5,10 +5,10 @@ use Rattle.fts_bits.proofs.bits.Bits.get.Goals as goal
 
 pub index-requires : goal.index-requires
 index-requires c =
-    omega (arith, c.self.inside.words.ok, (doc_inside _ _ _ _ c.self.view_is c.self.invariant c.requires).1)
+    omega (arith, c.self.inside.words.ok, (doc_inside _ _ _ _ c.self.view_is c.self.invariant.bits c.requires).1)
 
 pub returns : goal.returns
 returns c =
     let bits = c.self.inside in
-    let place = doc_inside _ _ _ _ c.self.view_is c.self.invariant c.requires in
-    ap (λ v. slice_get v c.args.doc) (sym c.self.view_is) ∙ flag_read bits.len c.args.doc bits.words.items place.0 c.self.invariant.fits ∙ ap (λ n. Some (bit_and (n / 2 ^ (c.args.doc % 64)) 1 == 1)) (sym (get_or_read bits.words.items _ _ place.1 c.index.ensures 0))
+    let place = doc_inside _ _ _ _ c.self.view_is c.self.invariant.bits c.requires in
+    ap (λ v. slice_get v c.args.doc) (sym c.self.view_is) ∙ flag_read bits.len c.args.doc bits.words.items place.0 c.self.invariant.bits.fits ∙ ap (λ n. Some (bit_and (n / 2 ^ (c.args.doc % 64)) 1 == 1)) (sym (get_or_read bits.words.items _ _ place.1 c.index.ensures 0))

@@ -6,4 +6,4 @@ use Rattle.fts_bits.proofs.bits.Bits.words.Goals as goal
 
 pub returns : goal.returns
 returns c =
-    c.deref.ensures.value ∙ words-from_flags _ _ c.self.invariant ∙ ap (λ v. words_of 64 1 (marks v)) c.self.view_is
+    c.deref.ensures.value ∙ words-from_flags _ _ c.self.invariant.bits ∙ ap (λ v. words_of 64 1 (marks v)) c.self.view_is

@@ -1,12 +1,15 @@
-use Rattle.std.proofs.Common.{◌≡◌, replicate, rules}
+use Rattle.std.proofs.Common.{◌≡◌, false, replicate, rules, sym, ◌∙◌, arith}
 use Rattle.fts_bits.specs.Digits.{word_count}
-use Rattle.fts_bits.proofs.BitsLemmas.{IsBits-empty, flags-empty}
+use Rattle.fts_bits.proofs.BitsLemmas.{IsBits-empty, flags-empty, ones_replicated}
 use Rattle.fts_bits.proofs.bits.Bits.zeroed.Goals as goal
 
 pub invariant_of-result : goal.invariant_of-result
 invariant_of-result c =
     let words : c.in_ok-words.words.items ≡ replicate (word_count 64 c.args.len) 0 = search rules in
-    rw words (IsBits-empty c.args.len c.ranges.len.fits)
+    rw words (record {
+      bits = IsBits-empty c.args.len c.ranges.len.fits;
+      ones_are = sym (sym (ones_replicated _ c.args.len false (flags-empty c.args.len)) ∙ omega arith);
+    })
 
 pub returns : goal.returns
 returns c =

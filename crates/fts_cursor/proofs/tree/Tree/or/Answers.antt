@@ -1,25 +1,27 @@
 -- The window is empty at first, so the parts have all.
-use Rattle.std.proofs.Common.{subst, arith}
+use Rattle.std.proofs.Common.{◌≡◌, ℕ, List, Option, subst, arith, ap, ◌∙◌}
+use Rattle.std.proofs.lemmas.Result.{IfOk-weaker}
 use Rattle.fts_postings.specs.Meeting.{union}
-use Rattle.fts_cursor.specs.TreeValues.{remains}
-use Rattle.fts_cursor.specs.Trees.{IsNow}
+use Rattle.fts_postings.specs.Remaining.{at_least}
+use Rattle.fts_cursor.specs.TreeValues.{TreeValue, remains}
+use Rattle.fts_cursor.specs.Trees.{IsNow, tree_value}
+use Rattle.fts_cursor.specs.declared.tree.buffered_union.BufferedUnion.{BufferedUnion}
 use Rattle.fts_cursor.specs.declared.tree.Node.TheVariants.{Or}
 use Rattle.fts_postings.proofs.RemainingLemmas.{at_least_all}
 use Rattle.fts_postings.proofs.UnionLemmas.{Rises-union}
 use Rattle.fts_cursor.proofs.tree.Tree.or.Goals as goal
 
-made : (c : goal.After-refill-doc) → IsNow c.refill-doc.result (Or c.refill-doc.new.buffered) (union (remains c.args.parts.items))
-made c =
-    let lists = remains c.args.parts.items in
-    subst (IsNow c.refill-doc.result (Or c.refill-doc.new.buffered))
-    (at_least_all 0 0 (union lists) (Rises-union lists) (omega arith))
-    c.refill-doc.ensures.now
+made : (doc : Option ℕ) (buffered : BufferedUnion) (lists : List (List ℕ)) → IsNow doc (Or buffered) (at_least 0 (union lists)) → IsNow doc (Or buffered) (union lists)
+made doc buffered lists now =
+    subst (IsNow doc (Or buffered)) (at_least_all 0 0 (union lists) (Rises-union lists) (omega arith)) now
 
 pub refill-doc-requires : goal.refill-doc-requires
 refill-doc-requires c = c.new-window.ensures
 
-pub invariant_of-result : goal.invariant_of-result
-invariant_of-result c = (made c).stands
+pub of-requires : goal.of-requires
+of-requires c = (made c.refill-doc.result c.refill-doc.new.buffered (remains c.args.parts.items) c.refill-doc.ensures.now).stands
 
 pub returns : goal.returns
-returns c = (made c).is
+returns c =
+    IfOk-weaker c.of.result (λ (t : TreeValue). t ≡ tree_value (Or c.refill-doc.new.buffered)) (λ t. t.remaining ≡ union (remains c.args.parts.items))
+    (λ t is. ap (λ (s : TreeValue). s.remaining) is ∙ (made c.refill-doc.result c.refill-doc.new.buffered (remains c.args.parts.items) c.refill-doc.ensures.now).is) c.of.ensures

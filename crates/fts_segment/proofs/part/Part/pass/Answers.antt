@@ -1,10 +1,10 @@
-use Rattle.std.proofs.Common.{◌≡◌, ◌<◌, ◌++◌, true, [], All, length, get_or, drop, ap, ap₂, sym, subst, ◌∙◌, arith}
+use Rattle.std.proofs.Common.{◌≡◌, ◌<◌, true, [], All, length, get_or, drop, ap, ap₂, sym, subst, ◌∙◌, arith}
 use Rattle.std.proofs.lemmas.List.{get_or_read}
 use Rattle.fts_segment.specs.Parts.{PartValue, begins, given, passed, moved}
-use Rattle.fts_segment.specs.PositionListLogs.{logged_position_lists}
-use Rattle.fts_segment.specs.Postings.{documents, position_lists, postings_of}
+use Rattle.fts_segment.specs.Postings.{postings_of}
 use Rattle.fts_segment.specs.TermPositionLists.{position_lists_in}
 use Rattle.fts_segment.proofs.PartLemmas.{begins-within, given-here, passed-here}
+use Rattle.fts_segment.proofs.PutsLemmas.{puts-as}
 use Rattle.fts_segment.proofs.part.Part.pass.Goals as goal
 use Rattle.fts_segment.proofs.part.Part.pass.Goals.{After-get-positions}
 
@@ -54,12 +54,6 @@ returns-in_ok-move_postings-clause-part c =
     let p = c.self.inside in
     sym (passed-here c.args.term.now p.at p.dictionary.now p.numbers c.self.invariant.whole (next_of a)) ∙ ap (passed c.args.term.now) c.self.view_is
 
-pub returns-in_ok-move_postings-clause-docs : goal.returns-in_ok-move_postings-clause-docs
-returns-in_ok-move_postings-clause-docs c =
-    let a = (goal.at.returns-in_ok-move_postings-clause-docs c).After-get-positions in
-    c.in_ok-move_postings.ensures.docs ∙ ap (λ ps. c.args.docs.now.items ++ documents ps) (given_of a)
-
-pub returns-in_ok-move_postings-clause-lists : goal.returns-in_ok-move_postings-clause-lists
-returns-in_ok-move_postings-clause-lists c =
-    let a = (goal.at.returns-in_ok-move_postings-clause-lists c).After-get-positions in
-    c.in_ok-move_postings.ensures.lists ∙ ap (λ ps. logged_position_lists c.args.log.now ++ position_lists ps) (given_of a)
+pub returns-in_ok-move_postings-clause-puts : goal.returns-in_ok-move_postings-clause-puts
+returns-in_ok-move_postings-clause-puts c =
+    let a = (goal.at.returns-in_ok-move_postings-clause-puts c).After-get-positions in puts-as (sym (given_of a)) c.in_ok-move_postings.ensures.puts

@@ -1,0 +1,25 @@
+-- The cursor goes over the whole list.
+use Rattle.std.proofs.Common.{◌≡◌, ap, length, ◌∙◌}
+use Rattle.std.proofs.lemmas.Result.{IfOk-weaker}
+use Rattle.fts_pack.specs.Documents.{block_count, blocks_of}
+use Rattle.fts_pack.specs.SourceLaws.{length-blocks_of}
+use Rattle.fts_postings.proofs.PostingLemmas.{posting_new}
+use Rattle.fts_cursor.specs.Standing.{at_most}
+use Rattle.fts_cursor.specs.TreeValues.{TreeValue}
+use Rattle.fts_cursor.specs.Trees.{tree_value}
+use Rattle.fts_cursor.specs.declared.tree.Node.TheVariants.{Postings}
+use Rattle.fts_cursor.proofs.tree.Tree.postings.Goals as goal
+
+pub returns-clause-remaining : goal.returns-clause-remaining
+returns-clause-remaining c =
+    let p = c.new-postings.result in
+    let is : p.blocks ≡ blocks_of c.args.list.now = c.new-postings.ensures.blocks ∙ ap blocks_of c.source.ensures.documents in
+    IfOk-weaker c.of.result (λ (t : TreeValue). t ≡ tree_value (Postings p)) (λ t. t.remaining ≡ c.args.list.now)
+    (λ t made. ap (λ (s : TreeValue). s.remaining) made ∙ posting_new p c.args.list.now is c.new-postings.ensures.first.0 c.new-postings.ensures.first.1) c.of.ensures
+
+pub returns-clause-bound : goal.returns-clause-bound
+returns-clause-bound c =
+    let p = c.new-postings.result in
+    let is : p.blocks ≡ blocks_of c.args.list.now = c.new-postings.ensures.blocks ∙ ap blocks_of c.source.ensures.documents in
+    IfOk-weaker c.of.result (λ (t : TreeValue). t ≡ tree_value (Postings p)) (λ t. t.bound ≡ at_most (block_count (length c.args.list.now)))
+    (λ t made. ap (λ (s : TreeValue). s.bound) made ∙ ap at_most (ap length is ∙ length-blocks_of c.args.list.now)) c.of.ensures
