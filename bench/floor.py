@@ -1,13 +1,14 @@
 #!/usr/bin/env python3
 """Times searches of `fts run` beside hand-written loops, over plain arrays and over packed lists, and beside SQLite's FTS5, Lucene and Xapian.
 
-    python3 bench/floor.py [--documents N] [--searches N] [--instructions] [--picture FILE]
+    python3 bench/floor.py [--documents N] [--searches N] [--instructions] [--larger N] [--picture FILE]
 
 Build the program first (README.md); this builds bench/floor.cpp by g++. Lucene and Xapian are asked where they are installed (of Debian
 liblucene8-java with a JDK, and libxapian-dev). Prints microseconds of processor time a search for each kind of search, JSON included for
 `fts run` and not for the others, the least of three rounds (of thirty for Lucene, whose code is compiled as it runs), and the ratios. With
---instructions it runs `fts run` and the loops under Valgrind's callgrind too, and prints thousands of instructions a search. With --picture
-it draws the times by matplotlib as an SVG. Every answer of `fts run`, the loops, Lucene and Xapian is compared.
+--instructions it runs `fts run` and the loops under Valgrind's callgrind too, and prints thousands of instructions a search. With --larger
+it asks `fts run` the same over so many documents, in one segment as well, and prints how much hits and times grew. With --picture it draws
+the times by matplotlib as an SVG. Every answer of `fts run`, the loops, Lucene and Xapian is compared.
 
 The documents have 30 words of a vocabulary of 50,000 with Zipf's law, a `u64` below 1,000,000 and an `i64` from -50 to 49.
 """
@@ -38,16 +39,23 @@ arguments = argparse.ArgumentParser()
 arguments.add_argument("--documents", type=int, default=100_000)
 arguments.add_argument("--searches", type=int, default=200)
 arguments.add_argument("--instructions", action="store_true")
+arguments.add_argument("--larger", type=int)
 arguments.add_argument("--picture")
 arguments = arguments.parse_args()
 
 numbers = random.Random(1)
 WORDS = [f"w{rank:x}" for rank in range(50_000)]
 SUMS = list(itertools.accumulate(1 / (rank + 1) for rank in range(len(WORDS))))
-DOCUMENTS = [
-    (" ".join(numbers.choices(WORDS, cum_weights=SUMS, k=30)), numbers.randrange(1_000_000), numbers.randrange(-50, 50))
-    for _ in range(arguments.documents)
-]
+
+
+def documents(count):
+    return [
+        (" ".join(numbers.choices(WORDS, cum_weights=SUMS, k=30)), numbers.randrange(1_000_000), numbers.randrange(-50, 50))
+        for _ in range(count)
+    ]
+
+
+DOCUMENTS = documents(arguments.documents)
 SCHEMA = {"schema": [
     {"name": "body", "kind": "text", "default": True}, {"name": "price", "kind": "u64"}, {"name": "temp", "kind": "i64"}]}
 
@@ -146,10 +154,10 @@ class Session:
         self.program.wait()
 
 
-def script(*guard):
+def script(*guard, given=DOCUMENTS):
     session = Session(*guard, str(PROGRAM), "run")
-    adds = (json.dumps({"add": dict(zip(("body", "price", "temp"), d))}) for d in DOCUMENTS)
-    session.ask([json.dumps(SCHEMA), *adds, '{"commit":true}', '{"merge":true}'], len(DOCUMENTS) + 3)
+    adds = (json.dumps({"add": dict(zip(("body", "price", "temp"), d))}) for d in given)
+    session.ask([json.dumps(SCHEMA), *adds, '{"commit":true}', '{"merge":true}'], len(given) + 3)
     return session
 
 
@@ -247,6 +255,19 @@ def instructions():
         session.end()
 
 
+def growth(count):
+    """For each kind the hits and the microseconds of a search over the documents, and over so many."""
+    sessions = [script(), script(given=documents(count))]
+    for kind, searches in SEARCHES.items():
+        requests, row = [request(*search) for search in searches], []
+        for session in sessions:
+            runs = [session.ask(requests, len(requests)) for _ in range(ROUNDS)]
+            row += [sum(json.loads(reply)["count"] for reply in runs[0][0]), min(run[1] for run in runs)]
+        yield kind, [each / len(searches) for each in row]
+    for session in sessions:
+        session.end()
+
+
 def draw(rows, others, file):
     import matplotlib
     matplotlib.use("svg")
@@ -275,6 +296,12 @@ with tempfile.TemporaryDirectory() as SCRATCH:
     print("|---|---|---|---|---|---|---|---|" + "---|---|" * len(others))
     for kind, (ours, plain, packed, *theirs) in rows:
         print(f"| {kind} | {ours:.1f} | {plain:.1f} | {packed:.1f} | {ours / plain:.1f} | {ours / packed:.1f} |", *(f" {each:.1f} | {each / ours:.1f} |" for each in theirs), sep="")
+    if arguments.larger:
+        print(f"\n| of {arguments.documents:,} and of {arguments.larger:,} documents | hits | microseconds | hits | microseconds | hits grew | time grew |")
+        print("|---|---|---|---|---|---|---|")
+        for kind, (hits, micros, more_hits, more_micros) in growth(arguments.larger):
+            grew = f"{more_hits / hits:.1f}" if hits else "-"
+            print(f"| {kind} | {hits:,.0f} | {micros:.1f} | {more_hits:,.0f} | {more_micros:.1f} | {grew} | {more_micros / micros:.1f} |", flush=True)
     if arguments.picture:
         draw(rows, others, arguments.picture)
     if arguments.instructions:
