@@ -95,7 +95,7 @@ class Index(Searching):
             self._command({"schema": [field._asdict() for field in fields]})
 
     def add(self, document: Mapping[str, Value]) -> int:
-        """Adds a document, and returns its stamp. Searches see it behind the next commit."""
+        """Adds a document, and returns its stamp. Searches see it after the next commit."""
         return self._command({"add": dict(document)})["stamp"]
 
     def delete(self, field: str, value: Union[str, int]) -> int:
