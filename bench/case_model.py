@@ -28,7 +28,7 @@ class Subject:
 
 
 def tokens(value):
-    """Runs of letters and digits, folded, each with its number; those of 40 bytes or more are dropped. Of a list the first run
+    """The spans of letters and digits, folded, each with its number; those of 40 bytes or more are dropped. Of a list the first span
     of a text is numbered two above the last of the texts before it."""
     found, first = [], 0
     for text in value if isinstance(value, list) else [value]:

@@ -120,7 +120,7 @@ def write_queries():
         s.case(sentence, "found", found, query=query)
     gap = [{"title": LONG[0]}, {"title": "a c b"}, {"title": "a b"}]
     s.case("Titles with and without a gap are made", "make", 3, documents=gap)
-    s.case("A gap in a phrase is any one run", "count", 2, query=['title:"a ', forty, ' b"'])
+    s.case("A gap in a phrase is any one span", "count", 2, query=['title:"a ', forty, ' b"'])
     s.case("A gap in front of a phrase is nothing", "count", 1, query=['title:"', forty, ' a b"'])
     s.case("A gap alone finds nothing", "count", 0, query=["title:", forty])
     greek = [{"title": "ΣΟΦΟΣ"}, {"title": "a b a b a"}, {"title": "foo-bar"}, {"title": "bar foo"}]

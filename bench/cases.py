@@ -308,13 +308,13 @@ def write_lists():
         places = [[place for place, run in tokens(document["title"]) if run == text] for document in documents]
         s.case(sentence, "all_positions", [at for at in places if at], term=word(text))
 
-    stands("A first text begins at 0, behind one without a run too, and two behind a dropped run", LISTED, "a")
-    stands("A text without a run between two changes nothing", LISTED, "b")
-    stands("The second text begins two behind the last run of the first", LISTED, "c")
+    stands("A first text begins at 0, behind one without a span too, and two behind a dropped span", LISTED, "a")
+    stands("A text without a span between two changes nothing", LISTED, "b")
+    stands("The second text begins two behind the last span of the first", LISTED, "c")
     for sentence, query, docs in [
             ("A phrase stands within a text", '"a b"', [0]), ("A phrase doesn't run into the next text", '"b c"', []),
-            ("A phrase with the gap of a dropped run does", f'"b {DROPPED} c"', [0]),
-            ("And over a text without a run", f'"a {DROPPED} b"', [3]), ("A word is found in each text of a list", "c", [0]),
+            ("A phrase with the gap of a dropped span does", f'"b {DROPPED} c"', [0]),
+            ("And over a text without a span", f'"a {DROPPED} b"', [3]), ("A word is found in each text of a list", "c", [0]),
             ("A document with an empty list is one of all", "*", [0, 1, 2, 3, 4])]:
         s.case(sentence, "found", docs, query=query)
     s.case("A delete strikes by a token of a list", "strike", [1, 2, 4],

@@ -183,7 +183,7 @@ def commits():
     at_once = under("keyword", *adds(range(count), "n"), *[COMMIT] * count)
     for options in ((), ("--merge", "policy")):
         way = f" with `{' '.join(options)}`" if options else ""
-        yield Pair(f"10,000 commits of one add{way}, and of none behind 10,000 adds", one, at_once, options=options)
+        yield Pair(f"10,000 commits of one add{way}, and of none after 10,000 adds", one, at_once, options=options)
     adds_and_one = under("keyword", *adds(range(count), "n"), COMMIT)
     for options in (("--runs", "1"), ("--runs", "1", "--merge", "policy")):
         name = f"a commit of 10,000 adds with `{' '.join(options)}`, and without"

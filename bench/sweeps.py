@@ -34,7 +34,7 @@ CAUSES = (errno.EIO, errno.EINTR)
 
 SCHEMA = json.dumps(random_scripts.SCHEMA)
 LONG = "x" * 40
-# What is swept, beside the examples: a text with a run of letters that is too long, and eight segments that the policy merges.
+# What is swept, beside the examples: a text with a span that is too long, and eight segments that the policy merges.
 DROPPED = "\n".join([SCHEMA, *(json.dumps(it) for it in [
     {"add": {"title": f"a {LONG} b"}}, {"add": {"title": f"a {LONG[1:]} b"}}, {"commit": True},
     *({"search": {"query": query}} for query in ('"a b"', f'"a {LONG} b"', f'"a {LONG[1:]} b"', LONG[1:], LONG)),

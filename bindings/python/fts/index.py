@@ -52,9 +52,9 @@ class Searching:
     def hits(self, query: str, by: str, *, order: str = "rising", page: int = 10_000) -> Iterator[Hit]:
         """All documents that a query finds and that have a value in `by`, a number field, in the order of these values.
 
-        They are asked for a page at a time, each from the last value of the page before on, so ValueError is raised
-        where a page of documents has one value. Of an index, a commit between two pages shows in the later one. What is
-        added to the query leaves it some 70 bytes less than others have.
+        They are asked for a page at a time, each page from the last value of the one before, so ValueError is raised
+        if all documents of a page have the same value. A commit to the index between two pages shows in the later one.
+        The query may be some 70 bytes shorter than others, since a range is added to it.
         """
         last: Optional[Hit] = None
         while True:
@@ -72,7 +72,7 @@ class Searching:
         return Searcher(self._channel.searcher())
 
     def close(self) -> None:
-        """Gives back what it holds. Calls that come behind it raise Closed, but for `close`."""
+        """Gives back what it holds. Later calls raise Closed, except `close`."""
         self._channel.close()
 
     def __exit__(self, *_: object) -> None:
@@ -95,7 +95,7 @@ class Index(Searching):
             self._command({"schema": [field._asdict() for field in fields]})
 
     def add(self, document: Mapping[str, Value]) -> int:
-        """Adds a document, and returns its stamp. Searches see it behind the next commit."""
+        """Adds a document, and returns its stamp. Searches see it after the next commit."""
         return self._command({"add": dict(document)})["stamp"]
 
     def delete(self, field: str, value: Union[str, int]) -> int:

@@ -92,7 +92,7 @@ class RangeOnText(Refused):
 
 
 class BadNumber(Refused):
-    """What stands behind a number field of a query is no number of its kind."""
+    """What follows a number field in a query is not a number of its kind."""
 
 
 class NoDefaultField(Refused):

@@ -69,7 +69,7 @@ impl Index {
 
 impl Drop for Index {
     fn drop(&mut self) {
-        // SAFETY: nothing uses the handle behind this.
+        // SAFETY: nothing uses the handle after this.
         unsafe { sys::fts_close(self.raw) };
     }
 }
@@ -126,7 +126,7 @@ impl Searcher {
 
 impl Drop for Searcher {
     fn drop(&mut self) {
-        // SAFETY: nothing uses the handle behind this.
+        // SAFETY: nothing uses the handle after this.
         unsafe { sys::fts_searcher_close(self.raw) };
     }
 }

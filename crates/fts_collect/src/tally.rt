@@ -21,7 +21,7 @@ pub(crate) fn number_at(kind: Kind, number: u64) -> Number
     }
 }
 
-/// The counts of numbers that stand in order: each run of one number is one.
+/// The counts of numbers that stand in order: equal numbers are counted together.
 fn counts_of_sorted(alloc: Global, numbers: &[u64]) -> Result<Vec<(u64, u64)>, AllocError>
     ensures { IfOk result (λ list. list.items ≡ counts_of_sorted nat_eq numbers.now) }
 {

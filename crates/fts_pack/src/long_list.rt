@@ -1,4 +1,4 @@
-// A strictly rising list of documents in blocks of 128 differences, all in one buffer, and a skip entry a block.
+// A strictly rising list of documents in blocks of 128 differences, all in one buffer, and a skip for each block.
 ghost use Rattle.std.specs.Prelude.{◌≡◌, ℕ, ◌*◌, ◌<◌, List, IfOk, length, take};
 ghost use Rattle.std.specs.List.Sorted.{IsStrictlyIncreasing};
 ghost use Rattle.fts_pack.specs.Documents.{after, block_at, block_count, last_of, Rises};

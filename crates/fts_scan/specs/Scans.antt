@@ -21,7 +21,7 @@ hits_counted (group ∷ groups) = group.1 + hits_counted groups
 abbrev pub is_one_group : GroupValue → GroupValue → Bool
 is_one_group v w = is_eq (group_cmp v w)
 
--- the counts of values in order: each run of one value, by a test of which are one
+-- the counts of values in order: neighbours are counted together, by a test of which are one
 abbrev pub counts_of_sorted : {V : Type 0} → (V → V → Bool) → List V → List (V × ℕ)
 counts_of_sorted same values = map (λ run. (run.1, run.0)) (dedup_with_count same values)
 

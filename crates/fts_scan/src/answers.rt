@@ -112,7 +112,7 @@ fn values_in(
     Ok(values)
 }
 
-/// The counts of values that stand in order: each run of one value is one.
+/// The counts of values that stand in order: equal values are counted together.
 fn counts_of_sorted(
     alloc: Global,
     values: Vec<GroupValue>,

@@ -1,4 +1,4 @@
-// Packed numbers that are copied in runs: a block at a time lies unpacked.
+// Packed numbers that are copied in stretches: a block at a time lies unpacked.
 ghost use Rattle.std.specs.Prelude.{◌≡◌, ◌+◌, ◌^◌, ◌<◌, ◌≤◌, ◌++◌, ℕ, IfOk, OnOk, length, slice_index, slice_range};
 
 use fts_pack::{BLOCK, Numbers};

@@ -1,4 +1,4 @@
-// Packed lists of positions that are moved to a log in runs.
+// Packed lists of positions that are moved to a log in stretches.
 ghost use Rattle.std.specs.Prelude.{◌≡◌, ◌^◌, ◌<◌, ◌≤◌, All, length, sum, take};
 ghost use Rattle.fts_segment.specs.PositionLists.{position_lists_at};
 
