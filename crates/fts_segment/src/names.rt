@@ -15,7 +15,7 @@ pub(crate) struct Names {
     bytes: Vec<u8>,
     /// Where each name ends.
     ends: Vec<usize>,
-    /// The head of each name.
+    /// The head of each name, so that a search by halving reads one number a step.
     heads: Vec<u64>,
 }
 
@@ -32,7 +32,7 @@ impl Model for Names {
         × AreHeads n.heads.items (pieces 0 n.bytes.items n.ends.items) };
 }
 
-/// The first eight bytes of a name as one number, by which it is compared first.
+/// The head of a name: its first eight bytes as one number. Names with different heads are in the order of these.
 pub(crate) fn head_of(name: &[u8]) -> u64
     ensures is { result ≡ head 8 name.now }
     ensures bytes { AreBytes name.now }
@@ -71,7 +71,8 @@ impl Names {
         piece(&self.bytes, &self.ends, number)
     }
 
-    /// The order of the name of this number and a name with this head. Bytes are compared only where the heads are equal.
+    /// The order of the name of this number and of another, whose head is `wanted`. Only where the heads are equal the
+    /// bytes are compared.
     pub(crate) fn compare(&self, number: usize, name: &[u8], wanted: u64) -> Ordering
         requires within { number < length self.now }
         requires is { wanted ≡ head 8 name.now }

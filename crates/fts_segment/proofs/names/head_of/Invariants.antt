@@ -1,4 +1,4 @@
-use Rattle.std.proofs.Common.{◌≡◌, ◌≤◌}
+use Rattle.std.proofs.Common.{◌≡◌}
 use Rattle.fts_segment.specs.Heads.{head}
 use Rattle.fts_segment.proofs.names.head_of.Given as goal
 

@@ -1,4 +1,4 @@
-use Rattle.std.proofs.Common.{[], List, ℕ, length, get_or, ◌≡◌, ◌<◌, ◌∙◌, sym, ap, ap₂, subst, arith}
+use Rattle.std.proofs.Common.{[], get_or, ◌≡◌, ◌∙◌, ap₂, subst}
 use Rattle.std.specs.Ordering.{nat_cmp}
 use Rattle.fts_segment.specs.Heads.{head, AreHeads}
 use Rattle.fts_segment.proofs.HeadLemmas.{order_of_heads, head_at}
