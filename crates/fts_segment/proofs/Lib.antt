@@ -2,6 +2,7 @@ pub mod TermsLemmas
 pub mod TermLogsLemmas
 pub mod OccurrencesLemmas
 pub mod FindLemmas
+pub mod HeadLemmas
 pub mod TermOrderLemmas
 pub mod TermGroupsLemmas
 pub mod HoldingLemmas

@@ -4,6 +4,7 @@ pub mod Contents
 pub mod Numberings
 pub mod TermLogs
 pub mod Sorted
+pub mod Heads
 pub mod TermGroups
 pub mod Positions
 pub mod Dictionaries

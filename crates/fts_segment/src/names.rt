@@ -1,8 +1,12 @@
 // Names, one behind the other in one buffer of bytes.
 ghost use Rattle.std.specs.Prelude.{◌≡◌, ◌<◌, ◌++◌, ◌∷◌, [], length, OnOk, OnErr, slice_index_or};
+ghost use Rattle.std.specs.Ordering.{nat_cmp};
+ghost use Rattle.std.specs.Cmp.Lexicographic.{slice_cmp};
+ghost use Rattle.fts_segment.specs.Heads.{head, AreBytes};
 
 use fts_base::piece;
 use std::alloc::{AllocError, Global};
+use std::cmp::Ordering;
 use std::marker::Model;
 
 /// A list of byte strings. Contracts see it as the list of their bytes.
@@ -11,17 +15,34 @@ pub(crate) struct Names {
     bytes: Vec<u8>,
     /// Where each name ends.
     ends: Vec<usize>,
+    /// The head of each name, so that a search by halving reads one number a step.
+    heads: Vec<u64>,
 }
 
 impl Model for Names {
     ghost use Rattle.std.specs.Prelude.{List, ℕ, length};
     ghost use Rattle.fts_base.specs.Pieces.{pieces, AreEnds};
+    ghost use Rattle.fts_segment.specs.Heads.{AreHeads};
 
     ghost Value = { List (List ℕ) };
 
     ghost view = { λ n. pieces 0 n.bytes.items n.ends.items };
 
-    ghost invariant = { λ n. AreEnds 0 n.ends.items (length n.bytes.items) };
+    ghost invariant = { λ n. AreEnds 0 n.ends.items (length n.bytes.items)
+        × AreHeads n.heads.items (pieces 0 n.bytes.items n.ends.items) };
+}
+
+/// The head of a name: its first eight bytes as one number. Names with different heads are in the order of these.
+pub(crate) fn head_of(name: &[u8]) -> u64
+    ensures is { result ≡ head 8 name.now }
+    ensures bytes { AreBytes name.now }
+{
+    let mut head = 0;
+    for place in 0..8 {
+        let byte = name.get(place).copied().unwrap_or(0);
+        head = head * 256 + u64::from(byte);
+    }
+    head
 }
 
 impl Names {
@@ -32,6 +53,7 @@ impl Names {
         Names {
             bytes: Vec::new(alloc),
             ends: Vec::new(alloc),
+            heads: Vec::new(alloc),
         }
     }
 
@@ -49,15 +71,31 @@ impl Names {
         piece(&self.bytes, &self.ends, number)
     }
 
+    /// The order of the name of this number and of another, whose head is `wanted`. Only where the heads are equal the
+    /// bytes are compared.
+    pub(crate) fn compare(&self, number: usize, name: &[u8], wanted: u64) -> Ordering
+        requires within { number < length self.now }
+        requires is { wanted ≡ head 8 name.now }
+        requires bytes { AreBytes name.now }
+        ensures { result ≡ slice_cmp nat_cmp (slice_index_or self.now number []) name.now }
+    {
+        match self.heads[number].cmp(&wanted) {
+            Ordering::Equal => self.get(number).cmp(name),
+            order => order,
+        }
+    }
+
     /// Puts a name behind the others.
     pub(crate) fn push(&mut self, name: &[u8]) -> Result<(), AllocError>
         ensures ok { OnOk result (self.new ≡ self.old ++ name.now ∷ []) }
         ensures err { OnErr result (self.new ≡ self.old) }
     {
         let len = self.bytes.len();
+        let count = self.ends.len();
         self.bytes.extend_from_slice(name)?;
-        if self.ends.push(self.bytes.len()).is_err() {
+        if self.ends.push(self.bytes.len()).is_err() || self.heads.push(head_of(name)).is_err() {
             self.bytes.truncate(len);
+            self.ends.truncate(count);
             return Err(AllocError);
         }
         Ok(())

@@ -1,20 +1,18 @@
-use Rattle.std.proofs.Common.{sym, ap, ◌∙◌, arith}
-use Rattle.std.specs.Ordering.{nat_cmp}
-use Rattle.std.specs.Cmp.Lexicographic.{slice_cmp}
+use Rattle.std.proofs.Common.{sym, ◌∙◌, arith}
 use Rattle.fts_segment.proofs.FindLemmas.{Narrows-less, Narrows-greater, Narrows-none, Narrows-found, Narrows-before, Narrows-up_to}
 use Rattle.fts_segment.proofs.find.place_of_name.Goals as goal
 
 pub loop-low-preserved-in-Less : goal.loop-low-preserved-in-Less
 loop-low-preserved-in-Less c =
-    Narrows-less _ c.requires c.loop-low.invariant (omega arith) (omega arith) (ap (λ n. slice_cmp nat_cmp n c.args.name.now) (sym c.get.ensures) ∙ sym c.cmp.ensures ∙ c.in-Less.is)
+    Narrows-less _ c.requires c.loop-low.invariant (omega arith) (omega arith) (sym c.compare.ensures ∙ c.in-Less.is)
 
 pub loop-low-preserved : goal.loop-low-preserved
 loop-low-preserved c =
-    Narrows-greater _ c.requires c.loop-low.invariant (omega arith) (omega arith) (ap (λ n. slice_cmp nat_cmp n c.args.name.now) (sym c.get.ensures) ∙ sym c.cmp.ensures ∙ c.in-Greater.is)
+    Narrows-greater _ c.requires c.loop-low.invariant (omega arith) (omega arith) (sym c.compare.ensures ∙ c.in-Greater.is)
 
 pub returns-in-Equal-clause-found : goal.returns-in-Equal-clause-found
 returns-in-Equal-clause-found c =
-    Narrows-found c.args.names.now c.args.name.now _ (omega (arith, c.loop-low.invariant.within)) (ap (λ n. slice_cmp nat_cmp n c.args.name.now) (sym c.get.ensures) ∙ sym c.cmp.ensures ∙ c.in-Equal.is)
+    Narrows-found c.args.names.now c.args.name.now _ (omega (arith, c.loop-low.invariant.within)) (sym c.compare.ensures ∙ c.in-Equal.is)
 
 pub returns-clause-absent : goal.returns-clause-absent
 returns-clause-absent c = Narrows-none c.loop-low.invariant c.loop-low-test.false
