@@ -20,7 +20,7 @@ pub get_or-lane_of : (count lane : ℕ) (xs : List ℕ) (place : ℕ) → place 
 unfolding lane_of
 get_or-lane_of count lane xs place h = get_or-map-range_with_len _ 0 count place place 0 h (omega arith)
 
-Below-lane_of : (bits count lane : ℕ) (xs : List ℕ) → Below bits xs → Below bits (lane_of count lane xs)
+pub Below-lane_of : (bits count lane : ℕ) (xs : List ℕ) → Below bits xs → Below bits (lane_of count lane xs)
 Below-lane_of bits count lane xs h place =
     elim (cases_lt place count) [
       | inl inside ↦ (rw (get_or-lane_of count lane xs place inside) (h (4 * place + lane)))
@@ -37,6 +37,15 @@ lane_same count lane xs ys same =
     same_number_lists (lane_of count lane xs) (lane_of count lane ys) (length-lane_of count lane xs ∙ sym (length-lane_of count lane ys)) (λ k inside.
     let near : k < count = omega (arith, length-lane_of count lane xs) in
     get_or-lane_of count lane xs k near ∙ same k near ∙ sym (get_or-lane_of count lane ys k near))
+
+-- what stands at a place of a lane within its block, and 0 behind the end of both
+pub lane_get : (width lane place : ℕ) (words : List ℕ) → lane < 4 → 4 * width ≤ length words → get_or (take (4 * width) words) (4 * place + lane) 0 ≡ get_or (lane_of width lane words) place 0
+lane_get width lane place words small room =
+    elim (cases_lt place width) [
+      | inl inside ↦ (get_or-take (4 * width) words (4 * place + lane) 0 (omega (arith, small, inside)) ∙ sym (get_or-lane_of width lane words place inside))
+      | inr past ↦ (get_or_past (take (4 * width) words) (4 * place + lane) 0 (omega (arith, past, length-take-le (4 * width) words room))
+          ∙ sym (get_or_past (lane_of width lane words) place 0 (omega (arith, past, length-lane_of width lane words))))
+    ]
 
 -- one element more of a lane
 lane_more : (count lane : ℕ) (xs : List ℕ) → lane_of (count + 1) lane xs ≡ lane_of count lane xs ++ get_or xs (4 * count + lane) 0 ∷ []
@@ -92,7 +101,7 @@ unfolding words_in_lanes
 length-words_in_lanes width numbers = length-woven width _
 
 -- the number at a place of a lane is a field of the bits of the lane
-number_at : (width : ℕ) (words : List ℕ) (place lane : ℕ) → place < 32 → lane < 4 → get_or (numbers_in_lanes width words) (4 * place + lane) 0 ≡ joined 32 (lane_of width lane words) / 2 ^ (place * width) % 2 ^ width
+pub number_at : (width : ℕ) (words : List ℕ) (place lane : ℕ) → place < 32 → lane < 4 → get_or (numbers_in_lanes width words) (4 * place + lane) 0 ≡ joined 32 (lane_of width lane words) / 2 ^ (place * width) % 2 ^ width
 unfolding numbers_in_lanes numbers_in
 number_at width words place lane h small =
     get_or-woven 32 _ place lane h small ∙ get_or-digits width 32 (joined 32 (lane_of width lane words)) place 0 h

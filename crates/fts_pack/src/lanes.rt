@@ -116,7 +116,7 @@ fn at_place(words: &[u32], width: u32, place: usize) -> u32x4
     across(low, load(words, word + 1), shift, width)
 }
 
-/// The number at the index of the 128 numbers of `width` bits that lie in the words.
+/// The number at the index of the 128 numbers of `width` bits that lie in the words: its lane alone is read.
 #[inline]
 pub(crate) fn read(words: &[u32], width: u32, index: usize) -> u32
     requires narrow { width ≤ 32 }
@@ -124,10 +124,13 @@ pub(crate) fn read(words: &[u32], width: u32, index: usize) -> u32
     requires room { 4 * width ≤ length words.now }
     ensures { result ≡ slice_index (numbers_in_lanes width words.now) index }
 {
-    if width == 0 {
-        return 0;
-    }
-    at_place(words, width, index / 4)[index % 4]
+    let block = &words[..4 * width as usize];
+    let bit = index / 4 * width as usize;
+    let place = 4 * (bit / 32) + index % 4;
+    let low = block.get(place).copied().unwrap_or(0);
+    let high = block.get(place + 4).copied().unwrap_or(0);
+    let pair = u64::from(high) << 32 | u64::from(low);
+    ((pair >> (bit % 32)) & ((1 << width) - 1)) as u32
 }
 
 #[inline(always)]
