@@ -1,15 +1,17 @@
 -- Documents that are marked a stretch at a time.
-use Rattle.std.proofs.Common.{◌≡◌, ℕ, suc, ◌+◌, ◌-◌, ◌<◌, ◌≤◌, All, Bool, true, false, ◌||◌, ◌==◌, List, [], ◌∷◌, ◌++◌, length, get_or, take, drop, refl, sym, ap, subst, ◌∙◌, inl, inr, arith}
+use Rattle.std.proofs.Common.{◌≡◌, ℕ, zero, suc, ◌+◌, ◌-◌, ◌<◌, ◌≤◌, All, Bool, true, false, ◌||◌, ◌==◌, List, [], ◌∷◌, ◌++◌, length, get_or, take, drop, refl, sym, ap, subst, ◌∙◌, inl, inr, arith}
 use Rattle.std.specs.List.{flat_map}
+use Rattle.std.specs.List.Sorted.{IsStrictlyIncreasing}
 use Rattle.std.proofs.lemmas.Bool.{cases_lt}
-use Rattle.std.proofs.lemmas.List.{drop-take, get_or_append_left, length-append, length-drop, take-append-drop, take-append-le, take_more}
-use Rattle.std.proofs.lemmas.List.Elements.{All-cons, All-nil, All-push}
+use Rattle.std.proofs.lemmas.List.{drop-take, get_or-take, get_or_append_left, get_or_default, length-append, length-drop, length-take-le, take-append-drop, take-append-le, take_more}
+use Rattle.std.proofs.lemmas.List.Elements.{All-cons, All-nil}
 use Rattle.std.proofs.lemmas.List.Folds.{list_any-append}
+use Rattle.fts_pack.specs.Documents.{Rises}
 use Rattle.fts_postings.specs.Meeting.{has, with_one}
 use Rattle.fts_postings.specs.Posting.{IsPosting, Posting, here, remaining_of}
 use Rattle.fts_postings.specs.Remaining.{at_least}
-use Rattle.fts_postings.proofs.PostingLemmas.{stands_within}
-use Rattle.fts_postings.proofs.RemainingLemmas.{at_least-append}
+use Rattle.fts_postings.proofs.PostingLemmas.{Rises-place, stands_within}
+use Rattle.fts_postings.proofs.RemainingLemmas.{Rises-front, at_least-append, increasing-from_Rises}
 use Rattle.fts_postings.proofs.UnionLemmas.{has-with_one, leaves, stays}
 
 or_turn : (x a b : Bool) → (x || (a || b)) ≡ (a || (b || (x || false)))
@@ -52,10 +54,21 @@ marked_more old mid new docs index doc inside is more before d =
     ∙ or_turn (doc == d) (has old d) (has front d)
     ∙ ap (λ b. has old d || b) (sym (ap (λ xs. has xs d) whole ∙ list_any-append (λ x. x == d) front (doc ∷ [])))
 
--- one more of which each has a place
-pub places_more : (last : ℕ) (docs : List ℕ) (index doc : ℕ) → index < length docs → doc ≡ get_or docs index 0 → doc ≤ last → All (λ d. d ≤ last) (take index docs) → All (λ d. d ≤ last) (take (index + 1) docs)
-places_more last docs index doc inside is within before =
-    subst (λ xs. All (λ d. d ≤ last) xs) (sym (take_more docs index 0 inside ∙ ap (λ x. take index docs ++ x ∷ []) (sym is))) (All-push (λ d. d ≤ last) (take index docs) doc before within)
+-- what stands earlier in a rising list is no greater
+rises_up : (xs : List ℕ) (at more : ℕ) → IsStrictlyIncreasing xs → at + more < length xs → get_or xs at 0 ≤ get_or xs (at + more) 0
+rises_up xs at zero h inside = let e : at + 0 ≡ at = omega arith in rw e (omega arith)
+rises_up xs at (suc more) h inside =
+    let e : at + more + 1 ≡ at + suc more = omega arith in
+    omega (arith, rises_up xs at more h (omega (arith, inside)), rw e at (h (at + more) (omega (arith, inside))))
+
+-- where the last of them has a place, each has
+pub places_first : (last : ℕ) (docs : List ℕ) (count : ℕ) → IsStrictlyIncreasing docs → count ≤ length docs → (0 < count → get_or docs (count - 1) 0 ≤ last) → All (λ d. d ≤ last) (take count docs)
+places_first last docs count rises within reached k d inside =
+    let few : k < count = omega (arith, inside, length-take-le count docs within) in
+    let same : get_or (take count docs) k d ≡ get_or docs k 0 = get_or-take count docs k d few ∙ get_or_default docs k d 0 (omega (arith, few, within)) in
+    let e : k + (count - 1 - k) ≡ count - 1 = omega (arith, few) in
+    let up = rises_up docs k (count - 1 - k) rises (omega (arith, few, within)) in
+    omega (arith, same, rw e at up, reached (omega (arith, few)))
 
 -- the rest of the open block, with which what remains begins
 module _ (p q : Posting) (same : p ≡ q) (len : ℕ) (numbers mid : List ℕ) (h : IsPosting p.blocks p.block p.at len p.opened numbers) (some : 0 < length (remaining_of q)) (mid_is : mid ≡ take (len - p.at) (drop p.at numbers)) where
@@ -86,6 +99,11 @@ module _ (p q : Posting) (same : p ≡ q) (len : ℕ) (numbers mid : List ℕ) (
   open_low from up k d inside =
       let all : All (λ e. from ≤ e) (mid ++ rest) = subst (λ xs. All (λ e. from ≤ e) xs) (sym up ∙ begins) (at_least_each from (remaining_of q)) in
       subst (λ x. from ≤ x) (get_or_append_left mid rest d k inside) (all k d (omega (arith, length-append mid rest, inside)))
+
+  pub open_rises : IsStrictlyIncreasing (flat_map (λ block. block) p.blocks) → IsStrictlyIncreasing mid
+  open_rises up =
+      let r = Rises-place p.blocks p.block p.at up in
+      increasing-from_Rises r.0 mid (Rises-front r.0 mid rest (subst (λ xs. Rises r.0 (xs ++ rest)) (sym mid_here) r.1))
 
   pub open_first : (last : ℕ) → get_or (remaining_of q) 0 0 ≤ last → get_or mid 0 0 ≤ last
   open_first last le = omega (arith, le, ap (λ xs. get_or xs 0 0) begins, get_or_append_left mid rest 0 0 open_some)

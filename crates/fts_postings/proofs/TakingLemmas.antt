@@ -1,5 +1,5 @@
 -- The marked documents of a word that are taken at once.
-use Rattle.std.proofs.Common.{◌≡◌, ℕ, zero, suc, ◌+◌, ◌-◌, ◌/◌, ◌%◌, ◌^◌, ◌<◌, ◌≤◌, Bool, cond, ◌==◌, count_ones, List, [], ◌∷◌, ◌++◌, length, get_or, take, drop, refl, sym, ap, ap₂, subst, ◌∙◌, inl, inr, arith}
+use Rattle.std.proofs.Common.{◌≡◌, ℕ, zero, suc, ◌+◌, ◌-◌, ◌*◌, ◌/◌, ◌%◌, ◌^◌, ◌<◌, ◌≤◌, Bool, cond, ◌==◌, count_ones, List, [], ◌∷◌, ◌++◌, length, get_or, take, drop, refl, sym, ap, ap₂, subst, ◌∙◌, inl, inr, arith}
 use Rattle.std.specs.Int.{bit_at}
 use Rattle.std.specs.Int.RustNames.{bit_and}
 use Rattle.std.proofs.Math.Seq.{take-append_seam}
@@ -68,6 +68,24 @@ counted_word words base from order marks is last mask within mask_is =
     let split : length (found_in base from last words) ≡ length (passing test from (places - at)) + length (passing test (from + (places - at)) more) =
     ap length (ap (passing test from) all ∙ passing-append test from (places - at) more) ∙ length-append (passing test from (places - at)) (passing test (from + (places - at)) more) in
     omega (arith, split, here, rest)
+
+-- as many are found of a whole word's documents as it has bits
+pub whole_word : (words : List ℕ) (base index last : ℕ) → get_or words index 0 < 2 ^ 64 → base + index * 64 + 63 ≤ last →
+    count_ones (get_or words index 0) + length (found_in base (base + (index + 1) * 64) last words) ≡ length (found_in base (base + index * 64) last words)
+whole_word words base index last fits long =
+    let from = base + index * 64 in
+    let more = suc last - (from + 64) in
+    let test = is_found base words in
+    let same : (k : ℕ) → k < 64 → test (from + k) ≡ (bit_at (get_or words index 0) k == 1) = λ k lt.
+    let high : (from + k - base) / 64 ≡ index = omega (arith, lt) in
+    let low : (from + k - base) % 64 ≡ k = omega (arith, lt) in
+    ap₂ (λ i j. bit_at (get_or words i 0) j == 1) high low in
+    let here : length (passing test from 64) ≡ count_ones (get_or words index 0) = ones_passing 64 from (get_or words index 0) test fits same in
+    let all : suc last - from ≡ 64 + more = omega (arith, long) in
+    let next : base + (index + 1) * 64 ≡ from + 64 = omega arith in
+    let split : length (found_in base from last words) ≡ length (passing test from 64) + length (passing test (from + 64) more) =
+    ap length (ap (passing test from) all ∙ passing-append test from 64 more) ∙ length-append (passing test from 64) (passing test (from + 64) more) in
+    omega (arith, split, here, ap (λ a. length (found_in base a last words)) next)
 
 -- what is marked in a word lies below its end
 pub marked_few : (from marks bound : ℕ) → marks < 2 ^ 64 → from + 63 < bound → (k : ℕ) → bit_at marks k ≡ 1 → from + k < bound

@@ -1,12 +1,14 @@
 // The documents found among the next 4,096, as bits.
 ghost use Rattle.std.specs.Prelude.{◌≡◌, ℕ, ◌+◌, ◌^◌, ◌<◌, ◌≤◌, ◌∷◌, ◌||◌, [], All, IfSome, MatchBool, drop, false};
-ghost use Rattle.std.specs.Prelude.{length, slice_get, slice_index, take, true};
+ghost use Rattle.std.specs.Prelude.{◌-◌, ◌%◌, length, slice_get, slice_index, take, true};
+ghost use Rattle.std.specs.List.Sorted.{IsStrictlyIncreasing};
 ghost use Rattle.fts_postings.specs.Meeting.{has, with_one};
 ghost use Rattle.fts_postings.specs.Remaining.{at_least};
 ghost use Rattle.fts_postings.specs.Fills.{IsStretch};
 ghost use Rattle.fts_postings.specs.Windows.{found_in, is_found};
 
 use crate::marks;
+use crate::stretch::place_of;
 
 /// The documents marked among those of `from..=last`, of which there are 4,096 at most.
 #[derive(Drop)]
@@ -77,7 +79,8 @@ impl Window {
     /// Marks the first of the documents, up to one that has no place, and gives how many they are.
     #[inline]
     pub fn mark_some(&mut self, docs: &[u32]) -> usize
-        requires { All (λ d. self.old.from ≤ d) docs.now }
+        requires low { All (λ d. self.old.from ≤ d) docs.now }
+        requires rises { IsStrictlyIncreasing docs.now }
         ensures place { (self.new.from ≡ self.old.from) × (self.new.last ≡ self.old.last) }
         ensures within { result ≤ length docs.now }
         ensures some { 0 < length docs.now → slice_index docs.now 0 ≤ self.old.last → 0 < result }
@@ -86,14 +89,38 @@ impl Window {
             ≡ (has (found_in self.old.base self.old.from self.old.last self.old.words) d
             || has (take result docs.now) d) }
     {
-        for index in 0..docs.len() {
-            let doc = docs[index];
-            if !self.covers(doc) {
-                return index;
-            }
-            self.mark(doc);
+        let count = self.count_covered(docs);
+        self.mark_all(&docs[..count]);
+        count
+    }
+
+    // How many of the documents have a place: mostly all of them, and then the last alone is looked at.
+    #[inline]
+    fn count_covered(&self, docs: &[u32]) -> usize
+        requires { IsStrictlyIncreasing docs.now }
+        ensures within { result ≤ length docs.now }
+        ensures some { 0 < length docs.now → slice_index docs.now 0 ≤ self.now.last → 0 < result }
+        ensures places { All (λ d. d ≤ self.now.last) (take result docs.now) }
+    {
+        let count = docs.len();
+        if count == 0 || self.covers(docs[count - 1]) {
+            return count;
         }
-        docs.len()
+        place_of(docs, 0, count, self.last + 1)
+    }
+
+    // Marks the documents, each of which has a place.
+    #[inline]
+    fn mark_all(&mut self, docs: &[u32])
+        requires low { All (λ d. self.old.from ≤ d) docs.now }
+        requires high { All (λ d. d ≤ self.old.last) docs.now }
+        ensures place { (self.new.from ≡ self.old.from) × (self.new.last ≡ self.old.last) }
+        ensures marked { (d : ℕ) → has (found_in self.new.base self.new.from self.new.last self.new.words) d
+            ≡ (has (found_in self.old.base self.old.from self.old.last self.old.words) d || has docs.now d) }
+    {
+        for doc in docs {
+            self.mark(*doc);
+        }
     }
 
     /// The first document that is marked. Places without marks before it are left behind.
@@ -195,6 +222,7 @@ impl Window {
         let mut count = 0;
         while self.from <= self.last as u64 {
             count += self.count_word();
+            count += self.count_words();
         }
         count
     }
@@ -207,6 +235,7 @@ impl Window {
             ≡ length (found_in self.old.base self.old.from self.old.last self.old.words) }
         ensures last { self.new.last ≡ self.old.last }
         ensures further { self.old.from < self.new.from }
+        ensures whole { (self.new.from - self.new.base) % 64 ≡ 0 }
     {
         let place = (self.from - self.base as u64) as usize;
         let start = self.from - (place % 64) as u64;
@@ -215,6 +244,25 @@ impl Window {
         let inside = marks & (u64::MAX >> behind);
         self.from = start + 64;
         inside.count_ones() as usize
+    }
+
+    // The same for all words from the first place on, with which a word begins, but for one that ends behind the last.
+    #[inline]
+    fn count_words(&mut self) -> usize
+        requires { (self.old.from - self.old.base) % 64 ≡ 0 }
+        ensures count { result + length (found_in self.new.base self.new.from self.new.last self.new.words)
+            ≡ length (found_in self.old.base self.old.from self.old.last self.old.words) }
+        ensures last { self.new.last ≡ self.old.last }
+        ensures further { self.old.from ≤ self.new.from }
+    {
+        let first = (self.from - self.base as u64) as usize / 64;
+        let end = (self.last as u64 + 1).saturating_sub(self.base as u64) as usize / 64;
+        let mut count = 0;
+        for index in first..end {
+            count += self.words[index].count_ones() as usize;
+        }
+        self.from = self.from.max(self.base as u64 + end as u64 * 64);
+        count
     }
 
     /// Leaves the first document behind.

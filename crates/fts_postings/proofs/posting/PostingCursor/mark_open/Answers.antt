@@ -4,7 +4,7 @@ use Rattle.std.proofs.lemmas.List.{length-take}
 use borrow.Rule.Slice.PartMut.{mid_of}
 use Rattle.fts_postings.specs.Meeting.{has}
 use Rattle.fts_postings.specs.Posting.{Posting}
-use Rattle.fts_postings.proofs.MarkingLemmas.{open_first, open_inside, open_low, open_some, open_taken, open_within}
+use Rattle.fts_postings.proofs.MarkingLemmas.{open_first, open_inside, open_low, open_rises, open_some, open_taken, open_within}
 use Rattle.fts_postings.proofs.WindowLemmas.{found}
 use Rattle.fts_postings.proofs.posting.PostingCursor.mark_open.Goals as goal
 
@@ -17,13 +17,21 @@ offset_bounds-self-inside-self-inside g c =
     let within = open_inside p c.args.self.now c.self.view_is s.len s.numbers mid c.self.invariant c.requires.some mid_is in
     omega (arith, within, length-take s.len s.numbers, ap length c.self.invariant.numbers_are, c.self.invariant.size, c.self.told)
 
-pub mark_some-count-requires : goal.mark_some-count-requires
-mark_some-count-requires g c =
+pub mark_some-count-requires-clause-low : goal.mark_some-count-requires-clause-low
+mark_some-count-requires-clause-low g c =
     let s = c.self.inside in
     let p : Posting = record { blocks = g.B.Blocks.contents s.source; block = s.block; at = s.at; opened = s.opened; count = g.B.Blocks.openings s.source } in
     let mid = mid_of s.at (s.len - s.at) s.numbers in
     let mid_is : mid ≡ take (s.len - s.at) (drop s.at s.numbers) = search rules in
     open_low p c.args.self.now c.self.view_is s.len s.numbers mid c.self.invariant c.requires.some mid_is c.args.window.now.from c.requires.low
+
+pub mark_some-count-requires-clause-rises : goal.mark_some-count-requires-clause-rises
+mark_some-count-requires-clause-rises g c =
+    let s = c.self.inside in
+    let p : Posting = record { blocks = g.B.Blocks.contents s.source; block = s.block; at = s.at; opened = s.opened; count = g.B.Blocks.openings s.source } in
+    let mid = mid_of s.at (s.len - s.at) s.numbers in
+    let mid_is : mid ≡ take (s.len - s.at) (drop s.at s.numbers) = search rules in
+    open_rises p c.args.self.now c.self.view_is s.len s.numbers mid c.self.invariant c.requires.some mid_is (g.met.B.Blocks.rises s.source)
 
 pub leave-requires-clause-some : goal.leave-requires-clause-some
 leave-requires-clause-some g c =

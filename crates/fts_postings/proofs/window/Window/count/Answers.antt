@@ -1,4 +1,4 @@
--- Each turn counts a word.
+-- Each turn counts a word, and the whole ones behind it.
 use Rattle.std.proofs.Common.{suc, ◌-◌, length, ap, arith}
 use Rattle.fts_postings.specs.Windows.{is_found}
 use Rattle.fts_postings.proofs.CostLemmas.{scan_cost}
@@ -13,6 +13,18 @@ overflow_add-count c =
       scan_cost (is_found w.base w.words) w.from (suc w.last - w.from) 0,
       c.loop-self.invariant.sum,
       c.count_word-count.ensures.count,
+      w.fits,
+    )
+
+pub overflow_add-count-in-loop-self : goal.overflow_add-count-in-loop-self
+overflow_add-count-in-loop-self c =
+    let w = c.args.self.now in
+    omega (
+      arith,
+      scan_cost (is_found w.base w.words) w.from (suc w.last - w.from) 0,
+      c.loop-self.invariant.sum,
+      c.count_word-count.ensures.count,
+      c.count_words-count.ensures.count,
       w.fits,
     )
 
