@@ -17,9 +17,9 @@ use Rattle.fts_model.proofs.QueriesBoolean.{matches_in}
 use Rattle.fts_segment.specs.Segments.{SegmentValue, numbers_where}
 use Rattle.fts_segment.proofs.HoldingLemmas.{numbers_where-same}
 use Rattle.fts_cursor.specs.Hits.{is_live, live_hits, segment_hits}
-use Rattle.fts_postings.specs.Meeting.{common, union, without}
+use Rattle.fts_postings.specs.Sets.{common, union, without}
 use Rattle.fts_cursor.specs.TreeValues.{TreeValue, remains}
-use Rattle.fts_postings.proofs.MeetingLemmas.{Rises-filter}
+use Rattle.fts_postings.proofs.SetLemmas.{Rises-filter}
 use Rattle.fts_cursor.proofs.HitsLemmas.{Rises-numbers, has-all, has-filter, hits_apart, hits_common, hits_of, hits_union, numbers_are, test_at}
 
 -- all musts match, and where there is none one of the shoulds

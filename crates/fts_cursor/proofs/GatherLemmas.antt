@@ -11,14 +11,14 @@ use Rattle.fts_pack.specs.Documents.{Rises}
 use Rattle.fts_postings.specs.Fills.{IsStretch}
 use Rattle.fts_postings.specs.Remaining.{at_least}
 use Rattle.fts_postings.specs.Windows.{is_found, passing}
-use Rattle.fts_postings.specs.Meeting.{IsLeast, has, in_some, union, with_all, with_one}
+use Rattle.fts_postings.specs.Sets.{IsLeast, has, in_some, union, with_all, with_one}
 use Rattle.fts_cursor.specs.TreeValues.{Left, TreeContinues, TreeValue, beside, remains, together}
 use Rattle.fts_cursor.specs.Trees.{AreBeyond, AreMarked, IsBuffered, IsNow, found, gathered}
 use Rattle.fts_cursor.specs.declared.tree.buffered_union.BufferedUnion.{BufferedUnion}
 use Rattle.fts_cursor.specs.declared.tree.Node.TheVariants.{Or}
 use Rattle.fts_postings.specs.declared.window.Window.{Window}
 use Rattle.fts_postings.proofs.RemainingLemmas.{Rises-from_increasing, at_least_all, first-at_least, increasing-from_Rises, nothing_first}
-use Rattle.fts_postings.proofs.MeetingLemmas.{Rises-lower, above_is_other, below_is_other, has-at_least, has-before_first, has-below, has-first, has-none, is_itself}
+use Rattle.fts_postings.proofs.SetLemmas.{Rises-lower, above_is_other, below_is_other, has-at_least, has-before_first, has-below, has-first, has-none, is_itself}
 use Rattle.fts_postings.proofs.MarkingLemmas.{at_least_behind, at_least_each, at_least_kept}
 use Rattle.fts_postings.proofs.PassingLemmas.{Rises-passing}
 use Rattle.fts_cursor.proofs.PartsLemmas.{TreeContinues-beside, TreeContinues-same, TreeContinues-together, UpTo, UpTo-next, UpTo-none, union-left}

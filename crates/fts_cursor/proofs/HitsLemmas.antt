@@ -10,14 +10,14 @@ use Rattle.fts_model.proofs.QueriesBoolean.{matches_in}
 use Rattle.fts_segment.specs.Segments.{SegmentValue, numbers_where}
 use Rattle.fts_segment.proofs.HoldingLemmas.{numbers_where-cons}
 use Rattle.fts_cursor.specs.Hits.{segment_hits}
-use Rattle.fts_postings.specs.Meeting.{common, has, in_all, in_some, lacks, union, without}
+use Rattle.fts_postings.specs.Sets.{common, has, in_all, in_some, lacks, union, without}
 use Rattle.fts_postings.specs.Windows.{passing}
 use Rattle.fts_model.specs.declared.operation.Stamped.{Stamped}
 use Rattle.fts_model.specs.declared.schema.Field.{Field}
 use Rattle.fts_model.specs.Documents.{DocumentValue}
 use Rattle.std.proofs.lemmas.Option.{slice_get_past}
 use Rattle.fts_postings.proofs.PassingLemmas.{Rises-passing}
-use Rattle.fts_postings.proofs.MeetingLemmas.{Rises-filter, Rises-lower, above_is_other, has-below, is_itself}
+use Rattle.fts_postings.proofs.SetLemmas.{Rises-filter, Rises-lower, above_is_other, has-below, is_itself}
 use Rattle.fts_postings.proofs.UnionLemmas.{Rises-union, by_order, has-union}
 
 -- whether the element of this number is there, and passes

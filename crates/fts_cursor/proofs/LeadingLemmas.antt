@@ -17,11 +17,11 @@ use Rattle.fts_postings.specs.Conjoined.{AllFollow, Conjoined, bound_of, common_
 use Rattle.fts_postings.specs.Bounds.{Bound}
 use Rattle.fts_cursor.specs.Openings.{bound_of_all, shortest_of}
 use Rattle.fts_cursor.specs.Leading.{IsLed, IsOver}
-use Rattle.fts_postings.specs.Meeting.{common, has, in_all}
+use Rattle.fts_postings.specs.Sets.{common, has, in_all}
 use Rattle.fts_postings.specs.Posting.{Posting, remaining_of}
 use Rattle.fts_cursor.specs.Terms.{AreTied, IsTied}
 use Rattle.fts_cursor.proofs.HitsLemmas.{Rises-hits, at_all, has-filter, hits_of, in_all-hits, numbers_are}
-use Rattle.fts_postings.proofs.MeetingLemmas.{Rises-filter, is_itself}
+use Rattle.fts_postings.proofs.SetLemmas.{Rises-filter, is_itself}
 use Rattle.fts_cursor.proofs.TermsLemmas.{terms-continue}
 
 and_unit : (a : Bool) → (a && true) ≡ a

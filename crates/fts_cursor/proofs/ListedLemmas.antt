@@ -6,10 +6,10 @@ use Rattle.std.proofs.lemmas.Bool.{and_parts, cases_Bool, cases_lt, eqb-true, fa
 use Rattle.std.proofs.lemmas.List.Folds.{list_any-append}
 use Rattle.std.proofs.lemmas.List.{drop-drop, get_or-drop, length-drop}
 use Rattle.std.proofs.lemmas.Option.{get_or_from_slice_get, slice_get-get_or, slice_get_within}
-use Rattle.fts_postings.specs.Meeting.{has, in_some}
+use Rattle.fts_postings.specs.Sets.{has, in_some}
 use Rattle.fts_postings.specs.Remaining.{IsPlaceOf, at_least}
 use Rattle.fts_postings.specs.Windows.{passing}
-use Rattle.fts_postings.proofs.MeetingLemmas.{is_itself}
+use Rattle.fts_postings.proofs.SetLemmas.{is_itself}
 use Rattle.fts_postings.proofs.PassingLemmas.{Rises-drop, Rises-passing}
 use Rattle.fts_postings.proofs.RemainingLemmas.{Rises-from_increasing, at_least_place, increasing-from_Rises}
 use Rattle.fts_segment.specs.Between.{AreBetween}

@@ -23,7 +23,7 @@ use Rattle.fts_cursor.specs.Openings.{blocks_with, bound_for_musts, bound_of_all
 use Rattle.fts_cursor.specs.Standing.{Standing, Walked, at_most}
 use Rattle.fts_cursor.specs.TreeValues.{TreeValue, remains}
 use Rattle.fts_postings.specs.Bounds.{Bound, most_at}
-use Rattle.fts_postings.specs.Meeting.{common, union}
+use Rattle.fts_postings.specs.Sets.{common, union}
 use Rattle.fts_cursor.proofs.BoolHits.{all_kept, kept_by, must_hits, should_hits}
 use Rattle.fts_cursor.proofs.HitsLemmas.{hits_of}
 use Rattle.fts_cursor.proofs.LeadingLemmas.{all_hits}

@@ -6,12 +6,12 @@ use Rattle.std.proofs.lemmas.Bool.{cases_lt}
 use Rattle.std.proofs.lemmas.List.{get_or-set_same, get_or-set_other, length-set, length-map, get_or_default, map-append, take_more_set}
 use Rattle.fts_postings.specs.Bounds.{Bound, most_at}
 use Rattle.fts_postings.specs.Remaining.{at_least}
-use Rattle.fts_postings.specs.Meeting.{IsLeast, has, in_all, union, with_all}
+use Rattle.fts_postings.specs.Sets.{IsLeast, has, in_all, union, with_all}
 use Rattle.fts_postings.specs.Conjoined.{IsAhead}
 use Rattle.fts_cursor.specs.Standing.{at_most}
 use Rattle.fts_cursor.specs.TreeValues.{Left, Narrowed, TreeContinues, TreeValue, beside, heights, remains, together}
 use Rattle.fts_postings.proofs.RemainingLemmas.{at_least-at_least, first-at_least}
-use Rattle.fts_postings.proofs.MeetingLemmas.{has-before_first, has-first, has-none, in_all-lacking, in_all-each, has-at_least}
+use Rattle.fts_postings.proofs.SetLemmas.{has-before_first, has-first, has-none, in_all-lacking, in_all-each, has-at_least}
 use Rattle.fts_postings.proofs.UnionLemmas.{at_least-with_all}
 
 -- the first parts stand in a relation to what they were, and the others are as they were

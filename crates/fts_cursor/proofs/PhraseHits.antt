@@ -23,7 +23,7 @@ use Rattle.fts_cursor.specs.Phrases.{AreMembersOf, is_behind, phrase_at, positio
 use Rattle.fts_segment.specs.ListIds.{documents_in}
 use Rattle.fts_cursor.specs.Hits.{segment_hits}
 use Rattle.fts_postings.specs.Conjoined.{each_remaining}
-use Rattle.fts_postings.specs.Meeting.{common, has, in_all}
+use Rattle.fts_postings.specs.Sets.{common, has, in_all}
 use Rattle.fts_postings.specs.Posting.{Posting, remaining_of}
 use Rattle.fts_cursor.specs.Terms.{AreTied, IsTied}
 use Rattle.fts_model.specs.QueryValues.{phrase}
@@ -31,7 +31,7 @@ use Rattle.std.specs.List.Sorted.{IsStrictlyIncreasing}
 use Rattle.std.specs.List.{All}
 use Rattle.std.proofs.lemmas.List.Elements.{All-cons, All-nil}
 use Rattle.fts_postings.proofs.RemainingLemmas.{increasing-from_Rises}
-use Rattle.fts_postings.proofs.MeetingLemmas.{Rises-filter}
+use Rattle.fts_postings.proofs.SetLemmas.{Rises-filter}
 use Rattle.fts_cursor.proofs.HitsLemmas.{Rises-numbers, has-all, has-filter, numbers_are, test_at}
 use Rattle.fts_cursor.proofs.PhraseLemmas.{IsPaired, none_below}
 

@@ -11,7 +11,7 @@ use Rattle.fts_pack.specs.SourceLaws.{length-blocks_of}
 use Rattle.fts_segment.specs.ListIds.{documents_in}
 use Rattle.fts_cursor.specs.declared.phrase.Member.{Member}
 use Rattle.fts_postings.specs.Conjoined.{AllFollow, Conjoined, common_of}
-use Rattle.fts_postings.specs.Meeting.{FirstPasses}
+use Rattle.fts_postings.specs.Sets.{FirstPasses}
 use Rattle.fts_cursor.specs.Phrases.{AreMembersOf, IsPhrase, phrase_at, positions_at, rank}
 use Rattle.fts_postings.specs.Posting.{Follows, Posting}
 use Rattle.fts_cursor.specs.Standing.{Continues}

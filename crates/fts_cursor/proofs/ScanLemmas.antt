@@ -15,7 +15,7 @@ use Rattle.fts_postings.specs.Windows.{passing}
 use Rattle.fts_cursor.specs.declared.kept.Kept.{Kept}
 use Rattle.fts_cursor.specs.declared.kept.Kept.TheVariants.{Every}
 use Rattle.fts_postings.proofs.RemainingLemmas.{Rises-front, at_least-append, at_least_all, at_least_place}
-use Rattle.fts_postings.proofs.MeetingLemmas.{filter-at_least}
+use Rattle.fts_postings.proofs.SetLemmas.{filter-at_least}
 use Rattle.fts_postings.proofs.PostingLemmas.{all_below}
 use Rattle.fts_postings.proofs.PassingLemmas.{range-append, passing-append, Rises-drop, Rises-passing}
 

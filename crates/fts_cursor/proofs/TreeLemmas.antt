@@ -6,7 +6,7 @@ use Rattle.std.proofs.lemmas.Bool.{cases_lt, le-leb, lt-leb, false≢true}
 use Rattle.fts_pack.specs.Documents.{Rises}
 use Rattle.fts_postings.specs.Bounds.{most_at}
 use Rattle.fts_postings.specs.Remaining.{at_least}
-use Rattle.fts_postings.specs.Meeting.{IsLeast, common, has, in_all, in_some, lacks, union, without}
+use Rattle.fts_postings.specs.Sets.{IsLeast, common, has, in_all, in_some, lacks, union, without}
 use Rattle.fts_cursor.specs.Standing.{Standing, Walked}
 use Rattle.fts_cursor.specs.TreeValues.{Left, Narrowed, TreeContinues, TreeValue, all_most, all_openings, beside, remains, together}
 use Rattle.fts_postings.specs.Conjoined.{IsAhead}
@@ -19,7 +19,7 @@ use Rattle.fts_cursor.specs.declared.tree.intersection.Intersection.{Intersectio
 use Rattle.fts_cursor.specs.declared.tree.Node.{Node}
 use Rattle.fts_cursor.specs.declared.tree.Node.TheVariants.{And}
 use Rattle.fts_postings.proofs.RemainingLemmas.{Rises-from_increasing, increasing-from_Rises, fewer-at_least, first-at_least, at_least_all, nothing_first}
-use Rattle.fts_postings.proofs.MeetingLemmas.{FirstPasses-first, filter-past, Rises-from_first, filter-ahead, filter-first, filter-none, filter-rises, filter-same, has-at_least, has-before_first, has-first, has-none, is_itself}
+use Rattle.fts_postings.proofs.SetLemmas.{FirstPasses-first, filter-past, Rises-from_first, filter-ahead, filter-first, filter-none, filter-rises, filter-same, has-at_least, has-before_first, has-first, has-none, is_itself}
 use Rattle.fts_cursor.proofs.PartsLemmas.{TreeContinues-beside, TreeContinues-together, TreeContinues-trans, LeftUpTo, UpTo-next, in_all-narrowed, remains-more}
 use Rattle.fts_postings.proofs.UnionLemmas.{Rises-union, has-union}
 

@@ -9,10 +9,10 @@ use Rattle.fts_pack.specs.Documents.{Rises, documents_at}
 use Rattle.fts_segment.specs.declared.positions.Positions.{Positions}
 use Rattle.fts_segment.specs.PositionLists.{numbers_behind}
 use Rattle.fts_segment.specs.PositionsLeft.{positions_left}
-use Rattle.fts_postings.specs.Meeting.{has}
+use Rattle.fts_postings.specs.Sets.{has}
 use Rattle.fts_postings.specs.Remaining.{at_least}
 use Rattle.fts_postings.proofs.RemainingLemmas.{Rises-from_increasing, increasing-from_Rises, at_least_all}
-use Rattle.fts_postings.proofs.MeetingLemmas.{has-at_least, has-below}
+use Rattle.fts_postings.proofs.SetLemmas.{has-at_least, has-below}
 use Rattle.fts_cursor.specs.Walks.{left_from}
 
 -- what is made of differences rises

@@ -1,7 +1,7 @@
 -- Rising lists of documents of which the shortest leads.
 use Rattle.std.specs.Prelude.{◌≡◌, ℕ, suc, ◌<◌, ◌≤◌, List, ◌∷◌, length}
 use Rattle.fts_pack.specs.Documents.{Rises, blocks_of}
-use Rattle.fts_postings.specs.Meeting.{in_all}
+use Rattle.fts_postings.specs.Sets.{in_all}
 use Rattle.fts_postings.specs.Posting.{Posting, remaining_of}
 use Rattle.fts_cursor.specs.Openings.{shortest_of}
 use Rattle.fts_cursor.specs.Terms.{IsTied}

@@ -2,7 +2,7 @@
 use Rattle.std.specs.Prelude.{Bool, List, Option, Some, None, filter}
 use Rattle.std.specs.Borrow.{Bor}
 use Rattle.fts_cursor.specs.Hits.{is_live}
-use Rattle.fts_postings.specs.Meeting.{FirstPasses}
+use Rattle.fts_postings.specs.Sets.{FirstPasses}
 use Rattle.fts_cursor.specs.Standing.{Standing}
 
 -- what remains of a cursor under bits, if there are some

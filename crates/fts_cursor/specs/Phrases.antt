@@ -7,7 +7,7 @@ use Rattle.fts_pack.specs.Documents.{blocks_of}
 use Rattle.fts_segment.specs.ListIds.{documents_in}
 use Rattle.fts_cursor.specs.declared.phrase.Member.{Member}
 use Rattle.fts_postings.specs.Conjoined.{Conjoined, common_of}
-use Rattle.fts_postings.specs.Meeting.{FirstPasses}
+use Rattle.fts_postings.specs.Sets.{FirstPasses}
 use Rattle.fts_cursor.specs.Terms.{AreTied}
 
 -- how many of these are before a document

@@ -5,7 +5,7 @@ use Rattle.std.specs.List.{filter}
 use Rattle.std.specs.List.Sorted.{IsStrictlyIncreasing}
 use Rattle.fts_postings.specs.Posting.{blocks_reached, remaining_of}
 use Rattle.fts_postings.specs.Conjoined.{common_of}
-use Rattle.fts_postings.specs.Meeting.{FirstPasses, common, has, in_all, in_some, lacks, union, without}
+use Rattle.fts_postings.specs.Sets.{FirstPasses, common, has, in_all, in_some, lacks, union, without}
 use Rattle.fts_cursor.specs.Standing.{at_most}
 use Rattle.fts_cursor.specs.Terms.{AreTied, IsTied, of_terms}
 use Rattle.fts_cursor.specs.TreeValues.{TreeValue, beside, leaf, remains, together}

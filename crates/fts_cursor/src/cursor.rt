@@ -3,7 +3,7 @@ ghost use Rattle.std.specs.Prelude.{◌≡◌, ◌-◌, ◌^◌, ◌≤◌, true
 ghost use Rattle.std.specs.Prelude.{take};
 ghost use Rattle.fts_cursor.specs.Hits.{is_live};
 ghost use Rattle.fts_postings.specs.Bounds.{most_at};
-ghost use Rattle.fts_postings.specs.Meeting.{FirstPasses};
+ghost use Rattle.fts_postings.specs.Sets.{FirstPasses};
 ghost use Rattle.fts_postings.specs.Remaining.{at_least};
 ghost use Rattle.fts_cursor.specs.Standing.{Continues, Walked};
 

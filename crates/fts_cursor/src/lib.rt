@@ -19,18 +19,18 @@
 //! ```
 #![tactic(auto)]
 
-mod build;
 mod cursor;
 mod kept;
 mod listed;
 mod phrase;
 mod position_cursor;
+mod query_tree;
 mod range;
 mod scan;
 mod terms;
 mod tree;
 mod walk;
 
-pub use build::cursor_of;
+pub use query_tree::cursor_of;
 pub use cursor::Cursor;
 pub use fts_postings::{Conjunction, DocSet, PostingCursor};

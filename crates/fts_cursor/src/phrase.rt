@@ -7,7 +7,7 @@ ghost use Rattle.fts_model.specs.QueryValues.{phrase};
 ghost use Rattle.fts_cursor.specs.declared.phrase.Member.{Member};
 ghost use Rattle.fts_postings.specs.Bounds.{most_at};
 ghost use Rattle.fts_postings.specs.Conjoined.{AllFollow, common_of};
-ghost use Rattle.fts_postings.specs.Meeting.{FirstPasses};
+ghost use Rattle.fts_postings.specs.Sets.{FirstPasses};
 ghost use Rattle.fts_cursor.specs.Phrases.{AreMembersOf, is_behind, phrase_at};
 ghost use Rattle.fts_postings.specs.Remaining.{at_least};
 ghost use Rattle.fts_cursor.specs.Standing.{Continues, Walked};

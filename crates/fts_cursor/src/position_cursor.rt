@@ -1,6 +1,6 @@
 // The positions of a term, of which one after the other is asked for.
 ghost use Rattle.std.specs.Prelude.{◌≡◌, [], slice_index_or};
-ghost use Rattle.fts_postings.specs.Meeting.{has};
+ghost use Rattle.fts_postings.specs.Sets.{has};
 ghost use Rattle.fts_segment.specs.PositionsLeft.{positions_left};
 
 use crate::walk::Walk;

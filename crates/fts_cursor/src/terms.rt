@@ -10,7 +10,7 @@ ghost use Rattle.fts_cursor.specs.Hits.{segment_hits};
 ghost use Rattle.fts_cursor.specs.Leading.{IsLed, IsOver};
 ghost use Rattle.fts_cursor.specs.Openings.{bound_of_all};
 ghost use Rattle.fts_postings.specs.Bounds.{most_at};
-ghost use Rattle.fts_postings.specs.Meeting.{in_all};
+ghost use Rattle.fts_postings.specs.Sets.{in_all};
 
 use crate::tree::Tree;
 use fts_model::Query;

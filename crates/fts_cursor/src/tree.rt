@@ -4,7 +4,7 @@ ghost use Rattle.std.specs.Prelude.{slice_get, take};
 ghost use Rattle.std.specs.List.Sorted.{IsStrictlyIncreasing};
 ghost use Rattle.fts_postings.specs.Bounds.{most_at};
 ghost use Rattle.fts_postings.specs.Conjoined.{bound_of, common_of, counts_of};
-ghost use Rattle.fts_postings.specs.Meeting.{common, has, union, without};
+ghost use Rattle.fts_postings.specs.Sets.{common, has, union, without};
 ghost use Rattle.fts_cursor.specs.Scans.{AreFor, kept_from};
 ghost use Rattle.fts_postings.specs.Remaining.{at_least};
 ghost use Rattle.fts_cursor.specs.Standing.{Walked, at_most};

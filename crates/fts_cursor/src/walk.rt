@@ -1,6 +1,6 @@
 // Positions that are gone through forward only.
 ghost use Rattle.std.specs.Prelude.{◌≡◌};
-ghost use Rattle.fts_postings.specs.Meeting.{has};
+ghost use Rattle.fts_postings.specs.Sets.{has};
 ghost use Rattle.fts_postings.specs.Remaining.{at_least};
 ghost use Rattle.fts_segment.specs.PositionsLeft.{positions_left};
 

@@ -11,10 +11,10 @@ use Rattle.fts_pack.specs.Documents.{Rises}
 use Rattle.fts_postings.specs.Bounds.{Bound, most_at, reached}
 use Rattle.fts_postings.specs.Posting.{Follows, Posting, members_of, remaining_of}
 use Rattle.fts_postings.specs.Remaining.{at_least}
-use Rattle.fts_postings.specs.Meeting.{FirstPasses, has, in_all, common}
+use Rattle.fts_postings.specs.Sets.{FirstPasses, has, in_all, common}
 use Rattle.fts_postings.specs.Conjoined.{AllFollow, Conjoined, Sought, StandAt, StandTogether, Brought, IsAhead, MayBeBrought, AreFew, common_of, bound_of, each_remaining, members_reached, openings_of}
 use Rattle.fts_postings.proofs.RemainingLemmas.{Rises-from_increasing, at_least-at_least, first-at_least, fewer-at_least}
-use Rattle.fts_postings.proofs.MeetingLemmas.{has-before_first, has-first, has-none, in_all-lacking, in_all-each, has-at_least, filter-first, filter-same, filter-ahead, filter-none, Rises-from_first}
+use Rattle.fts_postings.proofs.SetLemmas.{has-before_first, has-first, has-none, in_all-lacking, in_all-each, has-at_least, filter-first, filter-same, filter-ahead, filter-none, Rises-from_first}
 use Rattle.fts_postings.proofs.PostingLemmas.{Follows-same, Follows-trans, members-split, remaining_within}
 
 -- the first cursors were brought to the document, and have it

@@ -4,7 +4,7 @@ use Rattle.std.specs.Prelude.{if◌then◌else◌}
 use Rattle.std.specs.List.{filter, flat_map, range_with_len}
 use Rattle.std.proofs.lemmas.List.{length-append, length-drop}
 use Rattle.std.proofs.lemmas.List.Sums.{count_by-le-length, length-filter}
-use Rattle.fts_postings.specs.Meeting.{with_all, with_one}
+use Rattle.fts_postings.specs.Sets.{with_all, with_one}
 use Rattle.fts_postings.specs.Posting.{Posting, here, remaining_of}
 use Rattle.fts_postings.specs.Windows.{passing}
 use Rattle.fts_postings.proofs.PostingLemmas.{split_block}

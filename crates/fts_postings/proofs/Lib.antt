@@ -1,7 +1,7 @@
 pub mod RemainingLemmas
 pub mod FillLemmas
 pub mod PostingLemmas
-pub mod MeetingLemmas
+pub mod SetLemmas
 pub mod PassingLemmas
 pub mod CostLemmas
 pub mod ConjoinedLemmas

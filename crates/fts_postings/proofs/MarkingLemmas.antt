@@ -7,7 +7,7 @@ use Rattle.std.proofs.lemmas.List.{drop-take, get_or-take, get_or_append_left, g
 use Rattle.std.proofs.lemmas.List.Elements.{All-cons, All-nil}
 use Rattle.std.proofs.lemmas.List.Folds.{list_any-append}
 use Rattle.fts_pack.specs.Documents.{Rises}
-use Rattle.fts_postings.specs.Meeting.{has, with_one}
+use Rattle.fts_postings.specs.Sets.{has, with_one}
 use Rattle.fts_postings.specs.Posting.{IsPosting, Posting, here, remaining_of}
 use Rattle.fts_postings.specs.Remaining.{at_least}
 use Rattle.fts_postings.proofs.PostingLemmas.{Rises-place, stands_within}

@@ -6,7 +6,7 @@ use Rattle.std.proofs.lemmas.List.Elements.{filter-append}
 use Rattle.fts_pack.specs.Documents.{Rises}
 use Rattle.fts_postings.specs.Windows.{passing}
 use Rattle.fts_postings.proofs.RemainingLemmas.{increasing-from_Rises}
-use Rattle.fts_postings.proofs.MeetingLemmas.{Rises-filter}
+use Rattle.fts_postings.proofs.SetLemmas.{Rises-filter}
 
 pub range-append : (a m n : ℕ) → range_with_len a (m + n) ≡ range_with_len a m ++ range_with_len (a + m) n
 range-append a zero n =

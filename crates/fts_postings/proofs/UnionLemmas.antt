@@ -5,8 +5,8 @@ use Rattle.std.specs.List.Sorted.{IsStrictlyIncreasing}
 use Rattle.std.proofs.lemmas.Bool.{cases_lt, lt-ltb, le-ltb, le-leb, lt-leb, false≢true}
 use Rattle.fts_pack.specs.Documents.{Rises}
 use Rattle.fts_postings.specs.Remaining.{at_least}
-use Rattle.fts_postings.specs.Meeting.{IsLeast, has, in_some, lesser_of, union, with_all, with_one}
-use Rattle.fts_postings.proofs.MeetingLemmas.{below_is_other, is_itself, has-below, has-before_first, has-first, has-none}
+use Rattle.fts_postings.specs.Sets.{IsLeast, has, in_some, lesser_of, union, with_all, with_one}
+use Rattle.fts_postings.proofs.SetLemmas.{below_is_other, is_itself, has-below, has-before_first, has-first, has-none}
 
 below : (d x : ℕ) (xs : List ℕ) → d < x → with_one d (x ∷ xs) ≡ d ∷ (x ∷ xs)
 below d x xs h = ap (λ b. cond b (d ∷ (x ∷ xs)) (cond (d == x) (x ∷ xs) (x ∷ with_one d xs))) (lt-ltb d x h)

@@ -6,7 +6,7 @@ use Rattle.std.proofs.lemmas.List.{get_or-replicate, get_or-set_other, get_or-se
 use Rattle.std.specs.Int.RustNames.{bit_and, bit_or}
 use Rattle.std.proofs.lemmas.Nat.Bits.{bit_at_and, bit_at-lt, bit_at-zero, bit_at-trailing_zeros, bit_at_mask_below, bit_at_mask_inside, bit_at_set_other, bit_at_set_same}
 use Rattle.fts_pack.specs.Documents.{Rises}
-use Rattle.fts_postings.specs.Meeting.{with_one}
+use Rattle.fts_postings.specs.Sets.{with_one}
 use Rattle.fts_postings.specs.Remaining.{at_least}
 use Rattle.fts_postings.specs.declared.window.Window.{Window}
 use Rattle.fts_postings.specs.Windows.{found_in, is_found, is_marked, marked, passing}

@@ -3,7 +3,7 @@ use Rattle.std.specs.Prelude.{◌≡◌, ℕ, ◌+◌, ◌-◌, ◌<◌, ◌≤�
 use Rattle.std.specs.Prelude.{slice_get}
 use Rattle.std.specs.List.{AllZip, sum_by}
 use Rattle.fts_postings.specs.Bounds.{Bound}
-use Rattle.fts_postings.specs.Meeting.{common, in_all}
+use Rattle.fts_postings.specs.Sets.{common, in_all}
 use Rattle.fts_postings.specs.Posting.{Follows, Posting, members_of, remaining_of}
 use Rattle.fts_postings.specs.Remaining.{at_least}
 

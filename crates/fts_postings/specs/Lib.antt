@@ -2,6 +2,6 @@ pub mod Remaining
 pub mod Fills
 pub mod Posting
 pub mod Bounds
-pub mod Meeting
+pub mod Sets
 pub mod Conjoined
 pub mod Windows

@@ -5,7 +5,7 @@ ghost use Rattle.std.specs.List.{AllZip};
 ghost use Rattle.fts_postings.specs.Conjoined.{AllFollow, AreFew, Brought, IsAhead, MayBeBrought, StandAt};
 ghost use Rattle.fts_postings.specs.Conjoined.{StandTogether, bound_of, common_of, each_remaining, openings_of};
 ghost use Rattle.fts_postings.specs.Bounds.{most_at};
-ghost use Rattle.fts_postings.specs.Meeting.{common};
+ghost use Rattle.fts_postings.specs.Sets.{common};
 ghost use Rattle.fts_pack.specs.Documents.{blocks_of};
 ghost use Rattle.fts_postings.specs.Posting.{Follows, Posting, remaining_of};
 ghost use Rattle.fts_postings.specs.Remaining.{at_least};

@@ -4,7 +4,7 @@ ghost use Rattle.std.specs.Prelude.{◌||◌, All, if◌then◌else◌, nat_lt, 
 ghost use Rattle.std.specs.List.Sorted.{IsStrictlyIncreasing};
 ghost use Rattle.fts_pack.specs.Documents.{blocks_of, last_of};
 ghost use Rattle.fts_postings.specs.Fills.{IsStretch};
-ghost use Rattle.fts_postings.specs.Meeting.{has};
+ghost use Rattle.fts_postings.specs.Sets.{has};
 ghost use Rattle.fts_postings.specs.Posting.{Follows, Walks, blocks_reached, here, members_of, opened_by_step};
 ghost use Rattle.fts_postings.specs.Posting.{remaining_of};
 ghost use Rattle.fts_postings.specs.Remaining.{at_least, IsPlaceOf};

@@ -2,7 +2,7 @@
 ghost use Rattle.std.specs.Prelude.{◌≡◌, ℕ, ◌+◌, ◌^◌, ◌<◌, ◌≤◌, ◌∷◌, ◌||◌, [], All, IfSome, MatchBool, drop, false};
 ghost use Rattle.std.specs.Prelude.{◌-◌, ◌%◌, length, slice_get, slice_index, take, true};
 ghost use Rattle.std.specs.List.Sorted.{IsStrictlyIncreasing};
-ghost use Rattle.fts_postings.specs.Meeting.{has, with_one};
+ghost use Rattle.fts_postings.specs.Sets.{has, with_one};
 ghost use Rattle.fts_postings.specs.Remaining.{at_least};
 ghost use Rattle.fts_postings.specs.Fills.{IsStretch};
 ghost use Rattle.fts_postings.specs.Windows.{found_in, is_found};

@@ -1,5 +1,5 @@
 // The dictionary: the terms that occur, in order, each with the list of its documents and its positions in them.
-use crate::find::find_name;
+use crate::lookup::find_name;
 use crate::names::Names;
 use crate::occurrences::logged;
 use crate::segment::ListId;

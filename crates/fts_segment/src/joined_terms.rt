@@ -9,9 +9,9 @@ ghost use Rattle.fts_segment.specs.Parts.{AreParts, IsPart};
 ghost use Rattle.fts_segment.specs.Sources.{contents, live_count, HasBits};
 
 use crate::dictionary::Dictionary;
-use crate::joining::join_parts;
+use crate::term_join::join_parts;
 use crate::part::Part;
-use crate::renumbering::NewNumbers;
+use crate::new_numbers::NewNumbers;
 use crate::source::Source;
 use fts_model::Kind;
 use std::alloc::{AllocError, Global};

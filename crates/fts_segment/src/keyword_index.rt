@@ -11,7 +11,7 @@ ghost use Rattle.fts_segment.specs.Sorted.{Ascends};
 ghost use Rattle.fts_segment.specs.Between.{AreBetween};
 
 use crate::dictionary::Dictionary;
-use crate::find::find_name;
+use crate::lookup::find_name;
 use crate::names::Names;
 use fts_column::Column;
 use fts_model::{Document, FieldValue, Kind, Stamped};

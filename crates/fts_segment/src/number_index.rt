@@ -11,7 +11,7 @@ ghost use Rattle.fts_segment.specs.ListIds.{documents_in, positions_in};
 ghost use Rattle.fts_segment.specs.NumberLogs.{NumberLog};
 ghost use Rattle.fts_segment.specs.Between.{AreBetween, NumberColumn};
 
-use crate::find::{find_number, place_behind, place_of_number};
+use crate::lookup::{find_number, place_behind, place_of_number};
 use crate::postings_writer::set_docs;
 use crate::segment::ListId;
 use crate::term_groups::TermGroups;

@@ -5,9 +5,9 @@ ghost use Rattle.fts_segment.specs.PositionListLogs.{IsPositionListLog};
 ghost use Rattle.fts_segment.specs.Puts.{Puts};
 
 use crate::dictionary::Dictionary;
-use crate::moving::move_postings;
+use crate::moves::move_postings;
 use crate::position_lists::PositionListLog;
-use crate::renumbering::NewNumbers;
+use crate::new_numbers::NewNumbers;
 use crate::unpacked_lists::UnpackedLists;
 use std::alloc::AllocError;
 use std::marker::Model;

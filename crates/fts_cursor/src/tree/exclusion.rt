@@ -1,6 +1,6 @@
 // What one cursor has and another doesn't.
 ghost use Rattle.std.specs.Prelude.{◌≡◌, ◌≢◌, MatchBool};
-ghost use Rattle.fts_postings.specs.Meeting.{lacks};
+ghost use Rattle.fts_postings.specs.Sets.{lacks};
 ghost use Rattle.fts_cursor.specs.TreeValues.{TreeContinues};
 ghost use Rattle.fts_cursor.specs.Trees.{Met, differ, tree_value};
 

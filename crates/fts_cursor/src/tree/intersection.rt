@@ -1,7 +1,7 @@
 // What several cursors have in common: one of them leads, and the others are sought for its documents.
 ghost use Rattle.std.specs.List.{AllZip};
 ghost use Rattle.fts_postings.specs.Conjoined.{IsAhead};
-ghost use Rattle.fts_postings.specs.Meeting.{in_all};
+ghost use Rattle.fts_postings.specs.Sets.{in_all};
 ghost use Rattle.fts_cursor.specs.TreeValues.{Narrowed, TreeContinues, remains};
 ghost use Rattle.fts_cursor.specs.Trees.{Met, meet, tree_value};
 

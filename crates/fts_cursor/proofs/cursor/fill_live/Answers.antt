@@ -3,7 +3,7 @@ use Rattle.std.proofs.Common.{take, ap, ◌∙◌, arith}
 use Rattle.std.specs.List.{filter}
 use Rattle.fts_cursor.specs.Hits.{is_live}
 use Rattle.fts_postings.proofs.FillLemmas.{Taken-count, Taken-front, Taken-left, Taken-more, full-front, full-left}
-use Rattle.fts_postings.proofs.MeetingLemmas.{filter-first, filter-step}
+use Rattle.fts_postings.proofs.SetLemmas.{filter-first, filter-step}
 use Rattle.fts_cursor.proofs.LiveLemmas.{Taken-live}
 use Rattle.fts_cursor.proofs.TreeLemmas.{Walked-trans}
 use Rattle.fts_cursor.proofs.cursor.fill_live.Goals as goal

@@ -2,7 +2,7 @@
 use Rattle.std.proofs.Common.{◌≤◌}
 use Rattle.std.specs.List.{filter}
 use Rattle.fts_cursor.specs.Hits.{is_live}
-use Rattle.fts_postings.specs.Meeting.{FirstPasses}
+use Rattle.fts_postings.specs.Sets.{FirstPasses}
 use Rattle.fts_cursor.specs.Standing.{Walked}
 use Rattle.fts_postings.proofs.FillLemmas.{Taken}
 use Rattle.fts_cursor.proofs.cursor.fill_live.Given as goal

@@ -5,7 +5,7 @@ use Rattle.fts_cursor.specs.declared.phrase.Member.{Member}
 use Rattle.fts_postings.specs.Conjoined.{common_of}
 use Rattle.fts_cursor.specs.Phrases.{phrase_at}
 use Rattle.fts_postings.proofs.ConjoinedLemmas.{AllFollow-same, AllFollow-trans}
-use Rattle.fts_postings.proofs.MeetingLemmas.{dead_passed}
+use Rattle.fts_postings.proofs.SetLemmas.{dead_passed}
 use Rattle.fts_cursor.proofs.PhraseLemmas.{members-follow}
 use Rattle.fts_cursor.proofs.phrase.settle.Goals as goal
 

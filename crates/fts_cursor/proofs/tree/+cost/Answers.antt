@@ -1,7 +1,7 @@
 -- A sum goes on by one part, a part isn't as deep as all, and what is found is some of what leads.
 use Rattle.std.proofs.Common.{◌≡◌, ◌*◌, ◌<◌, List, length, ap, sym, ◌∙◌, arith}
 use Rattle.std.proofs.lemmas.List.{take_all}
-use Rattle.fts_postings.specs.Meeting.{in_all, lacks, union}
+use Rattle.fts_postings.specs.Sets.{in_all, lacks, union}
 use Rattle.fts_cursor.specs.TreeValues.{TreeValue, remains}
 use Rattle.fts_cursor.specs.Trees.{found, tree_value, value_of}
 use Rattle.fts_cursor.specs.declared.tree.Node.TheVariants.{And, Or, Without}

@@ -2,9 +2,9 @@
 use Rattle.std.proofs.Common.{◌≡◌, ℕ, [], ◌∷◌, Some, None, ◌+◌, ◌*◌, ◌<◌, ap, subst, sym, ◌∙◌, refl, arith, drop, length, get_or}
 use Rattle.std.specs.List.{AllZip, filter, slice_get}
 use Rattle.std.specs.List.Sorted.{IsStrictlyIncreasing}
-use Rattle.fts_postings.proofs.MeetingLemmas.{filter-at_least}
+use Rattle.fts_postings.proofs.SetLemmas.{filter-at_least}
 use Rattle.std.proofs.lemmas.List.{with_items_is}
-use Rattle.fts_postings.specs.Meeting.{IsLeast, common, in_all, in_some, lacks, union}
+use Rattle.fts_postings.specs.Sets.{IsLeast, common, in_all, in_some, lacks, union}
 use Rattle.fts_cursor.specs.TreeValues.{Left, Narrowed, TreeContinues, TreeValue, heights, remains}
 use Rattle.fts_cursor.specs.Terms.{AreTied}
 use Rattle.fts_cursor.specs.Trees.{AreMarked, IsBuffered, IsNow, found, gathered, tree_value, value_of}

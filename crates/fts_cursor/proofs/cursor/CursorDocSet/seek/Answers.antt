@@ -4,7 +4,7 @@ use Rattle.std.specs.List.{filter}
 use Rattle.fts_cursor.specs.Hits.{is_live}
 use Rattle.fts_cursor.specs.Live.{of_live}
 use Rattle.fts_postings.specs.Remaining.{at_least}
-use Rattle.fts_postings.proofs.MeetingLemmas.{filter-at_least}
+use Rattle.fts_postings.proofs.SetLemmas.{filter-at_least}
 use Rattle.fts_cursor.proofs.cursor.CursorDocSet.seek.Goals as goal
 
 pub returns-in-Some-clause-remaining : goal.returns-in-Some-clause-remaining

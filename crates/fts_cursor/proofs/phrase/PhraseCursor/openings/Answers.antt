@@ -3,7 +3,7 @@ use Rattle.std.proofs.Common.{◌-◌, ◌^◌, ◌≤◌, ◌∷◌, min, ap, s
 use Rattle.std.specs.List.{slice_get}
 use Rattle.fts_postings.specs.Bounds.{most_at}
 use Rattle.fts_postings.specs.Conjoined.{bound_of, common_of, counts_of}
-use Rattle.fts_postings.proofs.MeetingLemmas.{filter-first}
+use Rattle.fts_postings.proofs.SetLemmas.{filter-first}
 use Rattle.fts_cursor.specs.Phrases.{phrase_at}
 use Rattle.fts_cursor.proofs.TermsLemmas.{terms-tied}
 use Rattle.fts_cursor.proofs.phrase.PhraseCursor.openings.Goals as goal

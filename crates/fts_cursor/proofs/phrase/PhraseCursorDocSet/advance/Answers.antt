@@ -5,7 +5,7 @@ use Rattle.std.proofs.lemmas.List.{with_items_is}
 use Rattle.fts_cursor.specs.declared.phrase.Member.{Member}
 use Rattle.fts_postings.specs.Conjoined.{common_of}
 use Rattle.fts_cursor.specs.Phrases.{phrase_at}
-use Rattle.fts_postings.proofs.MeetingLemmas.{filter-step}
+use Rattle.fts_postings.proofs.SetLemmas.{filter-step}
 use Rattle.fts_cursor.proofs.PhraseLemmas.{PhraseMoved, members-follow, phrase-moved}
 use Rattle.fts_cursor.proofs.phrase.PhraseCursorDocSet.advance.Goals.{After-settle}
 use Rattle.fts_cursor.proofs.phrase.PhraseCursorDocSet.advance.Goals as goal

@@ -4,7 +4,7 @@ use Rattle.std.specs.List.Sorted.{IsStrictlyIncreasing}
 use Rattle.fts_postings.specs.Conjoined.{common_of}
 use Rattle.fts_cursor.specs.Phrases.{phrase_at}
 use Rattle.fts_cursor.specs.Standing.{Standing}
-use Rattle.fts_postings.proofs.MeetingLemmas.{filter-rises}
+use Rattle.fts_postings.proofs.SetLemmas.{filter-rises}
 use Rattle.fts_cursor.proofs.phrase.PhraseCursorDocSet.doc.Goals as goal
 
 pub returns-clause-rises : goal.returns-clause-rises

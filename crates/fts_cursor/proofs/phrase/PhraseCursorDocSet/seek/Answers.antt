@@ -6,7 +6,7 @@ use Rattle.fts_cursor.specs.declared.phrase.Member.{Member}
 use Rattle.fts_postings.specs.Conjoined.{common_of}
 use Rattle.fts_cursor.specs.Phrases.{phrase_at}
 use Rattle.fts_postings.specs.Remaining.{at_least}
-use Rattle.fts_postings.proofs.MeetingLemmas.{filter-at_least}
+use Rattle.fts_postings.proofs.SetLemmas.{filter-at_least}
 use Rattle.fts_cursor.proofs.PhraseLemmas.{PhraseMoved, members-follow, phrase-moved}
 use Rattle.fts_cursor.proofs.phrase.PhraseCursorDocSet.seek.Goals.{After-settle}
 use Rattle.fts_cursor.proofs.phrase.PhraseCursorDocSet.seek.Goals as goal

@@ -1,7 +1,7 @@
 -- The window is empty at first, so the parts have all.
 use Rattle.std.proofs.Common.{◌≡◌, ℕ, List, Option, subst, arith, ap, ◌∙◌}
 use Rattle.std.proofs.lemmas.Result.{IfOk-weaker}
-use Rattle.fts_postings.specs.Meeting.{union}
+use Rattle.fts_postings.specs.Sets.{union}
 use Rattle.fts_postings.specs.Remaining.{at_least}
 use Rattle.fts_cursor.specs.TreeValues.{TreeValue, remains}
 use Rattle.fts_cursor.specs.Trees.{IsNow, tree_value}

@@ -1,6 +1,6 @@
 -- The first that is left tells whether the position is there.
 use Rattle.std.proofs.Common.{ℕ, ◌≤◌, ◌==◌, ◌∷◌, Option, ap, subst, sym, ◌∙◌, arith}
-use Rattle.fts_postings.specs.Meeting.{has}
+use Rattle.fts_postings.specs.Sets.{has}
 use Rattle.fts_postings.specs.Remaining.{at_least}
 use Rattle.fts_segment.specs.PositionsLeft.{positions_left}
 use Rattle.fts_cursor.specs.Walks.{left_from}

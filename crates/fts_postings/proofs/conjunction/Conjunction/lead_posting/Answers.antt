@@ -2,10 +2,10 @@
 use Rattle.std.proofs.Common.{ap, ◌∙◌}
 use Rattle.std.specs.List.{slice_get}
 use Rattle.fts_postings.specs.Conjoined.{each_remaining}
-use Rattle.fts_postings.specs.Meeting.{in_all}
+use Rattle.fts_postings.specs.Sets.{in_all}
 use Rattle.fts_postings.specs.Posting.{remaining_of}
 use Rattle.fts_postings.proofs.ConjoinedLemmas.{together-passes}
-use Rattle.fts_postings.proofs.MeetingLemmas.{filter-first}
+use Rattle.fts_postings.proofs.SetLemmas.{filter-first}
 use Rattle.fts_postings.proofs.conjunction.Conjunction.lead_posting.Goals as goal
 
 pub returns : goal.returns

@@ -2,9 +2,9 @@
 use Rattle.std.proofs.Common.{ap, ap₂, ◌∙◌, arith, drop}
 use Rattle.std.proofs.lemmas.List.{with_items_is}
 use Rattle.fts_postings.specs.Posting.{remaining_of}
-use Rattle.fts_postings.specs.Meeting.{common, in_all}
+use Rattle.fts_postings.specs.Sets.{common, in_all}
 use Rattle.fts_postings.specs.Conjoined.{common_of, each_remaining}
-use Rattle.fts_postings.proofs.MeetingLemmas.{filter-step}
+use Rattle.fts_postings.proofs.SetLemmas.{filter-step}
 use Rattle.fts_postings.proofs.ConjoinedLemmas.{MayBeBrought-advanced, together-passes}
 use Rattle.fts_postings.proofs.conjunction.ConjunctionDocSet.advance.Goals as goal
 

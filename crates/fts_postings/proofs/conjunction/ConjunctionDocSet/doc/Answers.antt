@@ -4,9 +4,9 @@ use Rattle.std.specs.List.{slice_get}
 use Rattle.std.specs.List.Sorted.{IsStrictlyIncreasing}
 use Rattle.fts_postings.specs.Posting.{remaining_of}
 use Rattle.fts_postings.specs.Conjoined.{Conjoined, common_of, each_remaining}
-use Rattle.fts_postings.specs.Meeting.{in_all}
+use Rattle.fts_postings.specs.Sets.{in_all}
 use Rattle.fts_postings.proofs.ConjoinedLemmas.{together-passes}
-use Rattle.fts_postings.proofs.MeetingLemmas.{filter-first, filter-rises}
+use Rattle.fts_postings.proofs.SetLemmas.{filter-first, filter-rises}
 use Rattle.fts_postings.proofs.conjunction.ConjunctionDocSet.doc.Goals as goal
 
 pub returns-clause-first : goal.returns-clause-first

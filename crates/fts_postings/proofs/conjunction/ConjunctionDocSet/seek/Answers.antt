@@ -3,11 +3,11 @@ use Rattle.std.proofs.Common.{ap, ap₂, sym, ◌∙◌, arith}
 use Rattle.std.proofs.lemmas.List.{with_items_is}
 use Rattle.fts_postings.specs.Posting.{remaining_of}
 use Rattle.fts_postings.specs.Remaining.{at_least}
-use Rattle.fts_postings.specs.Meeting.{common, in_all}
+use Rattle.fts_postings.specs.Sets.{common, in_all}
 use Rattle.fts_postings.specs.Conjoined.{common_of, each_remaining}
 use Rattle.std.specs.List.{filter}
 use Rattle.fts_postings.proofs.RemainingLemmas.{nothing_first}
-use Rattle.fts_postings.proofs.MeetingLemmas.{filter-at_least, filter-stays}
+use Rattle.fts_postings.proofs.SetLemmas.{filter-at_least, filter-stays}
 use Rattle.fts_postings.proofs.ConjoinedLemmas.{MayBeBrought-sought, AllFollow-same}
 use Rattle.fts_postings.proofs.conjunction.ConjunctionDocSet.seek.Goals as goal
 

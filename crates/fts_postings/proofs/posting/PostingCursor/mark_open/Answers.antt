@@ -2,7 +2,7 @@
 use Rattle.std.proofs.Common.{◌≡◌, ◌-◌, ◌≤◌, ◌||◌, All, drop, length, take, ap, subst, ◌∙◌, arith, rules}
 use Rattle.std.proofs.lemmas.List.{length-take}
 use borrow.Rule.Slice.PartMut.{mid_of}
-use Rattle.fts_postings.specs.Meeting.{has}
+use Rattle.fts_postings.specs.Sets.{has}
 use Rattle.fts_postings.specs.Posting.{Posting}
 use Rattle.fts_postings.proofs.MarkingLemmas.{open_first, open_inside, open_low, open_rises, open_some, open_taken, open_within}
 use Rattle.fts_postings.proofs.WindowLemmas.{found}

@@ -1,6 +1,6 @@
 -- The documents so far are marked.
 use Rattle.std.proofs.Common.{◌≡◌, ℕ, ◌||◌, take}
-use Rattle.fts_postings.specs.Meeting.{has}
+use Rattle.fts_postings.specs.Sets.{has}
 use Rattle.fts_postings.proofs.WindowLemmas.{found}
 use Rattle.fts_postings.proofs.window.Window.mark_all.Given as goal
 

@@ -1,0 +1,296 @@
+// The cursor of a query: a tree of cursors, one for each query within it.
+ghost use Rattle.std.specs.Prelude.{◌≡◌, ◌-◌, ◌^◌, ◌≤◌, ◌<◌, true, count_by, IfOk, IsOkUnless, MatchOption};
+ghost use Rattle.std.specs.Prelude.{All, EachIndex, List, [], ◌∷◌, length, map, min, slice_index};
+ghost use Rattle.std.specs.List.{AllZip, list_all};
+ghost use Rattle.std.specs.List.Sorted.{IsStrictlyIncreasing};
+ghost use Rattle.fts_model.specs.Queries.{query_fits};
+ghost use Rattle.fts_model.specs.QueryValues.{every, phrase, query_value};
+ghost use Rattle.fts_pack.specs.Documents.{block_count};
+ghost use Rattle.fts_segment.specs.Segments.{positions, postings};
+ghost use Rattle.fts_cursor.specs.Hits.{live_hits, segment_hits};
+ghost use Rattle.fts_postings.specs.Sets.{common, union};
+ghost use Rattle.fts_cursor.specs.Builds.{IsCursorOf, IsMemberFor, LacksTerm, Opens, text_term};
+ghost use Rattle.fts_segment.specs.ListIds.{documents_in, positions_in};
+ghost use Rattle.fts_cursor.specs.Standing.{at_most};
+ghost use Rattle.fts_cursor.specs.TreeValues.{TreeValue, remains};
+
+use crate::cursor::Cursor;
+use crate::kept::Kept;
+use crate::phrase::{Member, PhraseCursor};
+use crate::position_cursor::PositionCursor;
+use crate::range::of_range;
+use crate::terms::{are_terms, cursor_over, of_terms};
+use crate::tree::Tree;
+use fts_bits::Bits;
+use fts_model::{FieldValue, Query, Refusal, Term, Text};
+use fts_pack::ListSource;
+use fts_postings::{Conjunction, PostingCursor};
+use fts_segment::{ListId, Segment};
+use std::alloc::{AllocError, Global};
+
+/// The cursor of a query over the documents of a segment whose bits are set.
+///
+/// The only refusal is `Memory`. What the cursor needs later is made here: its steps take no memory.
+pub fn cursor_of<'a>(
+    alloc: Global,
+    segment: &'a Segment,
+    live: &'a Bits,
+    query: &Query,
+) -> Result<Cursor<'a>, Refusal>
+    requires bits { length live.now ≡ length segment.now.documents }
+    requires fits { query_fits segment.now.schema (query_value query.now) ≡ true }
+    ensures hits { IfOk result
+        (λ c. c.remaining ≡ live_hits segment.now live.now (query_value query.now)) }
+    ensures opens { IfOk result (λ c. Opens segment.now (query_value query.now) c) }
+    ensures memory { IsOkUnless result Refusal.Memory }
+{
+    match tree_of(alloc, segment, query) {
+        Err(AllocError) => Err(Refusal::Memory),
+        Ok(tree) => {
+            if all_set(live) {
+                Ok(Cursor::all(tree))
+            } else {
+                Ok(Cursor::live(tree, live))
+            }
+        }
+    }
+}
+
+// Whether all bits are set.
+fn all_set(live: &Bits) -> bool
+    ensures { result ≡ true → count_by (λ bit. bit) live.now ≡ length live.now }
+{
+    live.count_ones() == live.len()
+}
+
+// The documents that match a query.
+#[cycle(build)]
+fn tree_of<'a>(alloc: Global, segment: &'a Segment, query: &Query) -> Result<Tree<'a>, AllocError>
+    requires fits { query_fits segment.now.schema (query_value query.now) ≡ true }
+    ensures hits { IfOk result (λ t. t.remaining
+        ≡ segment_hits segment.now (query_value query.now)) }
+    ensures opens { IfOk result (λ t. Opens segment.now (query_value query.now) t.standing) }
+{
+    match query {
+        Query::All => of_all(alloc, segment),
+        Query::None => Ok(Tree::nothing()),
+        Query::Term(term) => of_term(alloc, segment, term),
+        Query::Phrase { field, pattern } => of_phrase(alloc, segment, *field, pattern),
+        Query::Range {
+            field,
+            lower,
+            upper,
+        } => of_range(alloc, segment, *field, lower, upper),
+        Query::Bool {
+            must,
+            must_not,
+            should,
+        } => {
+            let kept = if must.is_empty() {
+                any_of(alloc, segment, should)?
+            } else if are_terms(must) {
+                of_terms(alloc, segment, must)?
+            } else {
+                all(alloc, trees_of(alloc, segment, must)?)?
+            };
+            if must_not.is_empty() {
+                return Ok(kept);
+            }
+            let dropped = any_of(alloc, segment, must_not)?;
+            let kept = Box::new(alloc, kept)?;
+            let dropped = Box::new(alloc, dropped)?;
+            Tree::without(alloc, kept, dropped)
+        }
+    }
+}
+
+// The documents that match one of these at least. One alone needs no list.
+#[cycle(build)]
+fn any_of<'a>(
+    alloc: Global,
+    segment: &'a Segment,
+    queries: &[Query],
+) -> Result<Tree<'a>, AllocError>
+    requires fits { list_all (λ q. query_fits segment.now.schema (query_value q)) queries.now
+        ≡ true }
+    ensures hits { IfOk result (λ t. t.remaining
+        ≡ union (map (λ q. segment_hits segment.now (query_value q)) queries.now)) }
+    ensures alone { IfOk result (λ t. (q : Query) → queries.now ≡ q ∷ []
+        → Opens segment.now (query_value q) t.standing) }
+    ensures none { IfOk result (λ t. queries.now ≡ [] → t.bound ≡ at_most 0) }
+{
+    match queries {
+        [] => Ok(Tree::nothing()),
+        [query] => tree_of(alloc, segment, query),
+        _ => Tree::or(alloc, trees_of(alloc, segment, queries)?),
+    }
+}
+
+// The documents that match each of these.
+#[cycle(build)]
+fn trees_of<'a>(
+    alloc: Global,
+    segment: &'a Segment,
+    queries: &[Query],
+) -> Result<Vec<Tree<'a>>, AllocError>
+    requires fits { list_all (λ q. query_fits segment.now.schema (query_value q)) queries.now
+        ≡ true }
+    ensures hits { IfOk result
+        (λ trees. remains trees.items
+        ≡ map (λ q. segment_hits segment.now (query_value q)) queries.now) }
+    ensures opens { IfOk result
+        (λ trees. AllZip
+        (λ t q. Opens segment.now (query_value q) t.standing)
+        trees.items queries.now) }
+{
+    let mut trees = Vec::with_capacity(alloc, queries.len())?;
+    for query in queries {
+        trees.push(tree_of(alloc, segment, query)?)?;
+    }
+    Ok(trees)
+}
+
+// What all have in common. The part of the least cost leads.
+fn all<'a>(alloc: Global, parts: Vec<Tree<'a>>) -> Result<Tree<'a>, AllocError>
+    requires { 0 < length parts.items }
+    ensures { IfOk result (λ t. (first : TreeValue) (rest : List TreeValue) →
+        parts.entry.items ≡ first ∷ rest
+        → t.remaining ≡ common first.remaining (remains rest)) }
+{
+    let mut parts = parts;
+    let costs = costs_of(alloc, &parts)?;
+    let lead = parts.remove(place_of_least(&costs));
+    let lead = Box::new(alloc, lead)?;
+    Tree::and(alloc, lead, parts)
+}
+
+// How many documents remain of each part at most, or the greatest `usize`.
+fn costs_of(alloc: Global, parts: &[Tree]) -> Result<Vec<usize>, AllocError>
+    ensures bounds { IfOk result (λ costs. AllZip
+        (λ cost part. min (2 ^ 64 - 1) (length part.remaining) ≤ cost)
+        costs.items parts.now) }
+    ensures rise { IfOk result (λ costs.
+        All (λ part. IsStrictlyIncreasing part.remaining) parts.now) }
+{
+    let mut costs = Vec::with_capacity(alloc, parts.len())?;
+    for part in parts {
+        costs.push(part.cost())?;
+    }
+    Ok(costs)
+}
+
+// The place of the least number.
+fn place_of_least(numbers: &[usize]) -> usize
+    requires { 0 < length numbers.now }
+    ensures inside { result < length numbers.now }
+    ensures least { EachIndex numbers.now (λ k. slice_index numbers.now result
+        ≤ slice_index numbers.now k) }
+{
+    let mut least = 0;
+    for place in 1..numbers.len() {
+        if numbers[place] < numbers[least] {
+            least = place;
+        }
+    }
+    least
+}
+
+// Every document.
+fn of_all(alloc: Global, segment: &Segment) -> Result<Tree<'_>, AllocError>
+    ensures { IfOk result (λ t. t.remaining ≡ segment_hits segment.now every) }
+{
+    Tree::scan(alloc, Kept::Every, segment.docs())
+}
+
+// The documents that have a term.
+fn of_term<'a>(alloc: Global, segment: &'a Segment, term: &Term) -> Result<Tree<'a>, AllocError>
+    ensures remaining { IfOk result (λ t. t.remaining ≡ postings segment.now term.now) }
+    ensures bound { IfOk result
+        (λ t. t.bound ≡ at_most (block_count (length (postings segment.now term.now)))) }
+    ensures whole { IfOk result (λ t. t.whole ≡ true) }
+{
+    match segment.find(term) {
+        None => Ok(Tree::nothing()),
+        Some(list) => Tree::postings(alloc, segment.postings(list)),
+    }
+}
+
+// The documents with a phrase.
+#[inline(never)]
+fn of_phrase<'a>(
+    alloc: Global,
+    segment: &'a Segment,
+    field: usize,
+    pattern: &[(u32, Text)],
+) -> Result<Tree<'a>, AllocError>
+    requires { query_fits segment.now.schema (phrase field pattern.now) ≡ true }
+    ensures { IfOk result (λ t. t.remaining ≡ segment_hits segment.now (phrase field pattern.now)) }
+{
+    let Some(members) = members_of(alloc, segment, field, pattern)? else {
+        return Ok(Tree::nothing());
+    };
+    // Shows the proof that the numbers of documents are few.
+    let _ = segment.docs();
+    let mut cursors = cursors_of(alloc, segment, &members)?;
+    let lead = cursors.remove(0);
+    let terms = Conjunction::new(lead, cursors);
+    let mut others = members;
+    let first = others.remove(0);
+    let first = Box::new(alloc, first)?;
+    Tree::phrase(alloc, PhraseCursor::new(terms, first, others))
+}
+
+// The lists of a phrase's terms, and none where one of them has no documents.
+fn members_of<'a>(
+    alloc: Global,
+    segment: &'a Segment,
+    field: usize,
+    pattern: &[(u32, Text)],
+) -> Result<Option<Vec<Member<'a>>>, AllocError>
+    ensures { IfOk result (λ found. MatchOption found
+        (LacksTerm segment.now field pattern.now)
+        (λ members. AllZip (IsMemberFor segment.now field) pattern.now members.items)) }
+{
+    let mut members = Vec::with_capacity(alloc, pattern.len())?;
+    for (offset, text) in pattern {
+        match find_text(segment, field, text)? {
+            None => return Ok(None),
+            Some(list) => members.push(Member {
+                list,
+                positions: PositionCursor::new(segment.positions(list)),
+                offset: *offset,
+            })?,
+        }
+    }
+    Ok(Some(members))
+}
+
+// The list of a text as a term.
+fn find_text<'a>(
+    segment: &'a Segment,
+    field: usize,
+    text: &Text,
+) -> Result<Option<ListId<'a>>, AllocError>
+    ensures { IfOk result (λ found. MatchOption found
+        (postings segment.now (text_term field text.now) ≡ [])
+        (λ list. (documents_in list ≡ postings segment.now (text_term field text.now))
+        × (positions_in list ≡ positions segment.now (text_term field text.now)))) }
+{
+    let value = FieldValue::Text(text.clone()?);
+    Ok(segment.find(&Term { field, value }))
+}
+
+// A cursor for each list.
+fn cursors_of<'a>(
+    alloc: Global,
+    segment: &'a Segment,
+    members: &[Member<'a>],
+) -> Result<Vec<PostingCursor<ListSource<'a>>>, AllocError>
+    ensures { IfOk result (λ cursors. AllZip IsCursorOf cursors.items members.now) }
+{
+    let mut cursors = Vec::with_capacity(alloc, members.len())?;
+    for member in members {
+        cursors.push(cursor_over(segment.postings(member.list)))?;
+    }
+    Ok(cursors)
+}
