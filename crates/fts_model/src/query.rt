@@ -20,7 +20,10 @@ use std::ops::Bound;
 fn holds_phrases(kind: Kind) -> bool
     ensures { result ≡ holds_phrases kind }
 {
-    matches!(kind, Kind::Text)
+    match kind {
+        Kind::Text => true,
+        Kind::Keyword | Kind::U64 | Kind::I64 => false,
+    }
 }
 
 /// Whether a bound is one of a field of this kind.

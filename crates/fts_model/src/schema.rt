@@ -57,19 +57,21 @@ impl Kind {
     pub fn holds(self, value: &FieldValue) -> bool
         ensures { result ≡ is_of_kind self value.now }
     {
-        matches!((self, value), (Kind::Text, FieldValue::Texts(_))) || self.has_term(value)
+        match self {
+            Kind::Text => matches!(value, FieldValue::Texts(_)) || self.has_term(value),
+            Kind::Keyword | Kind::U64 | Kind::I64 => self.has_term(value),
+        }
     }
 
     /// Whether such values are terms of fields of this kind, or bounds: lists of texts are neither.
     pub fn has_term(self, value: &FieldValue) -> bool
         ensures { result ≡ is_term_of self value.now }
     {
-        matches!(
-            (self, value),
-            (Kind::Text | Kind::Keyword, FieldValue::Text(_))
-                | (Kind::U64, FieldValue::Number(Number::U64(_)))
-                | (Kind::I64, FieldValue::Number(Number::I64(_)))
-        )
+        match self {
+            Kind::Text | Kind::Keyword => matches!(value, FieldValue::Text(_)),
+            Kind::U64 => matches!(value, FieldValue::Number(Number::U64(_))),
+            Kind::I64 => matches!(value, FieldValue::Number(Number::I64(_))),
+        }
     }
 }
 
