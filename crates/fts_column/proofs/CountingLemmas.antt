@@ -12,20 +12,13 @@ use Rattle.fts_column.specs.Counting.{AreCounted, AreWithin, having, is_value}
 use Rattle.fts_column.specs.Lanes.{number_at}
 use Rattle.fts_column.proofs.ColumnLemmas.{above_least, lane_at, value_missing, value_there}
 
--- one more of what wraps is one more, and wraps
-pub mod-more : (a m : ℕ) → (a % m + 1) % m ≡ (a + 1) % m
-mod-more a m =
-    let whole : a % m + 1 + m * (a / m) ≡ a + 1 = omega (arith, mod-add-div a m) in
-    sym (add-mul-mod_self_left (a % m + 1) m (a / m)) ∙ ap (λ n. n % m) whole
+-- what is added to a remainder is added to the number
+pub mod-add : (a b m : ℕ) → (a % m + b) % m ≡ (a + b) % m
+mod-add a b m =
+    let whole : a % m + b + m * (a / m) ≡ a + b = omega (arith, mod-add-div a m) in
+    sym (add-mul-mod_self_left (a % m + b) m (a / m)) ∙ ap (λ n. n % m) whole
 
--- no document counts nothing
-pub AreCounted-none : (number : ℕ → Option ℕ) (counts : List ℕ) → ((k : ℕ) → get_or counts k 0 < 2 ^ 64) → AreCounted number [] counts counts
-AreCounted-none number counts small = record {
-  counted = λ place lt. (let none : get_or counts place 0 + 0 ≡ get_or counts place 0 = omega arith in sym (ap (λ n. n % 2 ^ 64) none ∙ mod-eq_of_lt (small place)));
-  long = refl;
-}
-
--- nor does one that has no number
+-- a document that has no number counts nothing
 pub AreCounted-missing : (number : ℕ → Option ℕ) (docs old now : List ℕ) (i : ℕ) → i < length docs → number (get_or docs i 0) ≡ None → AreCounted number (take i docs) old now → AreCounted number (take (i + 1) docs) old now
 AreCounted-missing number docs old now i inside missing h = record {
   counted = λ place lt. h.counted place lt ∙ ap (λ n. (get_or old place 0 + n) % 2 ^ 64) (sym (count_by_more_no (λ doc. is_value place (number doc)) docs i 0 inside (ap (is_value place) missing)));
@@ -43,7 +36,7 @@ AreCounted-more number docs old now i x inside room is h = record {
             ap (λ k. get_or (set now x ((get_or now x 0 + 1) % 2 ^ 64)) k 0) (sym here)
             ∙ get_or-set_same now x ((get_or now x 0 + 1) % 2 ^ 64) 0 room
             ∙ ap (λ n. (n + 1) % 2 ^ 64) (ap (λ k. get_or now k 0) here ∙ h.counted place lt)
-            ∙ mod-more (get_or old place 0 + count_by test (take i docs)) (2 ^ 64)
+            ∙ mod-add (get_or old place 0 + count_by test (take i docs)) 1 (2 ^ 64)
             ∙ ap (λ n. n % 2 ^ 64) (let e : get_or old place 0 + count_by test (take i docs) + 1 ≡ get_or old place 0 + count_by test (take (i + 1) docs) = omega (arith, count_by_more_yes test docs i 0 inside yes) in e))
         | inr other ↦ (
             let no : test (get_or docs i 0) ≡ false = ap (is_value place) is ∙ ne_eqb x place other in
@@ -55,7 +48,7 @@ AreCounted-more number docs old now i x inside room is h = record {
 }
 
 -- tests that agree count the same
-pub count_by-same : (p q : ℕ → Bool) (docs : List ℕ) → ((doc : ℕ) → p doc ≡ q doc) → count_by p docs ≡ count_by q docs
+count_by-same : (p q : ℕ → Bool) (docs : List ℕ) → ((doc : ℕ) → p doc ≡ q doc) → count_by p docs ≡ count_by q docs
 count_by-same p q [] same = refl
 count_by-same p q (doc ∷ docs) same =
     sum_by-cons (λ x. cond (p x) 1 0) doc docs
@@ -155,6 +148,7 @@ is_value-before : (least skip first place : ℕ) (v : Option ℕ) → least + sk
 is_value-before least skip first place None start below = refl
 is_value-before least skip first place (Some x) start below = ne_eqb (first + x) (least + place) (λ e. omega (arith, e, start, below))
 
+-- a test that fails counts nothing
 count_by-none : (docs : List ℕ) → count_by (λ doc. false) docs ≡ 0
 count_by-none [] = refl
 count_by-none (doc ∷ docs) = omega (arith, sum_by-cons (λ (x : ℕ). 0) doc docs, count_by-none docs)
