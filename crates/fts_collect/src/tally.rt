@@ -1,9 +1,8 @@
 // Hits counted by their numbers in a column.
-ghost use Rattle.std.specs.Prelude.{◌≡◌, ◌≤◌, ◌<◌, ◌+◌, ◌-◌, ◌++◌, ◌^◌, ℕ, List, IfOk, OnOk, length, min, None};
-ghost use Rattle.std.specs.Prelude.{nat_eq, option_to_list, slice_index, slice_index_or, slice_set};
+ghost use Rattle.std.specs.Prelude.{◌≡◌, ◌≤◌, ◌+◌, ◌++◌, ◌^◌, IfOk, OnOk, length, None};
+ghost use Rattle.std.specs.Prelude.{nat_eq, option_to_list, slice_index_or};
 ghost use Rattle.fts_scan.specs.Scans.{counts_of_sorted};
-ghost use Rattle.fts_collect.specs.Internals.Tallies.{AreCounts, AreWithin, counts_from, number_at};
-ghost use Rattle.fts_collect.specs.Internals.Tallies.{present_at};
+ghost use Rattle.fts_collect.specs.Internals.Tallies.{counts_from, number_at, present_at};
 
 use fts_bits::u64_to_i64;
 use fts_column::Column;
@@ -45,40 +44,6 @@ fn counts_from(alloc: Global, least: u64, counts: &[u64]) -> Result<Vec<(u64, u6
         }
     }
     Ok(list)
-}
-
-/// Counts one more at a place.
-fn count_number(counts: &mut [u64], place: usize)
-    requires { place < length counts.old }
-    ensures { counts.new
-        ≡ slice_set counts.old place (min (slice_index counts.old place + 1) (2 ^ 64 - 1)) }
-{
-    counts[place] = counts[place].saturating_add(1);
-}
-
-/// Counts the number of a document in a column, if it has one.
-fn count_doc(column: &Column, doc: u32, least: u64, counts: &mut [u64])
-    requires { AreWithin column.now least (length counts.old) }
-    ensures counted { (numbers : List ℕ) → AreCounts numbers least counts.old →
-        AreCounts (numbers ++ option_to_list (slice_index_or column.now doc None)) least counts.new }
-    ensures long { length counts.new ≡ length counts.old }
-{
-    match column.get(doc as usize) {
-        None => {}
-        Some(number) => count_number(counts, (number - least) as usize),
-    }
-}
-
-/// Counts the numbers of documents in a column.
-fn count_docs(column: &Column, docs: &[u32], least: u64, counts: &mut [u64])
-    requires { AreWithin column.now least (length counts.old) }
-    ensures counted { (numbers : List ℕ) → AreCounts numbers least counts.old →
-        AreCounts (numbers ++ present_at column.now docs.now) least counts.new }
-    ensures long { length counts.new ≡ length counts.old }
-{
-    for doc in docs {
-        count_doc(column, *doc, least, counts);
-    }
 }
 
 /// Puts the number of a document in a column behind others, if it has one.
@@ -158,7 +123,7 @@ impl Tally {
     {
         match self {
             Tally::Counts { least, counts } => {
-                count_docs(column, docs, *least, counts);
+                column.count_values(docs, *least, counts);
                 Ok(())
             }
             Tally::Numbers(numbers) => push_docs(column, docs, numbers),

@@ -220,15 +220,17 @@ lane_is : (v : Option ℕ) (least lane : ℕ) → IfSome v (λ x. least ≤ x) �
 lane_is None least lane above e = tt
 lane_is (Some x) least lane above e = (above, omega (arith, above, e))
 
+pub lane_at : (values : List (Option ℕ)) (range : Option (ℕ × ℕ)) (width : ℕ) (words lanes : List ℕ) → IsColumn values range width words lanes → (i : ℕ) → i < length values → get_or lanes i 0 ≡ option_map_or (λ x. x - least_of range) (get_or values i None) 0
+lane_at values range width words lanes h i inside =
+    let least = least_of range in
+    let numbers = offsets least values in
+    let near : i < length numbers = omega (arith, inside, length-offsets least values) in
+    sym (get_or-take (length numbers) lanes i 0 near) ∙ ap (λ xs. get_or xs i 0) h.lanes_are.first ∙ offset_at least i 0 values inside
+
 pub lane_there : (values : List (Option ℕ)) (range : Option (ℕ × ℕ)) (width : ℕ) (words lanes : List ℕ) → IsColumn values range width words lanes → (i : ℕ) → IfSome (get_or values i None) (λ x. (least_of range ≤ x) × (least_of range + get_or lanes i 0 ≡ x))
 lane_there values range width words lanes h i = elim (cases_lt i (length values)) [
   | inr past ↦ (rw (get_or_past values i None past) tt)
-  | inl inside ↦ (
-      let least = least_of range in
-      let numbers = offsets least values in
-      let near : i < length numbers = omega (arith, inside, length-offsets least values) in
-      let lane : get_or lanes i 0 ≡ option_map_or (λ x. x - least) (get_or values i None) 0 = sym (get_or-take (length numbers) lanes i 0 near) ∙ ap (λ xs. get_or xs i 0) h.lanes_are.first ∙ offset_at least i 0 values inside in
-      lane_is (get_or values i None) least (get_or lanes i 0) (above_least values range h.range_is i None inside) lane)
+  | inl inside ↦ lane_is (get_or values i None) (least_of range) (get_or lanes i 0) (above_least values range h.range_is i None inside) (lane_at values range width words lanes h i inside)
 ]
 
 -- a lane for each document, and for those up to the end of a stretch

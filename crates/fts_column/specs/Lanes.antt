@@ -1,5 +1,6 @@
 -- Numbers in lanes of one width.
-use Rattle.std.specs.Prelude.{◌≡◌, ℕ, ◌%◌, ◌<◌, ◌≤◌, ◌==◌, ◌&&◌, nat_le, List, length, take, slice_index}
+use Rattle.std.specs.Prelude.{◌≡◌, ℕ, ◌%◌, ◌<◌, ◌≤◌, ◌==◌, ◌&&◌, nat_le, false, Bool, List, Option, Some, None, length}
+use Rattle.std.specs.Prelude.{take, slice_index, slice_index_or, if◌then◌else◌}
 use Rattle.std.specs.Int.{bit_at}
 use Rattle.fts_column.specs.declared.lanes.Lanes.{Lanes}
 use Rattle.fts_column.specs.declared.lanes.Lanes.TheVariants.{Words, Longs}
@@ -20,3 +21,7 @@ abbrev pub AreMarked : List ℕ → ℕ → ℕ → ℕ → Type 0
 AreMarked numbers low high marks =
     (k : ℕ) → k < 64 → (bit_at marks k == 1)
     ≡ (nat_le low (slice_index numbers k) && nat_le (slice_index numbers k) high)
+
+-- the number of a document: that in its lane, where its bit is set
+abbrev pub number_at : List Bool → List ℕ → ℕ → Option ℕ
+number_at present lanes doc = if slice_index_or present doc false then Some (slice_index lanes doc) else None

@@ -1,2 +1,3 @@
 pub mod Column
+pub mod Counting
 pub mod Lanes

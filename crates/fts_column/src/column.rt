@@ -9,6 +9,7 @@ ghost use Rattle.std.specs.Option.{option_map_or};
 ghost use Rattle.std.specs.Int.{bit_at};
 ghost use Rattle.fts_column.specs.Column.{HaveOffsets, IsColumn, IsRangeOf, is_within, least_of, offsets, range_with};
 ghost use Rattle.fts_column.specs.Column.{spread_of, values_at};
+ghost use Rattle.fts_column.specs.Counting.{AreWithin, having};
 ghost use Rattle.fts_column.specs.Lanes.{in_lanes};
 
 use crate::lanes::Lanes;
@@ -159,6 +160,20 @@ impl Column {
         let above = low.saturating_sub(least);
         let marks = self.lanes.marked(from, above, high - least);
         marks & self.present.word(from / 64)
+    }
+
+    /// Counts documents by their values. There is a place for each value from `least` on, and a document counts one
+    /// more at the place of its own, modulo 2^64. One that has no value, or that isn't there, counts nowhere.
+    pub fn count_values(&self, docs: &[u32], least: u64, counts: &mut [u64])
+        requires { AreWithin self.now least (length counts.old) }
+        ensures counted { (place : ℕ) → place < length counts.old → slice_index counts.new place
+            ≡ (slice_index counts.old place + having self.now docs.now (least + place)) % 2 ^ 64 }
+        ensures long { length counts.new ≡ length counts.old }
+    {
+        if let Some((first, _)) = self.range {
+            let places = &mut counts[(first - least) as usize..];
+            self.lanes.count(&self.present, docs, places);
+        }
     }
 
     /// The least and the greatest value, if there is one.

@@ -5,6 +5,8 @@ ghost use Rattle.fts_column.specs.Column.{HaveOffsets, offsets};
 ghost use Rattle.fts_column.specs.Lanes.{AreLanesOf, AreMarked, in_lanes};
 
 use crate::column::offset;
+use crate::counting::{count_present_longs, count_present_words, count_words};
+use fts_bits::Bits;
 use std::alloc::{AllocError, Global};
 use std::simd::prelude::*;
 
@@ -16,9 +18,10 @@ pub(crate) enum Lanes {
 }
 
 impl Lanes {
-    ghost use Rattle.std.specs.Prelude.{◌≡◌, ◌+◌, ◌<◌, ◌≤◌, IfOk, drop, length, slice_index};
+    ghost use Rattle.std.specs.Prelude.{◌≡◌, ℕ, ◌+◌, ◌<◌, ◌≤◌, IfOk, drop, length, slice_index};
     ghost use Rattle.fts_column.specs.Column.{HaveOffsets, offsets};
-    ghost use Rattle.fts_column.specs.Lanes.{AreLanesOf, AreMarked, in_lanes};
+    ghost use Rattle.fts_column.specs.Counting.{AreCounted};
+    ghost use Rattle.fts_column.specs.Lanes.{AreLanesOf, AreMarked, in_lanes, number_at};
 
     /// How far each value is above the least, and 0 for a missing one, where this takes `width` bits at most.
     pub(crate) fn of_offsets(
@@ -61,6 +64,23 @@ impl Lanes {
         match self {
             Lanes::Words(words) => words_within(&words[from..], low, high),
             Lanes::Longs(longs) => longs_within(&longs[from..], low, high),
+        }
+    }
+
+    /// Counts documents by their numbers: each whose bit is set counts one more at the place that its number is.
+    pub(crate) fn count(&self, present: &Bits, docs: &[u32], counts: &mut [u64])
+        requires enough { length present.now ≤ length (in_lanes self.now) }
+        requires within { (doc : ℕ) → doc < length present.now
+            → slice_index (in_lanes self.now) doc < length counts.old }
+        ensures { AreCounted (number_at present.now (in_lanes self.now)) docs.now counts.old counts.new }
+    {
+        let len = present.len();
+        match self {
+            Lanes::Words(words) if present.count_ones() == len => {
+                count_words(&words[..len], docs, counts);
+            }
+            Lanes::Words(words) => count_present_words(words, present, docs, counts),
+            Lanes::Longs(longs) => count_present_longs(longs, present, docs, counts),
         }
     }
 }

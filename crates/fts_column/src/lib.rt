@@ -2,6 +2,7 @@
 #![tactic(auto)]
 
 mod column;
+mod counting;
 mod lanes;
 pub mod laws;
 

@@ -1,6 +1,6 @@
 -- How hits are counted by their numbers in a column.
 use Rattle.std.specs.Prelude.{◌≡◌, ℕ, ◌+◌, ◌^◌, ◌<◌, ◌≤◌, nat_lt, List, [], ◌∷◌, Option, None, if◌then◌else◌}
-use Rattle.std.specs.Prelude.{length, slice_index_or, fold, All, IfSome}
+use Rattle.std.specs.Prelude.{length, slice_index_or, fold}
 use Rattle.std.specs.List.{filter_map}
 use Rattle.std.specs.Ordering.{nat_cmp}
 use Rattle.fts_model.specs.declared.schema.Kind.{Kind}
@@ -11,6 +11,7 @@ use Rattle.fts_model.specs.Answers.{count_one}
 use Rattle.fts_collect.specs.declared.tally.Tally.{Tally}
 use Rattle.fts_collect.specs.declared.tally.Tally.TheVariants.{Counts, Numbers}
 use Rattle.fts_bits.specs.Signed.{i64_of}
+use Rattle.fts_column.specs.Counting.{AreWithin}
 
 -- the number that a column of this kind keeps as this one
 abbrev pub number_at : Kind → ℕ → Number
@@ -20,10 +21,6 @@ number_at kind x = U64 x
 -- the numbers that documents have in a column
 abbrev pub present_at : List (Option ℕ) → List ℕ → List ℕ
 present_at column docs = filter_map (λ doc. slice_index_or column doc None) docs
-
--- each number of a column is one of so many from the least on
-abbrev pub AreWithin : List (Option ℕ) → ℕ → ℕ → Type 0
-AreWithin column least count = All (λ v. IfSome v (λ x. (least ≤ x) × (x < least + count))) column
 
 -- the numbers that were counted with their counts, from the number `x` on
 abbrev pub counts_from : ℕ → List ℕ → List (ℕ × ℕ)
@@ -35,7 +32,7 @@ counts_from x (count ∷ counts) =
 abbrev pub counts_of : List ℕ → List (ℕ × ℕ)
 counts_of numbers = fold (count_one nat_cmp) [] numbers
 
--- numbers were counted, each at its place from the least on; a count stays at the greatest of 64 bits
+-- numbers were counted, each at its place from the least on, where 64 bits tell how many there are
 abbrev pub AreCounts : List ℕ → ℕ → List ℕ → Type 0
 AreCounts numbers least counts = length numbers < 2 ^ 64 → counts_from least counts ≡ counts_of numbers
 
