@@ -60,7 +60,7 @@ class KeywordTooLong(Refused):
 
 
 class LaneFull(Refused):
-    """1,000,000 operations wait for a commit."""
+    """1,000,000 operations are uncommitted."""
 
 
 class TooLarge(Refused):

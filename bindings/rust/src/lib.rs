@@ -60,7 +60,7 @@ impl Index {
         self.execute(line_of(search.as_ref()))
     }
 
-    /// A searcher of the last commit; what waits for a commit isn't found.
+    /// A searcher of the last commit; uncommitted operations aren't found.
     pub fn searcher(&mut self) -> Result<Searcher, Error> {
         // SAFETY: the handle is open until `self` is dropped.
         Searcher::open(|slot| unsafe { sys::fts_searcher(&mut self.raw, slot) })

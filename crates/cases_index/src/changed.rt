@@ -1,5 +1,5 @@
-// Steps that change what is found or what waits: `commit`, `gather`, `commit_batch`, `open_round`, `abandon` and
-// `merge`.
+// Steps that change what is found or what is uncommitted: `commit`, `gather`, `commit_batch`, `open_round`, `abandon`
+// and `merge`.
 ghost use Rattle.std.specs.Prelude.{◌≡◌};
 ghost use Rattle.fts_snapshots.specs.Cuts.{IsCut};
 ghost use Rattle.fts_snapshots.specs.Successors.{Follows};

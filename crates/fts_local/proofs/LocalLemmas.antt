@@ -15,7 +15,7 @@ use Rattle.fts_snapshots.proofs.StampLemmas.{numbered-push}
 use Rattle.fts_local.specs.declared.commit.LocalCommit.{LocalCommit}
 use Rattle.fts_local.specs.LocalIndexes.{CommitsLocally, IsLocalEngine, MergesLocally}
 
--- the next operation waits
+-- one more uncommitted operation
 pub local_submitted : (commit : LocalCommit) (pending : List (Stamped Op)) (cut : Cut) (calls stamp : ℕ) (op : Op) → IsLocalEngine commit pending cut calls → stamp ≡ commit.stamp + length pending + 1 →
     op_fits commit.snapshot.schema op ≡ true → IsLocalEngine commit (pending ++ record { stamp = stamp; value = op } ∷ []) cut (calls + 1)
 local_submitted commit pending cut calls stamp op i at fits =
@@ -29,7 +29,7 @@ local_submitted commit pending cut calls stamp op i at fits =
       segments = omega (arith, more, i.segments);
     }
 
--- what waited is committed
+-- the uncommitted operations are committed
 pub local_committed : (old new : LocalCommit) (pending : List (Stamped Op)) (cut : Cut) (calls : ℕ) → IsLocalEngine old pending cut calls → CommitsLocally pending old new → IsLocalEngine new [] cut (calls + 1)
 local_committed old new pending cut calls i c = record {
   cuts = i.cuts;

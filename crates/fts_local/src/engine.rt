@@ -11,7 +11,7 @@ use std::alloc::{AllocError, Global};
 use std::marker::Model;
 use std::sync::Arc;
 
-/// The most operations that wait for a commit.
+/// The most operations that are uncommitted.
 const MOST_PENDING: usize = 1_000_000;
 
 /// The last commit, which forks share, and the operations since.

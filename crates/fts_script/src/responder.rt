@@ -17,8 +17,8 @@ use fts_steps::{Engine, EngineOver, Options};
 use memchr::memchr;
 use std::alloc::{AllocError, Global};
 
-/// How many bytes of replies wait at most before a line is answered.
-const MOST_WAITING: usize = 65_536;
+/// How many bytes of unsent replies there may be before a line is answered.
+const MOST_UNSENT: usize = 65_536;
 
 /// Writes the replies that wait.
 fn send<W: ScriptOut>(writer: &mut W, replies: &mut String) -> Result<(), Fault>
@@ -175,7 +175,7 @@ impl<E: Engine> Responder<E> {
             (λ n. self.new.session.number ≤ self.old.session.number + n) }
     {
         let mut at = 0;
-        while at < bytes.len() && self.replies.len() < MOST_WAITING {
+        while at < bytes.len() && self.replies.len() < MOST_UNSENT {
             at += self.take_line(rt, &bytes[at..])?;
         }
         Ok(at)

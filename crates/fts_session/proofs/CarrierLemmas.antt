@@ -20,7 +20,7 @@ use Rattle.fts_session.specs.Text.{lines_of, is_blank}
 use Rattle.fts_command.specs.Commands.{Command, Schema, Add, Delete, DeleteAll, Commit, Rollback, Merge, Find, Search, command}
 use Rattle.fts_steps.specs.Carriers.{Carrier}
 use Rattle.fts_model.specs.Limits.{most_merged}
-use Rattle.fts_steps.specs.Steps.{most_waiting, next_stamp, submit, commit, rollback, merge, search_commit}
+use Rattle.fts_steps.specs.Steps.{most_uncommitted, next_stamp, submit, commit, rollback, merge, search_commit}
 use Rattle.fts_session.specs.Replies.{number_reply, Outcome, replied, answer_search, execute, execute_line, index_after, text_of, Carried, carried_over, reply_on, replies_on, output_on}
 use Rattle.fts_command.specs.AnswerData.{answer_data}
 
@@ -33,7 +33,7 @@ pub record Simulates {S T : Type 0} (from : Carrier S) (to : Carrier T) (f : S �
   pub schema : (s : S) → to.schema (f s) ≡ from.schema s
   pub documents : (s : S) → to.documents (f s) ≡ from.documents s
   pub commit_stamp : (s : S) → to.commit_stamp (f s) ≡ from.commit_stamp s
-  pub waiting : (s : S) → to.waiting (f s) ≡ from.waiting s
+  pub uncommitted : (s : S) → to.uncommitted (f s) ≡ from.uncommitted s
 
 -- a step's outcome, command_value by a map
 abbrev step_seen : {S T X : Type 0} → (S → T) → Result (S × X) Refusal → Result (T × X) Refusal
@@ -50,13 +50,13 @@ pair : {T : Type 0} (x y : T) (n m : ℕ) → x ≡ y → n ≡ m → let p : T 
 pair x y n m e h = ap (λ z. (z, n)) e ∙ ap (λ k. (y, k)) h
 
 stamp_same : {S T : Type 0} (from : Carrier S) (to : Carrier T) (f : S → T) → Simulates from to f → (s : S) → next_stamp to (f s) ≡ next_stamp from s
-stamp_same from to f sim s = ap (λ n. n + to.waiting (f s) + 1) (sim.commit_stamp s) ∙ ap (λ n. from.commit_stamp s + n + 1) (sim.waiting s)
+stamp_same from to f sim s = ap (λ n. n + to.uncommitted (f s) + 1) (sim.commit_stamp s) ∙ ap (λ n. from.commit_stamp s + n + 1) (sim.uncommitted s)
 
 submit_same : {S T : Type 0} (from : Carrier S) (to : Carrier T) (f : S → T) → Simulates from to f → (op : Op) (s : S) →
     submit to op (f s) ≡ step_seen f (submit from op s)
 submit_same {S} {T} from to f sim op s =
-    ap (λ n. cond (nat_lt n most_waiting) (Ok (to.submitted op (f s), next_stamp to (f s))) (Err LaneFull)) (sim.waiting s)
-    ∙ room (nat_lt (from.waiting s) most_waiting) where
+    ap (λ n. cond (nat_lt n most_uncommitted) (Ok (to.submitted op (f s), next_stamp to (f s))) (Err LaneFull)) (sim.uncommitted s)
+    ∙ room (nat_lt (from.uncommitted s) most_uncommitted) where
       room : (b : Bool) → cond b (Ok (to.submitted op (f s), next_stamp to (f s))) (Err LaneFull) ≡ step_seen f (cond b (Ok (from.submitted op s, next_stamp from s)) (Err LaneFull))
       room true = ap Ok (pair _ _ _ _ (sym (sim.submitted op s)) (stamp_same from to f sim s))
       room false = refl

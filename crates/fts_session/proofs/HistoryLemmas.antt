@@ -270,5 +270,5 @@ histories-indexes = record {
   schema = λ h. refl;
   documents = λ h. refl;
   commit_stamp = λ h. refl;
-  waiting = λ h. length-stamped (length (up_to_commit (kept h.accepted)) + 1) (since_commit (kept h.accepted)) (none_since (kept h.accepted));
+  uncommitted = λ h. length-stamped (length (up_to_commit (kept h.accepted)) + 1) (since_commit (kept h.accepted)) (none_since (kept h.accepted));
 }

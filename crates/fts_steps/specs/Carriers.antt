@@ -9,16 +9,16 @@ use Rattle.fts_model.specs.Documents.{DocumentValue}
 pub record Carrier (S : Type 0) : Type 0 where
   -- a new index: the opening commit has stamp 0 and no document
   pub opened : List Field → S
-  -- one more operation waits for a commit
+  -- one more operation is uncommitted
   pub submitted : Op → S → S
-  -- what waits is committed
+  -- the uncommitted operations are committed
   pub committed : S → S
-  -- what waits is given up
+  -- the uncommitted operations are given up
   pub rolled_back : S → S
   pub schema : S → List Field
   -- the documents alive at the last commit, with their stamps
   pub documents : S → List (Stamped DocumentValue)
   -- the stamp of the last commit
   pub commit_stamp : S → ℕ
-  -- how many operations wait for a commit
-  pub waiting : S → ℕ
+  -- how many operations are uncommitted
+  pub uncommitted : S → ℕ

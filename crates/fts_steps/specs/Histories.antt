@@ -75,5 +75,5 @@ histories = record {
   schema = λ h. h.schema;
   documents = λ h. alive h.schema (committed h.accepted);
   commit_stamp = λ h. length (up_to_commit (kept h.accepted));
-  waiting = λ h. length (since_commit (kept h.accepted));
+  uncommitted = λ h. length (since_commit (kept h.accepted));
 }

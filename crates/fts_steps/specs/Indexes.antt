@@ -1,4 +1,4 @@
--- An index, carried as what is found in it and what waits for a commit.
+-- An index, carried as what is found in it and the uncommitted operations.
 use Rattle.std.specs.Prelude.{ℕ, ◌+◌, List, [], ◌∷◌, ◌++◌, length}
 use Rattle.fts_model.specs.declared.schema.Field.{Field}
 use Rattle.fts_model.specs.declared.operation.Op.{Op}
@@ -38,5 +38,5 @@ indexes = record {
   schema = λ i. i.schema;
   documents = λ i. i.documents;
   commit_stamp = λ i. i.commit_stamp;
-  waiting = λ i. length i.pending;
+  uncommitted = λ i. length i.pending;
 }

@@ -9,23 +9,24 @@ use Rattle.fts_model.specs.QueryValues.{QueryValue}
 use Rattle.fts_model.specs.Answers.{AnswerValue, answer}
 use Rattle.fts_steps.specs.Carriers.{Carrier}
 
--- the most operations that wait for a commit
-abbrev pub most_waiting : ℕ
-most_waiting = 1000000
+-- the most operations that are uncommitted
+abbrev pub most_uncommitted : ℕ
+most_uncommitted = 1000000
 
 -- the stamp of the next operation or commit
 abbrev pub next_stamp : {S : Type 0} → Carrier S → S → ℕ
-next_stamp on s = on.commit_stamp s + on.waiting s + 1
+next_stamp on s = on.commit_stamp s + on.uncommitted s + 1
 
 -- An operation is taken, and its stamp is answered.
 abbrev pub submit : {S : Type 0} → Carrier S → Op → S → Result (S × ℕ) Refusal
-submit on op s = if nat_lt (on.waiting s) most_waiting then Ok (on.submitted op s, next_stamp on s) else Err LaneFull
+submit on op s =
+    if nat_lt (on.uncommitted s) most_uncommitted then Ok (on.submitted op s, next_stamp on s) else Err LaneFull
 
--- What waits is committed, and the commit's stamp is answered.
+-- The uncommitted operations are committed, and the commit's stamp is answered.
 abbrev pub commit : {S : Type 0} → Carrier S → S → Result (S × ℕ) Refusal
 commit on s = Ok (on.committed s, next_stamp on s)
 
--- What waits is given up, and the last commit's stamp is answered.
+-- The uncommitted operations are given up, and the last commit's stamp is answered.
 abbrev pub rollback : {S : Type 0} → Carrier S → S → Result (S × ℕ) Refusal
 rollback on s = Ok (on.rolled_back s, on.commit_stamp s)
 

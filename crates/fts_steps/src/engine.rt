@@ -32,7 +32,7 @@ pub trait Engine {
         requires { changes self.now ≤ 2 ^ 61 }
         ensures { result ≡ next_stamp indexes (index self.now) };
 
-    /// Takes an operation, and answers its stamp. It is refused as `LaneFull` where 1,000,000 wait for a commit.
+    /// Takes an operation, and answers its stamp. It is refused as `LaneFull` where 1,000,000 are uncommitted.
     fn submit(&mut self, op: Op) -> Result<Stamp, Refusal>
         requires changes { changes self.old ≤ 2 ^ 61 }
         requires fits { op_fits (index self.old).schema op ≡ true }
@@ -70,7 +70,7 @@ pub trait EngineOver<R: AllocGlobal + Sync>: Engine {
         ensures changes { Self.changes self.new ≤ Self.changes self.old + 1 };
 
     /// Merges what the last commit holds, and answers how many documents there are. It is refused as `TooLarge` where
-    /// there are over 1,048,576. What waits for a commit goes on waiting.
+    /// there are over 1,048,576. Uncommitted operations stay uncommitted.
     fn merge(&mut self, rt: &R) -> Result<u64, Refusal>
         requires { Self.changes self.old ≤ 2 ^ 61 }
         ensures step { Steps (merge indexes (Self.index self.old)) (Self.index self.old)

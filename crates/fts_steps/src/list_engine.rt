@@ -12,7 +12,7 @@ use fts_model::{
 };
 use std::alloc::{AllocError, Global};
 
-/// The most operations that wait for a commit.
+/// The most operations that are uncommitted.
 const MOST_PENDING: usize = 1_000_000;
 
 /// The documents of the last commit and the operations since, both in the order of their stamps.
