@@ -23,6 +23,7 @@ mod state;
 use codes::{MEMORY, OK};
 use core::mem::{replace, replace_with};
 use fts_local::LocalEngine;
+use fts_model::MOST_BUILT;
 use fts_session::Session;
 use fts_steps::{Cut, Merge, Options};
 use loose::Loose;
@@ -102,7 +103,7 @@ fn unwrap(handle: Handle) -> Box<State, Global>
 fn options() -> Options {
     Options {
         workers: 1,
-        cut: Cut::Runs(65_536),
+        cut: Cut::Runs(MOST_BUILT),
         merge: Merge::Policy,
     }
 }

@@ -8,6 +8,7 @@ use Rattle.clap.specs.Walk.{Rule, Text, stop_after}
 use Rattle.clap.specs.declared.builder.value_parser.ValueParser.{ValueParser}
 use Rattle.clap.specs.declared.builder.value_parser.ValueParser.TheVariants.{Names, Unsigned}
 use Rattle.clap.proofs.ValueTestLemmas.{accepts-Accepts}
+use Rattle.fts_model.specs.Limits.{most_built}
 use Rattle.fts_cli.specs.Arguments.{faults_of}
 use Rattle.fts_cli.specs.RunOptions.{AreInRange, Places, command, given_to_run, merges_at, option_rule}
 use Rattle.fts_cli.proofs.ParseLemmas.{Each, RowsFit, ShapeFits, each_accepted, each_any, entered_fits, none_of, one_fits, set_keeps, with_values-fits}
@@ -15,7 +16,7 @@ use Rattle.fts_cli.proofs.ParseLemmas.{Each, RowsFit, ShapeFits, each_accepted, 
 -- a value that the option of this name may have
 abbrev Fit : Text → Text → Type 0
 Fit id text = (bytes_eq id (codes "workers") ≡ true → IsUnsignedIn 1 64 text)
-    × (bytes_eq id (codes "runs") ≡ true → IsUnsignedIn 1 65536 text)
+    × (bytes_eq id (codes "runs") ≡ true → IsUnsignedIn 1 most_built text)
     × (bytes_eq id (codes "deal") ≡ true → IsUnsignedIn 1 64 text)
 
 never : {A : Type 0} → false ≡ true → A
@@ -37,8 +38,8 @@ module _ (places : Places) where
       set_keeps Fit (option_built (codes "workers") (Unsigned 1 64)) refl refl refl (each_accepted (Fit (codes "workers")) (Unsigned 1 64)
           (λ t e. (λ w. accepts-Accepts false (Unsigned 1 64) t e, λ w. never w, λ w. never w))),
       (
-        set_keeps Fit (option_built (codes "runs") (Unsigned 1 65536)) refl refl refl (each_accepted (Fit (codes "runs")) (Unsigned 1 65536)
-            (λ t e. (λ w. never w, λ w. accepts-Accepts false (Unsigned 1 65536) t e, λ w. never w))),
+        set_keeps Fit (option_built (codes "runs") (Unsigned 1 most_built)) refl refl refl (each_accepted (Fit (codes "runs")) (Unsigned 1 most_built)
+            (λ t e. (λ w. never w, λ w. accepts-Accepts false (Unsigned 1 most_built) t e, λ w. never w))),
         (
           set_keeps Fit (option_built (codes "deal") (Unsigned 1 64)) refl refl refl (each_accepted (Fit (codes "deal")) (Unsigned 1 64)
               (λ t e. (λ w. never w, λ w. never w, λ w. accepts-Accepts false (Unsigned 1 64) t e))),
@@ -66,6 +67,6 @@ module _ (places : Places) where
       let rows = given_to_run places words in
       let fit = no_fault_inside words e in (
         one_fits Fit (codes "workers") (IsUnsignedIn 1 64) (λ i t same f. f.0 same) rows fit,
-        one_fits Fit (codes "runs") (IsUnsignedIn 1 65536) (λ i t same f. f.1 same) rows fit,
+        one_fits Fit (codes "runs") (IsUnsignedIn 1 most_built) (λ i t same f. f.1 same) rows fit,
         one_fits Fit (codes "deal") (IsUnsignedIn 1 64) (λ i t same f. f.2 same) rows fit,
       )

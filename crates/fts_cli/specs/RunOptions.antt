@@ -43,7 +43,7 @@ abbrev pub run_command : Places → App
 run_command places =
     with_rule (with_rule (with_rule (with_rule (new_app (codes "run"))
     (option_rule (codes "workers") (Unsigned 1 64)))
-    (option_rule (codes "runs") (Unsigned 1 65536)))
+    (option_rule (codes "runs") (Unsigned 1 most_built)))
     (option_rule (codes "deal") (Unsigned 1 64)))
     (option_rule (codes "merge") (Names (merges_at places)))
 
@@ -105,5 +105,5 @@ AreGiven rows options = (options.workers ≡ unwrap_or (number_given (codes "wor
 -- each number is within its limits
 abbrev pub AreInRange : List Row → Type 0
 AreInRange rows = IfSome (one_of (codes "workers") rows) (IsUnsignedIn 1 64)
-    × IfSome (one_of (codes "runs") rows) (IsUnsignedIn 1 65536)
+    × IfSome (one_of (codes "runs") rows) (IsUnsignedIn 1 most_built)
     × IfSome (one_of (codes "deal") rows) (IsUnsignedIn 1 64)

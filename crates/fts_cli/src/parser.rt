@@ -8,6 +8,7 @@ ghost use Rattle.fts_cli.specs.RunOptions.{Places, option_rule, run_command};
 
 use clap::builder::ValueParser;
 use clap::{Arg, ArgMatches, Command, Error};
+use fts_model::MOST_BUILT;
 use std::alloc::{AllocError, Global};
 
 /// The values of `--merge`.
@@ -47,7 +48,8 @@ fn run<'a>(alloc: Global) -> Result<Command<'a>, AllocError>
         alloc,
         "runs",
         "N",
-        ValueParser::Unsigned(1, 65_536),
+        ValueParser::Unsigned(1, MOST_BUILT as u64),
+        // The words of help are literals, so they name the limit once more.
         "A segment takes N adds in a row, 1 to 65536 [default: 65536]",
     );
     let deal = option(

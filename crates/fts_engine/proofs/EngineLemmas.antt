@@ -11,7 +11,7 @@ use Rattle.fts_index.specs.Writers.{WriterValue}
 use Rattle.fts_engine.specs.declared.uncommitted.Uncommitted.{Uncommitted}
 use Rattle.fts_engine.specs.declared.uncommitted.Uncommitted.TheVariants.{Nothing}
 use Rattle.fts_engine.specs.UncommittedOperations.{ops_of, IsUncommittedIn, Submits}
-use Rattle.fts_engine.specs.WriterIndexes.{Commits, Merges, IsReaderOf, IsIndexEngine, segments_of}
+use Rattle.fts_engine.specs.WriterIndexes.{IsReaderOf, IsIndexEngine, segments_of}
 
 -- a new engine
 pub opened : (w : WriterValue) (reader : Option Known) → IsReaderOf w.front.seen reader → w.front.stamp ≡ 0 → w.front.snapshot.entries ≡ [] → w.front.snapshot.next_id ≡ 0 → w.rounds ≡ 0 → w.round ≡ None → IsIndexEngine w reader Nothing 0 0
@@ -51,14 +51,3 @@ submitted old new reader before after pending calls stamp op i front rounds unco
       spare = λ some. omega (arith, same_segments, i.segments, i.spare (omega (arith, some, same_entries)));
       room = omega (arith, same_next, i.room);
     }
-
--- a commit with merges behind it is a commit
-pub commits_then_merges : (ops : List (Stamped Op)) (old mid new : WriterValue) → Commits ops old mid → Merges 0 mid new → Commits ops old new
-commits_then_merges ops old mid new commits merges = record {
-  schema = merges.schema ∙ commits.schema;
-  documents = merges.documents ∙ commits.documents;
-  stamp = merges.stamp ∙ commits.stamp;
-  of = merges.of ∙ commits.of;
-  segments = omega (arith, merges.segments, commits.segments);
-  room = merges.room;
-}

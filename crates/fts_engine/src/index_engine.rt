@@ -3,7 +3,7 @@ ghost use Rattle.std.specs.Prelude.{◌≡◌, IfOk, IsOkUnless};
 ghost use Rattle.fts_index.specs.Publications.{IsOneCommit};
 ghost use Rattle.fts_engine.specs.WriterIndexes.{IsReaderOf};
 
-use crate::segments::merge_all;
+use crate::segments::{merge_all, merge_behind};
 use crate::threads::threads_for;
 use crate::uncommitted;
 use crate::uncommitted::Uncommitted;
@@ -146,7 +146,7 @@ impl<R: AllocGlobal + Threads + Wait + Sync> EngineOver<R> for IndexEngine {
         self.calls += 1;
         let alloc = self.alloc;
         let options = self.options;
-        let committed = uncommitted::commit_and_merge(
+        let committed = uncommitted::commit(
             rt,
             alloc,
             &mut self.writer,
@@ -154,6 +154,7 @@ impl<R: AllocGlobal + Threads + Wait + Sync> EngineOver<R> for IndexEngine {
             options,
         )?;
         self.pending = 0;
+        merge_behind(rt, alloc, &mut self.writer, options.merge);
         tell(&mut self.reader, &committed.seen);
         Ok(committed.stamp)
     }

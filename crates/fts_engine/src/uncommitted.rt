@@ -8,7 +8,6 @@ ghost use Rattle.fts_engine.specs.UncommittedOperations.{IsItsLane, IsOpen, IsUn
 ghost use Rattle.fts_engine.specs.UncommittedOperations.{first_ops, ops_of};
 ghost use Rattle.fts_engine.specs.WriterIndexes.{Commits};
 
-use crate::segments::merge_behind;
 use fts_index::{Batch, Committed, Lane, LaneEnd, Round, Writer};
 use fts_model::{Op, Refusal, Stamp};
 use fts_steps::Options;
@@ -174,8 +173,8 @@ fn gather(
     }
 }
 
-/// Commits the operations, and then merges segments, where the options say so. At a refusal they stay uncommitted.
-pub fn commit_and_merge<R: Threads + Wait + Sync>(
+/// Commits the operations. At a refusal they stay uncommitted.
+pub fn commit<R: Threads + Wait + Sync>(
     rt: &R,
     alloc: Global,
     writer: &mut Writer,
@@ -216,10 +215,7 @@ pub fn commit_and_merge<R: Threads + Wait + Sync>(
         options.workers,
         &fts_pool::Open,
     ) {
-        Ok(committed) => {
-            merge_behind(rt, alloc, writer, options.merge);
-            Ok(committed)
-        }
+        Ok(committed) => Ok(committed),
         Err(refusal) => {
             *uncommitted = Uncommitted::Gathered(batch);
             Err(refusal)

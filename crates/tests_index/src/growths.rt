@@ -128,7 +128,8 @@ fn commit_two<R: Threads + Wait + Sync + Abort>(rt: &R, alloc: Global, writer: &
     committed.expect(rt, "a commit");
 }
 
-/// Commits a delete and two documents without values, and answers a reader that knows the commit before.
+/// Commits two documents, and then a delete and two documents without values. A reader that is told of neither commit
+/// finds each. The one that is answered knows the first.
 fn committed<R: Threads + Wait + Sync + Abort>(
     rt: &R,
     alloc: Global,
@@ -136,15 +137,18 @@ fn committed<R: Threads + Wait + Sync + Abort>(
 ) -> (Reader, CommitSeen)
     ensures { result.1.of ≡ result.0.of }
 {
+    let mut untold = reader(rt, writer);
     commit_two(rt, alloc, writer);
+    finds(rt, &mut untold, 3);
     let reader = reader(rt, writer);
     let batch = batch(alloc, writer, &["-p", "+", "+"]).expect(rt, "a batch");
     let seen = commit_again(rt, alloc, writer, &batch);
+    finds(rt, &mut untold, 7);
     (reader, seen)
 }
 
 #[test]
-fn a_refused_growth_can_be_tried_again(rt: HostRuntime) {
+fn a_refused_growth_of_a_commit_can_be_tried_again(rt: HostRuntime) {
     let alloc = rt.alloc();
     let mut writer = writer(&rt, alloc).expect(&rt, "a writer");
     let (mut reader, seen) = committed(&rt, alloc, &mut writer);
