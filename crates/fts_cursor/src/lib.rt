@@ -31,6 +31,6 @@ mod terms;
 mod tree;
 mod walk;
 
-pub use query_tree::cursor_of;
 pub use cursor::Cursor;
 pub use fts_postings::{Conjunction, DocSet, PostingCursor};
+pub use query_tree::cursor_of;

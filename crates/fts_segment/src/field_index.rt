@@ -18,9 +18,9 @@ ghost use Rattle.fts_model.specs.Schemas.{holds_numbers, is_ordered};
 ghost use Rattle.fts_segment.specs.Sources.{contents, live_count};
 
 use crate::dictionary::Dictionary;
-use crate::lookup::equal_range;
 use crate::joined_terms::joined_terms;
 use crate::keyword_index::KeywordIndex;
+use crate::lookup::equal_range;
 use crate::number_index::{NumberIndex, number_in};
 use crate::segment::ListId;
 use crate::source::Source;

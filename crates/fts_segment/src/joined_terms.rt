@@ -9,10 +9,10 @@ ghost use Rattle.fts_segment.specs.Parts.{AreParts, IsPart};
 ghost use Rattle.fts_segment.specs.Sources.{contents, live_count, HasBits};
 
 use crate::dictionary::Dictionary;
-use crate::term_join::join_parts;
-use crate::part::Part;
 use crate::new_numbers::NewNumbers;
+use crate::part::Part;
 use crate::source::Source;
+use crate::term_join::join_parts;
 use fts_model::Kind;
 use std::alloc::{AllocError, Global};
 

@@ -8,8 +8,8 @@ ghost use Rattle.fts_segment.specs.Puts.{Puts};
 ghost use Rattle.fts_segment.specs.TermPositionLists.{position_lists_in};
 ghost use Rattle.fts_segment.specs.UnpackedLists.{lists_in};
 
-use crate::position_lists::PositionListLog;
 use crate::new_numbers::NewNumbers;
+use crate::position_lists::PositionListLog;
 use crate::term_positions::TermPositionLists;
 use crate::unpacked_lists::UnpackedLists;
 use fts_pack::{BLOCK, Blocks, List};

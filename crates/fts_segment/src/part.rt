@@ -6,8 +6,8 @@ ghost use Rattle.fts_segment.specs.Puts.{Puts};
 
 use crate::dictionary::Dictionary;
 use crate::moves::move_postings;
-use crate::position_lists::PositionListLog;
 use crate::new_numbers::NewNumbers;
+use crate::position_lists::PositionListLog;
 use crate::unpacked_lists::UnpackedLists;
 use std::alloc::AllocError;
 use std::marker::Model;
