@@ -35,12 +35,18 @@ is_term_of kinds.Text (values.Text text) = true
 is_term_of kinds.Keyword (values.Text text) = true
 is_term_of kinds.U64 (values.Number (numbers.U64 n)) = true
 is_term_of kinds.I64 (values.Number (numbers.I64 n)) = true
-is_term_of kind value = false
+is_term_of kinds.Text value = false
+is_term_of kinds.Keyword value = false
+is_term_of kinds.U64 value = false
+is_term_of kinds.I64 value = false
 
 -- whether a field of this kind holds such a value: a text field holds lists of texts too
 abbrev pub is_of_kind : Kind → FieldValue → Bool
 is_of_kind kinds.Text (values.Texts texts) = true
-is_of_kind kind value = is_term_of kind value
+is_of_kind kinds.Text value = is_term_of kinds.Text value
+is_of_kind kinds.Keyword value = is_term_of kinds.Keyword value
+is_of_kind kinds.U64 value = is_term_of kinds.U64 value
+is_of_kind kinds.I64 value = is_term_of kinds.I64 value
 
 -- the value that a JSON string is in a field of this kind: a text of at most 1,048,576 bytes, a keyword of at most 256
 abbrev pub text_in : Kind → List ℕ → Result (Option FieldValue) Refusal
@@ -80,7 +86,10 @@ texts_in texts =
 -- the value that a JSON array is in a field of this kind
 abbrev pub list_in : Kind → Option (List (List ℕ)) → Result (Option FieldValue) Refusal
 list_in kinds.Text (Some texts) = texts_in texts
-list_in kind texts = Err WrongKind
+list_in kinds.Text None = Err WrongKind
+list_in kinds.Keyword texts = Err WrongKind
+list_in kinds.U64 texts = Err WrongKind
+list_in kinds.I64 texts = Err WrongKind
 
 -- the value that a JSON value is there; null is no value
 abbrev pub value_in : Kind → Data → Result (Option FieldValue) Refusal
@@ -167,7 +176,10 @@ is_value_of kinds.Text (values.Texts (text ∷ texts)) =
 is_value_of kinds.Keyword (values.Text text) = nat_le (length text) 256
 is_value_of kinds.U64 (values.Number (numbers.U64 n)) = nat_lt n (2 ^ 64)
 is_value_of kinds.I64 (values.Number (numbers.I64 z)) = fits_i64 z
-is_value_of kind value = false
+is_value_of kinds.Text value = false
+is_value_of kinds.Keyword value = false
+is_value_of kinds.U64 value = false
+is_value_of kinds.I64 value = false
 
 -- what a field of this kind can have: no value, or one of its own
 abbrev pub CanHave : Kind → Option FieldValue → Type 0

@@ -35,7 +35,9 @@ some_value_in kind value = result_and_then (λ v. ok_or v WrongKind) (value_in k
 abbrev pub term_value : Kind → Data → Result FieldValue Refusal
 term_value kinds.Text (string token) = Ok (values.Text token)
 term_value kinds.Text value = Err WrongKind
-term_value kind value = some_value_in kind value
+term_value kinds.Keyword value = some_value_in kinds.Keyword value
+term_value kinds.U64 value = some_value_in kinds.U64 value
+term_value kinds.I64 value = some_value_in kinds.I64 value
 
 -- the term that a JSON value is in the field of this number
 abbrev pub term_at : List Field → ℕ → Data → Result Term Refusal
@@ -70,7 +72,10 @@ value_has kinds.Text (values.Texts texts) (values.Text token) = has_token (token
 value_has kinds.Keyword (values.Text text) (values.Text whole) = bytes_eq text whole
 value_has kinds.U64 (values.Number (numbers.U64 n)) (values.Number (numbers.U64 m)) = n == m
 value_has kinds.I64 (values.Number (numbers.I64 n)) (values.Number (numbers.I64 m)) = int_eq n m
-value_has kind value term = false
+value_has kinds.Text value term = false
+value_has kinds.Keyword value term = false
+value_has kinds.U64 value term = false
+value_has kinds.I64 value term = false
 
 -- the value of a field has a term, if there is the field and it has a value
 abbrev pub field_has : Option Field → Option FieldValue → FieldValue → Bool

@@ -134,7 +134,9 @@ hits schema query documents = filter (λ d. matches schema d.value query) docume
 -- whether fields of this kind hold phrases
 abbrev pub holds_phrases : Kind → Bool
 holds_phrases kinds.Text = true
-holds_phrases kind = false
+holds_phrases kinds.Keyword = false
+holds_phrases kinds.U64 = false
+holds_phrases kinds.I64 = false
 
 -- whether a bound is one of a field of this kind
 abbrev pub is_bound_of : Kind → Bound FieldValue → Bool

@@ -12,7 +12,10 @@ use Rattle.fts_segment.specs.Segments.{number_of, numbers_where}
 -- a number of an i64 field fits 64 bits
 abbrev pub Fits64 : Kind → FieldValue → Type 0
 Fits64 kinds.I64 (values.Number (numbers.I64 z)) = fits_i64 z ≡ true
-Fits64 kind value = Unit {0}
+Fits64 kinds.Text value = Unit {0}
+Fits64 kinds.Keyword value = Unit {0}
+Fits64 kinds.U64 value = Unit {0}
+Fits64 kinds.I64 value = Unit {0}
 
 -- the numbers of values
 abbrev pub numbers_of : Kind → List (Option FieldValue) → List (Option ℕ)

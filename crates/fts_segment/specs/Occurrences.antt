@@ -28,7 +28,10 @@ abbrev pub value_tokens : Kind → FieldValue → List (ℕ × List ℕ)
 value_tokens kinds.Text (values.Text text) = tokens text
 value_tokens kinds.Text (values.Texts texts) = tokens_of_texts 0 texts
 value_tokens kinds.Keyword (values.Text text) = (0, text) ∷ []
-value_tokens kind value = []
+value_tokens kinds.Text value = []
+value_tokens kinds.Keyword value = []
+value_tokens kinds.U64 value = []
+value_tokens kinds.I64 value = []
 
 -- the same, if there is a value
 abbrev pub tokens_of : Kind → Option FieldValue → List (ℕ × List ℕ)

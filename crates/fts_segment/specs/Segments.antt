@@ -67,7 +67,10 @@ positions segment term = positions_of segment term term.value
 abbrev pub number_in : Kind → FieldValue → Option ℕ
 number_in kinds.U64 (values.Number (numbers.U64 n)) = Some n
 number_in kinds.I64 (values.Number (numbers.I64 z)) = Some (u64_of z)
-number_in kind value = None
+number_in kinds.Text value = None
+number_in kinds.Keyword value = None
+number_in kinds.U64 value = None
+number_in kinds.I64 value = None
 
 abbrev pub number_of : Kind → Option FieldValue → Option ℕ
 number_of kind value = option_and_then (number_in kind) value

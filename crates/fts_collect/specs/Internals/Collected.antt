@@ -47,7 +47,8 @@ column_of segment field = if is_number_field segment.schema field then column se
 abbrev pub value_in : Kind → List (List ℕ) → ℕ → GroupValue
 value_in kinds.I64 keywords x = group_values.I64 (i64_of x)
 value_in kinds.Keyword keywords x = group_values.Keyword (slice_index_or keywords x [])
-value_in kind keywords x = group_values.U64 x
+value_in kinds.Text keywords x = group_values.U64 x
+value_in kinds.U64 keywords x = group_values.U64 x
 
 -- the value that the column of a field keeps as a number
 abbrev pub value_at : SegmentValue → ℕ → ℕ → GroupValue

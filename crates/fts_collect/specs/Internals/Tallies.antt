@@ -16,7 +16,9 @@ use Rattle.fts_column.specs.Counting.{AreWithin}
 -- the number that a column of this kind keeps as this one
 abbrev pub number_at : Kind → ℕ → Number
 number_at kinds.I64 x = I64 (i64_of x)
-number_at kind x = U64 x
+number_at kinds.Text x = U64 x
+number_at kinds.Keyword x = U64 x
+number_at kinds.U64 x = U64 x
 
 -- the numbers that documents have in a column
 abbrev pub present_at : List (Option ℕ) → List ℕ → List ℕ
