@@ -9,7 +9,7 @@ use Rattle.fts_base.specs.declared.refusal.Refusal.TheVariants.{BadNumber, Range
 use Rattle.fts_model.specs.declared.query.Query.{Query}
 use Rattle.fts_query.specs.declared.error.QueryError.{QueryError}
 use Rattle.fts_query.specs.declared.error.QueryError.TheVariants as errors
-use Rattle.fts_query.specs.declared.nesting.Place.TheVariants.{Outside}
+use Rattle.fts_query.specs.declared.nesting.Quoting.TheVariants.{Outside}
 use Rattle.fts_model.specs.QueryValues.{QueryValue, nothing, query_value}
 use Rattle.fts_query.specs.Meanings.{Meaning}
 use Rattle.fts_query.specs.Grammar.{is_space}

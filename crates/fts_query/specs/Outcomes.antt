@@ -7,16 +7,16 @@ use Rattle.fts_base.specs.declared.refusal.Refusal.{Refusal}
 use Rattle.fts_base.specs.declared.refusal.Refusal.TheVariants.{TooLong, Syntax, TooDeep, UnknownField, BadNumber}
 use Rattle.fts_base.specs.declared.refusal.Refusal.TheVariants.{RangeOnText, NoDefaultField, AllNegative}
 use Rattle.fts_query.specs.declared.error.QueryError.TheVariants as errors
-use Rattle.fts_query.specs.declared.nesting.Place.{Place}
-use Rattle.fts_query.specs.declared.nesting.Place.TheVariants.{Outside, Quoted, Escaped}
+use Rattle.fts_query.specs.declared.nesting.Quoting.{Quoting}
+use Rattle.fts_query.specs.declared.nesting.Quoting.TheVariants.{Outside, Quoted, Escaped}
 use Rattle.fts_model.specs.QueryValues.{QueryValue, nothing}
 use Rattle.fts_query.specs.Characters.{quote, open_parenthesis, close_parenthesis, backslash}
 use Rattle.fts_query.specs.Meanings.{Meaning}
 use Rattle.fts_query.specs.Grammar.{IsBlank, IsQuery}
 
 -- whether the parentheses outside of quotes nest over 32 deep, where so many are open before
-unfoldable pub is_too_deep : Place → ℕ → List ℕ → Bool
-is_too_deep place depth [] = false
+unfoldable pub is_too_deep : Quoting → ℕ → List ℕ → Bool
+is_too_deep quoting depth [] = false
 is_too_deep Outside depth (c ∷ cs) =
     if c == quote then is_too_deep Quoted depth cs
     else (if c == open_parenthesis then (if nat_lt 31 depth then true else is_too_deep Outside (depth + 1) cs)

@@ -1,14 +1,14 @@
 // Whether a query nests too deep to be read.
 ghost use Rattle.std.specs.Prelude.{◌≡◌};
 ghost use Rattle.std.specs.Str.{chars};
-ghost use Rattle.fts_query.specs.declared.nesting.Place.TheVariants.{Outside};
+ghost use Rattle.fts_query.specs.declared.nesting.Quoting.TheVariants.{Outside};
 ghost use Rattle.fts_query.specs.Outcomes.{is_too_deep};
 
 use crate::input::split_first;
 
-/// Where a look from the left stands.
+/// Where a look from the left stands, by quotes.
 #[derive(Clone, Copy, Debug, PartialEq, Eq)]
-pub enum Place {
+pub enum Quoting {
     /// Outside of quotes.
     Outside,
     /// Between quotes.
@@ -25,15 +25,15 @@ const DEEPEST: u32 = 32;
 pub(crate) fn is_too_deep(text: &str) -> bool
     ensures { result ≡ is_too_deep Outside 0 (chars text.now) }
 {
-    let mut place = Place::Outside;
+    let mut quoting = Quoting::Outside;
     let mut depth = 0;
     let mut rest = text;
     while let Some((c, tail)) = split_first(rest) {
         rest = tail;
-        match place {
-            Place::Outside => {
+        match quoting {
+            Quoting::Outside => {
                 if c == '"' {
-                    place = Place::Quoted;
+                    quoting = Quoting::Quoted;
                 } else if c == '(' {
                     if depth >= DEEPEST {
                         return true;
@@ -43,14 +43,14 @@ pub(crate) fn is_too_deep(text: &str) -> bool
                     depth = depth.saturating_sub(1);
                 }
             }
-            Place::Quoted => {
+            Quoting::Quoted => {
                 if c == '"' {
-                    place = Place::Outside;
+                    quoting = Quoting::Outside;
                 } else if c == '\\' {
-                    place = Place::Escaped;
+                    quoting = Quoting::Escaped;
                 }
             }
-            Place::Escaped => place = Place::Quoted,
+            Quoting::Escaped => quoting = Quoting::Quoted,
         }
     }
     false
