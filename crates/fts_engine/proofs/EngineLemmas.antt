@@ -30,9 +30,9 @@ opened w reader reads stamp entries next rounds round =
     }
 
 -- one more uncommitted operation
-pub submitted : (old new : WriterValue) (reader : Option Known) (before after : Uncommitted) (pending calls stamp : ℕ) (op : Op) → IsIndexEngine old reader before pending calls → new.front ≡ old.front → new.rounds ≤ old.rounds + 1 →
-    IsUncommittedIn new after → Submits (old.front.stamp + 1) op (ops_of before) (ops_of after) (Ok stamp) → op_fits old.front.snapshot.schema op ≡ true → IsIndexEngine new reader after (pending + 1) (calls + 1)
-submitted old new reader before after pending calls stamp op i front rounds uncommitted submits fits =
+pub submitted : (old new : WriterValue) (reader : Option Known) (before after : Uncommitted) (count calls stamp : ℕ) (op : Op) → IsIndexEngine old reader before count calls → new.front ≡ old.front → new.rounds ≤ old.rounds + 1 →
+    IsUncommittedIn new after → Submits (old.front.stamp + 1) op (ops_of before) (ops_of after) (Ok stamp) → op_fits old.front.snapshot.schema op ≡ true → IsIndexEngine new reader after (count + 1) (calls + 1)
+submitted old new reader before after count calls stamp op i front rounds uncommitted submits fits =
     let one : Stamped Op = record { stamp = stamp; value = op } in
     let more : length (ops_of after) ≡ length (ops_of before) + 1 = ap length submits.1 ∙ length-append (ops_of before) (one ∷ []) in
     let same_stamp : new.front.stamp ≡ old.front.stamp = ap (λ f. f.stamp) front in

@@ -18,7 +18,7 @@ index_of w uncommitted = record {
   schema = w.front.snapshot.schema;
   documents = content_of w.front.snapshot;
   commit_stamp = w.front.stamp;
-  pending = ops_of uncommitted;
+  uncommitted = ops_of uncommitted;
 }
 
 -- how many segments there are, and how many numbers were given to segments, together
@@ -52,16 +52,16 @@ IsReaderOf seen reader = (known : Known) → reader ≡ Some known → known.of 
 
 -- What holds of an engine after so many calls that changed it. A call takes one stamp, opens one round and gives two
 -- numbers of segments at most.
-pub record IsIndexEngine (w : WriterValue) (reader : Option Known) (uncommitted : Uncommitted) (pending calls : ℕ)
+pub record IsIndexEngine (w : WriterValue) (reader : Option Known) (uncommitted : Uncommitted) (count calls : ℕ)
     : Type 0 where
   pub its : IsUncommittedIn w uncommitted
   pub reads : IsReaderOf w.front.seen reader
-  pub counted : pending ≡ length (ops_of uncommitted)
+  pub counted : count ≡ length (ops_of uncommitted)
   pub fit : misfit w.front.snapshot.schema (ops_of uncommitted) ≡ None
-  pub stamps : w.front.stamp + pending ≤ calls
+  pub stamps : w.front.stamp + count ≤ calls
   pub rounds : w.rounds ≤ calls
-  pub segments : segments_of w + 2 * pending ≤ 2 * calls
-  pub spare : 0 < length w.front.snapshot.entries → segments_of w + 2 * pending < 2 * calls
+  pub segments : segments_of w + 2 * count ≤ 2 * calls
+  pub spare : 0 < length w.front.snapshot.entries → segments_of w + 2 * count < 2 * calls
   pub room : w.front.snapshot.next_id ≤ 2 ^ 62
 
 -- an engine: what it stands for, how many calls changed it, and what no reply shows: its segments, and whether it has

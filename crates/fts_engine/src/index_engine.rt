@@ -62,7 +62,7 @@ pub struct IndexEngine {
     reader: Option<Reader>,
     uncommitted: Uncommitted,
     /// How many operations are uncommitted.
-    pending: u64,
+    count: u64,
     /// How many calls changed something.
     calls: u64,
 }
@@ -81,7 +81,7 @@ impl Model for IndexEngine {
       has_reader = is_some e.reader;
     } };
 
-    ghost invariant = { λ e. IsIndexEngine e.writer e.reader e.uncommitted e.pending e.calls };
+    ghost invariant = { λ e. IsIndexEngine e.writer e.reader e.uncommitted e.count e.calls };
 }
 
 impl IndexEngine {
@@ -115,13 +115,13 @@ impl Engine for IndexEngine {
     }
 
     fn next_stamp(&self) -> Stamp {
-        self.writer.commit_stamp() + self.pending + 1
+        self.writer.commit_stamp() + self.count + 1
     }
 
     fn submit(&mut self, op: Op) -> Result<Stamp, Refusal> {
         self.calls += 1;
         let stamp = uncommitted::submit(self.alloc, &mut self.writer, &mut self.uncommitted, op)?;
-        self.pending += 1;
+        self.count += 1;
         Ok(stamp)
     }
 }
@@ -137,7 +137,7 @@ impl<R: AllocGlobal + Threads + Wait + Sync> EngineOver<R> for IndexEngine {
             writer,
             reader,
             uncommitted: Uncommitted::Nothing,
-            pending: 0,
+            count: 0,
             calls: 0,
         })
     }
@@ -153,7 +153,7 @@ impl<R: AllocGlobal + Threads + Wait + Sync> EngineOver<R> for IndexEngine {
             &mut self.uncommitted,
             options,
         )?;
-        self.pending = 0;
+        self.count = 0;
         merge_behind(rt, alloc, &mut self.writer, options.merge);
         tell(&mut self.reader, &committed.seen);
         Ok(committed.stamp)
@@ -162,7 +162,7 @@ impl<R: AllocGlobal + Threads + Wait + Sync> EngineOver<R> for IndexEngine {
     fn rollback(&mut self, _rt: &R) -> Result<Stamp, Refusal> {
         self.calls += 1;
         self.uncommitted = Uncommitted::Nothing;
-        self.pending = 0;
+        self.count = 0;
         Ok(self.writer.abandon())
     }
 
@@ -185,7 +185,7 @@ impl<R: AllocGlobal + Threads + Wait + Sync> EngineOver<R> for IndexEngine {
             writer,
             reader,
             uncommitted: _,
-            pending: _,
+            count: _,
             calls: _,
         } = self;
         drop(reader);

@@ -16,22 +16,22 @@ use Rattle.fts_local.specs.declared.commit.LocalCommit.{LocalCommit}
 use Rattle.fts_local.specs.LocalIndexes.{CommitsLocally, IsLocalEngine, MergesLocally}
 
 -- one more uncommitted operation
-pub local_submitted : (commit : LocalCommit) (pending : List (Stamped Op)) (cut : Cut) (calls stamp : ℕ) (op : Op) → IsLocalEngine commit pending cut calls → stamp ≡ commit.stamp + length pending + 1 →
-    op_fits commit.snapshot.schema op ≡ true → IsLocalEngine commit (pending ++ record { stamp = stamp; value = op } ∷ []) cut (calls + 1)
-local_submitted commit pending cut calls stamp op i at fits =
+pub local_submitted : (commit : LocalCommit) (uncommitted : List (Stamped Op)) (cut : Cut) (calls stamp : ℕ) (op : Op) → IsLocalEngine commit uncommitted cut calls → stamp ≡ commit.stamp + length uncommitted + 1 →
+    op_fits commit.snapshot.schema op ≡ true → IsLocalEngine commit (uncommitted ++ record { stamp = stamp; value = op } ∷ []) cut (calls + 1)
+local_submitted commit uncommitted cut calls stamp op i at fits =
     let one : Stamped Op = record { stamp = stamp; value = op } in
-    let more : length (pending ++ one ∷ []) ≡ length pending + 1 = length-append pending (one ∷ []) in
+    let more : length (uncommitted ++ one ∷ []) ≡ length uncommitted + 1 = length-append uncommitted (one ∷ []) in
     record {
       cuts = i.cuts;
-      numbered = numbered-push (commit.stamp + 1) pending one i.numbered (omega (arith, at));
-      fit = misfit-push commit.snapshot.schema pending one i.fit fits;
+      numbered = numbered-push (commit.stamp + 1) uncommitted one i.numbered (omega (arith, at));
+      fit = misfit-push commit.snapshot.schema uncommitted one i.fit fits;
       stamps = omega (arith, more, i.stamps);
       segments = omega (arith, more, i.segments);
     }
 
 -- the uncommitted operations are committed
-pub local_committed : (old new : LocalCommit) (pending : List (Stamped Op)) (cut : Cut) (calls : ℕ) → IsLocalEngine old pending cut calls → CommitsLocally pending old new → IsLocalEngine new [] cut (calls + 1)
-local_committed old new pending cut calls i c = record {
+pub local_committed : (old new : LocalCommit) (uncommitted : List (Stamped Op)) (cut : Cut) (calls : ℕ) → IsLocalEngine old uncommitted cut calls → CommitsLocally uncommitted old new → IsLocalEngine new [] cut (calls + 1)
+local_committed old new uncommitted cut calls i c = record {
   cuts = i.cuts;
   numbered = refl;
   fit = refl;
@@ -40,11 +40,11 @@ local_committed old new pending cut calls i c = record {
 }
 
 -- the segments of the last commit are merged
-pub local_merged : (old new : LocalCommit) (pending : List (Stamped Op)) (cut : Cut) (calls : ℕ) → IsLocalEngine old pending cut calls → MergesLocally 1 old new → IsLocalEngine new pending cut (calls + 1)
-local_merged old new pending cut calls i m = record {
+pub local_merged : (old new : LocalCommit) (uncommitted : List (Stamped Op)) (cut : Cut) (calls : ℕ) → IsLocalEngine old uncommitted cut calls → MergesLocally 1 old new → IsLocalEngine new uncommitted cut (calls + 1)
+local_merged old new uncommitted cut calls i m = record {
   cuts = i.cuts;
-  numbered = subst (λ n. stamps_of pending ≡ range_with_len (n + 1) (length pending)) (sym m.stamp) i.numbered;
-  fit = subst (λ s. misfit s pending ≡ None) (sym m.schema) i.fit;
+  numbered = subst (λ n. stamps_of uncommitted ≡ range_with_len (n + 1) (length uncommitted)) (sym m.stamp) i.numbered;
+  fit = subst (λ s. misfit s uncommitted ≡ None) (sym m.schema) i.fit;
   stamps = omega (arith, m.stamp, i.stamps);
   segments = omega (arith, m.segments, i.segments);
 }

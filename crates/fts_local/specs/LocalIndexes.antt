@@ -14,11 +14,11 @@ use Rattle.fts_local.specs.declared.commit.LocalCommit.{LocalCommit}
 
 -- what a commit stands for, with the operations since
 abbrev pub local_index : LocalCommit → List (Stamped Op) → Index
-local_index commit pending = record {
+local_index commit uncommitted = record {
   schema = commit.snapshot.schema;
   documents = content_of commit.snapshot;
   commit_stamp = commit.stamp;
-  pending = pending;
+  uncommitted = uncommitted;
 }
 
 -- an engine: what it stands for, and how many calls changed it
@@ -28,12 +28,12 @@ pub record LocalValue : Type 0 where
 
 -- What holds of an engine after so many calls that changed it: the operations have the stamps behind the commit's, and
 -- each call took one stamp, and two of segments and their numbers together, at most.
-pub record IsLocalEngine (commit : LocalCommit) (pending : List (Stamped Op)) (cut : Cut) (calls : ℕ) : Type 0 where
+pub record IsLocalEngine (commit : LocalCommit) (uncommitted : List (Stamped Op)) (cut : Cut) (calls : ℕ) : Type 0 where
   pub cuts : IsCut cut
-  pub numbered : stamps_of pending ≡ range_with_len (commit.stamp + 1) (length pending)
-  pub fit : misfit commit.snapshot.schema pending ≡ None
-  pub stamps : commit.stamp + length pending ≤ calls
-  pub segments : segments_and_numbers commit.snapshot + 2 * length pending ≤ 2 * calls
+  pub numbered : stamps_of uncommitted ≡ range_with_len (commit.stamp + 1) (length uncommitted)
+  pub fit : misfit commit.snapshot.schema uncommitted ≡ None
+  pub stamps : commit.stamp + length uncommitted ≤ calls
+  pub segments : segments_and_numbers commit.snapshot + 2 * length uncommitted ≤ 2 * calls
 
 -- Operations were committed behind a commit. Each of them took one segment and its number at most.
 pub record CommitsLocally (ops : List (Stamped Op)) (old new : LocalCommit) : Type 0 where

@@ -18,7 +18,7 @@ use std::alloc::Global;
 use std::sync::Arc;
 
 /// The commit behind another one, of the operations since.
-fn next_commit(
+pub(crate) fn next_commit(
     alloc: Global,
     last: &LocalCommit,
     ops: &[Stamped<Op>],
@@ -109,26 +109,12 @@ fn merge_planned(alloc: Global, commit: &mut Arc<LocalCommit>)
     }
 }
 
-/// The commit behind another one, of the operations since, with its segments merged where the option says so.
-pub(crate) fn commit_and_merge(
-    alloc: Global,
-    last: &LocalCommit,
-    ops: &[Stamped<Op>],
-    cut: Cut,
-    merge: Merge,
-) -> Result<Arc<LocalCommit>, Refusal>
-    requires cut { IsCut cut }
-    requires numbered { stamps_of ops.now ≡ range_with_len (last.now.stamp + 1) (length ops.now) }
-    requires fit { misfit last.now.snapshot.schema ops.now ≡ None }
-    requires stamps { last.now.stamp + length ops.now + 1 < 2 ^ 62 }
-    requires numbers { last.now.snapshot.next_id + length ops.now ≤ 2 ^ 62 }
-    ensures commits { IfOk result (λ next. CommitsLocally ops.now last.now (arc_value next)) }
-    ensures memory { IsOkUnless result Refusal.Memory }
+/// Merges segments of a new commit where the option says so.
+pub(crate) fn merge_behind(alloc: Global, commit: &mut Arc<LocalCommit>, merge: Merge)
+    ensures { MergesLocally 0 (arc_value commit.old) (arc_value commit.new) }
 {
-    let mut next = next_commit(alloc, last, ops, cut)?;
     match merge {
         Merge::Off => {}
-        Merge::Policy => merge_planned(alloc, &mut next),
+        Merge::Policy => merge_planned(alloc, commit),
     }
-    Ok(next)
 }

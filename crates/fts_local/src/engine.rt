@@ -1,7 +1,7 @@
 // An index over segments that needs nothing but memory: no other thread, and nothing to wait for.
 ghost use Rattle.std.specs.Prelude.{◌≡◌};
 
-use crate::changes::{commit_and_merge, merge_all};
+use crate::changes::{merge_all, merge_behind, next_commit};
 use crate::commit::LocalCommit;
 use fts_model::{Answer, Cut, Op, Query, Refusal, Request, Schema, Stamp, Stamped};
 use fts_searches::search_alone;
@@ -12,7 +12,7 @@ use std::marker::Model;
 use std::sync::Arc;
 
 /// The most operations that are uncommitted.
-const MOST_PENDING: usize = 1_000_000;
+const MOST_UNCOMMITTED: usize = 1_000_000;
 
 /// The last commit, which forks share, and the operations since.
 ///
@@ -23,7 +23,7 @@ pub struct LocalEngine {
     cut: Cut,
     merge: Merge,
     commit: Arc<LocalCommit>,
-    pending: Vec<Stamped<Op>>,
+    uncommitted: Vec<Stamped<Op>>,
     /// How many calls changed something.
     calls: u64,
 }
@@ -34,9 +34,9 @@ impl Model for LocalEngine {
 
     ghost Value = { LocalValue };
 
-    ghost view = { λ e. record { index = local_index (arc_value e.commit) e.pending.items; calls = e.calls } };
+    ghost view = { λ e. record { index = local_index (arc_value e.commit) e.uncommitted.items; calls = e.calls } };
 
-    ghost invariant = { λ e. IsLocalEngine (arc_value e.commit) e.pending.items e.cut e.calls };
+    ghost invariant = { λ e. IsLocalEngine (arc_value e.commit) e.uncommitted.items e.cut e.calls };
 }
 
 impl Fork for LocalEngine {
@@ -47,7 +47,7 @@ impl Fork for LocalEngine {
             cut: self.cut,
             merge: self.merge,
             commit,
-            pending: Vec::new(self.alloc),
+            uncommitted: Vec::new(self.alloc),
             calls: self.calls,
         })
     }
@@ -67,16 +67,16 @@ impl Engine for LocalEngine {
     }
 
     fn next_stamp(&self) -> Stamp {
-        self.commit.stamp + self.pending.len() as u64 + 1
+        self.commit.stamp + self.uncommitted.len() as u64 + 1
     }
 
     fn submit(&mut self, op: Op) -> Result<Stamp, Refusal> {
         self.calls += 1;
-        if self.pending.len() >= MOST_PENDING {
+        if self.uncommitted.len() >= MOST_UNCOMMITTED {
             return Err(Refusal::LaneFull);
         }
-        let stamp = self.commit.stamp + self.pending.len() as u64 + 1;
-        self.pending.push(Stamped { stamp, value: op })?;
+        let stamp = self.commit.stamp + self.uncommitted.len() as u64 + 1;
+        self.uncommitted.push(Stamped { stamp, value: op })?;
         Ok(stamp)
     }
 }
@@ -91,27 +91,23 @@ impl<R: AllocGlobal + Sync> EngineOver<R> for LocalEngine {
             cut: options.cut,
             merge: options.merge,
             commit,
-            pending: Vec::new(alloc),
+            uncommitted: Vec::new(alloc),
             calls: 0,
         })
     }
 
     fn commit(&mut self, _rt: &R) -> Result<Stamp, Refusal> {
         self.calls += 1;
-        self.commit = commit_and_merge(
-            self.alloc,
-            &self.commit,
-            &self.pending,
-            self.cut,
-            self.merge,
-        )?;
-        self.pending.clear();
+        let mut commit = next_commit(self.alloc, &self.commit, &self.uncommitted, self.cut)?;
+        merge_behind(self.alloc, &mut commit, self.merge);
+        self.commit = commit;
+        self.uncommitted.clear();
         Ok(self.commit.stamp)
     }
 
     fn rollback(&mut self, _rt: &R) -> Result<Stamp, Refusal> {
         self.calls += 1;
-        self.pending.clear();
+        self.uncommitted.clear();
         Ok(self.commit.stamp)
     }
 

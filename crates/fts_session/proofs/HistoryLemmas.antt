@@ -199,7 +199,7 @@ index_by schema us bs = record {
   schema = schema;
   documents = alive schema (stamped_from 1 us);
   commit_stamp = length us;
-  pending = stamped_from (length us + 1) bs;
+  uncommitted = stamped_from (length us + 1) bs;
 }
 
 abbrev pub index_of : History → Index
@@ -217,7 +217,7 @@ one_pending : (schema : List Field) (us bs : List Kept) (op : Op) → list_any i
 one_pending schema us bs op h =
     let old = stamped_from (length us + 1) bs in
     let here : (length us + 1) + length bs ≡ stamp_after (index_by schema us bs) = omega (arith, length-stamped (length us + 1) bs h) in
-    ap (λ (pending : List (Stamped Op)). let i : Index = record { schema = schema; documents = alive schema (stamped_from 1 us); commit_stamp = length us; pending = pending } in i)
+    ap (λ (uncommitted : List (Stamped Op)). let i : Index = record { schema = schema; documents = alive schema (stamped_from 1 us); commit_stamp = length us; uncommitted = uncommitted } in i)
     (stamped-append (length us + 1) bs (Operation op ∷ [])
     ∙ ap (λ n. let o : Stamped Op = record { stamp = n; value = op } in old ++ o ∷ []) here)
 
@@ -238,11 +238,11 @@ all_committed schema ks us bs e =
     ∙ alive-history schema (stamped_from 1 us) (stamped_from (length us + 1) bs)
 
 whole_index : (schema : List Field) (ds es : List (Stamped DocumentValue)) (n m : ℕ) → ds ≡ es → n ≡ m →
-    let i : Index = record { schema = schema; documents = ds; commit_stamp = n; pending = [] } in
-    let j : Index = record { schema = schema; documents = es; commit_stamp = m; pending = [] } in i ≡ j
+    let i : Index = record { schema = schema; documents = ds; commit_stamp = n; uncommitted = [] } in
+    let j : Index = record { schema = schema; documents = es; commit_stamp = m; uncommitted = [] } in i ≡ j
 whole_index schema ds es n m d e =
-    ap (λ (xs : List (Stamped DocumentValue)). let i : Index = record { schema = schema; documents = xs; commit_stamp = n; pending = [] } in i) d
-    ∙ ap (λ (k : ℕ). let i : Index = record { schema = schema; documents = es; commit_stamp = k; pending = [] } in i) e
+    ap (λ (xs : List (Stamped DocumentValue)). let i : Index = record { schema = schema; documents = xs; commit_stamp = n; uncommitted = [] } in i) d
+    ∙ ap (λ (k : ℕ). let i : Index = record { schema = schema; documents = es; commit_stamp = k; uncommitted = [] } in i) e
 
 index-committed : (h : History) → index_of (and_then Committed h) ≡ indexes.committed (index_of h)
 index-committed h =

@@ -7,5 +7,5 @@ index_of e = record {
   schema = e.schema;
   documents = e.documents.items;
   commit_stamp = e.commit_stamp;
-  pending = e.pending.items;
+  uncommitted = e.uncommitted.items;
 }

@@ -13,7 +13,7 @@ use fts_model::{
 use std::alloc::{AllocError, Global};
 
 /// The most operations that are uncommitted.
-const MOST_PENDING: usize = 1_000_000;
+const MOST_UNCOMMITTED: usize = 1_000_000;
 
 /// The documents of the last commit and the operations since, both in the order of their stamps.
 #[derive(Drop)]
@@ -21,7 +21,7 @@ pub struct ListEngine {
     schema: Schema,
     documents: Vec<Stamped<Document>>,
     commit_stamp: Stamp,
-    pending: Vec<Stamped<Op>>,
+    uncommitted: Vec<Stamped<Op>>,
 }
 
 /// Whether all of the operations add documents.
@@ -149,7 +149,7 @@ impl Engine for ListEngine {
 
     ghost index = { index_of };
 
-    ghost changes = { λ e. e.commit_stamp + length e.pending.items };
+    ghost changes = { λ e. e.commit_stamp + length e.uncommitted.items };
 
     fn schema(&self) -> &Schema {
         &self.schema
@@ -160,15 +160,15 @@ impl Engine for ListEngine {
     }
 
     fn next_stamp(&self) -> Stamp {
-        self.commit_stamp + self.pending.len() as u64 + 1
+        self.commit_stamp + self.uncommitted.len() as u64 + 1
     }
 
     fn submit(&mut self, op: Op) -> Result<Stamp, Refusal> {
-        if self.pending.len() >= MOST_PENDING {
+        if self.uncommitted.len() >= MOST_UNCOMMITTED {
             return Err(Refusal::LaneFull);
         }
         let stamp = self.next_stamp();
-        self.pending.push(Stamped { stamp, value: op })?;
+        self.uncommitted.push(Stamped { stamp, value: op })?;
         Ok(stamp)
     }
 }
@@ -181,20 +181,20 @@ impl<R: AllocGlobal + Sync> EngineOver<R> for ListEngine {
             schema,
             documents: Vec::new(alloc),
             commit_stamp: 0,
-            pending: Vec::new(alloc),
+            uncommitted: Vec::new(alloc),
         })
     }
 
     fn commit(&mut self, rt: &R) -> Result<Stamp, Refusal> {
         let stamp = self.next_stamp();
-        commit(rt.alloc(), &self.schema, &mut self.documents, &self.pending)?;
-        self.pending.clear();
+        commit(rt.alloc(), &self.schema, &mut self.documents, &self.uncommitted)?;
+        self.uncommitted.clear();
         self.commit_stamp = stamp;
         Ok(stamp)
     }
 
     fn rollback(&mut self, _rt: &R) -> Result<Stamp, Refusal> {
-        self.pending.clear();
+        self.uncommitted.clear();
         Ok(self.commit_stamp)
     }
 

@@ -13,6 +13,6 @@ invariant_of-self-2 c =
     let commit = arc_value e.commit in
     let fits = subst (λ v. op_fits v.index.schema c.args.op ≡ true) (sym c.self.view_is) c.requires.fits in
     let last : c.deref.result.now ≡ commit = grind (arith, c.deref.ensures) in
-    let next : c.deref.result.now.stamp + c.len-2.result + 1 ≡ commit.stamp + length e.pending.items + 1 = omega (arith, ap (λ (l : LocalCommit). l.stamp) last, c.len-2.ensures) in
+    let next : c.deref.result.now.stamp + c.len-2.result + 1 ≡ commit.stamp + length e.uncommitted.items + 1 = omega (arith, ap (λ (l : LocalCommit). l.stamp) last, c.len-2.ensures) in
     subst (λ ops. IsLocalEngine commit ops e.cut (e.calls + 1)) (sym c.in_ok-push.ensures.items)
-    (local_submitted commit e.pending.items e.cut e.calls (c.deref.result.now.stamp + c.len-2.result + 1) c.args.op c.self.invariant next fits)
+    (local_submitted commit e.uncommitted.items e.cut e.calls (c.deref.result.now.stamp + c.len-2.result + 1) c.args.op c.self.invariant next fits)
