@@ -5,10 +5,11 @@
 
 Build the program first (README.md); this builds bench/floor.cpp by g++. Lucene and Xapian are asked where they are installed (of Debian
 liblucene8-java with a JDK, and libxapian-dev). Prints microseconds of processor time a search for each kind of search, JSON included for
-`fts run` and not for the others, the least of three rounds (of thirty for Lucene, whose code is compiled as it runs), and the ratios. With
+`fts run` and not for the others, the least of five rounds (of thirty for Lucene, whose code is compiled as it runs), and the ratios. With
 --instructions it runs `fts run` and the loops under Valgrind's callgrind too, and prints thousands of instructions a search. With --larger
-it asks `fts run` the same over so many documents, in one segment as well, and prints how much hits and times grew. With --picture it draws
-the times by matplotlib as an SVG. Every answer of `fts run`, the loops, Lucene and Xapian is compared.
+it asks `fts run` and the plain loops the same over so many documents, in one segment as well, and prints how much hits and times grew, and
+with both flags instructions too. With --picture it draws the times by matplotlib as an SVG. Every answer of `fts run`, the loops, Lucene
+and Xapian is compared.
 
 The documents have 30 words of a vocabulary of 50,000 with Zipf's law, a `u64` below 1,000,000 and an `i64` from -50 to 49.
 """
@@ -27,8 +28,8 @@ import threading
 import time
 
 ROOT = pathlib.Path(__file__).resolve().parent.parent
-PROGRAM = ROOT / "crates/fts/out/fts"
-ROUNDS = 3
+PROGRAM = pathlib.Path(os.environ.get("FTS", ROOT / "crates/fts/out/fts"))
+ROUNDS = 5
 # Lucene's code is compiled as it runs.
 MORE_ROUNDS = 30
 JARS = [*glob.glob("/usr/share/java/lucene-core-*.jar"), *glob.glob("/usr/share/java/lucene-analyzers-common-*.jar")]
@@ -161,15 +162,15 @@ def script(*guard, given=DOCUMENTS):
     return session
 
 
-def fed(*command):
+def fed(*command, given=DOCUMENTS):
     """A program that takes documents and searches as bench/floor.cpp does."""
     session = Session(*command)
-    session.ask([*("add\t{}\t{}\t{}".format(*d) for d in DOCUMENTS), ""], 1)
+    session.ask([*("add\t{}\t{}\t{}".format(*d) for d in given), ""], 1)
     return session
 
 
-def loops(form, rounds, *guard):
-    return fed(*guard, f"{SCRATCH}/floor", form, str(rounds))
+def loops(form, rounds, *guard, given=DOCUMENTS):
+    return fed(*guard, f"{SCRATCH}/floor", form, str(rounds), given=given)
 
 
 def peers():
@@ -256,14 +257,28 @@ def instructions():
 
 
 def growth(count):
-    """For each kind the hits and the microseconds of a search over the documents, and over so many."""
-    sessions = [script(), script(given=documents(count))]
+    """For each kind the hits, the microseconds and those of the plain loop for a search, over the documents and over so many."""
+    more = documents(count)
+    sessions = [(script(given=given), loops("plain", ROUNDS, given=given)) for given in (DOCUMENTS, more)]
     for kind, searches in SEARCHES.items():
-        requests, row = [request(*search) for search in searches], []
-        for session in sessions:
-            runs = [session.ask(requests, len(requests)) for _ in range(ROUNDS)]
-            row += [sum(json.loads(reply)["count"] for reply in runs[0][0]), min(run[1] for run in runs)]
+        requests, lines, row = [request(*search) for search in searches], [*map(line, searches), ""], []
+        for ours, plain in sessions:
+            runs = [ours.ask(requests, len(requests)) for _ in range(ROUNDS)]
+            nanos = int(plain.ask(lines, len(lines))[0][-1])
+            row += [sum(json.loads(reply)["count"] for reply in runs[0][0]), min(run[1] for run in runs), nanos / 1000]
         yield kind, [each / len(searches) for each in row]
+    for pair in sessions:
+        for session in pair:
+            session.end()
+
+
+def instructions_grown(count):
+    """For each kind the instructions of a search over the documents, and over so many."""
+    files = f"--callgrind-out-file={SCRATCH}/calls.%p"
+    sessions = [script(*GUARD, files, given=given) for given in (DOCUMENTS, documents(count))]
+    for kind, searches in SEARCHES.items():
+        requests = [request(*search) for search in searches]
+        yield kind, [session.instructions(requests, len(requests))[1] / len(searches) for session in sessions]
     for session in sessions:
         session.end()
 
@@ -297,11 +312,11 @@ with tempfile.TemporaryDirectory() as SCRATCH:
     for kind, (ours, plain, packed, *theirs) in rows:
         print(f"| {kind} | {ours:.1f} | {plain:.1f} | {packed:.1f} | {ours / plain:.1f} | {ours / packed:.1f} |", *(f" {each:.1f} | {each / ours:.1f} |" for each in theirs), sep="")
     if arguments.larger:
-        print(f"\n| of {arguments.documents:,} and of {arguments.larger:,} documents | hits | microseconds | hits | microseconds | hits grew | time grew |")
-        print("|---|---|---|---|---|---|---|")
-        for kind, (hits, micros, more_hits, more_micros) in growth(arguments.larger):
+        print(f"\n| of {arguments.documents:,} and of {arguments.larger:,} documents | hits | microseconds | hits | microseconds | hits grew | time grew | the plain loop's grew |")
+        print("|---|---|---|---|---|---|---|---|")
+        for kind, (hits, micros, loop, more_hits, more_micros, more_loop) in growth(arguments.larger):
             grew = f"{more_hits / hits:.1f}" if hits else "-"
-            print(f"| {kind} | {hits:,.0f} | {micros:.1f} | {more_hits:,.0f} | {more_micros:.1f} | {grew} | {more_micros / micros:.1f} |", flush=True)
+            print(f"| {kind} | {hits:,.0f} | {micros:.1f} | {more_hits:,.0f} | {more_micros:.1f} | {grew} | {more_micros / micros:.1f} | {more_loop / loop:.1f} |", flush=True)
     if arguments.picture:
         draw(rows, others, arguments.picture)
     if arguments.instructions:
@@ -309,3 +324,8 @@ with tempfile.TemporaryDirectory() as SCRATCH:
         print("|---|---|---|---|---|---|")
         for kind, (ours, plain, packed) in instructions():
             print(f"| {kind} | {ours / 1e3:.1f} | {plain / 1e3:.1f} | {packed / 1e3:.1f} | {ours / plain:.1f} | {ours / packed:.1f} |", flush=True)
+    if arguments.instructions and arguments.larger:
+        print(f"\n| of {arguments.documents:,} and of {arguments.larger:,} documents | thousand instructions | thousand instructions | grew |")
+        print("|---|---|---|---|")
+        for kind, (few, many) in instructions_grown(arguments.larger):
+            print(f"| {kind} | {few / 1e3:.1f} | {many / 1e3:.1f} | {many / few:.1f} |", flush=True)
