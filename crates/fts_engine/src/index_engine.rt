@@ -53,6 +53,14 @@ fn last_commit(writer: &Writer, reader: &mut Option<Reader>) -> Result<Searcher,
     writer.searcher()
 }
 
+/// Has a reader, if there is one, look at what is shown, so that it holds no segment from before a merge.
+fn look(writer: &Writer, reader: &mut Option<Reader>)
+    requires { IsReaderOf writer.now.front.seen reader.old }
+    ensures { IsReaderOf writer.now.front.seen reader.new }
+{
+    let _ = last_commit(writer, reader);
+}
+
 /// A writer of segments, the operations since its last commit, and a reader that is told of each commit.
 pub struct IndexEngine {
     alloc: Global,
@@ -156,6 +164,7 @@ impl<R: AllocGlobal + Threads + Wait + Sync> EngineOver<R> for IndexEngine {
         self.pending = 0;
         merge_behind(rt, alloc, &mut self.writer, options.merge);
         tell(&mut self.reader, &committed.seen);
+        look(&self.writer, &mut self.reader);
         Ok(committed.stamp)
     }
 
@@ -168,7 +177,9 @@ impl<R: AllocGlobal + Threads + Wait + Sync> EngineOver<R> for IndexEngine {
 
     fn merge(&mut self, rt: &R) -> Result<u64, Refusal> {
         self.calls += 1;
-        merge_all(rt, self.alloc, &mut self.writer)
+        let live = merge_all(rt, self.alloc, &mut self.writer)?;
+        look(&self.writer, &mut self.reader);
+        Ok(live)
     }
 
     fn search(&mut self, rt: &R, query: &Query, request: &Request) -> Result<Answer, Refusal> {
