@@ -1,5 +1,5 @@
 -- The steps over the shown front keep the rule: a front of one writer stands in for another.
-use Rattle.std.proofs.Common.{◌≡◌, ◌≢◌, ℕ, Result, Ok, Err, MatchResult, List, [], ◌∷◌, ◌++◌, set, Some, None, Option, refl, ap, ◌∙◌, subst, ⊎_elim, fold, sym}
+use Rattle.std.proofs.Common.{◌≡◌, ◌≢◌, ℕ, Result, Ok, Err, OnOk, MatchResult, List, [], ◌∷◌, ◌++◌, set, Some, None, Option, refl, ap, ◌∙◌, subst, ⊎_elim, fold, sym}
 use mathlib.Core.Option.{some}
 use lib.ListN.{get_elem?}
 use Rattle.logbook.specs.Pages.{Book}
@@ -52,6 +52,12 @@ pub of_shown : {A B : Type 0} (P Q : Type 0) (r : Result A B) (new old front : F
     → MatchResult r (λ _. (new ≡ fold (λ (f : FrontValue) o. o) old pending) × P) (λ _. (new ≡ old) × Q) → new.seen.of ≡ front.seen.of
 of_shown P Q (Ok a) new old front pending before of e h = ap (λ f. f.seen.of) (h.0 ∙ last_pending old front pending before e)
 of_shown P Q (Err f) new old front pending before of e h = ap (λ f. f.seen.of) h.0 ∙ of
+
+-- where it went through, it is the front that was appended
+pub is_shown : {A B : Type 0} (P Q : Type 0) (r : Result A B) (new old front : FrontValue) (pending before : List FrontValue) → pending ≡ before ++ front ∷ []
+    → MatchResult r (λ _. (new ≡ fold (λ (f : FrontValue) o. o) old pending) × P) (λ _. (new ≡ old) × Q) → OnOk r (new ≡ front)
+is_shown P Q (Ok a) new old front pending before e h = h.0 ∙ last_pending old front pending before e
+is_shown P Q (Err f) new old front pending before e h = tt
 
 -- and where it did, the publisher's seat knows the writer
 pub seat_shown : {A B : Type 0} (r : Result A B) (first v w : Option Name) (x y : FrontValue) (b : Book) → v ≡ first → y.seen.of ≡ b → MatchResult r (λ _. Looks v x y w) (λ _. w ≡ v)

@@ -25,7 +25,7 @@ use std::sync::{Arc, Wait};
 const PLACES: usize = 64;
 
 /// Publishes snapshots to readers. It isn't dropped but closed. Contracts see it as its newest snapshot at its commit
-/// stamp, with the whole list of its publications.
+/// stamp, with the whole list of its publications. What readers are shown is always that snapshot.
 pub struct Publisher {
     desk: Desk,
     head: Head,
@@ -44,7 +44,7 @@ impl Model for Publisher {
 
     ghost invariant = { λ p. (p.head ≡ head_of p.front.seen.of)
         × (told_name p.desk.desk.place ≡ Some (name_of p.front.seen.of))
-        × (p.desk.desk.shown.value.seen.of ≡ p.front.seen.of) };
+        × (p.desk.desk.shown.value ≡ p.front) };
 }
 
 impl Publisher {
@@ -144,11 +144,11 @@ impl Publisher {
         ensures refused { IfErr result (λ e. (e ≡ Refusal.Memory) ⊎ (e ≡ Refusal.NoReader)) }
     {
         let front = self.front.again()?;
-        let Ok(mut place) = self.desk.factory().reader() else {
+        let Ok(mut handle) = self.desk.factory().reader() else {
             return Err(Refusal::NoReader);
         };
-        place.learn::<Copies>(self.desk.tell::<Copies>());
-        Ok(Reader::at(place, front))
+        handle.learn::<Copies>(self.desk.tell::<Copies>());
+        Ok(Reader::at(handle, front))
     }
 
     /// Ends the publisher. Searchers keep their snapshots, and readers go on with the newest that they know.
@@ -179,24 +179,21 @@ impl Publisher {
     {
         let commit = Arc::new(alloc, Commit { stamp, snapshot })?;
         let for_seen = Arc::try_clone(&commit)?;
-        let for_readers = Arc::try_clone(&commit)?;
         let Some(front) = self.front.with(&self.head, commit) else {
             return Err(Refusal::Memory);
         };
         let seen = CommitSeen {
             front: front.over(for_seen),
         };
-        let next = front.over(for_readers);
+        show(rt, &mut self.desk, &front);
         self.front = front;
-        // Were there no room to show it, readers that are told of this commit would know it all the same.
-        let _ = show(rt, &mut self.desk, next);
         Ok(seen)
     }
 }
 
 /// A desk that shows a front, and has the room that each publication needs.
 fn desk_of<R: Wait>(rt: &R, alloc: Global, front: &Front) -> Result<Desk, AllocError>
-    ensures shown { IfOk result (λ d. d.desk.shown.value.seen.of ≡ front.now.seen.of) }
+    ensures shown { IfOk result (λ d. d.desk.shown.value ≡ front.now) }
     ensures seat { IfOk result (λ d. told_name d.desk.place ≡ Some (name_of front.now.seen.of)) }
 {
     let mut desk = Desk::new(alloc, front.again()?, front.again()?, PLACES)?;
@@ -210,27 +207,56 @@ fn desk_of<R: Wait>(rt: &R, alloc: Global, front: &Front) -> Result<Desk, AllocE
 /// The first time tells the seat which writer it is of, the second makes the room.
 fn show_twice<R: Wait>(rt: &R, desk: &mut Desk, front: &Front) -> Result<(), AllocError>
     requires { desk.old.desk.shown.value.seen.of ≡ front.now.seen.of }
-    ensures shown { desk.new.desk.shown.value.seen.of ≡ front.now.seen.of }
+    ensures shown { OnOk result (desk.new.desk.shown.value ≡ front.now) }
     ensures seat { OnOk result (told_name desk.new.desk.place ≡ Some (name_of front.now.seen.of)) }
 {
-    show(rt, desk, front.again()?)?;
-    show(rt, desk, front.again()?)
+    try_show(rt, desk, front)?;
+    try_show(rt, desk, front)
 }
 
-/// Shows readers this front in place of the one before.
-fn show<R: Wait>(rt: &R, desk: &mut Desk, front: Front) -> Result<(), AllocError>
-    requires { desk.old.desk.shown.value.seen.of ≡ front.seen.of }
-    ensures shown { desk.new.desk.shown.value.seen.of ≡ front.seen.of }
+/// Shows readers this front in place of the one before. The second time, the copy that they left takes it too, so that
+/// nothing holds what was published before but those who search it.
+fn show<R: Wait>(rt: &R, desk: &mut Desk, front: &Front)
+    requires { desk.old.desk.shown.value.seen.of ≡ front.now.seen.of }
+    ensures shown { desk.new.desk.shown.value ≡ front.now }
+    ensures seat { told_name desk.new.desk.place ≡ Some (name_of front.now.seen.of) }
+{
+    show_once(rt, desk, front);
+    show_once(rt, desk, front);
+}
+
+/// Shows readers this front. The room was made with the desk, so no try but the first is ever needed; no clause of
+/// `left_right` says so, and the list of publications has grown already.
+fn show_once<R: Wait>(rt: &R, desk: &mut Desk, front: &Front)
+    requires { desk.old.desk.shown.value.seen.of ≡ front.now.seen.of }
+    ensures shown { desk.new.desk.shown.value ≡ front.now }
+    ensures seat { told_name desk.new.desk.place ≡ Some (name_of front.now.seen.of) }
+{
+    for _ in rt.forever() {
+        if try_show(rt, desk, front).is_ok() {
+            return;
+        }
+    }
+    unreachable!()
+}
+
+/// Shows readers this front, or leaves what they are shown.
+fn try_show<R: Wait>(rt: &R, desk: &mut Desk, front: &Front) -> Result<(), AllocError>
+    requires { desk.old.desk.shown.value.seen.of ≡ front.now.seen.of }
+    ensures of { desk.new.desk.shown.value.seen.of ≡ front.now.seen.of }
+    ensures shown { OnOk result (desk.new.desk.shown.value ≡ front.now) }
     ensures seat { MatchResult result
-        (λ _. told_name desk.new.desk.place ≡ Some (name_of front.seen.of))
+        (λ _. told_name desk.new.desk.place ≡ Some (name_of front.now.seen.of))
         (λ _. told_name desk.new.desk.place ≡ told_name desk.old.desk.place) }
 {
-    replace_with(desk, (rt, front), |desk, (rt, front)| put(rt, desk, front))
+    let next = front.again()?;
+    replace_with(desk, (rt, next), |desk, (rt, next)| put(rt, desk, next))
 }
 
 fn put<R: Wait>(rt: &R, desk: Desk, front: Front) -> (Desk, Result<(), AllocError>)
     requires { desk.desk.shown.value.seen.of ≡ front.seen.of }
-    ensures shown { result.0.desk.shown.value.seen.of ≡ front.seen.of }
+    ensures of { result.0.desk.shown.value.seen.of ≡ front.seen.of }
+    ensures shown { OnOk result.1 (result.0.desk.shown.value ≡ front) }
     ensures seat { MatchResult result.1
         (λ _. told_name result.0.desk.place ≡ Some (name_of front.seen.of))
         (λ _. told_name result.0.desk.place ≡ told_name desk.desk.place) }

@@ -6,7 +6,7 @@ ghost use Rattle.fts_index.specs.PublicationsShown.{name_of, told_name, Finds};
 
 use crate::publications::front::Front;
 use crate::publications::searcher::{CommitSeen, Searcher};
-use crate::publications::shown::{Names, Place};
+use crate::publications::shown::{Names, ReadHandle};
 use core::mem::replace_with;
 use fts_model::Refusal;
 use std::alloc::AllocError;
@@ -16,7 +16,7 @@ use std::marker::Model;
 /// of the writer's publications.
 #[derive(Drop)]
 pub struct Reader {
-    place: Place,
+    handle: ReadHandle,
     front: Front,
 }
 
@@ -29,16 +29,16 @@ impl Model for Reader {
 
     ghost view = { λ r. r.front.seen };
 
-    ghost invariant = { λ r. told_name r.place.place ≡ Some (name_of r.front.seen.of) };
+    ghost invariant = { λ r. told_name r.handle.place ≡ Some (name_of r.front.seen.of) };
 }
 
 impl Reader {
     /// A reader that knows what the front has seen.
-    pub(crate) fn at(place: Place, front: Front) -> Reader
-        requires { told_name place.place ≡ Some (name_of front.seen.of) }
+    pub(crate) fn at(handle: ReadHandle, front: Front) -> Reader
+        requires { told_name handle.place ≡ Some (name_of front.seen.of) }
         ensures { result ≡ front.seen }
     {
-        Reader { place, front }
+        Reader { handle, front }
     }
 
     /// The newest snapshot that is shown, or the newest that this reader knows where that is newer or none is shown any
@@ -52,7 +52,7 @@ impl Reader {
         ensures newest { IfOk result IsFront }
         ensures memory { IsOkUnless result Refusal.Memory }
     {
-        refresh(&mut self.place, &mut self.front)?;
+        refresh(&mut self.handle, &mut self.front)?;
         let front = self.front.again()?;
         Ok(Searcher { front })
     }
@@ -75,35 +75,35 @@ impl Reader {
 }
 
 /// Takes the front that is shown, if one is and it is newer.
-fn refresh(place: &mut Place, front: &mut Front) -> Result<(), AllocError>
-    requires { told_name place.old.place ≡ Some (name_of front.old.seen.of) }
-    ensures seat { told_name place.new.place ≡ Some (name_of front.new.seen.of) }
+fn refresh(handle: &mut ReadHandle, front: &mut Front) -> Result<(), AllocError>
+    requires { told_name handle.old.place ≡ Some (name_of front.old.seen.of) }
+    ensures seat { told_name handle.new.place ≡ Some (name_of front.new.seen.of) }
     ensures of { front.new.seen.of ≡ front.old.seen.of }
     ensures schema { schema_of front.new.seen ≡ schema_of front.old.seen }
     ensures grows { IsPrefix front.old.seen.list front.new.seen.list }
 {
-    if let Some(found) = look(place, front)? {
+    if let Some(found) = look(handle, front)? {
         front.keep_newer(found);
     }
     Ok(())
 }
 
 /// The front that is shown, if one is and it is newer than what is known.
-fn look(place: &mut Place, known: &Front) -> Result<Option<Front>, AllocError>
-    ensures { Finds (told_name place.old.place) (told_name place.new.place) result }
+fn look(handle: &mut ReadHandle, known: &Front) -> Result<Option<Front>, AllocError>
+    ensures { Finds (told_name handle.old.place) (told_name handle.new.place) result }
 {
-    replace_with(place, known, |place, known| enter(place, known))
+    replace_with(handle, known, |handle, known| enter(handle, known))
 }
 
 /// The one step of a reader. No front is shown once the writer was closed.
-fn enter(place: Place, known: &Front) -> (Place, Result<Option<Front>, AllocError>)
-    ensures { Finds (told_name place.place) (told_name result.0.place) result.1 }
+fn enter(handle: ReadHandle, known: &Front) -> (ReadHandle, Result<Option<Front>, AllocError>)
+    ensures { Finds (told_name handle.place) (told_name result.0.place) result.1 }
 {
-    match place.enter_as::<Names>() {
+    match handle.enter_as::<Names>() {
         Ok(reading) => {
             let found = reading.get().if_newer(known);
             (reading.leave(), found)
         }
-        Err(place) => (place, Ok(None)),
+        Err(handle) => (handle, Ok(None)),
     }
 }

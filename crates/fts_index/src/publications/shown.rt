@@ -1,4 +1,4 @@
-// What readers are shown: the newest front, in two places of which they read one while the publisher changes the other.
+// What readers are shown: the newest front, in two copies of which they read one while the publisher changes the other.
 // The rule says of which writer it is, and that each reader knows the writer.
 ghost use Rattle.std.specs.Prelude.{◌≡◌};
 
@@ -70,4 +70,4 @@ impl Absorb<Front> for Front {
 pub type Desk = left_right::writer::Writer<Front, Front, Option<Name>, OfOne>;
 
 /// Where a reader finds them.
-pub type Place = left_right::reader::Reader<Front, Option<Name>, OfOne>;
+pub type ReadHandle = left_right::reader::Reader<Front, Option<Name>, OfOne>;
