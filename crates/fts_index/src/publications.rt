@@ -10,7 +10,7 @@
 //! commit answers that commit or a later one, and two searchers of one stamp have the same documents.
 //!
 //! The list exists in proofs alone: what the threads share is its length, in one word (`history`), and the newest
-//! snapshot, in two places of which readers read one while the other is changed (`shown`).
+//! snapshot, in two copies of which readers read one while the other is changed (`shown`).
 //!
 //! ```text
 //! let mut publisher = Publisher::new(&rt, alloc, snapshot)?;
