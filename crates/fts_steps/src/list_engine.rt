@@ -187,7 +187,12 @@ impl<R: AllocGlobal + Sync> EngineOver<R> for ListEngine {
 
     fn commit(&mut self, rt: &R) -> Result<Stamp, Refusal> {
         let stamp = self.next_stamp();
-        commit(rt.alloc(), &self.schema, &mut self.documents, &self.uncommitted)?;
+        commit(
+            rt.alloc(),
+            &self.schema,
+            &mut self.documents,
+            &self.uncommitted,
+        )?;
         self.uncommitted.clear();
         self.commit_stamp = stamp;
         Ok(stamp)
