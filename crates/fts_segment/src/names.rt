@@ -100,4 +100,13 @@ impl Names {
         }
         Ok(())
     }
+
+    /// Gives back the room for further names.
+    pub(crate) fn shrink_to_fit(&mut self)
+        ensures { self.new ≡ self.old }
+    {
+        self.bytes.shrink_to_fit();
+        self.ends.shrink_to_fit();
+        self.heads.shrink_to_fit();
+    }
 }

@@ -119,10 +119,12 @@ impl PostingsWriter {
             ≡ logged_term_position_lists self.positions) }
     {
         let PostingsWriter {
-            names,
-            lists,
+            mut names,
+            mut lists,
             positions,
         } = self;
+        names.shrink_to_fit();
+        lists.shrink_to_fit();
         let positions = TermPositions::build(alloc, positions)?;
         Ok(Dictionary {
             names,

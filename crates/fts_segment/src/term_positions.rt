@@ -36,11 +36,10 @@ impl TermPositions {
         requires { IsPositionLog log }
         ensures { IfOk result (λ positions. term_position_lists positions ≡ logged_term_position_lists log) }
     {
-        let lists = PositionLists::build(alloc, log.lists)?;
-        Ok(TermPositions {
-            lists,
-            ends: log.ends,
-        })
+        let PositionLog { lists, mut ends } = log;
+        ends.shrink_to_fit();
+        let lists = PositionLists::build(alloc, lists)?;
+        Ok(TermPositions { lists, ends })
     }
 
     /// The positions of the term of this number.
