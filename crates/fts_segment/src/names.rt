@@ -1,5 +1,5 @@
 // Names, one behind the other in one buffer of bytes.
-ghost use Rattle.std.specs.Prelude.{◌≡◌, ◌<◌, ◌++◌, ◌∷◌, [], length, OnOk, OnErr, slice_index_or};
+ghost use Rattle.std.specs.Prelude.{◌≡◌, ◌<◌, ◌++◌, ◌∷◌, [], length, IfOk, OnOk, OnErr, slice_index_or};
 ghost use Rattle.std.specs.Ordering.{nat_cmp};
 ghost use Rattle.std.specs.Cmp.Lexicographic.{slice_cmp};
 ghost use Rattle.fts_segment.specs.Heads.{head, AreBytes};
@@ -55,6 +55,17 @@ impl Names {
             ends: Vec::new(alloc),
             heads: Vec::new(alloc),
         }
+    }
+
+    /// No names, with room for so many.
+    pub(crate) fn with_capacity(alloc: Global, names: usize) -> Result<Names, AllocError>
+        ensures { IfOk result (λ names. names ≡ []) }
+    {
+        Ok(Names {
+            bytes: Vec::new(alloc),
+            ends: Vec::with_capacity(alloc, names)?,
+            heads: Vec::with_capacity(alloc, names)?,
+        })
     }
 
     /// How many names there are.
