@@ -1,5 +1,5 @@
 -- Rising documents, their differences, and their blocks.
-use Rattle.std.proofs.Common.{◌≡◌, ℕ, zero, suc, ◌+◌, ◌-◌, ◌*◌, ◌<◌, ◌≤◌, List, [], ◌∷◌, ◌++◌, length, get_or, take, drop, set, min, refl, sym, ap, ◌∙◌, subst, arith}
+use Rattle.std.proofs.Common.{◌≡◌, ℕ, zero, suc, ◌+◌, ◌-◌, ◌*◌, ◌<◌, ◌≤◌, List, [], ◌∷◌, ◌++◌, length, get_or, take, drop, min, refl, sym, ap, ◌∙◌, subst, arith}
 use Rattle.std.specs.List.Sorted.{IsStrictlyIncreasing}
 use Rattle.std.proofs.lemmas.List.{length-drop, take-append-drop, drop_more, take_all, take_min}
 use Rattle.std.specs.Int.{div_ceil}
@@ -91,7 +91,7 @@ block_count-div_ceil count = omega arith
 pub last_is : (next : ℕ) (documents : List ℕ) → 0 < length documents → suc (get_or documents (length documents - 1) 0) ≡ after next documents
 last_is next documents some = sym (after_last next documents some)
 
--- the first block of few documents has them all
-pub first_block : (documents : List ℕ) (block : ℕ) → length documents ≤ 12 → block < block_count (length documents) → block_at documents block ≡ documents
-first_block documents zero few h = take_all 128 documents (omega (arith, few))
+-- the first block of as many documents as fit in it has them all
+pub first_block : (documents : List ℕ) (block : ℕ) → length documents ≤ 128 → block < block_count (length documents) → block_at documents block ≡ documents
+first_block documents zero few h = take_all 128 documents few
 first_block documents (suc block) few h = absurd (omega (arith, few, h))

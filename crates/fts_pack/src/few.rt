@@ -4,13 +4,13 @@ ghost use Rattle.fts_pack.specs.Documents.{block_count, last_of};
 
 use std::marker::Model;
 
-/// How many documents lie in a list itself.
-pub(crate) const FEW: usize = 12;
+/// How many documents lie in a list itself: as many as take no more room than a vector of them.
+pub(crate) const FEW: usize = 5;
 
-/// From one to twelve documents.
+/// From one to five documents.
 #[derive(Drop)]
 pub(crate) struct Few {
-    count: usize,
+    count: u32,
     documents: [u32; FEW],
 }
 
@@ -22,20 +22,20 @@ impl Model for Few {
 
     ghost view = { λ f. take f.count f.documents };
 
-    ghost invariant = { λ f. (0 < f.count) × (f.count ≤ 12) };
+    ghost invariant = { λ f. (0 < f.count) × (f.count ≤ 5) };
 }
 
 impl Few {
     /// These documents.
     pub(crate) fn new(documents: &[u32]) -> Few
         requires some { 0 < length documents.now }
-        requires few { length documents.now ≤ 12 }
+        requires few { length documents.now ≤ 5 }
         ensures { result ≡ documents.now }
     {
         let mut few = [0; FEW];
         few[..documents.len()].copy_from_slice(documents);
         Few {
-            count: documents.len(),
+            count: documents.len() as u32,
             documents: few,
         }
     }
@@ -44,7 +44,7 @@ impl Few {
     pub(crate) fn len(&self) -> usize
         ensures { result ≡ length self.now }
     {
-        self.count
+        self.count as usize
     }
 
     /// How many blocks they take.
@@ -59,18 +59,18 @@ impl Few {
     /// The last document.
     pub(crate) fn last(&self) -> u32
         ensures last { result ≡ last_of self.now }
-        ensures few { length self.now ≤ 12 }
+        ensures few { length self.now ≤ 5 }
     {
-        self.documents[self.count - 1]
+        self.documents[self.count as usize - 1]
     }
 
     /// Writes the documents to the front of `out`, and gives how many they are.
     pub(crate) fn open(&self, out: &mut [u32; 128]) -> usize
         ensures count { result ≡ length self.now }
         ensures documents { take result out.new ≡ self.now }
-        ensures few { length self.now ≤ 12 }
+        ensures few { length self.now ≤ 5 }
     {
         out[..FEW].copy_from_slice(&self.documents);
-        self.count
+        self.count as usize
     }
 }

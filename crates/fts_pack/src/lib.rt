@@ -12,6 +12,7 @@ mod list_source;
 mod long_list;
 mod numbers;
 mod packed;
+mod plain;
 mod skip;
 mod sums;
 

@@ -1,4 +1,4 @@
-// A strictly rising list of documents: up to twelve lie in the list itself, more of them in blocks.
+// A strictly rising list of documents: a few lie in the list itself, some are plain numbers, and many lie in blocks.
 ghost use Rattle.std.specs.Prelude.{◌≡◌, ℕ, ◌<◌, ◌==◌, List, IfOk, IsOkUnless, length, take};
 ghost use Rattle.std.specs.List.Sorted.{IsStrictlyIncreasing};
 ghost use Rattle.fts_pack.specs.Documents.{block_at, block_count, last_of};
@@ -6,14 +6,16 @@ ghost use Rattle.fts_pack.specs.Documents.{block_at, block_count, last_of};
 use crate::few::{FEW, Few};
 use crate::list_source::ListSource;
 use crate::long_list::LongList;
+use crate::plain::{MOST_PLAIN, Plain};
 use fts_base::Refusal;
-use std::alloc::Global;
+use std::alloc::{AllocError, Global};
 use std::marker::Model;
 
 #[derive(Drop)]
 enum Repr {
     Short(Few),
-    Long(LongList),
+    Medium(Plain),
+    Long(Box<LongList>),
 }
 
 /// A strictly rising list of documents.
@@ -41,15 +43,19 @@ impl List {
         ensures ok { IfOk result (λ list. list ≡ documents.now) }
         ensures memory { IsOkUnless result Refusal.Memory }
     {
-        if !documents.is_empty() && documents.len() <= FEW {
-            return Ok(List {
-                repr: Repr::Short(Few::new(documents)),
-            });
-        }
-        let long = LongList::build(alloc, documents).map_err(|_| Refusal::Memory)?;
-        Ok(List {
-            repr: Repr::Long(long),
-        })
+        Self::packed(alloc, documents).map_err(|_| Refusal::Memory)
+    }
+
+    fn packed(alloc: Global, documents: &[u32]) -> Result<List, AllocError>
+        requires { IsStrictlyIncreasing documents.now }
+        ensures { IfOk result (λ list. list ≡ documents.now) }
+    {
+        let repr = match documents.len() {
+            1..=FEW => Repr::Short(Few::new(documents)),
+            1..=MOST_PLAIN => Repr::Medium(Plain::new(alloc, documents)?),
+            _ => Repr::Long(Box::new(alloc, LongList::build(alloc, documents)?)?),
+        };
+        Ok(List { repr })
     }
 
     /// How many documents there are.
@@ -58,6 +64,7 @@ impl List {
     {
         match &self.repr {
             Repr::Short(few) => few.len(),
+            Repr::Medium(plain) => plain.len(),
             Repr::Long(long) => long.len(),
         }
     }
@@ -74,6 +81,7 @@ impl List {
     {
         match &self.repr {
             Repr::Short(few) => few.blocks(),
+            Repr::Medium(plain) => plain.blocks(),
             Repr::Long(long) => long.blocks(),
         }
     }
@@ -84,6 +92,7 @@ impl List {
     {
         match &self.repr {
             Repr::Short(few) => few.last(),
+            Repr::Medium(plain) => plain.last(),
             Repr::Long(long) => long.last(block),
         }
     }
@@ -95,6 +104,7 @@ impl List {
     {
         match &self.repr {
             Repr::Short(few) => few.open(out),
+            Repr::Medium(plain) => plain.open(out),
             Repr::Long(long) => long.open(block, out),
         }
     }

@@ -114,9 +114,10 @@ impl Builder {
             Ok(indexes) => {
                 let Builder {
                     schema,
-                    documents,
+                    mut documents,
                     merging,
                 } = self;
+                documents.shrink_to_fit();
                 match Arc::new(
                     alloc,
                     Stored {

@@ -68,6 +68,7 @@ fn documents_of(alloc: Global, sources: &[Source<'_>]) -> Result<Vec<Stamped<Doc
     for source in sources {
         take_live(&mut documents, source)?;
     }
+    documents.shrink_to_fit();
     Ok(documents)
 }
 

@@ -1,5 +1,5 @@
 // Names, one behind the other in one buffer of bytes.
-ghost use Rattle.std.specs.Prelude.{◌≡◌, ◌<◌, ◌++◌, ◌∷◌, [], length, OnOk, OnErr, slice_index_or};
+ghost use Rattle.std.specs.Prelude.{◌≡◌, ◌<◌, ◌++◌, ◌∷◌, [], length, IfOk, OnOk, OnErr, slice_index_or};
 ghost use Rattle.std.specs.Ordering.{nat_cmp};
 ghost use Rattle.std.specs.Cmp.Lexicographic.{slice_cmp};
 ghost use Rattle.fts_segment.specs.Heads.{head, AreBytes};
@@ -57,6 +57,17 @@ impl Names {
         }
     }
 
+    /// No names, with room for so many.
+    pub(crate) fn with_capacity(alloc: Global, names: usize) -> Result<Names, AllocError>
+        ensures { IfOk result (λ names. names ≡ []) }
+    {
+        Ok(Names {
+            bytes: Vec::new(alloc),
+            ends: Vec::with_capacity(alloc, names)?,
+            heads: Vec::with_capacity(alloc, names)?,
+        })
+    }
+
     /// How many names there are.
     pub(crate) fn len(&self) -> usize
         ensures { result ≡ length self.now }
@@ -99,5 +110,14 @@ impl Names {
             return Err(AllocError);
         }
         Ok(())
+    }
+
+    /// Gives back the room for further names.
+    pub(crate) fn shrink_to_fit(&mut self)
+        ensures { self.new ≡ self.old }
+    {
+        self.bytes.shrink_to_fit();
+        self.ends.shrink_to_fit();
+        self.heads.shrink_to_fit();
     }
 }

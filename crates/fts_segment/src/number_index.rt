@@ -152,6 +152,7 @@ fn different(alloc: Global, values: &[Option<u64>]) -> Result<Vec<u64>, AllocErr
     }
     numbers.sort_unstable();
     numbers.dedup();
+    numbers.shrink_to_fit();
     Ok(numbers)
 }
 

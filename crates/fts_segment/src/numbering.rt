@@ -37,10 +37,10 @@ impl Numbering {
     }
 
     /// The terms, in the order of their numbers.
-    pub(crate) fn names(&self) -> &Names
-        ensures { result.now ≡ self.now }
+    pub(crate) fn into_names(self) -> Names
+        ensures { result ≡ self }
     {
-        &self.names
+        self.names
     }
 
     /// A number of a term, which takes the next one where none is found.

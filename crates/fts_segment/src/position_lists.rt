@@ -175,7 +175,7 @@ pub(crate) struct PositionListLog {
 }
 
 impl PositionListLog {
-    ghost use Rattle.std.specs.Prelude.{◌≡◌, ◌++◌, ◌∷◌, [], OnOk, length};
+    ghost use Rattle.std.specs.Prelude.{◌≡◌, ◌++◌, ◌∷◌, [], IfOk, OnOk, length};
     ghost use Rattle.fts_segment.specs.PositionLists.{IsPositionList};
     ghost use Rattle.fts_segment.specs.PositionListLogs.{IsPositionListLog, logged_position_lists};
 
@@ -188,6 +188,20 @@ impl PositionListLog {
             counts: Vec::new(alloc),
             gaps: Vec::new(alloc),
         }
+    }
+
+    /// No lists, with room for so many positions.
+    pub(crate) fn with_capacity(
+        alloc: Global,
+        positions: usize,
+    ) -> Result<PositionListLog, AllocError>
+        ensures is { IfOk result IsPositionListLog }
+        ensures none { IfOk result (λ log. logged_position_lists log ≡ []) }
+    {
+        Ok(PositionListLog {
+            counts: Vec::with_capacity(alloc, positions)?,
+            gaps: Vec::with_capacity(alloc, positions)?,
+        })
     }
 
     /// How many lists there are.

@@ -57,6 +57,24 @@ impl PostingsWriter {
         }
     }
 
+    /// No term, with room for so many terms and so many positions in all.
+    fn with_capacity(
+        alloc: Global,
+        terms: usize,
+        positions: usize,
+    ) -> Result<PostingsWriter, AllocError>
+        ensures names { IfOk result (λ writer. writer.names ≡ []) }
+        ensures lists { IfOk result (λ writer. writer.lists.items ≡ []) }
+        ensures positions { IfOk result (λ writer. logged_term_position_lists writer.positions ≡ []) }
+        ensures is { IfOk result (λ writer. IsPositionLog writer.positions) }
+    {
+        Ok(PostingsWriter {
+            names: Names::with_capacity(alloc, terms)?,
+            lists: Vec::with_capacity(alloc, terms)?,
+            positions: PositionLog::with_capacity(alloc, terms, positions)?,
+        })
+    }
+
     /// Puts a term behind the others, with the documents of its places. `room` is for the numbers of one of them.
     fn push(
         &mut self,
@@ -119,10 +137,12 @@ impl PostingsWriter {
             ≡ logged_term_position_lists self.positions) }
     {
         let PostingsWriter {
-            names,
-            lists,
+            mut names,
+            mut lists,
             positions,
         } = self;
+        names.shrink_to_fit();
+        lists.shrink_to_fit();
         let positions = TermPositions::build(alloc, positions)?;
         Ok(Dictionary {
             names,
@@ -173,7 +193,7 @@ pub(crate) fn write_terms(
         (λ all. logged_term_position_lists all.positions ≡ listed_by position_lists_of groups.now) }
     ensures is { IfOk result (λ all. IsPositionLog all.positions) }
 {
-    let mut writer = PostingsWriter::new(alloc);
+    let mut writer = PostingsWriter::with_capacity(alloc, names.len(), groups.places())?;
     let mut room = Vec::new(alloc);
     for (number, name) in names.iter().enumerate() {
         put(&mut writer, alloc, &mut room, *name, groups.get(number))?;

@@ -80,10 +80,14 @@ impl TermLog {
             (term_position_lists dictionary.positions)) }
     {
         let TermLog { terms, mut log } = self;
-        let SortedNames { names, ordinals } = sorted(alloc, terms.names())?;
+        let terms = terms.into_names();
+        let SortedNames { names, ordinals } = sorted(alloc, &terms)?;
         put_in_order(&mut log, &ordinals);
         let groups = TermGroups::new(alloc, &log, names.len())?;
+        // Log and groups are the largest of all, so each goes before more is made.
+        drop(log);
         let writer = write_terms(alloc, &names, &groups)?;
+        drop(groups);
         let dictionary = writer.finish(alloc)?;
         Ok(dictionary)
     }

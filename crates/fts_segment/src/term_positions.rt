@@ -36,11 +36,10 @@ impl TermPositions {
         requires { IsPositionLog log }
         ensures { IfOk result (λ positions. term_position_lists positions ≡ logged_term_position_lists log) }
     {
-        let lists = PositionLists::build(alloc, log.lists)?;
-        Ok(TermPositions {
-            lists,
-            ends: log.ends,
-        })
+        let PositionLog { lists, mut ends } = log;
+        ends.shrink_to_fit();
+        let lists = PositionLists::build(alloc, lists)?;
+        Ok(TermPositions { lists, ends })
     }
 
     /// The positions of the term of this number.
@@ -84,7 +83,7 @@ pub(crate) struct PositionLog {
 }
 
 impl PositionLog {
-    ghost use Rattle.std.specs.Prelude.{◌≡◌, ◌++◌, ◌∷◌, [], ℕ, List, All, OnOk, length};
+    ghost use Rattle.std.specs.Prelude.{◌≡◌, ◌++◌, ◌∷◌, [], ℕ, List, All, IfOk, OnOk, length};
     ghost use Rattle.fts_segment.specs.Positions.{position_lists_of};
     ghost use Rattle.fts_segment.specs.PositionLists.{IsPositionList};
     ghost use Rattle.fts_base.specs.Pieces.{pieces, AreEnds};
@@ -100,6 +99,21 @@ impl PositionLog {
             lists: PositionListLog::new(alloc),
             ends: Vec::new(alloc),
         }
+    }
+
+    /// Of no term, with room for so many terms and so many positions in all.
+    pub(crate) fn with_capacity(
+        alloc: Global,
+        terms: usize,
+        positions: usize,
+    ) -> Result<PositionLog, AllocError>
+        ensures is { IfOk result IsPositionLog }
+        ensures none { IfOk result (λ log. logged_term_position_lists log ≡ []) }
+    {
+        Ok(PositionLog {
+            lists: PositionListLog::with_capacity(alloc, positions)?,
+            ends: Vec::with_capacity(alloc, terms)?,
+        })
     }
 
     /// Puts the positions of a term behind those of the others. `list` is room for those of a posting.

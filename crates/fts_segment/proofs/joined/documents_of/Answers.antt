@@ -25,7 +25,7 @@ returns-clause-documents c =
     let ss = c.args.sources.now in
     let i = c.loop-source.source-index in
     let past : length ss ≤ i = omega (arith, c.loop-source-test.false) in
-    sym (append-nil c.loop-source.documents.items) ∙ ap (λ xs. c.loop-source.documents.items ++ contents xs) (sym (drop_all i ss past)) ∙ c.loop-source.invariant.taken
+    c.shrink_to_fit.ensures.items ∙ sym (append-nil c.loop-source.documents.items) ∙ ap (λ xs. c.loop-source.documents.items ++ contents xs) (sym (drop_all i ss past)) ∙ c.loop-source.invariant.taken
 
 pub returns-clause-fit : goal.returns-clause-fit
 returns-clause-fit c =

@@ -18,11 +18,11 @@ loop-value-preserved c =
     rw e (c.in_ok-push_present.ensures ∙ ap (λ xs. xs ++ present (get_or vs i None ∷ [])) c.loop-value.invariant ∙ sym (present-append (take i vs) (get_or vs i None ∷ [])))
 
 -- what is left after the duplicates are gone
-left : (c : goal.After-dedup) → c.dedup.new.self.items ≡ dedup nat_eq c.sort_unstable.new.self.items
-left c = dedup_is nat_eq c.sort_unstable.new.self.items c.dedup.new.self.items c.dedup.ensures.filtered
+left : (c : goal.After-shrink_to_fit) → c.shrink_to_fit.new.self.items ≡ dedup nat_eq c.sort_unstable.new.self.items
+left c = c.shrink_to_fit.ensures.items ∙ dedup_is nat_eq c.sort_unstable.new.self.items c.dedup.new.self.items c.dedup.ensures.filtered
 
 -- all numbers were taken
-all_of : (c : goal.After-dedup) → c.loop-value.numbers.items ≡ present c.args.values.now
+all_of : (c : goal.After-shrink_to_fit) → c.loop-value.numbers.items ≡ present c.args.values.now
 all_of c = c.loop-value.invariant ∙ ap present (take_all c.loop-value.value-index c.args.values.now (omega arith))
 
 pub returns-clause-rises : goal.returns-clause-rises

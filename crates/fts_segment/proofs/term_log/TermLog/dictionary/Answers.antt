@@ -18,7 +18,7 @@ abbrev sorted_in : After-len → List (List ℕ)
 sorted_in c = map (λ n. n.now) c.in_ok-names.field-0.names.items
 
 stand_of : (c : After-len) → Stand c.self.inside.terms (sorted_in c) c.in_ok-names.field-0.ordinals.items
-stand_of c = subst (λ (ns : List (List ℕ)). Stand ns (sorted_in c) c.in_ok-names.field-0.ordinals.items) c.names.ensures c.in_ok-names.ensures.ordinals
+stand_of c = subst (λ (ns : List (List ℕ)). Stand ns (sorted_in c) c.in_ok-names.field-0.ordinals.items) c.into_names-terms.ensures c.in_ok-names.ensures.ordinals
 
 -- the occurrences by the order of their terms
 after_of : (c : After-len) → c.deref-2.result.now ≡ map (by_ordinal c.in_ok-names.field-0.ordinals.items) c.self.inside.log.items
