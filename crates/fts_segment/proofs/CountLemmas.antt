@@ -1,7 +1,7 @@
 -- How many numbers of a column lie between two, by the lists of its numbers.
 use Rattle.std.proofs.Common.{◌≡◌, ◌+◌, ◌-◌, ◌<◌, ◌≤◌, ℕ, zero, suc, Bool, true, false, cond, ◌&&◌, nat_le, List, [], ◌∷◌, Option, Some, None, length, get_or, map, min, take, refl, sym, ap, subst, ◌∙◌, arith, Contains, option_map, inl, inr}
 use Rattle.std.specs.Prelude.{filter, slice_get}
-use Rattle.std.proofs.lemmas.List.{get_or-map, get_or_default, take_all}
+use Rattle.std.proofs.lemmas.List.{get_or-map, take_all}
 use Rattle.std.proofs.lemmas.Option.{slice_get_within, slice_get-get_or, get_or_from_slice_get}
 use Rattle.std.proofs.lemmas.Bool.{cases_Bool, cases_lt, false≢true, le-leb, lt-leb}
 use Rattle.std.proofs.lemmas.List.Kept.{AllPairs-from_increasing}
@@ -118,9 +118,13 @@ module _ (column : List (Option ℕ)) (lists : List (List ℕ)) (key : ℕ → �
       none doc None at = refl
       none doc (Some x) at = let found = counted.whole doc x at in one-gt (x + 1) bound (omega (arith, found.2, behind found.0 (omega arith) found.1))
   total-below (suc j) bound inside before behind =
-      omega (arith, total-next lists j (omega (arith, inside)), counted.size j (omega (arith, inside)),
-      total-below j (key j) (omega (arith, inside)) (λ k less. counted.rises k j less (omega (arith, inside))) behind_j,
-      count-split (below bound) (below (key j)) (is_number (key j)) column split)
+      omega (
+        arith,
+        total-next lists j (omega (arith, inside)),
+        counted.size j (omega (arith, inside)),
+        total-below j (key j) (omega (arith, inside)) (λ k less. counted.rises k j less (omega (arith, inside))) behind_j,
+        count-split (below bound) (below (key j)) (is_number (key j)) column split,
+      )
     where
       behind_j : (k : ℕ) → j ≤ k → k < length lists → key j ≤ key k
       behind_j k le less = elim (cases_lt j k) [

@@ -1,5 +1,5 @@
 -- How many numbers there are in lists.
-use Rattle.std.specs.Prelude.{◌≡◌, ℕ, ◌+◌, List, [], ◌∷◌, length}
+use Rattle.std.specs.Prelude.{ℕ, ◌+◌, List, [], ◌∷◌, length}
 
 -- how many numbers there are in lists
 abbrev pub total : List (List ℕ) → ℕ

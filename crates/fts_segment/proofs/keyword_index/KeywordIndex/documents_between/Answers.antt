@@ -1,8 +1,7 @@
 -- The sums before the first ordinal and behind the last.
-use Rattle.std.proofs.Common.{◌≡◌, ◌≤◌, ◌<◌, ℕ, List, length, min, take, sym, subst, ap, arith}
+use Rattle.std.proofs.Common.{◌≤◌, length, min, ap, arith}
 use Rattle.fts_model.specs.declared.schema.Kind.TheVariants as kinds
 use Rattle.fts_segment.specs.Keywords.{ordinals_of}
-use Rattle.fts_segment.specs.Sums.{total}
 use Rattle.fts_segment.proofs.CountLemmas.{AreCounted-keywords, total-between}
 use Rattle.fts_segment.proofs.SumsLemmas.{sums-inside, sums-read, total-rises}
 use Rattle.fts_segment.proofs.keyword_index.KeywordIndex.documents_between.Goals as goal
@@ -26,8 +25,12 @@ overflow_sub-result c =
     let end = c.min-end.result in
     let start = c.min-start.result in
     let inside : end ≤ length lists = omega (arith, c.min-end.ensures, ap length c.deref-lists.ensures.value) in
-    omega (arith, sums-read lists self.sums.items end c.index.result.now c.requires.1.sums inside c.index.ensures, sums-read lists self.sums.items start c.index-2.result.now c.requires.1.sums (omega (arith, c.min-start.ensures, inside)) c.index-2.ensures,
-    total-rises lists start end (omega (arith, c.min-start.ensures)))
+    omega (
+      arith,
+      sums-read lists self.sums.items end c.index.result.now c.requires.1.sums inside c.index.ensures,
+      sums-read lists self.sums.items start c.index-2.result.now c.requires.1.sums (omega (arith, c.min-start.ensures, inside)) c.index-2.ensures,
+      total-rises lists start end (omega (arith, c.min-start.ensures)),
+    )
 
 pub returns : goal.returns
 returns c vs are =

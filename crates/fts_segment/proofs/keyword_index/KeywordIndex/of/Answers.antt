@@ -1,5 +1,5 @@
 -- The dictionary has the texts, and the column their numbers.
-use Rattle.std.proofs.Common.{ℕ, List, Option, option_map, length, refl, ap, ◌∙◌, arith}
+use Rattle.std.proofs.Common.{ℕ, Option, option_map, refl, ap, ◌∙◌, arith}
 use Rattle.std.proofs.lemmas.List.{length-map}
 use Rattle.fts_model.specs.Documents.{value_in_field}
 use Rattle.fts_model.specs.declared.schema.Kind.TheVariants as kinds

@@ -1,8 +1,7 @@
 -- The sums before the first number that isn't below and behind the last that isn't above.
-use Rattle.std.proofs.Common.{◌≡◌, ◌≤◌, ◌<◌, ℕ, List, length, get_or, take, sym, subst, ap, arith}
+use Rattle.std.proofs.Common.{◌≤◌, ◌<◌, ℕ, List, length, get_or, sym, subst, ap, arith}
 use Rattle.std.specs.List.Sorted.{IsStrictlyIncreasing}
 use Rattle.fts_segment.specs.Between.{IsCut}
-use Rattle.fts_segment.specs.Sums.{total}
 use Rattle.fts_segment.proofs.BetweenLemmas.{numbers_count}
 use Rattle.fts_segment.proofs.CountLemmas.{AreCounted-numbers, total-between}
 use Rattle.fts_segment.proofs.SumsLemmas.{sums-inside, sums-read, total-rises}
@@ -37,8 +36,12 @@ overflow_sub-result c =
     let end = c.place_behind-end.result in
     let start = c.min-start.result in
     let inside : end ≤ length lists = omega (arith, c.place_behind-end.ensures.within, ap length c.deref.ensures.value, numbers_count c.requires.0 self.numbers.items lists c.requires.1) in
-    omega (arith, sums-read lists self.sums.items end c.index.result.now c.requires.2 inside c.index.ensures, sums-read lists self.sums.items start c.index-2.result.now c.requires.2 (omega (arith, c.min-start.ensures, inside)) c.index-2.ensures,
-    total-rises lists start end (omega (arith, c.min-start.ensures)))
+    omega (
+      arith,
+      sums-read lists self.sums.items end c.index.result.now c.requires.2 inside c.index.ensures,
+      sums-read lists self.sums.items start c.index-2.result.now c.requires.2 (omega (arith, c.min-start.ensures, inside)) c.index-2.ensures,
+      total-rises lists start end (omega (arith, c.min-start.ensures)),
+    )
 
 pub returns : goal.returns
 returns c column index sums =
