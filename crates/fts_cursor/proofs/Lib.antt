@@ -1,6 +1,7 @@
 pub mod TermsLemmas
 pub mod ScanLemmas
 pub mod WithinLemmas
+pub mod CountLemmas
 pub mod PartsLemmas
 pub mod TreeLemmas
 pub mod GatherLemmas

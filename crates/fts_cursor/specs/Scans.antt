@@ -1,6 +1,6 @@
 -- The documents that are kept by their numbers alone, a stretch at a time.
 use Rattle.std.specs.Prelude.{◌≡◌, ℕ, ◌-◌, ◌%◌, ◌^◌, ◌<◌, ◌≤◌, Bool, true, false, Option, None}
-use Rattle.std.specs.Prelude.{List, length, min, take, is_some, slice_get, slice_index_or}
+use Rattle.std.specs.Prelude.{IfSome, List, drop, length, min, take, is_some, slice_get, slice_index_or}
 use Rattle.std.specs.Option.{option_map_or}
 use Rattle.fts_model.specs.Documents.{DocumentValue, value_in_field}
 use Rattle.fts_model.specs.declared.operation.Stamped.{Stamped}
@@ -38,8 +38,10 @@ kept_from kept from docs = passing (keeps kept) from (docs - from)
 abbrev pub kept_in : Kept → ℕ → ℕ → List ℕ
 kept_in kept from docs = passing (keeps kept) from (min 128 (docs - from))
 
--- how the fields stand to one another: those kept in the stretch lie at the front of the array
-pub record IsScan (kept : Kept) (docs from at len : ℕ) (numbers : List ℕ) : Type 0 where
+-- how the fields stand to one another: those kept in the stretch lie at the front of the array, and if there is a
+-- number, so many remain
+pub record IsScan (kept : Kept) (docs : ℕ) (total : Option ℕ) (from at len : ℕ) (numbers : List ℕ)
+    : Type 0 where
   pub few : docs ≤ 2 ^ 32
   pub are_for : AreFor kept docs
   pub aligned : from % 64 ≡ 0
@@ -47,3 +49,4 @@ pub record IsScan (kept : Kept) (docs from at len : ℕ) (numbers : List ℕ) : 
   pub size : len ≡ length (kept_in kept from docs)
   pub numbers_are : take len numbers ≡ kept_in kept from docs
   pub stands : from < docs → at < len
+  pub total_is : IfSome total (λ n. n ≡ length (drop at (kept_from kept from docs)))

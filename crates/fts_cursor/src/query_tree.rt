@@ -199,7 +199,8 @@ fn place_of_least(numbers: &[usize]) -> usize
 fn of_all(alloc: Global, segment: &Segment) -> Result<Tree<'_>, AllocError>
     ensures { IfOk result (λ t. t.remaining ≡ segment_hits segment.now every) }
 {
-    Tree::scan(alloc, Kept::Every, segment.docs())
+    let docs = segment.docs();
+    Tree::scan(alloc, Kept::Every, docs, Some(docs))
 }
 
 // The documents that have a term.

@@ -13,7 +13,7 @@ ghost use Rattle.fts_cursor.specs.Ranges.{key_of};
 ghost use Rattle.fts_cursor.specs.Ranges.{ordinal_from};
 ghost use Rattle.fts_cursor.specs.Scans.{has_within};
 ghost use Rattle.fts_postings.specs.Windows.{passing};
-ghost use Rattle.fts_segment.specs.Between.{AreBetween};
+ghost use Rattle.fts_segment.specs.Between.{AreBetween, count_between};
 
 use crate::kept::Kept;
 use crate::listed::ListedCursor;
@@ -40,7 +40,7 @@ pub(crate) fn of_range<'a>(
 {
     if is_open(lower) && is_open(upper) {
         let kept = Kept::Valued { segment, field };
-        return Tree::scan(alloc, kept, segment.docs());
+        return Tree::scan(alloc, kept, segment.docs(), None);
     }
     if segment.schema().kind(field).holds_numbers() {
         of_numbers(alloc, segment, field, lower, upper)
@@ -70,7 +70,8 @@ fn of_numbers<'a>(
         return Ok(Tree::nothing());
     };
     let lists = segment.lists_between(field, low, high);
-    let tree = between(alloc, column, segment.docs(), lists, low, high)?;
+    let documents = segment.documents_between(field, low, high);
+    let tree = between(alloc, column, segment.docs(), lists, documents, low, high)?;
     Ok(tree)
 }
 
@@ -96,42 +97,33 @@ fn of_keywords<'a>(
         return Ok(Tree::nothing());
     };
     let lists = segment.lists_between(field, low, high);
-    let tree = between(alloc, column, segment.docs(), lists, low, high)?;
+    let documents = segment.documents_between(field, low, high);
+    let tree = between(alloc, column, segment.docs(), lists, documents, low, high)?;
     Ok(tree)
 }
 
-// The documents with a number of a column between two, which lie in these lists: where they are few, the lists are
-// opened, and else the column is read.
+// The documents with a number of a column between two, which lie in these lists, and how many they are: where they are
+// few, the lists are opened, and else the column is read.
 fn between<'a>(
     alloc: Global,
     column: &'a Column,
     docs: usize,
     lists: &[List],
+    documents: usize,
     low: u64,
     high: u64,
 ) -> Result<Tree<'a>, AllocError>
     requires few { docs ≤ 2 ^ 32 }
     requires size { length column.now ≡ docs }
     requires lists { AreBetween column.now low high lists.now }
+    requires documents { documents ≡ count_between low high column.now }
     ensures { IfOk result (λ t. t.remaining ≡ passing (has_within low high column.now) 0 docs) }
 {
-    if are_few(lists, docs / 256) {
+    if documents <= docs / 256 {
         return Tree::listed(alloc, ListedCursor::of_lists(alloc, lists)?);
     }
     let kept = Kept::Within { column, low, high };
-    Tree::scan(alloc, kept, docs)
-}
-
-// Whether the lists have so many documents at most. None is empty, so a few of them tell.
-fn are_few(lists: &[List], most: usize) -> bool {
-    if lists.len() > most {
-        return false;
-    }
-    let mut documents = 0usize;
-    for list in lists {
-        documents = documents.saturating_add(list.len());
-    }
-    documents <= most
+    Tree::scan(alloc, kept, docs, Some(documents))
 }
 
 // The least ordinal that a lower bound of a text admits.

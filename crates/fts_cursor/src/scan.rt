@@ -1,5 +1,5 @@
 // A cursor over the documents that are kept by their number alone.
-ghost use Rattle.std.specs.Prelude.{◌≡◌, ◌%◌, ◌^◌, ◌-◌, ◌<◌, ◌≤◌, [], length, slice_index, take};
+ghost use Rattle.std.specs.Prelude.{◌≡◌, ◌%◌, ◌^◌, ◌-◌, ◌<◌, ◌≤◌, IfSome, [], length, slice_index, take};
 ghost use Rattle.fts_postings.specs.Fills.{IsStretch};
 ghost use Rattle.fts_postings.specs.Remaining.{at_least};
 ghost use Rattle.fts_cursor.specs.Scans.{AreFor, kept_from, kept_in};
@@ -17,6 +17,8 @@ const BEHIND_ALL: usize = 8_589_934_592;
 pub(crate) struct ScanCursor<'a> {
     kept: Kept<'a>,
     docs: usize,
+    // How many documents remain, if that is known.
+    total: Option<usize>,
     from: usize,
     at: usize,
     len: usize,
@@ -31,14 +33,15 @@ impl<'a> Model for ScanCursor<'a> {
 
     ghost view = { λ s. drop s.at (kept_from s.kept s.from s.docs) };
 
-    ghost invariant = { λ s. IsScan s.kept s.docs s.from s.at s.len s.numbers };
+    ghost invariant = { λ s. IsScan s.kept s.docs s.total s.from s.at s.len s.numbers };
 }
 
 impl<'a> ScanCursor<'a> {
-    /// Of so many documents.
-    pub(crate) fn new(kept: Kept<'a>, docs: usize) -> ScanCursor<'a>
+    /// Of so many documents, and how many of them are kept, if that is known.
+    pub(crate) fn new(kept: Kept<'a>, docs: usize, total: Option<usize>) -> ScanCursor<'a>
         requires few { docs ≤ 2 ^ 32 }
         requires are_for { AreFor kept docs }
+        requires total { IfSome total (λ n. n ≡ length (kept_from kept 0 docs)) }
         ensures { result ≡ kept_from kept.entry 0 docs }
     {
         let mut numbers = [0; 128];
@@ -46,6 +49,7 @@ impl<'a> ScanCursor<'a> {
         ScanCursor {
             kept,
             docs,
+            total,
             from,
             at: 0,
             len,
@@ -53,24 +57,41 @@ impl<'a> ScanCursor<'a> {
         }
     }
 
-    /// How many documents remain at most: as many as were not looked at.
+    /// How many documents remain at most: where it isn't known how many, as many as were not looked at.
     pub(crate) fn cost(&self) -> usize
         ensures { length self.now ≤ result }
     {
-        self.docs.saturating_sub(self.from)
+        match self.total {
+            Some(total) => total,
+            None => self.docs.saturating_sub(self.from),
+        }
     }
 
-    /// How many documents remain. Leaves them behind, and lists none of those of later stretches.
+    /// How many documents remain. Leaves them behind, and lists none of those of later stretches; where their number
+    /// is known, none is looked at.
     pub(crate) fn count(&mut self) -> usize
         ensures count { result ≡ length self.old }
         ensures none { self.new ≡ [] }
     {
-        let here = self.len.saturating_sub(self.at);
-        let later = count_from(self.kept, self.docs, self.from + 128);
+        let count = self.remaining();
+        self.total = None;
         self.from = BEHIND_ALL;
         self.at = 0;
         self.len = 0;
-        here + later
+        count
+    }
+
+    // How many documents remain.
+    fn remaining(&self) -> usize
+        ensures { result ≡ length self.now }
+    {
+        match self.total {
+            Some(total) => total,
+            None => {
+                let here = self.len.saturating_sub(self.at);
+                here + count_from(self.kept, self.docs, self.from + 128)
+            }
+        }
     }
 
     // Copies what fits of the rest of the stretch behind what fills `out` so far, and leaves it behind.
@@ -81,6 +102,7 @@ impl<'a> ScanCursor<'a> {
         if self.at >= self.len {
             return 0;
         }
+        self.total = None;
         let count = (self.len - self.at).min(128 - filled);
         copy_part(&self.numbers, self.at, count, out, filled);
         if self.at + count < self.len {
@@ -113,6 +135,7 @@ impl DocSet for ScanCursor<'_> {
         if self.at >= self.len {
             return;
         }
+        self.total = None;
         if self.at + 1 < self.len {
             self.at += 1;
         } else {
@@ -129,6 +152,7 @@ impl DocSet for ScanCursor<'_> {
         if self.at >= self.len {
             return;
         }
+        self.total = None;
         if self.numbers[self.len - 1] < target {
             let next = (self.from + 128).max(target as usize / 128 * 128);
             let (from, len) = find(self.kept, self.docs, next, target, &mut self.numbers);

@@ -1,5 +1,5 @@
 // Cursors of queries within one another, each of which knows the first document that remains of it.
-ghost use Rattle.std.specs.Prelude.{◌≡◌, ℕ, ◌-◌, ◌^◌, ◌<◌, ◌≤◌, All, IfOk, [], MatchOption, true, drop, length, min};
+ghost use Rattle.std.specs.Prelude.{◌≡◌, ℕ, ◌-◌, ◌^◌, ◌<◌, ◌≤◌, All, IfOk, IfSome, [], MatchOption, true, drop, length, min};
 ghost use Rattle.std.specs.Prelude.{slice_get, take};
 ghost use Rattle.std.specs.List.Sorted.{IsStrictlyIncreasing};
 ghost use Rattle.fts_postings.specs.Bounds.{most_at};
@@ -100,15 +100,21 @@ impl<'a> Tree<'a> {
         })
     }
 
-    /// Of those of so many documents that are kept.
+    /// Of those of so many documents that are kept, and how many these are, if that is known.
     #[inline(never)]
-    pub(crate) fn scan(alloc: Global, kept: Kept<'a>, docs: usize) -> Result<Tree<'a>, AllocError>
+    pub(crate) fn scan(
+        alloc: Global,
+        kept: Kept<'a>,
+        docs: usize,
+        total: Option<usize>,
+    ) -> Result<Tree<'a>, AllocError>
         requires few { docs ≤ 2 ^ 32 }
         requires are_for { AreFor kept docs }
+        requires total { IfSome total (λ n. n ≡ length (kept_from kept 0 docs)) }
         ensures remaining { IfOk result (λ t. t.remaining ≡ kept_from kept.entry 0 docs) }
         ensures counts { IfOk result (λ t. (t.openings ≡ 0) × (t.bound ≡ at_most 0)) }
     {
-        let scan = ScanCursor::new(kept, docs);
+        let scan = ScanCursor::new(kept, docs, total);
         Tree::of(alloc, scan.doc(), Node::Scan(scan))
     }
 

@@ -13,7 +13,8 @@ use Rattle.fts_model.specs.declared.value.FieldValue.{FieldValue}
 use Rattle.fts_model.specs.declared.value.FieldValue.TheVariants as values
 use Rattle.fts_segment.specs.declared.keyword_index.KeywordIndex.{KeywordIndex}
 use Rattle.fts_segment.specs.Between.{AreBetween, IsCut}
-use Rattle.fts_segment.specs.FieldIndexes.{AreKeywords}
+use Rattle.fts_segment.specs.declared.dictionary.Dictionary.{Dictionary}
+use Rattle.fts_segment.specs.FieldIndexes.{AreKeywords, AreTerms}
 use Rattle.fts_segment.specs.Keywords.{before, keyword_of, ordinals_of, texts_of}
 use Rattle.fts_segment.specs.Numbers.{IsNumberIndex, is_number}
 use Rattle.fts_segment.specs.Occurrences.{holds}
@@ -75,11 +76,11 @@ AreBetween-cut column lists key low high start end keyed order inside lower midd
           (k, omega (arith, size, up, down), subst (λ xs. Contains xs doc) (sym (at k (omega (arith, up, down)) ∙ ap (λ i. get_or lists i []) e)) found.3);
     }
 
-has_number : (x : ℕ) (v : Option ℕ) → is_number x v ≡ true → v ≡ Some x
+pub has_number : (x : ℕ) (v : Option ℕ) → is_number x v ≡ true → v ≡ Some x
 has_number x None h = cc
 has_number x (Some y) h = ap Some (let e : y ≡ x = grind (arith, nat_tests) in e)
 
-its_number : (x : ℕ) → is_number x (Some x) ≡ true
+pub its_number : (x : ℕ) → is_number x (Some x) ≡ true
 its_number x = grind (arith, nat_tests)
 
 column_at : (column : List (Option ℕ)) (doc x : ℕ) → Contains (numbers_where (is_number x) 0 column) doc → slice_get column doc ≡ Some (Some x)
@@ -108,42 +109,43 @@ AreKeyed-numbers column numbers lists index =
     }
 
 -- the text of an ordinal's value
-ordinal_text : (texts : List (List ℕ)) (v : Option FieldValue) (x : ℕ) → option_map (before texts) (keyword_of kinds.Keyword v) ≡ Some x → (text : List ℕ) × (v ≡ Some (values.Text text)) × (before texts text ≡ x)
+pub ordinal_text : (texts : List (List ℕ)) (v : Option FieldValue) (x : ℕ) → option_map (before texts) (keyword_of kinds.Keyword v) ≡ Some x → (text : List ℕ) × (v ≡ Some (values.Text text)) × (before texts text ≡ x)
 ordinal_text texts None x is = cc
 ordinal_text texts (Some (values.Text t)) x is = (t, refl, let e : Some (before texts t) ≡ Some x = is in cc)
 ordinal_text texts (Some (values.Number n)) x is = cc
 ordinal_text texts (Some (values.Texts ts)) x is = cc
 
-text_held : (t : List ℕ) → holds kinds.Keyword (values.Text t) (Some (values.Text t)) ≡ true
+pub text_held : (t : List ℕ) → holds kinds.Keyword (values.Text t) (Some (values.Text t)) ≡ true
 text_held t = (bytes_eq-Decides t t).1 refl
 
 -- the lists of a keyword index have the documents of its ordinals
-pub AreKeyed-keywords : (vs : List (Option FieldValue)) (index : KeywordIndex) → AreKeywords kinds.Keyword vs index → AreKeyed (ordinals_of kinds.Keyword vs) index.dictionary.lists.items (λ k. k)
-AreKeyed-keywords vs index are =
-    let names = index.dictionary.names in
+pub AreKeyed-keywords : (vs : List (Option FieldValue)) (dictionary : Dictionary) → AreTerms kinds.Keyword vs dictionary → dictionary.names ≡ texts_of kinds.Keyword vs →
+    AreKeyed (ordinals_of kinds.Keyword vs) dictionary.lists.items (λ k. k)
+AreKeyed-keywords vs dictionary terms texts_are =
+    let names = dictionary.names in
     let texts = texts_of kinds.Keyword vs in
     let ordinal : Option FieldValue → Option ℕ = λ v. option_map (before texts) (keyword_of kinds.Keyword v) in
-    let count = lists_count vs index are in
+    let count = lists_count vs dictionary terms in
     record {
       sound = λ k doc less there.
           let within : k < length names = omega (arith, less, count) in
           let text = get_or names k [] in
           let named : slice_get names k ≡ Some text = slice_get-get_or names k [] within in
-          let is = text_found text k are.terms named in
+          let is = text_found text k terms named in
           let held = numbers_where-holds (holds kinds.Keyword (values.Text text)) 0 vs doc (subst (λ ds. Contains ds doc) is.0 there) in
           let number : doc ≡ held.0 = omega (arith, held.1) in
           let value : slice_get vs doc ≡ Some (Some (values.Text text)) = ap (slice_get vs) number ∙ held.3 ∙ ap Some (holds_text text held.2 held.4) in
-          let place : before texts text ≡ k = ap (λ ts. before ts text) (sym are.texts) ∙ sym (number_of_text names k text are.terms.dictionary_is.ascends named) in
+          let place : before texts text ≡ k = ap (λ ts. before ts text) (sym texts_are) ∙ sym (number_of_text names k text terms.dictionary_is.ascends named) in
           slice_get-map ordinal vs doc ∙ ap (option_map ordinal) value ∙ ap (λ n. Some (Some n)) place;
       whole = λ doc x is.
           let value = mapped (slice_get vs doc) refl (sym (slice_get-map ordinal vs doc) ∙ is) in
           let text = ordinal_text texts value.0 x value.2 in
           let here : slice_get vs doc ≡ Some (Some (values.Text text.0)) = value.1 ∙ ap Some text.1 in
           let there : Contains vs (Some (values.Text text.0)) = (doc, slice_get_within vs doc (Some (values.Text text.0)) here, get_or_from_slice_get vs doc (Some (values.Text text.0)) (Some (values.Text text.0)) here) in
-          let among : Contains names text.0 = subst (λ ts. Contains ts text.0) (sym are.texts) (text_among vs text.0 there) in
+          let among : Contains names text.0 = subst (λ ts. Contains ts text.0) (sym texts_are) (text_among vs text.0 there) in
           let named : slice_get names among.0 ≡ Some text.0 = slice_get-get_or names among.0 text.0 among.1 ∙ ap Some among.2 in
-          let found = text_found text.0 among.0 are.terms named in
-          let place : among.0 ≡ x = number_of_text names among.0 text.0 are.terms.dictionary_is.ascends named ∙ ap (λ ts. before ts text.0) are.texts ∙ text.2 in
+          let found = text_found text.0 among.0 terms named in
+          let place : among.0 ≡ x = number_of_text names among.0 text.0 terms.dictionary_is.ascends named ∙ ap (λ ts. before ts text.0) texts_are ∙ text.2 in
           (among.0, omega (arith, among.1, count), place, subst (λ ds. Contains ds doc) (sym found.0) (numbers_where-at (holds kinds.Keyword (values.Text text.0)) vs doc (Some (values.Text text.0)) here (text_held text.0)));
     }
   where
@@ -180,5 +182,5 @@ between_numbers column numbers lists low high start from end index cut within up
 pub between_keywords : (vs : List (Option FieldValue)) (index : KeywordIndex) (low high start end : ℕ) → AreKeywords kinds.Keyword vs index → end ≤ length index.dictionary.lists.items → end ≤ high + 1 → (end < length index.dictionary.lists.items → high < end) → start ≡ min low end →
     AreBetween (ordinals_of kinds.Keyword vs) low high (take (end - start) (drop start index.dictionary.lists.items))
 between_keywords vs index low high start end are within upper behind is =
-    AreBetween-cut (ordinals_of kinds.Keyword vs) index.dictionary.lists.items (λ k. k) low high start end (AreKeyed-keywords vs index are) (omega (arith, is)) within
+    AreBetween-cut (ordinals_of kinds.Keyword vs) index.dictionary.lists.items (λ k. k) low high start end (AreKeyed-keywords vs index.dictionary are.terms are.texts) (omega (arith, is)) within
     (λ k less. omega (arith, less, is)) (λ k more less. (omega (arith, more, less, is), omega (arith, less, upper))) (λ k more less. omega (arith, behind (omega (arith, more, less)), more))

@@ -15,6 +15,8 @@ pub mod FieldLemmas
 pub mod OrdinalLemmas
 pub mod NumberLemmas
 pub mod BetweenLemmas
+pub mod SumsLemmas
+pub mod CountLemmas
 pub mod PositionListsLemmas
 pub mod PackedLemmas
 pub mod UnpackedLemmas

@@ -12,7 +12,8 @@ use Rattle.fts_model.specs.Documents.{DocumentValue, value_in_field}
 use Rattle.fts_pack.specs.Documents.{block_at, blocks_of, last_of}
 use Rattle.fts_pack.specs.SourceLaws.{length-block_at, get_or-blocks_of}
 use Rattle.fts_segment.specs.declared.keyword_index.KeywordIndex.{KeywordIndex}
-use Rattle.fts_segment.specs.FieldIndexes.{AreKeywords, HasKeywordAt}
+use Rattle.fts_segment.specs.declared.dictionary.Dictionary.{Dictionary}
+use Rattle.fts_segment.specs.FieldIndexes.{AreTerms, AreKeywords, HasKeywordAt}
 use Rattle.fts_segment.specs.Keywords.{texts_of}
 use Rattle.fts_segment.specs.Occurrences.{docs_with, holds, occurrences, values_in}
 use Rattle.fts_segment.specs.Segments.{numbers_where}
@@ -32,9 +33,8 @@ last_of_first documents some =
     (n, within, get_or_default documents n (last_of (get_or (blocks_of documents) 0 [])) 0 within ∙ is)
 
 -- as many lists as texts
-pub lists_count : (vs : List (Option FieldValue)) (index : KeywordIndex) → AreKeywords kinds.Keyword vs index → length index.dictionary.lists.items ≡ length index.dictionary.names
-lists_count vs index are =
-    ap length are.terms.dictionary_is.listed ∙ length-map index.dictionary.names (λ q. docs_with q (occurrences kinds.Keyword 0 vs))
+pub lists_count : (vs : List (Option FieldValue)) (dictionary : Dictionary) → AreTerms kinds.Keyword vs dictionary → length dictionary.lists.items ≡ length dictionary.names
+lists_count vs dictionary are = ap length are.dictionary_is.listed ∙ length-map dictionary.names (λ q. docs_with q (occurrences kinds.Keyword 0 vs))
 
 -- a value that has a text as its term is that text
 pub holds_text : (text : List ℕ) (v : Option FieldValue) → holds kinds.Keyword (values.Text text) v ≡ true → v ≡ Some (values.Text text)
@@ -48,12 +48,12 @@ pub keyword_there : (vs : List (Option FieldValue)) (index : KeywordIndex) (ordi
     lists ≡ index.dictionary.lists.items → ordinal < length lists → list ≡ get_or lists ordinal d → MatchOption o (list ≡ []) (Contains list) →
     MatchOption o (slice_get (texts_of kinds.Keyword vs) ordinal ≡ None) (λ doc. HasKeywordAt vs ordinal doc)
 keyword_there vs index ordinal lists list d None are same inside found none =
-    let within : ordinal < length index.dictionary.names = omega (arith, inside, ap length same, lists_count vs index are) in
+    let within : ordinal < length index.dictionary.names = omega (arith, inside, ap length same, lists_count vs index.dictionary are.terms) in
     let is = text_found (get_or index.dictionary.names ordinal []) ordinal are.terms (slice_get-get_or index.dictionary.names ordinal [] within) in
     absurd (is.1 (ap (λ ls. get_or ls ordinal []) (sym same) ∙ get_or_default lists ordinal [] d inside ∙ sym found ∙ none))
 keyword_there vs index ordinal lists list d (Some doc) are same inside found at =
     let names = index.dictionary.names in
-    let within : ordinal < length names = omega (arith, inside, ap length same, lists_count vs index are) in
+    let within : ordinal < length names = omega (arith, inside, ap length same, lists_count vs index.dictionary are.terms) in
     let text = get_or names ordinal [] in
     let named : slice_get names ordinal ≡ Some text = slice_get-get_or names ordinal [] within in
     let is = text_found text ordinal are.terms named in

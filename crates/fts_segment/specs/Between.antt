@@ -1,5 +1,7 @@
--- The lists of the numbers of a column that lie between two.
-use Rattle.std.specs.Prelude.{◌≡◌, ℕ, ◌<◌, ◌≤◌, List, [], Option, Some, Contains, length, slice_get, slice_index_or}
+-- The lists of the numbers of a column that lie between two, and how many these numbers are.
+use Rattle.std.specs.Prelude.{◌≡◌, ℕ, ◌<◌, ◌≤◌, List, [], Option, Some, Contains, filter, length, slice_get}
+use Rattle.std.specs.Prelude.{slice_index_or}
+use Rattle.fts_column.specs.Column.{is_within}
 
 -- the numbers of documents in a field
 abbrev pub NumberColumn : Type 0
@@ -11,6 +13,10 @@ pub record AreBetween (column : List (Option ℕ)) (low high : ℕ) (lists : Lis
       (x : ℕ) × (slice_get column doc ≡ Some (Some x)) × (low ≤ x) × (x ≤ high)
   pub whole : (doc x : ℕ) → slice_get column doc ≡ Some (Some x) → low ≤ x → x ≤ high →
       (k : ℕ) × (k < length lists) × Contains (slice_index_or lists k []) doc
+
+-- how many documents have a number of these in a column
+abbrev pub count_between : ℕ → ℕ → List (Option ℕ) → ℕ
+count_between low high column = length (filter (is_within low high) column)
 
 -- how many of some rising numbers are below one
 pub record IsCut (numbers : List ℕ) (number place : ℕ) : Type 0 where

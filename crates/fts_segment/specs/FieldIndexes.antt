@@ -17,6 +17,7 @@ use Rattle.fts_segment.specs.Occurrences.{occurrences, values_in, HasFewTokens}
 use Rattle.fts_segment.specs.Dictionaries.{IsDictionaryOf}
 use Rattle.fts_segment.specs.TermPositionLists.{term_position_lists}
 use Rattle.fts_segment.specs.Keywords.{ordinals_of, texts_of}
+use Rattle.fts_segment.specs.Sums.{sums_from}
 use Rattle.fts_segment.specs.Numbers.{Fits64, numbers_of, IsNumberIndex}
 
 -- the terms of a text or keyword field
@@ -32,6 +33,7 @@ pub record AreKeywords (kind : Kind) (vs : List (Option FieldValue)) (index : Ke
   pub terms : AreTerms kind vs index.dictionary
   pub texts : index.dictionary.names ≡ texts_of kind vs
   pub ordinals : index.ordinals ≡ ordinals_of kind vs
+  pub sums : index.sums.items ≡ sums_from 0 index.dictionary.lists.items
 
 -- a document of this number has the text of an ordinal
 pub record HasKeywordAt (vs : List (Option FieldValue)) (ordinal doc : ℕ) : Type 0 where
@@ -45,6 +47,7 @@ pub record AreNumbers (kind : Kind) (vs : List (Option FieldValue)) (index : Num
   pub fit : All (λ v. IfSome v (Fits64 kind)) vs
   pub column_is : index.column ≡ numbers_of kind vs
   pub index_is : IsNumberIndex (numbers_of kind vs) index.numbers.items index.lists.items
+  pub sums : index.sums.items ≡ sums_from 0 index.lists.items
 
 -- the index of a field of this kind in which the documents have these values
 abbrev pub IsFieldIndex : Kind → List (Option FieldValue) → FieldIndex → Type 0

@@ -154,7 +154,7 @@ fn indexed(
     schema: &Schema,
     documents: &[Stamped<Document>],
 ) -> Result<Vec<FieldIndex>, AllocError>
-    requires { length documents.now ≤ 2 ^ 32 }
+    requires { length documents.now < 2 ^ 32 }
     ensures { IfOk result (λ indexes. AreIndexes schema.now documents.now indexes.items) }
 {
     let mut indexes = Vec::new(alloc);

@@ -1,9 +1,9 @@
 // What is looked up in a field: the terms of its texts, its keywords or its numbers.
-ghost use Rattle.std.specs.Prelude.{◌≡◌, ◌≢◌, [], List, Option, None, ◌≤◌, ◌^◌, length, IfOk, IfNone, IfSome};
+ghost use Rattle.std.specs.Prelude.{◌≡◌, ◌≢◌, [], List, Option, None, ◌<◌, ◌≤◌, ◌^◌, length, IfOk, IfNone, IfSome};
 ghost use Rattle.std.specs.Prelude.{MatchOption};
 ghost use Rattle.std.specs.Prelude.{All, Some, true, false, slice_get};
 ghost use Rattle.fts_model.specs.declared.value.FieldValue.{FieldValue};
-ghost use Rattle.fts_segment.specs.Between.{AreBetween};
+ghost use Rattle.fts_segment.specs.Between.{AreBetween, count_between};
 ghost use Rattle.fts_segment.specs.FieldIndexes.{IsFieldIndex, AreTerms, HasKeywordAt};
 ghost use Rattle.fts_segment.specs.ListIds.{documents_in, positions_in};
 ghost use Rattle.fts_segment.specs.Occurrences.{holds, values_in};
@@ -44,7 +44,7 @@ impl FieldIndex {
         field: usize,
         kind: Kind,
     ) -> Result<FieldIndex, AllocError>
-        requires { length documents.now ≤ 2 ^ 32 }
+        requires { length documents.now < 2 ^ 32 }
         ensures { IfOk result (λ index. IsFieldIndex kind (values_in field documents.now) index) }
     {
         match kind {
@@ -73,7 +73,7 @@ impl FieldIndex {
     ) -> Result<FieldIndex, AllocError>
         requires documents { documents.now ≡ contents sources.now }
         requires few { live_count sources.now ≤ most_merged }
-        requires fit { length documents.now ≤ 2 ^ 32 }
+        requires fit { length documents.now < 2 ^ 32 }
         requires kinds { All (λ source. kind_at source.segment.schema field ≡ Some kind) sources.now }
         ensures { IfOk result (λ index. IsFieldIndex kind (values_in field documents.now) index) }
     {
@@ -135,6 +135,22 @@ impl FieldIndex {
         match self {
             FieldIndex::Keywords(index) => index.lists_between(low, high),
             FieldIndex::Numbers(index) => index.lists_between(low, high),
+            FieldIndex::Terms(_) => unreachable!(),
+        }
+    }
+
+    /// How many documents have a number of a field between two, or the ordinal of a text.
+    pub(crate) fn documents_between(&self, kind: Kind, low: u64, high: u64) -> usize
+        requires ordered { is_ordered kind ≡ true }
+        requires is { (vs : List (Option FieldValue)) × IsFieldIndex kind vs self.now }
+        ensures numbers { (vs : List (Option FieldValue)) → IsFieldIndex kind vs self.now
+            → holds_numbers kind ≡ true → result ≡ count_between low high (numbers_of kind vs) }
+        ensures ordinals { (vs : List (Option FieldValue)) → IsFieldIndex kind vs self.now
+            → holds_numbers kind ≡ false → result ≡ count_between low high (ordinals_of kind vs) }
+    {
+        match self {
+            FieldIndex::Keywords(index) => index.documents_between(low, high),
+            FieldIndex::Numbers(index) => index.documents_between(low, high),
             FieldIndex::Terms(_) => unreachable!(),
         }
     }

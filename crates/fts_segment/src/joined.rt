@@ -82,7 +82,7 @@ fn indexes_of(
     requires schemas { All (λ source. source.segment.schema ≡ schema.now) sources.now }
     requires few { live_count sources.now ≤ most_merged }
     requires documents { documents.now ≡ contents sources.now }
-    requires fit { length documents.now ≤ 2 ^ 32 }
+    requires fit { length documents.now < 2 ^ 32 }
     ensures { IfOk result (λ indexes. AreIndexes schema.now documents.now indexes.items) }
 {
     let mut indexes = Vec::new(alloc);

@@ -1,5 +1,5 @@
 // The texts of a keyword field: a dictionary, and for each document the ordinal of its text.
-ghost use Rattle.std.specs.Prelude.{◌≡◌, ◌≤◌, ◌^◌, ℕ, [], Contains, IfOk, IfSome, List, MatchOption, None, Option};
+ghost use Rattle.std.specs.Prelude.{◌≡◌, ◌<◌, ◌≤◌, ◌^◌, ℕ, [], Contains, IfOk, IfSome, List, MatchOption, None, Option};
 ghost use Rattle.std.specs.Prelude.{Some};
 ghost use Rattle.std.specs.Prelude.{length, option_copied, option_map, slice_get};
 ghost use Rattle.fts_model.specs.declared.value.FieldValue.{FieldValue};
@@ -8,11 +8,12 @@ ghost use Rattle.fts_segment.specs.FieldIndexes.{AreKeywords, AreTerms, HasKeywo
 ghost use Rattle.fts_segment.specs.Keywords.{before, keyword_of, ordinals_of, texts_of, up_to};
 ghost use Rattle.fts_segment.specs.Occurrences.{values_in};
 ghost use Rattle.fts_segment.specs.Sorted.{Ascends};
-ghost use Rattle.fts_segment.specs.Between.{AreBetween};
+ghost use Rattle.fts_segment.specs.Between.{AreBetween, count_between};
 
 use crate::dictionary::Dictionary;
 use crate::lookup::find_name;
 use crate::names::Names;
+use crate::sums::sums_of;
 use fts_column::Column;
 use fts_model::{Document, FieldValue, Kind, Stamped};
 use fts_pack::Blocks;
@@ -25,6 +26,8 @@ pub(crate) struct KeywordIndex {
     pub(crate) dictionary: Dictionary,
     /// Of each document how many different texts are before its own.
     pub(crate) ordinals: Column,
+    /// How many documents are in the lists before each, and in all.
+    pub(crate) sums: Vec<u32>,
 }
 
 impl KeywordIndex {
@@ -34,7 +37,7 @@ impl KeywordIndex {
         documents: &[Stamped<Document>],
         field: usize,
     ) -> Result<KeywordIndex, AllocError>
-        requires { length documents.now ≤ 2 ^ 32 }
+        requires { length documents.now < 2 ^ 32 }
         ensures { IfOk result (AreKeywords kinds.Keyword (values_in field documents.now)) }
     {
         let dictionary = Dictionary::new(alloc, documents, field, Kind::Keyword)?;
@@ -49,7 +52,7 @@ impl KeywordIndex {
         field: usize,
         dictionary: Dictionary,
     ) -> Result<KeywordIndex, AllocError>
-        requires few { length documents.now ≤ 2 ^ 32 }
+        requires few { length documents.now < 2 ^ 32 }
         requires terms { AreTerms kinds.Keyword (values_in field documents.now) dictionary }
         ensures { IfOk result (AreKeywords kinds.Keyword (values_in field documents.now)) }
     {
@@ -57,9 +60,11 @@ impl KeywordIndex {
         let Ok(ordinals) = Column::build(alloc, &ordinals) else {
             return Err(AllocError);
         };
+        let sums = sums_of(alloc, &dictionary.lists)?;
         Ok(KeywordIndex {
             dictionary,
             ordinals,
+            sums,
         })
     }
 
@@ -81,6 +86,18 @@ impl KeywordIndex {
         let end = high.saturating_add(1).min(lists.len() as u64) as usize;
         let start = low.min(end as u64) as usize;
         &lists[start..end]
+    }
+
+    /// How many documents have a text with an ordinal between two, these included.
+    pub(crate) fn documents_between(&self, low: u64, high: u64) -> usize
+        requires { (vs : List (Option FieldValue)) × AreKeywords kinds.Keyword vs self.now }
+        ensures { (vs : List (Option FieldValue)) → AreKeywords kinds.Keyword vs self.now
+            → result ≡ count_between low high (ordinals_of kinds.Keyword vs) }
+    {
+        let lists: &[fts_pack::List] = &self.dictionary.lists;
+        let end = high.saturating_add(1).min(lists.len() as u64) as usize;
+        let start = low.min(end as u64) as usize;
+        (self.sums[end] - self.sums[start]) as usize
     }
 }
 

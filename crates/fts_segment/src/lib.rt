@@ -3,8 +3,9 @@
 //! A [`Builder`] takes documents one after the other and makes a [`Segment`] of them. The segment numbers its documents
 //! from 0, and finds the list of a term ([`Segment::find`]): the documents that have it ([`Segment::postings`]), and
 //! where it stands in each ([`Segment::positions`], a [`PositionReader`]). Of a number field it has a column
-//! ([`Segment::column`]). A copy of a segment shares it, so that commits, merges and searches hand segments on at the
-//! cost of one count. [`join`] makes one segment of the live documents of several, each a [`Source`].
+//! ([`Segment::column`]), and it knows how many documents have a number within bounds
+//! ([`Segment::documents_between`]). A copy of a segment shares it, so that commits, merges and searches hand segments
+//! on at the cost of one count. [`join`] makes one segment of the live documents of several, each a [`Source`].
 //!
 //! ```text
 //! let mut builder = Builder::new(alloc, &schema)?;
@@ -38,6 +39,7 @@ mod positions;
 mod postings_writer;
 mod segment;
 mod source;
+mod sums;
 mod term_groups;
 mod term_join;
 mod term_log;

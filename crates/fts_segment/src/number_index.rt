@@ -9,11 +9,13 @@ ghost use Rattle.fts_segment.specs.Segments.{number_of, numbers_where};
 ghost use Rattle.fts_segment.specs.Numbers.{Fits64, numbers_of, present, is_number, IsNumberIndex};
 ghost use Rattle.fts_segment.specs.ListIds.{documents_in, positions_in};
 ghost use Rattle.fts_segment.specs.NumberLogs.{NumberLog};
-ghost use Rattle.fts_segment.specs.Between.{AreBetween, NumberColumn};
+ghost use Rattle.fts_segment.specs.Between.{AreBetween, NumberColumn, count_between};
+ghost use Rattle.fts_segment.specs.Sums.{sums_from};
 
 use crate::lookup::{find_number, place_behind, place_of_number};
 use crate::postings_writer::set_docs;
 use crate::segment::ListId;
+use crate::sums::sums_of;
 use crate::term_groups::TermGroups;
 use crate::term_log::Occurrence;
 use fts_bits::i64_to_u64;
@@ -30,6 +32,8 @@ pub(crate) struct NumberIndex {
     pub(crate) numbers: Vec<u64>,
     /// The documents of each.
     pub(crate) lists: Vec<List>,
+    /// How many documents are in the lists before each, and in all.
+    pub(crate) sums: Vec<u32>,
 }
 
 impl NumberIndex {
@@ -40,7 +44,7 @@ impl NumberIndex {
         field: usize,
         kind: Kind,
     ) -> Result<NumberIndex, AllocError>
-        requires { length documents.now ≤ 2 ^ 32 }
+        requires { length documents.now < 2 ^ 32 }
         ensures fit { OnOk result
             (All (λ v. IfSome v (Fits64 kind)) (values_in field documents.now)) }
         ensures column { IfOk result
@@ -48,12 +52,14 @@ impl NumberIndex {
         ensures index { IfOk result
             (λ index. IsNumberIndex (numbers_of kind (values_in field documents.now))
             index.numbers.items index.lists.items) }
+        ensures sums { IfOk result (λ index. index.sums.items ≡ sums_from 0 index.lists.items) }
     {
         let values = numbers_of(alloc, documents, field, kind)?;
         let numbers = different(alloc, &values)?;
         let log = logged(alloc, &values, &numbers)?;
         let groups = TermGroups::new(alloc, &log, numbers.len())?;
         let lists = lists_of(alloc, &groups, numbers.len())?;
+        let sums = sums_of(alloc, &lists)?;
         let Ok(column) = Column::build(alloc, &values) else {
             return Err(AllocError);
         };
@@ -61,6 +67,7 @@ impl NumberIndex {
             column,
             numbers,
             lists,
+            sums,
         })
     }
 
@@ -90,6 +97,19 @@ impl NumberIndex {
         let end = place_behind(&self.numbers, high);
         let start = place_of_number(&self.numbers, low).min(end);
         &self.lists[start..end]
+    }
+
+    /// How many documents have a number between two, these included.
+    pub(crate) fn documents_between(&self, low: u64, high: u64) -> usize
+        requires { (column : NumberColumn) × IsNumberIndex column self.now.numbers.items self.now.lists.items
+            × (self.now.sums.items ≡ sums_from 0 self.now.lists.items) }
+        ensures { (column : NumberColumn) → IsNumberIndex column self.now.numbers.items self.now.lists.items
+            → self.now.sums.items ≡ sums_from 0 self.now.lists.items
+            → result ≡ count_between low high column }
+    {
+        let end = place_behind(&self.numbers, high);
+        let start = place_of_number(&self.numbers, low).min(end);
+        (self.sums[end] - self.sums[start]) as usize
     }
 }
 

@@ -10,7 +10,7 @@ ghost use Rattle.fts_model.specs.declared.schema.Kind.{Kind};
 ghost use Rattle.fts_segment.specs.FieldIndexes.{AreTerms, NumbersFit};
 ghost use Rattle.fts_segment.specs.Occurrences.{values_in};
 ghost use Rattle.fts_segment.specs.Segments.{postings, positions, column, keywords, ordinals};
-ghost use Rattle.fts_segment.specs.Between.{AreBetween};
+ghost use Rattle.fts_segment.specs.Between.{AreBetween, count_between};
 ghost use Rattle.fts_segment.specs.Keywords.{before, text_in_value, up_to};
 ghost use Rattle.fts_model.specs.declared.schema.Kind.TheVariants as kinds;
 ghost use Rattle.fts_segment.specs.ListIds.{documents_in, positions_in};
@@ -146,6 +146,19 @@ impl Segment {
     {
         let stored: &Stored = &self.stored;
         stored.indexes[field].lists_between(stored.schema.kind(field), low, high)
+    }
+
+    /// How many documents have a number between two, these included, in the column of a number or keyword field: as
+    /// many as the lists of `lists_between` have together. No list is looked at.
+    pub fn documents_between(&self, field: usize, low: u64, high: u64) -> usize
+        requires { is_ordered_field self.now.schema field ≡ true }
+        ensures numbers { is_number_field self.now.schema field ≡ true
+            → result ≡ count_between low high (column self.now field) }
+        ensures ordinals { is_number_field self.now.schema field ≡ false
+            → result ≡ count_between low high (ordinals self.now field) }
+    {
+        let stored: &Stored = &self.stored;
+        stored.indexes[field].documents_between(stored.schema.kind(field), low, high)
     }
 
     /// The terms of the documents in a text or keyword field.

@@ -1,6 +1,6 @@
 -- A range of keywords goes over their ordinals.
 use Rattle.std.proofs.Common.{◌≡◌, ℕ, false, List, Option, ap, ap₂, subst, sym, ◌∙◌}
-use Rattle.fts_segment.specs.Between.{AreBetween}
+use Rattle.fts_segment.specs.Between.{AreBetween, count_between}
 use Rattle.std.specs.Option.{option_map_or}
 use Rattle.std.proofs.lemmas.Bool.{and_parts}
 use Rattle.fts_model.specs.declared.schema.Kind.TheVariants as kinds
@@ -48,3 +48,9 @@ between-requires-clause-lists c =
     let other : is_number_field c.args.segment.now.schema c.args.field ≡ false = ap (λ o. option_map_or holds_numbers o false) c.requires.keyword in
     let P : List (Option ℕ) → Type 0 = λ xs. AreBetween xs c.first_ordinal-low.result c.in-Some.high c.lists_between-lists.result.now in
     subst P (sym (c.column-column.ensures.ordinals other)) (c.lists_between-lists.ensures.ordinals other)
+
+pub between-requires-clause-documents : goal.between-requires-clause-documents
+between-requires-clause-documents c =
+    let other : is_number_field c.args.segment.now.schema c.args.field ≡ false = ap (λ o. option_map_or holds_numbers o false) c.requires.keyword in
+    let P : List (Option ℕ) → Type 0 = λ xs. c.documents_between-documents.result ≡ count_between c.first_ordinal-low.result c.in-Some.high xs in
+    subst P (sym (c.column-column.ensures.ordinals other)) (c.documents_between-documents.ensures.ordinals other)

@@ -1,6 +1,6 @@
 -- A range of numbers goes over their column.
-use Rattle.std.proofs.Common.{ℕ, List, Option, ap₂, subst, sym, ◌∙◌}
-use Rattle.fts_segment.specs.Between.{AreBetween}
+use Rattle.std.proofs.Common.{◌≡◌, ℕ, List, Option, ap₂, subst, sym, ◌∙◌}
+use Rattle.fts_segment.specs.Between.{AreBetween, count_between}
 use Rattle.fts_cursor.specs.Scans.{has_within}
 use Rattle.fts_postings.specs.Windows.{passing}
 use Rattle.fts_cursor.proofs.RangeLemmas.{Bounded, no_greatest, no_least, within_hits}
@@ -45,3 +45,8 @@ pub between-requires-clause-lists : goal.between-requires-clause-lists
 between-requires-clause-lists c =
     let P : List (Option ℕ) → Type 0 = λ xs. AreBetween xs c.in-Some-Some.low c.in-Some-Some.high c.lists_between-lists.result.now in
     subst P (sym (c.column-column.ensures.numbers c.requires.numbers)) (c.lists_between-lists.ensures.numbers c.requires.numbers)
+
+pub between-requires-clause-documents : goal.between-requires-clause-documents
+between-requires-clause-documents c =
+    let P : List (Option ℕ) → Type 0 = λ xs. c.documents_between-documents.result ≡ count_between c.in-Some-Some.low c.in-Some-Some.high xs in
+    subst P (sym (c.column-column.ensures.numbers c.requires.numbers)) (c.documents_between-documents.ensures.numbers c.requires.numbers)

@@ -1,0 +1,21 @@
+// How many documents there are in the lists up to each, so that those of some lists in a row are counted by two of these.
+ghost use Rattle.std.specs.Prelude.{◌≡◌, ◌<◌, ◌^◌, IfOk};
+ghost use Rattle.fts_segment.specs.Sums.{sums_from, total};
+
+use fts_pack::List;
+use std::alloc::{AllocError, Global};
+
+/// How many documents there are in the lists before each, and in all of them.
+pub(crate) fn sums_of(alloc: Global, lists: &[List]) -> Result<Vec<u32>, AllocError>
+    requires { total lists.now < 2 ^ 32 }
+    ensures { IfOk result (λ sums. sums.items ≡ sums_from 0 lists.now) }
+{
+    let mut sums = Vec::with_capacity(alloc, lists.len() + 1)?;
+    let mut sum = 0;
+    sums.push(sum)?;
+    for list in lists {
+        sum += list.len() as u32;
+        sums.push(sum)?;
+    }
+    Ok(sums)
+}
