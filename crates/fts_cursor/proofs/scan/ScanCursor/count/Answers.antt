@@ -1,5 +1,5 @@
 -- Behind all documents nothing is left.
-use Rattle.std.proofs.Common.{◌-◌, ◌≤◌, length, refl, ap, sym, arith}
+use Rattle.std.proofs.Common.{◌≤◌, length, refl, ap, sym, arith}
 use Rattle.fts_cursor.specs.Scans.{keeps}
 use Rattle.fts_cursor.proofs.ScanLemmas.{none_behind, none_in_stretch}
 use Rattle.fts_cursor.proofs.scan.ScanCursor.count.Goals as goal

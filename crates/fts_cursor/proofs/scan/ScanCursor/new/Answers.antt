@@ -1,5 +1,5 @@
 use Rattle.std.proofs.Common.{◌≡◌, ◌-◌, ℕ, List, IfSome, length, subst, sym}
-use Rattle.fts_cursor.specs.Scans.{keeps, kept_from}
+use Rattle.fts_cursor.specs.Scans.{keeps}
 use Rattle.fts_cursor.proofs.ScanLemmas.{same_all}
 use Rattle.fts_cursor.proofs.scan.ScanCursor.new.Goals as goal
 
