@@ -9,6 +9,9 @@ use fts_model::{Hit, Kind, Order};
 use fts_segment::Segment;
 use std::alloc::{AllocError, Global};
 
+/// How many documents a column tells a range of.
+const BLOCK: u32 = 128;
+
 /// Where a number stands among those of 64 bits in an order, and also the number that stands there.
 fn rank_in(order: Order, number: u64) -> u64
     ensures { result ≡ rank_in order number }
@@ -16,6 +19,18 @@ fn rank_in(order: Order, number: u64) -> u64
     match order {
         Order::Rising => number,
         Order::Falling => u64::MAX - number,
+    }
+}
+
+/// Whether no hit of a block of 128 documents is one of the first, by the best that a value of the block can rank.
+fn is_block_beyond(column: &Column, order: Order, block: u32, top_k: &TopK) -> bool
+{
+    match column.block_range(block as usize) {
+        None => true,
+        Some((least, greatest)) => top_k.is_beyond(match order {
+            Order::Rising => rank_in(order, least),
+            Order::Falling => rank_in(order, greatest),
+        }),
     }
 }
 
@@ -61,8 +76,17 @@ pub(crate) fn offer_hits(
           (keys_at order segment.now.documents column.now docs.now);
     }) }
 {
+    let mut block = u32::MAX;
+    let mut is_beyond = false;
     for i in (0..docs.len()).rev() {
-        offer_hit(segment, column, order, docs[i], top_k)?;
+        let doc = docs[i];
+        if doc / BLOCK != block {
+            block = doc / BLOCK;
+            is_beyond = is_block_beyond(column, order, block, top_k);
+        }
+        if !is_beyond {
+            offer_hit(segment, column, order, doc, top_k)?;
+        }
     }
     Ok(())
 }
