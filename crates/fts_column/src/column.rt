@@ -100,7 +100,7 @@ impl Column {
     }
 
     /// The document's value, and `None` where it has none or there is no such document.
-    #[inline]
+    #[inline(always)]
     pub fn get(&self, doc: usize) -> Option<u64>
         ensures { result ≡ slice_index_or self.now doc None }
     {
