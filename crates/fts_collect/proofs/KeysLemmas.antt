@@ -335,6 +335,10 @@ higher_rank key bound h =
     let above : nat_cmp bound.rank key.rank ≡ Less = ap (λ b. cond b Less (cond (bound.rank == key.rank) Equal Greater)) h in
     lt_one_way bound key (ap (λ o. is_lt (ordering_then o (ordering_then (nat_cmp bound.stamp key.stamp) (nat_cmp bound.doc key.doc)))) above)
 
+-- a rank above another is so of one below that
+pub lower_rank : (low rank high : ℕ) → nat_lt low rank ≡ true → rank ≤ high → nat_lt low high ≡ true
+lower_rank low rank high above most = grind arith
+
 -- what isn't less is behind or at it
 pub not_lt : (o : Ordering) → is_ge o ≡ true → is_lt o ≡ false
 not_lt Less h = sym h

@@ -1,5 +1,5 @@
 -- The first hits by their keys.
-use Rattle.std.proofs.Common.{◌≡◌, ℕ, ◌-◌, ◌^◌, ◌<◌, ◌≤◌, ◌==◌, nat_lt, Bool, true, false, cond, ⊎_elim, List, [], ◌∷◌, ◌++◌, length, take, map, fold, Option, Some, None, refl, sym, ap, ◌∙◌, arith, All, AllPairs, IfSome, get_or, option_map, suc, drop, drop-cons}
+use Rattle.std.proofs.Common.{◌≡◌, ℕ, ◌-◌, ◌/◌, ◌^◌, ◌<◌, ◌≤◌, ◌==◌, nat_lt, Bool, true, false, cond, ⊎_elim, List, [], ◌∷◌, ◌++◌, length, take, map, fold, Option, Some, None, refl, sym, ap, ◌∙◌, arith, All, AllPairs, IfSome, get_or, option_map, suc, drop, drop-cons}
 use Rattle.std.specs.Prelude.{slice_get, slice_index_or, option_and_then}
 use Rattle.std.specs.List.{filter_map, cons_option}
 use Rattle.std.specs.Option.{option_map_or, option_to_list}
@@ -9,10 +9,13 @@ use Rattle.std.specs.declared.cmp.Ordering.TheVariants.{Less, Equal, Greater}
 use Rattle.std.proofs.lemmas.Bool.{cases_lt}
 use Rattle.std.proofs.lemmas.Bool.Decides.{nat_tests}
 use Rattle.std.proofs.lemmas.Option.{slice_get-get_or, slice_get_past}
-use Rattle.std.proofs.lemmas.List.{get_or_past, length-map, take-map}
-use Rattle.std.proofs.lemmas.List.Elements.{All-nil, All-cons, All-head, All-tail, All-take}
+use Rattle.std.proofs.lemmas.List.{drop-append-le, get_or_past, length-map, length-take-le, take-append-drop, take-map}
+use Rattle.std.proofs.lemmas.List.Elements.{filter_map-append, All-nil, All-cons, All-head, All-tail, All-take}
 use Rattle.std.proofs.lemmas.List.Kept.{AllPairs-cons}
 use Rattle.std.proofs.lemmas.List.Sums.{fold-append}
+use Rattle.fts_column.specs.Blocks.{block_of}
+use Rattle.fts_column.specs.Column.{IsRangeOf}
+use Rattle.fts_column.proofs.BlocksLemmas.{block_none, block_within}
 use Rattle.fts_model.specs.declared.schema.Kind.{Kind}
 use Rattle.fts_model.specs.declared.value.Number.{Number}
 use Rattle.fts_model.specs.declared.query.Order.{Order}
@@ -26,8 +29,8 @@ use Rattle.fts_model.proofs.Lists.{pairs_none, pairs_front, pairs_behind}
 use Rattle.fts_segment.specs.Segments.{SegmentValue, column, number_of}
 use Rattle.fts_collect.specs.declared.top_k.Key.{Key}
 use Rattle.fts_collect.specs.Internals.Tallies.{number_at}
-use Rattle.fts_collect.specs.Internals.Keys.{key_lt, put_key, first_keys}
-use Rattle.fts_collect.specs.Internals.Ranks.{rank_in, stamp_at, document_at, key_at, keys_at, hit_of, keep_keys}
+use Rattle.fts_collect.specs.Internals.Keys.{TopKValue, key_lt, put_key, first_keys}
+use Rattle.fts_collect.specs.Internals.Ranks.{AreOfBlock, IsBeyond, best_rank, rank_in, stamp_at, document_at, key_at, keys_at, hit_of, keep_keys}
 use Rattle.fts_collect.proofs.KeysLemmas.{All-put_key, take-put_key, keep-last}
 use Rattle.fts_collect.proofs.NumbersLemmas.{number_at-cmp}
 use Rattle.fts_collect.proofs.ValuesLemmas.{kept_at, fits_at, kept-cons, map-cons}
@@ -249,3 +252,63 @@ keep-from k keys order documents numbers docs i some within =
     let first : drop (i - 1) docs ≡ get_or docs (i - 1) 0 ∷ drop i docs =
     drop-cons docs (i - 1) 0 (omega (arith, some, within)) ∙ ap (λ j. get_or docs (i - 1) 0 ∷ drop j docs) behind in
     sym (ap (λ ds. keep_keys k keys (keys_at order documents numbers ds)) first ∙ keep-option k keys (key_at order documents numbers (get_or docs (i - 1) 0)) (keys_at order documents numbers (drop i docs)))
+
+-- a hit with no number is none of the first, and one with a number isn't if no key of its rank is
+pub keep_none : (k : ℕ) (keys : List Key) (order : Order) (documents : List (Stamped DocumentValue)) (doc rank : ℕ) (v : Option ℕ) → ((key : Key) → rank ≤ key.rank → take k (put_key keys key) ≡ keys) → IfSome v (λ x. rank ≤ rank_in order x)
+    → keep_keys k keys (option_to_list (option_map (λ x. record { rank = rank_in order x; stamp = stamp_at documents doc; doc = doc }) v)) ≡ keys
+keep_none k keys order documents doc rank None beyond low = refl
+keep_none k keys order documents doc rank (Some x) beyond low = beyond (record { rank = rank_in order x; stamp = stamp_at documents doc; doc = doc }) low
+
+-- a number in a range ranks no better than its best
+best_first : (order : Order) (range : ℕ × ℕ) (v : Option ℕ) → IfSome v (λ x. (range.0 ≤ x) × (x ≤ range.1)) → IfSome v (λ x. best_rank order range ≤ rank_in order x)
+best_first order range None h = tt
+best_first Rising range (Some x) h = h.0
+best_first Falling range (Some x) h = let most : x ≤ range.1 = h.1 in omega arith
+
+-- a block of whose values the best ranks beyond the first has none of these
+pub block_beyond : (k : ℕ) (keys : List Key) (order : Order) (values : List (Option ℕ)) (block : ℕ) (range : ℕ × ℕ) → IsRangeOf (block_of block values) (Some range) → ((key : Key) → best_rank order range ≤ key.rank → take k (put_key keys key) ≡ keys)
+    → IsBeyond order values block (record { k = k; keys = keys })
+block_beyond k keys order values block range h beyond documents doc here =
+    keep_none k keys order documents doc (best_rank order range) (slice_index_or values doc None) beyond (best_first order range (slice_index_or values doc None) (block_within values block doc range h here))
+
+-- nor has a block without values
+pub block_without : (k : ℕ) (keys : List Key) (order : Order) (values : List (Option ℕ)) (block : ℕ) → IsRangeOf (block_of block values) None → IsBeyond order values block (record { k = k; keys = keys })
+block_without k keys order values block h documents doc here =
+    ap (λ v. keep_keys k keys (option_to_list (option_map (λ x. record { rank = rank_in order x; stamp = stamp_at documents doc; doc = doc }) v))) (block_none values block doc h here)
+
+-- keys that come before others may be taken after them
+keep-front : (k : ℕ) (keys xs ys : List Key) → keep_keys k keys (xs ++ ys) ≡ keep_keys k (keep_keys k keys ys) xs
+keep-front k keys [] ys = refl
+keep-front k keys (x ∷ xs) ys =
+    keep-last k keys x (xs ++ ys) ∙ ap (λ ks. take k (put_key ks x)) (keep-front k keys xs ys) ∙ sym (keep-last k (keep_keys k keys ys) x xs)
+
+-- hits of a block that has none of the first change nothing
+pub keep-beyond : (top_k : TopKValue) (order : Order) (documents : List (Stamped DocumentValue)) (numbers : List (Option ℕ)) (block : ℕ) (docs : List ℕ) → IsBeyond order numbers block top_k → AreOfBlock block docs
+    → keep_keys top_k.k top_k.keys (keys_at order documents numbers docs) ≡ top_k.keys
+keep-beyond top_k order documents numbers block [] beyond same = refl
+keep-beyond top_k order documents numbers block (doc ∷ docs) beyond same =
+    let k = top_k.k in
+    let P : ℕ → Type 0 = λ d. d / 128 ≡ block in
+    keep-option k top_k.keys (key_at order documents numbers doc) (keys_at order documents numbers docs)
+    ∙ ap (λ ks. keep_keys k ks (option_to_list (key_at order documents numbers doc))) (keep-beyond top_k order documents numbers block docs beyond (All-tail P doc docs same))
+    ∙ beyond documents doc (All-head P doc docs same)
+
+-- the hits from a place on: those before another place, and those from there on
+hits_from : (order : Order) (documents : List (Stamped DocumentValue)) (numbers : List (Option ℕ)) (docs : List ℕ) (start left : ℕ) → start ≤ left → left ≤ length docs
+    → keys_at order documents numbers (drop start docs) ≡ keys_at order documents numbers (drop start (take left docs)) ++ keys_at order documents numbers (drop left docs)
+hits_from order documents numbers docs start left up within =
+    let size : length (take left docs) ≡ left = length-take-le left docs within in
+    ap (λ ds. keys_at order documents numbers (drop start ds)) (sym (take-append-drop left docs))
+    ∙ ap (keys_at order documents numbers) (drop-append-le start (take left docs) (drop left docs) (omega (arith, up, size)))
+    ∙ filter_map-append (key_at order documents numbers) (drop start (take left docs)) (drop left docs)
+
+-- the first keys of documents from one place on, after those from another on
+pub keep-hits : (top_k more : TopKValue) (k : ℕ) (keys : List Key) (order : Order) (documents : List (Stamped DocumentValue)) (numbers : List (Option ℕ)) (docs : List ℕ) (start left : ℕ) → start ≤ left → left ≤ length docs
+    → top_k ≡ record { k = k; keys = keep_keys k keys (keys_at order documents numbers (drop left docs)) }
+    → more ≡ record { k = top_k.k; keys = keep_keys top_k.k top_k.keys (keys_at order documents numbers (drop start (take left docs))) }
+    → more ≡ record { k = k; keys = keep_keys k keys (keys_at order documents numbers (drop start docs)) }
+keep-hits top_k more k keys order documents numbers docs start left up within kept is =
+    let hits = keys_at order documents numbers (drop start (take left docs)) in
+    let offered : TopKValue → TopKValue = λ t. record { k = t.k; keys = keep_keys t.k t.keys hits } in
+    is ∙ ap offered kept
+    ∙ ap (λ ks. record { k = k; keys = ks }) (sym (ap (keep_keys k keys) (hits_from order documents numbers docs start left up within) ∙ keep-front k keys hits (keys_at order documents numbers (drop left docs))))

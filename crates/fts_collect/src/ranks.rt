@@ -1,6 +1,7 @@
 // The first hits of a segment, picked by their numbers in a column.
-ghost use Rattle.std.specs.Prelude.{◌≡◌, ◌<◌, ◌≤◌, ◌^◌, ◌++◌, ◌∷◌, [], All, IfOk, OnOk, length, map, option_to_list};
-ghost use Rattle.fts_collect.specs.Internals.Ranks.{hit_of, keep_keys, key_at, keys_at, rank_in};
+ghost use Rattle.std.specs.Prelude.{◌≡◌, ◌<◌, ◌≤◌, ◌/◌, ◌^◌, ◌++◌, ◌∷◌, [], true, All, IfOk, OnOk, length, map};
+ghost use Rattle.std.specs.Prelude.{drop, option_to_list, slice_index};
+ghost use Rattle.fts_collect.specs.Internals.Ranks.{AreOfBlock, IsBeyond, best_rank, hit_of, keep_keys, key_at, keys_at, rank_in};
 
 use crate::tally::number_at;
 use crate::top_k::{Key, TopK};
@@ -9,6 +10,9 @@ use fts_model::{Hit, Kind, Order};
 use fts_segment::Segment;
 use std::alloc::{AllocError, Global};
 
+/// For so many documents a column tells the range of their values.
+const BLOCK: u32 = 128;
+
 /// Where a number stands among those of 64 bits in an order, and also the number that stands there.
 fn rank_in(order: Order, number: u64) -> u64
     ensures { result ≡ rank_in order number }
@@ -16,6 +20,26 @@ fn rank_in(order: Order, number: u64) -> u64
     match order {
         Order::Rising => number,
         Order::Falling => u64::MAX - number,
+    }
+}
+
+/// The best rank of the numbers from the first to the second of these.
+fn best_rank(order: Order, range: (u64, u64)) -> u64
+    ensures { result ≡ best_rank order range }
+{
+    match order {
+        Order::Rising => rank_in(order, range.0),
+        Order::Falling => rank_in(order, range.1),
+    }
+}
+
+/// Whether no hit of a block of documents is one of the first, by the best rank of a value of the block.
+fn is_block_beyond(column: &Column, order: Order, block: u32, top_k: &TopK) -> bool
+    ensures { result ≡ true → IsBeyond order column.now block top_k.now }
+{
+    match column.block_range(block as usize) {
+        None => true,
+        Some(range) => top_k.is_beyond(best_rank(order, range)),
     }
 }
 
@@ -47,7 +71,7 @@ fn offer_hit(
 
 /// Offers the hits that have a number in a column, the last first: where ranks fall from document to document, each hit
 /// would else keep out those before it, and few are kept out at one compare.
-pub(crate) fn offer_hits(
+fn offer_each(
     segment: &Segment,
     column: &Column,
     order: Order,
@@ -63,6 +87,68 @@ pub(crate) fn offer_hits(
 {
     for i in (0..docs.len()).rev() {
         offer_hit(segment, column, order, docs[i], top_k)?;
+    }
+    Ok(())
+}
+
+/// Where the hits begin that are of one block with the last.
+fn block_start(docs: &[u32]) -> usize
+    requires { 0 < length docs.now }
+    ensures start { result < length docs.now }
+    ensures block { AreOfBlock (slice_index docs.now result / 128) (drop result docs.now) }
+{
+    let mut start = docs.len() - 1;
+    let block = docs[start] / BLOCK;
+    while start > 0 && docs[start - 1] / BLOCK == block {
+        start -= 1;
+    }
+    start
+}
+
+/// Offers hits of one block, if any of its values may rank among the first. Else the column is not read.
+fn offer_block(
+    segment: &Segment,
+    column: &Column,
+    order: Order,
+    docs: &[u32],
+    top_k: &mut TopK,
+) -> Result<(), AllocError>
+    requires within { All (λ doc. doc < length segment.now.documents) docs.now }
+    requires some { 0 < length docs.now }
+    requires block { AreOfBlock (slice_index docs.now 0 / 128) docs.now }
+    ensures { OnOk result (top_k.new ≡ record top_k.old {
+      keys =
+          keep_keys top_k.old.k top_k.old.keys
+          (keys_at order segment.now.documents column.now docs.now);
+    }) }
+{
+    if is_block_beyond(column, order, docs[0] / BLOCK, top_k) {
+        return Ok(());
+    }
+    offer_each(segment, column, order, docs, top_k)
+}
+
+/// Offers the hits that have a number in a column, block by block, the last first.
+pub(crate) fn offer_hits(
+    segment: &Segment,
+    column: &Column,
+    order: Order,
+    docs: &[u32],
+    top_k: &mut TopK,
+) -> Result<(), AllocError>
+    requires { All (λ doc. doc < length segment.now.documents) docs.now }
+    ensures { OnOk result (top_k.new ≡ record top_k.old {
+      keys =
+          keep_keys top_k.old.k top_k.old.keys
+          (keys_at order segment.now.documents column.now docs.now);
+    }) }
+{
+    let mut left = docs.len();
+    while left > 0 {
+        let hits = &docs[..left];
+        let start = block_start(hits);
+        offer_block(segment, column, order, &hits[start..], top_k)?;
+        left = start;
     }
     Ok(())
 }

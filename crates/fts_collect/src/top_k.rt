@@ -46,9 +46,9 @@ impl TopK {
         }
     }
 
-    /// Whether no key of this rank is one of the least.
+    /// Whether no key of this rank or more is one of the least.
     pub(crate) fn is_beyond(&self, rank: u64) -> bool
-        ensures { result ≡ true → (key : Key) → key.rank ≡ rank →
+        ensures { result ≡ true → (key : Key) → rank ≤ key.rank →
             take self.now.k (put_key self.now.keys key) ≡ self.now.keys }
     {
         match self.bound {

@@ -1,3 +1,4 @@
+pub mod BlocksLemmas
 pub mod ColumnLemmas
 pub mod CountingLemmas
 mod LanesLemmas

@@ -1,3 +1,4 @@
+pub mod Blocks
 pub mod Column
 pub mod Counting
 pub mod Lanes

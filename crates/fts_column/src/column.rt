@@ -7,11 +7,13 @@ ghost use Rattle.fts_bits.specs.Bits.{number_of};
 ghost use Rattle.fts_bits.specs.Digits.{IsWidthOf, numbers_in, words_of};
 ghost use Rattle.std.specs.Option.{option_map_or};
 ghost use Rattle.std.specs.Int.{bit_at};
+ghost use Rattle.fts_column.specs.Blocks.{AreEndsOf, block_of, in_blocks};
 ghost use Rattle.fts_column.specs.Column.{HaveOffsets, IsColumn, IsRangeOf, is_within, least_of, offsets, range_with};
 ghost use Rattle.fts_column.specs.Column.{spread_of, values_at};
 ghost use Rattle.fts_column.specs.Counting.{AreWithin, having};
 ghost use Rattle.fts_column.specs.Lanes.{in_lanes};
 
+use crate::blocks::Blocks;
 use crate::lanes::Lanes;
 use fts_base::Refusal;
 use fts_bits::{Bits, packing};
@@ -26,6 +28,7 @@ pub struct Column {
     present: Bits,
     words: Vec<u64>,
     lanes: Lanes,
+    blocks: Blocks,
 }
 
 /// The documents of a column from one on, at most 128 of them.
@@ -45,7 +48,10 @@ impl Model for Column {
 
     ghost invariant = { λ c. IsColumn
         (values_at (least_of c.range) c.present (numbers_in 64 c.width (length c.present) c.words.items))
-        c.range c.width c.words.items (in_lanes c.lanes) };
+        c.range c.width c.words.items (in_lanes c.lanes)
+        × AreEndsOf (least_of c.range)
+        (values_at (least_of c.range) c.present (numbers_in 64 c.width (length c.present) c.words.items))
+        (in_blocks c.blocks) };
 }
 
 impl Column {
@@ -68,12 +74,14 @@ impl Column {
         let present = presence(alloc, values)?;
         let words = packed_offsets(alloc, width, least, values)?;
         let lanes = Lanes::of_offsets(alloc, width, least, values)?;
+        let blocks = Blocks::of_values(alloc, width, least, values)?;
         Ok(Column {
             range,
             width,
             present,
             words,
             lanes,
+            blocks,
         })
     }
 
@@ -92,13 +100,28 @@ impl Column {
     }
 
     /// The document's value, and `None` where it has none or there is no such document.
-    #[inline]
+    #[inline(always)]
     pub fn get(&self, doc: usize) -> Option<u64>
         ensures { result ≡ slice_index_or self.now doc None }
     {
         let (least, _) = self.range?;
         if doc < self.present.len() && self.present.get(doc) {
             Some(least + self.lanes.at(doc))
+        } else {
+            None
+        }
+    }
+
+    /// The least and the greatest value of a block: the 128 documents from `128 * block` on, or as many as there are. It
+    /// is `None` where none of them has a value, or there is no such block. The values themselves are not read.
+    #[inline]
+    pub fn block_range(&self, block: usize) -> Option<(u64, u64)>
+        ensures { IsRangeOf (block_of block self.now) result }
+    {
+        let (least, _) = self.range?;
+        let (first, last) = self.blocks.at(block);
+        if first <= last {
+            Some((least + first, least + last))
         } else {
             None
         }
@@ -207,8 +230,8 @@ impl Column {
     }
 }
 
-// The least and the greatest value, if there is one.
-fn range_of(values: &[Option<u64>]) -> Option<(u64, u64)>
+/// The least and the greatest value, if there is one.
+pub(crate) fn range_of(values: &[Option<u64>]) -> Option<(u64, u64)>
     ensures range { IsRangeOf values.now result }
     ensures fits { IfSome result (λ r. r.1 < 2 ^ 64) }
 {

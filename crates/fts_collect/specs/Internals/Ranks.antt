@@ -1,7 +1,7 @@
 -- How hits are ranked by their numbers in a column.
-use Rattle.std.specs.Prelude.{ℕ, ◌-◌, ◌^◌, List, [], Option, None, take, fold, option_map, slice_get, slice_index_or}
+use Rattle.std.specs.Prelude.{◌≡◌, ℕ, ◌-◌, ◌/◌, All, ◌^◌, List, [], Option, None, take, fold, option_map, slice_get, slice_index_or}
 use Rattle.std.specs.List.{filter_map}
-use Rattle.std.specs.Option.{option_map_or}
+use Rattle.std.specs.Option.{option_map_or, option_to_list}
 use Rattle.fts_model.specs.declared.schema.Kind.{Kind}
 use Rattle.fts_model.specs.declared.query.Order.{Order}
 use Rattle.fts_model.specs.declared.query.Order.TheVariants.{Rising, Falling}
@@ -10,12 +10,17 @@ use Rattle.fts_model.specs.declared.operation.Stamped.{Stamped}
 use Rattle.fts_model.specs.Documents.{DocumentValue}
 use Rattle.fts_collect.specs.declared.top_k.Key.{Key}
 use Rattle.fts_collect.specs.Internals.Tallies.{number_at}
-use Rattle.fts_collect.specs.Internals.Keys.{put_key}
+use Rattle.fts_collect.specs.Internals.Keys.{TopKValue, put_key}
 
 -- where a number stands among those of 64 bits in an order, and the number that stands there
 abbrev pub rank_in : Order → ℕ → ℕ
 rank_in Rising x = x
 rank_in Falling x = 2 ^ 64 - 1 - x
+
+-- the best rank of the numbers of a range
+abbrev pub best_rank : Order → ℕ × ℕ → ℕ
+best_rank Rising range = rank_in Rising range.0
+best_rank Falling range = rank_in Falling range.1
 
 -- the stamp of the document of a number
 abbrev pub stamp_at : List (Stamped DocumentValue) → ℕ → ℕ
@@ -47,3 +52,13 @@ hit_of kind order documents key =
 -- the first keys with more
 abbrev pub keep_keys : ℕ → List Key → List Key → List Key
 keep_keys k keys more = fold (λ ks key. take k (put_key ks key)) keys more
+
+-- these documents are of one block of 128
+abbrev pub AreOfBlock : ℕ → List ℕ → Type 0
+AreOfBlock block docs = All (λ doc. doc / 128 ≡ block) docs
+
+-- no hit of a block of 128 documents is one of the first
+abbrev pub IsBeyond : Order → List (Option ℕ) → ℕ → TopKValue → Type 0
+IsBeyond order column block top_k =
+    (documents : List (Stamped DocumentValue)) (doc : ℕ) → doc / 128 ≡ block →
+    keep_keys top_k.k top_k.keys (option_to_list (key_at order documents column doc)) ≡ top_k.keys

@@ -1,18 +1,15 @@
-use Rattle.std.proofs.Common.{◌∙◌, ◌-◌, ap, get_or}
-use Rattle.std.specs.Option.{option_to_list}
-use Rattle.fts_collect.specs.Internals.Keys.{TopKValue}
-use Rattle.fts_collect.specs.Internals.Ranks.{keep_keys, key_at}
-use Rattle.fts_collect.proofs.RanksLemmas.{keep-from}
+use Rattle.std.proofs.Common.{◌≡◌, ◌≤◌, arith, length, take}
+use Rattle.std.proofs.lemmas.List.{length-take-le, take_rest}
+use Rattle.fts_collect.proofs.RanksLemmas.{keep-hits}
 use Rattle.fts_collect.proofs.ranks.offer_hits.Goals as goal
 
-pub loop-i-preserved : goal.loop-i-preserved
-loop-i-preserved c =
-    let k = c.args.top_k.now.k in
-    let i = c.loop-i.i in
-    let docs = c.args.docs.now in
-    let documents = c.args.segment.now.documents in
-    let one = option_to_list (key_at c.args.order documents c.args.column.now (get_or docs (i - 1) 0)) in
-    let more : TopKValue → TopKValue = λ l. record { k = l.k; keys = keep_keys l.k l.keys one } in
-    c.in_ok-offer_hit.ensures ∙ ap more c.loop-i.invariant
-    ∙ ap (λ keys. record { k = k; keys = keys })
-    (keep-from k c.args.top_k.now.keys c.args.order documents c.args.column.now docs i c.loop-i-test.true c.loop-i.auto.i)
+pub loop-left-preserved : goal.loop-left-preserved
+loop-left-preserved c =
+    let left = c.loop-left.left in
+    let size : length (take left c.args.docs.now) ≡ left = length-take-le left c.args.docs.now c.loop-left.invariant.within in
+    let up : c.block_start-start.result ≤ left = omega (arith, size, c.block_start-start.ensures.start) in
+    record {
+      kept =
+          keep-hits c.loop-left.top_k _ c.args.top_k.now.k c.args.top_k.now.keys c.args.order c.args.segment.now.documents c.args.column.now c.args.docs.now c.block_start-start.result left up c.loop-left.invariant.within c.loop-left.invariant.kept (rw (take_rest (take left c.args.docs.now) c.block_start-start.result) at c.in_ok-offer_block.ensures);
+      within = omega (arith, up, c.loop-left.invariant.within);
+    }

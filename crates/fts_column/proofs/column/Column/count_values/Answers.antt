@@ -12,7 +12,7 @@ use Rattle.fts_column.proofs.column.Column.count_values.Goals as goal
 pub count-requires-clause-enough : goal.count-requires-clause-enough
 count-requires-clause-enough c =
     let column = c.self.inside in
-    omega (arith, c.self.invariant.lanes_are.enough, length-offsets (least_of column.range) c.args.self.now, ap (λ v. length (offsets (least_of column.range) v)) c.self.view_is, column_length c.args.self.now _ _ _ _ c.self.view_is)
+    omega (arith, c.self.invariant.0.lanes_are.enough, length-offsets (least_of column.range) c.args.self.now, ap (λ v. length (offsets (least_of column.range) v)) c.self.view_is, column_length c.args.self.now _ _ _ _ c.self.view_is)
 
 pub count-requires-clause-within : goal.count-requires-clause-within
 count-requires-clause-within c = λ doc inside.
@@ -21,7 +21,7 @@ count-requires-clause-within c = λ doc inside.
     let counts = c.args.counts.now in
     let least = c.args.least in
     let first = c.in-Some.first in
-    let h : IsColumn values column.range column.width column.words.items (in_lanes column.lanes) = subst (λ v. IsColumn v column.range column.width column.words.items (in_lanes column.lanes)) c.self.view_is c.self.invariant in
+    let h : IsColumn values column.range column.width column.words.items (in_lanes column.lanes) = subst (λ v. IsColumn v column.range column.width column.words.items (in_lanes column.lanes)) c.self.view_is c.self.invariant.0 in
     let range : IsRangeOf values (Some (first, c.in-Some.field-0-1)) = subst (IsRangeOf values) c.in-Some.is h.range_is in
     let here : (least ≤ first) × (first < least + length counts) = first_within values least (length counts) first c.requires range.0 in
     let lane = lane_within values column.range column.width column.words.items (in_lanes column.lanes) h least (length counts) first doc (ap least_of c.in-Some.is) here c.requires (omega (arith, inside, column_length values _ _ _ _ c.self.view_is)) in
@@ -34,7 +34,7 @@ returns-in-Some-clause-counted c =
     let counts = c.args.counts.now in
     let least = c.args.least in
     let first = c.in-Some.first in
-    let h : IsColumn values column.range column.width column.words.items (in_lanes column.lanes) = subst (λ v. IsColumn v column.range column.width column.words.items (in_lanes column.lanes)) c.self.view_is c.self.invariant in
+    let h : IsColumn values column.range column.width column.words.items (in_lanes column.lanes) = subst (λ v. IsColumn v column.range column.width column.words.items (in_lanes column.lanes)) c.self.view_is c.self.invariant.0 in
     let range : IsRangeOf values (Some (first, c.in-Some.field-0-1)) = subst (IsRangeOf values) c.in-Some.is h.range_is in
     let here : (least ≤ first) × (first < least + length counts) = first_within values least (length counts) first c.requires range.0 in
     let there : map is_some values ≡ column.present = ap (map is_some) (sym c.self.view_is) ∙ presence-values_at _ _ _ (length-numbers_in 64 column.width _ column.words.items) in
@@ -45,6 +45,6 @@ returns-in-Some-clause-counted c =
 pub returns-in_default-clause-counted : goal.returns-in_default-clause-counted
 returns-in_default-clause-counted c = λ place inside.
     let column = c.self.inside in
-    let range : IsRangeOf c.args.self.now column.range = subst (λ v. IsRangeOf v column.range) c.self.view_is c.self.invariant.range_is in
+    let range : IsRangeOf c.args.self.now column.range = subst (λ v. IsRangeOf v column.range) c.self.view_is c.self.invariant.0.range_is in
     let none : IsRangeOf c.args.self.now None = subst (λ r. IsRangeOf c.args.self.now r) c.in_default.is range in
     stays c.args.self.now c.args.docs.now (c.args.least + place) _ (Fits-lt-pow (c.type_inv.counts place)) (λ doc. ap (is_value (c.args.least + place)) (none_in c.args.self.now doc none))

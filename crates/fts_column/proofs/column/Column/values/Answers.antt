@@ -7,7 +7,7 @@ use Rattle.fts_bits.proofs.PackingLemmas.{length-numbers_in}
 use Rattle.fts_column.proofs.column.Column.values.Goals as goal
 
 pub overflow_add-from : goal.overflow_add-from
-overflow_add-from c = omega (arith, c.requires.inside, c.self.invariant.few, ap length c.self.view_is)
+overflow_add-from c = omega (arith, c.requires.inside, c.self.invariant.0.few, ap length c.self.view_is)
 
 pub overflow_sub-len : goal.overflow_sub-len
 overflow_sub-len c =

@@ -8,7 +8,7 @@ pub at-requires : goal.at-requires
 at-requires c =
     let column = c.self.inside in
     let size = column_length c.args.self.now _ _ _ _ c.self.view_is in
-    let room = stretch_inside c.args.self.now column.range column.width column.words.items (in_lanes column.lanes) (subst (λ v. IsColumn v c.self.inside.range c.self.inside.width c.self.inside.words.items (in_lanes c.self.inside.lanes)) c.self.view_is c.self.invariant) c.args.from c.requires.aligned (omega (arith, size, c.len.ensures, c.if-from-len.false)) in
+    let room = stretch_inside c.args.self.now column.range column.width column.words.items (in_lanes column.lanes) (subst (λ v. IsColumn v c.self.inside.range c.self.inside.width c.self.inside.words.items (in_lanes c.self.inside.lanes)) c.self.view_is c.self.invariant.0) c.args.from c.requires.aligned (omega (arith, size, c.len.ensures, c.if-from-len.false)) in
     omega (arith, room, c.loop-place-test.true)
 
 pub returns-then-from-len-clause-values : goal.returns-then-from-len-clause-values
@@ -20,4 +20,4 @@ pub returns-clause-values : goal.returns-clause-values
 returns-clause-values c i x small e =
     let column = c.self.inside in
     let least : c.unwrap_or-least.result.0 ≡ least_of column.range = ap (λ r. r.0) c.unwrap_or-least.ensures ∙ unwrap_least column.range in
-    lane_read c.args.self.now column.range column.width column.words.items (in_lanes column.lanes) (subst (λ v. IsColumn v c.self.inside.range c.self.inside.width c.self.inside.words.items (in_lanes c.self.inside.lanes)) c.self.view_is c.self.invariant) c.unwrap_or-least.result.0 (c.args.from + i) _ x least (c.loop-place.invariant i (omega (arith, small, c.loop-place-test.false))) e
+    lane_read c.args.self.now column.range column.width column.words.items (in_lanes column.lanes) (subst (λ v. IsColumn v c.self.inside.range c.self.inside.width c.self.inside.words.items (in_lanes c.self.inside.lanes)) c.self.view_is c.self.invariant.0) c.unwrap_or-least.result.0 (c.args.from + i) _ x least (c.loop-place.invariant i (omega (arith, small, c.loop-place-test.false))) e

@@ -1,0 +1,12 @@
+use Rattle.std.proofs.Common.{◌≤◌, subst, sym}
+use Rattle.fts_collect.proofs.RanksLemmas.{block_beyond, block_without}
+use Rattle.fts_collect.proofs.ranks.is_block_beyond.Goals as goal
+
+pub returns-in-None : goal.returns-in-None
+returns-in-None c = λ yes.
+    block_without c.args.top_k.now.k c.args.top_k.now.keys c.args.order c.args.column.now c.args.block c.in-None.ensures
+
+pub returns-in-Some : goal.returns-in-Some
+returns-in-Some c = λ yes.
+    block_beyond c.args.top_k.now.k c.args.top_k.now.keys c.args.order c.args.column.now c.args.block c.in-Some.range c.in-Some.ensures
+    (λ key low. c.is_beyond.ensures yes key (subst (λ n. n ≤ key.rank) (sym c.best_rank.ensures) low))
