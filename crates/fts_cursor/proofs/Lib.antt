@@ -4,6 +4,7 @@ pub mod WithinLemmas
 pub mod PartsLemmas
 pub mod TreeLemmas
 pub mod GatherLemmas
+pub mod PhraseLeads
 pub mod PhraseLemmas
 pub mod WalkLemmas
 pub mod HitsLemmas

@@ -232,12 +232,30 @@ fn of_phrase<'a>(
     // Shows the proof that the numbers of documents are few.
     let _ = segment.docs();
     let mut cursors = cursors_of(alloc, segment, &members)?;
-    let lead = cursors.remove(0);
+    let shortest = place_of_shortest(segment, &members);
+    let lead = cursors.remove(shortest);
     let terms = Conjunction::new(lead, cursors);
     let mut others = members;
-    let first = others.remove(0);
+    let first = others.remove(shortest);
     let first = Box::new(alloc, first)?;
     Tree::phrase(alloc, PhraseCursor::new(terms, first, others))
+}
+
+// The place of the member whose list is the shortest.
+fn place_of_shortest(segment: &Segment, members: &[Member]) -> usize
+    requires { 0 < length members.now }
+    ensures { result < length members.now }
+{
+    let mut shortest = 0;
+    let mut least = segment.postings(members[0].list).len();
+    for place in 1..members.len() {
+        let len = segment.postings(members[place].list).len();
+        if len < least {
+            shortest = place;
+            least = len;
+        }
+    }
+    shortest
 }
 
 // The lists of a phrase's terms, and none where one of them has no documents.
