@@ -232,7 +232,8 @@ fn of_phrase<'a>(
     // Shows the proof that the numbers of documents are few.
     let _ = segment.docs();
     let mut cursors = cursors_of(alloc, segment, &members)?;
-    let shortest = place_of_shortest(segment, &members);
+    let lengths = lengths_of(alloc, segment, &members)?;
+    let shortest = place_of_least(&lengths);
     let lead = cursors.remove(shortest);
     let terms = Conjunction::new(lead, cursors);
     let mut others = members;
@@ -241,21 +242,20 @@ fn of_phrase<'a>(
     Tree::phrase(alloc, PhraseCursor::new(terms, first, others))
 }
 
-// The place of the member whose list is the shortest.
-fn place_of_shortest(segment: &Segment, members: &[Member]) -> usize
-    requires { 0 < length members.now }
-    ensures { result < length members.now }
+// How many documents have the term of each member.
+fn lengths_of<'a>(
+    alloc: Global,
+    segment: &'a Segment,
+    members: &[Member<'a>],
+) -> Result<Vec<usize>, AllocError>
+    ensures { IfOk result (λ lengths.
+        AllZip (λ count m. count ≡ length (documents_in m.list)) lengths.items members.now) }
 {
-    let mut shortest = 0;
-    let mut least = segment.postings(members[0].list).len();
-    for place in 1..members.len() {
-        let len = segment.postings(members[place].list).len();
-        if len < least {
-            shortest = place;
-            least = len;
-        }
+    let mut lengths = Vec::with_capacity(alloc, members.len())?;
+    for member in members {
+        lengths.push(segment.postings(member.list).len())?;
     }
-    shortest
+    Ok(lengths)
 }
 
 // The lists of a phrase's terms, and none where one of them has no documents.
