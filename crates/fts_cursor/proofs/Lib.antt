@@ -5,6 +5,7 @@ pub mod CountLemmas
 pub mod PartsLemmas
 pub mod TreeLemmas
 pub mod GatherLemmas
+pub mod PhraseLeads
 pub mod PhraseLemmas
 pub mod WalkLemmas
 pub mod HitsLemmas

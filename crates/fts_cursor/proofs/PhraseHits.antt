@@ -1,6 +1,6 @@
 -- The documents with a phrase, by the lists of its terms.
-use Rattle.std.proofs.Common.{◌≡◌, ℕ, zero, suc, ◌+◌, ◌^◌, ◌≤◌, ◌==◌, nat_lt, cond, Bool, true, false, ◌&&◌, ◌||◌, Option, Some, None, option_map, List, [], ◌∷◌, map, drop, length, get_or, refl, sym, ap, ap₂, subst, ◌∙◌, inl, inr, arith}
-use Rattle.std.specs.List.{AllZip, filter, list_all, list_any, slice_get}
+use Rattle.std.proofs.Common.{◌≡◌, ℕ, zero, suc, ◌+◌, ◌^◌, ◌<◌, ◌≤◌, ◌==◌, nat_lt, cond, Bool, true, false, ◌&&◌, ◌||◌, Option, Some, None, option_map, List, [], ◌∷◌, map, length, get_or, refl, sym, ap, ap₂, subst, ◌∙◌, inl, inr, arith}
+use Rattle.std.specs.List.{AllZip, filter, list_all, list_any, remove, slice_get}
 use Rattle.std.specs.Option.{option_map_or}
 use Rattle.std.specs.Str.{bytes_eq}
 use Rattle.std.proofs.lemmas.Bool.{and_parts, cases_Bool, false≢true, le-ltb, lt-ltb}
@@ -30,9 +30,10 @@ use Rattle.fts_model.specs.QueryValues.{phrase}
 use Rattle.std.specs.List.Sorted.{IsStrictlyIncreasing}
 use Rattle.std.specs.List.{All}
 use Rattle.std.proofs.lemmas.List.Elements.{All-cons, All-nil}
-use Rattle.fts_postings.proofs.RemainingLemmas.{increasing-from_Rises}
+use Rattle.fts_postings.proofs.RemainingLemmas.{Rises-from_increasing, increasing-from_Rises}
 use Rattle.fts_postings.proofs.SetLemmas.{Rises-filter}
 use Rattle.fts_cursor.proofs.HitsLemmas.{Rises-numbers, has-all, has-filter, numbers_are, test_at}
+use Rattle.fts_cursor.proofs.PhraseLeads.{All-removed, AllZip-at, AllZip-removed, all_each, any_some, documents-led, phrase-led}
 use Rattle.fts_cursor.proofs.PhraseLemmas.{IsPaired, none_below}
 
 -- tests that agree on each member
@@ -58,10 +59,6 @@ and_false : (b : Bool) → (b && false) ≡ false
 and_false true = refl
 and_false false = refl
 
-or_right : (a b : Bool) → b ≡ true → (a || b) ≡ true
-or_right true b h = refl
-or_right false b h = h
-
 -- a test of the positions of a text is one of the tokens
 any_position : (f : ℕ → Bool) (text : List ℕ) (ts : List (ℕ × List ℕ)) → list_any f (positions_among text ts) ≡ list_any (λ t. f t.0 && bytes_eq t.1 text) ts
 any_position f text [] = refl
@@ -85,19 +82,6 @@ positions_lead ts first others =
     ∙ list_any-same _ (leads ts first others) ts (λ token.
     ap (λ b. b && bytes_eq token.1 first.1) (list_all-same _ (stands_with ts first token) others (λ m. any_position (λ q. q + first.0 == token.0 + m.0) m.1 ts))
     ∙ and_swap (list_all (stands_with ts first token) others) (bytes_eq token.1 first.1))
-
-any_some : {X : Type 0} (p q : X → Bool) (xs : List X) → ((x : X) → p x ≡ true → q x ≡ true) → list_any p xs ≡ true → list_any q xs ≡ true
-any_some p q [] imp h = absurd (false≢true h)
-any_some p q (x ∷ xs) imp h = elim (cases_Bool (p x)) [
-  | inl here ↦ ap (λ b. b || list_any q xs) (imp x here)
-  | inr not_here ↦ or_right (q x) (list_any q xs) (any_some p q xs imp (ap (λ b. b || list_any p xs) (sym not_here) ∙ h))
-]
-
-all_each : {X : Type 0} (p q : X → Bool) (xs : List X) → ((x : X) → p x ≡ true → q x ≡ true) → list_all p xs ≡ true → list_all q xs ≡ true
-all_each p q [] imp h = refl
-all_each p q (x ∷ xs) imp h =
-    let both = and_parts (p x) (list_all p xs) h in
-    ap₂ (λ a b. a && b) (imp x both.0) (all_each p q xs imp both.1)
 
 -- where a test passes for some member, and that follows from nothing of it, it holds
 any_const : {X : Type 0} (p : X → Bool) (b : Bool) (xs : List X) → ((x : X) → p x ≡ true → b ≡ true) → list_any p xs ≡ true → b ≡ true
@@ -227,15 +211,20 @@ at_document segment field kind first others m ms h hs d None at =
     ap (λ b. (b && in_all (map (λ (n : Member). documents_in n.list) ms) d) && phrase_at (m ∷ ms) d) none
 at_document segment field kind first others m ms h hs d (Some e) at = phrase_here segment field kind d e at first others m ms h hs
 
--- the documents of all terms in which the phrase stands are those that match
-pub phrase_hits : (segment : SegmentValue) (field : ℕ) → kind_at segment.schema field ≡ Some kinds.Text → (first : ℕ × List ℕ) (others : List (ℕ × List ℕ)) (m : Member) (ms : List Member) → IsMemberFor segment field first m → AllZip (IsMemberFor segment field) others ms →
-    filter (phrase_at (m ∷ ms)) (common (documents_in m.list) (map (λ n. documents_in n.list) ms)) ≡ segment_hits segment (phrase field (first ∷ others))
-phrase_hits segment field kind first others m ms h hs =
-    let lists = map (λ (n : Member). documents_in n.list) ms in
+-- the documents of all terms in which the phrase stands are those that match, whichever member leads
+phrase_hits : (segment : SegmentValue) (field : ℕ) → kind_at segment.schema field ≡ Some kinds.Text → (first : ℕ × List ℕ) (others : List (ℕ × List ℕ)) (m : Member) (ms : List Member) → IsMemberFor segment field first m → AllZip (IsMemberFor segment field) others ms →
+    (k : ℕ) (e : Member) → k < length (m ∷ ms) → Rises 0 (documents_in (get_or (m ∷ ms) k e).list) →
+    filter (phrase_at (get_or (m ∷ ms) k e ∷ remove (m ∷ ms) k)) (common (documents_in (get_or (m ∷ ms) k e).list) (map (λ n. documents_in n.list) (remove (m ∷ ms) k))) ≡ segment_hits segment (phrase field (first ∷ others))
+phrase_hits segment field kind first others m ms h hs k e inside rises =
+    let lead = get_or (m ∷ ms) k e in
+    let rest = remove (m ∷ ms) k in
+    let lists = map (λ (n : Member). documents_in n.list) rest in
     let p : Stamped DocumentValue → Bool = λ e. option_map_or (value_has_phrase (first ∷ others)) (value_in_field e.value field) false in
-    let here : (d : ℕ) → (in_all (documents_in m.list ∷ lists) d && phrase_at (m ∷ ms) d) ≡ test_at p segment.documents d = λ d. at_document segment field kind first others m ms h hs d (slice_get segment.documents d) refl in
-    numbers_are p segment.documents _ (Rises-filter 0 (phrase_at (m ∷ ms)) (common (documents_in m.list) lists) (Rises-filter 0 (in_all lists) (documents_in m.list) (Rises-member segment field first m h)))
-    (λ d. has-filter (phrase_at (m ∷ ms)) (common (documents_in m.list) lists) d ∙ ap (λ b. b && phrase_at (m ∷ ms) d) (has-filter (in_all lists) (documents_in m.list) d) ∙ here d)
+    let here : (d : ℕ) → (in_all (documents_in lead.list ∷ lists) d && phrase_at (lead ∷ rest) d) ≡ test_at p segment.documents d = λ d.
+    ap₂ (λ a b. a && b) (documents-led (m ∷ ms) k e d inside) (phrase-led (m ∷ ms) k e d inside)
+    ∙ at_document segment field kind first others m ms h hs d (slice_get segment.documents d) refl in
+    numbers_are p segment.documents _ (Rises-filter 0 (phrase_at (lead ∷ rest)) (common (documents_in lead.list) lists) (Rises-filter 0 (in_all lists) (documents_in lead.list) rises))
+    (λ d. has-filter (phrase_at (lead ∷ rest)) (common (documents_in lead.list) lists) d ∙ ap (λ b. b && phrase_at (lead ∷ rest) d) (has-filter (in_all lists) (documents_in lead.list) d) ∙ here d)
 
 at_each : {X : Type 0} (p : X → Bool) (xs : List X) (k : ℕ) (x : X) → list_all p xs ≡ true → slice_get xs k ≡ Some x → p x ≡ true
 at_each p [] k x all is = absurd (let e : None ≡ Some x = is in cc)
@@ -326,31 +315,51 @@ pub record Made (segment : SegmentValue) (field : ℕ) (pattern : List (ℕ × L
   pub members : AreMembersOf (record { lead = lead; others = rest }) (first ∷ others)
   pub hits : filter (phrase_at (first ∷ others)) (common (remaining_of lead) (each_remaining rest)) ≡ segment_hits segment (phrase field pattern)
 
-made_from : (segment : SegmentValue) (field : ℕ) (w : ℕ × List ℕ) (ws : List (ℕ × List ℕ)) (p : Posting) (ps : List Posting) (m : Member) (ms : List Member) → kind_at segment.schema field ≡ Some kinds.Text → length segment.documents ≤ 2 ^ 32 →
-    AllZip (IsMemberFor segment field) (w ∷ ws) (m ∷ ms) → AllZip IsCursorOf (p ∷ ps) (m ∷ ms) → Made segment field (w ∷ ws) p ps m ms
-made_from segment field w ws p ps m ms kind few zip h =
-    let rest = are_cursors ps ms h.1 in
-    let each = members_few segment field (w ∷ ws) (m ∷ ms) few zip in
+made_from : (segment : SegmentValue) (field : ℕ) (w : ℕ × List ℕ) (ws : List (ℕ × List ℕ)) (ps : List Posting) (ms : List Member) (k : ℕ) (p : Posting) (m : Member) → kind_at segment.schema field ≡ Some kinds.Text → length segment.documents ≤ 2 ^ 32 →
+    AllZip (IsMemberFor segment field) (w ∷ ws) ms → AllZip IsCursorOf ps ms → k < length ms → Made segment field (w ∷ ws) (get_or ps k p) (remove ps k) (get_or ms k m) (remove ms k)
+made_from segment field w ws ps [] k p m kind few zip h inside = absurd zip
+made_from segment field w ws ps (n ∷ ns) k p m kind few zip h inside =
+    let lead = AllZip-at IsCursorOf ps (n ∷ ns) k p m inside h in
+    let rest = are_cursors (remove ps k) (remove (n ∷ ns) k) (AllZip-removed IsCursorOf ps (n ∷ ns) k h) in
+    let each = members_few segment field (w ∷ ws) (n ∷ ns) few zip in
+    let first = get_or (n ∷ ns) k m in
+    let others = remove (n ∷ ns) k in
+    let rise : IsStrictlyIncreasing (documents_in first.list) = each.0 k m inside in
     record {
       fresh = rest.opened;
-      tied = (h.0.tied, rest.tied);
-      members = record { paired = (h.0.blocks, rest.paired); rise = each.0; few = each.1 };
-      hits = ap₂ (λ a b. filter (phrase_at (m ∷ ms)) (common a b)) h.0.remaining rest.remaining ∙ phrase_hits segment field kind w ws m ms zip.0 zip.1;
+      tied = (lead.tied, rest.tied);
+      members = record {
+        paired = (lead.blocks, rest.paired);
+        rise = All-cons (λ x. IsStrictlyIncreasing (documents_in x.list)) first others rise (All-removed (λ x. IsStrictlyIncreasing (documents_in x.list)) (n ∷ ns) k each.0);
+        few = All-cons (λ x. length (documents_in x.list) ≤ 2 ^ 32) first others (each.1 k m inside) (All-removed (λ x. length (documents_in x.list) ≤ 2 ^ 32) (n ∷ ns) k each.1);
+      };
+      hits = ap₂ (λ a b. filter (phrase_at (first ∷ others)) (common a b)) lead.remaining rest.remaining
+          ∙ phrase_hits segment field kind w ws n ns zip.0 zip.1 k m inside (Rises-from_increasing (documents_in first.list) rise);
     }
 
-pub made : (segment : SegmentValue) (field : ℕ) (pattern : List (ℕ × List ℕ)) (ps : List Posting) (ms : List Member) (lead : Posting) (rest : List Posting) (first : Member) (others : List Member) → query_fits segment.schema (phrase field pattern) ≡ true → length segment.documents ≤ 2 ^ 32 →
-    AllZip (IsMemberFor segment field) pattern ms → AllZip IsCursorOf ps ms → lead ≡ get_or ps 0 lead → rest ≡ drop 1 ps → first ≡ get_or ms 0 first → others ≡ drop 1 ms → Made segment field pattern lead rest first others
-made segment field [] ps ms lead rest first others fits few zip h l r f o = absurd (false≢true (and_parts (option_map_or holds_phrases (kind_at segment.schema field) false) false fits).1)
-made segment field (w ∷ ws) ps [] lead rest first others fits few zip h l r f o = absurd zip
-made segment field (w ∷ ws) [] (m ∷ ms) lead rest first others fits few zip h l r f o = absurd h
-made segment field (w ∷ ws) (p ∷ ps) (m ∷ ms) lead rest first others fits few zip h l r f o =
+pub made : (segment : SegmentValue) (field : ℕ) (pattern : List (ℕ × List ℕ)) (ps : List Posting) (ms : List Member) (k : ℕ) (lead : Posting) (rest : List Posting) (first : Member) (others : List Member) → query_fits segment.schema (phrase field pattern) ≡ true → length segment.documents ≤ 2 ^ 32 →
+    AllZip (IsMemberFor segment field) pattern ms → AllZip IsCursorOf ps ms → k < length ms → lead ≡ get_or ps k lead → rest ≡ remove ps k → first ≡ get_or ms k first → others ≡ remove ms k → Made segment field pattern lead rest first others
+made segment field [] ps ms k lead rest first others fits few zip h inside l r f o = absurd (false≢true (and_parts (option_map_or holds_phrases (kind_at segment.schema field) false) false fits).1)
+made segment field (w ∷ ws) ps ms k lead rest first others fits few zip h inside l r f o =
     subst (λ x. Made segment field (w ∷ ws) x rest first others) (sym l)
-    (subst (λ x. Made segment field (w ∷ ws) p x first others) (sym r)
-    (subst (λ x. Made segment field (w ∷ ws) p ps x others) (sym f)
-    (subst (λ x. Made segment field (w ∷ ws) p ps m x) (sym o)
-    (made_from segment field w ws p ps m ms (phrase_kind segment field (w ∷ ws) fits) few zip h))))
+    (subst (λ x. Made segment field (w ∷ ws) (get_or ps k lead) x first others) (sym r)
+    (subst (λ x. Made segment field (w ∷ ws) (get_or ps k lead) (remove ps k) x others) (sym f)
+    (subst (λ x. Made segment field (w ∷ ws) (get_or ps k lead) (remove ps k) (get_or ms k first) x) (sym o)
+    (made_from segment field w ws ps ms k lead first (phrase_kind segment field (w ∷ ws) fits) few zip h inside))))
 
-pub fresh_rest : (ps : List Posting) (ms : List Member) (rest : List Posting) → AllZip IsCursorOf ps ms → rest ≡ drop 1 ps → All (λ p. p.opened ≤ 1) rest
-fresh_rest [] ms rest h is = subst (All (λ (p : Posting). p.opened ≤ 1)) (sym is) (All-nil (λ (p : Posting). p.opened ≤ 1))
-fresh_rest (p ∷ ps) [] rest h is = absurd h
-fresh_rest (p ∷ ps) (m ∷ ms) rest h is = subst (All (λ (q : Posting). q.opened ≤ 1)) (sym is) (are_cursors ps ms h.1).opened
+pub fresh_rest : (ps : List Posting) (ms : List Member) (k : ℕ) (rest : List Posting) → AllZip IsCursorOf ps ms → rest ≡ remove ps k → All (λ p. p.opened ≤ 1) rest
+fresh_rest ps ms k rest h is =
+    subst (All (λ (p : Posting). p.opened ≤ 1)) (sym is) (are_cursors (remove ps k) (remove ms k) (AllZip-removed IsCursorOf ps ms k h)).opened
+
+-- a phrase that fits has a member
+pub some_members : (segment : SegmentValue) (field : ℕ) (pattern : List (ℕ × List ℕ)) (ms : List Member) → query_fits segment.schema (phrase field pattern) ≡ true → AllZip (IsMemberFor segment field) pattern ms → 0 < length ms
+some_members segment field [] ms fits zip = absurd (false≢true (and_parts (option_map_or holds_phrases (kind_at segment.schema field) false) false fits).1)
+some_members segment field (w ∷ ws) [] fits zip = absurd zip
+some_members segment field (w ∷ ws) (m ∷ ms) fits zip = omega arith
+
+-- there is a cursor for each member
+pub cursors_many : (ps : List Posting) (ms : List Member) → AllZip IsCursorOf ps ms → length ps ≡ length ms
+cursors_many [] [] h = refl
+cursors_many [] (m ∷ ms) h = absurd h
+cursors_many (p ∷ ps) [] h = absurd h
+cursors_many (p ∷ ps) (m ∷ ms) h = omega (arith, cursors_many ps ms h.1)

@@ -233,12 +233,30 @@ fn of_phrase<'a>(
     // Shows the proof that the numbers of documents are few.
     let _ = segment.docs();
     let mut cursors = cursors_of(alloc, segment, &members)?;
-    let lead = cursors.remove(0);
+    let lengths = lengths_of(alloc, segment, &members)?;
+    let shortest = place_of_least(&lengths);
+    let lead = cursors.remove(shortest);
     let terms = Conjunction::new(lead, cursors);
     let mut others = members;
-    let first = others.remove(0);
+    let first = others.remove(shortest);
     let first = Box::new(alloc, first)?;
     Tree::phrase(alloc, PhraseCursor::new(terms, first, others))
+}
+
+// How many documents have the term of each member.
+fn lengths_of<'a>(
+    alloc: Global,
+    segment: &'a Segment,
+    members: &[Member<'a>],
+) -> Result<Vec<usize>, AllocError>
+    ensures { IfOk result (λ lengths.
+        AllZip (λ count m. count ≡ length (documents_in m.list)) lengths.items members.now) }
+{
+    let mut lengths = Vec::with_capacity(alloc, members.len())?;
+    for member in members {
+        lengths.push(segment.postings(member.list).len())?;
+    }
+    Ok(lengths)
 }
 
 // The lists of a phrase's terms, and none where one of them has no documents.

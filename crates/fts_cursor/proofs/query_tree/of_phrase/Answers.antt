@@ -1,8 +1,9 @@
 -- The phrase stands in the documents that match.
-use Rattle.std.proofs.Common.{◌≡◌, ◌^◌, ◌≤◌, ◌∷◌, length, ap, ◌∙◌, arith, rules}
+use Rattle.std.proofs.Common.{◌≡◌, ℕ, ◌^◌, ◌<◌, ◌≤◌, List, ◌∷◌, length, ap, ◌∙◌, arith, rules}
 use Rattle.std.proofs.lemmas.Result.{IfOk-weaker}
-use Rattle.std.specs.List.{filter}
+use Rattle.std.specs.List.{AllZip, filter}
 use Rattle.fts_model.specs.QueryValues.{phrase}
+use Rattle.fts_segment.specs.ListIds.{documents_in}
 use Rattle.fts_cursor.specs.Hits.{segment_hits}
 use Rattle.fts_cursor.specs.TreeValues.{TreeValue}
 use Rattle.fts_cursor.specs.declared.phrase.Member.{Member}
@@ -10,26 +11,56 @@ use Rattle.fts_postings.specs.Conjoined.{each_remaining}
 use Rattle.fts_postings.specs.Sets.{common}
 use Rattle.fts_cursor.specs.Phrases.{phrase_at}
 use Rattle.fts_postings.specs.Posting.{remaining_of}
-use Rattle.fts_cursor.proofs.PhraseHits.{fresh_rest, lacking, made}
+use Rattle.fts_cursor.proofs.LeadingLemmas.{length_zip}
+use Rattle.fts_cursor.proofs.PhraseHits.{cursors_many, fresh_rest, lacking, made, some_members}
 use Rattle.fts_cursor.proofs.PhraseLemmas.{members-follow}
 use Rattle.fts_cursor.proofs.TermsLemmas.{terms-continue}
+use Rattle.fts_cursor.proofs.query_tree.of_phrase.Goals.{After-place_of_least-shortest}
 use Rattle.fts_cursor.proofs.query_tree.of_phrase.Goals as goal
+
+-- how many documents have the term of a member
+abbrev HasLength : ℕ → Member → Type 0
+HasLength count m = count ≡ length (documents_in m.list)
 
 pub returns-in_default : goal.returns-in_default
 returns-in_default c = c.nothing.ensures.remaining ∙ lacking c.args.segment.now c.args.field c.args.pattern.now c.requires (rw c.in_default.is at c.in_ok-members.ensures)
 
+-- there is a number for each member
+many : (lengths : List ℕ) (ms : List Member) → AllZip HasLength lengths ms → length lengths ≡ length ms
+many lengths ms h = length_zip HasLength lengths ms h
+
+pub place_of_least-shortest-requires : goal.place_of_least-shortest-requires
+place_of_least-shortest-requires c =
+    let zip = rw c.in-Some.is at c.in_ok-members.ensures in
+    let lengths = rw c.deref-2.ensures.value at c.in_ok-lengths.ensures in
+    omega (arith, some_members c.args.segment.now c.args.field c.args.pattern.now c.in-Some.members.items c.requires zip, many c.in_ok-lengths.lengths.items c.in-Some.members.items lengths, ap length c.deref-3.ensures.value)
+
+-- the place is that of a member
+within : (c : After-place_of_least-shortest) → c.place_of_least-shortest.result < length c.in-Some.members.items
+within c =
+    let lengths = rw c.deref-2.ensures.value at c.in_ok-lengths.ensures in
+    omega (arith, c.place_of_least-shortest.ensures.inside, many c.in_ok-lengths.lengths.items c.in-Some.members.items lengths, ap length c.deref-3.ensures.value)
+
+pub remove-lead-requires : goal.remove-lead-requires
+remove-lead-requires c =
+    let cursors = rw c.deref.ensures.value at c.in_ok-cursors.ensures in
+    omega (arith, cursors_many c.in_ok-cursors.cursors.items c.in-Some.members.items cursors, within (goal.at.remove-lead-requires c).After-place_of_least-shortest)
+
+pub remove-first-requires : goal.remove-first-requires
+remove-first-requires c = omega (arith, within (goal.at.remove-first-requires c).After-place_of_least-shortest, c.deref.ensures.len, ap length c.deref.ensures.value)
+
 pub new-terms-requires : goal.new-terms-requires
 new-terms-requires c =
     let cursors = rw c.deref.ensures.value at c.in_ok-cursors.ensures in
-    record { fresh = fresh_rest c.in_ok-cursors.cursors.items c.in-Some.members.items c.remove-lead.new.self.items cursors c.remove-lead.ensures.items }
+    record { fresh = fresh_rest c.in_ok-cursors.cursors.items c.in-Some.members.items c.place_of_least-shortest.result c.remove-lead.new.self.items cursors c.remove-lead.ensures.items }
 
 pub new-requires-2-clause-tied : goal.new-requires-2-clause-tied
 new-requires-2-clause-tied c =
     let few : length c.args.segment.now.documents ≤ 2 ^ 32 = omega (arith, c.docs.ensures.few, c.docs.ensures.len) in
     let zip = rw c.in-Some.is at c.in_ok-members.ensures in
     let cursors = rw c.deref.ensures.value at c.in_ok-cursors.ensures in
-    let whole = made c.args.segment.now c.args.field c.args.pattern.now c.in_ok-cursors.cursors.items c.in-Some.members.items c.remove-lead.result c.remove-lead.new.self.items c.remove-first.result c.remove-first.new.self.items c.requires few zip cursors
-    c.remove-lead.ensures.value c.remove-lead.ensures.items c.remove-first.ensures.value c.remove-first.ensures.items in
+    let whole = made c.args.segment.now c.args.field c.args.pattern.now c.in_ok-cursors.cursors.items c.in-Some.members.items c.place_of_least-shortest.result c.remove-lead.result c.remove-lead.new.self.items c.remove-first.result c.remove-first.new.self.items c.requires few zip cursors
+    (within (goal.at.new-requires-2-clause-tied c).After-place_of_least-shortest) c.remove-lead.ensures.value c.remove-lead.ensures.items c.remove-first.ensures.value c.remove-first.ensures.items in
     (terms-continue (record { lead = c.remove-lead.result; others = c.remove-lead.new.self.items }) c.new-terms.result c.new-terms.ensures.follows whole.tied).1
 
 pub new-requires-2-clause-members : goal.new-requires-2-clause-members
@@ -37,8 +68,8 @@ new-requires-2-clause-members c =
     let few : length c.args.segment.now.documents ≤ 2 ^ 32 = omega (arith, c.docs.ensures.few, c.docs.ensures.len) in
     let zip = rw c.in-Some.is at c.in_ok-members.ensures in
     let cursors = rw c.deref.ensures.value at c.in_ok-cursors.ensures in
-    let whole = made c.args.segment.now c.args.field c.args.pattern.now c.in_ok-cursors.cursors.items c.in-Some.members.items c.remove-lead.result c.remove-lead.new.self.items c.remove-first.result c.remove-first.new.self.items c.requires few zip cursors
-    c.remove-lead.ensures.value c.remove-lead.ensures.items c.remove-first.ensures.value c.remove-first.ensures.items in
+    let whole = made c.args.segment.now c.args.field c.args.pattern.now c.in_ok-cursors.cursors.items c.in-Some.members.items c.place_of_least-shortest.result c.remove-lead.result c.remove-lead.new.self.items c.remove-first.result c.remove-first.new.self.items c.requires few zip cursors
+    (within (goal.at.new-requires-2-clause-members c).After-place_of_least-shortest) c.remove-lead.ensures.value c.remove-lead.ensures.items c.remove-first.ensures.value c.remove-first.ensures.items in
     let first_is : c.in_ok-first.first.value ≡ c.remove-first.result = search rules in
     rw first_is (members-follow (record { lead = c.remove-lead.result; others = c.remove-lead.new.self.items }) c.new-terms.result (c.remove-first.result ∷ c.remove-first.new.self.items) c.new-terms.ensures.follows whole.members)
 
@@ -47,8 +78,8 @@ returns c =
     let few : length c.args.segment.now.documents ≤ 2 ^ 32 = omega (arith, c.docs.ensures.few, c.docs.ensures.len) in
     let zip = rw c.in-Some.is at c.in_ok-members.ensures in
     let cursors = rw c.deref.ensures.value at c.in_ok-cursors.ensures in
-    let whole = made c.args.segment.now c.args.field c.args.pattern.now c.in_ok-cursors.cursors.items c.in-Some.members.items c.remove-lead.result c.remove-lead.new.self.items c.remove-first.result c.remove-first.new.self.items c.requires few zip cursors
-    c.remove-lead.ensures.value c.remove-lead.ensures.items c.remove-first.ensures.value c.remove-first.ensures.items in
+    let whole = made c.args.segment.now c.args.field c.args.pattern.now c.in_ok-cursors.cursors.items c.in-Some.members.items c.place_of_least-shortest.result c.remove-lead.result c.remove-lead.new.self.items c.remove-first.result c.remove-first.new.self.items c.requires few zip cursors
+    (within (goal.at.returns c).After-place_of_least-shortest) c.remove-lead.ensures.value c.remove-lead.ensures.items c.remove-first.ensures.value c.remove-first.ensures.items in
     let first_is : c.in_ok-first.first.value ≡ c.remove-first.result = search rules in
     IfOk-weaker c.phrase.result (λ (t : TreeValue). t.remaining ≡ c.new-2.result.remaining) (λ t. t.remaining ≡ segment_hits c.args.segment.now (phrase c.args.field c.args.pattern.now))
     (λ t is. is ∙ c.new-2.ensures ∙ ap (filter (phrase_at (c.in_ok-first.first.value ∷ c.remove-first.new.self.items))) c.new-terms.ensures.remaining
