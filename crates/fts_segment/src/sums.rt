@@ -1,4 +1,4 @@
-// How many documents there are in the lists up to each, so that those of some lists in a row are counted by two of these.
+// How many documents there are in the lists up to each: two of these tell how many are in some lists in a row.
 ghost use Rattle.std.specs.Prelude.{◌≡◌, ◌<◌, ◌^◌, IfOk};
 ghost use Rattle.fts_segment.specs.Sums.{sums_from, total};
 
