@@ -1,7 +1,8 @@
 // The first hits of a segment, picked by their numbers in a column.
 ghost use Rattle.std.specs.Prelude.{◌≡◌, ◌<◌, ◌≤◌, ◌/◌, ◌^◌, ◌++◌, ◌∷◌, [], true, All, IfOk, OnOk, length, map};
 ghost use Rattle.std.specs.Prelude.{drop, option_to_list, slice_index};
-ghost use Rattle.fts_collect.specs.Internals.Ranks.{AreOfBlock, IsBeyond, best_rank, hit_of, keep_keys, key_at, keys_at, rank_in};
+ghost use Rattle.fts_collect.specs.Internals.Ranks.{AreOfBlock, IsBeyond, best_rank, hit_of, keep_keys, key_at};
+ghost use Rattle.fts_collect.specs.Internals.Ranks.{keys_at, rank_in};
 
 use crate::tally::number_at;
 use crate::top_k::{Key, TopK};

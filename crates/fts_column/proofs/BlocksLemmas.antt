@@ -1,11 +1,11 @@
 -- The ends of blocks: what they tell of each document, and that they fit.
-use Rattle.std.proofs.Common.{◌≡◌, ℕ, ◌+◌, ◌-◌, ◌*◌, ◌/◌, ◌%◌, ◌^◌, ◌<◌, ◌≤◌, inl, inr, List, [], ◌∷◌, ◌++◌, Bool, true, false, Option, Some, None, IfSome, All, length, get_or, take, drop, min, nat_le, cond, refl, sym, ap, ◌∙◌, subst, arith}
+use Rattle.std.proofs.Common.{◌≡◌, ℕ, ◌+◌, ◌-◌, ◌*◌, ◌/◌, ◌%◌, ◌^◌, ◌<◌, ◌≤◌, inl, inr, List, [], ◌∷◌, ◌++◌, true, false, Option, Some, None, IfSome, All, length, get_or, take, drop, min, nat_le, cond, sym, ap, ◌∙◌, subst, arith}
 use Rattle.std.specs.Option.{option_map_or}
 use Rattle.std.proofs.lemmas.Bool.{cases_lt}
 use Rattle.std.proofs.lemmas.List.{get_or-drop, get_or-take, get_or_default, get_or_past, length-append, length-drop, length-take, get_or_append_left, get_or-append_right, take_all}
 use Rattle.std.proofs.Math.Pow.{pow_mono}
 use Rattle.fts_column.specs.Blocks.{AreEnds, AreEndsOf, block_of, no_ends, range_above}
-use Rattle.fts_column.specs.Column.{HaveOffsets, IsRangeOf, least_of, offsets}
+use Rattle.fts_column.specs.Column.{HaveOffsets, IsRangeOf, offsets}
 use Rattle.fts_column.proofs.ColumnLemmas.{length-offsets, none_in, offset_at, value_fits}
 
 -- a place in a block

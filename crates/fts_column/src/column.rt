@@ -112,8 +112,8 @@ impl Column {
         }
     }
 
-    /// The least and the greatest value of a block: the 128 documents from `128 * block` on, or as many as there are. It
-    /// is `None` where none of them has a value, or there is no such block. The values themselves are not read.
+    /// The least and the greatest value of a block: the 128 documents from `128 * block` on, or as many as there are.
+    /// It is `None` where none of them has a value, or there is no such block. The values themselves are not read.
     #[inline]
     pub fn block_range(&self, block: usize) -> Option<(u64, u64)>
         ensures { IsRangeOf (block_of block self.now) result }

@@ -1,5 +1,6 @@
 -- How hits are ranked by their numbers in a column.
-use Rattle.std.specs.Prelude.{◌≡◌, ℕ, ◌-◌, ◌/◌, All, ◌^◌, List, [], Option, None, take, fold, option_map, slice_get, slice_index_or}
+use Rattle.std.specs.Prelude.{◌≡◌, ℕ, ◌-◌, ◌/◌, ◌^◌, List, [], Option, None, All, take, fold, option_map, slice_get}
+use Rattle.std.specs.Prelude.{slice_index_or}
 use Rattle.std.specs.List.{filter_map}
 use Rattle.std.specs.Option.{option_map_or, option_to_list}
 use Rattle.fts_model.specs.declared.schema.Kind.{Kind}

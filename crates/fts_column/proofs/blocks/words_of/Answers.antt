@@ -1,7 +1,7 @@
-use Rattle.std.proofs.Common.{◌≡◌, ◌++◌, ◌∷◌, [], ap, arith, subst}
+use Rattle.std.proofs.Common.{arith, subst}
 use Rattle.std.proofs.Math.Facts.{Fits-of_lt}
 use Rattle.fts_column.specs.Blocks.{AreEnds}
-use Rattle.fts_column.proofs.BlocksLemmas.{AreFirstEnds, ends_fit, first_all, first_more}
+use Rattle.fts_column.proofs.BlocksLemmas.{ends_fit, first_all, first_more}
 use Rattle.fts_column.proofs.blocks.words_of.Goals as goal
 
 pub overflow_cast-first : goal.overflow_cast-first
