@@ -14,6 +14,9 @@ use std::alloc::{AllocError, Global};
 /// For so many documents a column tells the range of their values.
 const BLOCK: u32 = 128;
 
+// From how far apart the numbers of a column are on, blocks are looked at: eight times as far as a block has documents.
+const FEW_NUMBERS: u64 = 1024;
+
 /// Where a number stands among those of 64 bits in an order, and also the number that stands there.
 fn rank_in(order: Order, number: u64) -> u64
     ensures { result ≡ rank_in order number }
@@ -130,7 +133,7 @@ fn offer_block(
 }
 
 /// Offers the hits that have a number in a column, block by block, the last first.
-pub(crate) fn offer_hits(
+fn offer_by_blocks(
     segment: &Segment,
     column: &Column,
     order: Order,
@@ -152,6 +155,36 @@ pub(crate) fn offer_hits(
         left = start;
     }
     Ok(())
+}
+
+/// Whether blocks may well be passed over: where a column has few different numbers, most blocks have one of the first.
+fn has_spread(column: &Column) -> bool {
+    match column.range() {
+        None => false,
+        Some((least, greatest)) => greatest.saturating_sub(least) >= FEW_NUMBERS,
+    }
+}
+
+/// Offers the hits that have a number in a column.
+pub(crate) fn offer_hits(
+    segment: &Segment,
+    column: &Column,
+    order: Order,
+    docs: &[u32],
+    top_k: &mut TopK,
+) -> Result<(), AllocError>
+    requires { All (λ doc. doc < length segment.now.documents) docs.now }
+    ensures { OnOk result (top_k.new ≡ record top_k.old {
+      keys =
+          keep_keys top_k.old.k top_k.old.keys
+          (keys_at order segment.now.documents column.now docs.now);
+    }) }
+{
+    if has_spread(column) {
+        offer_by_blocks(segment, column, order, docs, top_k)
+    } else {
+        offer_each(segment, column, order, docs, top_k)
+    }
 }
 
 /// Puts the hit of a key behind others. The document is a copy, which shares it.

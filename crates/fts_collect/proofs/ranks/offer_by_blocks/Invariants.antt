@@ -1,6 +1,6 @@
 use Rattle.std.proofs.Common.{◌≡◌, ◌≤◌, drop, length}
 use Rattle.fts_collect.specs.Internals.Ranks.{keep_keys, keys_at}
-use Rattle.fts_collect.proofs.ranks.offer_hits.Given as goal
+use Rattle.fts_collect.proofs.ranks.offer_by_blocks.Given as goal
 
 abbrev pub invariant-loop-left : goal.invariant-loop-left
 invariant-loop-left l = record {

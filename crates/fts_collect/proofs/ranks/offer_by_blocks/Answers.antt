@@ -1,7 +1,7 @@
 use Rattle.std.proofs.Common.{◌≡◌, ◌≤◌, arith, length, take}
 use Rattle.std.proofs.lemmas.List.{length-take-le, take_rest}
 use Rattle.fts_collect.proofs.RanksLemmas.{keep-hits}
-use Rattle.fts_collect.proofs.ranks.offer_hits.Goals as goal
+use Rattle.fts_collect.proofs.ranks.offer_by_blocks.Goals as goal
 
 pub loop-left-preserved : goal.loop-left-preserved
 loop-left-preserved c =
