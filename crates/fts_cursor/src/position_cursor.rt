@@ -61,6 +61,7 @@ impl<'a> PositionCursor<'a> {
     }
 
     /// Whether a position is one of those of a posting.
+    #[inline(always)]
     pub(crate) fn has(&mut self, posting: usize, position: u64) -> bool
         ensures has { result ≡ has (slice_index_or self.old posting []) position }
         ensures same { self.new ≡ self.old }

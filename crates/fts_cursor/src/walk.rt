@@ -31,6 +31,7 @@ impl<'a> Model for Walk<'a> {
 
 impl<'a> Walk<'a> {
     /// From the first of the positions on.
+    #[inline(always)]
     pub(crate) fn new(positions: Positions<'a>) -> Walk<'a>
         ensures { result ≡ positions_left positions.entry }
     {
@@ -40,6 +41,7 @@ impl<'a> Walk<'a> {
     }
 
     /// Leaves behind what lies before a position, and says whether it is one of these.
+    #[inline(always)]
     pub(crate) fn seek(&mut self, position: u64) -> bool
         ensures has { result ≡ has self.old position }
         ensures left { self.new ≡ at_least position self.old }

@@ -67,6 +67,7 @@ impl PositionLists {
     }
 
     /// The list of this number, and no positions where there is none.
+    #[inline(always)]
     pub(crate) fn get(&self, number: usize, bounds: &mut Bounds) -> Positions<'_>
         requires bounds { AreBounds self.now bounds.old }
         ensures bounds { AreBounds self.now bounds.new }

@@ -37,6 +37,7 @@ impl<'a> Positions<'a> {
     }
 
     /// Those whose differences these numbers are.
+    #[inline(always)]
     pub(crate) fn between(gaps: &'a Numbers, start: usize, end: usize) -> Positions<'a>
         requires within { end ≤ length gaps.now }
         requires fit { All (λ p. p < 2 ^ 32) (documents_at 0 (slice_range gaps.now start end)) }
@@ -61,6 +62,7 @@ impl Iterator for Positions<'_> {
 
     ghost remaining = { item_count positions_left };
 
+    #[inline(always)]
     fn next(&mut self) -> Option<u32> {
         let gaps = self.gaps?;
         if self.at >= self.end {

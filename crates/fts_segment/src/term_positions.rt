@@ -63,6 +63,7 @@ impl<'a> TermPositionLists<'a> {
     ghost use Rattle.fts_segment.specs.PositionsLeft.{positions_left};
 
     /// The positions in the document of a posting, and none where there is no such posting.
+    #[inline(always)]
     pub(crate) fn get(self, posting: usize, bounds: &mut Bounds) -> Positions<'a>
         requires bounds { AreBounds self.lists.now bounds.old }
         ensures bounds { AreBounds self.entry.lists.now bounds.new }
