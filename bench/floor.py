@@ -8,7 +8,7 @@ liblucene8-java with a JDK, and libxapian-dev). Prints microseconds of processor
 `fts run` and not for the others, the least of five rounds (of thirty for Lucene, whose code is compiled as it runs), and the ratios. With
 --instructions it runs `fts run` and the loops under Valgrind's callgrind too, and prints thousands of instructions a search. With --larger
 it asks `fts run` and the plain loops the same over so many documents, in one segment as well, and prints how much hits and times grew, and
-with both flags instructions too. With --picture it draws the times by matplotlib as an SVG. Every answer of `fts run`, the loops, Lucene
+with both flags instructions too. Of each build it prints the seconds of processor time and the memory. With --picture it draws the times by matplotlib as an SVG. Every answer of `fts run`, the loops, Lucene
 and Xapian is compared.
 
 The documents have 30 words of a vocabulary of 50,000 with Zipf's law, a `u64` below 1,000,000 and an `i64` from -50 to 49.
@@ -150,15 +150,27 @@ class Session:
         totals = [line for line in open(newest) if line.startswith(("summary:", "totals:"))]
         return replies, int(totals[-1].split()[1])
 
+    def resident(self):
+        """How many megabytes (10^6 bytes) are resident."""
+        status = pathlib.Path(f"/proc/{self.program.pid}/status").read_text()
+        return next(int(line.split()[1]) for line in status.splitlines() if line.startswith("VmRSS")) * 1024 / 1e6
+
     def end(self):
         self.program.stdin.close()
         self.program.wait()
 
 
+# How much was resident behind the commit and behind the merge of a build, and its seconds of processor time, by the number of documents.
+BUILDS = {}
+
+
 def script(*guard, given=DOCUMENTS):
     session = Session(*guard, str(PROGRAM), "run")
     adds = (json.dumps({"add": dict(zip(("body", "price", "temp"), d))}) for d in given)
-    session.ask([json.dumps(SCHEMA), *adds, '{"commit":true}', '{"merge":true}'], len(given) + 3)
+    micros = session.ask([json.dumps(SCHEMA), *adds, '{"commit":true}'], len(given) + 2)[1]
+    resident = session.resident()
+    session.ask(['{"merge":true}'], 1)
+    BUILDS.setdefault(len(given), (micros / 1e6, resident, session.resident()))
     return session
 
 
@@ -317,6 +329,8 @@ with tempfile.TemporaryDirectory() as SCRATCH:
         for kind, (hits, micros, loop, more_hits, more_micros, more_loop) in growth(arguments.larger):
             grew = f"{more_hits / hits:.1f}" if hits else "-"
             print(f"| {kind} | {hits:,.0f} | {micros:.1f} | {more_hits:,.0f} | {more_micros:.1f} | {grew} | {more_micros / micros:.1f} | {more_loop / loop:.1f} |", flush=True)
+    for count, (seconds, committed, merged) in BUILDS.items():
+        print(f"\n{count:,} documents: build and commit {seconds:.2f} s; {committed:.0f} MB resident behind it, {merged:.0f} MB behind a merge into one segment")
     if arguments.picture:
         draw(rows, others, arguments.picture)
     if arguments.instructions:
