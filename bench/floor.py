@@ -6,10 +6,10 @@
 Build the program first (README.md); this builds bench/floor.cpp by g++. Lucene and Xapian are asked where they are installed (of Debian
 liblucene8-java with a JDK, and libxapian-dev). Prints microseconds of processor time a search for each kind of search, JSON included for
 `fts run` and not for the others, the least of five rounds (of thirty for Lucene, whose code is compiled as it runs), and the ratios. With
---instructions it runs `fts run` and the loops under Valgrind's callgrind too, and prints thousands of instructions a search. With --larger
-it asks `fts run` and the plain loops the same over so many documents, in one segment as well, and prints how much hits and times grew, and
-with both flags instructions too. Of each build it prints the seconds of processor time and the memory. With --picture it draws the times by matplotlib as an SVG. Every answer of `fts run`, the loops, Lucene
-and Xapian is compared.
+--instructions it runs `fts run` and the loops under Valgrind's callgrind too, and prints thousands of instructions a search. With
+--larger it asks `fts run` and the plain loops the same over so many documents, in one segment as well, and prints how much hits and times
+grew, and with both flags instructions too. Of each build it prints the seconds of processor time and the memory. With --picture it draws
+the times by matplotlib as an SVG. Every answer of `fts run`, the loops, Lucene and Xapian is compared.
 
 The documents have 30 words of a vocabulary of 50,000 with Zipf's law, a `u64` below 1,000,000 and an `i64` from -50 to 49.
 """
