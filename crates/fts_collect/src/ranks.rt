@@ -1,8 +1,8 @@
 // The first hits of a segment, picked by their numbers in a column.
 ghost use Rattle.std.specs.Prelude.{◌≡◌, ◌<◌, ◌≤◌, ◌/◌, ◌^◌, ◌++◌, ◌∷◌, [], true, All, IfOk, OnOk, length, map};
 ghost use Rattle.std.specs.Prelude.{drop, option_to_list, slice_index};
-ghost use Rattle.fts_collect.specs.Internals.Ranks.{AreOfBlock, IsBeyond, best_rank, hit_of, keep_keys, key_at};
-ghost use Rattle.fts_collect.specs.Internals.Ranks.{keys_at, rank_in};
+ghost use Rattle.fts_collect.specs.Internals.Ranks.{AreOfBlock, IsBeyond, Offers, best_rank, hit_of, keep_keys, key_at};
+ghost use Rattle.fts_collect.specs.Internals.Ranks.{rank_in};
 
 use crate::tally::number_at;
 use crate::top_k::{Key, TopK};
@@ -83,11 +83,8 @@ fn offer_each(
     top_k: &mut TopK,
 ) -> Result<(), AllocError>
     requires { All (λ doc. doc < length segment.now.documents) docs.now }
-    ensures { OnOk result (top_k.new ≡ record top_k.old {
-      keys =
-          keep_keys top_k.old.k top_k.old.keys
-          (keys_at order segment.now.documents column.now docs.now);
-    }) }
+    ensures { OnOk result
+        (Offers order segment.now.documents column.now docs.now top_k.old top_k.new) }
 {
     for i in (0..docs.len()).rev() {
         offer_hit(segment, column, order, docs[i], top_k)?;
@@ -120,11 +117,8 @@ fn offer_block(
     requires within { All (λ doc. doc < length segment.now.documents) docs.now }
     requires some { 0 < length docs.now }
     requires block { AreOfBlock (slice_index docs.now 0 / 128) docs.now }
-    ensures { OnOk result (top_k.new ≡ record top_k.old {
-      keys =
-          keep_keys top_k.old.k top_k.old.keys
-          (keys_at order segment.now.documents column.now docs.now);
-    }) }
+    ensures { OnOk result
+        (Offers order segment.now.documents column.now docs.now top_k.old top_k.new) }
 {
     if is_block_beyond(column, order, docs[0] / BLOCK, top_k) {
         return Ok(());
@@ -141,11 +135,8 @@ fn offer_by_blocks(
     top_k: &mut TopK,
 ) -> Result<(), AllocError>
     requires { All (λ doc. doc < length segment.now.documents) docs.now }
-    ensures { OnOk result (top_k.new ≡ record top_k.old {
-      keys =
-          keep_keys top_k.old.k top_k.old.keys
-          (keys_at order segment.now.documents column.now docs.now);
-    }) }
+    ensures { OnOk result
+        (Offers order segment.now.documents column.now docs.now top_k.old top_k.new) }
 {
     let mut left = docs.len();
     while left > 0 {
@@ -174,11 +165,8 @@ pub(crate) fn offer_hits(
     top_k: &mut TopK,
 ) -> Result<(), AllocError>
     requires { All (λ doc. doc < length segment.now.documents) docs.now }
-    ensures { OnOk result (top_k.new ≡ record top_k.old {
-      keys =
-          keep_keys top_k.old.k top_k.old.keys
-          (keys_at order segment.now.documents column.now docs.now);
-    }) }
+    ensures { OnOk result
+        (Offers order segment.now.documents column.now docs.now top_k.old top_k.new) }
 {
     if has_spread(column) {
         offer_by_blocks(segment, column, order, docs, top_k)

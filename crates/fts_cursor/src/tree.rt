@@ -180,7 +180,7 @@ impl<'a> Tree<'a> {
     pub(crate) fn or(alloc: Global, parts: Vec<Tree<'a>>) -> Result<Tree<'a>, AllocError>
         ensures { IfOk result (λ t. t.remaining ≡ union (remains parts.entry.items)) }
     {
-        let window = Window::new();
+        let window = Window::new(alloc)?;
         let mut buffered = BufferedUnion { parts, window };
         let doc = refill(&mut buffered, 0);
         Tree::of(alloc, doc, Node::Or(buffered))

@@ -4,6 +4,7 @@ pub mod PostingLemmas
 pub mod SetLemmas
 pub mod PassingLemmas
 pub mod CostLemmas
+pub mod BytesLemmas
 pub mod ConjoinedLemmas
 pub mod UnionLemmas
 pub mod WindowLemmas

@@ -1,15 +1,15 @@
 -- Documents as bits: one more, the first of them, and those from a target on.
-use Rattle.std.proofs.Common.{◌≡◌, ◌≢◌, ℕ, zero, suc, ◌+◌, ◌-◌, ◌*◌, ◌/◌, ◌%◌, ◌^◌, ◌<◌, ◌≤◌, Bool, true, false, cond, ◌==◌, ◌&&◌, nat_le, max, List, [], ◌∷◌, ◌++◌, drop, get_or, length, replicate, set, refl, sym, ap, ap₂, subst, ◌∙◌, inl, inr, arith}
+use Rattle.std.proofs.Common.{◌≡◌, ◌≢◌, ℕ, zero, suc, ◌+◌, ◌-◌, ◌%◌, ◌^◌, ◌<◌, ◌≤◌, Bool, true, false, cond, ◌==◌, ◌&&◌, nat_le, nat_lt, max, List, [], ◌∷◌, ◌++◌, drop, get_or, length, replicate, set, refl, sym, ap, ap₂, subst, ◌∙◌, inl, inr, arith}
 use Rattle.std.specs.Int.{bit_at, w64, trailing_zeros}
-use Rattle.std.proofs.lemmas.Bool.{cases_Bool, cases_eq, cases_lt, le-leb, lt-leb}
+use Rattle.std.proofs.lemmas.Bool.{cases_Bool, cases_lt, le-leb, lt-leb}
 use Rattle.std.proofs.lemmas.List.{get_or-replicate, get_or-set_other, get_or-set_same, get_or_past, length-replicate}
-use Rattle.std.specs.Int.RustNames.{bit_and, bit_or}
-use Rattle.std.proofs.lemmas.Nat.Bits.{bit_at_and, bit_at-lt, bit_at-zero, bit_at-trailing_zeros, bit_at_mask_below, bit_at_mask_inside, bit_at_set_other, bit_at_set_same}
+use Rattle.std.specs.Int.RustNames.{bit_and}
+use Rattle.std.proofs.lemmas.Nat.Bits.{bit_at_and, bit_at-lt, bit_at-zero, bit_at-trailing_zeros, bit_at_mask_below, bit_at_mask_inside}
 use Rattle.fts_pack.specs.Documents.{Rises}
 use Rattle.fts_postings.specs.Sets.{with_one}
 use Rattle.fts_postings.specs.Remaining.{at_least}
 use Rattle.fts_postings.specs.declared.window.Window.{Window}
-use Rattle.fts_postings.specs.Windows.{found_in, is_found, is_marked, marked, passing}
+use Rattle.fts_postings.specs.Windows.{AreMarksFrom, found_in, is_found, is_marked, marked, passing}
 use Rattle.fts_postings.proofs.PassingLemmas.{Rises-passing, passing-append}
 use Rattle.fts_postings.proofs.UnionLemmas.{above, leaves, same, stays, with_one-front}
 
@@ -109,18 +109,17 @@ nothing p a (suc n) none = ap₂ (λ b ys. cond b (a ∷ ys) ys) (none a (omega 
 pub marked-nothing : (from last : ℕ) → marked from last 0 ≡ []
 marked-nothing from last = nothing (is_marked from 0) from (suc last - from) (λ d up down. unset 0 (d - from) (bit_at-zero (d - from)))
 
--- no place has a mark where the words are 0
-pub found-nothing : (base from last : ℕ) (words : List ℕ) → base ≤ from → ((k : ℕ) → k ≤ (last - base) / 64 → get_or words k 0 ≡ 0) → found_in base from last words ≡ []
-found-nothing base from last words order clear =
-    nothing (is_found base words) from (suc last - from)
-    (λ d up down. ap (λ n. bit_at n ((d - base) % 64) == 1) (clear ((d - base) / 64) (omega (arith, down, order, up))) ∙ unset 0 ((d - base) % 64) (bit_at-zero ((d - base) % 64)))
+-- no place has a mark where the marks are 0
+pub found-nothing : (base from last : ℕ) (marks : List ℕ) → base ≤ from → ((k : ℕ) → k ≤ last - base → get_or marks k 0 ≡ 0) → found_in base from last marks ≡ []
+found-nothing base from last marks order clear =
+    nothing (is_found base marks) from (suc last - from) (λ d up down. ap (nat_lt 0) (clear (d - base) (omega (arith, down, order, up))))
 
--- one more is marked
-pub found-mark : (base from last doc : ℕ) (words later : List ℕ) → base ≤ from → from ≤ doc → doc ≤ last → bit_at (get_or later ((doc - base) / 64) 0) ((doc - base) % 64) ≡ 1 →
-    ((d : ℕ) → base ≤ d → d ≢ doc → is_found base later d ≡ is_found base words d) → found_in base from last later ≡ with_one doc (found_in base from last words)
-found-mark base from last doc words later order low high now others =
-    passing-mark (is_found base later) (is_found base words) from (suc last - from) doc low (omega (arith, high, low)) (is_set (get_or later ((doc - base) / 64) 0) ((doc - base) % 64) now)
-    (λ d up down other. others d (omega (arith, up, order)) other)
+-- one more is marked, and the others stay
+pub found-set : (base from last doc : ℕ) (marks : List ℕ) → base ≤ from → from ≤ doc → doc ≤ last → doc - base < length marks → found_in base from last (set marks (doc - base) 1) ≡ with_one doc (found_in base from last marks)
+found-set base from last doc marks order low high room =
+    passing-mark (is_found base (set marks (doc - base) 1)) (is_found base marks) from (suc last - from) doc low (omega (arith, high, low))
+    (ap (nat_lt 0) (get_or-set_same marks (doc - base) 1 0 room))
+    (λ d up down other. ap (nat_lt 0) (get_or-set_other marks (doc - base) (d - base) 1 0 (λ e. other (omega (arith, e, up, order, low)))))
 
 -- what has no mark is left behind
 pub found-ahead : (base from to last : ℕ) (words : List ℕ) → from ≤ to → ((d : ℕ) → from ≤ d → d < to → is_found base words d ≡ false) → found_in base from last words ≡ found_in base to last words
@@ -169,13 +168,10 @@ found-at_least base from target last words =
           ∙ passing-same test (is_found base words) to (suc last - to) (λ d high low. ap (λ b. b && is_found base words d) (le-leb target d (omega (arith, high))))
     ])
 
--- the marks of a word from a place on
-module _ (words : List ℕ) (base from : ℕ) (order : base ≤ from) (marks : ℕ) (is : marks ≡ bit_and (get_or words ((from - base) / 64) 0) (2 ^ 64 - 2 ^ ((from - base) % 64))) where
+-- the marks of 64 documents from a place among them on
+module _ (bytes : List ℕ) (base from word : ℕ) (order : base ≤ from) (of : AreMarksFrom (from - (from - base) % 64) base bytes word) (marks : ℕ) (is : marks ≡ bit_and word (2 ^ 64 - 2 ^ ((from - base) % 64))) where
   abbrev at : ℕ
   at = (from - base) % 64
-
-  abbrev word : ℕ
-  word = get_or words ((from - base) / 64) 0
 
   below : (k : ℕ) → k < at → bit_at marks k ≡ 0
   below k low = ap (λ n. bit_at n k) is ∙ omega (arith, bit_at_and word (2 ^ 64 - 2 ^ at) k, bit_at_mask_below at 64 k low)
@@ -183,36 +179,33 @@ module _ (words : List ℕ) (base from : ℕ) (order : base ≤ from) (marks : �
   inside : (k : ℕ) → at ≤ k → k < 64 → bit_at marks k ≡ bit_at word k
   inside k up down = ap (λ n. bit_at n k) is ∙ omega (arith, bit_at_and word (2 ^ 64 - 2 ^ at) k, bit_at_mask_inside at 64 k up down, bit_at-lt word k)
 
-  found_at : (k d : ℕ) → at ≤ k → k < 64 → d ≡ from - at + k → is_found base words d ≡ (bit_at marks k == 1)
-  found_at k d up down same =
-      let high : (d - base) / 64 ≡ (from - base) / 64 = omega (arith, same, order, up, down) in
-      let low : (d - base) % 64 ≡ k = omega (arith, same, order, up, down) in
-      ap₂ (λ i j. bit_at (get_or words i 0) j == 1) high low ∙ ap (λ n. n == 1) (sym (inside k up down))
+  found_at : (k d : ℕ) → at ≤ k → k < 64 → d ≡ from - at + k → is_found base bytes d ≡ (bit_at marks k == 1)
+  found_at k d up down same = ap (is_found base bytes) same ∙ sym (of k down) ∙ ap (λ n. n == 1) (sym (inside k up down))
 
-  pub none_here : marks ≡ 0 → (d : ℕ) → from ≤ d → d < from - at + 64 → is_found base words d ≡ false
+  pub none_here : marks ≡ 0 → (d : ℕ) → from ≤ d → d < from - at + 64 → is_found base bytes d ≡ false
   none_here zero_marks d up down =
       let k = d - (from - at) in
       found_at k d (omega (arith, up)) (omega (arith, down, up)) (omega (arith, up)) ∙ ap (λ n. bit_at n k == 1) zero_marks ∙ unset 0 k (bit_at-zero k)
 
   -- up to a place of the word, it marks what the word does
-  pub word_part : (places : ℕ) → at ≤ places → places ≤ 64 → passing (is_found base words) from (places - at) ≡ passing (is_marked (from - at) marks) (from - at) places
+  pub word_part : (places : ℕ) → at ≤ places → places ≤ 64 → passing (is_found base bytes) from (places - at) ≡ passing (is_marked (from - at) marks) (from - at) places
   word_part places more few =
       let start = from - at in
       let n = places - at in
       let begin : start + at ≡ from = omega (arith, order) in
       let whole : places ≡ at + n = omega (arith, more) in
-      passing-same (is_found base words) (is_marked start marks) from n (λ d up down. found_at (d - start) d (omega (arith, up, order)) (omega (arith, down, order, up, few, more)) (omega (arith, up, order)))
+      passing-same (is_found base bytes) (is_marked start marks) from n (λ d up down. found_at (d - start) d (omega (arith, up, order)) (omega (arith, down, order, up, few, more)) (omega (arith, up, order)))
       ∙ sym (ap (passing (is_marked start marks) start) whole
       ∙ passing-ahead (is_marked start marks) start at n (λ d up down. unset marks (d - start) (below (d - start) (omega (arith, down, up))))
       ∙ ap (λ a. passing (is_marked start marks) a n) begin)
 
   -- what it marks, and what the words behind it do
-  pub word_split : (last : ℕ) → from - at + 63 ≤ last → found_in base from last words ≡ marked (from - at) (from - at + 63) marks ++ found_in base (from - at + 64) last words
+  pub word_split : (last : ℕ) → from - at + 63 ≤ last → found_in base from last bytes ≡ marked (from - at) (from - at + 63) marks ++ found_in base (from - at + 64) last bytes
   word_split last long =
       let start = from - at in
       let n = 64 - at in
       let more = suc last - (start + 64) in
-      let test = is_found base words in
+      let test = is_found base bytes in
       let all : suc last - from ≡ n + more = omega (arith, order, long) in
       let next : from + n ≡ start + 64 = omega (arith, order) in
       let whole : 64 ≡ suc (start + 63) - start = omega arith in
@@ -232,10 +225,10 @@ module _ (words : List ℕ) (base from : ℕ) (order : base ≤ from) (marks : �
       | inr up ↦ up
     ]
 
-    pub lowest_is : is_found base words (from - at + lowest) ≡ true
+    pub lowest_is : is_found base bytes (from - at + lowest) ≡ true
     lowest_is = found_at lowest (from - at + lowest) lowest_from place.0 refl ∙ is_set marks lowest place.1
 
-    pub none_before : (d : ℕ) → from ≤ d → d < from - at + lowest → is_found base words d ≡ false
+    pub none_before : (d : ℕ) → from ≤ d → d < from - at + lowest → is_found base bytes d ≡ false
     none_before d up down =
         let k = d - (from - at) in
         let low : k < lowest = omega (arith, up, down) in
@@ -249,25 +242,4 @@ none_replicated n k = elim (cases_lt k n) [
 
 -- the documents of a window
 abbrev pub found : Window → List ℕ
-found w = found_in w.base w.from w.last w.words
-
--- the bit of a document is set, and the others stay
-pub found-set : (base from last doc : ℕ) (words : List ℕ) → base ≤ from → from ≤ doc → doc ≤ last → (doc - base) / 64 < length words →
-    found_in base from last (set words ((doc - base) / 64) (bit_or (get_or words ((doc - base) / 64) 0) (1 * 2 ^ ((doc - base) % 64) % 2 ^ 64))) ≡ with_one doc (found_in base from last words)
-found-set base from last doc words order low high room =
-    let i = (doc - base) / 64 in
-    let j = (doc - base) % 64 in
-    let word = get_or words i 0 in
-    let new = bit_or word (1 * 2 ^ j % 2 ^ 64) in
-    let small : j < 64 = omega arith in
-    let here : get_or (set words i new) i 0 ≡ new = get_or-set_same words i new 0 room in
-    found-mark base from last doc words (set words i new) order low high
-    (ap (λ n. bit_at n j) here ∙ bit_at_set_same w64 word j small)
-    (λ d up other. elim (cases_eq ((d - base) / 64) i) [
-      | inl same ↦
-          let differ : (d - base) % 64 ≢ j = λ e. other (omega (arith, e, same, up, order, low)) in
-          ap (λ k. bit_at (get_or (set words i new) k 0) ((d - base) % 64) == 1) same ∙ ap (λ n. bit_at n ((d - base) % 64) == 1) here
-          ∙ ap (λ n. n == 1) (bit_at_set_other w64 word j small ((d - base) % 64) differ)
-          ∙ ap (λ k. bit_at (get_or words k 0) ((d - base) % 64) == 1) (sym same)
-      | inr apart ↦ ap (λ n. bit_at n ((d - base) % 64) == 1) (get_or-set_other words i ((d - base) / 64) new 0 apart)
-    ])
+found w = found_in w.base w.from w.last w.marks.items

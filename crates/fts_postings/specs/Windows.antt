@@ -1,5 +1,5 @@
 -- Documents as bits, from a number on.
-use Rattle.std.specs.Prelude.{ℕ, suc, ◌-◌, ◌/◌, ◌%◌, ◌==◌, Bool, List, filter, slice_index_or}
+use Rattle.std.specs.Prelude.{◌≡◌, ℕ, suc, ◌+◌, ◌-◌, ◌<◌, ◌==◌, nat_lt, Bool, List, filter, slice_index_or}
 use Rattle.std.specs.Int.{bit_at}
 use Rattle.std.specs.List.{range_with_len}
 
@@ -15,10 +15,14 @@ is_marked from marks d = bit_at marks (d - from) == 1
 abbrev pub marked : ℕ → ℕ → ℕ → List ℕ
 marked from last marks = passing (is_marked from marks) from (suc last - from)
 
--- whether a document's bit is set, where 64 of them lie in a word
+-- whether a document is marked, where each has a number from one document on: 0 where it is not
 abbrev pub is_found : ℕ → List ℕ → ℕ → Bool
-is_found base words d = bit_at (slice_index_or words ((d - base) / 64) 0) ((d - base) % 64) == 1
+is_found base marks d = nat_lt 0 (slice_index_or marks (d - base) 0)
 
--- the documents of from..=last whose bits are set
+-- the documents of from..=last that are marked
 abbrev pub found_in : ℕ → ℕ → ℕ → List ℕ → List ℕ
-found_in base from last words = passing (is_found base words) from (suc last - from)
+found_in base from last marks = passing (is_found base marks) from (suc last - from)
+
+-- the bits of a word are the marks of 64 documents from one on
+abbrev pub AreMarksFrom : ℕ → ℕ → List ℕ → ℕ → Type 0
+AreMarksFrom start base marks word = (k : ℕ) → k < 64 → (bit_at word k == 1) ≡ is_found base marks (start + k)

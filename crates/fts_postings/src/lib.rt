@@ -21,6 +21,7 @@
 //! ```
 #![tactic(auto)]
 
+mod bytes;
 mod conjunction;
 mod doc_set;
 pub mod marks;

@@ -1,14 +1,15 @@
-// The documents found among the next 4,096, as bits.
-ghost use Rattle.std.specs.Prelude.{◌≡◌, ℕ, ◌+◌, ◌^◌, ◌<◌, ◌≤◌, ◌∷◌, ◌||◌, [], All, IfSome, MatchBool, drop, false};
+// The documents found among the next 4,096.
+ghost use Rattle.std.specs.Prelude.{◌≡◌, ℕ, ◌+◌, ◌^◌, ◌<◌, ◌≤◌, ◌∷◌, ◌||◌, [], All, IfOk, IfSome, MatchBool, drop, false};
 ghost use Rattle.std.specs.Prelude.{◌-◌, ◌%◌, length, slice_get, slice_index, take, true};
 ghost use Rattle.std.specs.List.Sorted.{IsStrictlyIncreasing};
 ghost use Rattle.fts_postings.specs.Sets.{has, with_one};
 ghost use Rattle.fts_postings.specs.Remaining.{at_least};
 ghost use Rattle.fts_postings.specs.Fills.{IsStretch};
-ghost use Rattle.fts_postings.specs.Windows.{found_in, is_found};
+ghost use Rattle.fts_postings.specs.Windows.{AreMarksFrom, found_in, is_found};
 
-use crate::marks;
 use crate::stretch::place_of;
+use crate::{bytes, marks};
+use std::alloc::{AllocError, Global};
 
 /// The documents marked among those of `from..=last`, of which there are 4,096 at most.
 #[derive(Drop)]
@@ -19,24 +20,26 @@ pub struct Window {
     pub from: u64,
     /// The last document that has a place.
     pub last: u32,
-    /// A bit for each document from `base` on, 64 in a word, the lowest for the first of them.
-    pub words: [u64; 64],
+    /// A mark for each document from `base` on: 0 where it isn't found. Marks are bytes, since documents of a list mostly
+    /// lie close together, and bits of one word would be set one after the other.
+    pub marks: Vec<u8>,
     pub ghost order: { base ≤ from },
     pub ghost few: { last ≤ base + 4095 },
     pub ghost fits: { last < 2 ^ 32 },
+    pub ghost room: { length marks.items ≡ 4096 },
 }
 
 impl Window {
     /// With nothing marked.
-    pub fn new() -> Window
-        ensures { found_in result.base result.from result.last result.words ≡ [] }
+    pub fn new(alloc: Global) -> Result<Window, AllocError>
+        ensures { IfOk result (λ window. found_in window.base window.from window.last window.marks.items ≡ []) }
     {
-        Window {
+        Ok(Window {
             base: 0,
             from: 0,
             last: 0,
-            words: [0; 64],
-        }
+            marks: vec![in alloc; 0u8; 4096]?,
+        })
     }
 
     /// Begins anew with nothing marked, for a document and so many after it.
@@ -44,12 +47,10 @@ impl Window {
         requires { reach ≤ 4095 }
         ensures from { self.new.from ≡ doc }
         ensures last { doc ≤ self.new.last }
-        ensures nothing { found_in self.new.base self.new.from self.new.last self.new.words ≡ [] }
+        ensures nothing { found_in self.new.base self.new.from self.new.last self.new.marks.items ≡ [] }
     {
         // What lies behind the last place may be anything.
-        for index in 0..(reach / 64 + 1) as usize {
-            self.words[index] = 0;
-        }
+        bytes::clear(&mut self.marks, (reach as usize / 64 + 1) * 64);
         self.base = doc;
         self.from = doc as u64;
         self.last = doc.saturating_add(reach);
@@ -69,11 +70,10 @@ impl Window {
         requires low { self.old.from ≤ doc }
         requires high { doc ≤ self.old.last }
         ensures place { (self.new.from ≡ self.old.from) × (self.new.last ≡ self.old.last) }
-        ensures marked { found_in self.new.base self.new.from self.new.last self.new.words
-            ≡ with_one doc (found_in self.old.base self.old.from self.old.last self.old.words) }
+        ensures marked { found_in self.new.base self.new.from self.new.last self.new.marks.items
+            ≡ with_one doc (found_in self.old.base self.old.from self.old.last self.old.marks.items) }
     {
-        let place = (doc - self.base) as usize;
-        self.words[place / 64] |= 1 << (place % 64);
+        self.marks[(doc - self.base) as usize] = 1;
     }
 
     /// Marks the first of the documents, up to one that has no place, and gives how many they are.
@@ -85,8 +85,8 @@ impl Window {
         ensures within { result ≤ length docs.now }
         ensures some { 0 < length docs.now → slice_index docs.now 0 ≤ self.old.last → 0 < result }
         ensures places { All (λ d. d ≤ self.old.last) (take result docs.now) }
-        ensures marked { (d : ℕ) → has (found_in self.new.base self.new.from self.new.last self.new.words) d
-            ≡ (has (found_in self.old.base self.old.from self.old.last self.old.words) d
+        ensures marked { (d : ℕ) → has (found_in self.new.base self.new.from self.new.last self.new.marks.items) d
+            ≡ (has (found_in self.old.base self.old.from self.old.last self.old.marks.items) d
             || has (take result docs.now) d) }
     {
         let count = self.count_covered(docs);
@@ -115,24 +115,33 @@ impl Window {
         requires low { All (λ d. self.old.from ≤ d) docs.now }
         requires high { All (λ d. d ≤ self.old.last) docs.now }
         ensures place { (self.new.from ≡ self.old.from) × (self.new.last ≡ self.old.last) }
-        ensures marked { (d : ℕ) → has (found_in self.new.base self.new.from self.new.last self.new.words) d
-            ≡ (has (found_in self.old.base self.old.from self.old.last self.old.words) d || has docs.now d) }
+        ensures marked { (d : ℕ) → has (found_in self.new.base self.new.from self.new.last self.new.marks.items) d
+            ≡ (has (found_in self.old.base self.old.from self.old.last self.old.marks.items) d || has docs.now d) }
     {
-        for doc in docs {
-            self.mark(*doc);
-        }
+        bytes::mark_each(&mut self.marks, self.base, docs);
+    }
+
+    // The marks of the 64 documents from a place on as bits, the first of them the lowest.
+    #[inline]
+    fn word(&self, start: u64) -> u64
+        requires low { self.now.base ≤ start }
+        requires high { start + 64 ≤ self.now.base + 4096 }
+        ensures { AreMarksFrom start self.now.base self.now.marks.items result }
+    {
+        let place = (start - self.base as u64) as usize;
+        bytes::word_of(&self.marks[place..])
     }
 
     /// The first document that is marked. Places without marks before it are left behind.
     #[inline]
     pub fn first(&mut self) -> Option<u32>
-        ensures first { result ≡ slice_get (found_in self.old.base self.old.from self.old.last self.old.words) 0 }
-        ensures same { found_in self.new.base self.new.from self.new.last self.new.words
-            ≡ found_in self.old.base self.old.from self.old.last self.old.words }
+        ensures first { result ≡ slice_get (found_in self.old.base self.old.from self.old.last self.old.marks.items) 0 }
+        ensures same { found_in self.new.base self.new.from self.new.last self.new.marks.items
+            ≡ found_in self.old.base self.old.from self.old.last self.old.marks.items }
         ensures last { self.new.last ≡ self.old.last }
         ensures stands { IfSome result (λ doc. (self.new.from ≡ doc)
-            × (found_in self.new.base self.new.from self.new.last self.new.words
-            ≡ doc ∷ found_in self.new.base (doc + 1) self.new.last self.new.words)) }
+            × (found_in self.new.base self.new.from self.new.last self.new.marks.items
+            ≡ doc ∷ found_in self.new.base (doc + 1) self.new.last self.new.marks.items)) }
     {
         while self.from <= self.last as u64 {
             if self.pass_word() && self.from <= self.last as u64 {
@@ -147,15 +156,15 @@ impl Window {
     #[inline]
     fn pass_word(&mut self) -> bool
         requires { self.old.from ≤ self.old.last }
-        ensures same { found_in self.new.base self.new.from self.new.last self.new.words
-            ≡ found_in self.old.base self.old.from self.old.last self.old.words }
+        ensures same { found_in self.new.base self.new.from self.new.last self.new.marks.items
+            ≡ found_in self.old.base self.old.from self.old.last self.old.marks.items }
         ensures last { self.new.last ≡ self.old.last }
         ensures further { result ≡ false → self.old.from < self.new.from }
-        ensures marked { result ≡ true → is_found self.new.base self.new.words self.new.from ≡ true }
+        ensures marked { result ≡ true → is_found self.new.base self.new.marks.items self.new.from ≡ true }
     {
-        let place = (self.from - self.base as u64) as usize;
-        let start = self.from - (place % 64) as u64;
-        let marks = self.words[place / 64] & (u64::MAX << (place % 64));
+        let place = (self.from - self.base as u64) % 64;
+        let start = self.from - place;
+        let marks = self.word(start) & (u64::MAX << place);
         if marks == 0 {
             self.from = start + 64;
             return false;
@@ -171,8 +180,8 @@ impl Window {
         requires { filled < 128 }
         ensures last { self.new.last ≡ self.old.last }
         ensures taken { IsStretch
-            (found_in self.old.base self.old.from self.old.last self.old.words)
-            (found_in self.new.base self.new.from self.new.last self.new.words)
+            (found_in self.old.base self.old.from self.old.last self.old.marks.items)
+            (found_in self.new.base self.new.from self.new.last self.new.marks.items)
             out.old out.new filled result }
     {
         let mut end = filled;
@@ -192,16 +201,16 @@ impl Window {
         requires { filled < 128 }
         ensures last { self.new.last ≡ self.old.last }
         ensures taken { IsStretch
-            (found_in self.old.base self.old.from self.old.last self.old.words)
-            (found_in self.new.base self.new.from self.new.last self.new.words)
+            (found_in self.old.base self.old.from self.old.last self.old.marks.items)
+            (found_in self.new.base self.new.from self.new.last self.new.marks.items)
             out.old out.new filled result }
     {
         let Some(doc) = self.first() else {
             return 0;
         };
-        let place = (self.from - self.base as u64) as usize;
-        let start = self.from - (place % 64) as u64;
-        let marks = self.words[place / 64] & (u64::MAX << (place % 64));
+        let place = (self.from - self.base as u64) % 64;
+        let start = self.from - place;
+        let marks = self.word(start) & (u64::MAX << place);
         let count = marks.count_ones() as usize;
         if filled + count > 128 || start + 63 > self.last as u64 {
             out[filled] = doc;
@@ -215,9 +224,9 @@ impl Window {
 
     /// How many documents are marked. Leaves all behind.
     pub fn count(&mut self) -> usize
-        ensures count { result ≡ length (found_in self.old.base self.old.from self.old.last self.old.words) }
+        ensures count { result ≡ length (found_in self.old.base self.old.from self.old.last self.old.marks.items) }
         ensures last { self.new.last ≡ self.old.last }
-        ensures none { found_in self.new.base self.new.from self.new.last self.new.words ≡ [] }
+        ensures none { found_in self.new.base self.new.from self.new.last self.new.marks.items ≡ [] }
     {
         let mut count = 0;
         while self.from <= self.last as u64 {
@@ -231,15 +240,15 @@ impl Window {
     #[inline]
     fn count_word(&mut self) -> usize
         requires { self.old.from ≤ self.old.last }
-        ensures count { result + length (found_in self.new.base self.new.from self.new.last self.new.words)
-            ≡ length (found_in self.old.base self.old.from self.old.last self.old.words) }
+        ensures count { result + length (found_in self.new.base self.new.from self.new.last self.new.marks.items)
+            ≡ length (found_in self.old.base self.old.from self.old.last self.old.marks.items) }
         ensures last { self.new.last ≡ self.old.last }
         ensures further { self.old.from < self.new.from }
         ensures whole { (self.new.from - self.new.base) % 64 ≡ 0 }
     {
-        let place = (self.from - self.base as u64) as usize;
-        let start = self.from - (place % 64) as u64;
-        let marks = self.words[place / 64] & (u64::MAX << (place % 64));
+        let place = (self.from - self.base as u64) % 64;
+        let start = self.from - place;
+        let marks = self.word(start) & (u64::MAX << place);
         let behind = (start + 63).saturating_sub(self.last as u64);
         let inside = marks & (u64::MAX >> behind);
         self.from = start + 64;
@@ -250,8 +259,8 @@ impl Window {
     #[inline]
     fn count_words(&mut self) -> usize
         requires { (self.old.from - self.old.base) % 64 ≡ 0 }
-        ensures count { result + length (found_in self.new.base self.new.from self.new.last self.new.words)
-            ≡ length (found_in self.old.base self.old.from self.old.last self.old.words) }
+        ensures count { result + length (found_in self.new.base self.new.from self.new.last self.new.marks.items)
+            ≡ length (found_in self.old.base self.old.from self.old.last self.old.marks.items) }
         ensures last { self.new.last ≡ self.old.last }
         ensures further { self.old.from ≤ self.new.from }
     {
@@ -259,7 +268,7 @@ impl Window {
         let end = (self.last as u64 + 1).saturating_sub(self.base as u64) as usize / 64;
         let mut count = 0;
         for index in first..end {
-            count += self.words[index].count_ones() as usize;
+            count += self.word(self.base as u64 + index as u64 * 64).count_ones() as usize;
         }
         self.from = self.from.max(self.base as u64 + end as u64 * 64);
         count
@@ -269,8 +278,8 @@ impl Window {
     #[inline]
     pub fn advance(&mut self)
         ensures last { self.new.last ≡ self.old.last }
-        ensures marked { found_in self.new.base self.new.from self.new.last self.new.words
-            ≡ drop 1 (found_in self.old.base self.old.from self.old.last self.old.words) }
+        ensures marked { found_in self.new.base self.new.from self.new.last self.new.marks.items
+            ≡ drop 1 (found_in self.old.base self.old.from self.old.last self.old.marks.items) }
     {
         if let Some(doc) = self.first() {
             self.from = doc as u64 + 1;
@@ -281,15 +290,15 @@ impl Window {
     #[inline]
     pub fn seek(&mut self, target: u32)
         ensures last { self.new.last ≡ self.old.last }
-        ensures marked { found_in self.new.base self.new.from self.new.last self.new.words
-            ≡ at_least target (found_in self.old.base self.old.from self.old.last self.old.words) }
+        ensures marked { found_in self.new.base self.new.from self.new.last self.new.marks.items
+            ≡ at_least target (found_in self.old.base self.old.from self.old.last self.old.marks.items) }
     {
         self.from = self.from.max(target as u64);
     }
 
     /// At least as many as are marked.
     pub fn cost(&self) -> usize
-        ensures { length (found_in self.now.base self.now.from self.now.last self.now.words) ≤ result }
+        ensures { length (found_in self.now.base self.now.from self.now.last self.now.marks.items) ≤ result }
     {
         (self.last as u64 + 1).saturating_sub(self.from) as usize
     }

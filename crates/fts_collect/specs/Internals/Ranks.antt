@@ -54,6 +54,11 @@ hit_of kind order documents key =
 abbrev pub keep_keys : ℕ → List Key → List Key → List Key
 keep_keys k keys more = fold (λ ks key. take k (put_key ks key)) keys more
 
+-- these hits were offered: of the keys that were kept, and theirs, the first are kept
+abbrev pub Offers : Order → List (Stamped DocumentValue) → List (Option ℕ) → List ℕ → TopKValue → TopKValue → Type 0
+Offers order documents column docs old new =
+    new ≡ record old { keys = keep_keys old.k old.keys (keys_at order documents column docs) }
+
 -- these documents are of one block of 128
 abbrev pub AreOfBlock : ℕ → List ℕ → Type 0
 AreOfBlock block docs = All (λ doc. doc / 128 ≡ block) docs

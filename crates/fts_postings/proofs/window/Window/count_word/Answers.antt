@@ -1,5 +1,5 @@
 -- The bits of a word before the first place and behind the last don't count.
-use Rattle.std.proofs.Common.{◌+◌, ◌-◌, ◌*◌, ◌/◌, ◌%◌, ◌^◌, get_or, ap, ◌∙◌, arith}
+use Rattle.std.proofs.Common.{◌+◌, ◌-◌, ◌*◌, ◌/◌, ◌%◌, ◌^◌, ap, ◌∙◌, arith}
 use Rattle.std.specs.Int.RustNames.{bit_and}
 use Rattle.std.proofs.lemmas.Nat.Bits.{ones_shl, ones_shr}
 use Rattle.fts_postings.proofs.TakingLemmas.{counted_word}
@@ -10,8 +10,8 @@ returns-clause-count c =
     let w = c.args.self.now in
     let at = (w.from - w.base) % 64 in
     let start = w.from - at in
-    let word = get_or w.words ((w.from - w.base) / 64) 0 in
+    let word = c.word.result in
     let marks = bit_and word ((2 ^ 64 - 1) * 2 ^ at % 2 ^ 64) in
     let is = ap (bit_and word) (ones_shl 64 at (omega arith)) in
     let mask = ap (λ k. (2 ^ 64 - 1) / 2 ^ k) c.saturating_sub-behind.ensures ∙ ones_shr 64 (start + 63 - w.last) (omega (arith, c.requires)) in
-    counted_word w.words w.base w.from w.order marks is w.last _ c.requires mask
+    counted_word w.marks.items w.base w.from word w.order c.word.ensures marks is w.last _ c.requires mask

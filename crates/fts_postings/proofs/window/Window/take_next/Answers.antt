@@ -1,5 +1,5 @@
 -- One document, or those of a word.
-use Rattle.std.proofs.Common.{◌+◌, ◌-◌, ◌*◌, ◌/◌, ◌%◌, ◌^◌, ◌<◌, get_or, refl, ap, sym, ◌∙◌, arith}
+use Rattle.std.proofs.Common.{◌+◌, ◌-◌, ◌*◌, ◌%◌, ◌^◌, ◌<◌, refl, ap, sym, ◌∙◌, arith}
 use Rattle.std.proofs.lemmas.Nat.{and_le_r}
 use Rattle.std.specs.Int.RustNames.{bit_and}
 use Rattle.std.proofs.lemmas.Nat.Bits.{ones_shl}
@@ -12,7 +12,7 @@ pub write-requires-clause-room : goal.write-requires-clause-room
 write-requires-clause-room c =
     let w = c.first.new.self in
     let at = (w.from - w.base) % 64 in
-    let word = get_or w.words ((w.from - w.base) / 64) 0 in
+    let word = c.word.result in
     let marks = bit_and word ((2 ^ 64 - 1) * 2 ^ at % 2 ^ 64) in
     let fits : marks < 2 ^ 64 = omega (arith, and_le_r word ((2 ^ 64 - 1) * 2 ^ at % 2 ^ 64)) in
     omega (arith, c.if-filled-count-gt128.false, marked-ones (w.from - at) marks fits)
@@ -21,7 +21,7 @@ pub write-requires-clause-few : goal.write-requires-clause-few
 write-requires-clause-few c =
     let w = c.first.new.self in
     let at = (w.from - w.base) % 64 in
-    let word = get_or w.words ((w.from - w.base) / 64) 0 in
+    let word = c.word.result in
     let marks = bit_and word ((2 ^ 64 - 1) * 2 ^ at % 2 ^ 64) in
     let fits : marks < 2 ^ 64 = omega (arith, and_le_r word ((2 ^ 64 - 1) * 2 ^ at % 2 ^ 64)) in
     marked_few (w.from - at) marks (2 ^ 32) fits (omega (arith, c.if-start-self.false, w.fits))
@@ -32,12 +32,12 @@ returns-clause-taken c =
     let w = c.first.new.self in
     let at = (w.from - w.base) % 64 in
     let start = w.from - at in
-    let word = get_or w.words ((w.from - w.base) / 64) 0 in
+    let word = c.word.result in
     let marks = bit_and word ((2 ^ 64 - 1) * 2 ^ at % 2 ^ 64) in
     let fits : marks < 2 ^ 64 = omega (arith, and_le_r word ((2 ^ 64 - 1) * 2 ^ at % 2 ^ 64)) in
     let is = ap (bit_and word) (ones_shl 64 at (omega arith)) in
     let stands = c.in-Some.ensures.stands in
-    taken_word (found_in old.base old.from old.last old.words) (found_in w.base (start + 64) w.last w.words) c.args.out.now c.write.new.out w.base start c.in-Some.doc w.last marks c.args.filled c.write.result _ w.words _
+    taken_word (found_in old.base old.from old.last old.marks.items) (found_in w.base (start + 64) w.last w.marks.items) c.args.out.now c.write.new.out w.base start c.in-Some.doc w.last marks c.args.filled c.write.result _ w.marks.items _
     (sym c.first.ensures.same ∙ stands.1) (omega (arith, stands.0)) refl
-    (sym c.first.ensures.same ∙ word_split w.words w.base w.from w.order marks is w.last (omega (arith, c.if-start-self.false)))
+    (sym c.first.ensures.same ∙ word_split w.marks.items w.base w.from word w.order c.word.ensures marks is w.last (omega (arith, c.if-start-self.false)))
     (marked-ones start marks fits) c.if-filled-count-gt128.false c.write.ensures.count c.write.ensures.written
