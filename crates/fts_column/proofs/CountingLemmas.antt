@@ -2,7 +2,7 @@
 use Rattle.std.proofs.Common.{◌≡◌, ℕ, zero, suc, ◌+◌, ◌-◌, ◌*◌, ◌/◌, ◌%◌, ◌^◌, ◌<◌, ◌≤◌, Bool, true, false, cond, slice_get, Option, Some, None, IfSome, Contains, is_some, map, drop, List, [], ◌∷◌, length, take, set, get_or, count_by, refl, sym, ap, ap₂, ◌∙◌, subst, inl, inr, arith, mod-eq_of_lt}
 use Rattle.std.proofs.Math.Nat.{add-mul-mod_self_left, mod-add-div}
 use Rattle.std.proofs.lemmas.Bool.{cases_Bool, cases_eq, cases_lt, eq-eqb, ne_eqb}
-use Rattle.std.proofs.lemmas.List.{get_or-append_right, get_or-drop, get_or-set_other, get_or-set_same, get_or-take, get_or_append_left, get_or_past, length-drop, length-map, length-set, length-take-le, take_rest}
+use Rattle.std.proofs.lemmas.List.{get_or-append_right, get_or-drop, get_or-map, get_or-set_other, get_or-set_same, get_or-take, get_or_append_left, get_or_past, length-drop, length-map, length-set, length-take-le, take_rest}
 use Rattle.std.proofs.lemmas.Option.{get_or_from_slice_get, slice_get-get_or, slice_get_past}
 use Rattle.std.proofs.lemmas.List.Sums.{count_by-le-length, count_by_more_no, count_by_more_yes, sum_by-cons}
 use borrow.Rule.Slice.PartMut.{put_mid}
@@ -85,11 +85,10 @@ each_set (true ∷ bits) (suc i) all inside =
     each_set bits i (omega (arith, all, sum_by-cons (λ bit. cond bit 1 0) true bits)) (omega (arith, inside))
 
 -- and then each document has the number in its lane
-pub every_number : (present : List Bool) (lanes words : List ℕ) (len doc : ℕ) → len ≡ length present → count_by (λ bit. bit) present ≡ len → len ≤ length lanes → words ≡ lanes → slice_get (take len words) doc ≡ number_at present lanes doc
-every_number present lanes words len doc long all room same =
+pub every_number : (present : List Bool) (lanes : List ℕ) (len doc : ℕ) → len ≡ length present → count_by (λ bit. bit) present ≡ len → len ≤ length lanes → slice_get (take len lanes) doc ≡ number_at present lanes doc
+every_number present lanes len doc long all room =
     let size : length (take len lanes) ≡ len = length-take-le len lanes room in
-    ap (λ xs. slice_get (take len xs) doc) same
-    ∙ elim (cases_lt doc len) [
+    elim (cases_lt doc len) [
       | inl inside ↦ (
           let bit : get_or present doc false ≡ true = each_set present doc (all ∙ long) (omega (arith, inside, long)) in
           slice_get-get_or (take len lanes) doc 0 (omega (arith, inside, size))
@@ -97,6 +96,10 @@ every_number present lanes words len doc long all room same =
           ∙ sym (ap (λ b. cond b (Some (get_or lanes doc 0)) None) bit))
       | inr past ↦ slice_get_past (take len lanes) doc (omega (arith, past, size)) ∙ sym (number_at-past present lanes doc (omega (arith, past, long)))
     ]
+
+-- the number of a lane, which is a place
+pub number_of_lane : {A : Type 0} (value : A → ℕ) (lanes : List A) (doc x : ℕ) (lane : A) → doc < length lanes → lane ≡ get_or lanes doc lane → x ≡ value lane → x ≡ get_or (map value lanes) doc 0
+number_of_lane value lanes doc x lane inside there is = is ∙ ap value there ∙ sym (get_or-map value lanes doc lane 0 inside)
 
 -- the least value of a column is one of those that it has places for
 pub first_within : (values : List (Option ℕ)) (least count first : ℕ) → AreWithin values least count → Contains values (Some first) → (least ≤ first) × (first < least + count)

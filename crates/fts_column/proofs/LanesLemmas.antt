@@ -1,11 +1,13 @@
 -- Numbers as lanes: how they are filled, and which of 64 are marked.
-use Rattle.std.proofs.Common.{◌≡◌, ℕ, zero, suc, ◌+◌, ◌-◌, ◌*◌, ◌/◌, ◌%◌, ◌^◌, ◌<◌, ◌≤◌, Bool, true, false, cond, ◌==◌, ◌&&◌, nat_le, Option, Some, None, is_some, IfSome, List, [], ◌∷◌, ◌++◌, length, take, drop, set, get_or, map, min, replicate, refl, sym, ap, subst, ◌∙◌, inl, inr, arith}
-use Rattle.std.specs.Int.{bit_at, w32, w64}
+use Rattle.std.proofs.Common.{◌≡◌, ℕ, zero, suc, ◌+◌, ◌-◌, ◌*◌, ◌/◌, ◌%◌, ◌^◌, ◌<◌, ◌≤◌, Bool, true, false, cond, ◌==◌, ◌&&◌, nat_le, Option, Some, None, is_some, IfSome, List, [], ◌∷◌, ◌++◌, length, take, drop, get_or, map, min, mod-eq_of_lt, replicate, refl, sym, ap, ap₂, subst, ◌∙◌, inl, inr, arith}
+use Rattle.std.specs.Int.{bit_at}
 use Rattle.std.specs.Int.RustNames.{bit_and}
 use Rattle.std.proofs.lemmas.Bool.{cases_lt}
-use Rattle.std.proofs.lemmas.List.{append_assoc, get_or-drop, get_or-map, get_or-take, get_or_past, length-append, length-map, length-replicate, length-set, length-take, length-take-le, set_at, take_all, take_more}
+use Rattle.std.proofs.lemmas.List.{get_or-drop, get_or-map, get_or-take, get_or_past, length-append, length-map, length-replicate, length-take, length-take-le, map-append, map-id, take_all, take_more}
 use Rattle.std.proofs.lemmas.Nat.Bits.{bit_at_and, bit_at_lowest, bit_at-suc, bit_at-zero, bit_at-lt}
 use Rattle.std.proofs.lemmas.Simd.{bit_mask_l, bitmask_splat, map-map, zip2_splat}
+use Rattle.std.proofs.Math.Nat.{add-mul-mod_self_left}
+use Rattle.std.proofs.Math.Pow.{pow_mono}
 use Rattle.std.proofs.Math.Seq.{take-append_seam}
 use lib.Lanes.{mask_l, top, zip2}
 use lib.Dec.{leb}
@@ -17,39 +19,38 @@ use Rattle.fts_column.specs.Column.{is_within, least_of, IsColumn}
 use Rattle.fts_column.specs.Lanes.{AreLanesOf, AreMarked}
 use Rattle.fts_column.proofs.ColumnLemmas.{lane_there, presence-at}
 
--- one number more stands in its lane, before zeros
-pub fill_next : (numbers : List ℕ) (n i x : ℕ) → i < length numbers → i < n → x ≡ get_or numbers i 0 → set (take i numbers ++ replicate (n - i) 0) i x ≡ take (i + 1) numbers ++ replicate (n - (i + 1)) 0
-fill_next numbers n i x inside room is =
-    let rest : List ℕ = replicate (n - (i + 1)) 0 in
-    let before : replicate (n - i) 0 ≡ 0 ∷ rest = ap (λ k. replicate k 0) (let e : n - i ≡ suc (n - (i + 1)) = omega (arith, room) in e) in
-    let front : length (take i numbers) ≡ i = length-take-le i numbers (omega (arith, inside)) in
-    ap (λ xs. set (take i numbers ++ xs) i x) before ∙ set_at (take i numbers) 0 rest x i front
-    ∙ ap (λ y. take i numbers ++ y ∷ rest) is
-    ∙ sym (append_assoc (take i numbers) (get_or numbers i 0 ∷ []) rest)
-    ∙ ap (λ xs. xs ++ rest) (sym (take_more numbers i 0 inside))
+-- a number fits a lane of as many bits as it needs
+pub fits_lane : (x width room : ℕ) → x < 2 ^ width → x < 2 ^ 64 → min width 64 ≤ room → x < 2 ^ room
+fits_lane x width room small fits wide = elim (cases_lt width 64) [
+  | inl less ↦ (
+      let le : width ≤ room = omega (arith, less, wide) in
+      let power : 2 ^ width ≤ 2 ^ room = pow_mono le in
+      omega (arith, small, power))
+  | inr more ↦ (
+      let le : 64 ≤ room = omega (arith, more, wide) in
+      let power : 2 ^ 64 ≤ 2 ^ room = pow_mono le in
+      omega (arith, fits, power))
+]
 
-pub fill_step : (numbers lanes : List ℕ) (count i x : ℕ) → length numbers ≡ count → i < count → (lanes ≡ take i numbers ++ replicate (length lanes - i) 0) × ((count ≤ length lanes) × (length lanes % 64 ≡ 0)) → x ≡ get_or numbers i 0
-    → (set lanes i x ≡ take (i + 1) numbers ++ replicate (length (set lanes i x) - (i + 1)) 0) × ((count ≤ length (set lanes i x)) × (length (set lanes i x) % 64 ≡ 0))
-fill_step numbers lanes count i x all inside h is =
-    let n = length lanes in
-    let size : length (set lanes i x) ≡ n = length-set lanes i x in
-    let room : i < n = omega (arith, inside, h.1.0) in (
-      ap (λ xs. set xs i x) h.0 ∙ fill_next numbers n i x (omega (arith, inside, all)) room is ∙ ap (λ m. take (i + 1) numbers ++ replicate (m - (i + 1)) 0) (sym size),
-      (omega (arith, size, h.1.0), ap (λ m. m % 64) size ∙ h.1.1),
-    )
+-- one number more has its lane
+pub lanes_more : {A : Type 0} (value : A → ℕ) (numbers : List ℕ) (lanes : List A) (lane : A) (i : ℕ) → map value lanes ≡ take i numbers → i < length numbers → value lane ≡ get_or numbers i 0 → map value (lanes ++ lane ∷ []) ≡ take (i + 1) numbers
+lanes_more value numbers lanes lane i before inside is =
+    map-append value lanes (lane ∷ []) ∙ ap₂ (λ xs x. xs ++ x ∷ []) before is ∙ sym (take_more numbers i 0 inside)
 
--- all numbers stand in their lanes
-pub filled : (numbers lanes : List ℕ) (n i : ℕ) → lanes ≡ take i numbers ++ replicate (n - i) 0 → length numbers ≡ i → i ≤ n → n % 64 ≡ 0 → AreLanesOf numbers lanes
-filled numbers lanes n i is size room whole =
-    let all : take i numbers ≡ numbers = take_all i numbers (omega (arith, size)) in
-    let rest : List ℕ = replicate (n - i) 0 in
-    let laid : lanes ≡ numbers ++ rest = is ∙ ap (λ xs. xs ++ rest) all in
-    let long : length lanes ≡ n = ap length laid ∙ (let e : length (numbers ++ rest) ≡ n = omega (arith, length-append numbers rest, length-replicate {A = ℕ} (n - i) 0, size, room) in e) in
-    record {
-      first = ap (take (length numbers)) laid ∙ take-append_seam numbers rest;
-      enough = omega (arith, long, size, room);
-      whole = ap (λ k. k % 64) long ∙ whole;
-    }
+-- all numbers have their lanes, and the last stretch is filled up
+pub lanes_filled : {A : Type 0} (value : A → ℕ) (numbers : List ℕ) (lanes : List A) (lane : A) (len count i : ℕ) → map value lanes ≡ take i numbers → length numbers ≡ i → len ≡ length lanes → i ≤ count → count % 64 ≡ 0 → AreLanesOf numbers (map value (take count lanes ++ replicate (count - len) lane))
+lanes_filled value numbers lanes lane len count i before size long room whole =
+    let all : map value lanes ≡ numbers = before ∙ take_all i numbers (omega (arith, size)) in
+    let same : length lanes ≡ i = sym (length-map lanes value) ∙ ap length all ∙ size in
+    let more = replicate (count - len) lane in
+    let rest = map value more in
+    let laid : map value (take count lanes ++ more) ≡ numbers ++ rest = ap (λ xs. map value (xs ++ more)) (take_all count lanes (omega (arith, same, room))) ∙ map-append value lanes more ∙ ap (λ xs. xs ++ rest) all in
+    let filled : length (numbers ++ rest) ≡ count = omega (arith, length-append numbers rest, length-map more value, length-replicate (count - len) lane, size, long, same, room) in
+    rw laid (record {
+      first = take-append_seam numbers rest;
+      enough = omega (arith, filled, size, room);
+      whole = ap (λ k. k % 64) filled ∙ whole;
+    })
 
 -- how far each number is above a least one, wrapping
 abbrev above_by : ℕ → ℕ → ℕ → ℕ
@@ -65,25 +66,25 @@ marks-are w numbers low span long =
     ∙ ap mask_l (map-map (λ x. leb x span) (λ x. above x low) numbers)
 
 -- one comparison tells of both bounds
-abbrev IsComparison : ℕ → Type 0
-IsComparison m = (x low high : ℕ) → low ≤ high → high < m → x < m → leb (above_by m x low) (high - low) ≡ (nat_le low x && nat_le x high)
-
-compare_32 : IsComparison (2 ^ 32)
-compare_32 x low high order fits small = grind arith
-
-compare_64 : IsComparison (2 ^ 64)
-compare_64 x low high order fits small = grind arith
+compare : (m x low high : ℕ) → low ≤ high → high < m → x < m → leb (above_by m x low) (high - low) ≡ (nat_le low x && nat_le x high)
+compare m x low high order fits small = elim (cases_lt x low) [
+  | inl under ↦ (let wraps : above_by m x low ≡ x + (m - low) = mod-eq_of_lt (omega (arith, under, order, fits)) in grind arith)
+  | inr over ↦ (
+      let around : x + (m - low) ≡ (x - low) + m * 1 = omega (arith, over, order, fits) in
+      let plain : above_by m x low ≡ x - low = ap (λ n. n % m) around ∙ add-mul-mod_self_left (x - low) m 1 ∙ mod-eq_of_lt (omega (arith, small)) in
+      grind arith)
+]
 
 marked_one : (b : Bool) → (cond b 1 0 == 1) ≡ b
 marked_one true = refl
 marked_one false = refl
 
-marks-within : (m : ℕ) → IsComparison m → (numbers : List ℕ) (low high : ℕ) → length numbers ≡ 64 → low ≤ high → high < m → ((k : ℕ) → get_or numbers k 0 < m) → AreMarked numbers low high (mask_l (map (λ x. leb (above_by m x low) (high - low)) numbers))
-marks-within m one numbers low high long order fits small k lt =
+marks-within : (m : ℕ) → (numbers : List ℕ) (low high : ℕ) → length numbers ≡ 64 → low ≤ high → high < m → ((k : ℕ) → get_or numbers k 0 < m) → AreMarked numbers low high (mask_l (map (λ x. leb (above_by m x low) (high - low)) numbers))
+marks-within m numbers low high long order fits small k lt =
     let test = λ (x : ℕ). leb (above_by m x low) (high - low) in
     ap (λ n. n == 1) (bit_mask_l (map test numbers) k) ∙ marked_one (get_or (map test numbers) k false)
     ∙ get_or-map test numbers k 0 false (omega (arith, long, lt))
-    ∙ one (get_or numbers k 0) low high order fits (small k)
+    ∙ compare m (get_or numbers k 0) low high order fits (small k)
 
 -- the first 64 of more numbers
 AreMarked-first : (numbers : List ℕ) (low high marks : ℕ) → AreMarked (take 64 numbers) low high marks → AreMarked numbers low high marks
@@ -99,34 +100,34 @@ small_first numbers m small k = elim (cases_lt k 64) [
 ]
 
 -- what a comparison of all lanes gives
-compared : (w : Width) → IsComparison (2 ^ bits w) → (numbers : List ℕ) (low high : ℕ) → 64 ≤ length numbers → low ≤ high → high < 2 ^ bits w → ((k : ℕ) → get_or numbers k 0 < 2 ^ bits w)
+compared : (w : Width) → (numbers : List ℕ) (low high : ℕ) → 64 ≤ length numbers → low ≤ high → high < 2 ^ bits w → ((k : ℕ) → get_or numbers k 0 < 2 ^ bits w)
     → AreMarked numbers low high (mask_l (map (top (hbits w)) (zip2 (λ a b. cond (leb a b) (2 ^ bits w - 1) 0) (zip2 (above_by (2 ^ bits w)) (take 64 numbers) (replicate 64 low)) (replicate 64 (high - low)))) % 2 ^ 64)
-compared w one numbers low high long order fits small =
+compared w numbers low high long order fits small =
     let first = take 64 numbers in
     let size : length first ≡ 64 = length-take-le 64 numbers long in
-    AreMarked-first numbers low high _ (subst (λ m. AreMarked first low high m) (sym (marks-are w first low (high - low) size)) (marks-within (2 ^ bits w) one first low high size order fits (small_first numbers (2 ^ bits w) small)))
-
-pub compared_32 : (numbers : List ℕ) (low high : ℕ) → 64 ≤ length numbers → low ≤ high → high < 2 ^ 32 → ((k : ℕ) → get_or numbers k 0 < 2 ^ 32)
-    → AreMarked numbers low high (mask_l (map (top 31) (zip2 (λ a b. cond (leb a b) (2 ^ 32 - 1) 0) (zip2 (above_by (2 ^ 32)) (take 64 numbers) (replicate 64 low)) (replicate 64 (high - low)))) % 2 ^ 64)
-compared_32 = compared w32 compare_32
-
-pub compared_64 : (numbers : List ℕ) (low high : ℕ) → 64 ≤ length numbers → low ≤ high → high < 2 ^ 64 → ((k : ℕ) → get_or numbers k 0 < 2 ^ 64)
-    → AreMarked numbers low high (mask_l (map (top 63) (zip2 (λ a b. cond (leb a b) (2 ^ 64 - 1) 0) (zip2 (above_by (2 ^ 64)) (take 64 numbers) (replicate 64 low)) (replicate 64 (high - low)))) % 2 ^ 64)
-compared_64 = compared w64 compare_64
+    AreMarked-first numbers low high _ (subst (λ m. AreMarked first low high m) (sym (marks-are w first low (high - low) size)) (marks-within (2 ^ bits w) first low high size order fits (small_first numbers (2 ^ bits w) small)))
 
 -- a bound above all numbers
-pub bounded : (numbers : List ℕ) (low high bound other marks : ℕ) → other ≡ min high bound → ((k : ℕ) → get_or numbers k 0 ≤ bound) → AreMarked numbers low other marks → AreMarked numbers low high marks
+bounded : (numbers : List ℕ) (low high bound other marks : ℕ) → other ≡ min high bound → ((k : ℕ) → get_or numbers k 0 ≤ bound) → AreMarked numbers low other marks → AreMarked numbers low high marks
 bounded numbers low high bound other marks is most h k lt =
     let x = get_or numbers k 0 in
     let same : (nat_le low x && nat_le x other) ≡ (nat_le low x && nat_le x high) = (let le : x ≤ bound = most k in grind arith) in
     h k lt ∙ same
 
+-- what a comparison of all lanes gives, where the greater bound is cut to the greatest number of a lane
+pub marked_lanes : (w : Width) → (numbers : List ℕ) (low high bound : ℕ) → 64 ≤ length numbers → low ≤ high → low < 2 ^ bits w → bound ≡ min high (2 ^ bits w - 1) → ((k : ℕ) → get_or numbers k 0 < 2 ^ bits w)
+    → AreMarked (map (λ (x : ℕ). x) numbers) low high (mask_l (map (top (hbits w)) (zip2 (λ a b. cond (leb a b) (2 ^ bits w - 1) 0) (zip2 (above_by (2 ^ bits w)) (take 64 numbers) (replicate 64 low)) (replicate 64 (bound - low)))) % 2 ^ 64)
+marked_lanes w numbers low high bound long order fits cut small =
+    rw (map-id numbers)
+    (bounded numbers low high (2 ^ bits w - 1) bound _ cut (λ k. omega (arith, small k))
+    (compared w numbers low bound long (omega (arith, order, fits, cut)) (omega (arith, fits, cut)) small))
+
 -- no number is within bounds that are above all, or that have nothing between them
-pub none_above : (numbers : List ℕ) (low high bound : ℕ) → ((k : ℕ) → get_or numbers k 0 ≤ bound) → bound < low → AreMarked numbers low high 0
-none_above numbers low high bound most over k lt =
+pub none_above : (numbers : List ℕ) (low high m : ℕ) → ((k : ℕ) → get_or numbers k 0 < m) → m ≤ low → AreMarked (map (λ (x : ℕ). x) numbers) low high 0
+none_above numbers low high m small over = subst (λ xs. AreMarked xs low high 0) (sym (map-id numbers)) (λ k lt.
     let x = get_or numbers k 0 in
-    let under : (nat_le low x && nat_le x high) ≡ false = (let le : x ≤ bound = most k in grind arith) in
-    ap (λ n. n == 1) (bit_at-zero k) ∙ sym under
+    let under : (nat_le low x && nat_le x high) ≡ false = (let le : x < m = small k in grind arith) in
+    ap (λ n. n == 1) (bit_at-zero k) ∙ sym under)
 
 pub none_between : (numbers : List ℕ) (low high : ℕ) → high < low → AreMarked numbers low high 0
 none_between numbers low high under k lt =

@@ -3,10 +3,11 @@ use Rattle.std.specs.Prelude.{◌≡◌, ℕ, ◌%◌, ◌<◌, ◌≤◌, ◌==
 use Rattle.std.specs.Prelude.{take, slice_index, slice_index_or, if◌then◌else◌}
 use Rattle.std.specs.Int.{bit_at}
 use Rattle.fts_column.specs.declared.lanes.Lanes.{Lanes}
-use Rattle.fts_column.specs.declared.lanes.Lanes.TheVariants.{Words, Longs}
+use Rattle.fts_column.specs.declared.lanes.Lanes.TheVariants.{Bytes, Words, Longs}
 
 -- the numbers in the lanes
 abbrev pub in_lanes : Lanes → List ℕ
+in_lanes (Bytes list) = list.items
 in_lanes (Words list) = list.items
 in_lanes (Longs list) = list.items
 

@@ -160,9 +160,7 @@ impl Column {
             return;
         }
         let (least, _) = self.range.unwrap_or((0, 0));
-        for place in 0..64 {
-            out[place] = least.wrapping_add(self.lanes.at(from + place));
-        }
+        self.lanes.write(from, least, out);
     }
 
     /// Marks those of the 64 documents from `from` on, a multiple of 64, whose value is `low` or more and `high` or

@@ -1,49 +1,52 @@
 // Documents counted by the numbers in their lanes. Which lanes these are is asked once for many documents, so that each
 // costs a load, a bit where some have no number, and an addition.
-ghost use Rattle.std.specs.Prelude.{◌≡◌, ℕ, ◌+◌, ◌%◌, ◌^◌, ◌<◌, ◌≤◌, All, length, slice_get, slice_index, slice_set};
+ghost use Rattle.std.specs.Prelude.{◌≡◌, ℕ, ◌+◌, ◌%◌, ◌^◌, ◌<◌, ◌≤◌, length, map, slice_get, slice_index};
+ghost use Rattle.std.specs.Prelude.{slice_set};
 ghost use Rattle.fts_column.specs.Counting.{AreCounted};
 ghost use Rattle.fts_column.specs.Lanes.{number_at};
 
+use crate::lane::Lane;
 use fts_bits::Bits;
 
-/// Counts documents by their numbers, where each has one.
-pub(crate) fn count_words(words: &[u32], docs: &[u32], counts: &mut [u64])
-    requires { All (λ x. x < length counts.old) words.now }
-    ensures { AreCounted (slice_get words.now) docs.now counts.old counts.new }
+/// Counts documents by their numbers: each whose bit is set counts one more at the place that its number is.
+pub(crate) fn count_lanes<L: Lane>(lanes: &[L], present: &Bits, docs: &[u32], counts: &mut [u64])
+    requires enough { length present.now ≤ length lanes.now }
+    requires within { (doc : ℕ) → doc < length present.now
+        → slice_index (map L.value lanes.now) doc < length counts.old }
+    ensures { AreCounted (number_at present.now (map L.value lanes.now)) docs.now counts.old counts.new }
+{
+    let len = present.len();
+    if present.count_ones() == len {
+        count_all(&lanes[..len], docs, counts);
+    } else {
+        count_present(lanes, present, docs, counts);
+    }
+}
+
+// Counts documents by their numbers, where each has one.
+fn count_all<L: Lane>(lanes: &[L], docs: &[u32], counts: &mut [u64])
+    requires { (doc : ℕ) → doc < length lanes.now → slice_index (map L.value lanes.now) doc < length counts.old }
+    ensures { AreCounted (slice_get (map L.value lanes.now)) docs.now counts.old counts.new }
 {
     for doc in docs {
-        if let Some(word) = words.get(*doc as usize) {
-            count_one(counts, *word as usize);
+        if let Some(lane) = lanes.get(*doc as usize) {
+            count_one(counts, lane.number() as usize);
         }
     }
 }
 
-/// Counts documents by their numbers, where some may have none.
-pub(crate) fn count_present_words(words: &[u32], present: &Bits, docs: &[u32], counts: &mut [u64])
-    requires enough { length present.now ≤ length words.now }
-    requires within { (doc : ℕ) → doc < length present.now → slice_index words.now doc < length counts.old }
-    ensures { AreCounted (number_at present.now words.now) docs.now counts.old counts.new }
+// Counts documents by their numbers, where some may have none.
+fn count_present<L: Lane>(lanes: &[L], present: &Bits, docs: &[u32], counts: &mut [u64])
+    requires enough { length present.now ≤ length lanes.now }
+    requires within { (doc : ℕ) → doc < length present.now
+        → slice_index (map L.value lanes.now) doc < length counts.old }
+    ensures { AreCounted (number_at present.now (map L.value lanes.now)) docs.now counts.old counts.new }
 {
     let len = present.len();
     for doc in docs {
         let doc = *doc as usize;
         if doc < len && present.get(doc) {
-            count_one(counts, words[doc] as usize);
-        }
-    }
-}
-
-/// The same, by numbers of twice the bits.
-pub(crate) fn count_present_longs(longs: &[u64], present: &Bits, docs: &[u32], counts: &mut [u64])
-    requires enough { length present.now ≤ length longs.now }
-    requires within { (doc : ℕ) → doc < length present.now → slice_index longs.now doc < length counts.old }
-    ensures { AreCounted (number_at present.now longs.now) docs.now counts.old counts.new }
-{
-    let len = present.len();
-    for doc in docs {
-        let doc = *doc as usize;
-        if doc < len && present.get(doc) {
-            count_one(counts, longs[doc] as usize);
+            count_one(counts, lanes[doc].number() as usize);
         }
     }
 }

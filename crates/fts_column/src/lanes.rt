@@ -1,24 +1,24 @@
 // Numbers in lanes of one width: each is read by one load, and 64 are compared at once.
-ghost use Rattle.std.specs.Prelude.{◌≡◌, ℕ, ◌+◌, ◌-◌, ◌*◌, ◌%◌, ◌^◌, ◌<◌, ◌≤◌, All, IfOk, IfSome, length};
-ghost use Rattle.std.specs.Prelude.{slice_index};
+ghost use Rattle.std.specs.Prelude.{◌≡◌, ℕ, ◌+◌, ◌%◌, ◌^◌, ◌<◌, ◌≤◌, IfOk, length, map, min, slice_index};
 ghost use Rattle.fts_column.specs.Column.{HaveOffsets, offsets};
-ghost use Rattle.fts_column.specs.Lanes.{AreLanesOf, AreMarked, in_lanes};
+ghost use Rattle.fts_column.specs.Lanes.{AreLanesOf};
 
 use crate::column::offset;
-use crate::counting::{count_present_longs, count_present_words, count_words};
+use crate::counting::count_lanes;
+use crate::lane::Lane;
 use fts_bits::Bits;
 use std::alloc::{AllocError, Global};
-use std::simd::prelude::*;
 
-/// Numbers in lanes of 32 or 64 bits, in whole stretches of 64.
+/// Numbers in lanes of 8, 32 or 64 bits, in whole stretches of 64.
 #[derive(Drop)]
 pub(crate) enum Lanes {
+    Bytes(Vec<u8>),
     Words(Vec<u32>),
     Longs(Vec<u64>),
 }
 
 impl Lanes {
-    ghost use Rattle.std.specs.Prelude.{◌≡◌, ℕ, ◌+◌, ◌<◌, ◌≤◌, IfOk, drop, length, slice_index};
+    ghost use Rattle.std.specs.Prelude.{◌≡◌, ℕ, ◌+◌, ◌%◌, ◌^◌, ◌<◌, ◌≤◌, IfOk, drop, length, slice_index};
     ghost use Rattle.fts_column.specs.Column.{HaveOffsets, offsets};
     ghost use Rattle.fts_column.specs.Counting.{AreCounted};
     ghost use Rattle.fts_column.specs.Lanes.{AreLanesOf, AreMarked, in_lanes, number_at};
@@ -33,10 +33,12 @@ impl Lanes {
         requires { HaveOffsets least width values.now }
         ensures { IfOk result (λ lanes. AreLanesOf (offsets least values.now) (in_lanes lanes)) }
     {
-        if width <= 32 {
-            Ok(Lanes::Words(words_of(alloc, width, least, values)?))
+        if width <= 8 {
+            Ok(Lanes::Bytes(lanes_of(alloc, width, least, values)?))
+        } else if width <= 32 {
+            Ok(Lanes::Words(lanes_of(alloc, width, least, values)?))
         } else {
-            Ok(Lanes::Longs(longs_of(alloc, least, values)?))
+            Ok(Lanes::Longs(lanes_of(alloc, width, least, values)?))
         }
     }
 
@@ -47,8 +49,25 @@ impl Lanes {
         ensures { result ≡ slice_index (in_lanes self.now) place }
     {
         match self {
+            Lanes::Bytes(bytes) => u64::from(bytes[place]),
             Lanes::Words(words) => u64::from(words[place]),
             Lanes::Longs(longs) => longs[place],
+        }
+    }
+
+    /// Writes how much the 64 numbers from `from` on are with `least` added to each, modulo 2^64.
+    #[inline]
+    pub(crate) fn write(&self, from: usize, least: u64, out: &mut [u64])
+        requires inside { from + 64 ≤ length (in_lanes self.now) }
+        requires long { length out.old ≡ 64 }
+        ensures values { (i : ℕ) → i < 64
+            → slice_index out.new i ≡ (least + slice_index (drop from (in_lanes self.now)) i) % 2 ^ 64 }
+        ensures long { length out.new ≡ 64 }
+    {
+        match self {
+            Lanes::Bytes(bytes) => write_lanes(&bytes[from..], least, out),
+            Lanes::Words(words) => write_lanes(&words[from..], least, out),
+            Lanes::Longs(longs) => write_lanes(&longs[from..], least, out),
         }
     }
 
@@ -62,8 +81,9 @@ impl Lanes {
             return 0;
         }
         match self {
-            Lanes::Words(words) => words_within(&words[from..], low, high),
-            Lanes::Longs(longs) => longs_within(&longs[from..], low, high),
+            Lanes::Bytes(bytes) => Lane::within(&bytes[from..], low, high),
+            Lanes::Words(words) => Lane::within(&words[from..], low, high),
+            Lanes::Longs(longs) => Lane::within(&longs[from..], low, high),
         }
     }
 
@@ -74,15 +94,31 @@ impl Lanes {
             → slice_index (in_lanes self.now) doc < length counts.old }
         ensures { AreCounted (number_at present.now (in_lanes self.now)) docs.now counts.old counts.new }
     {
-        let len = present.len();
         match self {
-            Lanes::Words(words) if present.count_ones() == len => {
-                count_words(&words[..len], docs, counts);
-            }
-            Lanes::Words(words) => count_present_words(words, present, docs, counts),
-            Lanes::Longs(longs) => count_present_longs(longs, present, docs, counts),
+            Lanes::Bytes(bytes) => count_lanes(bytes.as_slice(), present, docs, counts),
+            Lanes::Words(words) => count_lanes(words.as_slice(), present, docs, counts),
+            Lanes::Longs(longs) => count_lanes(longs.as_slice(), present, docs, counts),
         }
     }
+}
+
+fn lanes_of<L: Lane>(
+    alloc: Global,
+    width: u32,
+    least: u64,
+    values: &[Option<u64>],
+) -> Result<Vec<L>, AllocError>
+    requires wide { min width 64 ≤ L.bits }
+    requires offsets { HaveOffsets least width values.now }
+    ensures { IfOk result (λ list. AreLanesOf (offsets least values.now) (map L.value list.items)) }
+{
+    let count = lane_count(values.len());
+    let mut lanes = Vec::with_capacity(alloc, count)?;
+    for value in values {
+        lanes.push(L::of(offset(least, *value)))?;
+    }
+    lanes.resize(count, L::of(0))?;
+    Ok(lanes)
 }
 
 // As many lanes as there are numbers, up to the end of a stretch.
@@ -94,62 +130,16 @@ fn lane_count(numbers: usize) -> usize
     (numbers + 63) / 64 * 64
 }
 
-fn words_of(
-    alloc: Global,
-    width: u32,
-    least: u64,
-    values: &[Option<u64>],
-) -> Result<Vec<u32>, AllocError>
-    requires narrow { width ≤ 32 }
-    requires offsets { HaveOffsets least width values.now }
-    ensures { IfOk result (λ list. AreLanesOf (offsets least values.now) list.items) }
-{
-    let mut words = vec![in alloc; 0u32; lane_count(values.len())]?;
-    for (doc, value) in values.iter().enumerate() {
-        words[doc] = offset(least, *value) as u32;
-    }
-    Ok(words)
-}
-
-fn longs_of(alloc: Global, least: u64, values: &[Option<u64>]) -> Result<Vec<u64>, AllocError>
-    requires few { length values.now ≤ 2 ^ 32 }
-    requires above { All (λ v. IfSome v (λ x. least ≤ x)) values.now }
-    ensures { IfOk result (λ list. AreLanesOf (offsets least values.now) list.items) }
-{
-    let mut longs = vec![in alloc; 0u64; lane_count(values.len())]?;
-    for (doc, value) in values.iter().enumerate() {
-        longs[doc] = offset(least, *value);
-    }
-    Ok(longs)
-}
-
-// The greatest number of a lane of 32 bits.
-const WORD_MAX: u64 = 4_294_967_295;
-
-// Marks those of the first 64 numbers that lie within the bounds.
+// Writes the first 64 numbers with `least` added to each, modulo 2^64.
 #[inline]
-fn words_within(numbers: &[u32], low: u64, high: u64) -> u64
-    requires long { 64 ≤ length numbers.now }
-    requires order { low ≤ high }
-    ensures { AreMarked numbers.now low high result }
+fn write_lanes<L: Lane>(lanes: &[L], least: u64, out: &mut [u64])
+    requires enough { 64 ≤ length lanes.now }
+    requires long { length out.old ≡ 64 }
+    ensures values { (i : ℕ) → i < 64
+        → slice_index out.new i ≡ (least + slice_index (map L.value lanes.now) i) % 2 ^ 64 }
+    ensures long { length out.new ≡ 64 }
 {
-    if low > WORD_MAX {
-        return 0;
+    for place in 0..64 {
+        out[place] = least.wrapping_add(lanes[place].number());
     }
-    let first = low as u32;
-    let span = (high.min(WORD_MAX) - low) as u32;
-    // What is below the first wraps, so one comparison tells of both bounds.
-    let above = u32x64::from_slice(numbers) - u32x64::splat(first);
-    above.simd_le(u32x64::splat(span)).to_bitmask()
-}
-
-// The same, of twice the bits.
-#[inline]
-fn longs_within(numbers: &[u64], low: u64, high: u64) -> u64
-    requires long { 64 ≤ length numbers.now }
-    requires order { low ≤ high }
-    ensures { AreMarked numbers.now low high result }
-{
-    let above = u64x64::from_slice(numbers) - u64x64::splat(low);
-    above.simd_le(u64x64::splat(high - low)).to_bitmask()
 }

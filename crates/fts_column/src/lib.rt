@@ -4,6 +4,7 @@
 mod blocks;
 mod column;
 mod counting;
+mod lane;
 mod lanes;
 pub mod laws;
 
