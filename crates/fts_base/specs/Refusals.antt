@@ -11,98 +11,55 @@ use Rattle.fts_base.specs.declared.refusal.Refusal.TheVariants.{StaleBatch, Othe
 use Rattle.fts_base.specs.declared.refusal.Refusal.TheVariants.{NoSegments, SourceGone, BadJson, BadCommand, NoSchema}
 use Rattle.fts_base.specs.declared.refusal.Refusal.TheVariants.{SchemaTwice, LineTooLong, NoReader, TooManyTexts}
 
--- the number of a refusal
-abbrev pub number_of : Refusal → ℕ
-number_of Memory = 0
--- of schemas
-number_of NoFields = 1
-number_of TooManyFields = 2
-number_of BadName = 3
-number_of NameTwice = 4
-number_of BadDefault = 5
--- of documents, terms and requests
-number_of NotAnObject = 6
-number_of UnknownField = 7
-number_of WrongKind = 8
-number_of TextTooLong = 9
-number_of KeywordTooLong = 10
-number_of BadLimit = 11
-number_of NotANumberField = 12
+-- the number of a refusal, and its name, as scripts print it
+abbrev pub row_of : Refusal → ℕ × List ℕ
+row_of Memory = (0, codes "Memory")
+-- of schemas, documents, terms and requests
+row_of NoFields = (1, codes "NoFields")
+row_of TooManyFields = (2, codes "TooManyFields")
+row_of BadName = (3, codes "BadName")
+row_of NameTwice = (4, codes "NameTwice")
+row_of BadDefault = (5, codes "BadDefault")
+row_of NotAnObject = (6, codes "NotAnObject")
+row_of UnknownField = (7, codes "UnknownField")
+row_of WrongKind = (8, codes "WrongKind")
+row_of TextTooLong = (9, codes "TextTooLong")
+row_of KeywordTooLong = (10, codes "KeywordTooLong")
+row_of BadLimit = (11, codes "BadLimit")
+row_of NotANumberField = (12, codes "NotANumberField")
 -- of segments and queries
-number_of SegmentFull = 13
-number_of TooLong = 14
-number_of (Syntax _) = 15
-number_of TooDeep = 16
-number_of BadNumber = 17
-number_of RangeOnText = 18
-number_of NoDefaultField = 19
-number_of AllNegative = 20
+row_of SegmentFull = (13, codes "SegmentFull")
+row_of TooLong = (14, codes "TooLong")
+row_of (Syntax _) = (15, codes "Syntax")
+row_of TooDeep = (16, codes "TooDeep")
+row_of BadNumber = (17, codes "BadNumber")
+row_of RangeOnText = (18, codes "RangeOnText")
+row_of NoDefaultField = (19, codes "NoDefaultField")
+row_of AllNegative = (20, codes "AllNegative")
 -- of merges, rounds and commits
-number_of TooLarge = 21
-number_of RoundOpen = 22
-number_of StampsUsedUp = 23
-number_of LaneFull = 24
-number_of (LaneMissing _) = 25
-number_of StaleBatch = 26
-number_of (OtherSchema _) = 27
+row_of TooLarge = (21, codes "TooLarge")
+row_of RoundOpen = (22, codes "RoundOpen")
+row_of StampsUsedUp = (23, codes "StampsUsedUp")
+row_of LaneFull = (24, codes "LaneFull")
+row_of (LaneMissing _) = (25, codes "LaneMissing")
+row_of StaleBatch = (26, codes "StaleBatch")
+row_of (OtherSchema _) = (27, codes "OtherSchema")
 -- of segments that are named
-number_of (UnknownSegment _) = 28
-number_of (SegmentTwice _) = 29
-number_of NoSegments = 30
-number_of (SourceGone _) = 31
+row_of (UnknownSegment _) = (28, codes "UnknownSegment")
+row_of (SegmentTwice _) = (29, codes "SegmentTwice")
+row_of NoSegments = (30, codes "NoSegments")
+row_of (SourceGone _) = (31, codes "SourceGone")
 -- of lines and of readers
-number_of BadJson = 32
-number_of BadCommand = 33
-number_of NoSchema = 34
-number_of SchemaTwice = 35
-number_of LineTooLong = 36
-number_of NoReader = 37
-number_of TooManyTexts = 38
+row_of BadJson = (32, codes "BadJson")
+row_of BadCommand = (33, codes "BadCommand")
+row_of NoSchema = (34, codes "NoSchema")
+row_of SchemaTwice = (35, codes "SchemaTwice")
+row_of LineTooLong = (36, codes "LineTooLong")
+row_of NoReader = (37, codes "NoReader")
+row_of TooManyTexts = (38, codes "TooManyTexts")
 
--- its name, as scripts print it
+abbrev pub number_of : Refusal → ℕ
+number_of refusal = (row_of refusal).0
+
 abbrev pub name_of : Refusal → List ℕ
-name_of Memory = codes "Memory"
--- of schemas
-name_of NoFields = codes "NoFields"
-name_of TooManyFields = codes "TooManyFields"
-name_of BadName = codes "BadName"
-name_of NameTwice = codes "NameTwice"
-name_of BadDefault = codes "BadDefault"
--- of documents, terms and requests
-name_of NotAnObject = codes "NotAnObject"
-name_of UnknownField = codes "UnknownField"
-name_of WrongKind = codes "WrongKind"
-name_of TextTooLong = codes "TextTooLong"
-name_of KeywordTooLong = codes "KeywordTooLong"
-name_of BadLimit = codes "BadLimit"
-name_of NotANumberField = codes "NotANumberField"
--- of segments and queries
-name_of SegmentFull = codes "SegmentFull"
-name_of TooLong = codes "TooLong"
-name_of (Syntax _) = codes "Syntax"
-name_of TooDeep = codes "TooDeep"
-name_of BadNumber = codes "BadNumber"
-name_of RangeOnText = codes "RangeOnText"
-name_of NoDefaultField = codes "NoDefaultField"
-name_of AllNegative = codes "AllNegative"
--- of merges, rounds and commits
-name_of TooLarge = codes "TooLarge"
-name_of RoundOpen = codes "RoundOpen"
-name_of StampsUsedUp = codes "StampsUsedUp"
-name_of LaneFull = codes "LaneFull"
-name_of (LaneMissing _) = codes "LaneMissing"
-name_of StaleBatch = codes "StaleBatch"
-name_of (OtherSchema _) = codes "OtherSchema"
--- of segments that are named
-name_of (UnknownSegment _) = codes "UnknownSegment"
-name_of (SegmentTwice _) = codes "SegmentTwice"
-name_of NoSegments = codes "NoSegments"
-name_of (SourceGone _) = codes "SourceGone"
--- of lines and of readers
-name_of BadJson = codes "BadJson"
-name_of BadCommand = codes "BadCommand"
-name_of NoSchema = codes "NoSchema"
-name_of SchemaTwice = codes "SchemaTwice"
-name_of LineTooLong = codes "LineTooLong"
-name_of NoReader = codes "NoReader"
-name_of TooManyTexts = codes "TooManyTexts"
+name_of refusal = (row_of refusal).1

@@ -104,93 +104,67 @@ impl Refusal {
     pub fn number(&self) -> u8
         ensures { result ≡ number_of self.now }
     {
-        match self {
-            Refusal::Memory => 0,
-            Refusal::NoFields => 1,
-            Refusal::TooManyFields => 2,
-            Refusal::BadName => 3,
-            Refusal::NameTwice => 4,
-            Refusal::BadDefault => 5,
-            Refusal::NotAnObject => 6,
-            Refusal::UnknownField => 7,
-            Refusal::WrongKind => 8,
-            Refusal::TextTooLong => 9,
-            Refusal::KeywordTooLong => 10,
-            Refusal::BadLimit => 11,
-            Refusal::NotANumberField => 12,
-            Refusal::SegmentFull => 13,
-            Refusal::TooLong => 14,
-            Refusal::Syntax(_) => 15,
-            Refusal::TooDeep => 16,
-            Refusal::BadNumber => 17,
-            Refusal::RangeOnText => 18,
-            Refusal::NoDefaultField => 19,
-            Refusal::AllNegative => 20,
-            Refusal::TooLarge => 21,
-            Refusal::RoundOpen => 22,
-            Refusal::StampsUsedUp => 23,
-            Refusal::LaneFull => 24,
-            Refusal::LaneMissing(_) => 25,
-            Refusal::StaleBatch => 26,
-            Refusal::OtherSchema(_) => 27,
-            Refusal::UnknownSegment(_) => 28,
-            Refusal::SegmentTwice(_) => 29,
-            Refusal::NoSegments => 30,
-            Refusal::SourceGone(_) => 31,
-            Refusal::BadJson => 32,
-            Refusal::BadCommand => 33,
-            Refusal::NoSchema => 34,
-            Refusal::SchemaTwice => 35,
-            Refusal::LineTooLong => 36,
-            Refusal::NoReader => 37,
-            Refusal::TooManyTexts => 38,
-        }
+        self.row().0
     }
 
     /// The name of the cause, without what it carries.
     pub fn name(&self) -> &'static str
         ensures { result.now ≡ name_of self.now }
     {
+        self.row().1
+    }
+
+    // The number and the name.
+    fn row(&self) -> (u8, &'static str)
+        ensures number { result.0 ≡ number_of self.now }
+        ensures name { result.1.now ≡ name_of self.now }
+    {
         match self {
-            Refusal::Memory => "Memory",
-            Refusal::NoFields => "NoFields",
-            Refusal::TooManyFields => "TooManyFields",
-            Refusal::BadName => "BadName",
-            Refusal::NameTwice => "NameTwice",
-            Refusal::BadDefault => "BadDefault",
-            Refusal::NotAnObject => "NotAnObject",
-            Refusal::UnknownField => "UnknownField",
-            Refusal::WrongKind => "WrongKind",
-            Refusal::TextTooLong => "TextTooLong",
-            Refusal::KeywordTooLong => "KeywordTooLong",
-            Refusal::BadLimit => "BadLimit",
-            Refusal::NotANumberField => "NotANumberField",
-            Refusal::SegmentFull => "SegmentFull",
-            Refusal::TooLong => "TooLong",
-            Refusal::Syntax(_) => "Syntax",
-            Refusal::TooDeep => "TooDeep",
-            Refusal::BadNumber => "BadNumber",
-            Refusal::RangeOnText => "RangeOnText",
-            Refusal::NoDefaultField => "NoDefaultField",
-            Refusal::AllNegative => "AllNegative",
-            Refusal::TooLarge => "TooLarge",
-            Refusal::RoundOpen => "RoundOpen",
-            Refusal::StampsUsedUp => "StampsUsedUp",
-            Refusal::LaneFull => "LaneFull",
-            Refusal::LaneMissing(_) => "LaneMissing",
-            Refusal::StaleBatch => "StaleBatch",
-            Refusal::OtherSchema(_) => "OtherSchema",
-            Refusal::UnknownSegment(_) => "UnknownSegment",
-            Refusal::SegmentTwice(_) => "SegmentTwice",
-            Refusal::NoSegments => "NoSegments",
-            Refusal::SourceGone(_) => "SourceGone",
-            Refusal::BadJson => "BadJson",
-            Refusal::BadCommand => "BadCommand",
-            Refusal::NoSchema => "NoSchema",
-            Refusal::SchemaTwice => "SchemaTwice",
-            Refusal::LineTooLong => "LineTooLong",
-            Refusal::NoReader => "NoReader",
-            Refusal::TooManyTexts => "TooManyTexts",
+            Refusal::Memory => (0, "Memory"),
+            // of schemas, documents, terms and requests
+            Refusal::NoFields => (1, "NoFields"),
+            Refusal::TooManyFields => (2, "TooManyFields"),
+            Refusal::BadName => (3, "BadName"),
+            Refusal::NameTwice => (4, "NameTwice"),
+            Refusal::BadDefault => (5, "BadDefault"),
+            Refusal::NotAnObject => (6, "NotAnObject"),
+            Refusal::UnknownField => (7, "UnknownField"),
+            Refusal::WrongKind => (8, "WrongKind"),
+            Refusal::TextTooLong => (9, "TextTooLong"),
+            Refusal::KeywordTooLong => (10, "KeywordTooLong"),
+            Refusal::BadLimit => (11, "BadLimit"),
+            Refusal::NotANumberField => (12, "NotANumberField"),
+            // of segments and queries
+            Refusal::SegmentFull => (13, "SegmentFull"),
+            Refusal::TooLong => (14, "TooLong"),
+            Refusal::Syntax(_) => (15, "Syntax"),
+            Refusal::TooDeep => (16, "TooDeep"),
+            Refusal::BadNumber => (17, "BadNumber"),
+            Refusal::RangeOnText => (18, "RangeOnText"),
+            Refusal::NoDefaultField => (19, "NoDefaultField"),
+            Refusal::AllNegative => (20, "AllNegative"),
+            // of rounds and their lanes
+            Refusal::LaneMissing(_) => (25, "LaneMissing"),
+            Refusal::LaneFull => (24, "LaneFull"),
+            Refusal::RoundOpen => (22, "RoundOpen"),
+            Refusal::StaleBatch => (26, "StaleBatch"),
+            Refusal::OtherSchema(_) => (27, "OtherSchema"),
+            // of merges and stamps
+            Refusal::TooLarge => (21, "TooLarge"),
+            Refusal::StampsUsedUp => (23, "StampsUsedUp"),
+            // of segments that are named
+            Refusal::UnknownSegment(_) => (28, "UnknownSegment"),
+            Refusal::SegmentTwice(_) => (29, "SegmentTwice"),
+            Refusal::NoSegments => (30, "NoSegments"),
+            Refusal::SourceGone(_) => (31, "SourceGone"),
+            // of lines and of readers
+            Refusal::BadJson => (32, "BadJson"),
+            Refusal::BadCommand => (33, "BadCommand"),
+            Refusal::NoSchema => (34, "NoSchema"),
+            Refusal::SchemaTwice => (35, "SchemaTwice"),
+            Refusal::LineTooLong => (36, "LineTooLong"),
+            Refusal::NoReader => (37, "NoReader"),
+            Refusal::TooManyTexts => (38, "TooManyTexts"),
         }
     }
 }
