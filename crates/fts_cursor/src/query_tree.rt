@@ -19,6 +19,7 @@ use crate::kept::Kept;
 use crate::phrase::{Member, PhraseCursor};
 use crate::position_cursor::PositionCursor;
 use crate::range::of_range;
+use crate::scan::ScanCursor;
 use crate::terms::{are_terms, cursor_over, of_terms};
 use crate::tree::Tree;
 use fts_bits::Bits;
@@ -196,11 +197,12 @@ fn place_of_least(numbers: &[usize]) -> usize
 }
 
 // Every document.
+#[inline(never)]
 fn of_all(alloc: Global, segment: &Segment) -> Result<Tree<'_>, AllocError>
     ensures { IfOk result (λ t. t.remaining ≡ segment_hits segment.now every) }
 {
     let docs = segment.docs();
-    Tree::scan(alloc, Kept::Every, docs, Some(docs))
+    Tree::scan(alloc, ScanCursor::new(Kept::Every, docs, Some(docs)))
 }
 
 // The documents that have a term.

@@ -17,6 +17,7 @@ ghost use Rattle.fts_segment.specs.Between.{AreBetween, count_between};
 
 use crate::kept::Kept;
 use crate::listed::ListedCursor;
+use crate::scan::ScanCursor;
 use crate::tree::Tree;
 use fts_bits::i64_to_u64;
 use fts_column::Column;
@@ -27,6 +28,7 @@ use std::alloc::{AllocError, Global};
 use std::ops::Bound;
 
 /// The documents with a value of a keyword or number field within bounds.
+#[inline(never)]
 pub(crate) fn of_range<'a>(
     alloc: Global,
     segment: &'a Segment,
@@ -40,7 +42,7 @@ pub(crate) fn of_range<'a>(
 {
     if is_open(lower) && is_open(upper) {
         let kept = Kept::Valued { segment, field };
-        return Tree::scan(alloc, kept, segment.docs(), None);
+        return Tree::scan(alloc, ScanCursor::new(kept, segment.docs(), None));
     }
     if segment.schema().kind(field).holds_numbers() {
         of_numbers(alloc, segment, field, lower, upper)
@@ -123,7 +125,7 @@ fn between<'a>(
         return Tree::listed(alloc, ListedCursor::of_lists(alloc, lists)?);
     }
     let kept = Kept::Within { column, low, high };
-    Tree::scan(alloc, kept, docs, Some(documents))
+    Tree::scan(alloc, ScanCursor::new(kept, docs, Some(documents)))
 }
 
 // The least ordinal that a lower bound of a text admits.

@@ -1,11 +1,10 @@
 // Cursors of queries within one another, each of which knows the first document that remains of it.
 ghost use Rattle.std.specs.Prelude.{◌≡◌, ℕ, ◌-◌, ◌^◌, ◌<◌, ◌≤◌, All, IfOk, [], MatchOption, true, drop, length, min};
-ghost use Rattle.std.specs.Prelude.{IfSome, slice_get, take};
+ghost use Rattle.std.specs.Prelude.{slice_get, take};
 ghost use Rattle.std.specs.List.Sorted.{IsStrictlyIncreasing};
 ghost use Rattle.fts_postings.specs.Bounds.{most_at};
 ghost use Rattle.fts_postings.specs.Conjoined.{bound_of, common_of, counts_of};
 ghost use Rattle.fts_postings.specs.Sets.{common, has, union, without};
-ghost use Rattle.fts_cursor.specs.Scans.{AreFor, kept_from};
 ghost use Rattle.fts_postings.specs.Remaining.{at_least};
 ghost use Rattle.fts_cursor.specs.Standing.{Walked, at_most};
 ghost use Rattle.fts_cursor.specs.TreeValues.{TreeContinues, all_most, all_openings, remains};
@@ -16,7 +15,6 @@ mod buffered_union;
 mod exclusion;
 mod intersection;
 
-use crate::kept::Kept;
 use crate::listed::ListedCursor;
 use crate::phrase::PhraseCursor;
 use crate::scan::ScanCursor;
@@ -93,28 +91,16 @@ impl<'a> Tree<'a> {
         requires { StandsAt doc node }
         ensures { IfOk result (λ t. t ≡ tree_value node.entry) }
     {
-        let node = Box::new(alloc, node)?;
-        Ok(Tree {
-            doc,
-            source: Source::Cursor(node),
-        })
+        let source = Source::Cursor(Box::new(alloc, node)?);
+        Ok(Tree { doc, source })
     }
 
-    /// Of those of so many documents that are kept, and how many these are, if that is known.
+    /// Of documents that are kept by their number alone.
     #[inline(never)]
-    pub(crate) fn scan(
-        alloc: Global,
-        kept: Kept<'a>,
-        docs: usize,
-        total: Option<usize>,
-    ) -> Result<Tree<'a>, AllocError>
-        requires few { docs ≤ 2 ^ 32 }
-        requires are_for { AreFor kept docs }
-        requires total { IfSome total (λ n. n ≡ length (kept_from kept 0 docs)) }
-        ensures remaining { IfOk result (λ t. t.remaining ≡ kept_from kept.entry 0 docs) }
+    pub(crate) fn scan(alloc: Global, scan: ScanCursor<'a>) -> Result<Tree<'a>, AllocError>
+        ensures remaining { IfOk result (λ t. t.remaining ≡ scan.entry) }
         ensures counts { IfOk result (λ t. (t.openings ≡ 0) × (t.bound ≡ at_most 0)) }
     {
-        let scan = ScanCursor::new(kept, docs, total);
         Tree::of(alloc, scan.doc(), Node::Scan(scan))
     }
 
@@ -123,8 +109,7 @@ impl<'a> Tree<'a> {
         ensures remaining { IfOk result (λ t. t.remaining ≡ listed) }
         ensures counts { IfOk result (λ t. (t.openings ≡ 0) × (t.bound ≡ at_most 0)) }
     {
-        let doc = listed.doc();
-        Tree::of(alloc, doc, Node::Listed(listed))
+        Tree::of(alloc, listed.doc(), Node::Listed(listed))
     }
 
     /// Of a list.
@@ -149,16 +134,14 @@ impl<'a> Tree<'a> {
         ensures openings { IfOk result (λ t. t.openings ≡ counts_of terms.entry) }
         ensures bound { IfOk result (λ t. t.bound ≡ bound_of terms.entry) }
     {
-        let doc = terms.doc();
-        Tree::of(alloc, doc, Node::Terms(terms))
+        Tree::of(alloc, terms.doc(), Node::Terms(terms))
     }
 
     /// Of a phrase.
     pub(crate) fn phrase(alloc: Global, phrase: PhraseCursor<'a>) -> Result<Tree<'a>, AllocError>
         ensures { IfOk result (λ t. t.remaining ≡ phrase.entry.remaining) }
     {
-        let doc = phrase.doc();
-        Tree::of(alloc, doc, Node::Phrase(phrase))
+        Tree::of(alloc, phrase.doc(), Node::Phrase(phrase))
     }
 
     /// Of what all have in common. The one that leads is best the one with the fewest documents.
@@ -304,24 +287,14 @@ impl<'a> Tree<'a> {
         let Source::Cursor(node) = &mut self.source else {
             return Some(0);
         };
-        match &mut **node {
-            Node::Scan(scan) => {
-                let count = scan.count();
-                self.doc = None;
-                Some(count)
-            }
-            Node::Postings(postings) => {
-                let count = postings.count();
-                self.doc = None;
-                Some(count)
-            }
-            Node::Or(buffered) => {
-                let count = count_gathered(buffered, self.doc);
-                self.doc = None;
-                Some(count)
-            }
-            _ => None,
-        }
+        let count = match &mut **node {
+            Node::Scan(scan) => scan.count(),
+            Node::Postings(postings) => postings.count(),
+            Node::Or(buffered) => count_gathered(buffered, self.doc),
+            _ => return None,
+        };
+        self.doc = None;
+        Some(count)
     }
 
     /// Takes the next 128 documents, or all where fewer remain: writes them to the front of `out`, and gives how many

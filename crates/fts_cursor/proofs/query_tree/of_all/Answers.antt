@@ -2,7 +2,7 @@ use Rattle.std.proofs.Common.{◌≡◌, ◌-◌, true, ap, length, ◌∙◌, a
 use Rattle.std.proofs.lemmas.Result.{IfOk-weaker}
 use Rattle.fts_model.specs.QueryValues.{every}
 use Rattle.fts_cursor.specs.Hits.{segment_hits}
-use Rattle.fts_cursor.specs.Scans.{keeps, kept_from}
+use Rattle.fts_cursor.specs.Scans.{keeps}
 use Rattle.fts_postings.specs.Windows.{passing}
 use Rattle.fts_cursor.specs.TreeValues.{TreeValue}
 use Rattle.fts_cursor.specs.declared.kept.Kept.TheVariants.{Every}
@@ -10,12 +10,12 @@ use Rattle.fts_cursor.proofs.HitsLemmas.{at_true, passing_are}
 use Rattle.fts_cursor.proofs.ScanLemmas.{length-every}
 use Rattle.fts_cursor.proofs.query_tree.of_all.Goals as goal
 
-pub scan-requires-clause-total : goal.scan-requires-clause-total
-scan-requires-clause-total c = omega (arith, length-every 0 (c.docs-docs.result - 0))
+pub new-requires-clause-total : goal.new-requires-clause-total
+new-requires-clause-total c = omega (arith, length-every 0 (c.docs-docs.result - 0))
 
 pub returns : goal.returns
 returns c =
     let documents = c.args.segment.now.documents in
     let all : c.docs-docs.result - 0 ≡ length documents = omega (arith, c.docs-docs.ensures.len) in
-    IfOk-weaker c.scan.result (λ (t : TreeValue). t.remaining ≡ kept_from Every 0 c.docs-docs.result) (λ t. t.remaining ≡ segment_hits c.args.segment.now every)
-    (λ t is. is ∙ ap (passing (keeps Every) 0) all ∙ passing_are (λ e. true) documents (keeps Every) (λ d inside. at_true documents d inside)) c.scan.ensures.remaining
+    IfOk-weaker c.scan.result (λ (t : TreeValue). t.remaining ≡ c.new.result) (λ t. t.remaining ≡ segment_hits c.args.segment.now every)
+    (λ t is. is ∙ c.new.ensures ∙ ap (passing (keeps Every) 0) all ∙ passing_are (λ e. true) documents (keeps Every) (λ d inside. at_true documents d inside)) c.scan.ensures.remaining

@@ -13,8 +13,8 @@ returns-then-documents-docs c =
     IfOk-weaker c.listed.result _ _ (λ t is. is ∙ lists_within c.args.column.now c.args.low c.args.high c.args.lists.now c.requires.lists c.in_ok-of_lists.field-0 listed.rises listed.sound listed.whole
     ∙ ap (passing (has_within c.args.low c.args.high c.args.column.now) 0) c.requires.size) c.listed.ensures.remaining
 
-pub scan-requires-clause-total : goal.scan-requires-clause-total
-scan-requires-clause-total c =
+pub new-requires-clause-total : goal.new-requires-clause-total
+new-requires-clause-total c =
     let column = c.args.column.now in
     let all : c.args.docs - 0 ≡ length column = omega (arith, c.requires.size) in
     c.requires.documents ∙ sym (ap (λ n. length (passing (has_within c.args.low c.args.high column) 0 n)) all ∙ count-within c.args.low c.args.high column)
@@ -22,4 +22,4 @@ scan-requires-clause-total c =
 pub returns : goal.returns
 returns c =
     let all : c.args.docs - 0 ≡ c.args.docs = omega arith in
-    IfOk-weaker c.scan.result _ _ (λ t is. is ∙ ap (passing (has_within c.args.low c.args.high c.args.column.now) 0) all) c.scan.ensures.remaining
+    IfOk-weaker c.scan.result _ _ (λ t is. is ∙ c.new.ensures ∙ ap (passing (has_within c.args.low c.args.high c.args.column.now) 0) all) c.scan.ensures.remaining

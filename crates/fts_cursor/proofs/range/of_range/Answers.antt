@@ -11,7 +11,7 @@ pub returns-then-is_open-2 : goal.returns-then-is_open-2
 returns-then-is_open-2 c =
     let segment = c.args.segment.now in
     let all : c.docs.result - 0 ≡ length segment.documents = omega (arith, c.docs.ensures.len) in
-    IfOk-weaker c.scan.result _ _ (λ t is. is ∙ ap (passing (has_value segment.documents c.args.field) 0) all
+    IfOk-weaker c.scan.result _ _ (λ t is. is ∙ c.new.ensures ∙ ap (passing (has_value segment.documents c.args.field) 0) all
     ∙ open_hits segment.documents c.args.field c.args.lower.now c.args.upper.now
     (not_true (is_bounded c.args.lower.now) (sym c.is_open.ensures ∙ c.if-is_open.true))
     (not_true (is_bounded c.args.upper.now) (sym c.is_open-then-is_open.ensures ∙ c.if-is_open-2.true))) c.scan.ensures.remaining
