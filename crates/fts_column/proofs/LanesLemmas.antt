@@ -3,7 +3,7 @@ use Rattle.std.proofs.Common.{◌≡◌, ℕ, zero, suc, ◌+◌, ◌-◌, ◌*�
 use Rattle.std.specs.Int.{bit_at}
 use Rattle.std.specs.Int.RustNames.{bit_and}
 use Rattle.std.proofs.lemmas.Bool.{cases_lt}
-use Rattle.std.proofs.lemmas.List.{get_or-drop, get_or-map, get_or-take, get_or_past, length-append, length-map, length-replicate, length-take, length-take-le, map-append, map-id, take_all, take_more}
+use Rattle.std.proofs.lemmas.List.{get_or-drop, get_or-map, get_or-take, get_or_past, length-append, length-map, length-replicate, length-take, length-take-le, map-append, take_all, take_more}
 use Rattle.std.proofs.lemmas.Nat.Bits.{bit_at_and, bit_at_lowest, bit_at-suc, bit_at-zero, bit_at-lt}
 use Rattle.std.proofs.lemmas.Simd.{bit_mask_l, bitmask_splat, map-map, zip2_splat}
 use Rattle.std.proofs.Math.Nat.{add-mul-mod_self_left}
@@ -116,18 +116,17 @@ bounded numbers low high bound other marks is most h k lt =
 
 -- what a comparison of all lanes gives, where the greater bound is cut to the greatest number of a lane
 pub marked_lanes : (w : Width) → (numbers : List ℕ) (low high bound : ℕ) → 64 ≤ length numbers → low ≤ high → low < 2 ^ bits w → bound ≡ min high (2 ^ bits w - 1) → ((k : ℕ) → get_or numbers k 0 < 2 ^ bits w)
-    → AreMarked (map (λ (x : ℕ). x) numbers) low high (mask_l (map (top (hbits w)) (zip2 (λ a b. cond (leb a b) (2 ^ bits w - 1) 0) (zip2 (above_by (2 ^ bits w)) (take 64 numbers) (replicate 64 low)) (replicate 64 (bound - low)))) % 2 ^ 64)
+    → AreMarked numbers low high (mask_l (map (top (hbits w)) (zip2 (λ a b. cond (leb a b) (2 ^ bits w - 1) 0) (zip2 (above_by (2 ^ bits w)) (take 64 numbers) (replicate 64 low)) (replicate 64 (bound - low)))) % 2 ^ 64)
 marked_lanes w numbers low high bound long order fits cut small =
-    rw (map-id numbers)
-    (bounded numbers low high (2 ^ bits w - 1) bound _ cut (λ k. omega (arith, small k))
-    (compared w numbers low bound long (omega (arith, order, fits, cut)) (omega (arith, fits, cut)) small))
+    bounded numbers low high (2 ^ bits w - 1) bound _ cut (λ k. omega (arith, small k))
+    (compared w numbers low bound long (omega (arith, order, fits, cut)) (omega (arith, fits, cut)) small)
 
 -- no number is within bounds that are above all, or that have nothing between them
-pub none_above : (numbers : List ℕ) (low high m : ℕ) → ((k : ℕ) → get_or numbers k 0 < m) → m ≤ low → AreMarked (map (λ (x : ℕ). x) numbers) low high 0
-none_above numbers low high m small over = subst (λ xs. AreMarked xs low high 0) (sym (map-id numbers)) (λ k lt.
+pub none_above : (numbers : List ℕ) (low high m : ℕ) → ((k : ℕ) → get_or numbers k 0 < m) → m ≤ low → AreMarked numbers low high 0
+none_above numbers low high m small over k lt =
     let x = get_or numbers k 0 in
     let under : (nat_le low x && nat_le x high) ≡ false = (let le : x < m = small k in grind arith) in
-    ap (λ n. n == 1) (bit_at-zero k) ∙ sym under)
+    ap (λ n. n == 1) (bit_at-zero k) ∙ sym under
 
 pub none_between : (numbers : List ℕ) (low high : ℕ) → high < low → AreMarked numbers low high 0
 none_between numbers low high under k lt =

@@ -1,13 +1,19 @@
 // Numbers in lanes of one width: each is read by one load, and 64 are compared at once.
 ghost use Rattle.std.specs.Prelude.{◌≡◌, ℕ, ◌+◌, ◌%◌, ◌^◌, ◌<◌, ◌≤◌, IfOk, length, map, min, slice_index};
 ghost use Rattle.fts_column.specs.Column.{HaveOffsets, offsets};
-ghost use Rattle.fts_column.specs.Lanes.{AreLanesOf};
+ghost use Rattle.fts_column.specs.Lanes.{AreLanesOf, AreMarked};
 
 use crate::column::offset;
 use crate::counting::count_lanes;
 use crate::lane::Lane;
 use fts_bits::Bits;
 use std::alloc::{AllocError, Global};
+use std::simd::prelude::*;
+
+// The greatest numbers of 8 and of 32 bits.
+const BYTE_MAX: u64 = 255;
+
+const WORD_MAX: u64 = 4_294_967_295;
 
 /// Numbers in lanes of 8, 32 or 64 bits, in whole stretches of 64.
 #[derive(Drop)]
@@ -81,9 +87,9 @@ impl Lanes {
             return 0;
         }
         match self {
-            Lanes::Bytes(bytes) => Lane::within(&bytes[from..], low, high),
-            Lanes::Words(words) => Lane::within(&words[from..], low, high),
-            Lanes::Longs(longs) => Lane::within(&longs[from..], low, high),
+            Lanes::Bytes(bytes) => bytes_within(&bytes[from..], low, high),
+            Lanes::Words(words) => words_within(&words[from..], low, high),
+            Lanes::Longs(longs) => longs_within(&longs[from..], low, high),
         }
     }
 
@@ -142,4 +148,43 @@ fn write_lanes<L: Lane>(lanes: &[L], least: u64, out: &mut [u64])
     for place in 0..64 {
         out[place] = least.wrapping_add(lanes[place].number());
     }
+}
+
+// Marks those of the first 64 numbers that lie within the bounds. What is below the lower one wraps where that is taken
+// from it, so one comparison tells of both.
+#[inline]
+fn bytes_within(numbers: &[u8], low: u64, high: u64) -> u64
+    requires { (64 ≤ length numbers.now) × (low ≤ high) }
+    ensures { AreMarked numbers.now low high result }
+{
+    if low > BYTE_MAX {
+        return 0;
+    }
+    let span = (high.min(BYTE_MAX) - low) as u8;
+    let above = u8x64::from_slice(numbers) - u8x64::splat(low as u8);
+    above.simd_le(u8x64::splat(span)).to_bitmask()
+}
+
+// The same of eight times the bits, which hold any bound.
+#[inline]
+fn longs_within(numbers: &[u64], low: u64, high: u64) -> u64
+    requires { (64 ≤ length numbers.now) × (low ≤ high) }
+    ensures { AreMarked numbers.now low high result }
+{
+    let above = u64x64::from_slice(numbers) - u64x64::splat(low);
+    above.simd_le(u64x64::splat(high - low)).to_bitmask()
+}
+
+// The same of four times the bits.
+#[inline]
+fn words_within(numbers: &[u32], low: u64, high: u64) -> u64
+    requires { (64 ≤ length numbers.now) × (low ≤ high) }
+    ensures { AreMarked numbers.now low high result }
+{
+    if low > WORD_MAX {
+        return 0;
+    }
+    let span = (high.min(WORD_MAX) - low) as u32;
+    let above = u32x64::from_slice(numbers) - u32x64::splat(low as u32);
+    above.simd_le(u32x64::splat(span)).to_bitmask()
 }
