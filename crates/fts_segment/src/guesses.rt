@@ -1,6 +1,7 @@
 // Numbers of names where a hash of the name says: guesses, which are looked at before they count.
 ghost use Rattle.std.specs.Prelude.{◌≡◌, IfSome, Some, slice_get, true};
 
+use crate::buffers::release;
 use crate::names::Names;
 use std::alloc::Global;
 use std::hash::{FoldHasher, Hasher};
@@ -35,6 +36,11 @@ impl Guesses {
             slots: Vec::new(alloc),
             taken: 0,
         }
+    }
+
+    /// Lets the slots go.
+    pub(crate) fn release(self) {
+        release(self.slots);
     }
 
     /// The number of a name of this hash, if it stands in one of its slots.
@@ -82,6 +88,7 @@ impl Guesses {
                 self.put_into(*slot);
             }
         }
+        release(before);
     }
 
     /// Puts a number into one of its slots, if one is free.

@@ -10,6 +10,7 @@ ghost use Rattle.fts_segment.specs.Occurrences.{values_in};
 ghost use Rattle.fts_segment.specs.Sorted.{Ascends};
 ghost use Rattle.fts_segment.specs.Between.{AreBetween, count_between};
 
+use crate::buffers::release;
 use crate::dictionary::Dictionary;
 use crate::lookup::find_name;
 use crate::names::Names;
@@ -56,10 +57,11 @@ impl KeywordIndex {
         requires terms { AreTerms kinds.Keyword (values_in field documents.now) dictionary }
         ensures { IfOk result (AreKeywords kinds.Keyword (values_in field documents.now)) }
     {
-        let ordinals = ordinals_of(alloc, documents, field, &dictionary.names)?;
-        let Ok(ordinals) = Column::build(alloc, &ordinals) else {
+        let values = ordinals_of(alloc, documents, field, &dictionary.names)?;
+        let Ok(ordinals) = Column::build(alloc, &values) else {
             return Err(AllocError);
         };
+        release(values);
         let sums = sums_of(alloc, &dictionary.lists)?;
         Ok(KeywordIndex {
             dictionary,

@@ -17,6 +17,7 @@
 //! ```
 #![tactic(auto)]
 
+mod buffers;
 mod builder;
 mod dictionary;
 mod field_index;

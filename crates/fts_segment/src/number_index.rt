@@ -12,6 +12,7 @@ ghost use Rattle.fts_segment.specs.NumberLogs.{NumberLog};
 ghost use Rattle.fts_segment.specs.Between.{AreBetween, NumberColumn, count_between};
 ghost use Rattle.fts_segment.specs.Sums.{sums_from};
 
+use crate::buffers::release;
 use crate::lookup::{find_number, place_behind, place_of_number};
 use crate::postings_writer::set_docs;
 use crate::segment::ListId;
@@ -58,11 +59,14 @@ impl NumberIndex {
         let numbers = different(alloc, &values)?;
         let log = logged(alloc, &values, &numbers)?;
         let groups = TermGroups::new(alloc, &log, numbers.len())?;
+        release(log);
         let lists = lists_of(alloc, &groups, numbers.len())?;
+        groups.release();
         let sums = sums_of(alloc, &lists)?;
         let Ok(column) = Column::build(alloc, &values) else {
             return Err(AllocError);
         };
+        release(values);
         Ok(NumberIndex {
             column,
             numbers,
@@ -192,6 +196,10 @@ fn push_number(
     };
     let Some(term) = find_number(numbers, number) else {
         return Ok(());
+    };
+    // It fits: there are no more different numbers than documents.
+    let Ok(term) = u32::try_from(term) else {
+        return Err(AllocError);
     };
     log.push(Occurrence {
         term,

@@ -40,6 +40,7 @@ impl Numbering {
     pub(crate) fn into_names(self) -> Names
         ensures { result ≡ self }
     {
+        self.guesses.release();
         self.names
     }
 

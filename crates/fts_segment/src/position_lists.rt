@@ -8,6 +8,7 @@ ghost use Rattle.fts_segment.specs.PositionListLogs.{IsPositionListLog, logged_p
 ghost use Rattle.fts_segment.specs.PositionsLeft.{positions_left};
 ghost use Rattle.fts_segment.specs.UnpackedLists.{lists_in};
 
+use crate::buffers::release;
 use crate::positions::Positions;
 use crate::unpacked_lists::UnpackedLists;
 use fts_pack::{BLOCK, Numbers, push_gaps};
@@ -45,13 +46,10 @@ impl PositionLists {
         requires { IsPositionListLog log }
         ensures { IfOk result (λ lists. lists ≡ logged_position_lists log) }
     {
-        let Ok(counts) = Numbers::build(alloc, &log.counts) else {
-            return Err(AllocError);
-        };
-        let Ok(gaps) = Numbers::build(alloc, &log.gaps) else {
-            return Err(AllocError);
-        };
-        let starts = starts_of(alloc, &log.counts)?;
+        let PositionListLog { counts, gaps } = log;
+        let starts = starts_of(alloc, &counts)?;
+        let counts = packed(alloc, counts)?;
+        let gaps = packed(alloc, gaps)?;
         Ok(PositionLists {
             counts,
             starts,
@@ -96,6 +94,17 @@ impl PositionLists {
         add_up(self.starts[block], &counts[..many], &mut bounds.at);
         bounds.block = Some(block);
     }
+}
+
+// Packs numbers, and lets the buffer go that had them.
+fn packed(alloc: Global, numbers: Vec<u32>) -> Result<Numbers, AllocError>
+    ensures { IfOk result (λ packed. packed ≡ numbers.items) }
+{
+    let Ok(packed) = Numbers::build(alloc, &numbers) else {
+        return Err(AllocError);
+    };
+    release(numbers);
+    Ok(packed)
 }
 
 // Writes a number, and behind it its sums with the first count, with the first two, and so on.

@@ -2,6 +2,7 @@
 ghost use Rattle.std.specs.Prelude.{◌≡◌, ◌<◌, length, map, All};
 ghost use Rattle.fts_segment.specs.TermLogs.{by_ordinal};
 
+use crate::buffers::release;
 use crate::dictionary::Dictionary;
 use crate::numbering::Numbering;
 use crate::postings_writer::write_terms;
@@ -13,7 +14,7 @@ use std::marker::Model;
 /// A term, by its number, stands in a document at a position.
 #[derive(Clone, Copy)]
 pub(crate) struct Occurrence {
-    pub(crate) term: usize,
+    pub(crate) term: u32,
     pub(crate) doc: u32,
     pub(crate) position: u32,
 }
@@ -62,7 +63,11 @@ impl TermLog {
         ensures { OnOk result (self.new
             ≡ self.old ++ record { term = term.now; doc = doc; position = position } ∷ []) }
     {
-        let term = self.terms.number(term)?;
+        let number = self.terms.number(term)?;
+        // 2^32 terms take over 100 GB, so a number that has no room in 32 bits is refused as memory.
+        let Ok(term) = u32::try_from(number) else {
+            return Err(AllocError);
+        };
         self.log.push(Occurrence {
             term,
             doc,
@@ -85,20 +90,20 @@ impl TermLog {
         put_in_order(&mut log, &ordinals);
         let groups = TermGroups::new(alloc, &log, names.len())?;
         // Log and groups are the largest of all, so each goes before more is made.
-        drop(log);
+        release(log);
         let writer = write_terms(alloc, &names, &groups)?;
-        drop(groups);
+        groups.release();
         let dictionary = writer.finish(alloc)?;
         Ok(dictionary)
     }
 }
 
 // Numbers the terms of occurrences by their order.
-fn put_in_order(log: &mut [Occurrence], ordinals: &[usize])
+fn put_in_order(log: &mut [Occurrence], ordinals: &[u32])
     requires { All (λ occurrence. occurrence.term < length ordinals.now) log.old }
     ensures { log.new ≡ map (by_ordinal ordinals.now) log.old }
 {
     for occurrence in log.iter_mut() {
-        occurrence.term = ordinals[occurrence.term];
+        occurrence.term = ordinals[occurrence.term as usize];
     }
 }

@@ -1,4 +1,4 @@
-use Rattle.std.proofs.Common.{◌≡◌, ◌-◌, List, [], suc, map, length, get_or, sym, ap, subst, arith}
+use Rattle.std.proofs.Common.{◌≡◌, List, [], suc, map, length, get_or, sym, ap, subst, arith}
 use Rattle.std.specs.List.{enumerate_from}
 use Rattle.std.specs.List.Sorted.{IsPermutation}
 use Rattle.std.proofs.lemmas.List.{get_or_default, length-map}
@@ -31,7 +31,7 @@ loop-name-preserved c =
     let is = get_or_default items i d e c.loop-name-test.true in
     let right = right_number c.args.names.now items i e moved c.loop-name-test.true is in
     let different = map (λ n. n.now) c.loop-name.different.items in
-    let last = c.len-in-loop-name.result - 1 in
+    let last = c.in-Ok.ordinal in
     let long : suc last ≡ length (with_name different e.0.now) =
     omega (arith, c.len-in-loop-name.ensures, c.push_different.new.names.ok.0, length-map c.push_different.new.names.items (λ n. n.now), ap length c.in_ok-push_different.ensures, some_with different e.0.now) in
     rw c.in_ok-push_different.ensures (IsSorting-next c.args.names.now items i e different c.loop-name.ordinals.items last c.loop-name-test.true is right in_order long c.loop-name.invariant)

@@ -37,6 +37,6 @@ returns c =
       kind_is = refl;
       terms = c.requires.terms;
       texts = names_are_texts (values_in c.args.field c.args.documents.now) dictionary.names dictionary.lists.items (term_position_lists dictionary.positions) c.requires.terms.dictionary_is;
-      ordinals = c.in-Ok.ensures.ok ∙ c.deref.ensures.value ∙ c.in_ok-ordinals.ensures;
+      ordinals = c.in-Ok.ensures.ok ∙ c.deref.ensures.value ∙ c.in_ok-values.ensures;
       sums = c.in_ok-sums.ensures ∙ ap (sums_from 0) c.deref-2.ensures.value;
     }
