@@ -215,7 +215,10 @@ pub fn commit<R: Threads + Wait + Sync>(
         options.workers,
         &fts_pool::Open,
     ) {
-        Ok(committed) => Ok(committed),
+        Ok(committed) => {
+            batch.release();
+            Ok(committed)
+        }
         Err(refusal) => {
             *uncommitted = Uncommitted::Gathered(batch);
             Err(refusal)

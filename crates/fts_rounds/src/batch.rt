@@ -3,6 +3,7 @@ ghost use Rattle.std.specs.Prelude.{◌≡◌, ◌+◌, ◌^◌, ◌<◌, length
 ghost use Rattle.std.specs.List.{range_with_len};
 ghost use Rattle.fts_snapshots.specs.Stamps.{stamps_of};
 
+use fts_base::release;
 use fts_model::{Op, Stamp, Stamped};
 use std::marker::Model;
 
@@ -30,6 +31,12 @@ impl Model for Batch {
 }
 
 impl Batch {
+    /// Lets the operations go.
+    pub fn release(self) {
+        let Batch { ops, .. } = self;
+        release(ops);
+    }
+
     /// The number of the round.
     pub fn round(&self) -> u64
         ensures { result ≡ self.now.round }

@@ -11,6 +11,7 @@ use crate::batch::Batch;
 use crate::lane::{Lane, LaneEnd, StampTable};
 use crate::stamps::{Collect, Deal, Drawn, Look, RoundLimits};
 use atomic_table::{Seat, Table};
+use fts_base::release;
 use fts_model::{Op, Refusal, Stamp, Stamped};
 use std::alloc::Global;
 use std::marker::Model;
@@ -187,6 +188,7 @@ impl Round {
             let Ok(()) = ops.append(&mut submitted) else {
                 unreachable!()
             };
+            release(submitted);
         }
         table.shared.load::<Look>(&mut seat, 0);
         ops.sort_unstable_by_key(|s| s.stamp);

@@ -1,8 +1,8 @@
 // Numbers of names where a hash of the name says: guesses, which are looked at before they count.
 ghost use Rattle.std.specs.Prelude.{◌≡◌, IfSome, Some, slice_get, true};
 
-use crate::buffers::release;
 use crate::names::Names;
+use fts_base::release;
 use std::alloc::Global;
 use std::hash::{FoldHasher, Hasher};
 use std::mem;

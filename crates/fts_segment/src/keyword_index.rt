@@ -10,11 +10,11 @@ ghost use Rattle.fts_segment.specs.Occurrences.{values_in};
 ghost use Rattle.fts_segment.specs.Sorted.{Ascends};
 ghost use Rattle.fts_segment.specs.Between.{AreBetween, count_between};
 
-use crate::buffers::release;
 use crate::dictionary::Dictionary;
 use crate::lookup::find_name;
 use crate::names::Names;
 use crate::sums::sums_of;
+use fts_base::release;
 use fts_column::Column;
 use fts_model::{Document, FieldValue, Kind, Stamped};
 use fts_pack::Blocks;

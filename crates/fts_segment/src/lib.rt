@@ -17,7 +17,6 @@
 //! ```
 #![tactic(auto)]
 
-mod buffers;
 mod builder;
 mod dictionary;
 mod field_index;

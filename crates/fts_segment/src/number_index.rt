@@ -12,13 +12,13 @@ ghost use Rattle.fts_segment.specs.NumberLogs.{NumberLog};
 ghost use Rattle.fts_segment.specs.Between.{AreBetween, NumberColumn, count_between};
 ghost use Rattle.fts_segment.specs.Sums.{sums_from};
 
-use crate::buffers::release;
 use crate::lookup::{find_number, place_behind, place_of_number};
 use crate::postings_writer::set_docs;
 use crate::segment::ListId;
 use crate::sums::sums_of;
 use crate::term_groups::TermGroups;
 use crate::term_log::Occurrence;
+use fts_base::release;
 use fts_bits::i64_to_u64;
 use fts_column::Column;
 use fts_model::{Document, FieldValue, Kind, Number, Stamped};

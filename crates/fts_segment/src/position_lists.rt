@@ -8,9 +8,9 @@ ghost use Rattle.fts_segment.specs.PositionListLogs.{IsPositionListLog, logged_p
 ghost use Rattle.fts_segment.specs.PositionsLeft.{positions_left};
 ghost use Rattle.fts_segment.specs.UnpackedLists.{lists_in};
 
-use crate::buffers::release;
 use crate::positions::Positions;
 use crate::unpacked_lists::UnpackedLists;
+use fts_base::release;
 use fts_pack::{BLOCK, Numbers, push_gaps};
 use std::alloc::{AllocError, Global};
 use std::marker::Model;

@@ -2,12 +2,12 @@
 ghost use Rattle.std.specs.Prelude.{◌≡◌, ◌<◌, length, map, All};
 ghost use Rattle.fts_segment.specs.TermLogs.{by_ordinal};
 
-use crate::buffers::release;
 use crate::dictionary::Dictionary;
 use crate::numbering::Numbering;
 use crate::postings_writer::write_terms;
 use crate::term_groups::TermGroups;
 use crate::term_order::{SortedNames, sorted};
+use fts_base::release;
 use std::alloc::{AllocError, Global};
 use std::marker::Model;
 
