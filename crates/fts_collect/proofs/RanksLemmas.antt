@@ -1,8 +1,8 @@
 -- The first hits by their keys.
-use Rattle.std.proofs.Common.{◌≡◌, ℕ, ◌-◌, ◌/◌, ◌^◌, ◌<◌, ◌≤◌, ◌==◌, nat_lt, Bool, true, false, cond, ⊎_elim, List, [], ◌∷◌, ◌++◌, length, take, map, fold, Option, Some, None, refl, sym, ap, ◌∙◌, arith, All, AllPairs, IfSome, get_or, option_map, suc, drop, drop-cons}
+use Rattle.std.proofs.Common.{◌≡◌, ℕ, ◌-◌, ◌/◌, ◌^◌, ◌<◌, ◌≤◌, ◌==◌, nat_lt, Bool, true, false, cond, ⊎_elim, List, [], ◌∷◌, ◌++◌, length, take, map, fold, Option, Some, None, refl, sym, ap, subst, ◌∙◌, arith, All, AllPairs, IfSome, get_or, option_map, suc, drop, drop-cons}
 use Rattle.std.specs.Prelude.{slice_get, slice_index_or, option_and_then}
 use Rattle.std.specs.List.{filter_map, cons_option}
-use Rattle.std.specs.Option.{option_map_or, option_to_list}
+use Rattle.std.specs.Option.{option_map_or}
 use Rattle.std.specs.Ordering.{nat_cmp, ordering_then, is_lt, match_ordering}
 use Rattle.std.specs.declared.cmp.Ordering.{Ordering}
 use Rattle.std.specs.declared.cmp.Ordering.TheVariants.{Less, Equal, Greater}
@@ -27,10 +27,11 @@ use Rattle.fts_model.specs.Operations.{kind_at}
 use Rattle.fts_model.specs.Answers.{cmp_by, comes_before, hit_in, hits_in, number_in_field, put_hit, top}
 use Rattle.fts_model.proofs.Lists.{pairs_none, pairs_front, pairs_behind}
 use Rattle.fts_segment.specs.Segments.{SegmentValue, column, number_of}
+use Rattle.fts_collect.specs.declared.ranks.Ranking.{Ranking}
 use Rattle.fts_collect.specs.declared.top_k.Key.{Key}
 use Rattle.fts_collect.specs.Internals.Tallies.{number_at}
 use Rattle.fts_collect.specs.Internals.Keys.{TopKValue, key_lt, put_key, first_keys}
-use Rattle.fts_collect.specs.Internals.Ranks.{AreOfBlock, IsBeyond, best_rank, rank_in, stamp_at, document_at, key_at, keys_at, hit_of, keep_keys}
+use Rattle.fts_collect.specs.Internals.Ranks.{AreOfBlock, IsBeyond, Offers, best_rank, rank_in, stamp_at, document_at, key_at, keys_at, hit_of, keep_keys}
 use Rattle.fts_collect.proofs.KeysLemmas.{All-put_key, take-put_key, keep-last}
 use Rattle.fts_collect.proofs.NumbersLemmas.{number_at-cmp}
 use Rattle.fts_collect.proofs.ValuesLemmas.{kept_at, fits_at, kept-cons, map-cons}
@@ -237,25 +238,42 @@ first_keys-within segment field k order docs within =
 pub keep-first : (k : ℕ) (keys more : List Key) → keep_keys k (first_keys k keys) more ≡ first_keys k (keys ++ more)
 keep-first k keys more = sym (take-keep k (fold put_key [] keys) more) ∙ ap (take k) (sym (fold-append put_key [] keys more))
 
--- a key that comes before more, if there is one, may be taken last
-keep-option : (k : ℕ) (keys : List Key) (o : Option Key) (more : List Key) →
-    keep_keys k keys (cons_option o more) ≡ keep_keys k (keep_keys k keys more) (option_to_list o)
-keep-option k keys None more = refl
-keep-option k keys (Some key) more = keep-last k keys key more
+-- keys that come before others may be taken after them
+keep-front : (k : ℕ) (keys xs ys : List Key) → keep_keys k keys (xs ++ ys) ≡ keep_keys k (keep_keys k keys ys) xs
+keep-front k keys [] ys = refl
+keep-front k keys (x ∷ xs) ys =
+    keep-last k keys x (xs ++ ys) ∙ ap (λ ks. take k (put_key ks x)) (keep-front k keys xs ys) ∙ sym (keep-last k (keep_keys k keys ys) x xs)
 
--- the keys of documents from the one before a place on, of which the first is taken last
-pub keep-from : (k : ℕ) (keys : List Key) (order : Order) (documents : List (Stamped DocumentValue)) (numbers : List (Option ℕ)) (docs : List ℕ) (i : ℕ) → 0 < i → i ≤ length docs →
-    keep_keys k (keep_keys k keys (keys_at order documents numbers (drop i docs))) (option_to_list (key_at order documents numbers (get_or docs (i - 1) 0)))
-    ≡ keep_keys k keys (keys_at order documents numbers (drop (i - 1) docs))
-keep-from k keys order documents numbers docs i some within =
-    let behind : suc (i - 1) ≡ i = omega (arith, some) in
+-- hits may be offered after those behind them
+Offers-front : (ranking : Ranking) (docs more : List ℕ) (old middle new : TopKValue) → Offers ranking more old middle → Offers ranking docs middle new → Offers ranking (docs ++ more) old new
+Offers-front ranking docs more old middle new behind here =
+    let key : ℕ → Option Key = key_at ranking.order ranking.segment.now.documents ranking.column.now in
+    let offered : TopKValue → TopKValue = λ t. record { k = t.k; keys = keep_keys t.k t.keys (filter_map key docs) } in
+    here ∙ ap offered behind
+    ∙ ap (λ keys. record { k = old.k; keys = keys }) (sym (ap (keep_keys old.k old.keys) (filter_map-append key docs more) ∙ keep-front old.k old.keys (filter_map key docs) (filter_map key more)))
+
+-- those from the one before a place on, of which the first is offered last
+pub Offers-from : (ranking : Ranking) (docs : List ℕ) (i : ℕ) (old middle new : TopKValue) → 0 < i → i ≤ length docs →
+    Offers ranking (drop i docs) old middle → Offers ranking (get_or docs (i - 1) 0 ∷ []) middle new → Offers ranking (drop (i - 1) docs) old new
+Offers-from ranking docs i old middle new some within behind here =
+    let P : List ℕ → Type 0 = λ ds. Offers ranking ds old new in
+    let back : suc (i - 1) ≡ i = omega (arith, some) in
     let first : drop (i - 1) docs ≡ get_or docs (i - 1) 0 ∷ drop i docs =
-    drop-cons docs (i - 1) 0 (omega (arith, some, within)) ∙ ap (λ j. get_or docs (i - 1) 0 ∷ drop j docs) behind in
-    sym (ap (λ ds. keep_keys k keys (keys_at order documents numbers ds)) first ∙ keep-option k keys (key_at order documents numbers (get_or docs (i - 1) 0)) (keys_at order documents numbers (drop i docs)))
+    drop-cons docs (i - 1) 0 (omega (arith, some, within)) ∙ ap (λ j. get_or docs (i - 1) 0 ∷ drop j docs) back in
+    subst P (sym first) (Offers-front ranking (get_or docs (i - 1) 0 ∷ []) (drop i docs) old middle new behind here)
+
+-- those from a place on, of which those before another place are offered last
+pub Offers-part : (ranking : Ranking) (docs : List ℕ) (start left : ℕ) (old middle new : TopKValue) → start ≤ left → left ≤ length docs →
+    Offers ranking (drop left docs) old middle → Offers ranking (drop start (take left docs)) middle new → Offers ranking (drop start docs) old new
+Offers-part ranking docs start left old middle new up within behind here =
+    let P : List ℕ → Type 0 = λ ds. Offers ranking ds old new in
+    let size : length (take left docs) ≡ left = length-take-le left docs within in
+    let parts = ap (drop start) (sym (take-append-drop left docs)) ∙ drop-append-le start (take left docs) (drop left docs) (omega (arith, up, size)) in
+    subst P (sym parts) (Offers-front ranking (drop start (take left docs)) (drop left docs) old middle new behind here)
 
 -- a hit with no number is none of the first, and one with a number isn't if no key of its rank is
-pub keep_none : (k : ℕ) (keys : List Key) (order : Order) (documents : List (Stamped DocumentValue)) (doc rank : ℕ) (v : Option ℕ) → ((key : Key) → rank ≤ key.rank → take k (put_key keys key) ≡ keys) → IfSome v (λ x. rank ≤ rank_in order x)
-    → keep_keys k keys (option_to_list (option_map (λ x. record { rank = rank_in order x; stamp = stamp_at documents doc; doc = doc }) v)) ≡ keys
+keep_none : (k : ℕ) (keys : List Key) (order : Order) (documents : List (Stamped DocumentValue)) (doc rank : ℕ) (v : Option ℕ) → ((key : Key) → rank ≤ key.rank → take k (put_key keys key) ≡ keys) → IfSome v (λ x. rank ≤ rank_in order x)
+    → keep_keys k keys (cons_option (option_map (λ x. record { rank = rank_in order x; stamp = stamp_at documents doc; doc = doc }) v) []) ≡ keys
 keep_none k keys order documents doc rank None beyond low = refl
 keep_none k keys order documents doc rank (Some x) beyond low = beyond (record { rank = rank_in order x; stamp = stamp_at documents doc; doc = doc }) low
 
@@ -266,49 +284,21 @@ best_first Rising range (Some x) h = h.0
 best_first Falling range (Some x) h = let most : x ≤ range.1 = h.1 in omega arith
 
 -- a block of whose values the best ranks beyond the first has none of these
-pub block_beyond : (k : ℕ) (keys : List Key) (order : Order) (values : List (Option ℕ)) (block : ℕ) (range : ℕ × ℕ) → IsRangeOf (block_of block values) (Some range) → ((key : Key) → best_rank order range ≤ key.rank → take k (put_key keys key) ≡ keys)
-    → IsBeyond order values block (record { k = k; keys = keys })
-block_beyond k keys order values block range h beyond documents doc here =
-    keep_none k keys order documents doc (best_rank order range) (slice_index_or values doc None) beyond (best_first order range (slice_index_or values doc None) (block_within values block doc range h here))
+pub block_beyond : (ranking : Ranking) (block : ℕ) (top_k : TopKValue) (range : ℕ × ℕ) → IsRangeOf (block_of block ranking.column.now) (Some range) →
+    ((key : Key) → best_rank ranking.order range ≤ key.rank → take top_k.k (put_key top_k.keys key) ≡ top_k.keys) → IsBeyond ranking block top_k
+block_beyond ranking block top_k range h beyond doc here =
+    let value = slice_index_or ranking.column.now doc None in
+    ap (λ keys. record { k = top_k.k; keys = keys })
+    (sym (keep_none top_k.k top_k.keys ranking.order ranking.segment.now.documents doc (best_rank ranking.order range) value beyond (best_first ranking.order range value (block_within ranking.column.now block doc range h here))))
 
 -- nor has a block without values
-pub block_without : (k : ℕ) (keys : List Key) (order : Order) (values : List (Option ℕ)) (block : ℕ) → IsRangeOf (block_of block values) None → IsBeyond order values block (record { k = k; keys = keys })
-block_without k keys order values block h documents doc here =
-    ap (λ v. keep_keys k keys (option_to_list (option_map (λ x. record { rank = rank_in order x; stamp = stamp_at documents doc; doc = doc }) v))) (block_none values block doc h here)
-
--- keys that come before others may be taken after them
-keep-front : (k : ℕ) (keys xs ys : List Key) → keep_keys k keys (xs ++ ys) ≡ keep_keys k (keep_keys k keys ys) xs
-keep-front k keys [] ys = refl
-keep-front k keys (x ∷ xs) ys =
-    keep-last k keys x (xs ++ ys) ∙ ap (λ ks. take k (put_key ks x)) (keep-front k keys xs ys) ∙ sym (keep-last k (keep_keys k keys ys) x xs)
+pub block_without : (ranking : Ranking) (block : ℕ) (top_k : TopKValue) → IsRangeOf (block_of block ranking.column.now) None → IsBeyond ranking block top_k
+block_without ranking block top_k h doc here =
+    sym (ap (λ v. record { k = top_k.k; keys = keep_keys top_k.k top_k.keys (cons_option (option_map (λ x. record { rank = rank_in ranking.order x; stamp = stamp_at ranking.segment.now.documents doc; doc = doc }) v) []) }) (block_none ranking.column.now block doc h here))
 
 -- hits of a block that has none of the first change nothing
-pub keep-beyond : (top_k : TopKValue) (order : Order) (documents : List (Stamped DocumentValue)) (numbers : List (Option ℕ)) (block : ℕ) (docs : List ℕ) → IsBeyond order numbers block top_k → AreOfBlock block docs
-    → keep_keys top_k.k top_k.keys (keys_at order documents numbers docs) ≡ top_k.keys
-keep-beyond top_k order documents numbers block [] beyond same = refl
-keep-beyond top_k order documents numbers block (doc ∷ docs) beyond same =
-    let k = top_k.k in
+pub Offers-beyond : (ranking : Ranking) (block : ℕ) (top_k : TopKValue) (docs : List ℕ) → IsBeyond ranking block top_k → AreOfBlock block docs → Offers ranking docs top_k top_k
+Offers-beyond ranking block top_k [] beyond same = refl
+Offers-beyond ranking block top_k (doc ∷ docs) beyond same =
     let P : ℕ → Type 0 = λ d. d / 128 ≡ block in
-    keep-option k top_k.keys (key_at order documents numbers doc) (keys_at order documents numbers docs)
-    ∙ ap (λ ks. keep_keys k ks (option_to_list (key_at order documents numbers doc))) (keep-beyond top_k order documents numbers block docs beyond (All-tail P doc docs same))
-    ∙ beyond documents doc (All-head P doc docs same)
-
--- the hits from a place on: those before another place, and those from there on
-hits_from : (order : Order) (documents : List (Stamped DocumentValue)) (numbers : List (Option ℕ)) (docs : List ℕ) (start left : ℕ) → start ≤ left → left ≤ length docs
-    → keys_at order documents numbers (drop start docs) ≡ keys_at order documents numbers (drop start (take left docs)) ++ keys_at order documents numbers (drop left docs)
-hits_from order documents numbers docs start left up within =
-    let size : length (take left docs) ≡ left = length-take-le left docs within in
-    ap (λ ds. keys_at order documents numbers (drop start ds)) (sym (take-append-drop left docs))
-    ∙ ap (keys_at order documents numbers) (drop-append-le start (take left docs) (drop left docs) (omega (arith, up, size)))
-    ∙ filter_map-append (key_at order documents numbers) (drop start (take left docs)) (drop left docs)
-
--- the first keys of documents from one place on, after those from another on
-pub keep-hits : (top_k more : TopKValue) (k : ℕ) (keys : List Key) (order : Order) (documents : List (Stamped DocumentValue)) (numbers : List (Option ℕ)) (docs : List ℕ) (start left : ℕ) → start ≤ left → left ≤ length docs
-    → top_k ≡ record { k = k; keys = keep_keys k keys (keys_at order documents numbers (drop left docs)) }
-    → more ≡ record { k = top_k.k; keys = keep_keys top_k.k top_k.keys (keys_at order documents numbers (drop start (take left docs))) }
-    → more ≡ record { k = k; keys = keep_keys k keys (keys_at order documents numbers (drop start docs)) }
-keep-hits top_k more k keys order documents numbers docs start left up within kept is =
-    let hits = keys_at order documents numbers (drop start (take left docs)) in
-    let offered : TopKValue → TopKValue = λ t. record { k = t.k; keys = keep_keys t.k t.keys hits } in
-    is ∙ ap offered kept
-    ∙ ap (λ ks. record { k = k; keys = ks }) (sym (ap (keep_keys k keys) (hits_from order documents numbers docs start left up within) ∙ keep-front k keys hits (keys_at order documents numbers (drop left docs))))
+    Offers-front ranking (doc ∷ []) docs top_k top_k top_k (Offers-beyond ranking block top_k docs beyond (All-tail P doc docs same)) (beyond doc (All-head P doc docs same))

@@ -17,7 +17,7 @@ ghost use Rattle.fts_collect.specs.Internals.Collected.{AreHits, HasCounted, Has
 ghost use Rattle.fts_collect.specs.Internals.Collected.{IsTallyOf, KeysWithin, column_of, hits_at, named_by, value_at};
 
 use crate::part::Part;
-use crate::ranks::{hits_of, offer_hits};
+use crate::ranks::{Ranking, hits_of};
 use crate::tally::Tally;
 use crate::top_k::TopK;
 use fts_bits::{Bits, u64_to_i64};
@@ -167,7 +167,14 @@ fn rank_hits(
 {
     match wanted {
         None => Ok(()),
-        Some(top) => offer_hits(segment, numbers_of(segment, top.by), top.order, docs, top_k),
+        Some(top) => {
+            let ranking = Ranking {
+                segment,
+                column: numbers_of(segment, top.by),
+                order: top.order,
+            };
+            ranking.offer(docs, top_k)
+        }
     }
 }
 

@@ -1,8 +1,7 @@
 // The first hits of a segment, picked by their numbers in a column.
-ghost use Rattle.std.specs.Prelude.{◌≡◌, ◌<◌, ◌≤◌, ◌/◌, ◌^◌, ◌++◌, ◌∷◌, [], true, All, IfOk, OnOk, length, map};
-ghost use Rattle.std.specs.Prelude.{drop, option_to_list, slice_index};
-ghost use Rattle.fts_collect.specs.Internals.Ranks.{AreOfBlock, IsBeyond, Offers, best_rank, hit_of, keep_keys, key_at};
-ghost use Rattle.fts_collect.specs.Internals.Ranks.{rank_in};
+ghost use Rattle.std.specs.Prelude.{◌≡◌, ◌<◌, ◌/◌, ◌++◌, ◌∷◌, [], true, All, IfOk, OnOk, drop, length, map};
+ghost use Rattle.std.specs.Prelude.{slice_index};
+ghost use Rattle.fts_collect.specs.Internals.Ranks.{AreOfBlock, IsBeyond, Offers, best_rank, hit_of, rank_in};
 
 use crate::tally::number_at;
 use crate::top_k::{Key, TopK};
@@ -37,61 +36,6 @@ fn best_rank(order: Order, range: (u64, u64)) -> u64
     }
 }
 
-/// Whether no hit of a block of documents is one of the first, by the best rank of a value of the block.
-fn is_block_beyond(column: &Column, order: Order, block: u32, top_k: &TopK) -> bool
-    ensures { result ≡ true → IsBeyond order column.now block top_k.now }
-{
-    match column.block_range(block as usize) {
-        None => true,
-        Some(range) => top_k.is_beyond(best_rank(order, range)),
-    }
-}
-
-/// Offers a hit, if it has a number in a column. Its stamp is looked up only where its rank may do.
-fn offer_hit(
-    segment: &Segment,
-    column: &Column,
-    order: Order,
-    doc: u32,
-    top_k: &mut TopK,
-) -> Result<(), AllocError>
-    requires { doc < length segment.now.documents }
-    ensures { OnOk result (top_k.new ≡ record top_k.old {
-      keys =
-          keep_keys top_k.old.k top_k.old.keys
-          (option_to_list (key_at order segment.now.documents column.now doc));
-    }) }
-{
-    let Some(number) = column.get(doc as usize) else {
-        return Ok(());
-    };
-    let rank = rank_in(order, number);
-    if top_k.is_beyond(rank) {
-        return Ok(());
-    }
-    let stamp = segment.stamp(doc as usize);
-    top_k.offer(Key { rank, stamp, doc })
-}
-
-/// Offers the hits that have a number in a column, the last first: where ranks fall from document to document, each hit
-/// would else keep out those before it, and few are kept out at one compare.
-fn offer_each(
-    segment: &Segment,
-    column: &Column,
-    order: Order,
-    docs: &[u32],
-    top_k: &mut TopK,
-) -> Result<(), AllocError>
-    requires { All (λ doc. doc < length segment.now.documents) docs.now }
-    ensures { OnOk result
-        (Offers order segment.now.documents column.now docs.now top_k.old top_k.new) }
-{
-    for i in (0..docs.len()).rev() {
-        offer_hit(segment, column, order, docs[i], top_k)?;
-    }
-    Ok(())
-}
-
 /// Where the hits begin that are of one block with the last.
 fn block_start(docs: &[u32]) -> usize
     requires { 0 < length docs.now }
@@ -106,72 +50,100 @@ fn block_start(docs: &[u32]) -> usize
     start
 }
 
-/// Offers hits of one block, if any of its values may rank among the first. Else the column is not read.
-fn offer_block(
-    segment: &Segment,
-    column: &Column,
-    order: Order,
-    docs: &[u32],
-    top_k: &mut TopK,
-) -> Result<(), AllocError>
-    requires within { All (λ doc. doc < length segment.now.documents) docs.now }
-    requires some { 0 < length docs.now }
-    requires block { AreOfBlock (slice_index docs.now 0 / 128) docs.now }
-    ensures { OnOk result
-        (Offers order segment.now.documents column.now docs.now top_k.old top_k.new) }
-{
-    if is_block_beyond(column, order, docs[0] / BLOCK, top_k) {
-        return Ok(());
-    }
-    offer_each(segment, column, order, docs, top_k)
+/// Hits of a segment, ranked by their numbers in a column.
+#[derive(Clone, Copy)]
+pub(crate) struct Ranking<'a> {
+    pub(crate) segment: &'a Segment,
+    pub(crate) column: &'a Column,
+    pub(crate) order: Order,
 }
 
-/// Offers the hits that have a number in a column, block by block, the last first.
-fn offer_by_blocks(
-    segment: &Segment,
-    column: &Column,
-    order: Order,
-    docs: &[u32],
-    top_k: &mut TopK,
-) -> Result<(), AllocError>
-    requires { All (λ doc. doc < length segment.now.documents) docs.now }
-    ensures { OnOk result
-        (Offers order segment.now.documents column.now docs.now top_k.old top_k.new) }
-{
-    let mut left = docs.len();
-    while left > 0 {
-        let hits = &docs[..left];
-        let start = block_start(hits);
-        offer_block(segment, column, order, &hits[start..], top_k)?;
-        left = start;
+impl Ranking<'_> {
+    /// Offers the hits that have a number in the column.
+    pub(crate) fn offer(&self, docs: &[u32], top_k: &mut TopK) -> Result<(), AllocError>
+        requires { All (λ doc. doc < length self.now.segment.now.documents) docs.now }
+        ensures { OnOk result (Offers self.now docs.now top_k.old top_k.new) }
+    {
+        if self.has_spread() {
+            self.offer_by_blocks(docs, top_k)
+        } else {
+            self.offer_each(docs, top_k)
+        }
     }
-    Ok(())
-}
 
-/// Whether blocks may well be passed over: where a column has few different numbers, most blocks have one of the first.
-fn has_spread(column: &Column) -> bool {
-    match column.range() {
-        None => false,
-        Some((least, greatest)) => greatest.saturating_sub(least) >= FEW_NUMBERS,
+    /// Whether blocks may well be passed over: where a column has few different numbers, most blocks have one of the
+    /// first.
+    fn has_spread(&self) -> bool {
+        match self.column.range() {
+            None => false,
+            Some((least, greatest)) => greatest.saturating_sub(least) >= FEW_NUMBERS,
+        }
     }
-}
 
-/// Offers the hits that have a number in a column.
-pub(crate) fn offer_hits(
-    segment: &Segment,
-    column: &Column,
-    order: Order,
-    docs: &[u32],
-    top_k: &mut TopK,
-) -> Result<(), AllocError>
-    requires { All (λ doc. doc < length segment.now.documents) docs.now }
-    ensures { OnOk result
-        (Offers order segment.now.documents column.now docs.now top_k.old top_k.new) }
-{
-    if has_spread(column) {
-        offer_by_blocks(segment, column, order, docs, top_k)
-    } else {
-        offer_each(segment, column, order, docs, top_k)
+    /// Offers the hits that have a number in the column, block by block, the last first.
+    fn offer_by_blocks(&self, docs: &[u32], top_k: &mut TopK) -> Result<(), AllocError>
+        requires { All (λ doc. doc < length self.now.segment.now.documents) docs.now }
+        ensures { OnOk result (Offers self.now docs.now top_k.old top_k.new) }
+    {
+        let mut left = docs.len();
+        while left > 0 {
+            let hits = &docs[..left];
+            let start = block_start(hits);
+            self.offer_block(&hits[start..], top_k)?;
+            left = start;
+        }
+        Ok(())
+    }
+
+    /// Offers hits of one block, if any of its values may rank among the first. Else the column is not read.
+    fn offer_block(&self, docs: &[u32], top_k: &mut TopK) -> Result<(), AllocError>
+        requires within { All (λ doc. doc < length self.now.segment.now.documents) docs.now }
+        requires some { 0 < length docs.now }
+        requires block { AreOfBlock (slice_index docs.now 0 / 128) docs.now }
+        ensures { OnOk result (Offers self.now docs.now top_k.old top_k.new) }
+    {
+        if self.is_block_beyond(docs[0] / BLOCK, top_k) {
+            return Ok(());
+        }
+        self.offer_each(docs, top_k)
+    }
+
+    /// Whether no hit of a block of documents is one of the first, by the best rank of a value of the block.
+    fn is_block_beyond(&self, block: u32, top_k: &TopK) -> bool
+        ensures { result ≡ true → IsBeyond self.now block top_k.now }
+    {
+        match self.column.block_range(block as usize) {
+            None => true,
+            Some(range) => top_k.is_beyond(best_rank(self.order, range)),
+        }
+    }
+
+    /// Offers the hits that have a number in the column, the last first: where ranks fall from document to document,
+    /// each hit would else keep out those before it, and few are kept out at one compare.
+    fn offer_each(&self, docs: &[u32], top_k: &mut TopK) -> Result<(), AllocError>
+        requires { All (λ doc. doc < length self.now.segment.now.documents) docs.now }
+        ensures { OnOk result (Offers self.now docs.now top_k.old top_k.new) }
+    {
+        for i in (0..docs.len()).rev() {
+            self.offer_hit(docs[i], top_k)?;
+        }
+        Ok(())
+    }
+
+    /// Offers a hit, if it has a number in the column. Its stamp is looked up only where its rank may do.
+    fn offer_hit(&self, doc: u32, top_k: &mut TopK) -> Result<(), AllocError>
+        requires { doc < length self.now.segment.now.documents }
+        ensures { OnOk result (Offers self.now (doc ∷ []) top_k.old top_k.new) }
+    {
+        let Some(number) = self.column.get(doc as usize) else {
+            return Ok(());
+        };
+        let rank = rank_in(self.order, number);
+        if top_k.is_beyond(rank) {
+            return Ok(());
+        }
+        let stamp = self.segment.stamp(doc as usize);
+        top_k.offer(Key { rank, stamp, doc })
     }
 }
 

@@ -1,14 +1,15 @@
 -- How hits are ranked by their numbers in a column.
-use Rattle.std.specs.Prelude.{◌≡◌, ℕ, ◌-◌, ◌/◌, ◌^◌, List, [], Option, None, All, take, fold, option_map, slice_get}
-use Rattle.std.specs.Prelude.{slice_index_or}
+use Rattle.std.specs.Prelude.{◌≡◌, ℕ, ◌-◌, ◌/◌, ◌^◌, List, [], ◌∷◌, Option, None, All, take, fold, option_map}
+use Rattle.std.specs.Prelude.{slice_get, slice_index_or}
 use Rattle.std.specs.List.{filter_map}
-use Rattle.std.specs.Option.{option_map_or, option_to_list}
+use Rattle.std.specs.Option.{option_map_or}
 use Rattle.fts_model.specs.declared.schema.Kind.{Kind}
 use Rattle.fts_model.specs.declared.query.Order.{Order}
 use Rattle.fts_model.specs.declared.query.Order.TheVariants.{Rising, Falling}
 use Rattle.fts_model.specs.declared.answer.Hit.{Hit}
 use Rattle.fts_model.specs.declared.operation.Stamped.{Stamped}
 use Rattle.fts_model.specs.Documents.{DocumentValue}
+use Rattle.fts_collect.specs.declared.ranks.Ranking.{Ranking}
 use Rattle.fts_collect.specs.declared.top_k.Key.{Key}
 use Rattle.fts_collect.specs.Internals.Tallies.{number_at}
 use Rattle.fts_collect.specs.Internals.Keys.{TopKValue, put_key}
@@ -55,16 +56,15 @@ abbrev pub keep_keys : ℕ → List Key → List Key → List Key
 keep_keys k keys more = fold (λ ks key. take k (put_key ks key)) keys more
 
 -- these hits were offered: of the keys that were kept, and theirs, the first are kept
-abbrev pub Offers : Order → List (Stamped DocumentValue) → List (Option ℕ) → List ℕ → TopKValue → TopKValue → Type 0
-Offers order documents column docs old new =
-    new ≡ record old { keys = keep_keys old.k old.keys (keys_at order documents column docs) }
+abbrev pub Offers : Ranking → List ℕ → TopKValue → TopKValue → Type 0
+Offers ranking docs old new =
+    let keys = keys_at ranking.order ranking.segment.now.documents ranking.column.now docs in
+    new ≡ record old { keys = keep_keys old.k old.keys keys }
 
 -- these documents are of one block of 128
 abbrev pub AreOfBlock : ℕ → List ℕ → Type 0
 AreOfBlock block docs = All (λ doc. doc / 128 ≡ block) docs
 
 -- no hit of a block of 128 documents is one of the first
-abbrev pub IsBeyond : Order → List (Option ℕ) → ℕ → TopKValue → Type 0
-IsBeyond order column block top_k =
-    (documents : List (Stamped DocumentValue)) (doc : ℕ) → doc / 128 ≡ block →
-    keep_keys top_k.k top_k.keys (option_to_list (key_at order documents column doc)) ≡ top_k.keys
+abbrev pub IsBeyond : Ranking → ℕ → TopKValue → Type 0
+IsBeyond ranking block top_k = (doc : ℕ) → doc / 128 ≡ block → Offers ranking (doc ∷ []) top_k top_k

@@ -1,6 +1,5 @@
-use Rattle.std.proofs.Common.{◌≡◌, ◌++◌, ℕ, List}
+use Rattle.std.proofs.Common.{◌++◌, ℕ, List}
 use Rattle.std.proofs.lemmas.Result.{IfOk-weaker}
-use Rattle.fts_collect.specs.Internals.Ranks.{keep_keys, keys_at}
 use Rattle.fts_collect.specs.Internals.Collected.{HasRanked}
 use Rattle.fts_collect.proofs.CollectLemmas.{ranked-more}
 use Rattle.fts_collect.proofs.collector.rank_hits.Goals as goal
@@ -9,7 +8,6 @@ pub returns-in-Some : goal.returns-in-Some
 returns-in-Some c =
     let old = c.args.top_k.now in
     let numbers = c.numbers_of.result.now in
-    IfOk-weaker c.offer_hits.result
-    (λ _. c.offer_hits.new.top_k ≡ record { k = old.k; keys = keep_keys old.k old.keys (keys_at c.in-Some.top.order c.args.segment.now.documents numbers c.args.docs.now) })
-    (λ _. (before : List ℕ) → HasRanked c.args.segment.now c.args.wanted before old → HasRanked c.args.segment.now c.args.wanted (before ++ c.args.docs.now) c.offer_hits.new.top_k)
-    (λ _ more. ranked-more c.args.segment.now c.args.wanted c.in-Some.top numbers c.args.docs.now old c.offer_hits.new.top_k c.in-Some.is c.numbers_of.ensures more) c.offer_hits.ensures
+    IfOk-weaker c.offer.result _
+    (λ _. (before : List ℕ) → HasRanked c.args.segment.now c.args.wanted before old → HasRanked c.args.segment.now c.args.wanted (before ++ c.args.docs.now) c.offer.new.top_k)
+    (λ _ more. ranked-more c.args.segment.now c.args.wanted c.in-Some.top numbers c.args.docs.now old c.offer.new.top_k c.in-Some.is c.numbers_of.ensures more) c.offer.ensures

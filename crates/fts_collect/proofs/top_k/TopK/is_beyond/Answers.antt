@@ -1,4 +1,4 @@
-use Rattle.std.proofs.Common.{◌≡◌, ◌∙◌, ap, subst, nat_lt, take, Option}
+use Rattle.std.proofs.Common.{◌≡◌, subst, take, Option}
 use Rattle.fts_collect.specs.declared.top_k.Key.{Key}
 use Rattle.fts_collect.specs.Internals.Keys.{TopKValue, IsTopK, put_key}
 use Rattle.fts_collect.proofs.KeysLemmas.{beyond, higher_rank, lower_rank}
