@@ -1,5 +1,5 @@
 -- The first hits by their keys.
-use Rattle.std.proofs.Common.{◌≡◌, ℕ, ◌-◌, ◌/◌, ◌^◌, ◌<◌, ◌≤◌, ◌==◌, nat_lt, Bool, true, false, cond, ⊎_elim, List, [], ◌∷◌, ◌++◌, length, take, map, fold, Option, Some, None, refl, sym, ap, subst, ◌∙◌, arith, All, AllPairs, IfSome, get_or, option_map, suc, drop, drop-cons}
+use Rattle.std.proofs.Common.{◌≡◌, ℕ, ◌+◌, ◌-◌, ◌^◌, ◌<◌, ◌≤◌, ◌==◌, nat_lt, Bool, true, false, cond, ⊎_elim, inl, inr, List, [], ◌∷◌, ◌++◌, length, take, map, fold, Option, Some, None, refl, sym, ap, subst, ◌∙◌, arith, All, AllPairs, IfSome, get_or, option_map, suc, drop, drop-cons}
 use Rattle.std.specs.Prelude.{slice_get, slice_index_or, option_and_then}
 use Rattle.std.specs.List.{filter_map, cons_option}
 use Rattle.std.specs.Option.{option_map_or}
@@ -9,12 +9,12 @@ use Rattle.std.specs.declared.cmp.Ordering.TheVariants.{Less, Equal, Greater}
 use Rattle.std.proofs.lemmas.Bool.{cases_lt}
 use Rattle.std.proofs.lemmas.Bool.Decides.{nat_tests}
 use Rattle.std.proofs.lemmas.Option.{slice_get-get_or, slice_get_past}
-use Rattle.std.proofs.lemmas.List.{drop-append-le, get_or_past, length-map, length-take-le, take-append-drop, take-map}
+use Rattle.std.proofs.lemmas.List.{drop-append-le, get_or-take, get_or_past, length-map, length-take-le, take-append-drop, take-map}
 use Rattle.std.proofs.lemmas.List.Elements.{filter_map-append, All-nil, All-cons, All-head, All-tail, All-take}
 use Rattle.std.proofs.lemmas.List.Kept.{AllPairs-cons}
 use Rattle.std.proofs.lemmas.List.Sums.{fold-append}
 use Rattle.fts_column.specs.Blocks.{block_of}
-use Rattle.fts_column.specs.Column.{IsRangeOf}
+use Rattle.fts_column.specs.Column.{IsRangeOf, is_within}
 use Rattle.fts_column.proofs.BlocksLemmas.{block_none, block_within}
 use Rattle.fts_model.specs.declared.schema.Kind.{Kind}
 use Rattle.fts_model.specs.declared.value.Number.{Number}
@@ -252,16 +252,6 @@ Offers-front ranking docs more old middle new behind here =
     here ∙ ap offered behind
     ∙ ap (λ keys. record { k = old.k; keys = keys }) (sym (ap (keep_keys old.k old.keys) (filter_map-append key docs more) ∙ keep-front old.k old.keys (filter_map key docs) (filter_map key more)))
 
--- those from the one before a place on, of which the first is offered last
-pub Offers-from : (ranking : Ranking) (docs : List ℕ) (i : ℕ) (old middle new : TopKValue) → 0 < i → i ≤ length docs →
-    Offers ranking (drop i docs) old middle → Offers ranking (get_or docs (i - 1) 0 ∷ []) middle new → Offers ranking (drop (i - 1) docs) old new
-Offers-from ranking docs i old middle new some within behind here =
-    let P : List ℕ → Type 0 = λ ds. Offers ranking ds old new in
-    let back : suc (i - 1) ≡ i = omega (arith, some) in
-    let first : drop (i - 1) docs ≡ get_or docs (i - 1) 0 ∷ drop i docs =
-    drop-cons docs (i - 1) 0 (omega (arith, some, within)) ∙ ap (λ j. get_or docs (i - 1) 0 ∷ drop j docs) back in
-    subst P (sym first) (Offers-front ranking (get_or docs (i - 1) 0 ∷ []) (drop i docs) old middle new behind here)
-
 -- those from a place on, of which those before another place are offered last
 pub Offers-part : (ranking : Ranking) (docs : List ℕ) (start left : ℕ) (old middle new : TopKValue) → start ≤ left → left ≤ length docs →
     Offers ranking (drop left docs) old middle → Offers ranking (drop start (take left docs)) middle new → Offers ranking (drop start docs) old new
@@ -296,9 +286,92 @@ pub block_without : (ranking : Ranking) (block : ℕ) (top_k : TopKValue) → Is
 block_without ranking block top_k h doc here =
     sym (ap (λ v. record { k = top_k.k; keys = keep_keys top_k.k top_k.keys (cons_option (option_map (λ x. record { rank = rank_in ranking.order x; stamp = stamp_at ranking.segment.now.documents doc; doc = doc }) v) []) }) (block_none ranking.column.now block doc h here))
 
--- hits of a block that has none of the first change nothing
+-- hits of which none is one of the first change nothing
+pub Offers-passed : (ranking : Ranking) (top_k : TopKValue) (docs : List ℕ) → All (λ doc. Offers ranking (doc ∷ []) top_k top_k) docs → Offers ranking docs top_k top_k
+Offers-passed ranking top_k [] h = refl
+Offers-passed ranking top_k (doc ∷ docs) h =
+    let P : ℕ → Type 0 = λ d. Offers ranking (d ∷ []) top_k top_k in
+    Offers-front ranking (doc ∷ []) docs top_k top_k top_k (Offers-passed ranking top_k docs (All-tail P doc docs h)) (All-head P doc docs h)
+
+-- those of a block that has none of the first
 pub Offers-beyond : (ranking : Ranking) (block : ℕ) (top_k : TopKValue) (docs : List ℕ) → IsBeyond ranking block top_k → AreOfBlock block docs → Offers ranking docs top_k top_k
-Offers-beyond ranking block top_k [] beyond same = refl
-Offers-beyond ranking block top_k (doc ∷ docs) beyond same =
-    let P : ℕ → Type 0 = λ d. d / 128 ≡ block in
-    Offers-front ranking (doc ∷ []) docs top_k top_k top_k (Offers-beyond ranking block top_k docs beyond (All-tail P doc docs same)) (beyond doc (All-head P doc docs same))
+Offers-beyond ranking block top_k docs beyond same = Offers-passed ranking top_k docs (λ k d inside. beyond (get_or docs k d) (same k d inside))
+
+-- no key of a greater rank is one of the first
+abbrev pub IsMost : ℕ → TopKValue → Type 0
+IsMost most top_k = (key : Key) → most < key.rank → take top_k.k (put_key top_k.keys key) ≡ top_k.keys
+
+-- a hit without a number, or whose number ranks behind that, changes nothing
+pub Offers-behind : (ranking : Ranking) (most : ℕ) (top_k : TopKValue) (doc : ℕ) → IsMost most top_k → IfSome (slice_index_or ranking.column.now doc None) (λ x. most < rank_in ranking.order x) → Offers ranking (doc ∷ []) top_k top_k
+Offers-behind ranking most top_k doc bound low =
+    let value = slice_index_or ranking.column.now doc None in
+    ap (λ keys. record { k = top_k.k; keys = keys })
+    (sym (keep_none top_k.k top_k.keys ranking.order ranking.segment.now.documents doc (suc most) value (λ key le. bound key le) low))
+
+-- numbers that aren't within bounds rank behind
+behind_rising : (least most : ℕ) (v : Option ℕ) → IfSome v (λ x. least ≤ x) → is_within least most v ≡ false → IfSome v (λ x. most < x)
+behind_rising least most None low out = tt
+behind_rising least most (Some x) low out = grind arith
+
+behind_falling : (greatest most : ℕ) (v : Option ℕ) → most < 2 ^ 64 → greatest < 2 ^ 64 → IfSome v (λ x. x ≤ greatest) → is_within (2 ^ 64 - 1 - most) greatest v ≡ false → IfSome v (λ x. most < 2 ^ 64 - 1 - x)
+behind_falling greatest most None fits all low out = tt
+behind_falling greatest most (Some x) fits all low out = grind arith
+
+-- each number lies in the range
+in_range : (values : List (Option ℕ)) (range : ℕ × ℕ) (doc : ℕ) → IsRangeOf values (Some range) → IfSome (slice_index_or values doc None) (λ x. (range.0 ≤ x) × (x ≤ range.1))
+in_range values range doc h =
+    let P : Option ℕ → Type 0 = λ v. IfSome v (λ x. (range.0 ≤ x) × (x ≤ range.1)) in
+    elim (cases_lt doc (length values)) [
+      | inl inside ↦ h.2 doc None inside
+      | inr past ↦ subst P (sym (get_or_past values doc None past)) tt
+    ]
+
+least_in : (least greatest : ℕ) (v : Option ℕ) → IfSome v (λ x. (least ≤ x) × (x ≤ greatest)) → IfSome v (λ x. least ≤ x)
+least_in least greatest None h = tt
+least_in least greatest (Some x) h = h.0
+
+most_in : (least greatest : ℕ) (v : Option ℕ) → IfSome v (λ x. (least ≤ x) × (x ≤ greatest)) → IfSome v (λ x. x ≤ greatest)
+most_in least greatest None h = tt
+most_in least greatest (Some x) h = h.1
+
+pub Offers-rising : (ranking : Ranking) (most : ℕ) (range : ℕ × ℕ) (top_k : TopKValue) (docs : List ℕ) → ranking.order ≡ Rising → IsRangeOf ranking.column.now (Some range) → IsMost most top_k →
+    All (λ doc. is_within range.0 most (slice_index_or ranking.column.now doc None) ≡ false) docs → Offers ranking docs top_k top_k
+Offers-rising ranking most range top_k docs rising ranged bound out =
+    Offers-passed ranking top_k docs (λ k d inside.
+    let doc = get_or docs k d in
+    let v = slice_index_or ranking.column.now doc None in
+    Offers-behind ranking most top_k doc bound
+    (subst (λ o. IfSome v (λ x. most < rank_in o x)) (sym rising) (behind_rising range.0 most v (least_in range.0 range.1 v (in_range ranking.column.now range doc ranged)) (out k d inside))))
+
+pub Offers-falling : (ranking : Ranking) (most : ℕ) (range : ℕ × ℕ) (top_k : TopKValue) (docs : List ℕ) → ranking.order ≡ Falling → most < 2 ^ 64 → range.1 < 2 ^ 64 → IsRangeOf ranking.column.now (Some range) → IsMost most top_k →
+    All (λ doc. is_within (2 ^ 64 - 1 - most) range.1 (slice_index_or ranking.column.now doc None) ≡ false) docs → Offers ranking docs top_k top_k
+Offers-falling ranking most range top_k docs falling fits all ranged bound out =
+    Offers-passed ranking top_k docs (λ k d inside.
+    let doc = get_or docs k d in
+    let v = slice_index_or ranking.column.now doc None in
+    Offers-behind ranking most top_k doc bound
+    (subst (λ o. IfSome v (λ x. most < rank_in o x)) (sym falling) (behind_falling range.1 most v fits all (most_in range.0 range.1 v (in_range ranking.column.now range doc ranged)) (out k d inside))))
+
+-- where a column has no number, no hit changes anything
+pub Offers-without : (ranking : Ranking) (top_k : TopKValue) (docs : List ℕ) → IsRangeOf ranking.column.now None → Offers ranking docs top_k top_k
+Offers-without ranking top_k docs none =
+    Offers-passed ranking top_k docs (λ k d inside.
+    let doc = get_or docs k d in
+    let P : Option ℕ → Type 0 = λ v. keep_keys top_k.k top_k.keys (cons_option (option_map (λ x. record { rank = rank_in ranking.order x; stamp = stamp_at ranking.segment.now.documents doc; doc = doc }) v) []) ≡ top_k.keys in
+    let nothing : slice_index_or ranking.column.now doc None ≡ None = elim (cases_lt doc (length ranking.column.now)) [
+      | inl there ↦ none doc None there
+      | inr past ↦ get_or_past ranking.column.now doc None past
+    ] in
+    ap (λ keys. record { k = top_k.k; keys = keys }) (sym (subst P (sym nothing) refl)))
+
+-- those before a place, of which the last that may be one of the first is offered, and the others behind it change nothing
+pub Offers-step : (ranking : Ranking) (docs : List ℕ) (place left : ℕ) (old middle new : TopKValue) → place < left → left ≤ length docs →
+    Offers ranking (drop left docs) old middle → Offers ranking (drop (place + 1) (take left docs)) middle middle → Offers ranking (get_or docs place 0 ∷ []) middle new → Offers ranking (drop place docs) old new
+Offers-step ranking docs place left old middle new before within behind passed here =
+    let P : List ℕ → Type 0 = λ ds. Offers ranking ds middle new in
+    let first = get_or docs place 0 in
+    let size : length (take left docs) ≡ left = length-take-le left docs within in
+    let split : drop place (take left docs) ≡ first ∷ drop (place + 1) (take left docs) =
+    drop-cons (take left docs) place 0 (omega (arith, before, size)) ∙ ap (λ d. d ∷ drop (suc place) (take left docs)) (get_or-take left docs place 0 before) ∙ ap (λ n. first ∷ drop n (take left docs)) (let e : suc place ≡ place + 1 = omega arith in e) in
+    Offers-part ranking docs place left old middle new (omega (arith, before)) within behind
+    (subst P (sym split) (Offers-front ranking (first ∷ []) (drop (place + 1) (take left docs)) middle middle new passed here))

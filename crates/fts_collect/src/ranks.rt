@@ -1,6 +1,6 @@
 // The first hits of a segment, picked by their numbers in a column.
-ghost use Rattle.std.specs.Prelude.{◌≡◌, ◌<◌, ◌/◌, ◌++◌, ◌∷◌, [], true, All, IfOk, OnOk, drop, length, map};
-ghost use Rattle.std.specs.Prelude.{slice_index};
+ghost use Rattle.std.specs.Prelude.{◌≡◌, ◌+◌, ◌<◌, ◌/◌, ◌++◌, ◌∷◌, [], true, All, IfOk, IfSome, None, OnOk, drop};
+ghost use Rattle.std.specs.Prelude.{length, map, slice_index};
 ghost use Rattle.fts_collect.specs.Internals.Ranks.{AreOfBlock, IsBeyond, Offers, best_rank, hit_of, rank_in};
 
 use crate::tally::number_at;
@@ -124,13 +124,32 @@ impl Ranking<'_> {
         requires { All (λ doc. doc < length self.now.segment.now.documents) docs.now }
         ensures { OnOk result (Offers self.now docs.now top_k.old top_k.new) }
     {
-        for i in (0..docs.len()).rev() {
-            self.offer_hit(docs[i], top_k)?;
+        let mut left = docs.len();
+        while let Some(place) = self.last_promising(&docs[..left], top_k) {
+            self.offer_hit(docs[place], top_k)?;
+            left = place;
         }
         Ok(())
     }
 
-    /// Offers a hit, if it has a number in the column. Its stamp is looked up only where its rank may do.
+    /// The place of the last document whose hit may be one of the first. Those that a bound keeps out are passed over.
+    fn last_promising(&self, docs: &[u32], top_k: &TopK) -> Option<usize>
+        ensures within { IfSome result (λ place. place < length docs.now) }
+        ensures behind { IfSome result
+            (λ place. Offers self.now (drop (place + 1) docs.now) top_k.now top_k.now) }
+        ensures none { result ≡ None → Offers self.now docs.now top_k.now top_k.now }
+    {
+        let Some(most) = top_k.bound_rank() else {
+            return docs.len().checked_sub(1);
+        };
+        let (least, greatest) = self.column.range()?;
+        match self.order {
+            Order::Rising => self.column.last_within(docs, least, most),
+            Order::Falling => self.column.last_within(docs, u64::MAX - most, greatest),
+        }
+    }
+
+    /// Offers a hit, if it has a number in the column.
     fn offer_hit(&self, doc: u32, top_k: &mut TopK) -> Result<(), AllocError>
         requires { doc < length self.now.segment.now.documents }
         ensures { OnOk result (Offers self.now (doc ∷ []) top_k.old top_k.new) }
@@ -139,9 +158,6 @@ impl Ranking<'_> {
             return Ok(());
         };
         let rank = rank_in(self.order, number);
-        if top_k.is_beyond(rank) {
-            return Ok(());
-        }
         let stamp = self.segment.stamp(doc as usize);
         top_k.offer(Key { rank, stamp, doc })
     }

@@ -1,5 +1,5 @@
 // The least of many keys, of which few are held at a time.
-ghost use Rattle.std.specs.Prelude.{◌≡◌, ◌≤◌, ℕ, [], IfSome, OnOk, All, length, take, true};
+ghost use Rattle.std.specs.Prelude.{◌≡◌, ◌<◌, ◌≤◌, ℕ, [], IfSome, OnOk, All, length, take, true};
 ghost use Rattle.fts_collect.specs.Internals.Keys.{first_keys, key_lt, put_key};
 
 use std::alloc::{AllocError, Global};
@@ -43,6 +43,17 @@ impl TopK {
             k,
             held: Vec::new(alloc),
             bound: None,
+        }
+    }
+
+    /// The rank above which no key is one of the least, if there is one by now.
+    pub(crate) fn bound_rank(&self) -> Option<u64>
+        ensures { IfSome result (λ most. (key : Key) → most < key.rank →
+            take self.now.k (put_key self.now.keys key) ≡ self.now.keys) }
+    {
+        match self.bound {
+            None => None,
+            Some(bound) => Some(bound.rank),
         }
     }
 

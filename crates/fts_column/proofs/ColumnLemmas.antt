@@ -237,6 +237,11 @@ lane_there values range width words lanes h i = elim (cases_lt i (length values)
 pub lane_inside : (values : List (Option ℕ)) (range : Option (ℕ × ℕ)) (width : ℕ) (words lanes : List ℕ) → IsColumn values range width words lanes → (i : ℕ) → i < length values → i < length lanes
 lane_inside values range width words lanes h i inside = omega (arith, inside, h.lanes_are.enough, length-offsets (least_of range) values)
 
+pub lane_each : (range : Option (ℕ × ℕ)) (width : ℕ) (words lanes : List ℕ) (present : List Bool) → IsColumn (values_at (least_of range) present (numbers_in 64 width (length present) words)) range width words lanes → length present ≤ length lanes
+lane_each range width words lanes present h =
+    let values = values_at (least_of range) present (numbers_in 64 width (length present) words) in
+    omega (arith, h.lanes_are.enough, length-offsets (least_of range) values, column_length values (least_of range) present width words refl)
+
 pub stretch_inside : (values : List (Option ℕ)) (range : Option (ℕ × ℕ)) (width : ℕ) (words lanes : List ℕ) → IsColumn values range width words lanes → (from : ℕ) → from % 64 ≡ 0 → from < length values → from + 64 ≤ length lanes
 stretch_inside values range width words lanes h from aligned inside = omega (arith, aligned, h.lanes_are.whole, lane_inside values range width words lanes h from inside)
 

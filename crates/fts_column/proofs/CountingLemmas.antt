@@ -2,15 +2,17 @@
 use Rattle.std.proofs.Common.{◌≡◌, ℕ, zero, suc, ◌+◌, ◌-◌, ◌*◌, ◌/◌, ◌%◌, ◌^◌, ◌<◌, ◌≤◌, Bool, true, false, cond, slice_get, Option, Some, None, IfSome, Contains, is_some, map, drop, List, [], ◌∷◌, length, take, set, get_or, count_by, refl, sym, ap, ap₂, ◌∙◌, subst, inl, inr, arith, mod-eq_of_lt}
 use Rattle.std.proofs.Math.Nat.{add-mul-mod_self_left, mod-add-div}
 use Rattle.std.proofs.lemmas.Bool.{cases_Bool, cases_eq, cases_lt, eq-eqb, ne_eqb}
-use Rattle.std.proofs.lemmas.List.{get_or-append_right, get_or-drop, get_or-map, get_or-set_other, get_or-set_same, get_or-take, get_or_append_left, get_or_past, length-drop, length-map, length-set, length-take-le, take_rest}
+use Rattle.std.proofs.lemmas.List.{get_or-append_right, get_or-drop, get_or-map, get_or-set_other, get_or-set_same, get_or-take, get_or_append_left, get_or_past, length-drop, length-map, length-set, length-take-le, take-map, take_rest}
 use Rattle.std.proofs.lemmas.Option.{get_or_from_slice_get, slice_get-get_or, slice_get_past}
 use Rattle.std.proofs.lemmas.List.Sums.{count_by-le-length, count_by_more_no, count_by_more_yes, sum_by-cons}
 use borrow.Rule.Slice.PartMut.{put_mid}
 use Rattle.std.specs.Option.{option_map, option_map_or}
-use Rattle.fts_column.specs.Column.{IsColumn, least_of}
+use Rattle.fts_bits.specs.Digits.{numbers_in}
+use Rattle.fts_bits.proofs.PackingLemmas.{length-numbers_in}
+use Rattle.fts_column.specs.Column.{IsColumn, least_of, values_at}
 use Rattle.fts_column.specs.Counting.{AreCounted, AreWithin, having, is_value}
 use Rattle.fts_column.specs.Lanes.{number_at}
-use Rattle.fts_column.proofs.ColumnLemmas.{above_least, lane_at, value_missing, value_there}
+use Rattle.fts_column.proofs.ColumnLemmas.{above_least, lane_at, presence-values_at, value_missing, value_there}
 
 -- what is added to a remainder is added to the number
 pub mod-add : (a b m : ℕ) → (a % m + b) % m ≡ (a + b) % m
@@ -85,16 +87,17 @@ each_set (true ∷ bits) (suc i) all inside =
     each_set bits i (omega (arith, all, sum_by-cons (λ bit. cond bit 1 0) true bits)) (omega (arith, inside))
 
 -- and then each document has the number in its lane
-pub every_number : (present : List Bool) (lanes : List ℕ) (len doc : ℕ) → len ≡ length present → count_by (λ bit. bit) present ≡ len → len ≤ length lanes → slice_get (take len lanes) doc ≡ number_at present lanes doc
-every_number present lanes len doc long all room =
-    let size : length (take len lanes) ≡ len = length-take-le len lanes room in
-    elim (cases_lt doc len) [
+pub every_number : {A : Type 0} (value : A → ℕ) (present : List Bool) (lanes : List A) (len doc : ℕ) → len ≡ length present → count_by (λ bit. bit) present ≡ len → len ≤ length lanes → slice_get (map value (take len lanes)) doc ≡ number_at present (map value lanes) doc
+every_number value present lanes len doc long all room =
+    let numbers = map value lanes in
+    let size : length (take len numbers) ≡ len = length-take-le len numbers (omega (arith, room, length-map lanes value)) in
+    ap (λ xs. slice_get xs doc) (sym (take-map value len lanes)) ∙ elim (cases_lt doc len) [
       | inl inside ↦ (
           let bit : get_or present doc false ≡ true = each_set present doc (all ∙ long) (omega (arith, inside, long)) in
-          slice_get-get_or (take len lanes) doc 0 (omega (arith, inside, size))
-          ∙ ap Some (get_or-take len lanes doc 0 inside)
-          ∙ sym (ap (λ b. cond b (Some (get_or lanes doc 0)) None) bit))
-      | inr past ↦ slice_get_past (take len lanes) doc (omega (arith, past, size)) ∙ sym (number_at-past present lanes doc (omega (arith, past, long)))
+          slice_get-get_or (take len numbers) doc 0 (omega (arith, inside, size))
+          ∙ ap Some (get_or-take len numbers doc 0 inside)
+          ∙ sym (ap (λ b. cond b (Some (get_or numbers doc 0)) None) bit))
+      | inr past ↦ slice_get_past (take len numbers) doc (omega (arith, past, size)) ∙ sym (number_at-past present numbers doc (omega (arith, past, long)))
     ]
 
 -- the number of a lane, which is a place
@@ -120,8 +123,10 @@ lane_within values range width words lanes h least count first doc first_is here
     (lane_at values range width words lanes h doc inside ∙ ap (λ n. option_map_or (λ x. x - n) (get_or values doc None) 0) first_is)
 
 -- the value of a document is the number in its lane above the least
-pub value_of_number : (values : List (Option ℕ)) (range : Option (ℕ × ℕ)) (width : ℕ) (words lanes : List ℕ) (present : List Bool) (first doc : ℕ) → IsColumn values range width words lanes → map is_some values ≡ present → least_of range ≡ first → get_or values doc None ≡ option_map (λ n. first + n) (number_at present lanes doc)
-value_of_number values range width words lanes present first doc h there first_is =
+pub value_of_number : (values : List (Option ℕ)) (range : Option (ℕ × ℕ)) (width : ℕ) (words lanes : List ℕ) (present : List Bool) (first doc : ℕ) → values_at (least_of range) present (numbers_in 64 width (length present) words) ≡ values → IsColumn (values_at (least_of range) present (numbers_in 64 width (length present) words)) range width words lanes → least_of range ≡ first → get_or values doc None ≡ option_map (λ n. first + n) (number_at present lanes doc)
+value_of_number values range width words lanes present first doc view column first_is =
+    let h : IsColumn values range width words lanes = subst (λ v. IsColumn v range width words lanes) view column in
+    let there : map is_some values ≡ present = ap (map is_some) (sym view) ∙ presence-values_at _ _ _ (length-numbers_in 64 width _ words) in
     let size : length present ≡ length values = sym (ap length there) ∙ length-map values is_some in
     elim (cases_lt doc (length present)) [
       | inr past ↦ get_or_past values doc None (omega (arith, past, size)) ∙ sym (ap (option_map (λ n. first + n)) (number_at-past present lanes doc past))

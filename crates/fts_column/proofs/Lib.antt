@@ -2,3 +2,4 @@ pub mod BlocksLemmas
 pub mod ColumnLemmas
 pub mod CountingLemmas
 mod LanesLemmas
+mod SeekingLemmas

@@ -2,3 +2,4 @@ pub mod Blocks
 pub mod Column
 pub mod Counting
 pub mod Lanes
+pub mod Seeking

@@ -1,8 +1,8 @@
 // One value a document, or none: how far it is above the least, in as few bits as the greatest needs, and a bit for
 // presence. The same again in lanes, from which values are read.
 ghost use Rattle.std.specs.Prelude.{◌≡◌, ◌≤◌, ◌<◌, ◌+◌, ◌-◌, ◌*◌, ◌%◌, ◌^◌, ◌==◌, ℕ, List, [], ◌∷◌, Option, None};
-ghost use Rattle.std.specs.Prelude.{IfOk, IfSome, IsOkUnless, drop, is_some, length, map, min, slice_index};
-ghost use Rattle.std.specs.Prelude.{slice_index_or, take};
+ghost use Rattle.std.specs.Prelude.{true, false, All, IfOk, IfSome, IsOkUnless, drop, is_some, length, map, min};
+ghost use Rattle.std.specs.Prelude.{slice_index, slice_index_or, take};
 ghost use Rattle.fts_bits.specs.Bits.{number_of};
 ghost use Rattle.fts_bits.specs.Digits.{IsWidthOf, numbers_in, words_of};
 ghost use Rattle.std.specs.Option.{option_map_or};
@@ -195,6 +195,25 @@ impl Column {
             let places = &mut counts[(first - least) as usize..];
             self.lanes.count(&self.present, docs, places);
         }
+    }
+
+    /// The place of the last of the documents whose value is `low` or more and `high` or less. A document that has no
+    /// value, or that isn't there, is passed over.
+    pub fn last_within(&self, docs: &[u32], low: u64, high: u64) -> Option<usize>
+        ensures some { IfSome result (λ place. (place < length docs.now)
+            × (is_within low high (slice_index_or self.now (slice_index docs.now place) None) ≡ true)) }
+        ensures behind { IfSome result (λ place.
+            All (λ doc. is_within low high (slice_index_or self.now doc None) ≡ false) (drop (place + 1) docs.now)) }
+        ensures none { result ≡ None →
+            All (λ doc. is_within low high (slice_index_or self.now doc None) ≡ false) docs.now }
+    {
+        let (least, _) = self.range?;
+        if high < least {
+            return None;
+        }
+        let above = low.saturating_sub(least);
+        self.lanes
+            .last_within(&self.present, docs, above, high - least)
     }
 
     /// The least and the greatest value, if there is one.

@@ -6,6 +6,7 @@ ghost use Rattle.fts_column.specs.Lanes.{AreLanesOf, AreMarked};
 use crate::column::offset;
 use crate::counting::count_lanes;
 use crate::lane::Lane;
+use crate::seeking::last_lane;
 use fts_bits::Bits;
 use std::alloc::{AllocError, Global};
 use std::simd::prelude::*;
@@ -28,6 +29,7 @@ impl Lanes {
     ghost use Rattle.fts_column.specs.Column.{HaveOffsets, offsets};
     ghost use Rattle.fts_column.specs.Counting.{AreCounted};
     ghost use Rattle.fts_column.specs.Lanes.{AreLanesOf, AreMarked, in_lanes, number_at};
+    ghost use Rattle.fts_column.specs.Seeking.{IsLastWithin};
 
     /// How far each value is above the least, and 0 for a missing one, where this takes `width` bits at most.
     pub(crate) fn of_offsets(
@@ -104,6 +106,24 @@ impl Lanes {
             Lanes::Bytes(bytes) => count_lanes(bytes.as_slice(), present, docs, counts),
             Lanes::Words(words) => count_lanes(words.as_slice(), present, docs, counts),
             Lanes::Longs(longs) => count_lanes(longs.as_slice(), present, docs, counts),
+        }
+    }
+
+    /// The place of the last of the documents whose bit is set and whose number is `low` or more and `high` or less.
+    pub(crate) fn last_within(
+        &self,
+        present: &Bits,
+        docs: &[u32],
+        low: u64,
+        high: u64,
+    ) -> Option<usize>
+        requires { length present.now ≤ length (in_lanes self.now) }
+        ensures { IsLastWithin (number_at present.now (in_lanes self.now)) low high docs.now result }
+    {
+        match self {
+            Lanes::Bytes(bytes) => last_lane(bytes.as_slice(), present, docs, low, high),
+            Lanes::Words(words) => last_lane(words.as_slice(), present, docs, low, high),
+            Lanes::Longs(longs) => last_lane(longs.as_slice(), present, docs, low, high),
         }
     }
 }

@@ -7,5 +7,6 @@ mod counting;
 mod lane;
 mod lanes;
 pub mod laws;
+mod seeking;
 
 pub use column::{Column, Stretch};

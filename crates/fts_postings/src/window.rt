@@ -1,6 +1,6 @@
 // The documents found among the next 4,096.
-ghost use Rattle.std.specs.Prelude.{◌≡◌, ℕ, ◌+◌, ◌^◌, ◌<◌, ◌≤◌, ◌∷◌, ◌||◌, [], All, IfOk, IfSome, MatchBool, drop, false};
-ghost use Rattle.std.specs.Prelude.{◌-◌, ◌%◌, length, slice_get, slice_index, take, true};
+ghost use Rattle.std.specs.Prelude.{◌≡◌, ℕ, ◌+◌, ◌^◌, ◌<◌, ◌≤◌, ◌∷◌, ◌||◌, [], All, IfOk, IfSome, MatchBool, drop};
+ghost use Rattle.std.specs.Prelude.{false, ◌-◌, ◌%◌, length, slice_get, slice_index, take, true};
 ghost use Rattle.std.specs.List.Sorted.{IsStrictlyIncreasing};
 ghost use Rattle.fts_postings.specs.Sets.{has, with_one};
 ghost use Rattle.fts_postings.specs.Remaining.{at_least};
@@ -20,8 +20,8 @@ pub struct Window {
     pub from: u64,
     /// The last document that has a place.
     pub last: u32,
-    /// A mark for each document from `base` on: 0 where it isn't found. Marks are bytes, since documents of a list mostly
-    /// lie close together, and bits of one word would be set one after the other.
+    /// A mark for each document from `base` on: 0 where it isn't found. Marks are bytes, since documents of a list
+    /// mostly lie close together, and bits of one word would be set one after the other.
     pub marks: Vec<u8>,
     pub ghost order: { base ≤ from },
     pub ghost few: { last ≤ base + 4095 },

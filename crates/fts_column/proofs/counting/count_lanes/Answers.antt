@@ -1,5 +1,5 @@
-use Rattle.std.proofs.Common.{◌<◌, ◌∙◌, ap, arith, length, get_or, map, subst, sym, slice_get, take}
-use Rattle.std.proofs.lemmas.List.{get_or-take, length-map, length-take-le, take-map}
+use Rattle.std.proofs.Common.{◌<◌, ◌∙◌, arith, length, get_or, map, subst, sym, slice_get, take}
+use Rattle.std.proofs.lemmas.List.{get_or-take, length-take-le, take-map}
 use Rattle.fts_column.specs.Lanes.{number_at}
 use Rattle.fts_column.proofs.CountingLemmas.{AreCounted-same, every_number}
 use Rattle.fts_column.proofs.counting.count_lanes.Goals as goal
@@ -14,10 +14,10 @@ count_all-requires g c = λ doc inside.
 
 pub returns-then-count_ones-len : goal.returns-then-count_ones-len
 returns-then-count_ones-len g c =
+    let value = g.L.Lane.value in
     let present = c.args.present.now in
     let lanes = c.args.lanes.now in
-    let numbers = map g.L.Lane.value lanes in
     let len = c.len-len.result in
-    AreCounted-same (slice_get (map g.L.Lane.value (take len lanes))) (number_at present numbers) c.args.docs.now c.args.counts.now c.count_all.new.counts
-    (λ doc. ap (λ xs. slice_get xs doc) (sym (take-map g.L.Lane.value len lanes)) ∙ every_number present numbers len doc c.len-len.ensures (sym c.count_ones.ensures ∙ c.if-count_ones-len.true) (omega (arith, c.requires.enough, c.len-len.ensures, length-map lanes g.L.Lane.value)))
+    AreCounted-same (slice_get (map value (take len lanes))) (number_at present (map value lanes)) c.args.docs.now c.args.counts.now c.count_all.new.counts
+    (λ doc. every_number value present lanes len doc c.len-len.ensures (sym c.count_ones.ensures ∙ c.if-count_ones-len.true) (omega (arith, c.requires.enough, c.len-len.ensures)))
     c.count_all.ensures

@@ -1,18 +1,17 @@
-use Rattle.std.proofs.Common.{◌≡◌, ◌+◌, ◌-◌, ◌<◌, ◌≤◌, ◌∙◌, Some, None, is_some, map, length, ap, subst, sym, arith}
+use Rattle.std.proofs.Common.{◌+◌, ◌-◌, ◌<◌, ◌≤◌, Some, None, length, ap, subst, arith}
 use Rattle.std.proofs.Math.Facts.{Fits-lt-pow}
 use Rattle.std.proofs.lemmas.List.{length-drop, take_rest}
-use Rattle.fts_bits.proofs.PackingLemmas.{length-numbers_in}
-use Rattle.fts_column.specs.Column.{IsColumn, IsRangeOf, least_of, offsets}
+use Rattle.fts_column.specs.Column.{IsColumn, IsRangeOf, least_of}
 use Rattle.fts_column.specs.Counting.{is_value}
 use Rattle.fts_column.specs.Lanes.{in_lanes}
-use Rattle.fts_column.proofs.ColumnLemmas.{column_length, length-offsets, none_in, presence-values_at}
+use Rattle.fts_column.proofs.ColumnLemmas.{column_length, lane_each, none_in}
 use Rattle.fts_column.proofs.CountingLemmas.{counted_from_first, first_within, lane_within, stays, value_of_number}
 use Rattle.fts_column.proofs.column.Column.count_values.Goals as goal
 
 pub count-requires-clause-enough : goal.count-requires-clause-enough
 count-requires-clause-enough c =
     let column = c.self.inside in
-    omega (arith, c.self.invariant.0.lanes_are.enough, length-offsets (least_of column.range) c.args.self.now, ap (λ v. length (offsets (least_of column.range) v)) c.self.view_is, column_length c.args.self.now _ _ _ _ c.self.view_is)
+    lane_each column.range column.width column.words.items (in_lanes column.lanes) column.present c.self.invariant.0
 
 pub count-requires-clause-within : goal.count-requires-clause-within
 count-requires-clause-within c = λ doc inside.
@@ -37,9 +36,8 @@ returns-in-Some-clause-counted c =
     let h : IsColumn values column.range column.width column.words.items (in_lanes column.lanes) = subst (λ v. IsColumn v column.range column.width column.words.items (in_lanes column.lanes)) c.self.view_is c.self.invariant.0 in
     let range : IsRangeOf values (Some (first, c.in-Some.field-0-1)) = subst (IsRangeOf values) c.in-Some.is h.range_is in
     let here : (least ≤ first) × (first < least + length counts) = first_within values least (length counts) first c.requires range.0 in
-    let there : map is_some values ≡ column.present = ap (map is_some) (sym c.self.view_is) ∙ presence-values_at _ _ _ (length-numbers_in 64 column.width _ column.words.items) in
     counted_from_first values column.present (in_lanes column.lanes) c.args.docs.now counts c.count.new.counts least (first - least) first
-    (λ doc. value_of_number values column.range column.width column.words.items (in_lanes column.lanes) column.present first doc h there (ap least_of c.in-Some.is))
+    (λ doc. value_of_number values column.range column.width column.words.items (in_lanes column.lanes) column.present first doc c.self.view_is c.self.invariant.0 (ap least_of c.in-Some.is))
     (omega (arith, here.0)) (omega (arith, here.0, here.1)) (λ k. Fits-lt-pow (c.type_inv.counts k)) c.count.ensures
 
 pub returns-in_default-clause-counted : goal.returns-in_default-clause-counted
