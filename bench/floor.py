@@ -29,9 +29,11 @@ import time
 
 ROOT = pathlib.Path(__file__).resolve().parent.parent
 PROGRAM = pathlib.Path(os.environ.get("FTS", ROOT / "crates/fts/out/fts"))
-ROUNDS = 5
+# What else the machine does for a second spoils no time: each is the least of several rounds in each of several passes over all kinds.
+PASSES = 4
+ROUNDS = 2
 # Lucene's code is compiled as it runs.
-MORE_ROUNDS = 30
+MORE_ROUNDS = 10
 JARS = [*glob.glob("/usr/share/java/lucene-core-*.jar"), *glob.glob("/usr/share/java/lucene-analyzers-common-*.jar")]
 GUARD = ["valgrind", "--tool=callgrind", "--instr-atstart=no"]
 QUIET = {"stdout": subprocess.DEVNULL, "stderr": subprocess.DEVNULL}
@@ -237,22 +239,37 @@ class Table:
         return (time.process_time() - began) * 1e6
 
 
+def least(row):
+    """For each kind a row whose numbers are the least of all passes."""
+    rows = {}
+    for _ in range(PASSES):
+        for kind, searches in SEARCHES.items():
+            found = [each / len(searches) for each in row(kind, searches)]
+            rows[kind] = [*map(min, rows.get(kind, found), found)]
+    return rows
+
+
 def times(others):
     """A row for each kind of search: of `fts run`, both kinds of loops, FTS5, and the other indexes."""
     ours, plain, packed, table = script(), loops("plain", ROUNDS), loops("packed", ROUNDS), Table()
-    for kind, searches in SEARCHES.items():
+
+    def row(kind, searches):
         requests, lines = [request(*search) for search in searches], [*map(line, searches), ""]
         runs = [ours.ask(requests, len(requests)) for _ in range(ROUNDS)]
         answers = [told(reply) for reply in runs[0][0]]
+
         def asked(session):
             *theirs, nanos = session.ask(lines, len(lines))[0]
             assert theirs == answers, f"{kind}: the answers differ"
             return int(nanos) / 1000
 
-        row = [min(run[1] for run in runs), asked(plain), asked(packed), min(table.time(searches) for _ in range(ROUNDS))]
-        yield kind, [each / len(searches) for each in [*row, *map(asked, others)]]
+        micros = [min(run[1] for run in runs), asked(plain), asked(packed), min(table.time(searches) for _ in range(ROUNDS))]
+        return [*micros, *map(asked, others)]
+
+    rows = least(row)
     for session in (ours, plain, packed, *others):
         session.end()
+    return rows
 
 
 def instructions():
@@ -272,16 +289,20 @@ def growth(count):
     """For each kind the hits, the microseconds and those of the plain loop for a search, over the documents and over so many."""
     more = documents(count)
     sessions = [(script(given=given), loops("plain", ROUNDS, given=given)) for given in (DOCUMENTS, more)]
-    for kind, searches in SEARCHES.items():
-        requests, lines, row = [request(*search) for search in searches], [*map(line, searches), ""], []
+
+    def row(kind, searches):
+        requests, lines, found = [request(*search) for search in searches], [*map(line, searches), ""], []
         for ours, plain in sessions:
             runs = [ours.ask(requests, len(requests)) for _ in range(ROUNDS)]
             nanos = int(plain.ask(lines, len(lines))[0][-1])
-            row += [sum(json.loads(reply)["count"] for reply in runs[0][0]), min(run[1] for run in runs), nanos / 1000]
-        yield kind, [each / len(searches) for each in row]
+            found += [sum(json.loads(reply)["count"] for reply in runs[0][0]), min(run[1] for run in runs), nanos / 1000]
+        return found
+
+    rows = least(row)
     for pair in sessions:
         for session in pair:
             session.end()
+    return rows
 
 
 def instructions_grown(count):
@@ -318,7 +339,7 @@ with tempfile.TemporaryDirectory() as SCRATCH:
     source = ROOT / "bench/floor.cpp"
     subprocess.run(["g++", "-O2", "-march=x86-64-v2", "-std=c++20", source, "-o", f"{SCRATCH}/floor"], check=True)
     others = peers()
-    rows = list(times(others.values()))
+    rows = list(times(others.values()).items())
     print("| microseconds a search | fts | floor | kernel | fts / floor | fts / kernel | FTS5 | FTS5 / fts |", *(f" {name} | {name} / fts |" for name in others), sep="")
     print("|---|---|---|---|---|---|---|---|" + "---|---|" * len(others))
     for kind, (ours, plain, packed, *theirs) in rows:
@@ -326,7 +347,7 @@ with tempfile.TemporaryDirectory() as SCRATCH:
     if arguments.larger:
         print(f"\n| of {arguments.documents:,} and of {arguments.larger:,} documents | hits | microseconds | hits | microseconds | hits grew | time grew | the plain loop's grew |")
         print("|---|---|---|---|---|---|---|---|")
-        for kind, (hits, micros, loop, more_hits, more_micros, more_loop) in growth(arguments.larger):
+        for kind, (hits, micros, loop, more_hits, more_micros, more_loop) in growth(arguments.larger).items():
             grew = f"{more_hits / hits:.1f}" if hits else "-"
             print(f"| {kind} | {hits:,.0f} | {micros:.1f} | {more_hits:,.0f} | {more_micros:.1f} | {grew} | {more_micros / micros:.1f} | {more_loop / loop:.1f} |", flush=True)
     for count, (seconds, committed, merged) in BUILDS.items():
