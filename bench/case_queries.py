@@ -193,7 +193,7 @@ def write_cursors():
     s = Subject("cursors")
     common, rare = {"title": "common"}, {"title": "common rare"}
     must = "+title:common +title:rare"
-    s.case("300 titles are made, each third rare", "make", 300, runs=[{"times": 100, "of": [rare, common, common]}])
+    s.case("300 titles are made, each third rare", "make", 300, repeated=[{"times": 100, "of": [rare, common, common]}])
     s.case("A search back stays", "walk", [128, 128], query="title:common",
            steps=[{"seek": 128}, "doc", {"seek": 5}, "doc"])
     s.case("A search goes to the next hit", "walk", [129], query=must, steps=[{"seek": 128}, "doc"])
@@ -201,7 +201,7 @@ def write_cursors():
     s.case("A struck hit is passed, and behind the last hit is none", "walk", [132, None], query=must,
            steps=[{"seek": 128}, "doc", {"seek": 299}, "doc"])
     s.case("1,000 titles are made, the first and the last rare", "make", 1000,
-           runs=[{"times": 1, "of": [rare]}, {"times": 998, "of": [common]}, {"times": 1, "of": [rare]}])
+           repeated=[{"times": 1, "of": [rare]}, {"times": 998, "of": [common]}, {"times": 1, "of": [rare]}])
     s.case("Each of the 8 blocks of a word is opened once", "walk", [1000, 8], query="title:common",
            steps=[{"count": 1001}, "openings"])
     s.case("Blocks between two hits stay closed", "walk", [2, {"at_most": 4}], query=must,
@@ -210,8 +210,8 @@ def write_cursors():
     s.case("A stretch has 128 documents, and the next goes on behind it", "walk", [list(range(128)), 128],
            query="title:common", steps=["fill", "doc"])
     s.case("129 titles are made, the 128th with a tag and the last rare", "make", 129,
-           runs=[{"times": 127, "of": [common]}, {"times": 1, "of": [{"title": "common", "tag": "d128"}]},
-                 {"times": 1, "of": [rare]}])
+           repeated=[{"times": 127, "of": [common]}, {"times": 1, "of": [{"title": "common", "tag": "d128"}]},
+                     {"times": 1, "of": [rare]}])
     s.case("The tag is in the last document of the first block", "found", [127], query="tag:d128")
     s.case("The document of the tag is struck", "clear", 128, docs=[127])
     s.case("The struck document is found no more", "found", [], query="tag:d128")

@@ -261,16 +261,16 @@ def write_segments():
     s.case("In a text field nothing stands between ordinals", "equal_range", None, field=0, text="b")
     tagged, bare = {"tag": "x"}, {"title": "y"}
     s.case("134 documents are made, of which the 6th, the 7th and the last have a tag", "make", 134,
-           runs=[{"times": 5, "of": [bare]}, {"times": 2, "of": [tagged]}, {"times": 126, "of": [bare]},
-                 {"times": 1, "of": [tagged]}])
+           repeated=[{"times": 5, "of": [bare]}, {"times": 2, "of": [tagged]}, {"times": 126, "of": [bare]},
+                     {"times": 1, "of": [tagged]}])
     s.case("A list with a gap comes back", "postings", [5, 6, 133], term={"field": 1, "text": "x"})
-    s.case("129 documents of one tag are made", "make", 129, runs=[{"times": 129, "of": [tagged]}])
+    s.case("129 documents of one tag are made", "make", 129, repeated=[{"times": 129, "of": [tagged]}])
     s.case("A list of one block and a document comes back", "postings", list(range(129)),
            term={"field": 1, "text": "x"})
     s.case("Its tag comes back from a list of two blocks", "keyword", "x", field=1, ordinal=0)
     empty = lambda times: [{"times": times, "of": [{}]}]
-    s.case("A segment takes 65,536 documents", "make", 65_536, runs=empty(65_536))
-    s.case("A segment takes no 65,537th document", "make", error("SegmentFull"), runs=empty(65_537))
+    s.case("A segment takes 65,536 documents", "make", 65_536, repeated=empty(65_536))
+    s.case("A segment takes no 65,537th document", "make", error("SegmentFull"), repeated=empty(65_537))
     s.write()
 
 
@@ -384,12 +384,12 @@ def write_collectors():
                {"count": 4, "top": [[1, 5], [2, 5], [3, 5]]},
                query="*", top=top("price", 3, "rising"))
     for zeros, apart in [(2, 23), (2, 24), (8_192, 65_535), (8_192, 65_536)]:
-        runs = [{"times": zeros, "of": [{"price": 0}]}, {"times": 1, "of": [{"price": apart}]}]
-        s.case(f"{zeros} prices of 0 and one of {apart} are made", "make", zeros + 1, runs=runs)
+        prices = [{"times": zeros, "of": [{"price": 0}]}, {"times": 1, "of": [{"price": apart}]}]
+        s.case(f"{zeros} prices of 0 and one of {apart} are made", "make", zeros + 1, repeated=prices)
         s.case(f"Beside {zeros} prices of 0 that of {apart} is a group of its own", "answer",
                {"count": zeros + 1, "groups": [[0, zeros], [apart, 1]]}, query="*", groups="price")
     for docs, blocks in [(128, 1), (129, 2), (1000, 8)]:
-        s.case(f"{docs} common titles are made", "make", docs, runs=[{"times": docs, "of": [{"title": "common"}]}])
+        s.case(f"{docs} common titles are made", "make", docs, repeated=[{"times": docs, "of": [{"title": "common"}]}])
         s.case(f"Each block of {docs} documents is opened once", "answer_openings", blocks, query="title:common")
     s.write()
 

@@ -1,5 +1,5 @@
 // What a search is asked by values, and its answer.
-use crate::member::{number, only, optional_text, text};
+use crate::members::{number, only, optional_text, text};
 use crate::trial::Trial;
 use crate::trouble::Trouble;
 use fts_model::{Answer, GroupValue, Hit, Order, Request, Schema};

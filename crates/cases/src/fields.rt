@@ -1,5 +1,5 @@
 // The schema of a case.
-use crate::member::{flag, only, optional_list, text};
+use crate::members::{flag, only, optional_list, text};
 use crate::trial::Trial;
 use crate::trouble::Trouble;
 use fts_model::{Field, Kind, Schema, Text};

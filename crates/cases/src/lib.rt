@@ -29,7 +29,7 @@ mod answers;
 mod driver;
 mod fields;
 mod judge;
-mod member;
+mod members;
 mod operations;
 mod trial;
 mod trouble;
@@ -38,8 +38,8 @@ pub use answers::{give_answer, request_of};
 pub use driver::{Driver, Tally, Wanted, case_on, judged, run};
 pub use fields::{fields_of, schema_of, schema_of_four, schema_with};
 pub use judge::fits;
-pub use member::{
-    entry, flag, has, ids, list, nonempty, number, numbers, only, only_in_case, optional_flag,
+pub use members::{
+    flag, has, ids, list, member, nonempty, number, numbers, only, only_in_case, optional_flag,
     optional_list, optional_text, size, text,
 };
 pub use operations::{document_of, op_of, term_of};

@@ -1,5 +1,5 @@
 // The terms and operations of a case.
-use crate::member::{entry, has, only, text};
+use crate::members::{has, member, only, text};
 use crate::trial::Trial;
 use crate::trouble::Trouble;
 use fts_model::{Document, Op, Schema, Term};
@@ -9,7 +9,7 @@ use serde_json::Value;
 pub fn term_of(trial: &mut Trial, schema: &Schema, json: &Value) -> Option<Term> {
     only(trial, json, &["field", "is"]);
     let field = text(trial, json, "field");
-    let value = entry(trial, json, "is")?;
+    let value = member(trial, json, "is")?;
     let term = Term::new(trial.alloc(), schema, field, value);
     trial.kept(term)
 }
@@ -21,7 +21,7 @@ pub fn document_of(
     json: &Value,
     name: &'static str,
 ) -> Option<Document> {
-    let document = entry(trial, json, name)?;
+    let document = member(trial, json, name)?;
     let document = Document::from_json(trial.alloc(), schema, document);
     trial.kept(document)
 }
@@ -33,7 +33,7 @@ fn named(trial: &mut Trial, schema: &Schema, json: &Value) -> Option<Op> {
         return document_of(trial, schema, json, "add").map(Op::Add);
     }
     only(trial, json, &["delete"]);
-    let term = entry(trial, json, "delete")?;
+    let term = member(trial, json, "delete")?;
     term_of(trial, schema, term).map(Op::Delete)
 }
 

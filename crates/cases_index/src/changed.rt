@@ -7,7 +7,7 @@ ghost use Rattle.fts_snapshots.specs.Successors.{Follows};
 use crate::walk::Made;
 use cases::{Trial, Trouble, has, ids, list, only, op_of, schema_of, size};
 use fts_index::{Batch, Cut, Writer};
-use fts_model::{Op, Schema};
+use fts_model::{MOST_BUILT, Op, Schema};
 use fts_pool::Open;
 use serde_json::Value;
 use std::sync::Wait;
@@ -28,7 +28,7 @@ fn cut_of(trial: &mut Trial, cut: &Value) -> Cut
     }
     only(trial, cut, &["runs"]);
     match size(trial, cut, "runs") {
-        adds @ 1..=65_536 => return Cut::Runs(adds),
+        adds @ 1..=MOST_BUILT => return Cut::Runs(adds),
         _ => trial.fail(Trouble::Impossible("a number of adds that isn't one of 1 to 65,536")),
     }
     Cut::Runs(1)

@@ -7,7 +7,7 @@ use cases::{
     optional_list, schema_of,
 };
 use fts_bits::Bits;
-use fts_model::{Document, Schema, Stamped};
+use fts_model::{Document, MOST_MERGED, Schema, Stamped};
 use fts_segment::{Builder, Segment};
 use serde_json::Value;
 
@@ -39,30 +39,35 @@ fn push_all(
     }
 }
 
-/// Puts the documents of a run behind others, so often as the run says.
-fn push_run(trial: &mut Trial, found: &mut Vec<Stamped<Document>>, schema: &Schema, run: &Value) {
-    only(trial, run, &["times", "of"]);
-    let times = number(trial, run, "times");
-    let documents = nonempty(trial, run, "of");
+/// Puts documents behind others, so often as is said beside them.
+fn push_repeated(
+    trial: &mut Trial,
+    found: &mut Vec<Stamped<Document>>,
+    schema: &Schema,
+    json: &Value,
+) {
+    only(trial, json, &["times", "of"]);
+    let times = number(trial, json, "times");
+    let documents = nonempty(trial, json, "of");
     for _ in 0..times {
         push_all(trial, found, schema, &[], documents);
     }
 }
 
-/// The documents of runs.
-fn documents_of_runs(trial: &mut Trial, schema: &Schema, runs: &[Value]) -> Vec<Stamped<Document>> {
+/// The documents of a list of repetitions.
+fn repeated(trial: &mut Trial, schema: &Schema, items: &[Value]) -> Vec<Stamped<Document>> {
     let mut found = Vec::new(trial.alloc());
-    for run in runs {
-        push_run(trial, &mut found, schema, run);
+    for item in items {
+        push_repeated(trial, &mut found, schema, item);
     }
     found
 }
 
-/// What a case has under `runs`, or else the list under `documents`, at the stamps of its `stamps`.
+/// What a case has under `repeated`, or else the list under `documents`, at the stamps of its `stamps`.
 fn documents_of(trial: &mut Trial, schema: &Schema, case: &Value) -> Vec<Stamped<Document>> {
-    if let Some(runs) = optional_list(trial, case, "runs") {
-        only_in_case(trial, case, &["schema", "merging", "runs"]);
-        return documents_of_runs(trial, schema, runs);
+    if let Some(items) = optional_list(trial, case, "repeated") {
+        only_in_case(trial, case, &["schema", "merging", "repeated"]);
+        return repeated(trial, schema, items);
     }
     let mut found = Vec::new(trial.alloc());
     let documents = list(trial, case, "documents");
@@ -94,7 +99,7 @@ fn add_all(
     ensures { builder.new.segment.schema ≡ schema.now }
 {
     for document in documents {
-        if !document.value.fits(schema) || builder.docs() >= 1_048_576 {
+        if !document.value.fits(schema) || builder.docs() >= MOST_MERGED {
             return trial.fail(Trouble::Impossible("a document that can't be added"));
         }
         let added = builder.add(document.stamp, &document.value);

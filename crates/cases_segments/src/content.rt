@@ -1,7 +1,7 @@
 // Cases of documents and of what is alive: `document`, `long_document`, `fits`, `has`, `term` and `alive`.
 use crate::texts::push_times;
 use cases::{
-    Trial, Trouble, document_of, entry, fields_of, list, nonempty, number, op_of, schema_of,
+    Trial, Trouble, document_of, fields_of, list, member, nonempty, number, op_of, schema_of,
     schema_of_four, schema_with, term_of, text,
 };
 use fts_model::{Document, Op, Schema, Stamped, Term};
@@ -120,7 +120,7 @@ fn fits(trial: &mut Trial, case: &Value) {
 
 /// The term of a case.
 fn case_term(trial: &mut Trial, schema: &Schema, case: &Value) -> Option<Term> {
-    let term = entry(trial, case, "term")?;
+    let term = member(trial, case, "term")?;
     term_of(trial, schema, term)
 }
 

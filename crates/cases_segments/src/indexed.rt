@@ -4,7 +4,7 @@ ghost use Rattle.std.specs.Prelude.{◌≡◌, Some, true};
 ghost use Rattle.fts_model.specs.declared.schema.Kind.TheVariants as kinds;
 ghost use Rattle.fts_model.specs.Operations.{kind_at};
 
-use cases::{Trial, Trouble, entry, has, number, only, size, text};
+use cases::{Trial, Trouble, has, member, number, only, size, text};
 use fts_model::{FieldValue, Kind, Number, Term, Text};
 use fts_pack::{Blocks, List};
 use fts_segment::{ListId, Segment};
@@ -32,7 +32,7 @@ fn value_of(trial: &mut Trial, json: &Value) -> Option<FieldValue> {
 
 /// The term of an object that has the number of a field beside a value, whether it fits the schema or not.
 fn term_of(trial: &mut Trial, case: &Value) -> Option<Term> {
-    let json = entry(trial, case, "term")?;
+    let json = member(trial, case, "term")?;
     only(trial, json, &["field", "text", "u64", "i64"]);
     let field = size(trial, json, "field");
     let value = value_of(trial, json)?;

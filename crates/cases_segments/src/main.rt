@@ -48,11 +48,11 @@ const MEMBERS: [(&str, &[&str]); 45] = [
     ("signed", &["number"]),
     (
         "make",
-        &["schema", "merging", "documents", "stamps", "runs"],
+        &["schema", "merging", "documents", "stamps", "repeated"],
     ),
     (
         "and_make",
-        &["schema", "merging", "documents", "stamps", "runs"],
+        &["schema", "merging", "documents", "stamps", "repeated"],
     ),
     ("clear", &["docs"]),
     ("answer", &["query", "groups", "top"]),

@@ -3,7 +3,7 @@
 use crate::bench::Bench;
 use crate::indexed::{column, postings};
 use crate::numbers::{all_bits, turn};
-use cases::{Trial, Trouble, entry, list, number, numbers, only, op_of};
+use cases::{Trial, Trouble, list, member, number, numbers, only, op_of};
 use fts_bits::Bits;
 use fts_merge::{Merged, Source, merge, plan, strike};
 use fts_model::{Op, Schema, Stamped};
@@ -14,7 +14,7 @@ use serde_json::Value;
 fn push_op(trial: &mut Trial, ops: &mut Vec<Stamped<Op>>, schema: &Schema, item: &Value) {
     only(trial, item, &["stamp", "op"]);
     let stamp = number(trial, item, "stamp");
-    let Some(op) = entry(trial, item, "op") else {
+    let Some(op) = member(trial, item, "op") else {
         return;
     };
     if let Some(value) = op_of(trial, schema, op) {

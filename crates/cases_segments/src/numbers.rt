@@ -1,7 +1,8 @@
 // Cases of packed numbers: `block`, `block_words`, `numbers`, `column_of`, `column_words`, `bits` and `signed`.
-use cases::{Trial, Trouble, entry, flag, list, numbers, size};
+use cases::{Trial, Trouble, flag, list, member, numbers, size};
 use fts_bits::{Bits, i64_to_u64, u64_to_i64};
 use fts_column::Column;
+use fts_model::MOST_MERGED;
 use fts_pack::{Block, Numbers};
 use serde_json::Value;
 
@@ -76,7 +77,7 @@ fn values_of(trial: &mut Trial, items: &[Value]) -> Vec<Option<u64>> {
 fn built(trial: &mut Trial, case: &Value) -> Option<Column> {
     let items = list(trial, case, "values");
     let values = values_of(trial, items);
-    if values.len() > 1_048_576 {
+    if values.len() > MOST_MERGED {
         trial.fail(Trouble::Impossible("more than a segment's values"));
         return None;
     }
@@ -183,7 +184,7 @@ fn give_bits(trial: &mut Trial, bits: &Bits) {
 
 /// The place of a signed number among the numbers from 0 on, and what stands at that place.
 fn signed(trial: &mut Trial, case: &Value) {
-    match entry(trial, case, "number").and_then(Value::as_i64) {
+    match member(trial, case, "number").and_then(Value::as_i64) {
         Some(number) => {
             let place = i64_to_u64(number);
             trial.open();

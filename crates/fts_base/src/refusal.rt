@@ -85,7 +85,7 @@ pub enum Refusal {
     SchemaTwice,
     /// 36: the line has more than 4,194,304 bytes before its end.
     LineTooLong,
-    /// 37: the writer gives no further place for a reader.
+    /// 37: the writer has as many readers as it may.
     NoReader,
     /// 38: a list of more than 1,024 texts.
     TooManyTexts,

@@ -2,7 +2,7 @@
 use Rattle.std.proofs.Common.{◌≡◌, ℕ, zero, suc, ◌+◌, ◌-◌, ◌*◌, ◌/◌, ◌%◌, ◌^◌, ◌<◌, ◌≤◌, List, [], ◌∷◌, ◌++◌, length, get_or, take, drop, refl, sym, ap, ap₂, mod-eq_of_lt, ◌∙◌, subst, arith, add-one, add_comm, mul_comm, zero-mul, suc-mul, div-one, lit<, lt_trans}
 use Rattle.std.proofs.lemmas.Nat.{pow_pos, pow-add, shr-shr, shr_high, mod_low, mod_below, mod-pow-add, field_of, shr_split, shr_below, pow_below, div-mul-add, mul-add-lt}
 use Rattle.std.proofs.lemmas.List.{length_push}
-use Rattle.std.proofs.Math.Nat.{zero-div, mod-one, mul-add-mod_self_right}
+use Rattle.std.proofs.Math.Nat.{zero-div, mod-one, mul-add-mod_self_right, suc-mul}
 use Rattle.fts_bits.specs.Digits.{joined, digits, word_count, words_of}
 
 -- each number has at most so many bits
@@ -12,19 +12,15 @@ Below width xs = (i : ℕ) → get_or xs i 0 < 2 ^ width
 pub Below-tail : (width x : ℕ) (xs : List ℕ) → Below width (x ∷ xs) → Below width xs
 Below-tail width x xs h = λ i. h (suc i)
 
--- one digit more
-bits-suc : (count width : ℕ) → suc count * width ≡ count * width + width
-bits-suc count width = suc-mul count width
-
 pow_bits-suc : (count width : ℕ) → 2 ^ (suc count * width) ≡ 2 ^ (count * width) * 2 ^ width
-pow_bits-suc count width = ap (λ b. 2 ^ b) (bits-suc count width) ∙ pow-add 2 (count * width) width
+pow_bits-suc count width = ap (λ b. 2 ^ b) (suc-mul count width) ∙ pow-add 2 (count * width) width
 
 pow_bits-zero : (width : ℕ) → 2 ^ (0 * width) ≡ 1
 pow_bits-zero width = ap (λ b. 2 ^ b) (zero-mul width)
 
 shr_bits-suc : (n count width : ℕ) → n / 2 ^ (suc count * width) ≡ n / 2 ^ width / 2 ^ (count * width)
 shr_bits-suc n count width =
-    ap (λ b. n / 2 ^ b) (bits-suc count width ∙ add_comm (count * width) width) ∙ sym (shr-shr n width (count * width))
+    ap (λ b. n / 2 ^ b) (suc-mul count width ∙ add_comm (count * width) width) ∙ sym (shr-shr n width (count * width))
 
 pub length-digits : (width count n : ℕ) → length (digits width count n) ≡ count
 unfolding digits
@@ -65,7 +61,7 @@ pub digits-mod : (width count n : ℕ) → digits width count (n % 2 ^ (count * 
 unfolding digits
 digits-mod width zero n = refl
 digits-mod width (suc count) n =
-    let e : n % 2 ^ (suc count * width) ≡ (n / 2 ^ width % 2 ^ (count * width)) * 2 ^ width + n % 2 ^ width = ap (λ b. n % 2 ^ b) (bits-suc count width) ∙ mod-pow-add n (count * width) width in
+    let e : n % 2 ^ (suc count * width) ≡ (n / 2 ^ width % 2 ^ (count * width)) * 2 ^ width + n % 2 ^ width = ap (λ b. n % 2 ^ b) (suc-mul count width) ∙ mod-pow-add n (count * width) width in
     let low : n % 2 ^ width < 2 ^ width = mod_below n (2 ^ width) (pow_pos width) in
     rw (e, mod_low (n / 2 ^ width % 2 ^ (count * width)) width (n % 2 ^ width) low, shr_high (n / 2 ^ width % 2 ^ (count * width)) width (n % 2 ^ width) low) (ap (λ ys. n % 2 ^ width ∷ ys) (digits-mod width count (n / 2 ^ width)))
 
@@ -73,7 +69,7 @@ pub joined-digits : (width count n : ℕ) → joined width (digits width count n
 unfolding joined digits
 joined-digits width zero n = sym (ap (λ p. n % p) (pow_bits-zero width) ∙ mod-one n)
 joined-digits width (suc count) n =
-    rw (joined-digits width count (n / 2 ^ width)) (sym (ap (λ b. n % 2 ^ b) (bits-suc count width) ∙ mod-pow-add n (count * width) width))
+    rw (joined-digits width count (n / 2 ^ width)) (sym (ap (λ b. n % 2 ^ b) (suc-mul count width) ∙ mod-pow-add n (count * width) width))
 
 -- the words from one on
 pub joined-drop : (width i : ℕ) (xs : List ℕ) → Below width xs → joined width xs / 2 ^ (i * width) ≡ joined width (drop i xs)
@@ -198,7 +194,7 @@ joined-take width (suc count) (x ∷ xs) h =
     let n = joined width xs * 2 ^ width + x in
     let low : n % 2 ^ width ≡ x = mod_low (joined width xs) width x (h 0) in
     let high : n / 2 ^ width ≡ joined width xs = shr_high (joined width xs) width x (h 0) in
-    let split : n % 2 ^ (suc count * width) ≡ (n / 2 ^ width % 2 ^ (count * width)) * 2 ^ width + n % 2 ^ width = ap (λ b. n % 2 ^ b) (bits-suc count width) ∙ mod-pow-add n (count * width) width in
+    let split : n % 2 ^ (suc count * width) ≡ (n / 2 ^ width % 2 ^ (count * width)) * 2 ^ width + n % 2 ^ width = ap (λ b. n % 2 ^ b) (suc-mul count width) ∙ mod-pow-add n (count * width) width in
     ap (λ m. m * 2 ^ width + x) (joined-take width count xs (Below-tail width x xs h)) ∙ sym (split ∙ ap₂ (λ a b. (a % 2 ^ (count * width)) * 2 ^ width + b) high low)
 
 pub Below-digits : (width count n : ℕ) → Below width (digits width count n)

@@ -4,6 +4,7 @@ use Rattle.std.specs.Prelude.{slice_index_or}
 use Rattle.std.specs.Option.{option_map_or}
 use Rattle.std.specs.List.{filter_map}
 use Rattle.std.proofs.lemmas.List.Elements.{All-nil, filter_map-append}
+use Rattle.std.proofs.lemmas.Bool.{and_parts}
 use Rattle.fts_model.specs.declared.schema.Kind.{Kind}
 use Rattle.fts_model.specs.declared.schema.Field.{Field}
 use Rattle.fts_model.specs.declared.query.Top.{Top}
@@ -18,7 +19,6 @@ use Rattle.fts_collect.specs.Internals.Keys.{TopKValue, first_keys}
 use Rattle.fts_collect.specs.Internals.Tallies.{IsTally, counts_of, present_at}
 use Rattle.fts_collect.specs.Internals.Ranks.{keep_keys, key_at, keys_at}
 use Rattle.fts_collect.specs.Internals.Collected.{HasCounted, HasNumbers, HasRanked, HasValues, KeysWithin, column_of, hits_at, named_by, value_at}
-use Rattle.fts_collect.proofs.FitLemmas.{both}
 use Rattle.fts_collect.proofs.KeptLemmas.{column_kept, present_within, values_kept}
 use Rattle.fts_collect.proofs.NamesLemmas.{named-fold}
 use Rattle.fts_collect.proofs.RanksLemmas.{IsNumberField, keep-first, first_keys-within}
@@ -81,16 +81,16 @@ may_be p (Some x) h = h
 -- a request that fits has groups by a field whose values have an order, and a top list by a number field
 pub fits-groups : (schema : List Field) (request : Request) → request_fits schema request ≡ true → IfSome request.groups (λ f. is_ordered_field schema f ≡ true)
 fits-groups schema request fits =
-    may_be (is_ordered_field schema) request.groups (both (option_map_or (is_ordered_field schema) request.groups true) (option_map_or (λ top. is_number_field schema top.by && is_limit top.k) request.top true) fits).0
+    may_be (is_ordered_field schema) request.groups (and_parts (option_map_or (is_ordered_field schema) request.groups true) (option_map_or (λ top. is_number_field schema top.by && is_limit top.k) request.top true) fits).0
 
 top_field : (schema : List Field) (o : Option Top) → IfSome o (λ top. (is_number_field schema top.by && is_limit top.k) ≡ true) → IfSome o (λ t. is_number_field schema t.by ≡ true)
 top_field schema None h = tt
-top_field schema (Some top) h = (both (is_number_field schema top.by) (is_limit top.k) h).0
+top_field schema (Some top) h = (and_parts (is_number_field schema top.by) (is_limit top.k) h).0
 
 pub fits-top : (schema : List Field) (request : Request) → request_fits schema request ≡ true → IfSome request.top (λ t. is_number_field schema t.by ≡ true)
 fits-top schema request fits =
     top_field schema request.top
-    (may_be (λ (top : Top). is_number_field schema top.by && is_limit top.k) request.top (both (option_map_or (is_ordered_field schema) request.groups true) (option_map_or (λ top. is_number_field schema top.by && is_limit top.k) request.top true) fits).1)
+    (may_be (λ (top : Top). is_number_field schema top.by && is_limit top.k) request.top (and_parts (option_map_or (is_ordered_field schema) request.groups true) (option_map_or (λ top. is_number_field schema top.by && is_limit top.k) request.top true) fits).1)
 
 -- keys of hits are of documents
 pub ranked-within : (segment : SegmentValue) (wanted : Option Top) (docs : List ℕ) (top_k : TopKValue) → All (λ doc. doc < length segment.documents) docs →

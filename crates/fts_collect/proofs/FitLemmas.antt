@@ -1,8 +1,9 @@
 -- What documents that fit a schema have in its fields.
-use Rattle.std.proofs.Common.{◌≡◌, ℕ, zero, suc, true, false, ◌&&◌, Bool, List, [], ◌∷◌, Option, Some, None, refl, subst, All, IfSome, get_or, cond}
+use Rattle.std.proofs.Common.{◌≡◌, ℕ, zero, suc, true, false, List, [], ◌∷◌, Option, Some, None, refl, subst, All, IfSome, get_or, cond}
 use Rattle.std.specs.Prelude.{option_and_then, slice_get}
 use Rattle.std.specs.Option.{option_map_or}
 use Rattle.std.specs.Str.{bytes_eq}
+use Rattle.std.proofs.lemmas.Bool.{and_parts}
 use Rattle.fts_model.specs.declared.schema.Kind.{Kind}
 use Rattle.fts_model.specs.declared.schema.Kind.TheVariants as kinds
 use Rattle.fts_model.specs.declared.schema.Field.{Field}
@@ -16,11 +17,6 @@ use Rattle.fts_model.specs.Operations.{kind_at}
 use Rattle.fts_model.specs.Queries.{is_number_field, is_ordered_field}
 use Rattle.fts_segment.specs.Segments.{SegmentValue, column, ordinals}
 use Rattle.fts_collect.specs.Internals.Collected.{HasValues, column_of}
-
--- both of two tests
-pub both : (a b : Bool) → (a && b) ≡ true → (a ≡ true) × (b ≡ true)
-both true b h = (refl, h)
-both false b h = cc
 
 -- a value of some field that is of the kind of a number field is a value of that
 value_can : (kind other : Kind) (v : FieldValue) → holds_numbers kind ≡ true → is_of_kind kind v ≡ true → is_value_of other v ≡ true → is_value_of kind v ≡ true
@@ -46,7 +42,7 @@ may_can : (there field : Field) (v : Option FieldValue) (kind : Kind) → CanHav
 may_can there field None kind can stands same holds = tt
 may_can there field (Some v) kind can stands same holds =
     let P : Kind → Type 0 = λ k. is_of_kind k v ≡ true in
-    value_can kind field.kind v holds (subst P same (both (bytes_eq field.name there.name) (is_of_kind there.kind v) stands).1) can
+    value_can kind field.kind v holds (subst P same (and_parts (bytes_eq field.name there.name) (is_of_kind there.kind v) stands).1) can
 
 -- each of values that fit a schema is one that the number field of its number can have
 field_can : (schema fields : List Field) (vs : List (Option FieldValue)) (field : ℕ) (kind : Kind) → AreValuesOf fields vs → fits_fields schema fields vs ≡ true →
@@ -57,16 +53,16 @@ field_can schema (f ∷ fs) [] field kind are fit known holds = absurd are
 field_can [] (f ∷ fs) (v ∷ vs) field kind are fit known holds = let no : None ≡ Some kind = known in cc
 field_can (s ∷ ss) (f ∷ fs) (v ∷ vs) zero kind are fit known holds =
     let there : Some s.kind ≡ Some kind = known in
-    may_can s f v kind are.0 (both (may_stand (Some s) f v) (fits_fields ss fs vs) fit).0 (cc) holds
+    may_can s f v kind are.0 (and_parts (may_stand (Some s) f v) (fits_fields ss fs vs) fit).0 (cc) holds
 field_can (s ∷ ss) (f ∷ fs) (v ∷ vs) (suc field) kind are fit known holds =
-    field_can ss fs vs field kind are.1 (both (may_stand (Some s) f v) (fits_fields ss fs vs) fit).1 known holds
+    field_can ss fs vs field kind are.1 (and_parts (may_stand (Some s) f v) (fits_fields ss fs vs) fit).1 known holds
 
 -- what may stand in a keyword field is a text
 may_be_text : (there field : Field) (v : Option FieldValue) → may_stand (Some there) field v ≡ true → there.kind ≡ kinds.Keyword → IfSome v (λ v. is_of_kind kinds.Keyword v ≡ true)
 may_be_text there field None stands same = tt
 may_be_text there field (Some v) stands same =
     let P : Kind → Type 0 = λ k. is_of_kind k v ≡ true in
-    subst P same (both (bytes_eq field.name there.name) (is_of_kind there.kind v) stands).1
+    subst P same (and_parts (bytes_eq field.name there.name) (is_of_kind there.kind v) stands).1
 
 -- each of values that fit a schema is a text where the field of its number is a keyword field
 field_is_text : (schema fields : List Field) (vs : List (Option FieldValue)) (field : ℕ) → AreValuesOf fields vs → fits_fields schema fields vs ≡ true →
@@ -77,9 +73,9 @@ field_is_text schema (f ∷ fs) [] field are fit known = absurd are
 field_is_text [] (f ∷ fs) (v ∷ vs) field are fit known = let no : None ≡ Some kinds.Keyword = known in cc
 field_is_text (s ∷ ss) (f ∷ fs) (v ∷ vs) zero are fit known =
     let there : Some s.kind ≡ Some kinds.Keyword = known in
-    may_be_text s f v (both (may_stand (Some s) f v) (fits_fields ss fs vs) fit).0 (cc)
+    may_be_text s f v (and_parts (may_stand (Some s) f v) (fits_fields ss fs vs) fit).0 (cc)
 field_is_text (s ∷ ss) (f ∷ fs) (v ∷ vs) (suc field) are fit known =
-    field_is_text ss fs vs field are.1 (both (may_stand (Some s) f v) (fits_fields ss fs vs) fit).1 known
+    field_is_text ss fs vs field are.1 (and_parts (may_stand (Some s) f v) (fits_fields ss fs vs) fit).1 known
 
 -- documents that fit the schema of their segment have numbers and keywords where it says so
 pub has_values : (segment : SegmentValue) → All (λ d. IsDocument d.value) segment.documents → All (λ d. fits segment.schema d.value ≡ true) segment.documents → HasValues segment

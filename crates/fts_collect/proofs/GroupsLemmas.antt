@@ -1,10 +1,9 @@
 -- The groups of parts, put together.
-use Rattle.std.proofs.Common.{◌≡◌, ℕ, ◌+◌, ◌^◌, ◌<◌, ◌≤◌, Bool, true, false, cond, ◌⊎◌, ⊎_elim, List, [], ◌∷◌, ◌++◌, length, take, drop, fold, Some, refl, sym, ap, subst, ◌∙◌, arith, append_assoc, append-nil, length-append, add-one, All, get_or, unwrap_or}
+use Rattle.std.proofs.Common.{◌≡◌, ℕ, ◌+◌, ◌^◌, ◌<◌, ◌≤◌, Bool, true, false, cond, ◌⊎◌, ⊎_elim, List, [], ◌∷◌, ◌++◌, length, take, drop, fold, Some, refl, sym, ap, subst, ◌∙◌, arith, append_assoc, append-nil, length-append, All, get_or, unwrap_or}
 use Rattle.std.specs.Ordering.{match_ordering, is_eq}
 use Rattle.std.specs.declared.cmp.Ordering.{Ordering}
 use Rattle.std.specs.declared.cmp.Ordering.TheVariants.{Less, Equal, Greater}
 use Rattle.std.proofs.lemmas.List.{get_or-drop, length-drop, take-append-drop, drop_all, take-map, drop-map}
-use Rattle.std.proofs.Math.Seq.{drop-cons}
 use Rattle.std.proofs.lemmas.List.Elements.{All-nil, All-cons, All-head, All-tail}
 use Rattle.std.proofs.lemmas.List.Kept.{AllPairs-cons}
 use Rattle.std.proofs.lemmas.List.Sums.{sum_by-append}
@@ -21,6 +20,7 @@ use Rattle.fts_scan.proofs.AnswersGroups.{count_in-groups}
 use Rattle.fts_scan.proofs.Counts.{count_in, Below, one_list_of_groups, order_above, order_below, rising-fold, positive-fold}
 use Rattle.fts_collect.specs.Parts.{PartValue, joined}
 use Rattle.fts_collect.specs.Internals.Joins.{counts_added, add_group, GroupsRise, AreGroupsOf}
+use Rattle.fts_segment.proofs.SourceLemmas.{dropped}
 
 -- no group is of no hits
 abbrev pub ArePositive : List (GroupValue × ℕ) → Type 0
@@ -189,10 +189,6 @@ merge-greater a b us bs rising e =
     let below : Below group_cmp a b = order_below group_order b.0 a.0 e in
     fold-behind a us (b ∷ bs) (All-cons (Below group_cmp a) b bs below (λ k d lt. group_order.total.trans a.0 b.0 _ below (pairs_front (Below group_cmp) b bs rising k d lt)))
 
--- a list from a place on
-from_place : (xs : List (GroupValue × ℕ)) (i : ℕ) (x : GroupValue × ℕ) → i < length xs → x ≡ get_or xs i x → drop i xs ≡ x ∷ drop (i + 1) xs
-from_place xs i x h is = drop-cons xs i x h ∙ ap (λ n. get_or xs i x ∷ drop n xs) (sym (add-one i)) ∙ ap (λ y. y ∷ drop (i + 1) xs) (sym is)
-
 -- groups that rise do so from a place on
 rising-drop : (xs : List (GroupValue × ℕ)) (i : ℕ) → GroupsRise xs → GroupsRise (drop i xs)
 rising-drop xs k rising = λ i j d up lt.
@@ -209,12 +205,12 @@ merged-less front back list i j a b all h l at here e rising is =
     let us = drop (i + 1) front in
     let bs = drop (j + 1) back in
     let P : List (GroupValue × ℕ) → Type 0 = GroupsRise in
-    let up : GroupsRise (b ∷ bs) = subst P (from_place back j b l here) (rising-drop back j rising) in
+    let up : GroupsRise (b ∷ bs) = subst P (dropped back j b l here) (rising-drop back j rising) in
     append_assoc list (b ∷ []) (fold add_group (drop i front) bs)
-    ∙ ap (λ xs. list ++ b ∷ fold add_group xs bs) (from_place front i a h at)
+    ∙ ap (λ xs. list ++ b ∷ fold add_group xs bs) (dropped front i a h at)
     ∙ ap (λ xs. list ++ xs) (sym (merge-less a b us bs up e))
-    ∙ ap (λ xs. list ++ fold add_group xs (b ∷ bs)) (sym (from_place front i a h at))
-    ∙ ap (λ xs. list ++ fold add_group (drop i front) xs) (sym (from_place back j b l here))
+    ∙ ap (λ xs. list ++ fold add_group xs (b ∷ bs)) (sym (dropped front i a h at))
+    ∙ ap (λ xs. list ++ fold add_group (drop i front) xs) (sym (dropped back j b l here))
     ∙ is
 
 pub merged-equal : (front back list : List (GroupValue × ℕ)) (i j : ℕ) (a b : GroupValue × ℕ) (all : List (GroupValue × ℕ)) → i < length front → j < length back →
@@ -224,11 +220,11 @@ merged-equal front back list i j a b all h l at here e rising is =
     let us = drop (i + 1) front in
     let bs = drop (j + 1) back in
     let P : List (GroupValue × ℕ) → Type 0 = GroupsRise in
-    let up : GroupsRise (b ∷ bs) = subst P (from_place back j b l here) (rising-drop back j rising) in
+    let up : GroupsRise (b ∷ bs) = subst P (dropped back j b l here) (rising-drop back j rising) in
     append_assoc list ((a.0, counts_added a.1 b.1) ∷ []) (fold add_group us bs)
     ∙ ap (λ xs. list ++ xs) (sym (merge-equal a b us bs up e))
-    ∙ ap (λ xs. list ++ fold add_group xs (b ∷ bs)) (sym (from_place front i a h at))
-    ∙ ap (λ xs. list ++ fold add_group (drop i front) xs) (sym (from_place back j b l here))
+    ∙ ap (λ xs. list ++ fold add_group xs (b ∷ bs)) (sym (dropped front i a h at))
+    ∙ ap (λ xs. list ++ fold add_group (drop i front) xs) (sym (dropped back j b l here))
     ∙ is
 
 pub merged-greater : (front back list : List (GroupValue × ℕ)) (i j : ℕ) (a b : GroupValue × ℕ) (all : List (GroupValue × ℕ)) → i < length front → j < length back →
@@ -238,12 +234,12 @@ merged-greater front back list i j a b all h l at here e rising is =
     let us = drop (i + 1) front in
     let bs = drop (j + 1) back in
     let P : List (GroupValue × ℕ) → Type 0 = GroupsRise in
-    let up : GroupsRise (b ∷ bs) = subst P (from_place back j b l here) (rising-drop back j rising) in
+    let up : GroupsRise (b ∷ bs) = subst P (dropped back j b l here) (rising-drop back j rising) in
     append_assoc list (a ∷ []) (fold add_group us (drop j back))
-    ∙ ap (λ xs. list ++ a ∷ fold add_group us xs) (from_place back j b l here)
+    ∙ ap (λ xs. list ++ a ∷ fold add_group us xs) (dropped back j b l here)
     ∙ ap (λ xs. list ++ xs) (sym (merge-greater a b us bs up e))
-    ∙ ap (λ xs. list ++ fold add_group xs (b ∷ bs)) (sym (from_place front i a h at))
-    ∙ ap (λ xs. list ++ fold add_group (drop i front) xs) (sym (from_place back j b l here))
+    ∙ ap (λ xs. list ++ fold add_group xs (b ∷ bs)) (sym (dropped front i a h at))
+    ∙ ap (λ xs. list ++ fold add_group (drop i front) xs) (sym (dropped back j b l here))
     ∙ is
 
 -- where one list is at its end, the rest of both follows

@@ -1,19 +1,18 @@
 -- The hits among live documents, by their numbers.
-use Rattle.std.proofs.Common.{◌≡◌, ℕ, suc, ◌+◌, ◌^◌, ◌<◌, ◌≤◌, Bool, true, false, cond, List, [], ◌∷◌, ◌++◌, length, map, filter, Option, Some, refl, sym, ap, ◌∙◌, arith, append_assoc, length-append, All, AllPairs, get_or}
+use Rattle.std.proofs.Common.{◌≡◌, ℕ, suc, ◌+◌, ◌^◌, ◌<◌, ◌≤◌, Bool, true, false, cond, List, [], ◌∷◌, ◌++◌, length, map, filter, Option, Some, refl, sym, ap, ◌∙◌, arith, append_assoc, length-append, All, get_or}
 use Rattle.std.specs.Prelude.{slice_get, slice_index_or}
 use Rattle.std.specs.List.{filter_map, cons_option, enumerate_from}
-use Rattle.std.proofs.lemmas.Option.{slice_get-get_or}
-use Rattle.std.proofs.lemmas.List.{get_or-append-add, length-map}
-use Rattle.std.proofs.lemmas.List.FromFn.{length-enumerate_from}
+use Rattle.std.proofs.lemmas.List.{get_or-append-add}
 use Rattle.std.proofs.lemmas.List.Sums.{count_by-le-length, length-filter}
 use Rattle.std.proofs.lemmas.List.Elements.{All-nil, All-cons, All-weaker, All-filter}
-use Rattle.std.proofs.lemmas.List.Kept.{AllPairs-cons, AllPairs-filter}
-use Rattle.fts_model.proofs.Lists.{pairs_none}
+use Rattle.std.proofs.lemmas.List.Kept.{AllPairs-filter}
 use Rattle.fts_model.specs.declared.operation.Stamped.{Stamped}
 use Rattle.fts_model.specs.Documents.{DocumentValue}
 use Rattle.fts_segment.specs.Contents.{where_set}
 use Rattle.fts_segment.specs.Segments.{SegmentValue, numbers_where}
 use Rattle.fts_collect.specs.Internals.Collected.{AreHits}
+use Rattle.fts_segment.proofs.SourceLemmas.{get_behind}
+use Rattle.fts_segment.proofs.HoldingLemmas.{numbers_apart, length-numbers_where}
 
 -- whether the bit of a number is set
 abbrev is_set : List Bool → ℕ → Bool
@@ -22,13 +21,6 @@ is_set bits n = slice_index_or bits n false
 -- a number and nothing
 plus_none : (n : ℕ) → n ≡ n + 0
 plus_none n = omega arith
-
--- the element behind others
-pub behind_others : {X : Type 0} (before : List X) (x : X) (xs : List X) → slice_get (before ++ x ∷ xs) (length before) ≡ Some x
-behind_others before x xs =
-    let inside : length before < length (before ++ x ∷ xs) = simp length-append (omega arith) in
-    slice_get-get_or (before ++ x ∷ xs) (length before) x inside
-    ∙ ap Some (ap (λ n. get_or (before ++ x ∷ xs) n x) (plus_none (length before)) ∙ get_or-append-add before (x ∷ xs) 0 x)
 
 -- the bit behind others
 bit_behind : (front : List Bool) (bit : Bool) (bits : List Bool) → is_set (front ++ bit ∷ bits) (length front) ≡ bit
@@ -62,7 +54,7 @@ live_behind p before front (x ∷ xs) (bit ∷ bits) same fits =
     ∙ ap (λ ys. filter_map (slice_get ys) (filter (is_set ((front ++ bit ∷ []) ++ bits)) (numbers_where p (length (before ++ x ∷ [])) xs))) (append_assoc before (x ∷ []) xs)
     ∙ ap (λ bs. filter_map (slice_get all) (filter (is_set bs) (numbers_where p (length (before ++ x ∷ [])) xs))) (append_assoc front (bit ∷ []) bits)
     ∙ ap (λ m. filter_map (slice_get all) (filter set (numbers_where p m xs))) (length-append before (x ∷ [])) in
-    live_at p set (slice_get all) n x (where_set xs bits) (filter (λ e. p e.1) (enumerate_from (n + 1) xs)) bit (p x) refl (ap set same ∙ bit_behind front bit bits) (behind_others before x xs) later
+    live_at p set (slice_get all) n x (where_set xs bits) (filter (λ e. p e.1) (enumerate_from (n + 1) xs)) bit (p x) refl (ap set same ∙ bit_behind front bit bits) (get_behind before x xs) later
 
 -- the live ones of those that pass, by their numbers
 pub live_hits-at : {X : Type 0} (p : X → Bool) (xs : List X) (bits : List Bool) → length bits ≡ length xs →
@@ -82,23 +74,6 @@ where_between p first (x ∷ xs) =
     elim (p x) as (λ b. All P (map (λ e. e.0) (cond b ((first, x) ∷ filter (λ e. p e.1) (enumerate_from (first + 1) xs)) (filter (λ e. p e.1) (enumerate_from (first + 1) xs)))))
     [ true ↦ All-cons P first (numbers_where p (first + 1) xs) (omega arith, omega arith) later | false ↦ later ]
 
--- they rise
-where_rises : {X : Type 0} (p : X → Bool) (first : ℕ) (xs : List X) → AllPairs (λ a b. a < b) (numbers_where p first xs)
-where_rises p first [] = pairs_none (λ a b. a < b)
-where_rises p first (x ∷ xs) =
-    let R : ℕ → ℕ → Type 0 = λ a b. a < b in
-    let rest = where_rises p (first + 1) xs in
-    let above = All-weaker (Between (first + 1) (first + 1 + length xs)) (R first) (λ n h. omega (arith, h.0)) (numbers_where p (first + 1) xs) (where_between p (first + 1) xs) in
-    elim (p x) as (λ b. AllPairs R (map (λ e. e.0) (cond b ((first, x) ∷ filter (λ e. p e.1) (enumerate_from (first + 1) xs)) (filter (λ e. p e.1) (enumerate_from (first + 1) xs)))))
-    [ true ↦ AllPairs-cons R first (numbers_where p (first + 1) xs) above rest | false ↦ rest ]
-
--- no more elements pass a test than there are, by their numbers
-pub length-numbers_where : {X : Type 0} (p : X → Bool) (first : ℕ) (xs : List X) → length (numbers_where p first xs) ≤ length xs
-length-numbers_where {X} p first xs =
-    let all = enumerate_from first xs in
-    let q : ℕ × X → Bool = λ e. p e.1 in
-    omega (arith, length-map (filter q all) (λ (e : ℕ × X). e.0), length-filter q all, count_by-le-length q all, length-enumerate_from first xs)
-
 -- the live hits are numbers of documents, rising, and few
 pub hits_are : (p : Stamped DocumentValue → Bool) (segment : SegmentValue) (bits : List Bool) → length segment.documents ≤ 2 ^ 32 →
     AreHits segment (filter (is_set bits) (numbers_where p 0 segment.documents))
@@ -109,6 +84,6 @@ hits_are p segment bits few =
       within =
           All-filter (is_set bits) (λ n. n < length xs) numbers
           (All-weaker (Between 0 (0 + length xs)) (λ n. n < length xs) (λ n h. omega (arith, h.1)) numbers (where_between p 0 xs));
-      rise = AllPairs-filter (λ a b. a < b) (is_set bits) numbers (where_rises p 0 xs);
+      rise = AllPairs-filter (λ a b. a < b) (is_set bits) numbers (numbers_apart p 0 xs);
       few = omega (arith, few, length-filter (is_set bits) numbers, count_by-le-length (is_set bits) numbers, length-numbers_where p 0 xs);
     }

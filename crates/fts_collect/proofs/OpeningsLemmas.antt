@@ -1,8 +1,8 @@
 -- How many blocks were opened, and how many musts a query has.
 use Rattle.std.proofs.Common.{◌≡◌, ◌≢◌, ℕ, ◌-◌, ◌^◌, ◌<◌, ◌≤◌, List, [], ◌∷◌, length, map, min, refl, sym, ap, ◌∙◌, inl, inr, nat_lt, arith}
-use Rattle.std.specs.Prelude.{if◌then◌else◌}
 use Rattle.std.proofs.lemmas.Bool.{cases_lt, le-ltb, lt-ltb}
 use Rattle.std.proofs.lemmas.List.{length-map}
+use Rattle.std.specs.Prelude.{if◌then◌else◌}
 use Rattle.fts_model.specs.declared.operation.Term.{Term}
 use Rattle.fts_model.specs.declared.query.Query.TheOpen.{Query-F}
 use Rattle.fts_model.specs.declared.query.Query.TheViews as views
@@ -17,7 +17,7 @@ use Rattle.fts_model.specs.Answers.{AnswerValue, answer_of}
 use Rattle.fts_segment.specs.Segments.{SegmentValue}
 use Rattle.fts_cursor.specs.Openings.{HasMusts, blocks_with}
 use Rattle.fts_collect.specs.Internals.Collected.{hits_at}
-use Rattle.fts_collect.proofs.LiveLemmas.{length-numbers_where}
+use Rattle.fts_segment.proofs.HoldingLemmas.{length-numbers_where}
 
 -- lists of one value are as long
 query_list-length : (xs ys : List QueryValue) → query_list xs ≡ query_list ys → length xs ≡ length ys

@@ -15,7 +15,7 @@ use Rattle.fts_model.specs.declared.query.Request.{Request}
 use Rattle.fts_model.specs.declared.answer.Hit.{Hit}
 use Rattle.fts_model.specs.Documents.{DocumentValue}
 use Rattle.fts_model.specs.Operations.{HasEachStampOnce}
-use Rattle.fts_model.specs.Answers.{AnswerValue, answer_of, groups, is_in_group, hits_with, hit_in, top}
+use Rattle.fts_model.specs.Answers.{AnswerValue, answer_of, groups, is_in_group, hit_in, top}
 use Rattle.fts_model.specs.Answers as answers
 use Rattle.fts_model.proofs.Lists.{Contains-cases, Contains-first, Contains-behind, Contains-none}
 use Rattle.fts_scan.proofs.AnswersGroups.{count_in-groups}
@@ -171,11 +171,6 @@ all_hits-moved all parts part hits is =
     let same : all_hits (parts ++ part ∷ []) ++ hits ≡ front ++ (hits_in part ++ hits) = ap (λ xs. xs ++ hits) (all_hits-push parts part) ∙ append_assoc front (hits_in part) hits in
     IsPermutation-trans all (front ++ (hits_in part ++ hits)) (front ++ (hits ++ hits_in part)) (subst P same is)
     (IsPermutation-append_right front (hits_in part ++ hits) (hits ++ hits_in part) (IsPermutation-append_comm (hits_in part) hits))
-
--- a list of no length has no element
-pub no_length : {X : Type 0} (xs : List X) → length xs ≡ 0 → xs ≡ []
-no_length [] h = refl
-no_length (x ∷ xs) h = absurd (omega (arith, h))
 
 -- two answers that tell the same are one
 pub same_answer : (a b : AnswerValue) → a.count ≡ b.count → a.groups ≡ b.groups → a.top ≡ b.top → a ≡ b

@@ -8,14 +8,14 @@ use Rattle.std.specs.List.{cons_option, filter_map}
 use Rattle.std.specs.Option.{option_to_list}
 use Rattle.std.specs.Prelude.{slice_index_or}
 use Rattle.fts_scan.proofs.Counts.{nat_order, hits_counted-fold}
-use Rattle.fts_scan.proofs.Runs.{count_one-behind}
+use Rattle.fts_scan.proofs.SortedCounts.{count_one-behind}
 use Rattle.std.proofs.lemmas.List.Sums.{fold_push, sum_by-cons}
 use Rattle.std.proofs.lemmas.List.{append-nil, ext_get_or, get_or-set_other, get_or-set_same, get_or_past, length-set, take_more}
 use Rattle.std.proofs.lemmas.Cmp.{nat_cmp_total, tied_itself}
 use Rattle.fts_model.specs.Answers.{count_one}
 use Rattle.fts_scan.specs.Scans.{hits_counted}
-use Rattle.fts_column.specs.Counting.{AreWithin, having, is_value}
-use Rattle.fts_column.proofs.CountingLemmas.{mod-add}
+use Rattle.fts_column.specs.Counts.{AreWithin, having, is_value}
+use Rattle.fts_column.proofs.CountsLemmas.{mod-add}
 use Rattle.fts_collect.specs.Internals.Tallies.{counts_from, counts_of, present_at, AreCounts}
 
 -- numbers that omega finds equal

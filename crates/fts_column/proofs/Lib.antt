@@ -1,5 +1,5 @@
 pub mod BlocksLemmas
 pub mod ColumnLemmas
-pub mod CountingLemmas
+pub mod CountsLemmas
+mod IntervalLemmas
 mod LanesLemmas
-mod SeekingLemmas

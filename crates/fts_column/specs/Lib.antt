@@ -1,5 +1,5 @@
 pub mod Blocks
 pub mod Column
-pub mod Counting
+pub mod Counts
+pub mod Interval
 pub mod Lanes
-pub mod Seeking

@@ -10,7 +10,7 @@ ghost use Rattle.std.specs.Int.{bit_at};
 ghost use Rattle.fts_column.specs.Blocks.{AreEndsOf, block_of, in_blocks};
 ghost use Rattle.fts_column.specs.Column.{HaveOffsets, IsColumn, IsRangeOf, is_within, least_of, offsets, range_with};
 ghost use Rattle.fts_column.specs.Column.{spread_of, values_at};
-ghost use Rattle.fts_column.specs.Counting.{AreWithin, having};
+ghost use Rattle.fts_column.specs.Counts.{AreWithin, having};
 ghost use Rattle.fts_column.specs.Lanes.{in_lanes};
 
 use crate::blocks::Blocks;

@@ -4,9 +4,9 @@ ghost use Rattle.fts_column.specs.Column.{HaveOffsets, offsets};
 ghost use Rattle.fts_column.specs.Lanes.{AreLanesOf, AreMarked};
 
 use crate::column::offset;
-use crate::counting::count_lanes;
+use crate::counts::count_lanes;
+use crate::interval::last_lane;
 use crate::lane::Lane;
-use crate::seeking::last_lane;
 use fts_bits::Bits;
 use std::alloc::{AllocError, Global};
 use std::simd::prelude::*;
@@ -27,9 +27,9 @@ pub(crate) enum Lanes {
 impl Lanes {
     ghost use Rattle.std.specs.Prelude.{◌≡◌, ℕ, ◌+◌, ◌%◌, ◌^◌, ◌<◌, ◌≤◌, IfOk, drop, length, slice_index};
     ghost use Rattle.fts_column.specs.Column.{HaveOffsets, offsets};
-    ghost use Rattle.fts_column.specs.Counting.{AreCounted};
+    ghost use Rattle.fts_column.specs.Counts.{AreCounted};
+    ghost use Rattle.fts_column.specs.Interval.{IsLastWithin};
     ghost use Rattle.fts_column.specs.Lanes.{AreLanesOf, AreMarked, in_lanes, number_at};
-    ghost use Rattle.fts_column.specs.Seeking.{IsLastWithin};
 
     /// How far each value is above the least, and 0 for a missing one, where this takes `width` bits at most.
     pub(crate) fn of_offsets(

@@ -3,10 +3,10 @@
 
 mod blocks;
 mod column;
-mod counting;
+mod counts;
+mod interval;
 mod lane;
 mod lanes;
 pub mod laws;
-mod seeking;
 
 pub use column::{Column, Stretch};

@@ -2,6 +2,7 @@
 use Rattle.std.proofs.Common.{◌≡◌, Bool, false, ◌||◌, List, [], ◌∷◌, map, ℕ, pos, negsuc, Option, Some, None, Ordering, Less, Equal, Greater, refl, option_map, nat_cmp}
 use Rattle.std.specs.Cmp.Lexicographic.{slice_cmp}
 use Rattle.std.specs.Ordering.{match_ordering}
+use Rattle.std.proofs.lemmas.Bool.{or_parts}
 use Rattle.serde_json.specs.Data.{Data, string, Items, Members, no_members, member, put}
 use Rattle.serde_json.specs.View.{items_of}
 use Rattle.serde_json.specs.Written.{has_float, items_have_float, members_have_float}
@@ -14,7 +15,6 @@ use Rattle.fts_model.specs.declared.value.FieldValue.TheVariants as values
 use Rattle.fts_model.specs.declared.answer.Hit.{Hit}
 use Rattle.fts_model.specs.Documents.{data_of, with_value, with_values}
 use Rattle.fts_model.specs.Answers.{AnswerValue}
-use Rattle.fts_model.proofs.DocumentsFields.{or_false}
 use Rattle.fts_command.specs.AnswerData.{value_data, groups_data, hits_data, list_member, answer_data}
 
 neither : {a b : Bool} → a ≡ false → b ≡ false → (a || b) ≡ false
@@ -42,7 +42,7 @@ put_at Greater name other d e ms p q r s = neither q s
 put_plain : (name : List ℕ) (d : Data) (ms : Members) → has_float d ≡ false → members_have_float ms ≡ false → members_have_float (put name d ms) ≡ false
 put_plain name d no_members p h = neither p refl
 put_plain name d (member other e ms) p h =
-    let both = or_false (has_float e) (members_have_float ms) h in
+    let both = or_parts (has_float e) (members_have_float ms) h in
     put_at (slice_cmp nat_cmp name other) name other d e ms p both.0 both.1 (put_plain name d ms p both.1)
 
 one_plain : (ms : Members) (field : Field) (value : Option FieldValue) → members_have_float ms ≡ false → members_have_float (with_value ms field value) ≡ false

@@ -1,5 +1,5 @@
 -- How many documents remain of several cursors at most, and that what leads doesn't change what cursors have in common.
-use Rattle.std.proofs.Common.{◌≡◌, ℕ, zero, suc, ◌+◌, ◌<◌, ◌≤◌, Bool, true, false, ◌&&◌, List, [], ◌∷◌, All, length, get_or, take, drop, refl, sym, ap, subst, ◌∙◌, inl, inr, arith, add-one}
+use Rattle.std.proofs.Common.{◌≡◌, ℕ, zero, suc, ◌+◌, ◌<◌, ◌≤◌, ◌&&◌, List, [], ◌∷◌, All, length, get_or, take, drop, refl, sym, ap, subst, ◌∙◌, inl, inr, arith, add-one}
 use Rattle.std.specs.List.{remove}
 use Rattle.std.specs.List.Sorted.{IsStrictlyIncreasing}
 use Rattle.std.proofs.lemmas.Bool.{cases_lt}
@@ -8,8 +8,9 @@ use Rattle.fts_postings.specs.Sets.{common, has, in_all, union}
 use Rattle.fts_cursor.specs.TreeValues.{TreeValue, remains}
 use Rattle.fts_cursor.proofs.HitsLemmas.{has-filter, same_members}
 use Rattle.fts_postings.proofs.SetLemmas.{Rises-filter}
-use Rattle.fts_postings.proofs.RemainingLemmas.{Rises-from_increasing}
 use Rattle.fts_postings.proofs.CostLemmas.{length-with_all}
+use Rattle.fts_pack.proofs.DocumentsLemmas.{Rises-from_increasing}
+use Rattle.fts_cursor.proofs.PhraseLeads.{and_swap}
 
 -- how many documents remain of all, each counted as often as it does
 abbrev pub all_remaining : List TreeValue → ℕ
@@ -27,12 +28,6 @@ remaining-suc (p ∷ ps) (suc index) d inside = omega (arith, remaining-suc ps i
 
 pub all_remaining-more : (parts : List TreeValue) (index : ℕ) (d : TreeValue) → index < length parts → all_remaining (take (index + 1) parts) ≡ all_remaining (take index parts) + length (get_or parts index d).remaining
 all_remaining-more parts index d inside = ap (λ n. all_remaining (take n parts)) (add-one index) ∙ remaining-suc parts index d inside
-
-and_swap : (a b c : Bool) → (a && (b && c)) ≡ (b && (a && c))
-and_swap true true c = refl
-and_swap true false c = refl
-and_swap false true c = refl
-and_swap false false c = refl
 
 -- one of some lists and the others have in common what all have
 in_all-led : (parts : List TreeValue) (k : ℕ) (e : TreeValue) (d : ℕ) → k < length parts → (has (get_or parts k e).remaining d && in_all (remains (remove parts k)) d) ≡ in_all (remains parts) d

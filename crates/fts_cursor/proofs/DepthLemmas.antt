@@ -5,7 +5,7 @@ use Rattle.std.proofs.lemmas.Bool.{and_parts}
 use Rattle.fts_model.specs.declared.query.Query.{Query}
 use Rattle.fts_model.specs.declared.query.Query.TheViews as views
 use Rattle.fts_model.specs.QueryValues.{QueryValue, QueryValues, every, nothing, term, phrase, range, boolean, no_queries, queries, query_list, query_value}
-use Rattle.fts_cursor.proofs.OpensLemmas.{value_of_bool}
+use Rattle.fts_model.proofs.QueriesBoolean.{value_at_bool}
 
 abbrev mutual
   pub depth : QueryValue → ℕ
@@ -28,7 +28,7 @@ depth_of qs = depth_all (query_list (map query_value qs))
 pub parts_fall : (t : ℕ) (query : Query) (must must_not should : _) → query ≡ views.Bool must must_not should → 3 * depth (query_value query) + 0 ≡ t →
     (3 * depth_of must.items + 2 < t) × (3 * depth_of must_not.items + 2 < t) × (3 * depth_of should.items + 2 < t)
 parts_fall t query must must_not should is size =
-    let whole : depth (query_value query) ≡ suc (max (depth_of must.items) (max (depth_of must_not.items) (depth_of should.items))) = ap depth (ap query_value is ∙ value_of_bool must must_not should) in
+    let whole : depth (query_value query) ≡ suc (max (depth_of must.items) (max (depth_of must_not.items) (depth_of should.items))) = ap depth (ap query_value is ∙ value_at_bool must must_not should) in
     (omega (arith, whole, size), omega (arith, whole, size), omega (arith, whole, size))
 
 -- none of some queries is deeper than all

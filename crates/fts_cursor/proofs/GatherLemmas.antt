@@ -7,6 +7,7 @@ use Rattle.std.proofs.lemmas.List.{drop-append-le, length-append, take-append-dr
 use Rattle.std.proofs.lemmas.List.Elements.{All-drop}
 use Rattle.std.proofs.lemmas.List.Folds.{list_any-append}
 use Rattle.std.proofs.lemmas.Option.{slice_get_within}
+use Rattle.std.proofs.Math.Bool.{and-false, or-false, or_assoc}
 use Rattle.fts_pack.specs.Documents.{Rises}
 use Rattle.fts_postings.specs.Fills.{IsStretch}
 use Rattle.fts_postings.specs.Remaining.{at_least}
@@ -17,13 +18,14 @@ use Rattle.fts_cursor.specs.Trees.{AreBeyond, AreMarked, IsBuffered, IsNow, foun
 use Rattle.fts_cursor.specs.declared.tree.buffered_union.BufferedUnion.{BufferedUnion}
 use Rattle.fts_cursor.specs.declared.tree.Node.TheVariants.{Or}
 use Rattle.fts_postings.specs.declared.window.Window.{Window}
-use Rattle.fts_postings.proofs.RemainingLemmas.{Rises-from_increasing, at_least_all, first-at_least, increasing-from_Rises, nothing_first}
+use Rattle.fts_postings.proofs.RemainingLemmas.{at_least_all, first-at_least, increasing-from_Rises, nothing_first}
 use Rattle.fts_postings.proofs.SetLemmas.{Rises-lower, above_is_other, below_is_other, has-at_least, has-before_first, has-below, has-first, has-none, is_itself}
 use Rattle.fts_postings.proofs.MarkingLemmas.{at_least_behind, at_least_each, at_least_kept}
 use Rattle.fts_postings.proofs.PassingLemmas.{Rises-passing}
 use Rattle.fts_cursor.proofs.PartsLemmas.{TreeContinues-beside, TreeContinues-same, TreeContinues-together, UpTo, UpTo-next, UpTo-none, union-left}
-use Rattle.fts_postings.proofs.UnionLemmas.{Rises-union, at_least-with_all, by_order, first_of, has-union, has-with_one, in_some-append, leaves, or_false, union_first, with_one-front}
+use Rattle.fts_postings.proofs.UnionLemmas.{Rises-union, at_least-with_all, by_order, first_of, has-union, has-with_one, in_some-append, leaves, union_first, with_one-front}
 use Rattle.fts_cursor.proofs.TreeLemmas.{IsNow-first, drop_first, from_union, parts_from, stays_from_first}
+use Rattle.fts_pack.proofs.DocumentsLemmas.{Rises-from_increasing}
 
 -- rising lists that have the same are the same
 same_from : (next : ℕ) (xs ys : List ℕ) → Rises next xs → Rises next ys → ((d : ℕ) → next ≤ d → has xs d ≡ has ys d) → xs ≡ ys
@@ -92,14 +94,6 @@ or_shift true true c = refl
 or_shift true false c = refl
 or_shift false b c = refl
 
-or_group : (a b c : Bool) → ((a || b) || c) ≡ (a || (b || c))
-or_group true b c = refl
-or_group false b c = refl
-
-and_nothing : (b : Bool) → (b && false) ≡ false
-and_nothing true = refl
-and_nothing false = refl
-
 either : (a l i p : Bool) → ((a || (l && i)) || (l && p)) ≡ (a || (l && (i || p)))
 either true l i p = refl
 either false true i p = refl
@@ -163,7 +157,7 @@ module _ (initial now : List ℕ) (old new : Window) (h : IsMarking initial now 
         left = ap (at_least (old.last + 1)) is ∙ at_least_behind (old.last + 1) count now below ∙ h.left;
         same = λ d.
             ap₂ (λ b ys. b || has ys d) (marked d) is
-            ∙ or_group (has (found new) d) (has (take count now) d) (has (drop count now) d)
+            ∙ or_assoc (has (found new) d) (has (take count now) d) (has (drop count now) d)
             ∙ ap (λ b. has (found new) d || b) (sym (list_any-append (λ x. x == d) (take count now) (drop count now)) ∙ ap (λ xs. has xs d) (take-append-drop count now))
             ∙ h.same d;
       }
@@ -183,7 +177,7 @@ module _ (initial now : List ℕ) (old new : Window) (h : IsMarking initial now 
           ∙ sym (ap₂ (λ a b. a || (b && has initial d)) (found_behind old d past) (lt-leb d old.last past))
       | inr within ↦
           let none : has now d ≡ false = ap (λ xs. has xs d) end ∙ has-at_least_low (old.last + 1) now d (omega (arith, within)) in
-          sym (or_false (has (found new) d)) ∙ ap (λ b. has (found new) d || b) (sym none) ∙ h.same d
+          sym (or-false (has (found new) d)) ∙ ap (λ b. has (found new) d || b) (sym none) ∙ h.same d
           ∙ sym (ap (λ b. has (found old) d || (b && has initial d)) (le-leb d old.last within))
     ]
 
@@ -196,7 +190,7 @@ pub MarkedUpTo-none : (parts : List TreeValue) (w : Window) → MarkedUpTo parts
 MarkedUpTo-none parts w = record {
   up_to = UpTo-none (Left (w.last + 1)) parts;
   place = (refl, refl);
-  marked = λ d. sym (ap (λ b. has (found w) d || b) (and_nothing (nat_le d w.last)) ∙ or_false (has (found w) d));
+  marked = λ d. sym (ap (λ b. has (found w) d || b) (and-false (nat_le d w.last)) ∙ or-false (has (found w) d));
 }
 
 module _ (initial now : List TreeValue) (old new : Window) (index : ℕ) (h : MarkedUpTo initial now old new index) where
@@ -365,14 +359,14 @@ module _ (parts : List TreeValue) (least : ℕ) (h : IsLeast (Some least) (remai
       | inl past ↦ ap₂ (λ a b. a || b) (lies d ∙ ap (λ b. b && in_some (remains parts) d) (lt-leb d old.last past)) (after_high d past)
       | inr within ↦
           ap₂ (λ a b. a || b) (lies d ∙ ap (λ b. b && in_some (remains parts) d) (le-leb d old.last within)) (after_low d within)
-          ∙ or_false (in_some (remains parts) d) ∙ sym (has-union (remains parts) d)
+          ∙ or-false (in_some (remains parts) d) ∙ sym (has-union (remains parts) d)
     ])
 
     pub filled_buffered : IsBuffered (Some least) new (remains after)
     filled_buffered = record {
       first = first_of (found new) least (found_rises new)
           (lies least ∙ ap₂ (λ a b. a && b) (le-leb least old.last reaches) h.0)
-          (λ d low. lies d ∙ ap (λ b. nat_le d old.last && b) (h.1 d low) ∙ and_nothing (nat_le d old.last));
+          (λ d low. lies d ∙ ap (λ b. nat_le d old.last && b) (h.1 d low) ∙ and-false (nat_le d old.last));
       beyond = λ d within. after_low d (omega (arith, within, last));
     }
 

@@ -16,6 +16,7 @@ use Rattle.fts_model.specs.declared.operation.Stamped.{Stamped}
 use Rattle.fts_model.specs.declared.schema.Field.{Field}
 use Rattle.fts_model.specs.Documents.{DocumentValue}
 use Rattle.std.proofs.lemmas.Option.{slice_get_past}
+use Rattle.std.proofs.Math.Bool.{and-false}
 use Rattle.fts_postings.proofs.PassingLemmas.{Rises-passing}
 use Rattle.fts_postings.proofs.SetLemmas.{Rises-filter, Rises-lower, above_is_other, has-below, is_itself}
 use Rattle.fts_postings.proofs.UnionLemmas.{Rises-union, by_order, has-union}
@@ -55,10 +56,6 @@ has-numbers p k (x ∷ xs) (suc n) =
       | false ↦ rest
     ]
 
-and_false : (b : Bool) → (b && false) ≡ false
-and_false true = refl
-and_false false = refl
-
 -- a filter keeps the members that pass
 pub has-filter : (p : ℕ → Bool) (xs : List ℕ) (d : ℕ) → has (filter p xs) d ≡ (has xs d && p d)
 has-filter p [] d = refl
@@ -72,7 +69,7 @@ has-filter p (x ∷ xs) d =
             | inl passes ↦
                 ap (λ b. has (cond b (x ∷ filter p xs) (filter p xs)) d) (ap p same ∙ passes) ∙ ap (λ b. b || has (filter p xs) d) here ∙ sym (all ∙ passes)
             | inr fails ↦
-                ap (λ b. has (cond b (x ∷ filter p xs) (filter p xs)) d) (ap p same ∙ fails) ∙ rest ∙ ap (λ b. has xs d && b) fails ∙ and_false (has xs d) ∙ sym (all ∙ fails)
+                ap (λ b. has (cond b (x ∷ filter p xs) (filter p xs)) d) (ap p same ∙ fails) ∙ rest ∙ ap (λ b. has xs d && b) fails ∙ and-false (has xs d) ∙ sym (all ∙ fails)
           ]
       | inr other ↦
           let all : (has xs d && p d) ≡ (has (x ∷ xs) d && p d) = ap (λ b. (b || has xs d) && p d) (sym other) in

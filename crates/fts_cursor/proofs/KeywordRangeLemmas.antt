@@ -7,6 +7,7 @@ use Rattle.std.specs.declared.ops.Bound.TheVariants.{Included, Excluded, Unbound
 use Rattle.std.proofs.lemmas.Bool.{false≢true, le-leb}
 use Rattle.std.proofs.lemmas.List.{get_or-map, length-map}
 use Rattle.std.proofs.lemmas.Option.{get_or_from_slice_get, slice_get-map, slice_get_within, unwrap_or-slice_get}
+use Rattle.std.proofs.Math.Bool.{and-false}
 use Rattle.fts_model.specs.declared.operation.Stamped.{Stamped}
 use Rattle.fts_model.specs.declared.schema.Kind.TheVariants as kinds
 use Rattle.fts_model.specs.declared.value.FieldValue.{FieldValue}
@@ -25,7 +26,7 @@ use Rattle.fts_cursor.specs.Ranges.{IsLastOrdinal, is_bounded, ordinal_from, ord
 use Rattle.fts_column.specs.Column.{is_within}
 use Rattle.fts_cursor.specs.Scans.{has_within}
 use Rattle.fts_cursor.proofs.HitsLemmas.{numbers_are, passing_are, test_at}
-use Rattle.fts_cursor.proofs.RangeLemmas.{admits, and_false, small_of}
+use Rattle.fts_cursor.proofs.RangeLemmas.{admits, small_of}
 
 -- a bound admits a text that is among texts where it admits its ordinal
 from_text : (ts : List (List ℕ)) (bound : Bound FieldValue) (t : List ℕ) → is_bound_of kinds.Keyword bound ≡ true → Contains ts t → nat_le (ordinal_from ts bound) (before ts t) ≡ admits_from bound (values.Text t)
@@ -143,7 +144,7 @@ module _ (segment : SegmentValue) (field : ℕ) (lower upper : Bound FieldValue)
 
   none_within : last ≡ None → (o : Option ℕ) → option_map_or (ordinal_admits texts lower last) o false ≡ false
   none_within is None = refl
-  none_within is (Some x) = ap (λ l. nat_le (ordinal_from texts lower) x && option_map_or (λ high. nat_le x high) l false) is ∙ and_false (nat_le (ordinal_from texts lower) x)
+  none_within is (Some x) = ap (λ l. nat_le (ordinal_from texts lower) x && option_map_or (λ high. nat_le x high) l false) is ∙ and-false (nat_le (ordinal_from texts lower) x)
 
   pub keyword_hits : (high : ℕ) → last ≡ Some high →
       passing (has_within (ordinal_from (keywords segment field) lower) high (ordinals segment field)) 0 (length segment.documents) ≡ numbers_where (Hit lower upper field) 0 segment.documents

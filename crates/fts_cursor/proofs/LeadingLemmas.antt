@@ -1,6 +1,5 @@
 -- Lists of which the shortest leads: what a conjunction over them finds, and what it opens.
 use Rattle.std.proofs.Common.{◌≡◌, ◌≢◌, ℕ, zero, suc, ◌+◌, ◌-◌, ◌<◌, ◌≤◌, Bool, true, false, cond, ◌&&◌, ◌||◌, nat_lt, List, [], ◌∷◌, ◌++◌, length, map, take, get_or, refl, sym, ap, ap₂, subst, ◌∙◌, inl, inr, arith}
-use Rattle.std.specs.Prelude.{if◌then◌else◌}
 use Rattle.std.specs.Borrow.{Bor}
 use Rattle.std.specs.List.{All, AllZip, list_all, slice_get, sum_by}
 use Rattle.std.proofs.lemmas.Bool.{and_parts, cases_lt, false≢true, le-ltb, lt-ltb}
@@ -8,6 +7,8 @@ use Rattle.std.proofs.lemmas.List.{length-append, length-map, map-append, take_m
 use Rattle.std.proofs.lemmas.List.Elements.{All-cons, All-nil}
 use Rattle.std.proofs.lemmas.List.Folds.{list_all-append}
 use Rattle.std.proofs.lemmas.List.Sums.{fold-append, sum_by-cons}
+use Rattle.std.proofs.Math.Bool.{and-false, and-true}
+use Rattle.std.specs.Prelude.{if◌then◌else◌}
 use Rattle.fts_model.specs.declared.query.Query.{Query}
 use Rattle.fts_model.proofs.QueriesBoolean.{matches_in}
 use Rattle.fts_pack.specs.Documents.{Rises, block_count, blocks_of}
@@ -23,10 +24,6 @@ use Rattle.fts_cursor.specs.Terms.{AreTied, IsTied}
 use Rattle.fts_cursor.proofs.HitsLemmas.{Rises-hits, at_all, has-filter, hits_of, in_all-hits, numbers_are}
 use Rattle.fts_postings.proofs.SetLemmas.{Rises-filter, is_itself}
 use Rattle.fts_cursor.proofs.TermsLemmas.{terms-continue}
-
-and_unit : (a : Bool) → (a && true) ≡ a
-and_unit true = refl
-and_unit false = refl
 
 and_last : (a b c : Bool) → (a && (b && (c && true))) ≡ ((a && b) && c)
 and_last true true true = refl
@@ -56,7 +53,7 @@ IsLed-more [] shortest x shorter longer others h rises is other = absurd (omega 
 IsLed-more (y ∷ lists) shortest x shorter longer others h rises is other =
     let count : length ((y ∷ lists) ++ x ∷ []) ≡ suc (length (others ++ longer ∷ [])) = omega (arith, h.count, length-append (y ∷ lists) (x ∷ []), length-append others (longer ∷ [])) in
     let before : (d : ℕ) → in_all ((y ∷ lists) ++ x ∷ []) d ≡ ((has shortest d && in_all others d) && has x d) = λ d.
-    list_all-append (λ documents. has documents d) (y ∷ lists) (x ∷ []) ∙ ap₂ (λ a b. a && b) (sym (h.same d)) (and_unit (has x d)) in
+    list_all-append (λ documents. has documents d) (y ∷ lists) (x ∷ []) ∙ ap₂ (λ a b. a && b) (sym (h.same d)) (and-true (has x d)) in
     let least : shortest_of ((y ∷ lists) ++ x ∷ []) ≡ shorter =
     fold-append (λ (zs : List ℕ) (ys : List ℕ). if nat_lt (length ys) (length zs) then ys else zs) y lists (x ∷ [])
     ∙ ap (λ zs. if nat_lt (length x) (length zs) then x else zs) h.least ∙ sym is in
@@ -197,15 +194,11 @@ led_next segment queries k q shortest x shorter longer others h inside is hits f
     subst (λ lists. IsLed lists shorter (others ++ longer ∷ [])) more
     (IsLed-more (map (hits_of segment) (take k queries)) shortest x shorter longer others h (subst (Rises 0) (sym hits) (Rises-hits segment q)) first second)
 
-and_none : (b : Bool) → (b && false) ≡ false
-and_none true = refl
-and_none false = refl
-
 pub none_in : (segment : SegmentValue) (queries : List Query) (k : ℕ) (q : Query) → k < length queries → q ≡ get_or queries k q → hits_of segment q ≡ [] → (d : ℕ) → in_all (map (hits_of segment) queries) d ≡ false
 none_in segment [] k q inside is none d = absurd (omega (arith, inside))
 none_in segment (w ∷ ws) zero q inside is none d = ap (λ xs. has xs d && in_all (map (hits_of segment) ws) d) (ap (hits_of segment) (sym is) ∙ none)
 none_in segment (w ∷ ws) (suc k) q inside is none d =
-    ap (λ b. has (hits_of segment w) d && b) (none_in segment ws k q (omega (arith, inside)) is none d) ∙ and_none (has (hits_of segment w) d)
+    ap (λ b. has (hits_of segment w) d && b) (none_in segment ws k q (omega (arith, inside)) is none d) ∙ and-false (has (hits_of segment w) d)
 
 -- a conjunction of the cursors over the lists of terms, once it stands at its first document
 pub record Conjoins (segment : SegmentValue) (queries : List Query) (c : Conjoined) : Type 0 where

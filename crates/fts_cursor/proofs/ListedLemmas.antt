@@ -1,21 +1,23 @@
 -- Documents that lie in memory: what is left of them, and which of lists they are.
-use Rattle.std.proofs.Common.{◌≡◌, ℕ, zero, suc, ◌+◌, ◌-◌, ◌<◌, ◌≤◌, Bool, true, false, ◌==◌, ◌&&◌, ◌||◌, nat_le, Option, Some, None, List, [], ◌∷◌, Contains, length, drop, get_or, refl, sym, ap, ap₂, subst, ◌∙◌, inl, inr, arith}
+use Rattle.std.proofs.Common.{◌≡◌, ℕ, zero, suc, ◌+◌, ◌-◌, ◌<◌, ◌≤◌, true, ◌==◌, ◌&&◌, ◌||◌, nat_le, Option, Some, None, List, [], ◌∷◌, Contains, length, drop, get_or, refl, sym, ap, ap₂, subst, ◌∙◌, inl, inr, arith}
 use Rattle.std.specs.List.{flat_map, range_with_len, slice_get}
 use Rattle.std.specs.List.Sorted.{IsStrictlyIncreasing}
 use Rattle.std.proofs.lemmas.Bool.{and_parts, cases_Bool, cases_lt, eqb-true, false≢true, le-leb, leb-true}
 use Rattle.std.proofs.lemmas.List.Folds.{list_any-append}
 use Rattle.std.proofs.lemmas.List.{drop-drop, get_or-drop, length-drop}
 use Rattle.std.proofs.lemmas.Option.{get_or_from_slice_get, slice_get-get_or, slice_get_within}
+use Rattle.std.proofs.Math.Bool.{or-true}
 use Rattle.fts_postings.specs.Sets.{has, in_some}
 use Rattle.fts_postings.specs.Remaining.{IsPlaceOf, at_least}
 use Rattle.fts_postings.specs.Windows.{passing}
 use Rattle.fts_postings.proofs.SetLemmas.{is_itself}
 use Rattle.fts_postings.proofs.PassingLemmas.{Rises-drop, Rises-passing}
-use Rattle.fts_postings.proofs.RemainingLemmas.{Rises-from_increasing, at_least_place, increasing-from_Rises}
+use Rattle.fts_postings.proofs.RemainingLemmas.{at_least_place, increasing-from_Rises}
 use Rattle.fts_segment.specs.Between.{AreBetween}
 use Rattle.fts_column.specs.Column.{is_within}
 use Rattle.fts_cursor.specs.Scans.{has_within}
 use Rattle.fts_cursor.proofs.HitsLemmas.{has-filter, has-range, past-range, same_members}
+use Rattle.fts_pack.proofs.DocumentsLemmas.{Rises-from_increasing}
 
 -- what is left rises too
 pub rises_left : (at : ℕ) (xs : List ℕ) → IsStrictlyIncreasing xs → IsStrictlyIncreasing (drop at xs)
@@ -43,14 +45,10 @@ Contains-from_has (x ∷ xs) d h = elim (cases_Bool (x == d)) [
   | inr other ↦ let rest = Contains-from_has xs d (sym (ap (λ b. b || has xs d) other) ∙ h) in (suc rest.0, omega (arith, rest.1), rest.2)
 ]
 
-or_true : (b : Bool) → (b || true) ≡ true
-or_true true = refl
-or_true false = refl
-
 pub has-from_Contains : (xs : List ℕ) (d : ℕ) → Contains xs d → has xs d ≡ true
 has-from_Contains [] d (k, less, is) = absurd (omega (arith, less))
 has-from_Contains (x ∷ xs) d (zero, less, is) = let same : x ≡ d = is in ap (λ y. (y == d) || has xs d) same ∙ ap (λ b. b || has xs d) (is_itself d)
-has-from_Contains (x ∷ xs) d (suc k, less, is) = ap (λ b. (x == d) || b) (has-from_Contains xs d (k, omega (arith, less), is)) ∙ or_true (x == d)
+has-from_Contains (x ∷ xs) d (suc k, less, is) = ap (λ b. (x == d) || b) (has-from_Contains xs d (k, omega (arith, less), is)) ∙ or-true (x == d)
 
 has-joined : (lists : List (List ℕ)) (d : ℕ) → has (flat_map (λ list. list) lists) d ≡ in_some lists d
 has-joined [] d = refl
@@ -66,7 +64,7 @@ list_with (xs ∷ lists) d h = elim (cases_Bool (has xs d)) [
 with_list : (lists : List (List ℕ)) (d k : ℕ) → k < length lists → Contains (get_or lists k []) d → in_some lists d ≡ true
 with_list [] d k less there = absurd (omega (arith, less))
 with_list (xs ∷ lists) d zero less there = ap (λ b. b || in_some lists d) (has-from_Contains xs d there)
-with_list (xs ∷ lists) d (suc k) less there = ap (λ b. has xs d || b) (with_list lists d k (omega (arith, less)) there) ∙ or_true (has xs d)
+with_list (xs ∷ lists) d (suc k) less there = ap (λ b. has xs d || b) (with_list lists d k (omega (arith, less)) there) ∙ or-true (has xs d)
 
 -- a number within bounds is there
 within_there : (low high : ℕ) (v : Option ℕ) → is_within low high v ≡ true → (x : ℕ) × (v ≡ Some x) × (low ≤ x) × (x ≤ high)

@@ -8,7 +8,6 @@ use Rattle.fts_model.specs.declared.query.Query.{Query}
 use Rattle.fts_model.specs.declared.query.Query.TheOpen.{Query-F}
 use Rattle.fts_model.specs.declared.query.Query.TheViews as views
 use Rattle.fts_model.specs.declared.query.Query.TheVariants as variants
-use Rattle.fts_model.specs.declared.query.Query.TheVariants.{rolls-Bool}
 use Rattle.fts_model.specs.declared.query.Query.TheFolds.{fold-roll-Query}
 use Rattle.fts_model.specs.QueryValues.{QueryValue, QueryValues, nothing, term, boolean, no_queries, query_list, query_value, value_by_parts}
 use Rattle.fts_model.specs.declared.schema.Field.{Field}
@@ -27,13 +26,6 @@ use Rattle.fts_postings.specs.Sets.{common, union}
 use Rattle.fts_cursor.proofs.BoolHits.{all_kept, kept_by, must_hits, should_hits}
 use Rattle.fts_cursor.proofs.HitsLemmas.{hits_of}
 use Rattle.fts_cursor.proofs.LeadingLemmas.{all_hits}
-
--- what a Boolean query of the code is
-pub value_of_bool : (must must_not should : _) →
-    query_value (views.Bool must must_not should)
-    ≡ boolean (query_list (map query_value must.items)) (query_list (map query_value must_not.items)) (query_list (map query_value should.items))
-value_of_bool must must_not should =
-    ap query_value (sym (rolls-Bool must must_not should)) ∙ fold-roll-Query QueryValue value_by_parts (Query-F.Bool must must_not should)
 
 -- whether nothing is said of the openings of a query
 pub is_plain : QueryValue → Bool

@@ -13,6 +13,7 @@ use Rattle.fts_cursor.specs.TreeValues.{Left, Narrowed, TreeContinues, TreeValue
 use Rattle.fts_postings.proofs.RemainingLemmas.{at_least-at_least, first-at_least}
 use Rattle.fts_postings.proofs.SetLemmas.{has-before_first, has-first, has-none, in_all-lacking, in_all-each, has-at_least}
 use Rattle.fts_postings.proofs.UnionLemmas.{at_least-with_all}
+use Rattle.fts_postings.proofs.ConjoinedLemmas.{AllZip-from_places}
 
 -- the first parts stand in a relation to what they were, and the others are as they were
 pub record UpTo (R : TreeValue → TreeValue → Type 0) (initial now : List TreeValue) (index : ℕ) : Type 0 where
@@ -20,19 +21,12 @@ pub record UpTo (R : TreeValue → TreeValue → Type 0) (initial now : List Tre
   pub moved : (k : ℕ) (d : TreeValue) → k < index → R (get_or initial k d) (get_or now k d)
   pub rest : (k : ℕ) (d : TreeValue) → index ≤ k → get_or now k d ≡ get_or initial k d
 
-all_zip_at : (R : TreeValue → TreeValue → Type 0) (xs ys : List TreeValue) → length ys ≡ length xs → ((k : ℕ) (d : TreeValue) → k < length xs → R (get_or xs k d) (get_or ys k d)) → AllZip R xs ys
-all_zip_at R [] [] size h = tt
-all_zip_at R [] (y ∷ ys) size h = absurd (omega (arith, size))
-all_zip_at R (x ∷ xs) [] size h = absurd (omega (arith, size))
-all_zip_at R (x ∷ xs) (y ∷ ys) size h =
-    (h 0 x (omega arith), all_zip_at R xs ys (omega (arith, size)) (λ k d inside. h (suc k) d (omega (arith, inside))))
-
 pub UpTo-none : (R : TreeValue → TreeValue → Type 0) (parts : List TreeValue) → UpTo R parts parts 0
 UpTo-none R parts = record { size = refl; moved = λ k d low. absurd (omega (arith, low)); rest = λ k d high. refl }
 
 module _ (R : TreeValue → TreeValue → Type 0) (initial now : List TreeValue) (index : ℕ) (h : UpTo R initial now index) where
   pub UpTo-all : length now ≤ index → AllZip R initial now
-  UpTo-all all = all_zip_at R initial now h.size (λ k d inside. h.moved k d (omega (arith, inside, all, h.size)))
+  UpTo-all all = AllZip-from_places R initial now h.size (λ k d inside. h.moved k d (omega (arith, inside, all, h.size)))
 
   module _ (d₀ q : TreeValue) (inside : index < length now) (step : R (get_or now index d₀) q) where
     pub UpTo-next : UpTo R initial (set now index q) (index + 1)
@@ -54,7 +48,7 @@ module _ (R : TreeValue → TreeValue → Type 0) (initial now : List TreeValue)
     pub UpTo-exit : ((s : TreeValue) → R s s) → AllZip R initial (set now index q)
     UpTo-exit same =
         let next = UpTo-next in
-        all_zip_at R initial (set now index q) next.size (λ k d within. elim (cases_lt k (index + 1)) [
+        AllZip-from_places R initial (set now index q) next.size (λ k d within. elim (cases_lt k (index + 1)) [
           | inl before ↦ next.moved k d before
           | inr after ↦ rw (next.rest k d after) (same (get_or initial k d))
         ])

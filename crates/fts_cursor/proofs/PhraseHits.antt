@@ -16,7 +16,7 @@ use Rattle.fts_model.specs.Operations.{field_has, has as has_term, kind_at, valu
 use Rattle.fts_model.specs.Queries.{holds_phrases, is_nonempty, leads, query_fits, stands_with, value_has_phrase}
 use Rattle.fts_segment.specs.Occurrences.{is_token, tokens_of}
 use Rattle.fts_segment.specs.Segments.{SegmentValue, document_tokens, numbers_where, positions_among, postings}
-use Rattle.fts_segment.proofs.HoldingLemmas.{numbers_where-cons}
+use Rattle.fts_segment.proofs.HoldingLemmas.{numbers_where-cons, length-numbers_where}
 use Rattle.fts_cursor.specs.declared.phrase.Member.{Member}
 use Rattle.fts_cursor.specs.Builds.{IsCursorOf, IsMemberFor, LacksTerm, text_term}
 use Rattle.fts_cursor.specs.Phrases.{AreMembersOf, is_behind, phrase_at, positions_at, rank}
@@ -30,11 +30,13 @@ use Rattle.fts_model.specs.QueryValues.{phrase}
 use Rattle.std.specs.List.Sorted.{IsStrictlyIncreasing}
 use Rattle.std.specs.List.{All}
 use Rattle.std.proofs.lemmas.List.Elements.{All-cons, All-nil}
-use Rattle.fts_postings.proofs.RemainingLemmas.{Rises-from_increasing, increasing-from_Rises}
+use Rattle.std.proofs.Math.Bool.{and-false, and-true, and_comm}
+use Rattle.fts_postings.proofs.RemainingLemmas.{increasing-from_Rises}
 use Rattle.fts_postings.proofs.SetLemmas.{Rises-filter}
 use Rattle.fts_cursor.proofs.HitsLemmas.{Rises-numbers, has-all, has-filter, numbers_are, test_at}
 use Rattle.fts_cursor.proofs.PhraseLeads.{All-removed, AllZip-at, AllZip-removed, all_each, any_some, documents-led, phrase-led}
 use Rattle.fts_cursor.proofs.PhraseLemmas.{IsPaired, none_below}
+use Rattle.fts_pack.proofs.DocumentsLemmas.{Rises-from_increasing}
 
 -- tests that agree on each member
 list_any-same : {X : Type 0} (p q : X → Bool) (xs : List X) → ((x : X) → p x ≡ q x) → list_any p xs ≡ list_any q xs
@@ -45,27 +47,13 @@ list_all-same : {X : Type 0} (p q : X → Bool) (xs : List X) → ((x : X) → p
 list_all-same p q [] same = refl
 list_all-same p q (x ∷ xs) same = ap₂ (λ a b. a && b) (same x) (list_all-same p q xs same)
 
-and_swap : (a b : Bool) → (a && b) ≡ (b && a)
-and_swap true true = refl
-and_swap true false = refl
-and_swap false true = refl
-and_swap false false = refl
-
-and_true : (b : Bool) → (b && true) ≡ b
-and_true true = refl
-and_true false = refl
-
-and_false : (b : Bool) → (b && false) ≡ false
-and_false true = refl
-and_false false = refl
-
 -- a test of the positions of a text is one of the tokens
 any_position : (f : ℕ → Bool) (text : List ℕ) (ts : List (ℕ × List ℕ)) → list_any f (positions_among text ts) ≡ list_any (λ t. f t.0 && bytes_eq t.1 text) ts
 any_position f text [] = refl
 any_position f text (t ∷ ts) =
     elim (bytes_eq t.1 text) as (λ b. list_any f (map (λ (x : ℕ × List ℕ). x.0) (cond b (t ∷ filter (is_token text) ts) (filter (is_token text) ts))) ≡ ((f t.0 && b) || list_any (λ x. f x.0 && bytes_eq x.1 text) ts)) [
-      | true ↦ ap₂ (λ a b. a || b) (sym (and_true (f t.0))) (any_position f text ts)
-      | false ↦ any_position f text ts ∙ ap (λ b. b || list_any (λ x. f x.0 && bytes_eq x.1 text) ts) (sym (and_false (f t.0)))
+      | true ↦ ap₂ (λ a b. a || b) (sym (and-true (f t.0))) (any_position f text ts)
+      | false ↦ any_position f text ts ∙ ap (λ b. b || list_any (λ x. f x.0 && bytes_eq x.1 text) ts) (sym (and-false (f t.0)))
     ]
 
 -- a token of this text
@@ -81,7 +69,7 @@ positions_lead ts first others =
     any_position (λ p. list_all (λ m. list_any (λ q. q + first.0 == p + m.0) (positions_among m.1 ts)) others) first.1 ts
     ∙ list_any-same _ (leads ts first others) ts (λ token.
     ap (λ b. b && bytes_eq token.1 first.1) (list_all-same _ (stands_with ts first token) others (λ m. any_position (λ q. q + first.0 == token.0 + m.0) m.1 ts))
-    ∙ and_swap (list_all (stands_with ts first token) others) (bytes_eq token.1 first.1))
+    ∙ and_comm (list_all (stands_with ts first token) others) (bytes_eq token.1 first.1))
 
 -- where a test passes for some member, and that follows from nothing of it, it holds
 any_const : {X : Type 0} (p : X → Bool) (b : Bool) (xs : List X) → ((x : X) → p x ≡ true → b ≡ true) → list_any p xs ≡ true → b ≡ true
@@ -252,15 +240,6 @@ lacking_hits segment field kind first others lacks =
     numbers_are (λ e. option_map_or (value_has_phrase (first ∷ others)) (value_in_field e.value field) false) segment.documents [] tt
     (λ d. lacking_at segment field kind first others lacks.0 lacks.1 lacks.2 lacks.3 d (slice_get segment.documents d) refl)
 
--- no more documents have a term than there are
-length-numbers : {X : Type 0} (p : X → Bool) (k : ℕ) (xs : List X) → length (numbers_where p k xs) ≤ length xs
-length-numbers p k [] = omega arith
-length-numbers p k (x ∷ xs) =
-    rw numbers_where-cons (elim (p x) as (λ b. length (cond b (k ∷ numbers_where p (k + 1) xs) (numbers_where p (k + 1) xs)) ≤ length (x ∷ xs)) [
-      | true ↦ omega (arith, length-numbers p (k + 1) xs)
-      | false ↦ omega (arith, length-numbers p (k + 1) xs)
-    ])
-
 pub members_few : (segment : SegmentValue) (field : ℕ) (pattern : List (ℕ × List ℕ)) (ms : List Member) → length segment.documents ≤ 2 ^ 32 → AllZip (IsMemberFor segment field) pattern ms →
     All (λ m. IsStrictlyIncreasing (documents_in m.list)) ms × All (λ m. length (documents_in m.list) ≤ 2 ^ 32) ms
 members_few segment field [] [] few h = (All-nil (λ m. IsStrictlyIncreasing (documents_in m.list)), All-nil (λ m. length (documents_in m.list) ≤ 2 ^ 32))
@@ -268,7 +247,7 @@ members_few segment field [] (m ∷ ms) few h = absurd h
 members_few segment field (w ∷ ws) [] few h = absurd h
 members_few segment field (w ∷ ws) (m ∷ ms) few h =
     let rest = members_few segment field ws ms few h.1 in
-    let here : length (documents_in m.list) ≤ 2 ^ 32 = omega (arith, ap length h.0.documents, length-numbers (λ x. has_term segment.schema x.value (text_term field w.1)) 0 segment.documents, few) in (
+    let here : length (documents_in m.list) ≤ 2 ^ 32 = omega (arith, ap length h.0.documents, length-numbers_where (λ x. has_term segment.schema x.value (text_term field w.1)) 0 segment.documents, few) in (
       All-cons (λ n. IsStrictlyIncreasing (documents_in n.list)) m ms (increasing-from_Rises 0 (documents_in m.list) (Rises-member segment field w m h.0)) rest.0,
       All-cons (λ n. length (documents_in n.list) ≤ 2 ^ 32) m ms here rest.1,
     )

@@ -1,16 +1,13 @@
 -- Any member of a phrase may lead: where it stands doesn't depend on which one does.
 use Rattle.std.proofs.Common.{◌≡◌, ℕ, zero, suc, ◌+◌, ◌<◌, ◌==◌, Bool, true, false, ◌&&◌, ◌||◌, List, [], ◌∷◌, map, length, get_or, refl, sym, ap, ap₂, ◌∙◌, inl, inr, arith}
 use Rattle.std.specs.List.{All, AllZip, list_all, list_any, remove}
-use Rattle.std.proofs.lemmas.Bool.{and_parts, cases_Bool, eq-eqb, eqb-true, false≢true}
+use Rattle.std.proofs.lemmas.Bool.{and_parts, cases_Bool, eq-eqb, eqb-true, false≢true, or_right}
 use Rattle.std.proofs.lemmas.List.Elements.{All-cons, All-head, All-tail}
+use Rattle.std.specs.Cmp.Derive.{one_truth}
 use Rattle.fts_segment.specs.ListIds.{documents_in}
 use Rattle.fts_cursor.specs.declared.phrase.Member.{Member}
 use Rattle.fts_cursor.specs.Phrases.{is_behind, phrase_at, positions_at}
 use Rattle.fts_postings.specs.Sets.{has, in_all}
-
-or_right : (a b : Bool) → b ≡ true → (a || b) ≡ true
-or_right true b h = refl
-or_right false b h = h
 
 pub any_some : {X : Type 0} (p q : X → Bool) (xs : List X) → ((x : X) → p x ≡ true → q x ≡ true) → list_any p xs ≡ true → list_any q xs ≡ true
 any_some p q [] imp h = absurd (false≢true h)
@@ -48,7 +45,7 @@ passes_at f (x ∷ xs) n h passes = elim (cases_Bool (x == n)) [
   | inr not_here ↦ or_right (f x) (list_any f xs) (passes_at f xs n (ap (λ b. b || has xs n) (sym not_here) ∙ h) passes)
 ]
 
-and_swap : (a b c : Bool) → (a && (b && c)) ≡ (b && (a && c))
+pub and_swap : (a b c : Bool) → (a && (b && c)) ≡ (b && (a && c))
 and_swap true true c = refl
 and_swap true false c = refl
 and_swap false true c = refl
@@ -76,16 +73,11 @@ stand_as_well d m n ms ns each h =
     any_some (λ q. q + m.offset == at.number + x.offset) (λ q. q + n.offset == lead.number + x.offset) (positions_at x d) (λ q is.
     eq-eqb (q + n.offset) (lead.number + x.offset) (let q_is = eqb-true (q + m.offset) (at.number + x.offset) is in omega (arith, q_is, lead_is))) there) both.1)
 
-same_truth : (a b : Bool) → (a ≡ true → b ≡ true) → (b ≡ true → a ≡ true) → a ≡ b
-same_truth true b to from = sym (to refl)
-same_truth false true to from = from refl
-same_truth false false to from = refl
-
 -- which member leads doesn't matter
 pub phrase-led : (ms : List Member) (k : ℕ) (e : Member) (d : ℕ) → k < length ms → phrase_at (get_or ms k e ∷ remove ms k) d ≡ phrase_at ms d
 phrase-led [] k e d inside = absurd (omega (arith, inside))
 phrase-led (m ∷ ms) k e d inside =
-    same_truth (phrase_at (get_or (m ∷ ms) k e ∷ remove (m ∷ ms) k) d) (phrase_at (m ∷ ms) d)
+    one_truth (phrase_at (get_or (m ∷ ms) k e ∷ remove (m ∷ ms) k) d) (phrase_at (m ∷ ms) d)
     (stand_as_well d (get_or (m ∷ ms) k e) m (remove (m ∷ ms) k) ms (λ f h. sym (all-led f (m ∷ ms) k e inside) ∙ h))
     (stand_as_well d m (get_or (m ∷ ms) k e) ms (remove (m ∷ ms) k) (λ f h. all-led f (m ∷ ms) k e inside ∙ h))
 

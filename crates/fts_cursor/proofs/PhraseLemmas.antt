@@ -16,9 +16,10 @@ use Rattle.fts_cursor.specs.Phrases.{AreMembersOf, IsPhrase, phrase_at, position
 use Rattle.fts_postings.specs.Posting.{Follows, Posting}
 use Rattle.fts_cursor.specs.Standing.{Continues}
 use Rattle.fts_cursor.specs.Terms.{AreTied, of_terms}
-use Rattle.fts_postings.proofs.RemainingLemmas.{Rises-from_increasing, Rises-get_or}
+use Rattle.fts_postings.proofs.RemainingLemmas.{Rises-get_or}
 use Rattle.fts_postings.proofs.ConjoinedLemmas.{AllFollow-trans}
 use Rattle.fts_cursor.proofs.TermsLemmas.{terms-continue}
+use Rattle.fts_pack.proofs.DocumentsLemmas.{Rises-from_increasing}
 
 pub none_below : (doc next : ℕ) (xs : List ℕ) → Rises next xs → doc ≤ next → filter (λ d. nat_lt d doc) xs ≡ []
 none_below doc next [] h low = refl

@@ -7,6 +7,7 @@ use Rattle.std.specs.declared.ops.Bound.TheVariants.{Included, Excluded, Unbound
 use Rattle.std.proofs.lemmas.Bool.{and_parts, cases_Bool, cases_lt, false≢true, le-leb, lt-leb, lt-ltb, le-ltb, ltb-true}
 use Rattle.std.proofs.lemmas.List.{get_or-map, get_or_past, length-map}
 use Rattle.std.proofs.lemmas.Option.{get_or_from_slice_get, slice_get-map, slice_get_within, unwrap_or-slice_get}
+use Rattle.std.proofs.Math.Bool.{and-false}
 use Rattle.fts_model.specs.declared.operation.Stamped.{Stamped}
 use Rattle.fts_model.specs.declared.schema.Field.{Field}
 use Rattle.fts_model.specs.declared.schema.Kind.{Kind}
@@ -121,17 +122,13 @@ none_of kind (Included b) v ok holds none some = let h = apart kind b v ok holds
 none_of kind (Excluded b) v ok holds none some = let h = apart kind b v ok holds none in (h.lt, h.gt)
 none_of kind Unbounded v ok holds none some = absurd (false≢true some)
 
-pub and_false : (b : Bool) → (b && false) ≡ false
-and_false true = refl
-and_false false = refl
-
 -- bounds, of which one is one, admit nothing of another kind
 other : (kind : Kind) (lower upper : Bound FieldValue) (v : FieldValue) → is_bound_of kind lower ≡ true → is_bound_of kind upper ≡ true → holds_numbers kind ≡ true → number_in kind v ≡ None → (is_bounded lower || is_bounded upper) ≡ true → admits lower upper v ≡ false
 other kind lower upper v low high holds none some = elim (cases_Bool (is_bounded lower)) [
   | inl bounded ↦ ap (λ b. b && admits_to upper v) (none_of kind lower v low holds none bounded).0
   | inr open_below ↦
       let bounded : is_bounded upper ≡ true = ap (λ b. b || is_bounded upper) (sym open_below) ∙ some in
-      ap (λ b. admits_from lower v && b) (none_of kind upper v high holds none bounded).1 ∙ and_false (admits_from lower v)
+      ap (λ b. admits_from lower v && b) (none_of kind upper v high holds none bounded).1 ∙ and-false (admits_from lower v)
 ]
 
 -- what bounds say of a value is what they say of its number
@@ -189,7 +186,7 @@ none_from lower upper (Some x) least small = ap (λ b. b && key_to upper x) (sym
 
 pub none_to : (lower upper : Bound FieldValue) (o : Option ℕ) → IsGreatestOf upper None → IfSome o (λ x. x < 2 ^ 64) → option_map_or (key_admits lower upper) o false ≡ false
 none_to lower upper None greatest small = refl
-none_to lower upper (Some x) greatest small = ap (λ b. key_from lower x && b) (sym (greatest x small)) ∙ and_false (key_from lower x)
+none_to lower upper (Some x) greatest small = ap (λ b. key_from lower x && b) (sym (greatest x small)) ∙ and-false (key_from lower x)
 
 -- each number of a column has 64 bits, where the greatest has
 within_range : (o : Option ℕ) (x : ℕ) (range : ℕ × ℕ) → o ≡ Some x → IfSome o (λ y. (range.0 ≤ y) × (y ≤ range.1)) → x ≤ range.1
@@ -229,14 +226,6 @@ valued_at : (lower upper : Bound FieldValue) (field : ℕ) → is_bounded lower 
     option_map_or (λ e. is_some (value_in_field e.value field)) s false ≡ option_map_or (Hit lower upper field) s false
 valued_at lower upper field low high None = refl
 valued_at lower upper field low high (Some e) = valued lower upper low high (value_in_field e.value field)
-
-pub not_true : (b : Bool) → not b ≡ true → b ≡ false
-not_true true h = absurd (false≢true h)
-not_true false h = refl
-
-pub not_false : (b : Bool) → not b ≡ false → b ≡ true
-not_false true h = refl
-not_false false h = absurd (false≢true (sym h))
 
 -- a range without bounds finds the documents with a value
 pub open_hits : (documents : List (Stamped DocumentValue)) (field : ℕ) (lower upper : Bound FieldValue) → is_bounded lower ≡ false → is_bounded upper ≡ false → passing (has_value documents field) 0 (length documents) ≡ numbers_where (Hit lower upper field) 0 documents

@@ -11,6 +11,7 @@ use Rattle.fts_cursor.specs.Standing.{Standing, Walked}
 use Rattle.fts_cursor.specs.TreeValues.{Left, Narrowed, TreeContinues, TreeValue, all_most, all_openings, beside, remains, together}
 use Rattle.fts_postings.specs.Conjoined.{IsAhead}
 use Rattle.std.specs.Borrow.{Bor}
+use Rattle.std.proofs.lemmas.List.Kept.{IsStrictlyIncreasing-filter}
 use Rattle.fts_cursor.specs.Hits.{is_live}
 use Rattle.fts_cursor.specs.Live.{of_live}
 use Rattle.fts_cursor.specs.Trees.{IsNow, IsTiedNode, Met, PartsStand, differ, meet, tree_value}
@@ -18,10 +19,11 @@ use Rattle.fts_cursor.specs.declared.tree.exclusion.Exclusion.{Exclusion}
 use Rattle.fts_cursor.specs.declared.tree.intersection.Intersection.{Intersection}
 use Rattle.fts_cursor.specs.declared.tree.Node.{Node}
 use Rattle.fts_cursor.specs.declared.tree.Node.TheVariants.{And}
-use Rattle.fts_postings.proofs.RemainingLemmas.{Rises-from_increasing, increasing-from_Rises, fewer-at_least, first-at_least, at_least_all, nothing_first}
-use Rattle.fts_postings.proofs.SetLemmas.{FirstPasses-first, filter-past, Rises-from_first, filter-ahead, filter-first, filter-none, filter-rises, filter-same, has-at_least, has-before_first, has-first, has-none, is_itself}
+use Rattle.fts_postings.proofs.RemainingLemmas.{increasing-from_Rises, fewer-at_least, first-at_least, at_least_all, nothing_first}
+use Rattle.fts_postings.proofs.SetLemmas.{FirstPasses-first, filter-past, Rises-from_first, filter-ahead, filter-first, filter-none, filter-same, has-at_least, has-before_first, has-first, has-none, is_itself}
 use Rattle.fts_cursor.proofs.PartsLemmas.{TreeContinues-beside, TreeContinues-together, TreeContinues-trans, LeftUpTo, UpTo-next, in_all-narrowed, remains-more}
 use Rattle.fts_postings.proofs.UnionLemmas.{Rises-union, has-union}
+use Rattle.fts_pack.proofs.DocumentsLemmas.{Rises-from_increasing}
 
 -- a node whose parts were brought together
 pub IsNow-met : (doc : Option ℕ) (node : Node) (before remaining : List ℕ) (test : ℕ → Bool) (lead : List ℕ) → Met doc before test lead → (tree_value node).remaining ≡ filter test lead → PartsStand doc node → IsTiedNode node → before ≡ remaining → IsNow doc node remaining
@@ -45,7 +47,7 @@ module _ (before now : List ℕ) (old test : ℕ → Bool) (doc : ℕ) (h : filt
   brought = filter-same doc test old now up same ∙ h
 
   rising : IsStrictlyIncreasing before
-  rising = subst IsStrictlyIncreasing brought (filter-rises test now rises)
+  rising = subst IsStrictlyIncreasing brought (IsStrictlyIncreasing-filter test now rises)
 
   pub Met-here : test doc ≡ true → Met (Some doc) before test now
   Met-here passes =
@@ -207,4 +209,4 @@ Walked-trans s t u h k = record {
 -- what is live of a rising list rises
 pub live_rises : (live : Option (Bor (List Bool))) (s : Standing) → IsStrictlyIncreasing s.remaining → IsStrictlyIncreasing (of_live live s).remaining
 live_rises None s h = h
-live_rises (Some bits) s h = filter-rises (is_live bits.now) s.remaining h
+live_rises (Some bits) s h = IsStrictlyIncreasing-filter (is_live bits.now) s.remaining h

@@ -1,19 +1,21 @@
 -- Positions that are gone through forward only.
-use Rattle.std.proofs.Common.{◌≡◌, ℕ, suc, ◌+◌, ◌<◌, ◌≤◌, ◌==◌, nat_le, cond, Bool, true, false, ◌||◌, Option, Some, None, List, [], ◌∷◌, refl, sym, ap, ap₂, ◌∙◌, inl, inr, arith}
+use Rattle.std.proofs.Common.{◌≡◌, ℕ, suc, ◌+◌, ◌<◌, ◌≤◌, ◌==◌, nat_le, cond, Bool, false, ◌||◌, Option, Some, None, List, [], ◌∷◌, refl, sym, ap, ap₂, ◌∙◌, inl, inr, arith}
 use Rattle.std.specs.Prelude.{MatchOption, slice_range}
 use Rattle.std.specs.List.{list_any}
 use Rattle.std.specs.List.Sorted.{IsStrictlyIncreasing}
 use Rattle.std.proofs.lemmas.Bool.{le-leb, lt-leb, cases_lt}
 use Rattle.std.proofs.lemmas.Bool.Decides.{nat_tests}
+use Rattle.std.proofs.Math.Bool.{or-false}
 use Rattle.fts_pack.specs.Documents.{Rises, documents_at}
 use Rattle.fts_segment.specs.declared.positions.Positions.{Positions}
 use Rattle.fts_segment.specs.PositionLists.{numbers_behind}
 use Rattle.fts_segment.specs.PositionsLeft.{positions_left}
 use Rattle.fts_postings.specs.Sets.{has}
 use Rattle.fts_postings.specs.Remaining.{at_least}
-use Rattle.fts_postings.proofs.RemainingLemmas.{Rises-from_increasing, increasing-from_Rises, at_least_all}
+use Rattle.fts_postings.proofs.RemainingLemmas.{increasing-from_Rises, at_least_all}
 use Rattle.fts_postings.proofs.SetLemmas.{has-at_least, has-below}
 use Rattle.fts_cursor.specs.Walks.{left_from}
+use Rattle.fts_pack.proofs.DocumentsLemmas.{Rises-from_increasing}
 
 -- what is made of differences rises
 Rises-documents_at : (next : ℕ) (gaps : List ℕ) → Rises next (documents_at next gaps)
@@ -50,10 +52,6 @@ at_least-later low high (x ∷ xs) le =
           ∙ ap (λ ys. cond (nat_le high x) (x ∷ ys) ys) rest
     ]
 
-or_false : (b : Bool) → (b || false) ≡ b
-or_false true = refl
-or_false false = refl
-
 -- what is left on the way to a position
 pub record Sought (position : ℕ) (old now : List ℕ) : Type 0 where
   pub same : at_least position now ≡ at_least position old
@@ -82,7 +80,7 @@ sought-first position first old later h le =
     let here : Rises first (first ∷ later) = (omega arith, rises) in
     record {
       found_is =
-          sym (ap (λ b. (first == position) || b) (has-below (suc first) later position rises (omega (arith, le))) ∙ or_false (first == position))
+          sym (ap (λ b. (first == position) || b) (has-below (suc first) later position rises (omega (arith, le))) ∙ or-false (first == position))
           ∙ has-same position (first ∷ later) old h.same;
       left = sym (at_least_all position first (first ∷ later) here le) ∙ h.same;
     }

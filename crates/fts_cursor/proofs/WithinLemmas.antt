@@ -1,5 +1,5 @@
 -- The documents of a stretch whose number in a column lies within bounds, as the bits of two words.
-use Rattle.std.proofs.Common.{◌≡◌, ℕ, suc, ◌+◌, ◌-◌, ◌^◌, ◌<◌, ◌≤◌, Bool, true, false, ◌==◌, Option, None, List, [], ◌++◌, length, get_or, min, sym, ap, ap₂, subst, ◌∙◌, inl, inr, arith}
+use Rattle.std.proofs.Common.{◌≡◌, ℕ, suc, ◌+◌, ◌-◌, ◌^◌, ◌<◌, ◌≤◌, true, false, ◌==◌, Option, None, List, [], ◌++◌, length, get_or, min, sym, ap, ap₂, subst, ◌∙◌, inl, inr, arith}
 use Rattle.std.specs.Int.{bit_at}
 use Rattle.std.proofs.lemmas.Bool.{cases_lt}
 use Rattle.std.proofs.lemmas.List.{append-nil, get_or_past}
@@ -8,7 +8,7 @@ use Rattle.fts_column.specs.Column.{is_within}
 use Rattle.fts_cursor.specs.Scans.{has_within}
 use Rattle.fts_postings.specs.Windows.{is_marked, marked, passing}
 use Rattle.fts_postings.proofs.PassingLemmas.{passing-append}
-use Rattle.fts_postings.proofs.WindowLemmas.{passing-ahead, passing-same}
+use Rattle.fts_postings.proofs.WindowLemmas.{passing-same, nothing}
 
 -- what the marks of 64 numbers of a column tell
 pub record AreMarks (low high : ℕ) (column : List (Option ℕ)) (from marks : ℕ) : Type 0 where
@@ -37,9 +37,6 @@ marked_inside low high column from marks h k is = elim (cases_lt k 64) [
   ]
 ]
 
-passing-none : (p : ℕ → Bool) (a n : ℕ) → ((d : ℕ) → a ≤ d → d < a + n → p d ≡ false) → passing p a n ≡ []
-passing-none p a n fails = let e : n ≡ n + 0 = omega arith in ap (passing p a) e ∙ passing-ahead p a n 0 fails
-
 -- two words have what a stretch has
 pub two_words : (low high : ℕ) (column : List (Option ℕ)) (from n first second : ℕ) → n ≡ min 128 (length column - from) → from < length column → AreMarks low high column from first → AreMarks low high column (from + 64) second
     → passing (has_within low high column) from n ≡ marked from (from + 63) first ++ marked (from + 64) (from + 64 + 63) second
@@ -50,7 +47,7 @@ two_words low high column from n first second size inside here there =
     let m = 128 - n in
     let whole : n + m ≡ a + b = omega (arith, size) in
     let start : from + a ≡ from + 64 = omega arith in
-    let none : passing test (from + n) m ≡ [] = passing-none test (from + n) m (λ d up down. none_past low high column d (omega (arith, up, down, size, inside))) in
+    let none : passing test (from + n) m ≡ [] = nothing test (from + n) m (λ d up down. none_past low high column d (omega (arith, up, down, size, inside))) in
     sym (append-nil (passing test from n)) ∙ ap (λ ys. passing test from n ++ ys) (sym none) ∙ sym (passing-append test from n m)
     ∙ ap (passing test from) whole ∙ passing-append test from a b
     ∙ ap₂ (λ xs ys. xs ++ ys)

@@ -5,6 +5,7 @@ use Rattle.fts_base.specs.declared.refusal.Refusal.{Refusal}
 use Rattle.fts_base.specs.declared.refusal.Refusal.TheVariants.{Memory, LaneFull}
 use Rattle.fts_model.specs.declared.operation.Op.{Op}
 use Rattle.fts_model.specs.declared.operation.Stamped.{Stamped}
+use Rattle.fts_steps.specs.Steps.{most_uncommitted}
 use Rattle.fts_rounds.specs.Rounds.{Opened, Held, IsLaneOf}
 use Rattle.fts_rounds.specs.Rounds as rounds
 use Rattle.fts_index.specs.Writers.{WriterValue, is_of}
@@ -23,10 +24,10 @@ ops_of (Open round lane) = lane.ops
 ops_of (Ended round ends) = first_ops ends.items
 ops_of (Gathered batch) = batch.ops
 
--- the round has one lane, of up to 1,000,000 operations
+-- the round has one lane, of as many operations as may be uncommitted
 pub record HasOneLane (round : Opened) : Type 0 where
   pub lanes : round.limits.lanes ≡ 1
-  pub cap : round.limits.cap ≡ 1000000
+  pub cap : round.limits.cap ≡ most_uncommitted
 
 -- the writer's open round is this one, and its first stamp comes behind the last commit's
 pub record IsOpen (w : WriterValue) (round : Opened) : Type 0 where
@@ -37,7 +38,7 @@ pub record IsOpen (w : WriterValue) (round : Opened) : Type 0 where
 -- the lane is the one of the round, and isn't over its limit
 pub record IsItsLane (round : Opened) (lane : Held) : Type 0 where
   pub its : IsLaneOf round lane
-  pub most : length lane.ops ≤ 1000000
+  pub most : length lane.ops ≤ most_uncommitted
 
 -- the end is that of the one lane of the round
 pub record IsItsEnd (round : Opened) (ends : List Held) : Type 0 where
@@ -58,12 +59,12 @@ IsUncommittedIn w (Ended round ends) = IsOpen w round × IsItsEnd round ends.ite
 IsUncommittedIn w (Gathered batch) = IsItsBatch w batch
 
 -- An operation was taken behind others, and its stamp counts from the first one; at a refusal they are as they were,
--- and memory ran out or there were 1,000,000.
+-- and memory ran out or there were as many as may be.
 abbrev pub Submits : ℕ → Op → List (Stamped Op) → List (Stamped Op) → Result ℕ Refusal → Type 0
 Submits first op old new (Ok stamp) = (stamp ≡ first + length old)
-    × (new ≡ old ++ record { stamp = stamp; value = op } ∷ []) × (length old < 1000000)
+    × (new ≡ old ++ record { stamp = stamp; value = op } ∷ []) × (length old < most_uncommitted)
 Submits first op old new (Err refusal) =
-    (new ≡ old) × ((refusal ≡ Memory) ⊎ ((refusal ≡ LaneFull) × (1000000 ≤ length old)))
+    (new ≡ old) × ((refusal ≡ Memory) ⊎ ((refusal ≡ LaneFull) × (most_uncommitted ≤ length old)))
 
 -- the batch has these operations of the round
 pub record IsBatchOf (round : Opened) (ops : List (Stamped Op)) (batch : rounds.Gathered) : Type 0 where

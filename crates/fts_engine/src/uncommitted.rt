@@ -10,14 +10,11 @@ ghost use Rattle.fts_engine.specs.WriterIndexes.{Commits};
 
 use fts_index::{Batch, Committed, Lane, LaneEnd, Round, Writer};
 use fts_model::{Op, Refusal, Stamp};
-use fts_steps::Options;
+use fts_steps::{MOST_UNCOMMITTED, Options};
 use std::alloc::Global;
 use std::mem;
 use std::sync::Wait;
 use std::thread::Threads;
-
-/// The most operations that are uncommitted.
-const MOST_UNCOMMITTED: usize = 1_000_000;
 
 /// The uncommitted operations, however far a commit has come with them.
 ///

@@ -1,18 +1,26 @@
 // An index over segments that needs nothing but memory: no other thread, and nothing to wait for.
-ghost use Rattle.std.specs.Prelude.{◌≡◌};
+ghost use Rattle.std.specs.Prelude.{◌≡◌, []};
 
 use crate::changes::{merge_all, merge_behind, next_commit};
 use crate::commit::LocalCommit;
 use fts_model::{Answer, Cut, Op, Query, Refusal, Request, Schema, Stamp, Stamped};
 use fts_searches::search_alone;
 use fts_snapshots::Snapshot;
-use fts_steps::{Engine, EngineOver, Fork, Merge, Options};
+use fts_steps::{Engine, EngineOver, Fork, MOST_UNCOMMITTED, Merge, Options};
 use std::alloc::{AllocError, Global};
 use std::marker::Model;
 use std::sync::Arc;
 
-/// The most operations that are uncommitted.
-const MOST_UNCOMMITTED: usize = 1_000_000;
+/// For how many operations room is kept once those before were committed or given up.
+const MOST_KEPT: usize = 1_024;
+
+/// Lets operations go, and the room of many.
+fn let_go(ops: &mut Vec<Stamped<Op>>)
+    ensures { ops.new.items ≡ [] }
+{
+    ops.clear();
+    ops.shrink_to(MOST_KEPT);
+}
 
 /// The last commit, which forks share, and the operations since.
 ///
@@ -101,13 +109,13 @@ impl<R: AllocGlobal + Sync> EngineOver<R> for LocalEngine {
         let mut commit = next_commit(self.alloc, &self.commit, &self.uncommitted, self.cut)?;
         merge_behind(self.alloc, &mut commit, self.merge);
         self.commit = commit;
-        self.uncommitted.clear();
+        let_go(&mut self.uncommitted);
         Ok(self.commit.stamp)
     }
 
     fn rollback(&mut self, _rt: &R) -> Result<Stamp, Refusal> {
         self.calls += 1;
-        self.uncommitted.clear();
+        let_go(&mut self.uncommitted);
         Ok(self.commit.stamp)
     }
 

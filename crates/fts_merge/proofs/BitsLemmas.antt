@@ -1,12 +1,13 @@
 -- Bits of members that pass tests, and the members whose bit is set.
-use Rattle.std.proofs.Common.{◌≡◌, ◌+◌, ℕ, Bool, true, false, cond, not, ◌&&◌, ◌||◌, List, [], ◌∷◌, ◌++◌, map, filter, length, count_by, refl, sym, ap, ap₂, ◌∙◌, arith}
-use Rattle.std.specs.List.{list_any, enumerate_from}
+use Rattle.std.proofs.Common.{◌≡◌, ◌+◌, Bool, true, false, cond, not, ◌&&◌, ◌||◌, List, [], ◌∷◌, ◌++◌, filter, length, refl, sym, ap, ap₂, ◌∙◌, arith}
+use Rattle.std.specs.List.{list_any}
+use Rattle.std.proofs.Math.Bool.{and-true}
+use Rattle.std.proofs.lemmas.List.Folds.{list_any-append}
 use Rattle.fts_model.specs.declared.schema.Field.{Field}
 use Rattle.fts_model.specs.declared.operation.Op.{Op}
 use Rattle.fts_model.specs.declared.operation.Stamped.{Stamped}
 use Rattle.fts_model.specs.Documents.{DocumentValue}
 use Rattle.fts_model.specs.Operations.{strikes_later, survives}
-use Rattle.fts_segment.specs.Segments.{numbers_where}
 use Rattle.fts_segment.specs.Contents.{where_set}
 use Rattle.fts_merge.specs.Strikes.{bits_where, bits_after}
 
@@ -26,16 +27,12 @@ bits_where-same p q same [] bits = refl
 bits_where-same p q same (x ∷ xs) [] = refl
 bits_where-same p q same (x ∷ xs) (bit ∷ bits) = ap₂ (λ b bs. (bit && b) ∷ bs) (same x) (bits_where-same p q same xs bits)
 
-pub and_true : (b : Bool) → (b && true) ≡ b
-and_true true = refl
-and_true false = refl
-
 -- a test that all pass leaves each bit
 pub bits_where-all : {X : Type 0} (p : X → Bool) → ((x : X) → p x ≡ true) → (xs : List X) (bits : List Bool) → length bits ≡ length xs → bits_where p xs bits ≡ bits
 bits_where-all p all [] [] e = refl
 bits_where-all p all [] (bit ∷ bits) e = absurd (omega (arith, e))
 bits_where-all p all (x ∷ xs) [] e = absurd (omega (arith, e))
-bits_where-all p all (x ∷ xs) (bit ∷ bits) e = ap₂ (λ b bs. b ∷ bs) (ap (λ b. bit && b) (all x) ∙ and_true bit) (bits_where-all p all xs bits (omega (arith, e)))
+bits_where-all p all (x ∷ xs) (bit ∷ bits) e = ap₂ (λ b bs. b ∷ bs) (ap (λ b. bit && b) (all x) ∙ and-true bit) (bits_where-all p all xs bits (omega (arith, e)))
 
 pub length-bits_where : {X : Type 0} (p : X → Bool) (xs : List X) (bits : List Bool) → length bits ≡ length xs → length (bits_where p xs bits) ≡ length xs
 length-bits_where p [] bits e = refl
@@ -45,11 +42,6 @@ length-bits_where p (x ∷ xs) (bit ∷ bits) e = omega (arith, length-bits_wher
 or_moved : (a b c : Bool) → (a || (b || c)) ≡ ((a || b) || c)
 or_moved true b c = refl
 or_moved false b c = refl
-
--- operations one after the other
-list_any-append : {X : Type 0} (p : X → Bool) (xs ys : List X) → list_any p (xs ++ ys) ≡ (list_any p xs || list_any p ys)
-list_any-append p [] ys = refl
-list_any-append p (x ∷ xs) ys = ap (λ b. p x || b) (list_any-append p xs ys) ∙ or_moved (p x) (list_any p xs) (list_any p ys)
 
 pub not_or : (a b : Bool) → not (a || b) ≡ (not a && not b)
 not_or true b = refl
@@ -82,7 +74,3 @@ where_set-bits_where p (x ∷ xs) (bit ∷ bits) =
     ap (λ ys. cond (bit && p x) (x ∷ ys) ys) (where_set-bits_where p xs bits)
     ∙ kept_and_left bit (p x) x (filter p (where_set xs bits))
     ∙ chosen_later bit p x (where_set xs bits)
-
--- the numbers of the members that pass, the first apart
-pub numbers_where-cons : {X : Type 0} (p : X → Bool) (n : ℕ) (x : X) (xs : List X) → numbers_where p n (x ∷ xs) ≡ cond (p x) (n ∷ numbers_where p (n + 1) xs) (numbers_where p (n + 1) xs)
-numbers_where-cons p n x xs = elim (p x) as (λ b. map (λ y. y.0) (cond b ((n, x) ∷ filter (λ y. p y.1) (enumerate_from (n + 1) xs)) (filter (λ y. p y.1) (enumerate_from (n + 1) xs))) ≡ cond b (n ∷ numbers_where p (n + 1) xs) (numbers_where p (n + 1) xs)) [ true ↦ refl | false ↦ refl ]

@@ -1,12 +1,12 @@
 -- The steps of a strike, together.
-use Rattle.std.proofs.Common.{◌≡◌, ◌+◌, ◌<◌, ◌≤◌, ℕ, zero, suc, max, Bool, true, false, cond, not, ◌&&◌, ◌||◌, nat_lt, List, [], ◌∷◌, ◌++◌, Some, length, refl, sym, ap, ap₂, ◌∙◌, arith, All, subst, get_or, take, ◌*◌, add-one}
-use Rattle.std.specs.Prelude.{slice_get, slice_set, fold}
+use Rattle.std.proofs.Common.{◌≡◌, ◌+◌, ◌<◌, ◌≤◌, ℕ, max, Bool, true, false, cond, not, ◌&&◌, ◌||◌, nat_lt, List, [], ◌∷◌, ◌++◌, length, refl, sym, ap, ap₂, ◌∙◌, arith, All, subst, add-one}
+use Rattle.std.specs.Prelude.{slice_set, fold}
 use Rattle.std.specs.List.{list_any, range_with_len}
 use Rattle.std.specs.Option.{option_map_or}
 use Rattle.std.proofs.lemmas.Bool.Decides.{nat_tests}
-use Rattle.std.proofs.lemmas.List.{append_assoc, set_at, length_push, length-set, nil_from_length, take_more}
+use Rattle.std.proofs.lemmas.List.{append_assoc, set_at, length_push, length-set, nil_from_length}
 use Rattle.std.proofs.lemmas.List.Elements.{All-nil, All-cons}
-use Rattle.std.proofs.Math.Seq.{take-add}
+use Rattle.std.proofs.Math.Bool.{and-false, and-true, or-false}
 use Rattle.fts_model.specs.declared.schema.Field.{Field}
 use Rattle.fts_model.specs.declared.operation.Op.{Op}
 use Rattle.fts_model.specs.declared.operation.Op.TheVariants.{Add, Delete, DeleteAll}
@@ -14,11 +14,13 @@ use Rattle.fts_model.specs.declared.operation.Stamped.{Stamped}
 use Rattle.fts_model.specs.Documents.{DocumentValue}
 use Rattle.fts_model.specs.Operations.{has, strikes, strikes_later, survives}
 use Rattle.fts_model.specs.declared.operation.Term.{Term}
-use Rattle.fts_pack.specs.Documents.{block_at}
 use Rattle.fts_segment.specs.Segments.{SegmentValue, numbers_where, postings}
 use Rattle.fts_merge.specs.Strikes.{bits_where, bits_after}
 use Rattle.fts_merge.specs.Internals.Deletes.{bound_by, bound_of, strikes_by_term, survives_terms, is_before, cleared}
-use Rattle.fts_merge.proofs.BitsLemmas.{and_moved, and_true, not_or, bits_where-again, bits_where-same, bits_where-all, numbers_where-cons}
+use Rattle.fts_merge.proofs.BitsLemmas.{not_or, bits_where-again, bits_where-same}
+use Rattle.fts_segment.proofs.SourceLemmas.{get_behind}
+use Rattle.fts_segment.proofs.HoldingLemmas.{numbers_where-cons}
+use Rattle.fts_model.proofs.Lists.{range_with_len-push}
 
 below_none : (n : ℕ) → nat_lt n 0 ≡ false
 below_none n = grind (arith, nat_tests)
@@ -26,20 +28,12 @@ below_none n = grind (arith, nat_tests)
 below_max : (n a b : ℕ) → nat_lt n (max a b) ≡ (nat_lt n a || nat_lt n b)
 below_max n a b = grind (arith, nat_tests)
 
-pub and_false : (b : Bool) → (b && false) ≡ false
-and_false true = refl
-and_false false = refl
-
-pub or_false : (b : Bool) → (b || false) ≡ b
-or_false true = refl
-or_false false = refl
-
 -- what an operation strikes, it strikes with all or by its term
 strikes-cases : (schema : List Field) (stamp : ℕ) (op : Op) (d : Stamped DocumentValue) →
     (nat_lt d.stamp stamp && strikes schema op d.value) ≡ (nat_lt d.stamp (bound_by stamp op) || strikes_by_term schema stamp op d)
-strikes-cases schema stamp (Add document) d = and_false (nat_lt d.stamp stamp) ∙ sym (ap (λ b. b || false) (below_none d.stamp))
+strikes-cases schema stamp (Add document) d = and-false (nat_lt d.stamp stamp) ∙ sym (ap (λ b. b || false) (below_none d.stamp))
 strikes-cases schema stamp (Delete term) d = sym (ap (λ b. b || (nat_lt d.stamp stamp && has schema d.value term)) (below_none d.stamp))
-strikes-cases schema stamp DeleteAll d = and_true (nat_lt d.stamp stamp) ∙ sym (or_false (nat_lt d.stamp stamp))
+strikes-cases schema stamp DeleteAll d = and-true (nat_lt d.stamp stamp) ∙ sym (or-false (nat_lt d.stamp stamp))
 
 or_swapped : (a b c d : Bool) → ((a || b) || (c || d)) ≡ ((a || c) || (b || d))
 or_swapped true b c d = refl
@@ -74,17 +68,13 @@ pub bound_of-push : (ops : List (Stamped Op)) (op : Stamped Op) → bound_of (op
 bound_of-push [] op = refl
 bound_of-push (o ∷ ops) op = ap (max (bound_by o.stamp o.value)) (bound_of-push ops op) ∙ omega arith
 
-get_behind : {X : Type 0} (xs : List X) (y : X) (ys : List X) → slice_get (xs ++ y ∷ ys) (length xs) ≡ Some y
-get_behind [] y ys = refl
-get_behind (x ∷ xs) y ys = get_behind xs y ys
-
 -- the bit of the document behind others is cleared
 cleared_here : (stamp : ℕ) (before : List (Stamped DocumentValue)) (d : Stamped DocumentValue) (ds : List (Stamped DocumentValue)) (kept : List Bool) (bit : Bool) (bits : List Bool) → length kept ≡ length before →
     cleared (before ++ d ∷ ds) stamp (kept ++ bit ∷ bits) (length before) ≡ kept ++ (bit && not (nat_lt d.stamp stamp)) ∷ bits
 cleared_here stamp before d ds kept bit bits e =
     ap (λ o. cond (option_map_or (λ (d : Stamped DocumentValue). nat_lt d.stamp stamp) o false) (slice_set (kept ++ bit ∷ bits) (length before) false) (kept ++ bit ∷ bits)) (get_behind before d ds)
     ∙ ap (λ bs. cond (nat_lt d.stamp stamp) bs (kept ++ bit ∷ bits)) (set_at kept bit bits false (length before) e)
-    ∙ elim (nat_lt d.stamp stamp) as (λ b. cond b (kept ++ false ∷ bits) (kept ++ bit ∷ bits) ≡ kept ++ (bit && not b) ∷ bits) [ true ↦ ap (λ b. kept ++ b ∷ bits) (sym (and_false bit)) | false ↦ ap (λ b. kept ++ b ∷ bits) (sym (and_true bit)) ]
+    ∙ elim (nat_lt d.stamp stamp) as (λ b. cond b (kept ++ false ∷ bits) (kept ++ bit ∷ bits) ≡ kept ++ (bit && not b) ∷ bits) [ true ↦ ap (λ b. kept ++ b ∷ bits) (sym (and-false bit)) | false ↦ ap (λ b. kept ++ b ∷ bits) (sym (and-true bit)) ]
 
 -- the bits of the documents behind others whose number is among those of the members that pass
 cleared_behind : (stamp : ℕ) (p : Stamped DocumentValue → Bool) (before ds : List (Stamped DocumentValue)) (kept bits : List Bool) → length kept ≡ length before → length bits ≡ length ds →
@@ -99,8 +89,8 @@ cleared_behind stamp p before (d ∷ ds) kept (bit ∷ bits) e f =
     let step : fold (cleared all stamp) (kept ++ bit ∷ bits) (numbers_where p n (d ∷ ds)) ≡ fold (cleared all stamp) (kept ++ (bit && q d) ∷ bits) rest =
     ap (fold (cleared all stamp) (kept ++ bit ∷ bits)) (numbers_where-cons p n d ds)
     ∙ elim (p d) as (λ b. fold (cleared all stamp) (kept ++ bit ∷ bits) (cond b (n ∷ rest) rest) ≡ fold (cleared all stamp) (kept ++ (bit && not (nat_lt d.stamp stamp && b)) ∷ bits) rest) [
-      | true ↦ ap (λ bs. fold (cleared all stamp) bs rest) (cleared_here stamp before d ds kept bit bits e ∙ ap (λ b. kept ++ (bit && not b) ∷ bits) (sym (and_true (nat_lt d.stamp stamp))))
-      | false ↦ ap (λ b. fold (cleared all stamp) (kept ++ b ∷ bits) rest) (sym (and_true bit) ∙ ap (λ b. bit && not b) (sym (and_false (nat_lt d.stamp stamp))))
+      | true ↦ ap (λ bs. fold (cleared all stamp) bs rest) (cleared_here stamp before d ds kept bit bits e ∙ ap (λ b. kept ++ (bit && not b) ∷ bits) (sym (and-true (nat_lt d.stamp stamp))))
+      | false ↦ ap (λ b. fold (cleared all stamp) (kept ++ b ∷ bits) rest) (sym (and-true bit) ∙ ap (λ b. bit && not b) (sym (and-false (nat_lt d.stamp stamp))))
     ] in
     let next = cleared_behind stamp p (before ++ d ∷ []) ds (kept ++ (bit && q d) ∷ []) bits (omega (arith, e, length_push before d, length_push kept (bit && q d))) (omega (arith, f)) in
     step
@@ -125,19 +115,10 @@ pub cleared_all : (stamp : ℕ) (ds : List (Stamped DocumentValue)) (bits : List
 cleared_all stamp ds bits f =
     ap (fold (cleared ds stamp) bits) (sym (numbers_all 0 ds))
     ∙ cleared_where stamp (λ d. true) ds bits f
-    ∙ bits_where-same (λ d. not (nat_lt d.stamp stamp && true)) (λ d. not (nat_lt d.stamp stamp)) (λ d. ap not (and_true (nat_lt d.stamp stamp))) ds bits
-
--- an element more
-pub taken : {X : Type 0} (xs : List X) (i : ℕ) (x : X) → i < length xs → x ≡ get_or xs i x → take (i + 1) xs ≡ take i xs ++ x ∷ []
-taken xs i x h e = take_more xs i x h ∙ ap (λ y. take i xs ++ y ∷ []) (sym e)
-
--- a document more
-range_push : (a n : ℕ) → range_with_len a (suc n) ≡ range_with_len a n ++ (a + n) ∷ []
-range_push a zero = ap (λ k. k ∷ []) (omega arith)
-range_push a (suc n) = ap (λ ks. a ∷ ks) (range_push (a + 1) n ∙ ap (λ k. range_with_len (a + 1) n ++ k ∷ []) (omega arith))
+    ∙ bits_where-same (λ d. not (nat_lt d.stamp stamp && true)) (λ d. not (nat_lt d.stamp stamp)) (λ d. ap not (and-true (nat_lt d.stamp stamp))) ds bits
 
 pub range_more : (n : ℕ) → range_with_len 0 (n + 1) ≡ range_with_len 0 n ++ n ∷ []
-range_more n = ap (range_with_len 0) (add-one n) ∙ range_push 0 n ∙ ap (λ k. range_with_len 0 n ++ k ∷ []) (omega arith)
+range_more n = ap (range_with_len 0) (add-one n) ∙ range_with_len-push 0 n ∙ ap (λ k. range_with_len 0 n ++ k ∷ []) (omega arith)
 
 pub length-cleared : (ds : List (Stamped DocumentValue)) (stamp : ℕ) (bits : List Bool) (n : ℕ) → length (cleared ds stamp bits n) ≡ length bits
 length-cleared ds stamp bits n = elim (is_before ds stamp n) as (λ b. length (cond b (slice_set bits n false) bits) ≡ length bits) [ true ↦ length-set bits n false | false ↦ refl ]
@@ -145,10 +126,6 @@ length-cleared ds stamp bits n = elim (is_before ds stamp n) as (λ b. length (c
 pub length-cleared_all : (ds : List (Stamped DocumentValue)) (stamp : ℕ) (bits : List Bool) (ns : List ℕ) → length (fold (cleared ds stamp) bits ns) ≡ length bits
 length-cleared_all ds stamp bits [] = refl
 length-cleared_all ds stamp bits (n ∷ ns) = length-cleared_all ds stamp (cleared ds stamp bits n) ns ∙ length-cleared ds stamp bits n
-
--- the first documents of a list, to the end of a block
-pub blocks_more : (ns : List ℕ) (block : ℕ) → take ((block + 1) * 128) ns ≡ take (block * 128) ns ++ block_at ns block
-blocks_more ns block = ap (λ n. take n ns) (omega arith) ∙ take-add (block * 128) 128 ns
 
 -- the numbers of members are below that of the end
 numbers_where-within : {X : Type 0} (p : X → Bool) (n m : ℕ) (xs : List X) → n + length xs ≤ m → All (λ k. k < m) (numbers_where p n xs)

@@ -5,9 +5,11 @@ use Rattle.std.specs.List.{list_any}
 use Rattle.std.specs.List.Sorted.{IsPermutation}
 use Rattle.std.proofs.lemmas.Bool.Decides.{nat_tests}
 use Rattle.std.proofs.lemmas.List.{get_or-take, length-take-le}
-use Rattle.std.proofs.lemmas.List.Elements.{All-nil, All-cons, All-head, All-tail, All-weaker}
+use Rattle.std.proofs.lemmas.List.Elements.{All-nil, All-cons, All-head, All-tail}
 use Rattle.std.proofs.lemmas.List.Folds.{list_any-append, list_any_at, list_any_more}
 use Rattle.std.proofs.lemmas.List.Sorted.{list_any-IsPermutation}
+use Rattle.std.proofs.Math.Bool.{and-false, or-false}
+use Rattle.std.proofs.lemmas.Bool.{and_parts}
 use Rattle.fts_model.specs.declared.schema.Field.{Field}
 use Rattle.fts_model.specs.declared.operation.Op.{Op}
 use Rattle.fts_model.specs.declared.operation.Op.TheVariants.{Delete}
@@ -19,8 +21,8 @@ use Rattle.fts_segment.specs.Segments.{SegmentValue, numbers_where, postings}
 use Rattle.fts_merge.specs.Strikes.{bits_where}
 use Rattle.fts_merge.specs.declared.found.Found.{Found}
 use Rattle.fts_merge.specs.Internals.Deletes.{strikes_by_term, survives_terms, strikes_found, survives_found, StrikeAlike}
-use Rattle.fts_merge.proofs.BitsLemmas.{not_or, bits_where-again, bits_where-same, bits_where-all, numbers_where-cons}
-use Rattle.fts_merge.proofs.DeletesLemmas.{and_false, or_false}
+use Rattle.fts_merge.proofs.BitsLemmas.{not_or, bits_where-again, bits_where-same, bits_where-all}
+use Rattle.fts_segment.proofs.HoldingLemmas.{numbers_where-cons}
 
 -- two tests that agree on each member leave the same bits
 bits_where-agree : {X : Type 0} (p q : X → Bool) (xs : List X) (bits : List Bool) → All (λ x. p x ≡ q x) xs → bits_where p xs bits ≡ bits_where q xs bits
@@ -45,7 +47,7 @@ pub struck-none : (segment : SegmentValue) (stamp : ℕ) (term : Term) → posti
 struck-none segment stamp term none =
     let p : Stamped DocumentValue → Bool = λ d. has segment.schema d.value term in
     let lacks : All (λ d. p d ≡ false) segment.documents = numbers_where-none p 0 segment.documents none in
-    λ k d h. ap (λ b. nat_lt (get_or segment.documents k d).stamp stamp && b) (lacks k d h) ∙ and_false (nat_lt (get_or segment.documents k d).stamp stamp)
+    λ k d h. ap (λ b. nat_lt (get_or segment.documents k d).stamp stamp && b) (lacks k d h) ∙ and-false (nat_lt (get_or segment.documents k d).stamp stamp)
 
 -- one more operation, which is a delete that was looked up
 pub alike-push : (schema : List Field) (ds : List (Stamped DocumentValue)) (deletes : List Found) (ops : List (Stamped Op)) (op : Stamped Op) (delete : Found) →
@@ -66,7 +68,7 @@ alike-none schema ds deletes ops op none alike = λ k x lt.
     let d = get_or ds k x in
     let t : Stamped Op → Bool = λ o. strikes_by_term schema o.stamp o.value d in
     alike k x lt
-    ∙ sym (or_false (list_any t ops))
+    ∙ sym (or-false (list_any t ops))
     ∙ ap (λ b. list_any t ops || b) (sym (ap (λ b. b || false) (none k x lt)))
     ∙ sym (list_any-append t ops (op ∷ []))
 
@@ -113,19 +115,14 @@ survives_found-covered schema d deletes i before delete positive h b e covers =
     ∙ ap (λ c. list_any f (take i deletes) || c) (ap f e)
     ∙ sym (list_any_more f deletes i delete h))
 
--- a later delete of the same term strikes no less
-both_true : (a b : Bool) → (a && b) ≡ true → (a ≡ true) × (b ≡ true)
-both_true true true e = (refl, refl)
-both_true true false e = absurd cc
-both_true false b e = absurd cc
-
 below_later : (n a b : ℕ) → a ≤ b → nat_lt n a ≡ true → nat_lt n b ≡ true
 below_later n a b h e = grind (arith, nat_tests)
 
+-- a later delete of the same term strikes no less
 pub later-strikes : (schema : List Field) (d : Stamped DocumentValue) (delete other : Found) → other.stamp ≤ delete.stamp → delete.term.now ≡ other.term.now →
     strikes_found schema other d ≡ true → strikes_found schema delete d ≡ true
 later-strikes schema d delete other later same struck =
-    let parts = both_true (nat_lt d.stamp other.stamp) (has schema d.value other.term.now) struck in
+    let parts = and_parts (nat_lt d.stamp other.stamp) (has schema d.value other.term.now) struck in
     ap₂ (λ a b. a && b) (below_later d.stamp other.stamp delete.stamp later parts.0) (ap (λ t. has schema d.value t) same ∙ parts.1)
 
 -- what holds anyway

@@ -1,5 +1,5 @@
 -- Where the live documents of sources come from, one at a time.
-use Rattle.std.proofs.Common.{◌≡◌, ◌+◌, ◌<◌, ◌≤◌, ℕ, Bool, true, false, cond, List, [], ◌∷◌, ◌++◌, Some, map, length, count_by, drop, get_or, refl, sym, ap, ap₂, ◌∙◌, arith}
+use Rattle.std.proofs.Common.{◌≡◌, ◌+◌, ◌<◌, ◌≤◌, ℕ, Bool, true, false, cond, List, [], ◌∷◌, ◌++◌, Some, map, length, count_by, drop, get_or, refl, sym, ap, ap₂, ◌∙◌}
 use Rattle.std.specs.Prelude.{slice_get}
 use Rattle.std.proofs.lemmas.List.{append_assoc, drop_all}
 use Rattle.std.proofs.lemmas.List.Sums.{sum_by-cons}
@@ -9,7 +9,7 @@ use Rattle.fts_segment.proofs.MovingLemmas.{dropped_at}
 use Rattle.fts_segment.proofs.SourceLemmas.{dropped}
 use Rattle.fts_merge.specs.declared.origin.Origin.{Origin}
 use Rattle.fts_merge.specs.Merges.{made_of, merge_of, origins_in, origins_from}
-use Rattle.fts_merge.proofs.BitsLemmas.{numbers_where-cons}
+use Rattle.fts_segment.proofs.HoldingLemmas.{numbers_where-cons}
 
 -- how many bits are set in a source
 abbrev pub count_of : SourceValue → ℕ

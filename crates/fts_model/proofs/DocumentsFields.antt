@@ -5,6 +5,7 @@ use Rattle.std.proofs.lemmas.Map.Lookups.{exact_bytes}
 use Rattle.std.specs.Cmp.Lexicographic.{slice_cmp}
 use Rattle.std.specs.Ordering.{match_ordering}
 use Rattle.std.specs.List.{find, list_any, slice_get}
+use Rattle.std.proofs.lemmas.Bool.{or_parts, or_from}
 use Rattle.serde_json.specs.Data.{Data, Members, no_members, member}
 use Rattle.serde_json.specs.Find.{get_member}
 use Rattle.fts_base.specs.declared.refusal.Refusal.{Refusal}
@@ -29,22 +30,13 @@ second_test false b r h = cc
 pub not_taken : (before : List Field) (field : Field) → field_fault before field ≡ None → list_any (is_named field.name) before ≡ false
 not_taken before field h = second_test (is_name field.name) (list_any (is_named field.name) before) _ h
 
--- where neither of two is so, each isn't
-pub or_false : (a b : Bool) → (a || b) ≡ false → (a ≡ false) × (b ≡ false)
-or_false true b h = cc
-or_false false b h = (refl, h)
-
--- where each of two isn't so, neither is
-pub both_false : (a b : Bool) → a ≡ false → b ≡ false → (a || b) ≡ false
-both_false a b h k = cc
-
 -- no member of a list with one more passes where none of the list does, and not the one
 pub none_of_more : (p : Field → Bool) (xs : List Field) (y : Field) → list_any p (xs ++ y ∷ []) ≡ false → (list_any p xs ≡ false) × (p y ≡ false)
-none_of_more p [] y h = (refl, (or_false (p y) false h).0)
+none_of_more p [] y h = (refl, (or_parts (p y) false h).0)
 none_of_more p (x ∷ xs) y h =
-    let here = or_false (p x) (list_any p (xs ++ y ∷ [])) h in
+    let here = or_parts (p x) (list_any p (xs ++ y ∷ [])) h in
     let rest = none_of_more p xs y here.1 in
-    (both_false (p x) (list_any p xs) here.0 rest.0, rest.1)
+    (or_from (p x) (list_any p xs) here.0 rest.0, rest.1)
 
 -- no field before those without a fault has the name of one of them
 pub others_before : (before fields : List Field) → first_fault before fields ≡ None →

@@ -1,6 +1,6 @@
 -- A document as JSON is the document again, under the schema that it was made under.
 use Rattle.std.proofs.Common.{◌≡◌, ℕ, suc, zero, true, false, true≢false, pos, negsuc, cond, List, [], ◌∷◌, ◌++◌, map, Ok, Err, Option, Some, None, refl, sym, ap, ◌∙◌, option_map, Ordering, Less, Equal, Greater, nat_cmp, bytes_eq}
-use Rattle.std.proofs.lemmas.Bool.{false_from_ne_true}
+use Rattle.std.proofs.lemmas.Bool.{false_from_ne_true, or_parts, or_from}
 use Rattle.std.proofs.lemmas.Slice.Eq.{bytes_eq-Decides}
 use Rattle.std.proofs.lemmas.Map.Lookups.{exact_bytes}
 use Rattle.std.specs.Cmp.Lexicographic.{slice_cmp}
@@ -23,7 +23,7 @@ use Rattle.fts_model.specs.declared.value.FieldValue.TheVariants as values
 use Rattle.fts_base.specs.Results.{value_if_ok, error_if_err, first_of}
 use Rattle.fts_model.specs.Schemas.{is_named, field_fault, first_fault}
 use Rattle.fts_model.specs.Documents.{DocumentValue, bytes_of, list_in, strings_in, texts_in, value_in, fault_in_field, member_fault, members_fault, value_at, document_of, data_of, with_value, with_values, json_of, is_value_of, CanHave, AreValuesOf, IsDocument}
-use Rattle.fts_model.proofs.DocumentsFields.{none_of_two, not_taken, both_false, or_false, none_of_more, others_before, no_field_fault, find_by_name}
+use Rattle.fts_model.proofs.DocumentsFields.{none_of_two, not_taken, none_of_more, others_before, no_field_fault, find_by_name}
 
 -- texts are read from their JSON
 strings_back : (texts : List (List ℕ)) → strings_in (items_of (map string texts)) ≡ Some texts
@@ -85,7 +85,7 @@ all_elsewhere : (name : List ℕ) (ms : Members) (fields : List Field) (vs : Lis
 all_elsewhere name ms [] vs h = refl
 all_elsewhere name ms (field ∷ fields) [] h = refl
 all_elsewhere name ms (field ∷ fields) (v ∷ vs) h =
-    let both = or_false (is_named name field) (list_any (is_named name) fields) h in
+    let both = or_parts (is_named name field) (list_any (is_named name) fields) h in
     all_elsewhere name (with_value ms field v) fields vs both.1 ∙ put_elsewhere name ms field v both.0
 
 -- a field puts its value at its name, where nothing was
@@ -99,7 +99,7 @@ none_named : (field : Field) (fields : List Field) → ((k : ℕ) (other : Field
     list_any (is_named field.name) fields ≡ false
 none_named field [] h = refl
 none_named field (other ∷ fields) h =
-    both_false (is_named field.name other) (list_any (is_named field.name) fields)
+    or_from (is_named field.name other) (list_any (is_named field.name) fields)
     (turned field.name other.name (h zero other refl))
     (none_named field fields (λ k g e. h (suc k) g e))
 

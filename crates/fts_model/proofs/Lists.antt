@@ -1,5 +1,8 @@
 -- Members of lists.
-use Rattle.std.proofs.Common.{◌≡◌, zero, suc, Bool, true, false, cond, ◌⊎◌, inl, inr, ⊎_elim, List, [], ◌∷◌, filter, refl, sym, ap, subst, ◌∙◌, arith, All, AllPairs, Contains}
+use Rattle.std.proofs.Common.{◌≡◌, zero, suc, Bool, true, false, cond, ◌⊎◌, inl, inr, ⊎_elim, List, [], ◌∷◌, filter, refl, sym, ap, subst, ◌∙◌, arith, All, AllPairs, Contains, ℕ, ◌+◌, ◌<◌, ◌++◌, take}
+use Rattle.std.proofs.Common.{length, get_or}
+use Rattle.std.proofs.lemmas.List.{take_more}
+use Rattle.std.specs.List.{range_with_len}
 
 -- the pairs behind the first member
 pub pairs_behind : {X : Type 0} (R : X → X → Type 0) (x : X) (xs : List X) → AllPairs R (x ∷ xs) → AllPairs R xs
@@ -95,3 +98,13 @@ Contains-filter p [] z h passes = absurd (Contains-none z h)
 Contains-filter p (x ∷ xs) z h passes =
     keeps p x xs (p x) z refl passes
     (⊎_elim (λ (same : x ≡ z). inl same) (λ (later : Contains xs z). inr (Contains-filter p xs z later passes)) (Contains-cases x xs z h))
+
+-- the first members and the next one
+pub taken : {X : Type 0} (xs : List X) (i : ℕ) (x : X) → i < length xs → x ≡ get_or xs i x → take (i + 1) xs ≡ take i xs ++ x ∷ []
+taken xs i x within is = take_more xs i x within ∙ ap (λ y. take i xs ++ y ∷ []) (sym is)
+
+-- so many numbers and the next one
+pub range_with_len-push : (first n : ℕ) → range_with_len first (suc n) ≡ range_with_len first n ++ (first + n) ∷ []
+range_with_len-push first zero = ap (λ k. k ∷ []) (omega arith)
+range_with_len-push first (suc n) =
+    ap (λ ks. first ∷ ks) (range_with_len-push (first + 1) n ∙ ap (λ k. range_with_len (first + 1) n ++ k ∷ []) (omega arith))

@@ -3,6 +3,7 @@ use Rattle.std.proofs.Common.{◌≡◌, ℕ, Bool, true, false, cond, ◌||◌,
 use Rattle.std.specs.List.{list_any}
 use Rattle.std.proofs.lemmas.List.Elements.{All-nil, All-cons, All-head, All-tail, filter-append, filter_agree}
 use Rattle.std.proofs.lemmas.List.Kept.{AllPairs-cons}
+use Rattle.std.proofs.lemmas.List.Folds.{list_any-append}
 use Rattle.fts_model.proofs.Lists.{pairs_behind, pairs_front, pairs_none}
 use Rattle.fts_model.specs.declared.schema.Field.{Field}
 use Rattle.fts_model.specs.declared.operation.Op.{Op}
@@ -10,11 +11,6 @@ use Rattle.fts_model.specs.declared.operation.Op.TheVariants.{Add, Delete, Delet
 use Rattle.fts_model.specs.declared.operation.Stamped.{Stamped}
 use Rattle.fts_model.specs.Documents.{DocumentValue}
 use Rattle.fts_model.specs.Operations.{strikes, is_struck, left_by, alive, adds}
-
--- one of two lists' members passes where one of the first's or of the second's does
-list_any-append : {X : Type 0} (p : X → Bool) (xs ys : List X) → list_any p (xs ++ ys) ≡ (list_any p xs || list_any p ys)
-list_any-append p [] ys = refl
-list_any-append p (x ∷ xs) ys = elim (p x) as (λ b. (b || list_any p (xs ++ ys)) ≡ ((b || list_any p xs) || list_any p ys)) [ true ↦ refl | false ↦ list_any-append p xs ys ]
 
 -- those of the documents that none of these operations strikes
 abbrev pub spared : List Field → List (Stamped Op) → List (Stamped DocumentValue) → List (Stamped DocumentValue)

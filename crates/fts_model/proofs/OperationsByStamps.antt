@@ -1,15 +1,16 @@
 -- What is alive after operations whose stamps rise: what they add and none of a later stamp strikes.
-use Rattle.std.proofs.Common.{◌≡◌, ◌↔◌, ℕ, ◌<◌, ◌&&◌, ◌||◌, nat_lt, Bool, true, false, cond, not, List, [], ◌∷◌, ◌++◌, filter, refl, sym, ap, subst, ◌∙◌, ⊎_elim, arith, All, Contains}
+use Rattle.std.proofs.Common.{◌≡◌, ◌↔◌, ℕ, ◌<◌, ◌&&◌, ◌||◌, nat_lt, Bool, true, false, cond, not, List, [], ◌∷◌, ◌++◌, filter, refl, sym, ap, subst, ◌∙◌, ⊎_elim, arith, All, Contains, append_assoc}
 use Rattle.std.specs.List.{list_any}
-use Rattle.std.proofs.lemmas.Bool.{cases_Bool}
+use Rattle.std.proofs.lemmas.Bool.{cases_Bool, or_parts, not-true}
 use Rattle.std.proofs.lemmas.Bool.Decides.{nat_tests}
 use Rattle.std.proofs.lemmas.List.Elements.{All-nil, All-cons, All-head, All-tail, All-weaker, filter-append}
+use Rattle.std.proofs.lemmas.List.{append-nil}
 use Rattle.fts_model.specs.declared.schema.Field.{Field}
 use Rattle.fts_model.specs.declared.operation.Op.{Op}
 use Rattle.fts_model.specs.declared.operation.Op.TheVariants.{Add, Delete, DeleteAll}
 use Rattle.fts_model.specs.declared.operation.Stamped.{Stamped}
 use Rattle.fts_model.specs.Documents.{DocumentValue}
-use Rattle.fts_model.specs.Operations.{strikes, is_struck, left_by, alive, StampsRise, strikes_later, survives, added_by, added}
+use Rattle.fts_model.specs.Operations.{strikes, is_struck, left_by, alive, StampsRise, strikes_later, survives, added_by, added, adds}
 use Rattle.fts_model.proofs.Lists.{pairs_behind, pairs_front, Contains-cases, Contains-first, Contains-behind, Contains-none, Contains-filter, Contains-from_filter}
 
 -- two tests that agree on a list's members keep the same
@@ -129,16 +130,11 @@ Contains-added (op ∷ ops) d =
 abbrev IsSpared : List Field → List (Stamped Op) → Stamped DocumentValue → Type 0
 IsSpared schema ops d = All (λ op. d.stamp < op.stamp → strikes schema op.value d.value ≡ false) ops
 
--- where neither strikes, each doesn't
-struck_now : (b c : Bool) → (b || c) ≡ false → (b ≡ false) × (c ≡ false)
-struck_now true c h = cc
-struck_now false c h = (refl, h)
-
 -- where none strikes by the test, each of a later stamp doesn't
 none_strikes : (schema : List Field) (ops : List (Stamped Op)) (d : Stamped DocumentValue) → list_any (λ op. strikes_later schema op d) ops ≡ false → IsSpared schema ops d
 none_strikes schema [] d h = All-nil (λ op. d.stamp < op.stamp → strikes schema op.value d.value ≡ false)
 none_strikes schema (op ∷ ops) d h =
-    let both = struck_now (strikes_later schema op d) (list_any (λ op. strikes_later schema op d) ops) h in
+    let both = or_parts (strikes_later schema op d) (list_any (λ op. strikes_later schema op d) ops) h in
     All-cons (λ op. d.stamp < op.stamp → strikes schema op.value d.value ≡ false) op ops
     (λ below. let e : nat_lt d.stamp op.stamp ≡ true = grind (arith, nat_tests) in ap (λ b. b && strikes schema op.value d.value) (sym e) ∙ both.0)
     (none_strikes schema ops d both.1)
@@ -158,11 +154,6 @@ all_spare schema (op ∷ ops) d h =
     let P : Stamped Op → Type 0 = λ op. d.stamp < op.stamp → strikes schema op.value d.value ≡ false in
     ap (λ b. b || list_any (λ op. strikes_later schema op d) ops) (spared_now schema op d (All-head P op ops h)) ∙ all_spare schema ops d (All-tail P op ops h)
 
--- what is not so isn't
-not_true : (b : Bool) → not b ≡ true → b ≡ false
-not_true true h = cc
-not_true false h = refl
-
 -- a document is alive where an operation adds it and none of a later stamp strikes it
 pub Contains-alive : (schema : List Field) (ops : List (Stamped Op)) (d : Stamped DocumentValue) → StampsRise ops → Contains (alive schema ops) d ↔ (Contains ops (add_of d) × IsSpared schema ops d)
 Contains-alive schema ops d rise =
@@ -170,6 +161,18 @@ Contains-alive schema ops d rise =
     let P : List (Stamped DocumentValue) → Type 0 = λ ds. Contains ds d in (
       λ at.
           let kept = Contains-from_filter (survives schema ops) (added ops) d (subst P e at) in
-          ((Contains-added ops d).0 kept.0, none_strikes schema ops d (not_true (list_any (λ op. strikes_later schema op d) ops) kept.1)),
+          ((Contains-added ops d).0 kept.0, none_strikes schema ops d (not-true (list_any (λ op. strikes_later schema op d) ops) kept.1)),
       λ h. subst P (sym e) (Contains-filter (survives schema ops) (added ops) d ((Contains-added ops d).1 h.0) (ap not (all_spare schema ops d h.1))),
     )
+
+-- what the adds of documents add are these
+pub added-adds : (documents : List (Stamped DocumentValue)) (ops : List (Stamped Op)) → added (adds documents ++ ops) ≡ documents ++ added ops
+added-adds [] ops = refl
+added-adds (d ∷ documents) ops = ap (λ ds. d ∷ ds) (added-adds documents ops)
+
+-- one more operation
+pub added-push : (ops : List (Stamped Op)) (op : Stamped Op) → added (ops ++ op ∷ []) ≡ added ops ++ added_by op.stamp op.value
+added-push [] op = append-nil (added_by op.stamp op.value)
+added-push (o ∷ ops) op =
+    ap (λ ds. added_by o.stamp o.value ++ ds) (added-push ops op)
+    ∙ sym (append_assoc (added_by o.stamp o.value) (added ops) (added_by op.stamp op.value))

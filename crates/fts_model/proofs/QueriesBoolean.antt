@@ -21,7 +21,7 @@ abbrev pub matches_in : List Field → DocumentValue → Query → Bool
 matches_in schema document q = matches schema document (query_value q)
 
 -- what a Boolean query is
-value_at_bool : (must must_not should : _) →
+pub value_at_bool : (must must_not should : _) →
     query_value (views.Bool must must_not should)
     ≡ boolean (query_list (map query_value must.items)) (query_list (map query_value must_not.items)) (query_list (map query_value should.items))
 value_at_bool must must_not should =

@@ -36,6 +36,7 @@ impl Text {
         self.string
     }
 
+    /// The text as it is.
     pub fn as_str(&self) -> &str
         ensures { result.now ≡ self.now }
     {

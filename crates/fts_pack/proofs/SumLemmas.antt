@@ -12,7 +12,7 @@ use Rattle.fts_pack.specs.Documents.{documents_at}
 use Rattle.fts_pack.proofs.DocumentsLemmas.{length-documents_at}
 use Rattle.fts_bits.proofs.VectorLemmas.{below_four, four_lanes}
 
-sum-cons : (x : ℕ) (xs : List ℕ) → sum (x ∷ xs) ≡ x + sum xs
+pub sum-cons : (x : ℕ) (xs : List ℕ) → sum (x ∷ xs) ≡ x + sum xs
 sum-cons x xs = sum_by-cons (λ y. y) x xs
 
 pub document_is : (next : ℕ) (gaps : List ℕ) (i : ℕ) → i < length gaps → get_or (documents_at next gaps) i 0 ≡ next + sum (take (i + 1) gaps) + i

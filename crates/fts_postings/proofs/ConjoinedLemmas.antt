@@ -13,9 +13,10 @@ use Rattle.fts_postings.specs.Posting.{Follows, Posting, members_of, remaining_o
 use Rattle.fts_postings.specs.Remaining.{at_least}
 use Rattle.fts_postings.specs.Sets.{FirstPasses, has, in_all, common}
 use Rattle.fts_postings.specs.Conjoined.{AllFollow, Conjoined, Sought, StandAt, StandTogether, Brought, IsAhead, MayBeBrought, AreFew, common_of, bound_of, each_remaining, members_reached, openings_of}
-use Rattle.fts_postings.proofs.RemainingLemmas.{Rises-from_increasing, at_least-at_least, first-at_least, fewer-at_least}
+use Rattle.fts_postings.proofs.RemainingLemmas.{at_least-at_least, first-at_least, fewer-at_least}
 use Rattle.fts_postings.proofs.SetLemmas.{has-before_first, has-first, has-none, in_all-lacking, in_all-each, has-at_least, filter-first, filter-same, filter-ahead, filter-none, Rises-from_first}
 use Rattle.fts_postings.proofs.PostingLemmas.{Follows-same, Follows-trans, members-split, remaining_within}
+use Rattle.fts_pack.proofs.DocumentsLemmas.{Rises-from_increasing}
 
 -- the first cursors were brought to the document, and have it
 pub record BroughtUpTo (doc : ℕ) (initial now : List Posting) (index : ℕ) : Type 0 where
@@ -34,7 +35,7 @@ Sought-seek doc p q is follows once = record {
   once = once;
 }
 
-AllZip-from_places : (R : Posting → Posting → Type 0) (xs ys : List Posting) → length ys ≡ length xs → ((k : ℕ) (d : Posting) → k < length xs → R (get_or xs k d) (get_or ys k d)) → AllZip R xs ys
+pub AllZip-from_places : {X : Type 0} (R : X → X → Type 0) (xs ys : List X) → length ys ≡ length xs → ((k : ℕ) (d : X) → k < length xs → R (get_or xs k d) (get_or ys k d)) → AllZip R xs ys
 AllZip-from_places R [] [] size h = tt
 AllZip-from_places R [] (y ∷ ys) size h = absurd (omega (arith, size))
 AllZip-from_places R (x ∷ xs) [] size h = absurd (omega (arith, size))

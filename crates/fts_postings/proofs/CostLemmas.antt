@@ -1,9 +1,10 @@
 -- How many documents remain at most.
-use Rattle.std.proofs.Common.{◌≡◌, ℕ, zero, suc, ◌+◌, ◌-◌, ◌*◌, ◌<◌, ◌≤◌, Bool, true, false, ◌==◌, nat_lt, List, [], ◌∷◌, All, length, drop, refl, ap, arith}
-use Rattle.std.specs.Prelude.{if◌then◌else◌}
+use Rattle.std.proofs.Common.{ℕ, zero, suc, ◌+◌, ◌-◌, ◌*◌, ◌<◌, ◌≤◌, Bool, true, false, ◌==◌, nat_lt, List, [], ◌∷◌, All, length, drop, ap, arith}
 use Rattle.std.specs.List.{filter, flat_map, range_with_len}
 use Rattle.std.proofs.lemmas.List.{length-append, length-drop}
 use Rattle.std.proofs.lemmas.List.Sums.{count_by-le-length, length-filter}
+use Rattle.std.proofs.lemmas.List.FromFn.{length-range_with_len}
+use Rattle.std.specs.Prelude.{if◌then◌else◌}
 use Rattle.fts_postings.specs.Sets.{with_all, with_one}
 use Rattle.fts_postings.specs.Posting.{Posting, here, remaining_of}
 use Rattle.fts_postings.specs.Windows.{passing}
@@ -25,12 +26,8 @@ posting_cost p sized =
     let rest = flat_map (λ block. block) (drop (suc p.block) p.blocks) in
     omega (arith, behind p.blocks p.block sized, ap length (split_block p.blocks p.block), length-append (here p) rest, length-append (drop p.at (here p)) rest, length-drop p.at (here p))
 
-length-range : (from n : ℕ) → length (range_with_len from n) ≡ n
-length-range from zero = refl
-length-range from (suc n) = omega (arith, length-range (from + 1) n)
-
 pub scan_cost : (p : ℕ → Bool) (from n at : ℕ) → length (drop at (passing p from n)) ≤ n
-scan_cost p from n at = omega (arith, length-drop at (passing p from n), length-filter-le p (range_with_len from n), length-range from n)
+scan_cost p from n at = omega (arith, length-drop at (passing p from n), length-filter-le p (range_with_len from n), length-range_with_len from n)
 
 length-with_one : (d : ℕ) (xs : List ℕ) → length (with_one d xs) ≤ length xs + 1
 length-with_one d [] = omega arith

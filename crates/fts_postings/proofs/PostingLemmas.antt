@@ -9,7 +9,8 @@ use Rattle.fts_pack.specs.Documents.{Rises, block_count, blocks_of, last_of}
 use Rattle.fts_pack.specs.SourceLaws.{blocks_joined, get_or-blocks_of, length-blocks_of}
 use Rattle.fts_postings.specs.Remaining.{at_least, IsPlaceOf}
 use Rattle.fts_postings.specs.Posting.{Follows, IsPosting, Posting, Walks, blocks_reached, here, members_of, remaining_of}
-use Rattle.fts_postings.proofs.RemainingLemmas.{Rises-from_increasing, Rises-tail, Rises-front, increasing-from_Rises, at_least_place, at_least-append}
+use Rattle.fts_postings.proofs.RemainingLemmas.{Rises-tail, Rises-front, increasing-from_Rises, at_least_place, at_least-append}
+use Rattle.fts_pack.proofs.DocumentsLemmas.{Rises-from_increasing}
 
 abbrev flat : List (List ℕ) → List ℕ
 flat blocks = flat_map (λ block. block) blocks

@@ -7,14 +7,6 @@ use Rattle.std.proofs.lemmas.List.Elements.{filter-append}
 use Rattle.fts_pack.specs.Documents.{Rises}
 use Rattle.fts_postings.specs.Remaining.{at_least}
 
-Rises-from_head : (next : ℕ) (xs : List ℕ) → IsStrictlyIncreasing xs → (0 < length xs → next ≤ get_or xs 0 0) → Rises next xs
-Rises-from_head next [] h head = tt
-Rises-from_head next (x ∷ xs) h head =
-    (head (omega arith), Rises-from_head (suc x) xs (λ k inside. let e : suc k + 1 ≡ suc (k + 1) = omega arith in rw e at (h (suc k) (omega (arith, inside)))) (λ some. h 0 (omega (arith, some))))
-
-pub Rises-from_increasing : (xs : List ℕ) → IsStrictlyIncreasing xs → Rises 0 xs
-Rises-from_increasing xs h = Rises-from_head 0 xs h (λ some. omega arith)
-
 -- each number of a list that rises from `next` is `next` or more
 pub Rises-get_or : (next : ℕ) (xs : List ℕ) (k : ℕ) → Rises next xs → k < length xs → next ≤ get_or xs k 0
 Rises-get_or next [] k h inside = absurd (omega arith)

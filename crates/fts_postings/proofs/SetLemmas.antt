@@ -4,10 +4,12 @@ use Rattle.std.specs.List.{filter, slice_get}
 use Rattle.std.specs.List.Sorted.{IsStrictlyIncreasing}
 use Rattle.std.proofs.lemmas.Bool.{le-leb, lt-leb, cases_lt, cases_Bool}
 use Rattle.std.proofs.lemmas.Bool.Decides.{nat_tests}
+use Rattle.std.proofs.Math.Bool.{and-false}
 use Rattle.fts_pack.specs.Documents.{Rises}
 use Rattle.fts_postings.specs.Remaining.{at_least}
 use Rattle.fts_postings.specs.Sets.{FirstPasses, has, in_all}
-use Rattle.fts_postings.proofs.RemainingLemmas.{Rises-from_increasing, increasing-from_Rises, at_least_all}
+use Rattle.fts_postings.proofs.RemainingLemmas.{at_least_all}
+use Rattle.fts_pack.proofs.DocumentsLemmas.{Rises-from_increasing}
 
 pub below_is_other : (x y : ℕ) → y < x → (x == y) ≡ false
 below_is_other x y h = grind (arith, nat_tests)
@@ -54,15 +56,11 @@ has-at_least target (x ∷ xs) d high = elim (cases_lt x target) [
       ∙ ap (λ b. (x == d) || b) (has-at_least target xs d high)
 ]
 
-and_false : (b : Bool) → (b && false) ≡ false
-and_false true = refl
-and_false false = refl
-
 pub in_all-lacking : (lists : List (List ℕ)) (k d : ℕ) → k < length lists → has (get_or lists k []) d ≡ false → in_all lists d ≡ false
 in_all-lacking [] k d inside lacks = absurd (omega arith)
 in_all-lacking (xs ∷ lists) zero d inside lacks = ap (λ b. b && in_all lists d) lacks
 in_all-lacking (xs ∷ lists) (suc k) d inside lacks =
-    ap (λ b. has xs d && b) (in_all-lacking lists k d (omega (arith, inside)) lacks) ∙ and_false (has xs d)
+    ap (λ b. has xs d && b) (in_all-lacking lists k d (omega (arith, inside)) lacks) ∙ and-false (has xs d)
 
 pub in_all-each : (lists : List (List ℕ)) (d : ℕ) → ((k : ℕ) → k < length lists → has (get_or lists k []) d ≡ true) → in_all lists d ≡ true
 in_all-each [] d h = refl
@@ -158,9 +156,6 @@ Rises-filter next p (x ∷ xs) h = elim (cases_Bool (p x)) [
   | inl kept ↦ rw kept (h.0, Rises-filter (suc x) p xs h.1)
   | inr other ↦ rw other (Rises-lower (suc x) next (filter p xs) (omega (arith, h.0)) (Rises-filter (suc x) p xs h.1))
 ]
-
-pub filter-rises : (p : ℕ → Bool) (xs : List ℕ) → IsStrictlyIncreasing xs → IsStrictlyIncreasing (filter p xs)
-filter-rises p xs h = increasing-from_Rises 0 (filter p xs) (Rises-filter 0 p xs (Rises-from_increasing xs h))
 
 -- where the first is the target or more, nothing is left behind
 pub filter-stays : (target first : ℕ) (p : ℕ → Bool) (xs : List ℕ) → IsStrictlyIncreasing xs → Some first ≡ slice_get xs 0 → target ≤ first → filter p xs ≡ at_least target (filter p xs)

@@ -1,8 +1,9 @@
 -- The members of several rising lists.
-use Rattle.std.proofs.Common.{◌≡◌, ℕ, suc, ◌<◌, ◌≤◌, Option, Some, None, Bool, true, false, cond, ◌||◌, ◌==◌, List, [], ◌∷◌, ◌++◌, refl, sym, ap, ap₂, subst, ◌∙◌, inl, inr, arith}
+use Rattle.std.proofs.Common.{◌≡◌, ℕ, suc, ◌<◌, ◌≤◌, Option, Some, None, Bool, true, false, cond, ◌||◌, ◌==◌, List, [], ◌∷◌, ◌++◌, refl, sym, ap, subst, ◌∙◌, inl, inr, arith}
 use Rattle.std.specs.List.{slice_get}
 use Rattle.std.specs.List.Sorted.{IsStrictlyIncreasing}
-use Rattle.std.proofs.lemmas.Bool.{cases_lt, lt-ltb, le-ltb, le-leb, lt-leb, false≢true}
+use Rattle.std.proofs.lemmas.Bool.{cases_lt, lt-ltb, le-ltb, le-leb, lt-leb, false≢true, or_from}
+use Rattle.std.proofs.Math.Bool.{or-false, or-true, or_self_left, or_assoc}
 use Rattle.fts_pack.specs.Documents.{Rises}
 use Rattle.fts_postings.specs.Remaining.{at_least}
 use Rattle.fts_postings.specs.Sets.{IsLeast, has, in_some, lesser_of, union, with_all, with_one}
@@ -49,32 +50,16 @@ pub Rises-union : (lists : List (List ℕ)) → Rises 0 (union lists)
 Rises-union [] = tt
 Rises-union (xs ∷ lists) = Rises-with_all xs (union lists) (Rises-union lists)
 
-or_same : (a b : Bool) → (a || (a || b)) ≡ (a || b)
-or_same true b = refl
-or_same false b = refl
-
 or_swap : (a b c : Bool) → (a || (b || c)) ≡ (b || (a || c))
 or_swap true true c = refl
 or_swap true false c = refl
 or_swap false b c = refl
 
-or_assoc : (a b c : Bool) → ((a || b) || c) ≡ (a || (b || c))
-or_assoc true b c = refl
-or_assoc false b c = refl
-
-or_true : (a : Bool) → (a || true) ≡ true
-or_true true = refl
-or_true false = refl
-
-pub or_false : (a : Bool) → (a || false) ≡ a
-or_false true = refl
-or_false false = refl
-
 pub has-with_one : (d : ℕ) (xs : List ℕ) (y : ℕ) → has (with_one d xs) y ≡ ((d == y) || has xs y)
 has-with_one d [] y = refl
 has-with_one d (x ∷ xs) y = by_order (has (with_one d (x ∷ xs)) y ≡ ((d == y) || has (x ∷ xs) y)) d x
     (λ lt. ap (λ zs. has zs y) (below d x xs lt))
-    (λ eq. ap (λ zs. has zs y) (same d x xs eq) ∙ sym (ap (λ z. (z == y) || ((x == y) || has xs y)) eq ∙ or_same (x == y) (has xs y)))
+    (λ eq. ap (λ zs. has zs y) (same d x xs eq) ∙ sym (ap (λ z. (z == y) || ((x == y) || has xs y)) eq ∙ or_self_left (x == y) (has xs y)))
     (λ gt. ap (λ zs. has zs y) (above d x xs gt) ∙ ap (λ b. (x == y) || b) (has-with_one d xs y) ∙ or_swap (x == y) (d == y) (has xs y))
 
 has-with_all : (xs ys : List ℕ) (y : ℕ) → has (with_all xs ys) y ≡ (has xs y || has ys y)
@@ -141,34 +126,31 @@ union_first (Some first) lists h =
     first_of (union lists) first (Rises-union lists) (has-union lists first ∙ h.0) (λ d low. has-union lists d ∙ h.1 d low)
 
 pub in_some-append : (lists : List (List ℕ)) (xs : List ℕ) (d : ℕ) → in_some (lists ++ xs ∷ []) d ≡ (in_some lists d || has xs d)
-in_some-append [] xs d = or_false (has xs d)
+in_some-append [] xs d = or-false (has xs d)
 in_some-append (ys ∷ lists) xs d = ap (λ b. has ys d || b) (in_some-append lists xs d) ∙ sym (or_assoc (has ys d) (in_some lists d) (has xs d))
-
-both_false : (a b : Bool) → a ≡ false → b ≡ false → (a || b) ≡ false
-both_false a b h k = ap₂ (λ x y. x || y) h k
 
 -- one list more, at its end
 pub IsLeast-none : (least : Option ℕ) (lists : List (List ℕ)) (xs : List ℕ) → IsLeast least lists → None ≡ slice_get xs 0 → IsLeast least (lists ++ xs ∷ [])
-IsLeast-none None lists xs h none = λ d. in_some-append lists xs d ∙ both_false (in_some lists d) (has xs d) (h d) (has-none xs d none)
+IsLeast-none None lists xs h none = λ d. in_some-append lists xs d ∙ or_from (in_some lists d) (has xs d) (h d) (has-none xs d none)
 IsLeast-none (Some first) lists xs h none = (
   in_some-append lists xs first ∙ ap (λ b. b || has xs first) h.0,
-  λ d low. in_some-append lists xs d ∙ both_false (in_some lists d) (has xs d) (h.1 d low) (has-none xs d none),
+  λ d low. in_some-append lists xs d ∙ or_from (in_some lists d) (has xs d) (h.1 d low) (has-none xs d none),
 )
 
 -- one list more, with a document
 pub IsLeast-some : (least : Option ℕ) (lists : List (List ℕ)) (xs : List ℕ) (first : ℕ) → IsLeast least lists → IsStrictlyIncreasing xs → Some first ≡ slice_get xs 0 → IsLeast (lesser_of least first) (lists ++ xs ∷ [])
 IsLeast-some None lists xs first h rises is = (
-  in_some-append lists xs first ∙ ap (λ b. in_some lists first || b) (has-first xs first is) ∙ or_true (in_some lists first),
-  λ d low. in_some-append lists xs d ∙ both_false (in_some lists d) (has xs d) (h d) (has-before_first xs first d rises is low),
+  in_some-append lists xs first ∙ ap (λ b. in_some lists first || b) (has-first xs first is) ∙ or-true (in_some lists first),
+  λ d low. in_some-append lists xs d ∙ or_from (in_some lists d) (has xs d) (h d) (has-before_first xs first d rises is low),
 )
 IsLeast-some (Some a) lists xs first h rises is = elim (cases_lt a first) [
   | inl lt ↦ subst (λ o. IsLeast o (lists ++ xs ∷ [])) (sym (ap (λ b. cond b (Some a) (Some first)) (lt-ltb a first lt))) (
     in_some-append lists xs a ∙ ap (λ b. b || has xs a) h.0,
-    λ d low. in_some-append lists xs d ∙ both_false (in_some lists d) (has xs d) (h.1 d low) (has-before_first xs first d rises is (omega (arith, low, lt))),
+    λ d low. in_some-append lists xs d ∙ or_from (in_some lists d) (has xs d) (h.1 d low) (has-before_first xs first d rises is (omega (arith, low, lt))),
   )
   | inr ge ↦ subst (λ o. IsLeast o (lists ++ xs ∷ [])) (sym (ap (λ b. cond b (Some a) (Some first)) (le-ltb a first ge))) (
-    in_some-append lists xs first ∙ ap (λ b. in_some lists first || b) (has-first xs first is) ∙ or_true (in_some lists first),
-    λ d low. in_some-append lists xs d ∙ both_false (in_some lists d) (has xs d) (h.1 d (omega (arith, low, ge))) (has-before_first xs first d rises is low),
+    in_some-append lists xs first ∙ ap (λ b. in_some lists first || b) (has-first xs first is) ∙ or-true (in_some lists first),
+    λ d low. in_some-append lists xs d ∙ or_from (in_some lists d) (has xs d) (h.1 d (omega (arith, low, ge))) (has-before_first xs first d rises is low),
   )
 ]
 

@@ -1,6 +1,6 @@
 -- What the loop of `merge` has done so far, and how an end goes in.
-use Rattle.std.proofs.Common.{◌≡◌, ℕ, ◌+◌, List, [], ◌∷◌, ◌++◌, length, IsPermutation, sym, refl, ap, ◌∙◌, subst, arith, append_assoc, append-nil}
-use Rattle.std.proofs.lemmas.List.{map-append}
+use Rattle.std.proofs.Common.{◌≡◌, ℕ, ◌+◌, List, [], ◌∷◌, ◌++◌, length, IsPermutation, sym, ap, ◌∙◌, subst, arith, append_assoc, append-nil}
+use Rattle.std.proofs.lemmas.List.{map-append, nil_from_length}
 use Rattle.std.proofs.lemmas.List.Sorted.{IsPermutation-append, IsPermutation-append_comm, IsPermutation-refl, IsPermutation-trans}
 use Rattle.atomic_table.specs.Table.{Me}
 use Rattle.fts_model.specs.declared.operation.Op.{Op}
@@ -56,13 +56,9 @@ goes_in all old left end merged new limits me me' mine m is rises more of_lane b
           ∙ ap (λ l. (drawn limits (length (end ∷ m.gone)) l, [])) (sym (ap stamps_of more ∙ map-append (λ (s : Stamped Op). s.stamp) merged end.ops)))));
     }
 
-nothing : (left : List Held) → length left ≡ 0 → left ≡ []
-nothing [] e = refl
-nothing (x ∷ xs) e = absurd (omega arith)
-
 module _ (all left : List Held) (merged : List (Stamped Op)) (limits : RoundLimits) (me : Me (Unit {0}) Drawn) (m : Merging all left merged limits me) (none : length left ≡ 0) where
   all_gone : m.gone ≡ all
-  all_gone = sym (m.whole ∙ ap (λ (l : List Held). l ++ m.gone) (nothing left none))
+  all_gone = sym (m.whole ∙ ap (λ (l : List Held). l ++ m.gone) (nil_from_length left none))
 
   pub done_rise : AllRise all
   done_rise = subst AllRise all_gone m.rise

@@ -10,10 +10,10 @@ use Rattle.fts_rounds.specs.declared.stamps.Drawn.{Drawn}
 use Rattle.std.specs.List.{range_with_len}
 use Rattle.fts_pool.specs.Totals.{times}
 use Rattle.fts_rounds.specs.RoundsDrawn.{drawn, begun, one_less, one_lane, joined, spent, lane_count, stamp_count, Fits, Kept, Draws, Looks}
-use Rattle.fts_snapshots.proofs.StampLemmas.{range_with_len-snoc}
 use Rattle.fts_rounds.proofs.RoundsNumbersLemmas.{AllBelow-more, AllBelow-append, Rises-push, Rises-after_none, times-none}
 use Rattle.fts_pool.proofs.TotalsLemmas.{times-append, total-set, total-push, total-alone}
 use Rattle.fts_rounds.proofs.RoundsTotalsLemmas.{count_le}
+use Rattle.fts_model.proofs.Lists.{range_with_len-push}
 
 -- a view after it drew the next stamp
 fits_drawn : (t : RoundLimits) (n : ℕ) (v : Drawn) → Fits t n v → v.lanes ≡ 1 → length v.stamps < v.limits.cap → v.limits ≡ t → Fits t (n + 1) (drawn v.limits v.lanes (v.stamps ++ n ∷ []))
@@ -58,7 +58,7 @@ module _ (t : RoundLimits) (s : State (Unit {0}) Drawn) (r : Kept t s) where
             let joins = times-append x (range_with_len t.first (stamp_count s.views)) ((t.first + stamp_count s.views) ∷ []) in
             let last : times x ((t.first + stamp_count s.views) ∷ []) ≡ times x (n ∷ []) = ap (λ (k : ℕ). times x (k ∷ [])) (sym next) in
             let grows : times x (range_with_len t.first (stamp_count (set s.views id w))) ≡ times x (range_with_len t.first (stamp_count s.views) ++ (t.first + stamp_count s.views) ∷ [])
-            = ap (λ (k : ℕ). times x (range_with_len t.first k)) more ∙ ap (times x) (range_with_len-snoc t.first (stamp_count s.views)) in
+            = ap (λ (k : ℕ). times x (range_with_len t.first k)) more ∙ ap (times x) (range_with_len-push t.first (stamp_count s.views)) in
             omega arith);
         fit = (λ j u here. subst (λ (k : ℕ). Fits t k u) (sym (word ∙ is)) (⊎_elim
             (λ e. subst (Fits t (n + 1)) e.1 (fits_drawn t n v fit one room mine))

@@ -8,6 +8,7 @@ use Rattle.std.proofs.lemmas.List.Sorted.{IsPermutation-map, IsPermutation-trans
 use Rattle.fts_model.specs.declared.operation.Op.{Op}
 use Rattle.fts_model.specs.declared.operation.Stamped.{Stamped}
 use Rattle.std.specs.List.{range_with_len}
+use Rattle.std.proofs.Math.Bool.{or-true}
 use Rattle.fts_pool.specs.Totals.{times}
 use Rattle.fts_snapshots.specs.Stamps.{stamps_of}
 use Rattle.fts_rounds.specs.Rounds.{AllAbove, Held, Rises}
@@ -103,15 +104,11 @@ module _ (p : Stamped Op → Bool) where
       (λ l. kept_later (p x) x (filter p xs) z (filter-keeps xs z l t))
       (cases x xs z h)
 
-  or_true : (b : Bool) → (b || true) ≡ true
-  or_true true = refl
-  or_true false = refl
-
   any_here : (xs : Listed) (z : Stamped Op) → Contains xs z → p z ≡ true → list_any p xs ≡ true
   any_here [] z h t = absurd (nowhere z h)
   any_here (x ∷ xs) z h t = ⊎_elim
       (λ e. ap (λ (b : Bool). b || list_any p xs) (ap p e ∙ t))
-      (λ l. ap (λ (b : Bool). p x || b) (any_here xs z l t) ∙ or_true (p x))
+      (λ l. ap (λ (b : Bool). p x || b) (any_here xs z l t) ∙ or-true (p x))
       (cases x xs z h)
 
   abbrev Found : Listed → Type 0

@@ -7,4 +7,4 @@ pub mod Counts
 mod DocumentsNames
 mod PlacesSought
 mod QueriesPhrases
-pub mod Runs
+pub mod SortedCounts

@@ -3,7 +3,7 @@ use Rattle.std.proofs.Common.{◌≡◌, ◌<◌, ◌≤◌, ◌+◌, ◌-◌, �
 use Rattle.std.specs.Str.{is_utf8, chars}
 use Rattle.std.specs.Char.{encode_utf8}
 use Rattle.std.specs.List.{prefix_len}
-use Rattle.std.proofs.lemmas.Bool.{eqb-true}
+use Rattle.std.proofs.lemmas.Bool.{eqb-true, false_from_ne_true, and_parts, and_right}
 use Rattle.std.proofs.lemmas.Bool.Decides.{nat_tests}
 use Rattle.std.proofs.lemmas.List.{length-append, length-drop, take_all}
 use Rattle.std.proofs.lemmas.List.Folds.{list_all-append}
@@ -34,14 +34,10 @@ unfolding json_in is_utf8 chars encode_utf8 lex
 json_in-white b [] h = of_white (λ v. json_in (v ∷ []) ≡ json_in []) refl refl refl b h
 json_in-white b (c ∷ line) h = of_white (λ v. json_in (v ∷ c ∷ line) ≡ json_in (c ∷ line)) refl refl refl b h
 
-pub both : (s t : Bool) → (s && t) ≡ true → (s ≡ true) × (t ≡ true)
-both true t h = (refl, h)
-both false t h = cc
-
 json_in-blank : (white line : List ℕ) → is_blank white ≡ true → json_in (white ++ line) ≡ json_in line
 json_in-blank [] line h = refl
 json_in-blank (b ∷ white) line h =
-    let parts = both (is_white b) (is_blank white) h in
+    let parts = and_parts (is_white b) (is_blank white) h in
     json_in-white b (white ++ line) parts.0 ∙ json_in-blank white line parts.1
 
 -- ---- white space before a line
@@ -87,7 +83,7 @@ bare_step : (b : ℕ) (xs : List ℕ) (t : Bool) → is_white b ≡ t → (is_bl
     is_blank (drop (cond t (1 + prefix_len is_white xs) 0) (b ∷ xs)) ≡ true → drop (cond t (1 + prefix_len is_white xs) 0) (b ∷ xs) ≡ []
 bare_step b xs true e h =
     let more : 1 + prefix_len is_white xs ≡ suc (prefix_len is_white xs) = omega arith in rw more h
-bare_step b xs false e h = λ blank. let parts = both (is_white b) (is_blank xs) blank in cc
+bare_step b xs false e h = λ blank. let parts = and_parts (is_white b) (is_blank xs) blank in cc
 
 -- what follows it is not blank, if there is anything
 bare-drop : (xs : List ℕ) → is_blank (drop (prefix_len is_white xs) xs) ≡ true → drop (prefix_len is_white xs) xs ≡ []
@@ -96,24 +92,16 @@ bare-drop (b ∷ xs) = bare_step b xs (is_white b) refl (bare-drop xs)
 
 -- ---- a line that isn't blank
 
-not_true : (t : Bool) → (t ≡ true → ⊥) → t ≡ false
-not_true true h = absurd (h refl)
-not_true false h = refl
-
-second_false : (s t : Bool) → t ≡ false → (s && t) ≡ false
-second_false true t h = h
-second_false false t h = refl
-
 pub not_blank-before : (xs ys : List ℕ) → is_blank xs ≡ false → is_blank (xs ++ ys) ≡ false
 not_blank-before xs ys h = list_all-append is_white xs ys ∙ ap (λ v. v && is_blank ys) h
 
 pub not_blank-behind : (xs ys : List ℕ) → is_blank ys ≡ false → is_blank (xs ++ ys) ≡ false
-not_blank-behind xs ys h = list_all-append is_white xs ys ∙ second_false (is_blank xs) (is_blank ys) h
+not_blank-behind xs ys h = list_all-append is_white xs ys ∙ and_right (is_blank xs) (is_blank ys) h
 
 -- a byte follows its white space
 pub not_blank-some : (piece : List ℕ) (k : ℕ) → k ≡ prefix_len is_white piece → 0 < length (take (length piece - k) (drop k piece)) → is_blank piece ≡ false
-not_blank-some piece k k-is some = not_true (is_blank piece) (λ blank.
-    let parts = both (is_blank (take k piece)) (is_blank (drop k piece))
+not_blank-some piece k k-is some = false_from_ne_true (is_blank piece) (λ blank.
+    let parts = and_parts (is_blank (take k piece)) (is_blank (drop k piece))
     (sym (list_all-append is_white (take k piece) (drop k piece)) ∙ ap is_blank (take-append-drop k piece) ∙ blank) in
     let none : drop k piece ≡ [] = ap (λ n. drop n piece) k-is ∙ bare-drop piece (ap (λ n. is_blank (drop n piece)) (sym k-is) ∙ parts.1) in
     let nothing : length (take (length piece - k) (drop k piece)) ≡ 0 =

@@ -4,12 +4,13 @@ use Rattle.std.specs.List.{prefix_len}
 use Rattle.std.proofs.lemmas.Bool.Decides.{nat_tests}
 use Rattle.std.proofs.lemmas.List.{length-append, length-drop, nil_from_length, take_all}
 use Rattle.std.proofs.lemmas.List.Folds.{list_all-append, length-prefix_len}
+use Rattle.std.proofs.lemmas.Bool.{and_parts}
 use Rattle.fts_session.specs.Text.{is_white, is_blank}
 use Rattle.fts_command.specs.Commands.{longest}
 use Rattle.fts_session.specs.Replies.{reply_on, carried_over}
 use Rattle.fts_session.specs.Outputs.{SessionValue, after_line, reply_to}
 use Rattle.fts_session.specs.KeptLines.{KeptLine, Short, TooLong, indented, kept_line, kept_in, grown, is_blank_kept, reply_to_kept, after_kept, too_long_in, bytes_in}
-use Rattle.fts_script.proofs.BlankLemmas.{both, is_blank-front, reply_to-blank, after_line-blank}
+use Rattle.fts_script.proofs.BlankLemmas.{is_blank-front, reply_to-blank, after_line-blank}
 
 -- one more space, tab or CR
 indented-white : (w b : ℕ) (rest : List ℕ) → is_white b ≡ true → indented w (b ∷ rest) ≡ indented (w + 1) rest
@@ -26,7 +27,7 @@ indented-white w b rest h =
 indented-blank : (w : ℕ) (white rest : List ℕ) → is_blank white ≡ true → indented w (white ++ rest) ≡ indented (w + length white) rest
 indented-blank w [] rest h = ap (λ n. indented n rest) (omega arith)
 indented-blank w (b ∷ white) rest h =
-    let parts = both (is_white b) (is_blank white) h in
+    let parts = and_parts (is_white b) (is_blank white) h in
     indented-white w b (white ++ rest) parts.0 ∙ indented-blank (w + 1) white rest parts.1 ∙ ap (λ n. indented n rest) (omega arith)
 
 -- the line is its white space and what follows it

@@ -1,6 +1,6 @@
 -- What a step of a run keeps.
 use Rattle.std.proofs.Common.{inl, ltb, lt-ltb, IfOk, Result, Ok, Err, OnErr, OnOk, ◌≡◌, ◌<◌, ◌≤◌, ◌-◌, Bool, true, false, cond, eqb, ◌&&◌, ℕ, ◌+◌, List, [], ◌∷◌, ◌++◌, length, take, drop, refl, ap, sym, ◌∙◌, append_assoc, append-nil, take-append-drop, subst, arith, rules, tests}
-use Rattle.std.proofs.lemmas.List.{take_all, length-drop, length-append, length-take-le}
+use Rattle.std.proofs.lemmas.List.{length-drop, length-append, length-take-le, take_rest}
 use Rattle.std.proofs.Math.Seq.{take-add}
 use Rattle.fts_session.specs.KeptLines.{KeptLine, kept_line, grown, is_blank_kept, reply_to_kept, after_kept}
 use Rattle.fts_script.proofs.KeptLemmas.{grown-kept_line, is_blank_kept-indented, reply_to_kept-kept_line, after_kept-kept_line, kept_line-nothing}
@@ -346,17 +346,13 @@ Wrote-start before now s p input r =
       so = (begins.0, ap output (sym (append-nil input)) ∙ begins.1);
     }
 
--- what is left of the bytes to write
-pub tail_is : (bytes : List ℕ) (i : ℕ) → take (length bytes - i) (drop i bytes) ≡ drop i bytes
-tail_is bytes i = take_all (length bytes - i) (drop i bytes) (omega (arith, length-drop i bytes))
-
 pub sent_more : (bytes : List ℕ) (i n : ℕ) →
     take i bytes ++ take n (take (length bytes - i) (drop i bytes)) ≡ take (i + n) bytes
-sent_more bytes i n = ap (λ v. take i bytes ++ take n v) (tail_is bytes i) ∙ sym (take-add i n bytes)
+sent_more bytes i n = ap (λ v. take i bytes ++ take n v) (take_rest bytes i) ∙ sym (take-add i n bytes)
 
 pub within_more : (bytes : List ℕ) (i n : ℕ) → i ≤ length bytes →
     n ≤ length (take (length bytes - i) (drop i bytes)) → i + n ≤ length bytes
-within_more bytes i n h k = omega (arith, ap length (tail_is bytes i), length-drop i bytes)
+within_more bytes i n h k = omega (arith, ap length (take_rest bytes i), length-drop i bytes)
 
 -- a count that rises on a test
 pub counted_more : (a f h : ℕ) (t : Bool) → a ≤ f → h ≡ cond t (f + 1) f → a ≤ h
@@ -383,7 +379,7 @@ pub whole_is : (input bytes : List ℕ) (i : ℕ) →
     (input ++ take i bytes) ++ take (length bytes - i) (drop i bytes) ≡ input ++ bytes
 whole_is input bytes i =
     append_assoc input (take i bytes) (take (length bytes - i) (drop i bytes))
-    ∙ ap (λ v. input ++ (take i bytes ++ v)) (tail_is bytes i)
+    ∙ ap (λ v. input ++ (take i bytes ++ v)) (take_rest bytes i)
     ∙ ap (λ v. input ++ v) (take-append-drop i bytes)
 
 pub part_is : (input bytes : List ℕ) (i n : ℕ) →
@@ -398,7 +394,7 @@ pub Wrote-block : (before now input bytes : List ℕ) (i : ℕ) →
     Wrote before now (StopsFirst (length bytes) (input ++ bytes))
 Wrote-block before now input bytes i w =
     let rest : List ℕ = take (length bytes - i) (drop i bytes) in
-    let shorter : length rest ≤ length bytes = omega (arith, ap length (tail_is bytes i), length-drop i bytes) in
+    let shorter : length rest ≤ length bytes = omega (arith, ap length (take_rest bytes i), length-drop i bytes) in
     Wrote-late before now (input ++ bytes) (length rest) (length bytes) shorter
     (subst (λ v. Wrote before now (StopsFirst (length rest) v)) (whole_is input bytes i) w)
 

@@ -53,6 +53,7 @@ impl Model for PartialLine {
 }
 
 impl PartialLine {
+    /// Of a line of which nothing came yet.
     pub fn new(alloc: Global) -> PartialLine
         ensures { result ≡ kept_line [] }
     {
@@ -63,6 +64,7 @@ impl PartialLine {
         }
     }
 
+    /// Whether nothing of the line came yet.
     pub fn is_empty(&self) -> bool
         ensures { IsTrue result ↔ (self.now ≡ kept_line []) }
     {

@@ -35,6 +35,7 @@ impl<T> Plain<T> {
         }
     }
 
+    /// The reader or writer itself.
     pub fn into_inner(self) -> T
         ensures { result ≡ self.inner }
     {

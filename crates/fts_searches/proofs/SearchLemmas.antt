@@ -21,8 +21,8 @@ use Rattle.fts_collect.specs.Parts.{PartValue, ArePartsOf, joined}
 use Rattle.fts_snapshots.specs.Entries.{EntryValue, live_in, content}
 use Rattle.fts_snapshots.specs.Snapshots.{IsSnapshot, SnapshotValue, content_of}
 use Rattle.fts_searches.specs.Searches.{IsPartOf, OpensInAll, blocks_in, most_in, has_hit, least_in}
-use Rattle.fts_snapshots.proofs.EntryLemmas.{taken}
 use Rattle.fts_snapshots.proofs.OrderLemmas.{permutation_in_order, filter-in_stamp_order}
+use Rattle.fts_model.proofs.Lists.{taken}
 
 -- one more of each
 pub zip-taken : {X Y : Type 0} (P : X → Y → Type 0) (xs : List X) (i : ℕ) (x : X) (before after : List Y) (y : Y) → i < length xs → x ≡ get_or xs i x → AllZip P (take i xs) before → P x y →

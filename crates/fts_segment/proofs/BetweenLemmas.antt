@@ -19,7 +19,7 @@ use Rattle.fts_segment.specs.Keywords.{before, keyword_of, ordinals_of, texts_of
 use Rattle.fts_segment.specs.Numbers.{IsNumberIndex, is_number}
 use Rattle.fts_segment.specs.Occurrences.{holds}
 use Rattle.fts_segment.specs.Segments.{numbers_where}
-use Rattle.fts_segment.proofs.FieldLemmas.{text_found}
+use Rattle.fts_segment.proofs.FieldLemmas.{text_found, is_number-is}
 use Rattle.fts_segment.proofs.HoldingLemmas.{numbers_where-cons, numbers_where-holds}
 use Rattle.fts_segment.proofs.KeywordIndexLemmas.{number_of_text, text_among}
 use Rattle.fts_segment.proofs.OrdinalLemmas.{holds_text, lists_count}
@@ -76,10 +76,6 @@ AreBetween-cut column lists key low high start end keyed order inside lower midd
           (k, omega (arith, size, up, down), subst (λ xs. Contains xs doc) (sym (at k (omega (arith, up, down)) ∙ ap (λ i. get_or lists i []) e)) found.3);
     }
 
-pub has_number : (x : ℕ) (v : Option ℕ) → is_number x v ≡ true → v ≡ Some x
-has_number x None h = cc
-has_number x (Some y) h = ap Some (let e : y ≡ x = grind (arith, nat_tests) in e)
-
 pub its_number : (x : ℕ) → is_number x (Some x) ≡ true
 its_number x = grind (arith, nat_tests)
 
@@ -87,7 +83,7 @@ column_at : (column : List (Option ℕ)) (doc x : ℕ) → Contains (numbers_whe
 column_at column doc x there =
     let held = numbers_where-holds (is_number x) 0 column doc there in
     let number : doc ≡ held.0 = omega (arith, held.1) in
-    ap (slice_get column) number ∙ held.3 ∙ ap Some (has_number x held.2 held.4)
+    ap (slice_get column) number ∙ held.3 ∙ ap Some (is_number-is x held.2 held.4)
 
 pub numbers_count : (column : List (Option ℕ)) (numbers : List ℕ) (lists : List (List ℕ)) → IsNumberIndex column numbers lists → length lists ≡ length numbers
 numbers_count column numbers lists index = ap length index.listed ∙ length-map numbers (λ x. numbers_where (is_number x) 0 column)

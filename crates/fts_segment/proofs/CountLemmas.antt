@@ -5,6 +5,7 @@ use Rattle.std.proofs.lemmas.List.{get_or-map, take_all}
 use Rattle.std.proofs.lemmas.Option.{slice_get_within, slice_get-get_or, get_or_from_slice_get}
 use Rattle.std.proofs.lemmas.Bool.{cases_Bool, cases_lt, false≢true, le-leb, lt-leb}
 use Rattle.std.proofs.lemmas.List.Kept.{AllPairs-from_increasing}
+use Rattle.std.proofs.lemmas.List.Sums.{length-filter, count_by-le-length}
 use Rattle.fts_model.specs.declared.schema.Kind.TheVariants as kinds
 use Rattle.fts_model.specs.declared.value.FieldValue.{FieldValue}
 use Rattle.fts_model.specs.declared.value.FieldValue.TheVariants as values
@@ -17,8 +18,8 @@ use Rattle.fts_segment.specs.Numbers.{IsNumberIndex, is_number}
 use Rattle.fts_segment.specs.Occurrences.{holds}
 use Rattle.fts_segment.specs.Segments.{numbers_where}
 use Rattle.fts_segment.specs.Sums.{total}
-use Rattle.fts_segment.proofs.BetweenLemmas.{AreKeyed-keywords, AreKeyed-numbers, has_number, its_number, numbers_count, ordinal_text, text_held}
-use Rattle.fts_segment.proofs.FieldLemmas.{text_found}
+use Rattle.fts_segment.proofs.BetweenLemmas.{AreKeyed-keywords, AreKeyed-numbers, its_number, numbers_count, ordinal_text, text_held}
+use Rattle.fts_segment.proofs.FieldLemmas.{text_found, is_number-is}
 use Rattle.fts_segment.proofs.HoldingLemmas.{numbers_where-cons}
 use Rattle.fts_segment.proofs.KeywordIndexLemmas.{number_of_text, text_among}
 use Rattle.fts_segment.proofs.OrdinalLemmas.{holds_text, lists_count}
@@ -49,14 +50,6 @@ count-mapped : {X Y : Type 0} (p : X → Bool) (q : Y → Bool) (f : X → Y) (x
 count-mapped p q f [] same = refl
 count-mapped p q f (x ∷ xs) same = omega (arith, count-cons p x xs, count-cons q (f x) (map f xs), same 0 x refl, count-mapped p q f xs (λ k y at. same (suc k) y at))
 
-count-within : {X : Type 0} (p : X → Bool) (xs : List X) → length (filter p xs) ≤ length xs
-count-within p [] = omega arith
-count-within p (x ∷ xs) = omega (arith, count-cons p x xs, at_most (p x), count-within p xs)
-  where
-    at_most : (b : Bool) → one b ≤ 1
-    at_most true = omega arith
-    at_most false = omega arith
-
 numbers_where-count : {X : Type 0} (p : X → Bool) (n : ℕ) (xs : List X) → length (numbers_where p n xs) ≡ length (filter p xs)
 numbers_where-count p n [] = refl
 numbers_where-count {X} p n (x ∷ xs) = ap length (numbers_where-cons p n x xs) ∙ by (p x) (numbers_where-count p (n + 1) xs) ∙ sym (count-cons p x xs)
@@ -81,7 +74,7 @@ one-is x y same = ap (λ z. one (is_number x (Some z))) same ∙ ap one (its_num
 
 one-not : (x y : ℕ) → (y ≡ x → ⊥) → one (is_number x (Some y)) ≡ 0
 one-not x y other = elim (cases_Bool (is_number x (Some y))) [
-  | inl known ↦ absurd (other (let e : Some y ≡ Some x = has_number x (Some y) known in cc))
+  | inl known ↦ absurd (other (let e : Some y ≡ Some x = is_number-is x (Some y) known in cc))
   | inr unknown ↦ ap one unknown
 ]
 
@@ -165,7 +158,7 @@ module _ (column : List (Option ℕ)) (lists : List (List ℕ)) (key : ℕ → �
       ] in
       let is = total-below n bound (omega arith) before (λ k le less. absurd (omega (arith, le, less))) in
       let whole : take n lists ≡ lists = take_all n lists (omega arith) in
-      omega (arith, is, ap total whole, count-within (below bound) column)
+      omega (arith, is, ap total whole, length-filter (below bound) column, count_by-le-length (below bound) column)
 
   -- the lists between two places have as many documents as have a number between two
   pub total-between : (low high start from end : ℕ) → from ≤ length lists → ((k : ℕ) → k < from → key k < low) → ((k : ℕ) → from ≤ k → k < length lists → low ≤ key k) →
@@ -219,7 +212,7 @@ text-count vs dictionary terms texts_are k less =
       | inl known ↦ ap one (known ∙ sym (ap (λ w. is_number k (ordinal w)) (holds_text text v known) ∙ ap (λ n. is_number k (Some n)) (place_of text k named) ∙ its_number k))
       | inr unknown ↦ elim (cases_Bool (is_number k (ordinal v))) [
         | inl same ↦
-            let t = ordinal_text texts v k (has_number k (ordinal v) same) in
+            let t = ordinal_text texts v k (is_number-is k (ordinal v) same) in
             let here : slice_get vs doc ≡ Some (Some (values.Text t.0)) = at ∙ ap Some t.1 in
             let there : Contains vs (Some (values.Text t.0)) = (doc, slice_get_within vs doc (Some (values.Text t.0)) here, get_or_from_slice_get vs doc (Some (values.Text t.0)) (Some (values.Text t.0)) here) in
             let among : Contains names t.0 = subst (λ ts. Contains ts t.0) (sym texts_are) (text_among vs t.0 there) in

@@ -12,6 +12,7 @@ use Rattle.std.proofs.lemmas.Option.{slice_get-get_or, get_or_from_slice_get, sl
 use Rattle.std.proofs.lemmas.List.{get_or_default, get_or-map, length-map, same_lists, drop_more, append_assoc, map-append}
 use Rattle.std.proofs.lemmas.List.Elements.{All-tail, All-map, filter_passes}
 use Rattle.std.proofs.lemmas.List.Kept.{AllPairs-filter}
+use Rattle.std.proofs.lemmas.Simd.{map-map}
 use Rattle.fts_segment.specs.declared.term_log.Occurrence.{Occurrence}
 use Rattle.fts_segment.specs.declared.term_groups.Place.{Place}
 use Rattle.fts_segment.specs.Occurrences.{OccurrenceValue}
@@ -25,10 +26,6 @@ use Rattle.fts_segment.specs.Dictionaries.{occurs, docs_in, IsDictionaryOf, unle
 use Rattle.fts_segment.proofs.TermsLemmas.{one_place}
 use Rattle.fts_segment.proofs.TermLogsLemmas.{Stand, occurrence_values-by_ordinal, AreNamed-by_ordinal}
 use Rattle.fts_segment.proofs.HoldingLemmas.{docs_of-cons}
-
-map-map : {A B C : Type 0} (f : B → C) (g : A → B) (xs : List A) → map f (map g xs) ≡ map (λ x. f (g x)) xs
-map-map f g [] = refl
-map-map f g (x ∷ xs) = ap (λ ys. f (g x) ∷ ys) (map-map f g xs)
 
 same_test : (names : List (List ℕ)) → Ascends names → (id term : ℕ) (q : List ℕ) → slice_get names id ≡ Some q → term < length names → (term == id) ≡ bytes_eq (get_or names term []) q
 same_test names up id term q found within = elim (cases_eq term id) [

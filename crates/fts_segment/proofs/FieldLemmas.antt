@@ -1,5 +1,5 @@
 -- Indexes of fields.
-use Rattle.std.proofs.Common.{◌≡◌, ◌+◌, ◌^◌, ◌==◌, ◌<◌, ◌≤◌, ◌||◌, ℕ, ℤ, pos, negsuc, suc, zero, Bool, true, false, cond, List, [], ◌∷◌, ◌++◌, Option, Some, None, map, length, get_or, refl, sym, ap, subst, ◌∙◌, inl, inr, arith, All, Contains, IfSome, IfNone, MatchOption, take, Bor, length-append}
+use Rattle.std.proofs.Common.{◌≡◌, ◌+◌, ◌^◌, ◌==◌, ◌<◌, ◌≤◌, ℕ, ℤ, pos, negsuc, suc, zero, Bool, true, false, cond, List, [], ◌∷◌, ◌++◌, Option, Some, None, map, length, get_or, refl, sym, ap, subst, ◌∙◌, inl, inr, arith, All, Contains, IfSome, IfNone, MatchOption, take, Bor, length-append}
 use Rattle.std.specs.Prelude.{slice_get, option_copied, option_map, option_and_then, nat_lt}
 use Rattle.std.specs.Ordering.{int_eq}
 use Rattle.std.specs.Cmp.{signed_Decides}
@@ -10,6 +10,7 @@ use Rattle.std.proofs.lemmas.Bool.{cases_Bool, eqb-true, ltb-true}
 use Rattle.std.proofs.lemmas.Bool.Decides.{nat_tests}
 use Rattle.std.proofs.lemmas.Option.{slice_get_within, slice_get-get_or, get_or_from_slice_get}
 use Rattle.std.proofs.lemmas.List.{get_or-map, get_or_default, length-map, length-take-le, take_more, map_push}
+use Rattle.std.proofs.Math.Bool.{or-false}
 use Rattle.fts_model.specs.declared.schema.Field.{Field}
 use Rattle.fts_model.specs.declared.schema.Kind.{Kind}
 use Rattle.fts_model.specs.declared.schema.Kind.TheVariants as kinds
@@ -58,15 +59,11 @@ AreFirst-push {schema} {documents} {count} {indexes} index at here is s = record
   ];
 }
 
-or_false : (b : Bool) → (b || false) ≡ b
-or_false true = refl
-or_false false = refl
-
 -- a value has a text as a term where one of its tokens is the text
 pub holds-tokens : (kind : Kind) (text : List ℕ) (v : Option FieldValue) → list_any (is_token text) (tokens_of kind v) ≡ holds kind (values.Text text) v
 holds-tokens kind text None = refl
 holds-tokens kinds.Text text (Some (values.Text t)) = refl
-holds-tokens kinds.Keyword text (Some (values.Text t)) = or_false (bytes_eq t text)
+holds-tokens kinds.Keyword text (Some (values.Text t)) = or-false (bytes_eq t text)
 holds-tokens kinds.U64 text (Some (values.Text t)) = refl
 holds-tokens kinds.I64 text (Some (values.Text t)) = refl
 holds-tokens kinds.Text text (Some (values.Texts ts)) = refl
@@ -183,7 +180,7 @@ holders_of kind term x vs is f fit =
     numbers_where-same (holds kind term) (λ v. is_number x (number_of kind v)) 0 vs (λ k d h. number_test kind term x (get_or vs k d) is f (fit k d h))
     ∙ numbers_where-map (λ v. is_number x (number_of kind v)) (is_number x) (number_of kind) (λ v. refl) 0 vs
 
-is_number-is : (x : ℕ) (v : Option ℕ) → is_number x v ≡ true → v ≡ Some x
+pub is_number-is : (x : ℕ) (v : Option ℕ) → is_number x v ≡ true → v ≡ Some x
 is_number-is x None h = absurd (let clash : false ≡ true = h in cc)
 is_number-is x (Some y) h = ap Some (eqb-true y x h)
 

@@ -6,9 +6,11 @@ use Rattle.std.specs.Str.{bytes_eq}
 use Rattle.std.specs.Prelude.{slice_get}
 use Rattle.fts_model.proofs.Lists.{Contains-cases}
 use Rattle.std.proofs.lemmas.Bool.Decides.{nat_tests}
-use Rattle.std.proofs.lemmas.List.{map-append}
+use Rattle.std.proofs.lemmas.List.{map-append, length-map}
 use Rattle.std.proofs.lemmas.List.Elements.{filter-append, All-append, All-cons, All-nil, All-map, All-filter, All-weaker, All-tail, All-head}
 use Rattle.std.proofs.lemmas.List.Kept.{AllPairs-cons}
+use Rattle.std.proofs.lemmas.List.FromFn.{length-enumerate_from}
+use Rattle.std.proofs.lemmas.List.Sums.{count_by-le-length, length-filter}
 use Rattle.fts_model.specs.declared.schema.Kind.{Kind}
 use Rattle.fts_model.specs.declared.value.FieldValue.{FieldValue}
 use Rattle.fts_segment.specs.Occurrences.{OccurrenceValue, occurrence_at, tokens_of, occurrences_at, occurrences, is_token, is_term, docs_of, docs_with}
@@ -150,7 +152,7 @@ numbers_from p n (x ∷ xs) =
       | false ↦ rest
     ])
 
-numbers_apart : {X : Type 0} (p : X → Bool) (n : ℕ) (xs : List X) → AllPairs (λ a b. a < b) (numbers_where p n xs)
+pub numbers_apart : {X : Type 0} (p : X → Bool) (n : ℕ) (xs : List X) → AllPairs (λ a b. a < b) (numbers_where p n xs)
 numbers_apart p n [] = λ i j d lower within. absurd (omega arith)
 numbers_apart p n (x ∷ xs) =
     let R : ℕ → ℕ → Type 0 = λ a b. a < b in
@@ -182,3 +184,10 @@ pub docs_with-rise : (q : List ℕ) (kind : Kind) (doc : ℕ) (vs : List (Option
 docs_with-rise q kind doc vs =
     let P : List ℕ → Type 0 = IsStrictlyIncreasing in
     subst P (sym (docs_with-occurrences q kind doc vs)) (numbers_rise (λ v. list_any (is_token q) (tokens_of kind v)) doc vs)
+
+-- no more elements pass a test than there are, by their numbers
+pub length-numbers_where : {X : Type 0} (p : X → Bool) (first : ℕ) (xs : List X) → length (numbers_where p first xs) ≤ length xs
+length-numbers_where {X} p first xs =
+    let all = enumerate_from first xs in
+    let q : ℕ × X → Bool = λ e. p e.1 in
+    omega (arith, length-map (filter q all) (λ (e : ℕ × X). e.0), length-filter q all, count_by-le-length q all, length-enumerate_from first xs)

@@ -3,11 +3,11 @@ use Rattle.std.proofs.Common.{◌≡◌, ◌+◌, ◌-◌, ◌*◌, ◌/◌, ◌
 use Rattle.std.specs.Prelude.{slice_range}
 use Rattle.std.proofs.lemmas.List.{drop_more, drop-drop, drop-take, take-append-le, drop-append-le, take_all, length-take-le, nil_from_length, take-take}
 use Rattle.std.proofs.lemmas.List.Elements.{All-append, All-cons, All-nil, All-head, All-tail}
-use Rattle.std.proofs.lemmas.List.Sums.{sum_by-cons, sum_by-append, sum_by-take-le, sum_by_more}
+use Rattle.std.proofs.lemmas.List.Sums.{sum_by-append, sum_by-take-le, sum_by_more}
 use Rattle.fts_pack.specs.Documents.{block_at, block_count, documents_at, gaps}
 use Rattle.fts_pack.specs.SourceLaws.{length-block_at}
 use Rattle.fts_pack.proofs.DocumentsLemmas.{documents_at-gaps, length-documents_at, length-gaps}
-use Rattle.fts_pack.proofs.SumLemmas.{sum-take-add}
+use Rattle.fts_pack.proofs.SumLemmas.{sum-take-add, sum-cons}
 use Rattle.fts_segment.specs.PositionLists.{IsPositionList, position_lists_at, AreLogged, ArePacked}
 use Rattle.fts_segment.specs.PositionListBounds.{AreBoundsOf}
 
@@ -28,23 +28,20 @@ pub length-position_lists_at : (counts gs : List ℕ) → length (position_lists
 length-position_lists_at [] gs = refl
 length-position_lists_at (n ∷ ns) gs = ap suc (length-position_lists_at ns (drop n gs))
 
-total-cons : (n : ℕ) (ns : List ℕ) → sum (n ∷ ns) ≡ n + sum ns
-total-cons n ns = sum_by-cons (λ (x : ℕ). x) n ns
-
 -- the list of this number
 pub position_list_at : (counts gs : List ℕ) (k : ℕ) → k < length counts → get_or (position_lists_at counts gs) k [] ≡ documents_at 0 (take (get_or counts k 0) (drop (sum (take k counts)) gs))
 position_list_at [] gs k within = absurd (omega arith)
 position_list_at (n ∷ ns) gs zero within = refl
 position_list_at (n ∷ ns) gs (suc k) within =
     position_list_at ns (drop n gs) k (omega arith)
-    ∙ ap (λ xs. documents_at 0 (take (get_or ns k 0) xs)) (drop-drop (sum (take k ns)) n gs ∙ ap (λ m. drop m gs) (sym (total-cons n (take k ns))))
+    ∙ ap (λ xs. documents_at 0 (take (get_or ns k 0) xs)) (drop-drop (sum (take k ns)) n gs ∙ ap (λ m. drop m gs) (sym (sum-cons n (take k ns))))
 
 -- lists behind others
 pub position_lists_at-append : (counts more gs others : List ℕ) → sum counts ≡ length gs → position_lists_at (counts ++ more) (gs ++ others) ≡ position_lists_at counts gs ++ position_lists_at more others
 position_lists_at-append [] more gs others whole =
     let none : gs ≡ [] = nil_from_length gs (omega (arith, whole)) in ap (λ xs. position_lists_at more (xs ++ others)) none
 position_lists_at-append (n ∷ ns) more gs others whole =
-    let all : n + sum ns ≡ length gs = sym (total-cons n ns) ∙ whole in
+    let all : n + sum ns ≡ length gs = sym (sum-cons n ns) ∙ whole in
     let rest : sum ns ≡ length (drop n gs) = omega (arith, length-drop n gs) in
     ap₂ (λ xs ys. documents_at 0 xs ∷ position_lists_at (ns ++ more) ys) (take-append-le n gs others (omega arith)) (drop-append-le n gs others (omega arith))
     ∙ ap (λ rs. documents_at 0 (take n gs) ∷ rs) (position_lists_at-append ns more (drop n gs) others rest)
@@ -73,7 +70,7 @@ pub AreLogged-push : (counts gs list : List ℕ) → AreLogged counts gs → IsP
 AreLogged-push counts gs list h is fit few =
     let Fit : List ℕ → Type 0 = λ list. All (λ p. p < 2 ^ 32) list in
     let All_fit : List (List ℕ) → Type 0 = All Fit in
-    let alone : sum (length list ∷ []) ≡ length (gaps 0 list) = omega (arith, total-cons (length list) [], length-gaps 0 list) in
+    let alone : sum (length list ∷ []) ≡ length (gaps 0 list) = omega (arith, sum-cons (length list) [], length-gaps 0 list) in
     AreLogged-append counts (length list ∷ []) gs (gaps 0 list) h alone few (subst All_fit (sym (position_list_alone list is)) (All-cons Fit list [] fit (All-nil Fit)))
 
 -- what is logged is packed, with where each 128 lists begin
@@ -91,7 +88,7 @@ drop-position_lists_at : (k : ℕ) (counts gs : List ℕ) → drop k (position_l
 drop-position_lists_at zero counts gs = refl
 drop-position_lists_at (suc k) [] gs = refl
 drop-position_lists_at (suc k) (n ∷ ns) gs =
-    drop-position_lists_at k ns (drop n gs) ∙ ap (position_lists_at (drop k ns)) (drop-drop (sum (take k ns)) n gs ∙ ap (λ m. drop m gs) (sym (total-cons n (take k ns))))
+    drop-position_lists_at k ns (drop n gs) ∙ ap (position_lists_at (drop k ns)) (drop-drop (sum (take k ns)) n gs ∙ ap (λ m. drop m gs) (sym (sum-cons n (take k ns))))
 
 -- the first lists
 take-position_lists_at : (k : ℕ) (counts gs : List ℕ) → take k (position_lists_at counts gs) ≡ position_lists_at (take k counts) (take (sum (take k counts)) gs)
@@ -101,7 +98,7 @@ take-position_lists_at (suc k) (n ∷ ns) gs =
     let more = sum (take k ns) in
     let first : take n (take (n + more) gs) ≡ take n gs = take-take n (n + more) gs (omega arith) in
     ap₂ (λ xs rs. documents_at 0 xs ∷ rs) (sym first) (take-position_lists_at k ns (drop n gs) ∙ ap (position_lists_at (take k ns)) (sym (drop-take n more gs)))
-    ∙ ap (λ m. documents_at 0 (take n (take m gs)) ∷ position_lists_at (take k ns) (drop n (take m gs))) (sym (total-cons n (take k ns)))
+    ∙ ap (λ m. documents_at 0 (take n (take m gs)) ∷ position_lists_at (take k ns) (drop n (take m gs))) (sym (sum-cons n (take k ns)))
 
 -- the lists between two
 pub range-position_lists_at : (start end first many : ℕ) (counts gs : List ℕ) → first ≡ sum (take start counts) → many ≡ sum (slice_range counts start end) →
@@ -127,7 +124,7 @@ found_position_list counts starts gs number start end h within start_is end_is =
 pub lengths_are : (counts gs : List ℕ) → sum counts ≡ length gs → map length (position_lists_at counts gs) ≡ counts
 lengths_are [] gs whole = refl
 lengths_are (n ∷ ns) gs whole =
-    let all : n + sum ns ≡ length gs = sym (total-cons n ns) ∙ whole in
+    let all : n + sum ns ≡ length gs = sym (sum-cons n ns) ∙ whole in
     let rest : sum ns ≡ length (drop n gs) = omega (arith, length-drop n gs) in
     ap₂ (λ m ms. m ∷ ms) (length-documents_at 0 (take n gs) ∙ length-take-le n gs (omega (arith, all))) (lengths_are ns (drop n gs) rest)
 

@@ -70,7 +70,7 @@ few-contents kind field (s ∷ ss) h =
     subst P (sym (values_in-append field (content_of s.segment s.live) (contents ss)))
     (All-append (HasFewTokens kind) (values_in field (content_of s.segment s.live)) (values_in field (contents ss)) here (few-contents kind field ss (All-tail Q s ss h)))
 
-get_behind : {X : Type 0} (xs : List X) (y : X) (ys : List X) → slice_get (xs ++ y ∷ ys) (length xs) ≡ Some y
+pub get_behind : {X : Type 0} (xs : List X) (y : X) (ys : List X) → slice_get (xs ++ y ∷ ys) (length xs) ≡ Some y
 get_behind [] y ys = refl
 get_behind (x ∷ xs) y ys = get_behind xs y ys
 

@@ -5,6 +5,7 @@ use Rattle.std.specs.List.{enumerate_from}
 use Rattle.std.specs.Str.{IsUtf8, chars}
 use Rattle.std.proofs.lemmas.Bool.{eqb-true}
 use Rattle.std.proofs.lemmas.List.{length-map, map-append}
+use Rattle.std.proofs.lemmas.List.Sums.{length-filter, count_by-le-length}
 use Rattle.fts_text.specs.Tokens.{Span, following, tokens_from, tokens_of_texts, kept, spans, chars_of, byte_len}
 use Rattle.fts_text.specs.Characters.{fold_chars}
 use Rattle.fts_text.specs.Places.{places_from, token_at}
@@ -126,14 +127,6 @@ Rises-tokens_of : (kind : Kind) (value : Option FieldValue) → Rises 0 (map (λ
 Rises-tokens_of kind None = tt
 Rises-tokens_of kind (Some value) = Rises-value kind value
 
-length-kept : {X : Type 0} (p : X → Bool) (xs : List X) → length (filter p xs) ≤ length xs
-length-kept p [] = omega arith
-length-kept p (x ∷ xs) =
-    elim (p x) as (λ b. length (cond b (x ∷ filter p xs) (filter p xs)) ≤ suc (length xs)) [
-      | true ↦ omega (arith, length-kept p xs)
-      | false ↦ omega (arith, length-kept p xs)
-    ]
-
 -- the positions of a term in a value are a position list
 pub IsPositionList-tokens : (q : List ℕ) (kind : Kind) (value : Option FieldValue) → HasFewTokens kind value → IsPositionList (positions_among q (tokens_of kind value))
 IsPositionList-tokens q kind value few =
@@ -141,5 +134,5 @@ IsPositionList-tokens q kind value few =
     let ts = tokens_of kind value in
     record {
       rises = Rises-filter position (is_token q) 0 ts (Rises-tokens_of kind value);
-      few = omega (arith, length-map (filter (is_token q) ts) position, length-kept (is_token q) ts);
+      few = omega (arith, length-map (filter (is_token q) ts) position, length-filter (is_token q) ts, count_by-le-length (is_token q) ts);
     }

@@ -2,6 +2,7 @@
 use Rattle.std.proofs.Common.{◌≡◌, ℕ, ◌+◌, ◌||◌, Bool, true, false, not, cond, List, [], ◌∷◌, ◌++◌, length, refl, sym, ap, ◌∙◌, add-zero, arith, length-append}
 use Rattle.std.proofs.lemmas.List.{append-nil}
 use Rattle.std.specs.List.{list_any}
+use Rattle.std.proofs.Math.Bool.{or-true}
 use Rattle.fts_model.specs.declared.schema.Field.{Field}
 use Rattle.fts_model.specs.declared.operation.Op.{Op}
 use Rattle.fts_model.specs.declared.operation.Stamped.{Stamped}
@@ -12,10 +13,6 @@ use Rattle.fts_steps.specs.Indexes.{Index, indexes, stamp_after}
 use Rattle.fts_steps.specs.Histories.{Accepted, Submitted, Committed, RolledBack, take_back, Kept, Operation, CommitPoint, kept, is_commit, up_to_commit, since_commit, stamped_from, History, and_then, histories}
 use Rattle.fts_session.proofs.CarrierLemmas.{Simulates}
 
-or_true : (b : Bool) → (b || true) ≡ true
-or_true true = refl
-or_true false = refl
-
 -- ---- commits among what is kept
 
 any-Operation : (cs : List Kept) (op : Op) → list_any is_commit (cs ++ Operation op ∷ []) ≡ list_any is_commit cs
@@ -24,7 +21,7 @@ any-Operation (c ∷ cs) op = ap (λ b. is_commit c || b) (any-Operation cs op)
 
 any-CommitPoint : (cs : List Kept) → list_any is_commit (cs ++ CommitPoint ∷ []) ≡ true
 any-CommitPoint [] = refl
-any-CommitPoint (c ∷ cs) = ap (λ b. is_commit c || b) (any-CommitPoint cs) ∙ or_true (is_commit c)
+any-CommitPoint (c ∷ cs) = ap (λ b. is_commit c || b) (any-CommitPoint cs) ∙ or-true (is_commit c)
 
 up_to-Operation : (cs : List Kept) (op : Op) → up_to_commit (cs ++ Operation op ∷ []) ≡ up_to_commit cs
 up_to-Operation [] op = refl
@@ -65,7 +62,7 @@ parts (c ∷ cs) = one_part (is_commit c || list_any is_commit cs) c cs (up_to_c
 
 one_any : (b d : Bool) (c : Kept) (us : List Kept) → is_commit c ≡ b → list_any is_commit us ≡ d → list_any is_commit (cond (b || d) (c ∷ us) []) ≡ (b || d)
 one_any true d c us e f = ap (λ x. x || list_any is_commit us) e
-one_any false true c us e f = ap (λ x. is_commit c || x) f ∙ or_true (is_commit c)
+one_any false true c us e f = ap (λ x. is_commit c || x) f ∙ or-true (is_commit c)
 one_any false false c us e f = refl
 
 any-up_to : (cs : List Kept) → list_any is_commit (up_to_commit cs) ≡ list_any is_commit cs

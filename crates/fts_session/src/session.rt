@@ -43,6 +43,7 @@ impl<E: Engine> Model for Session<E> {
 }
 
 impl<E: Engine> Session<E> {
+    /// Before the first line, without a schema.
     pub fn new(options: Options) -> Self
         ensures { result ≡ start }
     {

@@ -25,7 +25,7 @@ use Rattle.fts_snapshots.proofs.OrderLemmas.{rises_from_pairs}
 use Rattle.fts_snapshots.proofs.MergeLemmas.{ById, AreDifferent, names_given}
 use Rattle.fts_snapshots.proofs.SnapshotLemmas.{all_entries_at, some_sources}
 use Rattle.fts_snapshots.proofs.SourceLemmas.{contents-sources, live_count-sources, snapshot_schema, named_schema, schema_of-sources, some_entries}
-use Rattle.fts_snapshots.proofs.FollowLemmas.{contains_mapped}
+use Rattle.fts_snapshots.proofs.FollowLemmas.{contains_mapped, contains_at}
 use Rattle.fts_snapshots.proofs.EndLemmas.{got_mapped}
 
 ids_at : (es : List EntryValue) (id : ℕ) → is_there es id ≡ true → ids_of (entry_at es id) ≡ id ∷ []
@@ -87,11 +87,6 @@ got_from_map f [] k y h = cc
 got_from_map f (x ∷ xs) zero y h = let same : f x ≡ y = cc in (x, refl, same)
 got_from_map f (x ∷ xs) (suc k) y h = got_from_map f xs k y h
 
-contains_got : {X : Type 0} (xs : List X) (k : ℕ) (x : X) → slice_get xs k ≡ Some x → Contains xs x
-contains_got [] k x h = cc
-contains_got (y ∷ xs) zero x h = Contains-first y xs x cc
-contains_got (y ∷ xs) (suc k) x h = Contains-behind y xs x (contains_got xs k x h)
-
 set_at : (bits : List Bool) (n : ℕ) → is_set bits n ≡ true → slice_get bits n ≡ Some true
 set_at [] n h = cc
 set_at (bit ∷ bits) zero h = ap (λ b. Some b) h
@@ -139,7 +134,7 @@ fits_begun s ids i h =
           ∙ sym (All-contains Here es e i.schemas c);
       mapped = λ e source n c at live.
           let own = got_from_map (λ (e : EntryValue). e.id) job source e.id at in
-          let same = one_of es own.0 e (rises_from_pairs (λ (e : EntryValue). e.id) es i.ids) (among_named es ids own.0 (contains_got job source own.0 own.1)) c own.2 in
+          let same = one_of es own.0 e (rises_from_pairs (λ (e : EntryValue). e.id) es i.ids) (among_named es ids own.0 (contains_at job source own.0 own.1)) c own.2 in
           let is = got_mapped source_of job source own.0 own.1 ∙ ap (λ (f : EntryValue). Some (source_of f)) same in
           let placed = placed_from 0 ss source (source_of e) n (bits_of job (job_begun s ids i h).each) is (set_at e.live n live) in
           (placed.0, placed.1 ∙ ap (λ (k : ℕ). Some (record { source = k; document = n })) (omega arith), placed.2);

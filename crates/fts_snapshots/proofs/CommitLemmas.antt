@@ -10,15 +10,16 @@ use Rattle.fts_model.specs.declared.operation.Op.TheVariants.{Add, Delete, Delet
 use Rattle.fts_model.specs.declared.operation.Stamped.{Stamped}
 use Rattle.fts_model.specs.Documents.{DocumentValue}
 use Rattle.fts_model.specs.Operations.{alive, adds, added, added_by, survives, strikes_later, StampsRise}
-use Rattle.fts_model.proofs.OperationsByStamps.{alive-survives, All-added}
+use Rattle.fts_model.proofs.OperationsByStamps.{alive-survives, All-added, added-adds}
 use Rattle.fts_snapshots.specs.Order.{in_stamp_order}
 use Rattle.fts_snapshots.specs.Entries.{EntryValue, live_in, content}
 use Rattle.fts_model.specs.declared.cut.Cut.{Cut}
 use Rattle.fts_snapshots.specs.Cuts.{groups_of}
 use Rattle.fts_snapshots.specs.Commits.{struck, fresh, fresh_from, committed}
 use Rattle.fts_snapshots.proofs.OrderLemmas.{ByStamp, rises_from_pairs, pairs_from_rises, permutation_in_order, in_stamp_order-permutation, in_stamp_order-rises, filter-in_stamp_order}
-use Rattle.fts_snapshots.proofs.EntryLemmas.{joined, entry_with, bits_where-agree, live_in-filter, live_in-struck, live_in-fresh}
+use Rattle.fts_snapshots.proofs.EntryLemmas.{joined, entry_with, live_in-filter, live_in-struck, live_in-fresh}
 use Rattle.fts_snapshots.proofs.CutLemmas.{groups_permute}
+use Rattle.fts_merge.proofs.BitsLemmas.{bits_where-same}
 
 -- the stamps of a list, as the definitions say it
 pub by_stamp : {X : Type 0} (xs : List (Stamped X)) → StampsRise xs → ByStamp xs
@@ -35,10 +36,6 @@ no_strike false c = refl
 survives-adds : (schema : List Field) (ds : List (Stamped DocumentValue)) (ops : List (Stamped Op)) (d : Stamped DocumentValue) → survives schema (adds ds ++ ops) d ≡ survives schema ops d
 survives-adds schema [] ops d = refl
 survives-adds schema (e ∷ ds) ops d = no_strike (nat_lt d.stamp e.stamp) (list_any (λ op. strikes_later schema op d) (adds ds ++ ops)) ∙ survives-adds schema ds ops d
-
-added-adds : (ds : List (Stamped DocumentValue)) (ops : List (Stamped Op)) → added (adds ds ++ ops) ≡ ds ++ added ops
-added-adds [] ops = refl
-added-adds (d ∷ ds) ops = ap (λ xs. d ∷ xs) (added-adds ds ops)
 
 rises_added_by : (stamp : ℕ) (op : Op) (ds : List (Stamped DocumentValue)) → AllByRecursion (λ d. stamp < d.stamp) ds → ByStamp ds → ByStamp (added_by stamp op ++ ds)
 rises_added_by stamp (Add document) ds a r = (a, r)
@@ -101,7 +98,7 @@ same_after schema ops batch same es id groups = ap (λ fs. fs ++ fresh_from sche
   same_struck : (es : List EntryValue) → map (struck ops) es ≡ map (struck batch) es
   same_struck [] = refl
   same_struck (e ∷ es) =
-      ap (λ bits. entry_with e.id e.segment bits ∷ map (struck ops) es) (bits_where-agree (survives e.segment.schema ops) (survives e.segment.schema batch) (same e.segment.schema) e.segment.documents e.live)
+      ap (λ bits. entry_with e.id e.segment bits ∷ map (struck ops) es) (bits_where-same (survives e.segment.schema ops) (survives e.segment.schema batch) (same e.segment.schema) e.segment.documents e.live)
       ∙ ap (λ fs. struck batch e ∷ fs) (same_struck es)
 
   same_bits : (ds : List (Stamped DocumentValue)) → map (survives schema ops) ds ≡ map (survives schema batch) ds

@@ -1,10 +1,10 @@
 -- How many segments and numbers commits and merges take, and where they can't be refused but for memory.
-use Rattle.std.proofs.Common.{◌≡◌, ◌+◌, ◌*◌, ◌^◌, ◌<◌, ◌≤◌, ◌≢◌, ◌==◌, ◌||◌, ◌⊎◌, inl, inr, ℕ, zero, suc, Bool, true, false, cond, not, Option, None, Some, Ok, Err, List, [], ◌∷◌, ◌++◌, length, map, filter, sum_by, nat_lt, refl, sym, ap, subst, ◌∙◌, arith}
+use Rattle.std.proofs.Common.{◌≡◌, ◌+◌, ◌*◌, ◌^◌, ◌<◌, ◌≤◌, ◌≢◌, ◌==◌, ◌||◌, ◌⊎◌, inl, inr, ℕ, zero, suc, Bool, true, false, cond, not, Option, None, Some, Err, List, [], ◌∷◌, ◌++◌, length, map, filter, sum_by, nat_lt, refl, sym, ap, subst, ◌∙◌, arith}
 use Rattle.std.specs.List.{AllByRecursion, flat_map}
 use Rattle.std.proofs.lemmas.Bool.Decides.{nat_tests}
 use Rattle.std.proofs.lemmas.List.{length-append, length-map}
 use Rattle.std.proofs.lemmas.List.Sorted.{length_permutation}
-use Rattle.std.proofs.lemmas.List.Sums.{sum_by-cons}
+use Rattle.std.proofs.lemmas.List.Sums.{sum_by-cons, length-filter, count_by-le-length}
 use Rattle.fts_base.specs.declared.refusal.Refusal.{Refusal}
 use Rattle.fts_base.specs.declared.refusal.Refusal.TheVariants.{Memory, TooLarge, StampsUsedUp, OtherSchema, UnknownSegment, SegmentTwice}
 use Rattle.fts_base.specs.Results.{first_of, ok_unless}
@@ -60,10 +60,6 @@ length-dealt_from place j gs (x ∷ xs) = omega (arith, length-dealt_from place 
 pub new_segments-le : (cut : Cut) (ops : List (Stamped Op)) → new_segments cut ops ≤ length ops
 new_segments-le cut ops = omega (arith, length-dealt_from (place_of cut) 0 [] (added ops), length-added ops)
 
-length-filter_le : {X : Type 0} (p : X → Bool) (xs : List X) → length (filter p xs) ≤ length xs
-length-filter_le p [] = omega arith
-length-filter_le p (x ∷ xs) = elim (p x) as (λ b. length (cond b (x ∷ filter p xs) (filter p xs)) ≤ length (x ∷ xs)) [ true ↦ omega (arith, length-filter_le p xs) | false ↦ omega (arith, length-filter_le p xs) ]
-
 length-fresh_from : (schema : List Field) (ops : List (Stamped Op)) (id : ℕ) (gs : List (List (Stamped DocumentValue))) → length (fresh_from schema ops id gs) ≡ length gs
 length-fresh_from schema ops id [] = refl
 length-fresh_from schema ops id (g ∷ gs) = omega (arith, length-fresh_from schema ops (id + 1) gs)
@@ -74,7 +70,8 @@ length-committed cut schema ops id es =
     let new = fresh_from schema ops id (groups_of cut (added ops)) in
     omega (
       arith,
-      length-filter_le has_live (all_after cut schema ops id es),
+      length-filter has_live (all_after cut schema ops id es),
+      count_by-le-length has_live (all_after cut schema ops id es),
       length-append (map (struck ops) es) new,
       length-map es (struck ops),
       length-fresh_from schema ops id (groups_of cut (added ops)),
@@ -156,7 +153,7 @@ merge_counted more ids s fine enough =
     let m = merged_of (entries_at s.entries ids) in
     let one = ended s.next_id m s.entries ∷ [] in
     let named = ap (λ ns. length (without s.entries ns)) (ids_named s.entries ids given.there) in
-    omega (arith, fewer, enough, named, length-filter_le has_live one, length-append (without s.entries m.ids) (filter has_live one))
+    omega (arith, fewer, enough, named, length-filter has_live one, count_by-le-length has_live one, length-append (without s.entries m.ids) (filter has_live one))
 
 abbrev id_of : EntryValue → ℕ
 id_of e = e.id

@@ -9,6 +9,7 @@ use Rattle.std.proofs.lemmas.List.Elements.{recursion_from_All, All-append, All-
 use Rattle.std.proofs.lemmas.List.Sorted.{IsPermutation-refl, IsPermutation-trans, IsPermutation-cons, IsPermutation-middle, IsPermutation-append_left, IsPermutation-append_right, IsPermutation-append_comm}
 use Rattle.std.proofs.lemmas.Option.{get_or_from_slice_get}
 use Rattle.std.proofs.lemmas.Grind.{flat_map-append}
+use Rattle.std.proofs.lemmas.Simd.{map-map}
 use Rattle.fts_model.specs.declared.operation.Stamped.{Stamped}
 use Rattle.fts_model.specs.Documents.{DocumentValue}
 use Rattle.fts_model.specs.Operations.{StampsRise}
@@ -21,7 +22,7 @@ use Rattle.fts_snapshots.specs.MergedSegments.{MergedSegmentValue, IsMergedSegme
 use Rattle.fts_snapshots.specs.Snapshots.{SnapshotValue, IsSnapshot}
 use Rattle.fts_snapshots.specs.Successors.{is_set, Fits}
 use Rattle.fts_snapshots.specs.LateMerges.{is_live_at, ended, after_end}
-use Rattle.fts_snapshots.proofs.OrderLemmas.{rises_from_pairs, pairs_from_rises, rises_filtered, rises_joined, in_stamp_order-permutation}
+use Rattle.fts_snapshots.proofs.OrderLemmas.{rises_from_pairs, pairs_from_rises, rises_filtered, rises_joined, in_stamp_order-permutation, All-weaker_by}
 use Rattle.fts_snapshots.proofs.EntryLemmas.{live_in-filter}
 use Rattle.fts_snapshots.proofs.CommitLemmas.{by_stamp}
 use Rattle.fts_snapshots.proofs.MergeLemmas.{ById}
@@ -163,10 +164,6 @@ bits_elsewhere : (o : ℕ × ℕ) (es : List EntryValue) (os : List (ℕ × ℕ)
 bits_elsewhere o es [] a = refl
 bits_elsewhere o es (p ∷ os) a = ap (λ b. b ∷ bits_now (map (cleared o) es) os) (live_elsewhere o es p a.0) ∙ ap (λ bs. is_live_at es p.0 p.1 ∷ bs) (bits_elsewhere o es os a.1)
 
-pub map_twice : {X Y Z : Type 0} (f : Y → Z) (g : X → Y) (xs : List X) → map f (map g xs) ≡ map (λ x. f (g x)) xs
-map_twice f g [] = refl
-map_twice f g (x ∷ xs) = ap (λ ys. f (g x) ∷ ys) (map_twice f g xs)
-
 map_same : {X : Type 0} (xs : List X) → map (λ x. x) xs ≡ xs
 map_same [] = refl
 map_same (x ∷ xs) = ap (λ ys. x ∷ ys) (map_same xs)
@@ -190,7 +187,7 @@ taken_out (d ∷ ds) (o ∷ os) es l r a g =
     let right : AreRight fs ds os = λ k p h live. doc_stays o es p.0 p.1 ∙ g (suc k) p h (sym (live_elsewhere o es p (away o os k p a.0 h)) ∙ live) in
     let rest = taken_out ds os fs (omega (arith, l)) (ids_cleared o es r) a.1 right in
     let end = flat_map live_in (map (cleared_by (o ∷ os)) es) in
-    let joined = subst (λ gs. IsPermutation (flat_map live_in fs) (where_set ds (bits_now fs os) ++ flat_map live_in gs)) (map_twice (cleared_by os) (cleared o) es) rest in
+    let joined = subst (λ gs. IsPermutation (flat_map live_in fs) (where_set ds (bits_now fs os) ++ flat_map live_in gs)) (map-map (cleared_by os) (cleared o) es) rest in
     let behind = subst (λ bs. IsPermutation (flat_map live_in fs) (where_set ds bs ++ end)) (bits_elsewhere o es os a.0) joined in
     elim (is_live_at es o.0 o.1) as (λ b. is_live_at es o.0 o.1 ≡ b → IsPermutation (flat_map live_in es) (cond b (d ∷ where_set ds (bits_now es os)) (where_set ds (bits_now es os)) ++ end)) [
       | true ↦ λ h. IsPermutation-trans (flat_map live_in es) (d ∷ flat_map live_in fs) (d ∷ (where_set ds (bits_now es os) ++ end))
@@ -299,10 +296,6 @@ all_got P [] k x a h = cc
 all_got P (y ∷ xs) zero x a h = let same : y ≡ x = cc in subst P same a.0
 all_got P (y ∷ xs) (suc k) x a h = all_got P xs k x a.1 h
 
-all_weaker : {X : Type 0} (P Q : X → Type 0) → ((x : X) → P x → Q x) → (xs : List X) → AllByRecursion P xs → AllByRecursion Q xs
-all_weaker P Q f [] a = tt
-all_weaker P Q f (x ∷ xs) a = (f x a.0, all_weaker P Q f xs a.1)
-
 -- a number among others has a place
 pub place_in : (ids : List ℕ) (id : ℕ) → Contains ids id → (k : ℕ) × (slice_get ids k ≡ Some id)
 place_in [] id c = absurd (Contains-none id c)
@@ -339,14 +332,14 @@ once_named ids (o ∷ os) d n p = (apart os n.1 (recursion_from_All (λ q. o ≢
 -- the sources of the origins
 pub sources_named : (m : MergedSegmentValue) → IsMergedSegment m → AllByRecursion (λ (o : Origin). o.source < length m.ids) m.merged.origins
 sources_named m w =
-    all_weaker (λ (o : Origin). o.source < m.merged.sources) (λ o. o.source < length m.ids) (λ o h. omega (arith, h, w.sources)) m.merged.origins
+    All-weaker_by (λ (o : Origin). o.source < m.merged.sources) (λ o. o.source < length m.ids) (λ o h. omega (arith, h, w.sources)) m.merged.origins
     (recursion_from_All (λ (o : Origin). o.source < m.merged.sources) m.merged.origins w.merged.named)
 
 origins_named : (m : MergedSegmentValue) → IsMergedSegment m → (k : ℕ) (o : ℕ × ℕ) → slice_get (origins_of m) k ≡ Some o → Contains m.ids o.0
 origins_named m w k o h =
     all_got (λ (p : ℕ × ℕ). Contains m.ids p.0) (origins_of m) k o
     (all_mapped (λ (p : ℕ × ℕ). Contains m.ids p.0) (named_by m.ids) m.merged.origins
-    (all_weaker (λ (o : Origin). o.source < length m.ids) (λ o. Contains m.ids (get_or m.ids o.source 0)) (λ o l. contains_index m.ids o.source l) m.merged.origins (sources_named m w)))
+    (All-weaker_by (λ (o : Origin). o.source < length m.ids) (λ o. Contains m.ids (get_or m.ids o.source 0)) (λ o l. contains_index m.ids o.source l) m.merged.origins (sources_named m w)))
     h
 
 -- each live document of a source has an origin, at whose place it stands

@@ -3,8 +3,12 @@ use Rattle.std.proofs.Common.{◌≡◌, ◌<◌, ◌≤◌, ◌+◌, ◌==◌, 
 use Rattle.std.specs.List.{list_any}
 use Rattle.std.specs.Option.{is_some, option_map}
 use Rattle.std.proofs.lemmas.Bool.Decides.{nat_tests}
-use Rattle.std.proofs.lemmas.List.{append-nil, map-append}
+use Rattle.std.proofs.lemmas.List.{append-nil, map-append, get_or-map, drop_all}
 use Rattle.std.proofs.lemmas.List.Folds.{list_any-append}
+use Rattle.std.proofs.lemmas.Simd.{map-map}
+use Rattle.std.proofs.Math.Bool.{or-true, or-false, not-not}
+use Rattle.std.proofs.Math.Seq.{take-length}
+use Rattle.std.proofs.lemmas.Option.{slice_get-get_or}
 use Rattle.fts_model.specs.declared.operation.Stamped.{Stamped}
 use Rattle.fts_model.specs.Documents.{DocumentValue}
 use Rattle.fts_base.specs.Results.{ok_unless}
@@ -16,7 +20,7 @@ use Rattle.fts_snapshots.specs.MergedSegments.{MergedSegmentValue, IsMergedSegme
 use Rattle.fts_snapshots.specs.LateMerges.{is_live_at}
 use Rattle.fts_snapshots.specs.Lookups.{place_in, is_live_there}
 use Rattle.fts_snapshots.proofs.LookupLemmas.{there_by_place, live_by_place}
-use Rattle.fts_snapshots.proofs.EndLemmas.{got_mapped, all_got, sources_named, named_by, map_twice}
+use Rattle.fts_snapshots.proofs.EndLemmas.{got_mapped, all_got, sources_named, named_by}
 
 -- the bits of the first members of a list by a test, and behind them bits that are clear
 abbrev pub marked : {X : Type 0} → (X → Bool) → List X → ℕ → List Bool
@@ -64,12 +68,7 @@ abbrev pub bit_of : List EntryValue → List ℕ → Origin → Bool
 bit_of es ids origin = is_live_at es (get_or ids origin.source 0) origin.document
 
 pub bits_mapped : (es : List EntryValue) (m : MergedSegmentValue) → map (bit_of es m.ids) m.merged.origins ≡ map (λ o. is_live_at es o.0 o.1) (origins_of m)
-bits_mapped es m = sym (map_twice (λ (o : ℕ × ℕ). is_live_at es o.0 o.1) (named_by m.ids) m.merged.origins)
-
-get_or-mapped : {X Y : Type 0} (f : X → Y) (xs : List X) (i : ℕ) (d : X) (e : Y) → i < length xs → get_or (map f xs) i e ≡ f (get_or xs i d)
-get_or-mapped f [] i d e l = absurd (omega (arith, l))
-get_or-mapped f (x ∷ xs) zero d e l = refl
-get_or-mapped f (x ∷ xs) (suc i) d e l = get_or-mapped f xs i d e (omega (arith, l))
+bits_mapped es m = sym (map-map (λ (o : ℕ × ℕ). is_live_at es o.0 o.1) (named_by m.ids) m.merged.origins)
 
 pub bit_by_place : (es : List EntryValue) (ids : List ℕ) (o : Origin) (p : Option ℕ) → p ≡ place_in es (get_or ids o.source 0) → is_live_there es p o.document ≡ bit_of es ids o
 bit_by_place es ids o p h = ap (λ q. is_live_there es q o.document) h ∙ live_by_place es (get_or ids o.source 0) o.document
@@ -108,16 +107,9 @@ stamps_skipped ds bits i d h k = stamps_next ds bits i d false h k ∙ append-ni
 pub added_key : (stamp q : ℕ) (old : Bool) → cond (stamp == q) true old ≡ (old || ((q == stamp) || false))
 added_key stamp q old =
     elim (stamp == q) as (λ b. (stamp == q) ≡ b → cond b true old ≡ (old || ((q == stamp) || false))) [
-      | true ↦ λ t. let same : (q == stamp) ≡ true = grind (arith, nat_tests, t) in sym (ap (λ b. old || (b || false)) same ∙ or_true old)
-      | false ↦ λ t. let other : (q == stamp) ≡ false = grind (arith, nat_tests, t) in sym (ap (λ b. old || (b || false)) other ∙ or_false old)
-    ] refl where
-      or_true : (b : Bool) → (b || true) ≡ true
-      or_true true = refl
-      or_true false = refl
-
-      or_false : (b : Bool) → (b || false) ≡ b
-      or_false true = refl
-      or_false false = refl
+      | true ↦ λ t. let same : (q == stamp) ≡ true = grind (arith, nat_tests, t) in sym (ap (λ b. old || (b || false)) same ∙ or-true old)
+      | false ↦ λ t. let other : (q == stamp) ≡ false = grind (arith, nat_tests, t) in sym (ap (λ b. old || (b || false)) other ∙ or-false old)
+    ] refl
 
 pub stamps_added : (ds : List (Stamped DocumentValue)) (bits : List Bool) (i : ℕ) (d : Stamped DocumentValue) (stamp q : ℕ) (old new : Bool) → slice_get ds i ≡ Some d → slice_get bits i ≡ Some true → stamp ≡ d.stamp →
     new ≡ cond (stamp == q) true old → old ≡ is_among (stamps_to ds bits i) q → new ≡ is_among (stamps_to ds bits (i + 1)) q
@@ -135,15 +127,11 @@ pub gone_bit : (es : List EntryValue) (m : MergedSegmentValue) (i : ℕ) (o : Or
 gone_bit es m i o b h e =
     got_mapped (λ (p : ℕ × ℕ). not (is_there es p.0)) (origins_of m) i (named_by m.ids o) (got_mapped (named_by m.ids) m.merged.origins i o h) ∙ ap (λ c. Some c) (sym e)
 
-take_whole : {X : Type 0} (xs : List X) → take (length xs) xs ≡ xs
-take_whole [] = refl
-take_whole (x ∷ xs) = ap (λ ys. x ∷ ys) (take_whole xs)
-
 pub stamps_all : (ds : List (Stamped DocumentValue)) (bits : List Bool) (i : ℕ) → i ≡ length ds → length bits ≡ length ds → stamps_to ds bits i ≡ map (λ d. d.stamp) (where_set ds bits)
 stamps_all ds bits i e l =
-    ap (λ n. stamps_to ds bits n) e ∙ ap (λ xs. map (λ (d : Stamped DocumentValue). d.stamp) (where_set xs (take (length ds) bits))) (take_whole ds)
+    ap (λ n. stamps_to ds bits n) e ∙ ap (λ xs. map (λ (d : Stamped DocumentValue). d.stamp) (where_set xs (take (length ds) bits))) (take-length ds)
     ∙ ap (λ n. map (λ (d : Stamped DocumentValue). d.stamp) (where_set ds (take n bits))) (sym l)
-    ∙ ap (λ bs. map (λ (d : Stamped DocumentValue). d.stamp) (where_set ds bs)) (take_whole bits)
+    ∙ ap (λ bs. map (λ (d : Stamped DocumentValue). d.stamp) (where_set ds bs)) (take-length bits)
 
 -- a test of the live documents from a place on
 abbrev pub any_from : (Stamped DocumentValue → Bool) → List (Stamped DocumentValue) → List Bool → ℕ → Bool
@@ -172,23 +160,12 @@ pub any_next : (P : Stamped DocumentValue → Bool) (ds : List (Stamped Document
 any_next P ds bits i d true h k p = sym (any_step P ds bits i d true h k ∙ ap (λ b. b || any_from P ds bits (i + 1)) p)
 any_next P ds bits i d false h k p = sym (any_step P ds bits i d false h k)
 
-dropped_all : {X : Type 0} (xs : List X) (i : ℕ) → length xs ≤ i → drop i xs ≡ []
-dropped_all [] zero l = refl
-dropped_all [] (suc i) l = refl
-dropped_all (x ∷ xs) zero l = absurd (omega (arith, l))
-dropped_all (x ∷ xs) (suc i) l = dropped_all xs i (omega (arith, l))
-
 pub any_end : (P : Stamped DocumentValue → Bool) (ds : List (Stamped DocumentValue)) (bits : List Bool) (i : ℕ) → length ds ≤ i → any_from P ds bits i ≡ false
-any_end P ds bits i l = ap (λ xs. list_any P (where_set xs (drop i bits))) (dropped_all ds i l)
+any_end P ds bits i l = ap (λ xs. list_any P (where_set xs (drop i bits))) (drop_all i ds l)
 
 -- an origin of no place, which a list gives past its end
 abbrev pub no_origin : Origin
 no_origin = record { source = 0; document = 0 }
-
-got_within : {X : Type 0} (xs : List X) (i : ℕ) (d : X) → i < length xs → slice_get xs i ≡ Some (get_or xs i d)
-got_within [] i d l = absurd (omega (arith, l))
-got_within (x ∷ xs) zero d l = refl
-got_within (x ∷ xs) (suc i) d l = got_within xs i d (omega (arith, l))
 
 -- the origin at a place, and the place of its source
 pub record IsOriginAt (es : List EntryValue) (m : MergedSegmentValue) (i : ℕ) (o : Origin) (p : Option ℕ) : Type 0 where
@@ -198,22 +175,18 @@ pub record IsOriginAt (es : List EntryValue) (m : MergedSegmentValue) (i : ℕ) 
 pub origin_at : (es : List EntryValue) (m : MergedSegmentValue) (places : List (Option ℕ)) (i : ℕ) (o : Origin) (p : Option ℕ) → IsMergedSegment m → places ≡ map (place_in es) m.ids →
     i < length m.merged.origins → o ≡ get_or m.merged.origins i no_origin → p ≡ get_or places o.source None → IsOriginAt es m i o p
 origin_at es m places i o p w are l h k =
-    let is = got_within m.merged.origins i no_origin l ∙ ap (λ q. Some q) (sym h) in
+    let is = slice_get-get_or m.merged.origins i no_origin l ∙ ap (λ q. Some q) (sym h) in
     let within = all_got (λ (q : Origin). q.source < length m.ids) m.merged.origins i o (sources_named m w) is in
-    record { is = is; place = k ∙ ap (λ ps. get_or ps o.source None) are ∙ get_or-mapped (place_in es) m.ids o.source 0 None within }
+    record { is = is; place = k ∙ ap (λ ps. get_or ps o.source None) are ∙ get_or-map (place_in es) m.ids o.source 0 None within }
 
 pub bits_step : (es : List EntryValue) (m : MergedSegmentValue) (i : ℕ) (o : Origin) (p : Option ℕ) (live : List Bool) (b : Bool) → IsOriginAt es m i o p → b ≡ is_live_there es p o.document →
     live ≡ marked (bit_of es m.ids) m.merged.origins i → cond b (set live i true) live ≡ marked (bit_of es m.ids) m.merged.origins (i + 1)
 bits_step es m i o p live b at h e =
     ap (λ bits. cond b (set bits i true) bits) e ∙ marked-more (bit_of es m.ids) m.merged.origins i o b at.is (h ∙ bit_by_place es m.ids o p at.place)
 
-not_not : (b : Bool) → not (not b) ≡ b
-not_not true = refl
-not_not false = refl
-
 pub gone_step : (es : List EntryValue) (m : MergedSegmentValue) (i : ℕ) (o : Origin) (p : Option ℕ) (b : Bool) → IsOriginAt es m i o p → is_some p ≡ not b → slice_get (gone_bits es m) i ≡ Some b
 gone_step es m i o p b at h =
-    gone_bit es m i o b at.is (sym (not_not b) ∙ ap not (sym h ∙ ap is_some at.place ∙ there_by_place es (get_or m.ids o.source 0)))
+    gone_bit es m i o b at.is (sym (not-not b) ∙ ap not (sym h ∙ ap is_some at.place ∙ there_by_place es (get_or m.ids o.source 0)))
 
 -- the stamp that was read is that of the document at this place
 pub stamp_at : (ds : List (Stamped DocumentValue)) (i stamp : ℕ) → option_map (λ d. d.stamp) (slice_get ds i) ≡ Some stamp → (d : Stamped DocumentValue) × (slice_get ds i ≡ Some d) × (stamp ≡ d.stamp)

@@ -1,10 +1,11 @@
 -- What segments contain after operations, and that segments without a live document contain nothing.
-use Rattle.std.proofs.Common.{◌≡◌, ◌<◌, ◌≤◌, ◌+◌, ◌&&◌, ℕ, suc, Bool, true, false, cond, nat_lt, List, [], ◌∷◌, ◌++◌, length, get_or, take, map, filter, count_by, replicate, refl, sym, ap, ◌∙◌, append_assoc, arith}
+use Rattle.std.proofs.Common.{◌≡◌, ◌<◌, ◌≤◌, ◌+◌, ℕ, Bool, true, false, cond, nat_lt, List, [], ◌∷◌, ◌++◌, length, get_or, take, map, filter, count_by, replicate, refl, sym, ap, ◌∙◌, arith}
 use Rattle.std.specs.List.{flat_map, list_any, AllByRecursion}
 use Rattle.std.proofs.lemmas.Bool.Decides.{nat_tests}
-use Rattle.std.proofs.lemmas.List.{append-nil, take_more, length-map, length-append, length-take-le}
+use Rattle.std.proofs.lemmas.List.{length-map, length-append, length-take-le}
 use Rattle.std.proofs.lemmas.List.Sums.{sum_by-cons}
 use Rattle.std.proofs.lemmas.List.Elements.{filter-append}
+use Rattle.std.proofs.Math.Bool.{and-true}
 use Rattle.fts_model.specs.declared.schema.Field.{Field}
 use Rattle.fts_model.specs.declared.operation.Op.{Op}
 use Rattle.fts_model.specs.declared.operation.Op.TheVariants.{Add, Delete, DeleteAll}
@@ -16,27 +17,13 @@ use Rattle.fts_merge.specs.Strikes.{bits_where}
 use Rattle.fts_segment.specs.Segments.{SegmentValue}
 use Rattle.fts_snapshots.specs.Entries.{EntryValue, IsEntry, live_in, has_live}
 use Rattle.fts_snapshots.specs.Commits.{struck, fresh, fresh_from}
+use Rattle.fts_merge.proofs.BitsLemmas.{where_set-bits_where, length-bits_where}
+use Rattle.fts_model.proofs.OperationsByStamps.{added-push}
+use Rattle.fts_model.proofs.Lists.{taken}
 
 -- the members of groups, one group after the other
 abbrev pub joined : {X : Type 0} → List (List X) → List X
 joined groups = flat_map (λ group. group) groups
-
-kept_and_left : {X : Type 0} (b c : Bool) (x : X) (xs : List X) → cond (b && c) (x ∷ xs) xs ≡ cond b (cond c (x ∷ xs) xs) xs
-kept_and_left true c x xs = refl
-kept_and_left false c x xs = refl
-
-chosen_later : {X : Type 0} (b : Bool) (p : X → Bool) (x : X) (xs : List X) → cond b (cond (p x) (x ∷ filter p xs) (filter p xs)) (filter p xs) ≡ filter p (cond b (x ∷ xs) xs)
-chosen_later true p x xs = refl
-chosen_later false p x xs = refl
-
--- where the bits of those are left that pass a test, they are set of those that were and pass
-pub where_set-bits_where : {X : Type 0} (p : X → Bool) (xs : List X) (bits : List Bool) → where_set xs (bits_where p xs bits) ≡ filter p (where_set xs bits)
-where_set-bits_where p [] bits = refl
-where_set-bits_where p (x ∷ xs) [] = refl
-where_set-bits_where p (x ∷ xs) (bit ∷ bits) =
-    ap (λ ys. cond (bit && p x) (x ∷ ys) ys) (where_set-bits_where p xs bits)
-    ∙ kept_and_left bit (p x) x (filter p (where_set xs bits))
-    ∙ chosen_later bit p x (where_set xs bits)
 
 pub where_set-map : {X : Type 0} (p : X → Bool) (xs : List X) → where_set xs (map p xs) ≡ filter p xs
 where_set-map p [] = refl
@@ -52,21 +39,7 @@ pub bits_where-all : {X : Type 0} (xs : List X) (bits : List Bool) → length bi
 bits_where-all [] [] e = refl
 bits_where-all [] (bit ∷ bits) e = absurd (omega (arith, e))
 bits_where-all (x ∷ xs) [] e = refl
-bits_where-all (x ∷ xs) (bit ∷ bits) e = ap (λ b. b ∷ bits_where (λ x. true) xs bits) (and_true bit) ∙ ap (λ bs. bit ∷ bs) (bits_where-all xs bits (omega (arith, e))) where
-  and_true : (b : Bool) → (b && true) ≡ b
-  and_true true = refl
-  and_true false = refl
-
-pub bits_where-agree : {X : Type 0} (p q : X → Bool) → ((x : X) → p x ≡ q x) → (xs : List X) (bits : List Bool) → bits_where p xs bits ≡ bits_where q xs bits
-bits_where-agree p q same [] bits = refl
-bits_where-agree p q same (x ∷ xs) [] = refl
-bits_where-agree p q same (x ∷ xs) (bit ∷ bits) =
-    ap (λ b. (bit && b) ∷ bits_where p xs bits) (same x) ∙ ap (λ bs. (bit && q x) ∷ bs) (bits_where-agree p q same xs bits)
-
-pub length-bits_where : {X : Type 0} (p : X → Bool) (xs : List X) (bits : List Bool) → length bits ≡ length xs → length (bits_where p xs bits) ≡ length xs
-length-bits_where p [] bits e = refl
-length-bits_where p (x ∷ xs) [] e = absurd (omega (arith, e))
-length-bits_where p (x ∷ xs) (bit ∷ bits) e = ap suc (length-bits_where p xs bits (omega (arith, e)))
+bits_where-all (x ∷ xs) (bit ∷ bits) e = ap (λ b. b ∷ bits_where (λ x. true) xs bits) (and-true bit) ∙ ap (λ bs. bit ∷ bs) (bits_where-all xs bits (omega (arith, e)))
 
 -- whether some bit is set
 pub some_counted : (bits : List Bool) → nat_lt 0 (count_by (λ bit. bit) bits) ≡ list_any (λ bit. bit) bits
@@ -134,10 +107,6 @@ fresh_from-push schema ops id [] g = ap (λ n. fresh schema ops n g ∷ []) (ome
 fresh_from-push schema ops id (h ∷ gs) g =
     ap (λ es. fresh schema ops id h ∷ es) (fresh_from-push schema ops (id + 1) gs g ∙ ap (λ n. fresh_from schema ops (id + 1) gs ++ fresh schema ops n g ∷ []) (omega arith))
 
--- the member behind the first ones
-pub taken : {X : Type 0} (xs : List X) (i : ℕ) (x : X) → i < length xs → x ≡ get_or xs i x → take (i + 1) xs ≡ take i xs ++ x ∷ []
-taken xs i x l e = take_more xs i x l ∙ ap (λ y. take i xs ++ y ∷ []) (sym e)
-
 -- one new segment more
 pub fresh_more : (schema : List Field) (ops : List (Stamped Op)) (id i : ℕ) (gs : List (List (Stamped DocumentValue))) (g : List (Stamped DocumentValue)) → i < length gs → g ≡ get_or gs i g →
     fresh_from schema ops id (take i gs) ++ fresh schema ops (id + i) g ∷ [] ≡ fresh_from schema ops id (take (i + 1) gs)
@@ -147,12 +116,6 @@ fresh_more schema ops id i gs g l e =
     ∙ ap (fresh_from schema ops id) (sym (taken gs i g l e)) where
       length-take-le' : {X : Type 0} (i : ℕ) (xs : List X) → i < length xs → length (take i xs) ≡ i
       length-take-le' i xs l = omega (arith, length-take-le i xs)
-
-added-push : (ops : List (Stamped Op)) (op : Stamped Op) → added (ops ++ op ∷ []) ≡ added ops ++ added_by op.stamp op.value
-added-push [] op = append-nil (added_by op.stamp op.value)
-added-push (o ∷ ops) op =
-    ap (λ ds. added_by o.stamp o.value ++ ds) (added-push ops op)
-    ∙ sym (append_assoc (added_by o.stamp o.value) (added ops) (added_by op.stamp op.value))
 
 -- what one operation more adds
 pub added_more : (ops : List (Stamped Op)) (i : ℕ) (op : Stamped Op) → i < length ops → op ≡ get_or ops i op → added (take i ops) ++ added_by op.stamp op.value ≡ added (take (i + 1) ops)
@@ -167,9 +130,3 @@ length-added_by stamp DeleteAll = omega arith
 pub length-added : (ops : List (Stamped Op)) → length (added ops) ≤ length ops
 length-added [] = omega arith
 length-added (op ∷ ops) = omega (arith, length-append (added_by op.stamp op.value) (added ops), length-added_by op.stamp op.value, length-added ops)
-
--- no more bits are set than there are
-pub count-le-length : (bits : List Bool) → count_by (λ bit. bit) bits ≤ length bits
-count-le-length [] = omega arith
-count-le-length (true ∷ bits) = omega (arith, count-le-length bits, sum_by-cons (λ (bit : Bool). cond bit 1 0) true bits)
-count-le-length (false ∷ bits) = omega (arith, count-le-length bits, sum_by-cons (λ (bit : Bool). cond bit 1 0) false bits)

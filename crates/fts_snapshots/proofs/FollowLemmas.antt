@@ -1,6 +1,7 @@
 -- Following is transitive, what fits a snapshot fits each that follows it, and commits and merges are followed.
-use Rattle.std.proofs.Common.{◌≡◌, ◌<◌, ◌≤◌, ◌&&◌, inl, inr, ℕ, zero, suc, Bool, true, false, not, Some, List, [], ◌∷◌, ◌++◌, map, filter, slice_get, subst, refl, sym, ap, ◌∙◌, arith, Contains}
+use Rattle.std.proofs.Common.{◌≡◌, ◌<◌, ◌≤◌, inl, inr, ℕ, zero, suc, Bool, true, not, Some, List, [], ◌∷◌, ◌++◌, map, filter, slice_get, subst, refl, sym, ap, ◌∙◌, arith, Contains}
 use Rattle.std.proofs.lemmas.List.Elements.{All-contains, All-from_recursion, Contains-append_cases}
+use Rattle.std.proofs.lemmas.Bool.{and_parts}
 use Rattle.fts_model.specs.declared.operation.Op.{Op}
 use Rattle.fts_model.specs.declared.operation.Stamped.{Stamped}
 use Rattle.fts_model.specs.Operations.{added, survives}
@@ -33,7 +34,7 @@ follows_further a b c f g = record {
 }
 
 -- a member stands at a place
-pub contains_at : (xs : List ℕ) (k x : ℕ) → slice_get xs k ≡ Some x → Contains xs x
+pub contains_at : {X : Type 0} (xs : List X) (k : ℕ) (x : X) → slice_get xs k ≡ Some x → Contains xs x
 contains_at [] k x h = cc
 contains_at (y ∷ xs) zero x h = Contains-first y xs x cc
 contains_at (y ∷ xs) (suc k) x h = Contains-behind y xs x (contains_at xs k x h)
@@ -57,14 +58,10 @@ contains_mapped {X} f (x ∷ xs) y c =
     elim (Contains-cases (f x) (map f xs) y c) as (λ _. (z : X) × Contains (x ∷ xs) z × (f z ≡ y))
     [ inl e ↦ (x, Contains-first x xs x refl, e) | inr k ↦ let rest = contains_mapped f xs y k in (rest.0, Contains-behind x xs rest.0 rest.1, rest.2) ]
 
-both_true : (a b : Bool) → (a && b) ≡ true → a ≡ true
-both_true true b h = refl
-both_true false b h = h
-
 set_before : {X : Type 0} (p : X → Bool) (xs : List X) (bits : List Bool) (n : ℕ) → is_set (bits_where p xs bits) n ≡ true → is_set bits n ≡ true
 set_before p [] bits n h = cc
 set_before p (x ∷ xs) [] n h = cc
-set_before p (x ∷ xs) (bit ∷ bits) zero h = both_true bit (p x) h
+set_before p (x ∷ xs) (bit ∷ bits) zero h = (and_parts bit (p x) h).0
 set_before p (x ∷ xs) (bit ∷ bits) (suc n) h = set_before p xs bits n h
 
 later_struck : (ops : List (Stamped Op)) (e : EntryValue) → IsLater e (struck ops e)

@@ -1,5 +1,5 @@
 -- The numbers of segments that can be merged.
-use Rattle.std.proofs.Common.{◌≡◌, ◌≢◌, ◌||◌, ◌==◌, ℕ, Bool, true, false, cond, not, Some, None, List, [], ◌∷◌, ◌++◌, refl, sym, ap, ◌∙◌, arith}
+use Rattle.std.proofs.Common.{◌≡◌, ◌≢◌, ◌||◌, ◌==◌, ℕ, true, false, cond, Some, None, List, [], ◌∷◌, ◌++◌, refl, ap, ◌∙◌, arith}
 use Rattle.std.specs.List.{AllByRecursion}
 use Rattle.std.proofs.lemmas.Bool.Decides.{nat_tests}
 use Rattle.fts_base.specs.declared.refusal.Refusal.TheVariants.{UnknownSegment, SegmentTwice}
@@ -69,7 +69,3 @@ pub fault_later : (es : List EntryValue) (before ids : List ℕ) (id : ℕ) → 
 fault_later es before ids id h k =
     ap (λ b. cond b (cond (is_among before id) (Some (SegmentTwice id)) (fault_behind es (before ++ id ∷ []) ids)) (Some (UnknownSegment id))) h
     ∙ ap (λ b. cond b (Some (SegmentTwice id)) (fault_behind es (before ++ id ∷ []) ids)) k
-
-pub opposite : (old new : Bool) → new ≡ not old → old ≡ not new
-opposite true new h = ap not (sym h)
-opposite false new h = ap not (sym h)

@@ -1,5 +1,5 @@
 -- Indexes of segments, and their numbers.
-use Rattle.std.proofs.Common.{◌≡◌, ◌<◌, ℕ, zero, suc, List, [], ◌∷◌, ◌++◌, length, get_or, map, All, refl, sym, ap, arith}
+use Rattle.std.proofs.Common.{◌≡◌, ◌<◌, ℕ, zero, suc, List, [], ◌∷◌, ◌++◌, length, get_or, map, All, sym, ap, arith}
 use Rattle.std.specs.List.{flat_map, AllByRecursion}
 use Rattle.std.proofs.lemmas.List.Elements.{All-from_recursion, recursion_from_All}
 use Rattle.fts_snapshots.specs.Entries.{EntryValue}
@@ -24,8 +24,3 @@ each_within f n (v ∷ vs) a =
 -- indexes that are within as they stand in all lists are within in each
 pub within_lists : {V : Type 0} (f : V → List ℕ) (n : ℕ) (vs : List V) → All (λ i. i < n) (flat_map (λ c. c) (map f vs)) → All (λ v. All (λ i. i < n) (f v)) vs
 within_lists f n vs a = All-from_recursion (λ v. All (λ i. i < n) (f v)) vs (each_within f n vs (recursion_from_All (λ i. i < n) (flat_map (λ c. c) (map f vs)) a))
-
--- the same function of two views
-pub map-both : {V X Y : Type 0} (f : V → X) (g : X → Y) (vs : List V) → map (λ v. g (f v)) vs ≡ map g (map f vs)
-map-both f g [] = refl
-map-both f g (v ∷ vs) = ap (λ ys. g (f v) ∷ ys) (map-both f g vs)

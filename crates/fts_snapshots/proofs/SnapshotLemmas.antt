@@ -15,7 +15,7 @@ use Rattle.fts_snapshots.specs.Cuts.{IsCut, groups_of}
 use Rattle.fts_snapshots.specs.Commits.{struck, fresh, fresh_from, new_segments}
 use Rattle.fts_snapshots.specs.Merges.{is_there, entry_at, entries_at, names_fault}
 use Rattle.fts_snapshots.specs.Snapshots.{SnapshotValue, IsSnapshot, IsBehind, after_commit}
-use Rattle.fts_snapshots.proofs.OrderLemmas.{Rises, rises_from_pairs, pairs_from_rises, rises_filtered, rises_joined, All-weaker_by}
+use Rattle.fts_snapshots.proofs.OrderLemmas.{Rises, rises_from_pairs, pairs_from_rises, rises_filtered, rises_joined, All-weaker_by, All-joined}
 use Rattle.fts_snapshots.proofs.EntryLemmas.{entry_struck, entry_fresh}
 use Rattle.fts_snapshots.proofs.CutLemmas.{IsWithin, groups_within}
 use Rattle.fts_snapshots.proofs.CommitLemmas.{by_stamp, stamps_rise, content-committed}
@@ -85,13 +85,9 @@ all_at : (P : EntryValue → Type 0) (es : List EntryValue) (id : ℕ) → AllBy
 all_at P [] id a = tt
 all_at P (e ∷ es) id a = elim (e.id == id) as (λ b. AllByRecursion P (cond b (e ∷ []) (entry_at es id))) [ true ↦ (a.0, tt) | false ↦ all_at P es id a.1 ]
 
-all_joined : {X : Type 0} (P : X → Type 0) (xs ys : List X) → AllByRecursion P xs → AllByRecursion P ys → AllByRecursion P (xs ++ ys)
-all_joined P [] ys a b = b
-all_joined P (x ∷ xs) ys a b = (a.0, all_joined P xs ys a.1 b)
-
 pub all_entries_at : (P : EntryValue → Type 0) (es : List EntryValue) (ids : List ℕ) → AllByRecursion P es → AllByRecursion P (entries_at es ids)
 all_entries_at P es [] a = tt
-all_entries_at P es (id ∷ ids) a = all_joined P (entry_at es id) (entries_at es ids) (all_at P es id a) (all_entries_at P es ids a)
+all_entries_at P es (id ∷ ids) a = All-joined P (entry_at es id) (entries_at es ids) (all_at P es id a) (all_entries_at P es ids a)
 
 -- there is a segment of a number that one has
 pub some_at : (es : List EntryValue) (id : ℕ) → is_there es id ≡ true → 0 < length (entry_at es id)

@@ -15,10 +15,7 @@ use Rattle.fts_snapshots.specs.Stamps.{IsStamped, stamps_of}
 use Rattle.fts_snapshots.proofs.OrderLemmas.{Rises, All-weaker_by, All-joined}
 use Rattle.fts_snapshots.proofs.CommitLemmas.{by_stamp, stamps_rise}
 use Rattle.fts_snapshots.proofs.SnapshotLemmas.{all_adds, rise_behind}
-
-pub range_with_len-snoc : (first n : ℕ) → range_with_len first (suc n) ≡ range_with_len first n ++ (first + n) ∷ []
-range_with_len-snoc first zero = ap (λ (k : ℕ). k ∷ []) (omega arith)
-range_with_len-snoc first (suc n) = ap (λ (l : List ℕ). first ∷ l) (range_with_len-snoc (first + 1) n ∙ ap (λ (k : ℕ). range_with_len (first + 1) n ++ k ∷ []) (omega arith))
+use Rattle.fts_model.proofs.Lists.{range_with_len-push}
 
 pub stamps_of-push : (xs ys : List (Stamped Op)) (x : Stamped Op) → ys ≡ xs ++ x ∷ [] → stamps_of ys ≡ stamps_of xs ++ x.stamp ∷ []
 stamps_of-push xs ys x e = ap stamps_of e ∙ map-append (λ (s : Stamped Op). s.stamp) xs (x ∷ [])
@@ -31,7 +28,7 @@ numbered-push first ops op run at =
     stamps_of-push ops (ops ++ op ∷ []) op refl
     ∙ ap (λ (ns : List ℕ). ns ++ op.stamp ∷ []) run
     ∙ ap (λ (n : ℕ). range_with_len first (length ops) ++ n ∷ []) at
-    ∙ sym (range_with_len-snoc first (length ops))
+    ∙ sym (range_with_len-push first (length ops))
     ∙ ap (λ (n : ℕ). range_with_len first n) more
 
 -- numbers one after the other

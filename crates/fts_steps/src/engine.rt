@@ -9,6 +9,9 @@ ghost use Rattle.fts_model.specs.Queries.{query_fits, request_fits};
 use crate::options::Options;
 use fts_model::{Answer, Op, Query, Refusal, Request, Schema, Stamp};
 
+/// The most operations that are uncommitted.
+pub const MOST_UNCOMMITTED: usize = 1_000_000;
+
 /// What a script asks of an index without giving it anything to work with. [`EngineOver`] has the rest.
 pub trait Engine {
     ghost use Rattle.fts_steps.specs.Indexes.{Index, indexes};
@@ -20,6 +23,7 @@ pub trait Engine {
     /// A bound on what an engine counts: it rises by at most one in each call that may change the index.
     ghost changes: { Self → ℕ };
 
+    /// The schema of all documents.
     fn schema(&self) -> &Schema
         ensures { result.now ≡ (index self.now).schema };
 

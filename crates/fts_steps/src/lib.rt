@@ -10,7 +10,7 @@ mod fork;
 mod list_engine;
 mod options;
 
-pub use engine::{Engine, EngineOver};
+pub use engine::{Engine, EngineOver, MOST_UNCOMMITTED};
 pub use fork::Fork;
 pub use list_engine::ListEngine;
 pub use options::{Cut, Merge, Options};

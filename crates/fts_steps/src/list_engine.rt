@@ -5,15 +5,12 @@ ghost use Rattle.fts_model.specs.Operations.{added, added_by, adds, alive};
 ghost use Rattle.fts_base.specs.Results.{Gives};
 ghost use Rattle.fts_steps.specs.Operations.{is_add};
 
-use crate::engine::{Engine, EngineOver};
+use crate::engine::{Engine, EngineOver, MOST_UNCOMMITTED};
 use crate::options::Options;
 use fts_model::{
     Answer, Document, MOST_MERGED, Op, Query, Refusal, Request, Schema, Stamp, Stamped,
 };
 use std::alloc::{AllocError, Global};
-
-/// The most operations that are uncommitted.
-const MOST_UNCOMMITTED: usize = 1_000_000;
 
 /// The documents of the last commit and the operations since, both in the order of their stamps.
 #[derive(Drop)]

@@ -12,6 +12,7 @@ pub struct Options {
     pub workers: usize,
     /// How the documents of a commit are cut into segments.
     pub cut: Cut,
+    /// When segments are merged.
     pub merge: Merge,
     ghost a_worker: { 1 ≤ workers },
     ghost few_workers: { workers ≤ 64 },

@@ -1,23 +1,13 @@
 -- How far the characters of one class go.
 use Rattle.std.proofs.Common.{◌≡◌, ◌≤◌, ℕ, ◌+◌, Bool, true, false, not, cond, List, [], ◌∷◌, ◌++◌, length, drop, refl, sym, ap, subst, ◌∙◌, arith, length-append}
 use Rattle.std.proofs.Math.Seq.{drop-append-add}
-use Rattle.std.proofs.lemmas.Bool.{and_parts}
+use Rattle.std.proofs.lemmas.Bool.{and_parts, not-false, not-true}
 use Rattle.std.proofs.lemmas.Str.{chars-nil, chars-encodes, chars_past_char, encodes-chars, scalars-chars, length-encode, IsCharBoundary-from_drop}
 use lib.Utf8.{encodes, scalar, scalars}
 use Rattle.std.specs.Bool.{beq}
 use Rattle.std.specs.Char.{encode_utf8, len_utf8}
 use Rattle.std.specs.Str.{chars, IsUtf8, IsCharBoundary}
 use Rattle.fts_text.specs.Characters.{is_alphanumeric, front_len}
-
--- what isn't not so is so
-true_from_not : (b : Bool) → not b ≡ false → b ≡ true
-true_from_not true h = refl
-true_from_not false h = cc
-
--- what is not so isn't
-false_from_not : (b : Bool) → not b ≡ true → b ≡ false
-false_from_not true h = cc
-false_from_not false h = refl
 
 -- no characters are left
 pub front_len-empty : (a : Bool) (bs : List ℕ) → length bs ≡ 0 → front_len a (chars bs) ≡ 0
@@ -28,13 +18,13 @@ front_len-empty a (b ∷ bs) h = absurd (omega arith)
 pub front_len-more : (a : Bool) (bs rest : List ℕ) (c : ℕ) → IsUtf8 bs → bs ≡ encode_utf8 c ++ rest → not (beq (is_alphanumeric c) a) ≡ false → front_len a (chars bs) ≡ len_utf8 c + front_len a (chars rest)
 front_len-more a bs rest c text begins same =
     ap (front_len a) (chars_past_char bs rest c text begins)
-    ∙ ap (λ b. cond b (len_utf8 c + front_len a (chars rest)) 0) (true_from_not (beq (is_alphanumeric c) a) same)
+    ∙ ap (λ b. cond b (len_utf8 c + front_len a (chars rest)) 0) (not-false (beq (is_alphanumeric c) a) same)
 
 -- the next character is not
 pub front_len-stop : (a : Bool) (bs rest : List ℕ) (c : ℕ) → IsUtf8 bs → bs ≡ encode_utf8 c ++ rest → not (beq (is_alphanumeric c) a) ≡ true → front_len a (chars bs) ≡ 0
 front_len-stop a bs rest c text begins other =
     ap (front_len a) (chars_past_char bs rest c text begins)
-    ∙ ap (λ b. cond b (len_utf8 c + front_len a (chars rest)) 0) (false_from_not (beq (is_alphanumeric c) a) other)
+    ∙ ap (λ b. cond b (len_utf8 c + front_len a (chars rest)) 0) (not-true (beq (is_alphanumeric c) a) other)
 
 -- the characters at the front of the class, and those after them
 abbrev pub front : Bool → List ℕ → List ℕ

@@ -10,6 +10,8 @@ use Rattle.std.specs.Bool.{beq}
 use Rattle.std.specs.Char.{len_utf8}
 use Rattle.std.specs.List.{All, AllByRecursion, enumerate_from, slice_range, onto_first}
 use Rattle.std.specs.Str.{chars, IsUtf8, IsCharBoundary}
+use Rattle.std.proofs.lemmas.Simd.{map-map}
+use Rattle.std.proofs.lemmas.List.Sums.{length-filter, count_by-le-length}
 use lib.Utf8.{encodes, scalar, scalars}
 use Rattle.fts_text.specs.Characters.{is_alphanumeric, front_len, fold_chars, folded}
 use Rattle.fts_text.specs.Tokens.{Span, behind_spans, char_indices, chars_of, byte_len, following, spans, kept, tokens_from}
@@ -124,11 +126,6 @@ AllByRecursion-map P Q f (x ∷ xs) h all = (h x all.0, AllByRecursion-map P Q f
 map-same : {X Y : Type 0} (P : X → Type 0) (f g : X → Y) (xs : List X) → ((x : X) → P x → f x ≡ g x) → AllByRecursion P xs → map f xs ≡ map g xs
 map-same P f g [] h all = refl
 map-same P f g (x ∷ xs) h all = λ i. h x all.0 i ∷ map-same P f g xs h all.1 i
-
--- a map of a map is one
-map-map : {X Y Z : Type 0} (f : Y → Z) (g : X → Y) (xs : List X) → map f (map g xs) ≡ map (λ x. f (g x)) xs
-map-map f g [] = refl
-map-map f g (x ∷ xs) = ap (λ l. f (g x) ∷ l) (map-map f g xs)
 
 -- each span that is kept stands in its text
 Stands-kept : (first : ℕ) (cs : List ℕ) → AllByRecursion (Stands first 0 cs) (kept first (spans 0 cs))
@@ -267,13 +264,6 @@ length-spans at (c ∷ cs) =
       | false ↦ omega (arith, rest)
     ]
 
--- no more are kept than there are
-length-filter-le : {X : Type 0} (test : X → Bool) (xs : List X) → length (filter test xs) ≤ length xs
-length-filter-le test [] = omega arith
-length-filter-le test (x ∷ xs) =
-    let most = (length-cond (test x) x (filter test xs)).1 in
-    omega (arith, most, length-filter-le test xs)
-
 -- a text has no more tokens than bytes
 pub length-places : (first : ℕ) (text : List ℕ) → IsUtf8 text → length (places_from first text) ≤ length text
 unfolding places_from kept
@@ -284,7 +274,7 @@ length-places first text utf8 =
     let same = ap length (encodes-chars text utf8) in
     let of_spans = length-spans 0 (chars text) in
     let of_numbered = length-enumerate_from first (spans 0 (chars text)) in
-    let of_kept = length-filter-le short numbered in
+    let of_kept : length (filter short numbered) ≤ length numbered = omega (arith, length-filter short numbered, count_by-le-length short numbered) in
     let of_places = length-map (filter short numbered) place_of in
     omega arith
 

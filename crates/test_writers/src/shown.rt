@@ -4,6 +4,7 @@ use fts_model::{Document, FieldValue, Refusal};
 use std::alloc::{AllocError, Global};
 use std::fmt::Write;
 
+/// The text of a value, and no text where it is a list or a number.
 pub fn text_of(value: &FieldValue) -> &str {
     match value {
         FieldValue::Text(text) => text.as_str(),
@@ -11,6 +12,7 @@ pub fn text_of(value: &FieldValue) -> &str {
     }
 }
 
+/// The text of a document's second field, and no text where it has none.
 pub fn tag_of(document: &Document) -> &str {
     match document.value(1) {
         Some(tag) => text_of(tag),

@@ -1,4 +1,4 @@
-// Readers in threads beside a writer, and the places for them. The c-th commit adds one document, in a segment of
+// Readers in threads beside a writer, and how many there may be. The c-th commit adds one document, in a segment of
 // its own, and has stamp 2c.
 ghost use Rattle.std.specs.Prelude.{◌≡◌};
 
@@ -243,7 +243,7 @@ fn all_find<R: Threads + Wait + Sync + Abort>(
     );
 }
 
-// A reader that is dropped leaves its place to another.
+// A reader that is dropped makes room for another.
 #[test]
 fn there_are_64_places(rt: HostRuntime) {
     let mut writer = writer(&rt, rt.alloc()).expect(&rt, "a writer");

@@ -1,7 +1,7 @@
 // What the tests of several files begin with.
 ghost use Rattle.std.specs.Prelude.{◌≡◌};
 
-use fts_model::{Document, Field, Kind, Refusal, Schema, Text};
+use fts_model::{Document, Field, Kind, MOST_MERGED, Refusal, Schema, Text};
 use fts_segment::{Builder, Segment};
 use serde_json::Value;
 use std::alloc::{AllocError, Global};
@@ -55,7 +55,7 @@ pub(crate) fn add(
     ensures { builder.new.segment.schema ≡ schema.now }
 {
     let docs = builder.docs();
-    if !document.fits(schema) || docs >= 1_048_576 {
+    if !document.fits(schema) || docs >= MOST_MERGED {
         panic!(rt; "a document that can't be added");
     }
     if let Err(refusal) = builder.add(stamp, document) {

@@ -11,7 +11,7 @@ use Rattle.fts_model.specs.Answers.{count_one}
 use Rattle.fts_collect.specs.declared.tally.Tally.{Tally}
 use Rattle.fts_collect.specs.declared.tally.Tally.TheVariants.{Counts, Numbers}
 use Rattle.fts_bits.specs.Signed.{i64_of}
-use Rattle.fts_column.specs.Counting.{AreWithin}
+use Rattle.fts_column.specs.Counts.{AreWithin}
 
 -- the number that a column of this kind keeps as this one
 abbrev pub number_at : Kind → ℕ → Number

@@ -22,7 +22,7 @@ use std::marker::Model;
 use std::sync::{Arc, Wait};
 
 /// How many readers there may be at once.
-const PLACES: usize = 64;
+const MOST_READERS: usize = 64;
 
 /// Publishes snapshots to readers. It isn't dropped but closed. Contracts see it as its newest snapshot at its commit
 /// stamp, with the whole list of its publications. What readers are shown is always that snapshot.
@@ -196,7 +196,7 @@ fn desk_of<R: Wait>(rt: &R, alloc: Global, front: &Front) -> Result<Desk, AllocE
     ensures shown { IfOk result (λ d. d.desk.shown.value ≡ front.now) }
     ensures seat { IfOk result (λ d. told_name d.desk.place ≡ Some (name_of front.now.seen.of)) }
 {
-    let mut desk = Desk::new(alloc, front.again()?, front.again()?, PLACES)?;
+    let mut desk = Desk::new(alloc, front.again()?, front.again()?, MOST_READERS)?;
     if show_twice(rt, &mut desk, front).is_err() {
         drop(desk.take(rt));
         return Err(AllocError);

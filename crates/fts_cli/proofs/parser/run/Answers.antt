@@ -1,6 +1,7 @@
-use Rattle.std.proofs.Common.{rules, ap, ap₂, refl, codes, map, ◌≡◌, ◌∙◌, ◌∷◌, ◌||◌, ℕ, Bool, false, List, []}
+use Rattle.std.proofs.Common.{rules, ap, ap₂, refl, codes, map, ◌≡◌, ◌∙◌, ◌∷◌, ℕ, List, []}
 use Rattle.std.proofs.lemmas.Result.{IfOk-weaker}
 use Rattle.std.specs.Borrow.{Bor}
+use Rattle.std.proofs.lemmas.Bool.{or_from}
 use Rattle.clap.specs.Simple.{app_of, app_of_fields, new_app, with_rule}
 use Rattle.clap.specs.Walk.{Text, rule_of}
 use Rattle.clap.specs.declared.builder.command.Command.{Command}
@@ -30,9 +31,6 @@ merges_are names e = go names.now refl e
         )
     go (x ∷ y ∷ z ∷ l) is e = cc
 
-no_globals : (a b : Bool) → a ≡ false → b ≡ false → (a || b) ≡ false
-no_globals a b e f = ap₂ (λ (x y : Bool). x || y) e f
-
 pub returns : goal.returns
 returns c =
     let texts : map (λ s. s.now) c.as_slice.result.now ≡ codes "off" ∷ codes "policy" ∷ [] = search rules in
@@ -44,9 +42,9 @@ returns c =
     let with_runs = c.in_ok-arg-2.ensures.shape c.option-runs.ensures.local ∙ ap₂ with_rule with_workers c.option-runs.ensures.rule in
     let with_deal = c.in_ok-arg-3.ensures.shape c.option-deal.ensures.local ∙ ap₂ with_rule with_runs c.option-deal.ensures.rule in
     let local = ap (λ (f : Command-F Command). f.has_globals) c.about-run.ensures ∙ c.new.ensures.local in
-    let local_1 = c.in_ok-arg.ensures.globals ∙ no_globals _ _ local c.option-workers.ensures.local in
-    let local_2 = c.in_ok-arg-2.ensures.globals ∙ no_globals _ _ local_1 c.option-runs.ensures.local in
-    let local_3 = c.in_ok-arg-3.ensures.globals ∙ no_globals _ _ local_2 c.option-deal.ensures.local in
+    let local_1 = c.in_ok-arg.ensures.globals ∙ or_from _ _ local c.option-workers.ensures.local in
+    let local_2 = c.in_ok-arg-2.ensures.globals ∙ or_from _ _ local_1 c.option-runs.ensures.local in
+    let local_3 = c.in_ok-arg-3.ensures.globals ∙ or_from _ _ local_2 c.option-deal.ensures.local in
     IfOk-weaker c.arg-4.result _ _
-    (λ r h. (merges.0, h.shape c.option-merge.ensures.local ∙ ap₂ with_rule with_deal merge_is, h.globals ∙ no_globals _ _ local_3 c.option-merge.ensures.local))
+    (λ r h. (merges.0, h.shape c.option-merge.ensures.local ∙ ap₂ with_rule with_deal merge_is, h.globals ∙ or_from _ _ local_3 c.option-merge.ensures.local))
     c.arg-4.ensures

@@ -1,11 +1,12 @@
 use Rattle.std.proofs.Common.{◌≡◌, ◌∙◌, ◌++◌, [], List, sym, ap, subst, arith, length, length-append}
 use Rattle.std.specs.List.Sorted.{IsPermutation}
+use Rattle.std.proofs.lemmas.List.{nil_from_length}
 use Rattle.fts_model.specs.declared.answer.Hit.{Hit}
 use Rattle.fts_collect.specs.Parts.{PartValue}
 use Rattle.fts_collect.specs.Internals.Joins.{all_hits, hits_in}
 use Rattle.fts_collect.proofs.ApartLemmas.{once-permuted}
 use Rattle.fts_collect.proofs.FirstLemmas.{first_of-permuted}
-use Rattle.fts_collect.proofs.PartsLemmas.{all_hits-push, all_hits-moved, no_length}
+use Rattle.fts_collect.proofs.PartsLemmas.{all_hits-push, all_hits-moved}
 use Rattle.fts_collect.proofs.top.joined_top.Goals as goal
 
 pub loop-part-preserved : goal.loop-part-preserved
@@ -24,7 +25,7 @@ pub returns : goal.returns
 returns c = λ apart.
     let all = all_hits c.args.parts.items in
     let list = c.loop-part.list.items in
-    let none : c.loop-part.parts.items ≡ [] = no_length c.loop-part.parts.items (omega (arith, c.loop-part.parts.ok.0, c.in_default.ensures.cases.0)) in
+    let none : c.loop-part.parts.items ≡ [] = nil_from_length c.loop-part.parts.items (omega (arith, c.loop-part.parts.ok.0, c.in_default.ensures.cases.0)) in
     let P : List PartValue → Type 0 = λ parts. IsPermutation all (all_hits parts ++ list) in
     let moved : IsPermutation all list = subst P none c.loop-part.invariant.moved in
     c.keep_first.ensures (once-permuted (λ (h : Hit). h.stamp) all list moved apart)

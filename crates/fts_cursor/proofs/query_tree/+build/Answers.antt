@@ -7,14 +7,14 @@ use Rattle.std.proofs.lemmas.Result.{IfOk-weaker}
 use Rattle.fts_model.specs.declared.query.Query.{Query}
 use Rattle.fts_model.specs.declared.schema.Field.{Field}
 use Rattle.fts_model.specs.QueryValues.{query_value}
-use Rattle.fts_model.proofs.QueriesBoolean.{fits_in, matches_at_bool, matches_in}
+use Rattle.fts_model.proofs.QueriesBoolean.{fits_in, matches_at_bool, matches_in, value_at_bool}
 use Rattle.fts_cursor.specs.Builds.{Opens, is_term}
 use Rattle.fts_postings.specs.Sets.{union}
 use Rattle.fts_cursor.specs.TreeValues.{TreeValue}
 use Rattle.fts_cursor.proofs.BoolHits.{IsBool, bool_apart, bool_kept, only_one, paired_more, single_hits, some_from}
 use Rattle.fts_cursor.proofs.DepthLemmas.{depth, depth_at, depth_of, one_of_all, parts_fall}
 use Rattle.fts_cursor.proofs.HitsLemmas.{hits_of}
-use Rattle.fts_cursor.proofs.OpensLemmas.{Keeps, keeps_mixed, keeps_shoulds, keeps_terms, nothing_found, opens_apart, opens_kept, parts_fit, remains_more, value_of_bool}
+use Rattle.fts_cursor.proofs.OpensLemmas.{Keeps, keeps_mixed, keeps_shoulds, keeps_terms, nothing_found, opens_apart, opens_kept, parts_fit, remains_more}
 use Rattle.fts_cursor.proofs.query_tree.+build.Goals.{tree_of-then-is_empty+in_ok-kept-in-Bool, tree_of-else-is_empty+then-are_terms+in_ok-kept-in-Bool-2, tree_of-else-is_empty+else-are_terms+in_ok-trees_of-in-Bool+in_ok-kept-in-Bool-3, tree_of-In-Bool, tree_of-Joined-is_empty}
 use Rattle.fts_cursor.proofs.query_tree.+build.Goals as goal
 
@@ -83,14 +83,14 @@ tree_of-returns-then-is_empty-2-clause-hits t c =
 pub tree_of-returns-then-is_empty-2-clause-opens : goal.tree_of-returns-then-is_empty-2-clause-opens
 tree_of-returns-then-is_empty-2-clause-opens t c =
     let count : length c.in-Bool.must_not.items ≡ 0 = omega (arith, eqb-true c.in-Bool.must_not.len 0 (sym c.is_empty-in-Bool.ensures ∙ c.if-is_empty-2.true)) in
-    opens_kept c.args.segment.now c.args.query.now c.in-Bool.must.items c.in-Bool.must_not.items c.in-Bool.should.items c.if-is_empty.kept (ap query_value c.in-Bool.is ∙ value_of_bool c.in-Bool.must c.in-Bool.must_not c.in-Bool.should) (nil_from_length c.in-Bool.must_not.items count) (keeps t (goal.at.tree_of-returns-then-is_empty-2-clause-opens t c).Joined-is_empty)
+    opens_kept c.args.segment.now c.args.query.now c.in-Bool.must.items c.in-Bool.must_not.items c.in-Bool.should.items c.if-is_empty.kept (ap query_value c.in-Bool.is ∙ value_at_bool c.in-Bool.must c.in-Bool.must_not c.in-Bool.should) (nil_from_length c.in-Bool.must_not.items count) (keeps t (goal.at.tree_of-returns-then-is_empty-2-clause-opens t c).Joined-is_empty)
 
 pub tree_of-returns-in-None-clause-hits : goal.tree_of-returns-in-None-clause-hits
 tree_of-returns-in-None-clause-hits t c = c.nothing.ensures.remaining ∙ nothing_found c.args.segment.now c.args.query.now c.in-None.is
 
 pub tree_of-returns-in_ok-dropped-in-Bool-2-clause-opens : goal.tree_of-returns-in_ok-dropped-in-Bool-2-clause-opens
 tree_of-returns-in_ok-dropped-in-Bool-2-clause-opens t c =
-    IfOk-weaker c.without.result _ _ (λ tree is. opens_apart c.args.segment.now c.args.query.now c.in-Bool.must.items c.in-Bool.must_not.items c.in-Bool.should.items tree (ap query_value c.in-Bool.is ∙ value_of_bool c.in-Bool.must c.in-Bool.must_not c.in-Bool.should)
+    IfOk-weaker c.without.result _ _ (λ tree is. opens_apart c.args.segment.now c.args.query.now c.in-Bool.must.items c.in-Bool.must_not.items c.in-Bool.should.items tree (ap query_value c.in-Bool.is ∙ value_at_bool c.in-Bool.must c.in-Bool.must_not c.in-Bool.should)
     (omega (arith, some_from c.in-Bool.must_not.len (sym c.is_empty-in-Bool.ensures ∙ c.if-is_empty-2.false)))) c.without.ensures
 
 pub trees_of-loop-query-preserved : goal.trees_of-loop-query-preserved

@@ -1,7 +1,8 @@
 use Rattle.std.proofs.Common.{◌≡◌, ap, sym, ◌∙◌, take, max, arith}
 use Rattle.fts_merge.specs.Internals.Deletes.{bound_by, bound_of}
-use Rattle.fts_merge.proofs.DeletesLemmas.{bound_of-push, taken}
+use Rattle.fts_merge.proofs.DeletesLemmas.{bound_of-push}
 use Rattle.fts_merge.proofs.deletes.bound.Goals as goal
+use Rattle.fts_model.proofs.Lists.{taken}
 
 pub loop-op-preserved : goal.loop-op-preserved
 loop-op-preserved c =

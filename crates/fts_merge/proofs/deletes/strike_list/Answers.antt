@@ -6,8 +6,9 @@ use Rattle.std.proofs.lemmas.List.Elements.{All-take, All-drop}
 use Rattle.fts_pack.specs.Documents.{block_at, blocks_of, block_count}
 use Rattle.fts_pack.specs.SourceLaws.{length-blocks_of, get_or-blocks_of}
 use Rattle.fts_merge.specs.Internals.Deletes.{cleared}
-use Rattle.fts_merge.proofs.DeletesLemmas.{blocks_more, length-cleared_all}
+use Rattle.fts_merge.proofs.DeletesLemmas.{length-cleared_all}
 use Rattle.fts_merge.proofs.deletes.strike_list.Goals as goal
+use Rattle.fts_pack.proofs.DocumentsLemmas.{take_block}
 
 pub strike_documents-requires-clause-within : goal.strike_documents-requires-clause-within
 strike_documents-requires-clause-within c =
@@ -28,7 +29,7 @@ loop-block-preserved c =
     let opened : take c.open-count.result c.open-count.new.out ≡ block_at ns block =
     c.open-count.ensures.documents ∙ ap (λ bs. get_or bs block []) c.loop-block.invariant.blocks ∙ get_or-blocks_of ns block [] within in
     let struck = c.strike_documents.ensures ∙ ap (fold f c.loop-block.live) opened ∙ ap (λ bs. fold f bs (block_at ns block)) c.loop-block.invariant.struck
-    ∙ sym (fold-append f c.args.live.now (take (block * 128) ns) (block_at ns block)) ∙ ap (fold f c.args.live.now) (sym (blocks_more ns block)) in
+    ∙ sym (fold-append f c.args.live.now (take (block * 128) ns) (block_at ns block)) ∙ ap (fold f c.args.live.now) (sym (take_block ns block)) in
     record {
       bits = omega (arith, ap length struck, length-cleared_all c.args.segment.now.documents c.args.stamp c.args.live.now (take ((block + 1) * 128) ns), c.requires.bits);
       blocks = c.open-count.ensures.same ∙ c.loop-block.invariant.blocks;

@@ -1,10 +1,9 @@
-use Rattle.std.proofs.Common.{◌≡◌, ◌++◌, ◌∷◌, [], List, take, refl, subst, sym}
-use Rattle.std.proofs.lemmas.List.Elements.{All-nil}
+use Rattle.std.proofs.Common.{[], List, take, subst, sym}
 use Rattle.fts_model.specs.declared.operation.Op.{Op}
 use Rattle.fts_model.specs.declared.operation.Stamped.{Stamped}
-use Rattle.fts_merge.specs.Internals.Deletes.{IsFound, StrikeAlike}
-use Rattle.fts_merge.proofs.DeletesLemmas.{taken}
+use Rattle.fts_merge.specs.Internals.Deletes.{StrikeAlike}
 use Rattle.fts_merge.proofs.found.found_in.Goals as goal
+use Rattle.fts_model.proofs.Lists.{taken}
 
 pub loop-op-preserved : goal.loop-op-preserved
 loop-op-preserved c =

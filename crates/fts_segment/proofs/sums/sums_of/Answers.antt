@@ -1,17 +1,14 @@
 -- A list more adds its length.
 use Rattle.std.proofs.Common.{◌≡◌, ◌<◌, ◌+◌, ◌∷◌, ◌++◌, [], List, ℕ, ap, get_or, length, take, sym, ◌∙◌, arith}
-use Rattle.std.proofs.lemmas.List.{take_all, take_more}
+use Rattle.std.proofs.lemmas.List.{take_all}
 use Rattle.fts_segment.specs.Sums.{sums_from, total}
 use Rattle.fts_segment.proofs.SumsLemmas.{sums-push, total-front, total-push}
 use Rattle.fts_segment.proofs.sums.sums_of.Goals as goal
-
--- the lists with the next
-more : (lists : List (List ℕ)) (i : ℕ) (xs : List ℕ) → i < length lists → xs ≡ get_or lists i xs → take (i + 1) lists ≡ take i lists ++ xs ∷ []
-more lists i xs less is = take_more lists i xs less ∙ ap (λ ys. take i lists ++ ys ∷ []) (sym is)
+use Rattle.fts_model.proofs.Lists.{taken}
 
 -- with the next there are as many more as it has, and no more than in all
 sum_is : (lists : List (List ℕ)) (i : ℕ) (xs : List ℕ) → i < length lists → xs ≡ get_or lists i xs → total (take (i + 1) lists) ≡ total (take i lists) + length xs
-sum_is lists i xs less is = ap total (more lists i xs less is) ∙ total-push (take i lists) xs
+sum_is lists i xs less is = ap total (taken lists i xs less is) ∙ total-push (take i lists) xs
 
 pub overflow_cast-sum : goal.overflow_cast-sum
 overflow_cast-sum c =
@@ -33,7 +30,7 @@ loop-list-preserved c =
       sum = omega (arith, sum, sum_is lists i xs c.loop-list-test.true c.list-item.is);
       sums =
           c.in_ok-push-2.ensures.items ∙ ap (λ ns. ns ++ (c.loop-list.sum + c.len.result) ∷ []) c.loop-list.invariant.sums ∙ ap (λ n. sums_from 0 (take i lists) ++ n ∷ []) sum
-          ∙ sym (ap (sums_from 0) (more lists i xs c.loop-list-test.true c.list-item.is) ∙ sums-push 0 (take i lists) xs);
+          ∙ sym (ap (sums_from 0) (taken lists i xs c.loop-list-test.true c.list-item.is) ∙ sums-push 0 (take i lists) xs);
     }
 
 pub returns : goal.returns

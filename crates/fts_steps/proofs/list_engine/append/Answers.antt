@@ -1,8 +1,8 @@
 use Rattle.std.proofs.Common.{◌++◌, ◌∷◌, [], take, sym, ap, ◌∙◌, append_assoc}
 use Rattle.std.proofs.lemmas.List.{take_more}
 use Rattle.fts_model.specs.Operations.{added, added_by}
-use Rattle.fts_steps.proofs.Adds.{added-push}
 use Rattle.fts_steps.proofs.list_engine.append.Goals as goal
+use Rattle.fts_model.proofs.OperationsByStamps.{added-push}
 
 pub loop-op-preserved : goal.loop-op-preserved
 loop-op-preserved c =

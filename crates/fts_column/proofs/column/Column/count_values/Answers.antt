@@ -2,10 +2,10 @@ use Rattle.std.proofs.Common.{◌+◌, ◌-◌, ◌<◌, ◌≤◌, Some, None, 
 use Rattle.std.proofs.Math.Facts.{Fits-lt-pow}
 use Rattle.std.proofs.lemmas.List.{length-drop, take_rest}
 use Rattle.fts_column.specs.Column.{IsColumn, IsRangeOf, least_of}
-use Rattle.fts_column.specs.Counting.{is_value}
+use Rattle.fts_column.specs.Counts.{is_value}
 use Rattle.fts_column.specs.Lanes.{in_lanes}
 use Rattle.fts_column.proofs.ColumnLemmas.{column_length, lane_each, none_in}
-use Rattle.fts_column.proofs.CountingLemmas.{counted_from_first, first_within, lane_within, stays, value_of_number}
+use Rattle.fts_column.proofs.CountsLemmas.{counted_from_first, first_within, lane_within, stays, value_of_number}
 use Rattle.fts_column.proofs.column.Column.count_values.Goals as goal
 
 pub count-requires-clause-enough : goal.count-requires-clause-enough

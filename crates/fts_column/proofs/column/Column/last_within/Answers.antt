@@ -1,10 +1,10 @@
 use Rattle.std.proofs.Common.{◌-◌, ◌∙◌, None, get_or, ap, subst, sym, arith}
 use Rattle.fts_column.specs.Column.{is_within, least_of}
 use Rattle.fts_column.specs.Lanes.{in_lanes, number_at}
-use Rattle.fts_column.specs.Seeking.{IsLastWithin}
+use Rattle.fts_column.specs.Interval.{IsLastWithin}
 use Rattle.fts_column.proofs.ColumnLemmas.{lane_each}
-use Rattle.fts_column.proofs.CountingLemmas.{value_of_number}
-use Rattle.fts_column.proofs.SeekingLemmas.{IsLastWithin-same, is_within-above}
+use Rattle.fts_column.proofs.CountsLemmas.{value_of_number}
+use Rattle.fts_column.proofs.IntervalLemmas.{IsLastWithin-same, is_within-above}
 use Rattle.fts_column.proofs.column.Column.last_within.Goals as goal
 
 pub last_within-requires : goal.last_within-requires

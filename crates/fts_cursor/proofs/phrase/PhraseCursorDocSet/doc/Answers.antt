@@ -1,12 +1,12 @@
 -- Where the phrase stands of what is in common rises.
 use Rattle.std.proofs.Common.{◌∷◌, subst}
 use Rattle.std.specs.List.Sorted.{IsStrictlyIncreasing}
+use Rattle.std.proofs.lemmas.List.Kept.{IsStrictlyIncreasing-filter}
 use Rattle.fts_postings.specs.Conjoined.{common_of}
 use Rattle.fts_cursor.specs.Phrases.{phrase_at}
 use Rattle.fts_cursor.specs.Standing.{Standing}
-use Rattle.fts_postings.proofs.SetLemmas.{filter-rises}
 use Rattle.fts_cursor.proofs.phrase.PhraseCursorDocSet.doc.Goals as goal
 
 pub returns-clause-rises : goal.returns-clause-rises
 returns-clause-rises c =
-    subst (λ (s : Standing). IsStrictlyIncreasing s.remaining) c.self.view_is (filter-rises (phrase_at (c.self.inside.first.value ∷ c.self.inside.others.items)) (common_of c.self.inside.terms) c.doc.ensures.rises)
+    subst (λ (s : Standing). IsStrictlyIncreasing s.remaining) c.self.view_is (IsStrictlyIncreasing-filter (phrase_at (c.self.inside.first.value ∷ c.self.inside.others.items)) (common_of c.self.inside.terms) c.doc.ensures.rises)

@@ -2,17 +2,9 @@ use Rattle.std.proofs.Common.{◌≡◌, ◌<◌, ◌≤◌, ◌+◌, ◌&&◌, 
 use Rattle.std.specs.Cmp.Lexicographic.{pointwise}
 use Rattle.std.specs.Str.{bytes_eq}
 use Rattle.std.proofs.lemmas.List.{drop_all}
+use Rattle.std.proofs.lemmas.Bool.{not-false, not-true}
 use Rattle.fts_model.proofs.TextsLemmas.{pointwise-step}
 use Rattle.fts_model.proofs.texts.TextsPartialEq.eq.Goals as goal
-
--- what isn't true is false
-turned : (b : Bool) → not b ≡ true → b ≡ false
-turned true h = cc
-turned false h = refl
-
-kept : (b : Bool) → not b ≡ false → b ≡ true
-kept true h = refl
-kept false h = cc
 
 pub returns-then-ne : goal.returns-then-ne
 returns-then-ne c =
@@ -22,7 +14,7 @@ returns-then-ne c =
     let h : n < length xs = omega (arith, c.loop-number-test.true, c.len-number-end.ensures) in
     let l : n < length ys = omega (arith, h, c.if-len.false, c.len.ensures, c.len-2.ensures) in
     let apart : bytes_eq (get_or xs n []) (get_or ys n []) ≡ false =
-    ap (λ x. bytes_eq x (get_or ys n [])) (sym c.get.ensures) ∙ ap (bytes_eq c.get.result.now) (sym c.get-in-loop-number.ensures) ∙ turned _ (sym c.ne.ensures ∙ c.if-ne.true) in
+    ap (λ x. bytes_eq x (get_or ys n [])) (sym c.get.ensures) ∙ ap (bytes_eq c.get.result.now) (sym c.get-in-loop-number.ensures) ∙ not-true _ (sym c.ne.ensures ∙ c.if-ne.true) in
     sym (sym c.loop-number.invariant ∙ pointwise-step xs ys n h l ∙ ap (λ b. b && pointwise bytes_eq (drop (n + 1) xs) (drop (n + 1) ys)) apart)
 
 pub loop-number-preserved : goal.loop-number-preserved
@@ -33,7 +25,7 @@ loop-number-preserved c =
     let h : n < length xs = omega (arith, c.loop-number-test.true, c.len-number-end.ensures) in
     let l : n < length ys = omega (arith, h, c.if-len.false, c.len.ensures, c.len-2.ensures) in
     let same : bytes_eq (get_or xs n []) (get_or ys n []) ≡ true =
-    ap (λ x. bytes_eq x (get_or ys n [])) (sym c.get.ensures) ∙ ap (bytes_eq c.get.result.now) (sym c.get-in-loop-number.ensures) ∙ kept _ (sym c.ne.ensures ∙ c.if-ne.false) in
+    ap (λ x. bytes_eq x (get_or ys n [])) (sym c.get.ensures) ∙ ap (bytes_eq c.get.result.now) (sym c.get-in-loop-number.ensures) ∙ not-false _ (sym c.ne.ensures ∙ c.if-ne.false) in
     sym (pointwise-step xs ys n h l ∙ ap (λ b. b && pointwise bytes_eq (drop (n + 1) xs) (drop (n + 1) ys)) same) ∙ c.loop-number.invariant
 
 pub returns : goal.returns

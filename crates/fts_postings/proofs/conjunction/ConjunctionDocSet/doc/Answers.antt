@@ -2,11 +2,12 @@
 use Rattle.std.proofs.Common.{ap, subst, ◌∙◌}
 use Rattle.std.specs.List.{slice_get}
 use Rattle.std.specs.List.Sorted.{IsStrictlyIncreasing}
+use Rattle.std.proofs.lemmas.List.Kept.{IsStrictlyIncreasing-filter}
 use Rattle.fts_postings.specs.Posting.{remaining_of}
 use Rattle.fts_postings.specs.Conjoined.{Conjoined, common_of, each_remaining}
 use Rattle.fts_postings.specs.Sets.{in_all}
 use Rattle.fts_postings.proofs.ConjoinedLemmas.{together-passes}
-use Rattle.fts_postings.proofs.SetLemmas.{filter-first, filter-rises}
+use Rattle.fts_postings.proofs.SetLemmas.{filter-first}
 use Rattle.fts_postings.proofs.conjunction.ConjunctionDocSet.doc.Goals as goal
 
 pub returns-clause-first : goal.returns-clause-first
@@ -17,4 +18,4 @@ returns-clause-first g c =
 
 pub returns-clause-rises : goal.returns-clause-rises
 returns-clause-rises g c =
-    subst (λ (p : Conjoined). IsStrictlyIncreasing (common_of p)) c.self.view_is (filter-rises (in_all (each_remaining c.self.inside.others.items)) (remaining_of c.self.inside.lead) c.doc.ensures.rises)
+    subst (λ (p : Conjoined). IsStrictlyIncreasing (common_of p)) c.self.view_is (IsStrictlyIncreasing-filter (in_all (each_remaining c.self.inside.others.items)) (remaining_of c.self.inside.lead) c.doc.ensures.rises)

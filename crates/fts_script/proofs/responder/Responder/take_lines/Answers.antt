@@ -1,8 +1,9 @@
 use Rattle.std.proofs.Common.{[], ◌++◌, take, drop, subst, sym, arith, string_bytes, take-append-drop}
+use Rattle.std.proofs.lemmas.List.{take_rest}
 use Rattle.fts_session.specs.Text.{lines_of}
 use Rattle.fts_script.specs.Stops.{IsWritten}
 use Rattle.fts_script.specs.Responders.{Advances, AdvancesToStop}
-use Rattle.fts_script.proofs.RunLemmas.{Advances-then, AdvancesToStop-leads, on_err, sent_more, tail_is, within_more}
+use Rattle.fts_script.proofs.RunLemmas.{Advances-then, AdvancesToStop-leads, on_err, sent_more, within_more}
 use Rattle.fts_script.proofs.responder.Responder.take_lines.Goals as goal
 
 pub returns-in_err-at-clause-err : goal.returns-in_err-at-clause-err
@@ -14,7 +15,7 @@ returns-in_err-at-clause-err g c =
     (subst (λ v. AdvancesToStop c.args.self.now.session c.args.self.now.line v [] (string_bytes c.loop-at.self.replies)) (take-append-drop at bytes)
     (AdvancesToStop-leads c.args.self.now.session c.loop-at.self.session c.args.self.now.line c.loop-at.self.line (take at bytes) (drop at bytes) [] _
     c.loop-at.invariant.leads
-    (λ line held none. subst (λ v. IsWritten (lines_of (line ++ v))) (tail_is bytes at) (c.in_err-at.ensures.not_blank line held none)))))
+    (λ line held none. subst (λ v. IsWritten (lines_of (line ++ v))) (take_rest bytes at) (c.in_err-at.ensures.not_blank line held none)))))
 
 pub loop-at-preserved : goal.loop-at-preserved
 loop-at-preserved g c =

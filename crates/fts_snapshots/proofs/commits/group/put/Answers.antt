@@ -1,6 +1,7 @@
 -- What is left of the proof of `commits::group::put`.
-use Rattle.std.proofs.Common.{◌≤◌, ◌∙◌, ap, arith, length, Result, Ok, Err, OnOk, [], ◌∷◌, ◌++◌}
+use Rattle.std.proofs.Common.{◌≤◌, ◌∙◌, ap, arith, length, [], ◌∷◌, ◌++◌}
 use Rattle.std.proofs.lemmas.List.Elements.{recursion_from_All}
+use Rattle.std.proofs.lemmas.Result.{on_ok_weaker}
 use Rattle.fts_snapshots.specs.Cuts.{put_into}
 use Rattle.fts_snapshots.proofs.CutLemmas.{put_there, put_beyond, room_there}
 use Rattle.fts_snapshots.proofs.commits.group.put.Goals as goal
@@ -11,14 +12,9 @@ push-requires c =
     room_there 65536 groups c.args.at c.args.document c.index_mut.result.now (omega arith) c.index_mut.ensures.value
     (recursion_from_All (λ group. length group ≤ 65536) (put_into c.args.at c.args.document groups) c.requires)
 
--- what follows from a fact on Ok
-on_ok : {X E P Q : Type 0} (r : Result X E) → (P → Q) → OnOk r P → OnOk r Q
-on_ok (Ok x) f h = f h
-on_ok (Err e) f h = tt
-
 pub returns-then-at-len : goal.returns-then-at-len
 returns-then-at-len c =
-    on_ok c.push.result
+    on_ok_weaker c.push.result
     (λ pushed. put_there c.args.groups.now.items c.args.at c.args.document c.index_mut.result.now c.push.new.self (omega arith) c.index_mut.ensures.value pushed)
     c.push.ensures
 

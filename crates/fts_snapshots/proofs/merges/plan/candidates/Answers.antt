@@ -6,8 +6,9 @@ use Rattle.fts_merge.specs.Levels.{candidates}
 use Rattle.fts_merge.proofs.CandidatesLemmas.{candidates-within}
 use Rattle.fts_snapshots.specs.Entries.{live_count}
 use Rattle.fts_snapshots.specs.Infos.{id_at}
-use Rattle.fts_snapshots.proofs.PlanLemmas.{within_lists, map-both}
+use Rattle.fts_snapshots.proofs.PlanLemmas.{within_lists}
 use Rattle.fts_snapshots.proofs.merges.plan.candidates.Goals as goal
+use Rattle.fts_segment.proofs.OccurrencesLemmas.{map-map}
 
 pub all_ids_at-requires : goal.all_ids_at-requires
 all_ids_at-requires c =
@@ -24,4 +25,4 @@ pub returns-clause-candidates : goal.returns-clause-candidates
 returns-clause-candidates c =
     let es = c.args.entries.now in
     let view = ap (map (λ v. v.items)) c.deref-2.ensures.value ∙ c.in_ok-found.ensures.candidates ∙ ap candidates (c.deref.ensures.value ∙ c.in_ok-sizes.ensures) in
-    c.in_ok-all_ids_at.ensures ∙ map-both (λ v. v.items) (map (id_at es)) c.deref-2.result.now ∙ ap (map (map (id_at es))) view
+    c.in_ok-all_ids_at.ensures ∙ map-map (map (id_at es)) (λ v. v.items) c.deref-2.result.now ∙ ap (map (map (id_at es))) view

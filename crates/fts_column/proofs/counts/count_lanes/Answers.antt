@@ -1,8 +1,8 @@
 use Rattle.std.proofs.Common.{◌<◌, ◌∙◌, arith, length, get_or, map, subst, sym, slice_get, take}
 use Rattle.std.proofs.lemmas.List.{get_or-take, length-take-le, take-map}
 use Rattle.fts_column.specs.Lanes.{number_at}
-use Rattle.fts_column.proofs.CountingLemmas.{AreCounted-same, every_number}
-use Rattle.fts_column.proofs.counting.count_lanes.Goals as goal
+use Rattle.fts_column.proofs.CountsLemmas.{AreCounted-same, every_number}
+use Rattle.fts_column.proofs.counts.count_lanes.Goals as goal
 
 pub count_all-requires : goal.count_all-requires
 count_all-requires g c = λ doc inside.

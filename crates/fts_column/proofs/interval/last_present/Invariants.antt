@@ -1,7 +1,7 @@
 use Rattle.std.proofs.Common.{◌≤◌, drop, length, map}
 use Rattle.fts_column.specs.Lanes.{number_at}
-use Rattle.fts_column.specs.Seeking.{NoneWithin}
-use Rattle.fts_column.proofs.seeking.last_present.Given as goal
+use Rattle.fts_column.specs.Interval.{NoneWithin}
+use Rattle.fts_column.proofs.interval.last_present.Given as goal
 
 abbrev pub invariant-loop-place : goal.invariant-loop-place
 invariant-loop-place g l =

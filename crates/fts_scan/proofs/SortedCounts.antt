@@ -1,4 +1,4 @@
--- Values in order: each run of one value is its count.
+-- Values in order: how often one stands in a row is its count.
 use Rattle.std.proofs.Common.{◌≡◌, ℕ, ◌+◌, ◌<◌, Bool, true, false, cond, List, [], ◌∷◌, map, fold, refl, sym, ap, subst, ◌∙◌, arith, All, AllPairs, get_or}
 use Rattle.std.specs.List.Sorted.{IsPermutation, IsSorted}
 use Rattle.std.specs.Ordering.{match_ordering, is_eq, is_lt, nat_cmp}
@@ -24,9 +24,9 @@ NotAbove cmp a b = is_lt (cmp b a) ≡ false
 abbrev Rise : {V : Type 0} → (V → V → Ordering) → List V → Type 0
 Rise cmp values = AllPairs (NotAbove cmp) values
 
--- the count of a run
-abbrev group_of_run : {V : Type 0} → ℕ × V → V × ℕ
-group_of_run run = (run.1, run.0)
+-- a value with its count
+abbrev group_of_count : {V : Type 0} → ℕ × V → V × ℕ
+group_of_count counted = (counted.1, counted.0)
 
 -- what the test of equality says of an ordering
 is_equal : (o : Ordering) → is_eq o ≡ true → o ≡ Equal
@@ -65,37 +65,37 @@ module _ {V : Type 0} {cmp : V → V → Ordering} (order : IsOneOrder cmp) wher
       ap (λ gs. fold (count_one cmp) gs ys) (count_one-behind y x count rest (All-head (λ z. cmp x z ≡ Less) y ys h))
       ∙ fold-front x count (count_one cmp rest y) ys (All-tail (λ z. cmp x z ≡ Less) y ys h)
 
-  -- the runs of values in order, of which the first was counted already, are their counts, whether the next is the same or not
-  runs_at : (same : V → V → Bool) (n : ℕ) (x y : V) (ys : List V) (b : Bool) → b ≡ is_eq (cmp x y) → NotAbove cmp x y → All (NotAbove cmp y) ys →
-      ((m : ℕ) → fold (count_one cmp) ((x, m) ∷ []) ys ≡ map group_of_run (dedup_with_count_from same m x ys)) →
-      fold (count_one cmp) ((y, 1) ∷ []) ys ≡ map group_of_run (dedup_with_count_from same 1 y ys) →
+  -- values in a row, of which the first was counted already, are counted rightly, whether the next is the same or not
+  counts_at : (same : V → V → Bool) (n : ℕ) (x y : V) (ys : List V) (b : Bool) → b ≡ is_eq (cmp x y) → NotAbove cmp x y → All (NotAbove cmp y) ys →
+      ((m : ℕ) → fold (count_one cmp) ((x, m) ∷ []) ys ≡ map group_of_count (dedup_with_count_from same m x ys)) →
+      fold (count_one cmp) ((y, 1) ∷ []) ys ≡ map group_of_count (dedup_with_count_from same 1 y ys) →
       fold (count_one cmp) (count_one cmp ((x, n) ∷ []) y) ys
-      ≡ map group_of_run (cond b (dedup_with_count_from same (n + 1) x ys) ((n, x) ∷ dedup_with_count_from same 1 y ys))
-  runs_at same n x y ys true e up rest one other =
+      ≡ map group_of_count (cond b (dedup_with_count_from same (n + 1) x ys) ((n, x) ∷ dedup_with_count_from same 1 y ys))
+  counts_at same n x y ys true e up rest one other =
       let tied : cmp y x ≡ Equal = tied_back order.total x y (is_equal (cmp x y) (sym e)) in
       ap (λ o. fold (count_one cmp) (match_ordering o ((y, 1) ∷ (x, n) ∷ []) ((x, n + 1) ∷ []) ((x, n) ∷ (y, 1) ∷ [])) ys) tied ∙ one (n + 1)
-  runs_at same n x y ys false e up rest one other =
+  counts_at same n x y ys false e up rest one other =
       let apart : cmp x y ≡ Less = above_other (cmp x y) x y refl up (sym e) in
       ap (λ gs. fold (count_one cmp) gs ys) (count_one-behind y x n [] apart)
       ∙ fold-front x n ((y, 1) ∷ []) ys (λ k d lt. below_all (cmp y (get_or ys k d)) x y (get_or ys k d) refl apart (rest k d lt))
       ∙ ap (λ gs. (x, n) ∷ gs) other
 
-  runs_from : (same : V → V → Bool) → ((x y : V) → same x y ≡ is_eq (cmp x y)) → (n : ℕ) (x : V) (values : List V) → Rise cmp (x ∷ values) →
-      fold (count_one cmp) ((x, n) ∷ []) values ≡ map group_of_run (dedup_with_count_from same n x values)
-  runs_from same alike n x [] up = refl
-  runs_from same alike n x (y ∷ ys) up =
+  counts_from : (same : V → V → Bool) → ((x y : V) → same x y ≡ is_eq (cmp x y)) → (n : ℕ) (x : V) (values : List V) → Rise cmp (x ∷ values) →
+      fold (count_one cmp) ((x, n) ∷ []) values ≡ map group_of_count (dedup_with_count_from same n x values)
+  counts_from same alike n x [] up = refl
+  counts_from same alike n x (y ∷ ys) up =
       let behind = pairs_behind (NotAbove cmp) x (y ∷ ys) up in
       let first = pairs_front (NotAbove cmp) x (y ∷ ys) up in
       let rest = pairs_front (NotAbove cmp) y ys behind in
       let skip : Rise cmp (x ∷ ys) = AllPairs-cons (NotAbove cmp) x ys (All-tail (NotAbove cmp x) y ys first) (pairs_behind (NotAbove cmp) y ys behind) in
-      runs_at same n x y ys (same x y) (alike x y) (All-head (NotAbove cmp x) y ys first) rest
-      (λ m. runs_from same alike m x ys skip) (runs_from same alike 1 y ys behind)
+      counts_at same n x y ys (same x y) (alike x y) (All-head (NotAbove cmp x) y ys first) rest
+      (λ m. counts_from same alike m x ys skip) (counts_from same alike 1 y ys behind)
 
-  -- the runs of values in order are their counts
-  runs-counted : (same : V → V → Bool) → ((x y : V) → same x y ≡ is_eq (cmp x y)) → (values : List V) → Rise cmp values →
+  -- values in order are counted in a row
+  counts-fold : (same : V → V → Bool) → ((x y : V) → same x y ≡ is_eq (cmp x y)) → (values : List V) → Rise cmp values →
       counts_of_sorted same values ≡ fold (count_one cmp) [] values
-  runs-counted same alike [] up = refl
-  runs-counted same alike (x ∷ values) up = sym (runs_from same alike 1 x values up)
+  counts-fold same alike [] up = refl
+  counts-fold same alike (x ∷ values) up = sym (counts_from same alike 1 x values up)
 
   -- values that were sorted are in order
   Rise-sorted : (values : List V) → IsSorted cmp values → Rise cmp values
@@ -116,8 +116,8 @@ module _ {V : Type 0} {cmp : V → V → Ordering} (order : IsOneOrder cmp) wher
         sum_by-IsPermutation (λ m. cond (is_eq (cmp n m)) 1 0) values others is,
       ))
 
-  -- the runs of values that were sorted are the counts of the values
-  pub runs-sorted : (same : V → V → Bool) → ((x y : V) → same x y ≡ is_eq (cmp x y)) → (values sorted : List V) → IsPermutation values sorted → IsSorted cmp sorted →
+  -- values that were sorted are counted in a row
+  pub counts-sorted : (same : V → V → Bool) → ((x y : V) → same x y ≡ is_eq (cmp x y)) → (values sorted : List V) → IsPermutation values sorted → IsSorted cmp sorted →
       counts_of_sorted same sorted ≡ fold (count_one cmp) [] values
-  runs-sorted same alike values sorted is up =
-      runs-counted same alike sorted (Rise-sorted sorted up) ∙ sym (counted-permuted values sorted is)
+  counts-sorted same alike values sorted is up =
+      counts-fold same alike sorted (Rise-sorted sorted up) ∙ sym (counted-permuted values sorted is)

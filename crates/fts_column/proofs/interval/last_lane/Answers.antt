@@ -1,9 +1,9 @@
 use Rattle.std.proofs.Common.{◌∙◌, ap, arith, map, slice_get, sym, take}
 use Rattle.fts_column.specs.Column.{is_within}
 use Rattle.fts_column.specs.Lanes.{number_at}
-use Rattle.fts_column.proofs.CountingLemmas.{every_number}
-use Rattle.fts_column.proofs.SeekingLemmas.{IsLastWithin-same}
-use Rattle.fts_column.proofs.seeking.last_lane.Goals as goal
+use Rattle.fts_column.proofs.CountsLemmas.{every_number}
+use Rattle.fts_column.proofs.IntervalLemmas.{IsLastWithin-same}
+use Rattle.fts_column.proofs.interval.last_lane.Goals as goal
 
 pub returns-then-count_ones-len : goal.returns-then-count_ones-len
 returns-then-count_ones-len g c =

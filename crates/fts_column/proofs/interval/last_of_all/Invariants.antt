@@ -1,6 +1,6 @@
 use Rattle.std.proofs.Common.{◌≤◌, drop, length, map, slice_get}
-use Rattle.fts_column.specs.Seeking.{NoneWithin}
-use Rattle.fts_column.proofs.seeking.last_of_all.Given as goal
+use Rattle.fts_column.specs.Interval.{NoneWithin}
+use Rattle.fts_column.proofs.interval.last_of_all.Given as goal
 
 abbrev pub invariant-loop-place : goal.invariant-loop-place
 invariant-loop-place g l =

@@ -2,9 +2,9 @@ use Rattle.std.proofs.Common.{◌≡◌, ◌-◌, ◌∙◌, ap, arith, length, 
 use Rattle.std.proofs.lemmas.List.{length-map}
 use Rattle.std.proofs.lemmas.Option.{slice_get-get_or, slice_get_past}
 use Rattle.fts_column.specs.Column.{is_within}
-use Rattle.fts_column.proofs.CountingLemmas.{number_of_lane}
-use Rattle.fts_column.proofs.SeekingLemmas.{NoneWithin-before}
-use Rattle.fts_column.proofs.seeking.last_of_all.Goals as goal
+use Rattle.fts_column.proofs.CountsLemmas.{number_of_lane}
+use Rattle.fts_column.proofs.IntervalLemmas.{NoneWithin-before}
+use Rattle.fts_column.proofs.interval.last_of_all.Goals as goal
 
 pub loop-place-preserved-else-is_between : goal.loop-place-preserved-else-is_between
 loop-place-preserved-else-is_between g c =

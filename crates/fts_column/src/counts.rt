@@ -2,7 +2,7 @@
 // costs a load, a bit where some have no number, and an addition.
 ghost use Rattle.std.specs.Prelude.{◌≡◌, ℕ, ◌+◌, ◌%◌, ◌^◌, ◌<◌, ◌≤◌, length, map, slice_get, slice_index};
 ghost use Rattle.std.specs.Prelude.{slice_set};
-ghost use Rattle.fts_column.specs.Counting.{AreCounted};
+ghost use Rattle.fts_column.specs.Counts.{AreCounted};
 ghost use Rattle.fts_column.specs.Lanes.{number_at};
 
 use crate::lane::Lane;

@@ -1,10 +1,10 @@
 use Rattle.std.proofs.Common.{◌≡◌, ◌-◌, ◌∙◌, ap, arith, false, get_or, map, Some}
 use Rattle.fts_column.specs.Column.{is_within}
 use Rattle.fts_column.specs.Lanes.{number_at}
-use Rattle.fts_column.proofs.CountingLemmas.{number_at-clear, number_at-past, number_at-set, number_of_lane}
-use Rattle.fts_column.proofs.SeekingLemmas.{NoneWithin-before}
-use Rattle.fts_column.proofs.seeking.last_present.Goals as goal
-use Rattle.fts_column.proofs.seeking.last_present.Goals.{else-doc-len-via-then-doc-len+then-get+else-is_between, else-doc-len-via-then-doc-len+else-get, else-doc-len-via-else-doc-len}
+use Rattle.fts_column.proofs.CountsLemmas.{number_at-clear, number_at-past, number_at-set, number_of_lane}
+use Rattle.fts_column.proofs.IntervalLemmas.{NoneWithin-before}
+use Rattle.fts_column.proofs.interval.last_present.Goals as goal
+use Rattle.fts_column.proofs.interval.last_present.Goals.{else-doc-len-via-then-doc-len+then-get+else-is_between, else-doc-len-via-then-doc-len+else-get, else-doc-len-via-else-doc-len}
 
 pub loop-place-preserved : goal.loop-place-preserved
 loop-place-preserved g c =

@@ -4,7 +4,7 @@ use crate::trouble::Trouble;
 use serde_json::Value;
 
 /// The member of a name, whatever it is.
-pub fn entry<'a>(trial: &mut Trial, case: &'a Value, name: &'static str) -> Option<&'a Value> {
+pub fn member<'a>(trial: &mut Trial, case: &'a Value, name: &'static str) -> Option<&'a Value> {
     let found = case.get(name);
     if found.is_none() {
         trial.fail(Trouble::Missing(name));
@@ -25,13 +25,13 @@ fn read<T: Copy>(trial: &mut Trial, found: Option<T>, name: &'static str, empty:
 
 /// The text under a name.
 pub fn text<'a>(trial: &mut Trial, case: &'a Value, name: &'static str) -> &'a str {
-    let found = entry(trial, case, name).and_then(Value::as_str);
+    let found = member(trial, case, name).and_then(Value::as_str);
     read(trial, found, name, "")
 }
 
 /// The number under a name.
 pub fn number(trial: &mut Trial, case: &Value, name: &'static str) -> u64 {
-    let found = entry(trial, case, name).and_then(Value::as_u64);
+    let found = member(trial, case, name).and_then(Value::as_u64);
     read(trial, found, name, 0)
 }
 
@@ -42,13 +42,13 @@ pub fn size(trial: &mut Trial, case: &Value, name: &'static str) -> usize {
 
 /// `true` or `false` under a name.
 pub fn flag(trial: &mut Trial, case: &Value, name: &'static str) -> bool {
-    let found = entry(trial, case, name).and_then(Value::as_bool);
+    let found = member(trial, case, name).and_then(Value::as_bool);
     read(trial, found, name, false)
 }
 
 /// The list under a name, which may be empty.
 pub fn list<'a>(trial: &mut Trial, case: &'a Value, name: &'static str) -> &'a [Value] {
-    match entry(trial, case, name) {
+    match member(trial, case, name) {
         Some(Value::Array(items)) => items.as_slice(),
         _ => {
             trial.fail(Trouble::WrongKind(name));

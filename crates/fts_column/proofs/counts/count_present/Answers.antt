@@ -1,8 +1,8 @@
 use Rattle.std.proofs.Common.{◌≡◌, ◌∙◌, ap, arith, get_or, map, None, Some}
 use Rattle.fts_column.specs.Lanes.{number_at}
-use Rattle.fts_column.proofs.CountingLemmas.{AreCounted-missing, AreCounted-more, number_at-clear, number_at-past, number_at-set, number_of_lane}
-use Rattle.fts_column.proofs.counting.count_present.Goals as goal
-use Rattle.fts_column.proofs.counting.count_present.Goals.{then-doc-len+then-get, else-doc-len, else-doc-len-via-then-doc-len+else-get, else-doc-len-via-else-doc-len}
+use Rattle.fts_column.proofs.CountsLemmas.{AreCounted-missing, AreCounted-more, number_at-clear, number_at-past, number_at-set, number_of_lane}
+use Rattle.fts_column.proofs.counts.count_present.Goals as goal
+use Rattle.fts_column.proofs.counts.count_present.Goals.{then-doc-len+then-get, else-doc-len, else-doc-len-via-then-doc-len+else-get, else-doc-len-via-else-doc-len}
 
 pub count_one-requires : goal.count_one-requires
 count_one-requires g c =

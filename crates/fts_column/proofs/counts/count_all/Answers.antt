@@ -1,9 +1,9 @@
 use Rattle.std.proofs.Common.{◌≡◌, ◌∙◌, ap, arith, length, map, slice_get, get_or, sym, Some}
 use Rattle.std.proofs.lemmas.List.{length-map}
 use Rattle.std.proofs.lemmas.Option.{slice_get-get_or, slice_get_past}
-use Rattle.fts_column.proofs.CountingLemmas.{AreCounted-more, AreCounted-missing, number_of_lane}
-use Rattle.fts_column.proofs.counting.count_all.Goals as goal
-use Rattle.fts_column.proofs.counting.count_all.Goals.{in-Some, in_default}
+use Rattle.fts_column.proofs.CountsLemmas.{AreCounted-more, AreCounted-missing, number_of_lane}
+use Rattle.fts_column.proofs.counts.count_all.Goals as goal
+use Rattle.fts_column.proofs.counts.count_all.Goals.{in-Some, in_default}
 
 pub count_one-requires : goal.count_one-requires
 count_one-requires g c =

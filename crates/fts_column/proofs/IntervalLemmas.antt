@@ -3,7 +3,7 @@ use Rattle.std.proofs.Common.{◌≡◌, ℕ, suc, ◌+◌, ◌-◌, ◌<◌, �
 use Rattle.std.proofs.lemmas.List.Elements.{All-cons}
 use Rattle.std.specs.Option.{option_map}
 use Rattle.fts_column.specs.Column.{is_within}
-use Rattle.fts_column.specs.Seeking.{IsLastWithin, NoneWithin}
+use Rattle.fts_column.specs.Interval.{IsLastWithin, NoneWithin}
 
 -- one document more is not within the bounds
 pub NoneWithin-before : (number : ℕ → Option ℕ) (low high : ℕ) (docs : List ℕ) (place : ℕ) → 0 < place → (place ≤ length docs) × NoneWithin number low high (drop place docs) → is_within low high (number (get_or docs (place - 1) 0)) ≡ false → (place - 1 ≤ length docs) × NoneWithin number low high (drop (place - 1) docs)

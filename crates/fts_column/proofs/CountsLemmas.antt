@@ -10,7 +10,7 @@ use Rattle.std.specs.Option.{option_map, option_map_or}
 use Rattle.fts_bits.specs.Digits.{numbers_in}
 use Rattle.fts_bits.proofs.PackingLemmas.{length-numbers_in}
 use Rattle.fts_column.specs.Column.{IsColumn, least_of, values_at}
-use Rattle.fts_column.specs.Counting.{AreCounted, AreWithin, having, is_value}
+use Rattle.fts_column.specs.Counts.{AreCounted, AreWithin, having, is_value}
 use Rattle.fts_column.specs.Lanes.{number_at}
 use Rattle.fts_column.proofs.ColumnLemmas.{above_least, lane_at, presence-values_at, value_missing, value_there}
 

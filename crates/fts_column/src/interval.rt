@@ -2,8 +2,8 @@
 // many documents, so that each costs a load, a bit where some have no number, and two comparisons.
 ghost use Rattle.std.specs.Prelude.{◌≡◌, ◌≤◌, Some, length, map, slice_get};
 ghost use Rattle.fts_column.specs.Column.{is_within};
+ghost use Rattle.fts_column.specs.Interval.{IsLastWithin};
 ghost use Rattle.fts_column.specs.Lanes.{number_at};
-ghost use Rattle.fts_column.specs.Seeking.{IsLastWithin};
 
 use crate::lane::Lane;
 use fts_bits::Bits;
