@@ -10,7 +10,7 @@ import collections
 
 from corpus import KINDS, outputs
 
-CRATES = "fts_index fts_snapshots fts_pool fts_query fts_model serde_json anyhow"
+CRATES = "fts_index fts_rounds fts_snapshots fts_pool fts_query fts_model serde_json anyhow"
 told = collections.defaultdict(list)
 for what, *rest in outputs("index", CRATES):
     told[what].append(rest)

@@ -1,4 +1,4 @@
-"""Times the layer of packed numbers (`fts_pack`) beside the same loops in C++ over the same numbers.
+"""Times the layer of packed numbers (`fts_pack`, `fts_column`, `fts_bits`) beside the same loops in C++ over the same numbers.
 
     python3 bench/pack.py [RT]
 
@@ -30,7 +30,7 @@ def ours():
         copy = CRATE / source.relative_to(BENCH / "pack").with_suffix("")
         copy.parent.mkdir(parents=True, exist_ok=True)
         shutil.copy(source, copy)
-    (TOP / "crates.txt").write_text(listed + "pack_bench: fts_pack fts_model\n")
+    (TOP / "crates.txt").write_text(listed + "pack_bench: fts_pack fts_column fts_bits fts_model\n")
     try:
         return lines([RT, "run", "--", "go"], CRATE)
     finally:
