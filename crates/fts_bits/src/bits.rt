@@ -9,12 +9,11 @@ ghost use Rattle.fts_bits.specs.Digits.{numbers_in, words_of};
 ghost use Rattle.fts_bits.specs.Bits.{AreCounted, flags, marks, number_of};
 
 use crate::packing;
-use fts_base::Refusal;
+use fts_base::{Refusal, release};
 use std::alloc::{AllocError, Global};
 use std::marker::Model;
 
 /// One bit for each of a number of documents.
-#[derive(Drop)]
 pub struct Bits {
     len: usize,
     // How many are set.
@@ -28,6 +27,17 @@ impl Model for Bits {
     ghost view = { λ b. flags (numbers_in 64 1 b.len b.words.items) };
 
     ghost invariant = { λ b. AreCounted b.len b.ones b.words.items };
+}
+
+impl Drop for Bits {
+    fn drop(self) {
+        let Bits {
+            len: _,
+            ones: _,
+            words,
+        } = self;
+        release(words);
+    }
 }
 
 impl Bits {

@@ -4,6 +4,7 @@ ghost use Rattle.fts_column.specs.Blocks.{AreEnds, AreEndsOf, block_of};
 ghost use Rattle.fts_column.specs.Column.{HaveOffsets};
 
 use crate::column::range_of;
+use fts_base::release;
 use std::alloc::{AllocError, Global};
 
 /// How many values are in a block.
@@ -11,10 +12,18 @@ const BLOCK: usize = 128;
 
 /// How far the least and the greatest value of each block are above a least one. Where a block has no value, the first
 /// of the two is above the second.
-#[derive(Drop)]
 pub(crate) enum Blocks {
     Words(Vec<(u32, u32)>),
     Longs(Vec<(u64, u64)>),
+}
+
+impl Drop for Blocks {
+    fn drop(self) {
+        match self {
+            Blocks::Words(words) => release(words),
+            Blocks::Longs(longs) => release(longs),
+        }
+    }
 }
 
 impl Blocks {

@@ -15,13 +15,12 @@ ghost use Rattle.fts_column.specs.Lanes.{in_lanes};
 
 use crate::blocks::Blocks;
 use crate::lanes::Lanes;
-use fts_base::Refusal;
+use fts_base::{Refusal, release};
 use fts_bits::{Bits, packing};
 use std::alloc::{AllocError, Global};
 use std::marker::Model;
 
 /// One value for each of a number of documents, of which some may be missing.
-#[derive(Drop)]
 pub struct Column {
     range: Option<(u64, u64)>,
     width: u32,
@@ -29,6 +28,20 @@ pub struct Column {
     words: Vec<u64>,
     lanes: Lanes,
     blocks: Blocks,
+}
+
+impl Drop for Column {
+    fn drop(self) {
+        let Column {
+            range: _,
+            width: _,
+            present: _,
+            words,
+            lanes: _,
+            blocks: _,
+        } = self;
+        release(words);
+    }
 }
 
 /// The documents of a column from one on, at most 128 of them.

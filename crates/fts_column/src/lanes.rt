@@ -7,6 +7,7 @@ use crate::column::offset;
 use crate::counts::count_lanes;
 use crate::interval::last_lane;
 use crate::lane::Lane;
+use fts_base::release;
 use fts_bits::Bits;
 use std::alloc::{AllocError, Global};
 use std::simd::prelude::*;
@@ -17,11 +18,20 @@ const BYTE_MAX: u64 = 255;
 const WORD_MAX: u64 = 4_294_967_295;
 
 /// Numbers in lanes of 8, 32 or 64 bits, in whole stretches of 64.
-#[derive(Drop)]
 pub(crate) enum Lanes {
     Bytes(Vec<u8>),
     Words(Vec<u32>),
     Longs(Vec<u64>),
+}
+
+impl Drop for Lanes {
+    fn drop(self) {
+        match self {
+            Lanes::Bytes(bytes) => release(bytes),
+            Lanes::Words(words) => release(words),
+            Lanes::Longs(longs) => release(longs),
+        }
+    }
 }
 
 impl Lanes {

@@ -3,12 +3,12 @@ ghost use Rattle.std.specs.Prelude.{◌≡◌, ◌≢◌, ◌<◌, All, AllPairs
 ghost use Rattle.fts_merge.specs.Merges.{IsMerged, made_of};
 
 use crate::origin::Origin;
+use fts_base::release;
 use fts_segment::Segment;
 use std::marker::Model;
 
 /// A segment of the live documents of others, its sources. For each of its documents it tells the source and the number
 /// there; no two documents have one origin.
-#[derive(Drop)]
 pub struct Merged {
     segment: Segment,
     origins: Vec<Origin>,
@@ -23,6 +23,17 @@ impl Model for Merged {
     ghost view = { λ m. made_of m.segment m.origins.items m.sources };
 
     ghost invariant = { λ m. IsMerged (made_of m.segment m.origins.items m.sources) };
+}
+
+impl Drop for Merged {
+    fn drop(self) {
+        let Merged {
+            segment: _,
+            origins,
+            sources: _,
+        } = self;
+        release(origins);
+    }
 }
 
 impl Merged {
@@ -66,6 +77,12 @@ impl Merged {
     pub fn into_segment(self) -> Segment
         ensures { result ≡ self.segment }
     {
-        self.segment
+        let Merged {
+            segment,
+            origins,
+            sources: _,
+        } = self;
+        release(origins);
+        segment
     }
 }

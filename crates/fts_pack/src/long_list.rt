@@ -9,11 +9,11 @@ use crate::gaps::push_gaps;
 use crate::packed::{Packed, add_block};
 use crate::skip::Skip;
 use crate::{lanes, sums};
+use fts_base::release;
 use std::alloc::{AllocError, Global};
 use std::marker::Model;
 
 /// Strictly rising documents in blocks.
-#[derive(Drop)]
 pub(crate) struct LongList {
     count: usize,
     skips: Vec<Skip>,
@@ -26,6 +26,18 @@ impl Model for LongList {
     ghost view = { λ l. kept_documents l.words.items 0 l.count l.skips.items };
 
     ghost invariant = { λ l. IsLongList l.count l.skips.items l.words.items };
+}
+
+impl Drop for LongList {
+    fn drop(self) {
+        let LongList {
+            count: _,
+            skips,
+            words,
+        } = self;
+        release(skips);
+        release(words);
+    }
 }
 
 impl LongList {

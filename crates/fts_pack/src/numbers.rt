@@ -5,12 +5,11 @@ ghost use Rattle.fts_pack.specs.Documents.{block_at, block_count};
 use crate::block::BLOCK;
 use crate::lanes;
 use crate::packed::{Packed, add_block};
-use fts_base::Refusal;
+use fts_base::{Refusal, release};
 use std::alloc::{AllocError, Global};
 use std::marker::Model;
 
 /// A list of numbers in blocks of 128, the last one of 1 to 128, each block at the width of its greatest number.
-#[derive(Drop)]
 pub struct Numbers {
     count: usize,
     blocks: Vec<Packed>,
@@ -27,6 +26,18 @@ impl Model for Numbers {
     ghost view = { λ n. numbers_kept n.count n.blocks.items n.words.items };
 
     ghost invariant = { λ n. AreKept n.count n.blocks.items n.words.items };
+}
+
+impl Drop for Numbers {
+    fn drop(self) {
+        let Numbers {
+            count: _,
+            blocks,
+            words,
+        } = self;
+        release(blocks);
+        release(words);
+    }
 }
 
 impl Numbers {

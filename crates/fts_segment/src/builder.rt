@@ -128,11 +128,7 @@ impl Builder {
                 ) {
                     Ok(stored) => Ok(Segment { stored }),
                     Err(refused) => {
-                        let Stored {
-                            schema,
-                            documents,
-                            indexes: _,
-                        } = refused.value;
+                        let (schema, documents) = refused.value.into_documents();
                         Err((
                             Builder {
                                 schema,

@@ -4,16 +4,27 @@ use crate::names::Names;
 use crate::occurrences::logged;
 use crate::segment::ListId;
 use crate::term_positions::TermPositions;
+use fts_base::release;
 use fts_model::{Document, Kind, Stamped};
 use fts_pack::List;
 use std::alloc::{AllocError, Global};
 
 /// The terms that occur, the documents of each, and its positions in them.
-#[derive(Drop)]
 pub(crate) struct Dictionary {
     pub(crate) names: Names,
     pub(crate) lists: Vec<List>,
     pub(crate) positions: TermPositions,
+}
+
+impl Drop for Dictionary {
+    fn drop(self) {
+        let Dictionary {
+            names: _,
+            lists,
+            positions: _,
+        } = self;
+        release(lists);
+    }
 }
 
 impl Dictionary {

@@ -21,7 +21,6 @@ use fts_pack::Blocks;
 use std::alloc::{AllocError, Global};
 
 /// The texts of a keyword field.
-#[derive(Drop)]
 pub(crate) struct KeywordIndex {
     /// The different texts in order, each with its documents.
     pub(crate) dictionary: Dictionary,
@@ -29,6 +28,17 @@ pub(crate) struct KeywordIndex {
     pub(crate) ordinals: Column,
     /// How many documents are in the lists before each, and in all.
     pub(crate) sums: Vec<u32>,
+}
+
+impl Drop for KeywordIndex {
+    fn drop(self) {
+        let KeywordIndex {
+            dictionary: _,
+            ordinals: _,
+            sums,
+        } = self;
+        release(sums);
+    }
 }
 
 impl KeywordIndex {

@@ -4,13 +4,12 @@ ghost use Rattle.std.specs.Ordering.{nat_cmp};
 ghost use Rattle.std.specs.Cmp.Lexicographic.{slice_cmp};
 ghost use Rattle.fts_segment.specs.Heads.{head, AreBytes};
 
-use fts_base::piece;
+use fts_base::{piece, release};
 use std::alloc::{AllocError, Global};
 use std::cmp::Ordering;
 use std::marker::Model;
 
 /// A list of byte strings. Contracts see it as the list of their bytes.
-#[derive(Drop)]
 pub(crate) struct Names {
     bytes: Vec<u8>,
     /// Where each name ends.
@@ -30,6 +29,15 @@ impl Model for Names {
 
     ghost invariant = { λ n. AreEnds 0 n.ends.items (length n.bytes.items)
         × AreHeads n.heads.items (pieces 0 n.bytes.items n.ends.items) };
+}
+
+impl Drop for Names {
+    fn drop(self) {
+        let Names { bytes, ends, heads } = self;
+        release(bytes);
+        release(ends);
+        release(heads);
+    }
 }
 
 /// The head of a name: its first eight bytes as one number. Names with different heads are in the order of these.

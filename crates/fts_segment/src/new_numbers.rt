@@ -3,12 +3,12 @@ ghost use Rattle.std.specs.Prelude.{◌≡◌, ◌+◌, ◌<◌, ◌^◌, ◌++�
 ghost use Rattle.std.specs.Prelude.{if◌then◌else◌, slice_get};
 ghost use Rattle.fts_segment.specs.Parts.{AreInARow, number_in, renumbered};
 
+use fts_base::release;
 use fts_bits::Bits;
 use std::alloc::{AllocError, Global};
 use std::marker::Model;
 
 /// New numbers of documents, of which a dead one has none. Contracts see the list of these.
-#[derive(Drop)]
 pub(crate) struct NewNumbers {
     numbers: Vec<Option<u32>>,
     /// The first number, where no document is dead: they are in a row then.
@@ -24,6 +24,13 @@ impl Model for NewNumbers {
     ghost view = { λ n. n.numbers.items };
 
     ghost invariant = { λ n. IfSome n.first (AreInARow n.numbers.items) };
+}
+
+impl Drop for NewNumbers {
+    fn drop(self) {
+        let NewNumbers { numbers, first: _ } = self;
+        release(numbers);
+    }
 }
 
 impl NewNumbers {

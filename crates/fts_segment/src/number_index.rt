@@ -26,7 +26,6 @@ use fts_pack::List;
 use std::alloc::{AllocError, Global};
 
 /// The numbers of a field.
-#[derive(Drop)]
 pub(crate) struct NumberIndex {
     pub(crate) column: Column,
     /// The different numbers, rising.
@@ -35,6 +34,20 @@ pub(crate) struct NumberIndex {
     pub(crate) lists: Vec<List>,
     /// How many documents are in the lists before each, and in all.
     pub(crate) sums: Vec<u32>,
+}
+
+impl Drop for NumberIndex {
+    fn drop(self) {
+        let NumberIndex {
+            column: _,
+            numbers,
+            lists,
+            sums,
+        } = self;
+        release(numbers);
+        release(lists);
+        release(sums);
+    }
 }
 
 impl NumberIndex {
@@ -246,5 +259,6 @@ fn lists_of(alloc: Global, groups: &TermGroups, count: usize) -> Result<Vec<List
         };
         lists.push(list)?;
     }
+    release(docs);
     Ok(lists)
 }

@@ -19,7 +19,6 @@ use std::marker::Model;
 ///
 /// A list is found by the counts of the 128 lists of its block, which are added up once, as long as lists of this block
 /// are asked for ([`Bounds`]). No position of another list is unpacked.
-#[derive(Drop)]
 pub(crate) struct PositionLists {
     /// How many positions each list has.
     counts: Numbers,
@@ -38,6 +37,17 @@ impl Model for PositionLists {
     ghost view = { λ l. position_lists_at l.counts l.gaps };
 
     ghost invariant = { λ l. ArePacked l.counts l.starts.items l.gaps };
+}
+
+impl Drop for PositionLists {
+    fn drop(self) {
+        let PositionLists {
+            counts: _,
+            starts,
+            gaps: _,
+        } = self;
+        release(starts);
+    }
 }
 
 impl PositionLists {

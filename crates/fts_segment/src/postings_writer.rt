@@ -10,6 +10,7 @@ use crate::dictionary::Dictionary;
 use crate::names::Names;
 use crate::term_groups::{Place, TermGroups};
 use crate::term_positions::{PositionLog, TermPositions};
+use fts_base::release;
 use std::alloc::{AllocError, Global};
 
 /// Terms with their lists, and their positions as they are to be packed.
@@ -198,5 +199,6 @@ pub(crate) fn write_terms(
     for (number, name) in names.iter().enumerate() {
         put(&mut writer, alloc, &mut room, *name, groups.get(number))?;
     }
+    release(room);
     Ok(writer)
 }

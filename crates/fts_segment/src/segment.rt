@@ -19,6 +19,7 @@ use crate::dictionary::Dictionary;
 use crate::field_index::FieldIndex;
 use crate::position_reader::PositionReader;
 use crate::term_positions::TermPositionLists;
+use fts_base::release;
 use fts_column::Column;
 use fts_model::{Document, FieldValue, Schema, Stamp, Stamped, Term};
 use fts_pack::List;
@@ -34,11 +35,36 @@ pub struct ListId<'a> {
 }
 
 /// What a segment shares with its copies.
-#[derive(Drop)]
 pub(crate) struct Stored {
     pub(crate) schema: Schema,
     pub(crate) documents: Vec<Stamped<Document>>,
     pub(crate) indexes: Vec<FieldIndex>,
+}
+
+impl Drop for Stored {
+    fn drop(self) {
+        let Stored {
+            schema: _,
+            documents,
+            indexes: _,
+        } = self;
+        release(documents);
+    }
+}
+
+impl Stored {
+    /// The schema and the documents alone.
+    pub(crate) fn into_documents(self) -> (Schema, Vec<Stamped<Document>>)
+        ensures schema { result.0 ≡ self.schema }
+        ensures documents { result.1.items ≡ self.documents.items }
+    {
+        let Stored {
+            schema,
+            documents,
+            indexes: _,
+        } = self;
+        (schema, documents)
+    }
 }
 
 /// Documents with their stamps, numbered from 0. Contracts see its schema and the documents. A copy shares them.

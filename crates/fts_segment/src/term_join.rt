@@ -14,6 +14,7 @@ use crate::dictionary::Dictionary;
 use crate::part::Part;
 use crate::position_lists::PositionListLog;
 use crate::postings_writer::PostingsWriter;
+use fts_base::release;
 use std::alloc::{AllocError, Global};
 
 // The first of two terms in order.
@@ -105,6 +106,7 @@ pub(crate) fn join_parts(alloc: Global, parts: &mut [Part<'_>]) -> Result<Dictio
     while let Some(term) = least(parts) {
         join_term(&mut writer, alloc, &mut docs, parts, term)?;
     }
+    release(docs);
     let dictionary = writer.finish(alloc)?;
     Ok(dictionary)
 }

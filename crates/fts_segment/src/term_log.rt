@@ -93,6 +93,8 @@ impl TermLog {
         release(log);
         let writer = write_terms(alloc, &names, &groups)?;
         groups.release();
+        release(names);
+        release(ordinals);
         let dictionary = writer.finish(alloc)?;
         Ok(dictionary)
     }

@@ -7,15 +7,21 @@ ghost use Rattle.fts_segment.specs.PositionListLogs.{IsPositionListLog, logged_p
 use crate::position_lists::{Bounds, PositionListLog, PositionLists};
 use crate::positions::Positions;
 use crate::term_groups::Place;
-use fts_base::start_of;
+use fts_base::{release, start_of};
 use std::alloc::{AllocError, Global};
 
 /// The positions of terms.
-#[derive(Drop)]
 pub(crate) struct TermPositions {
     pub(crate) lists: PositionLists,
     /// Where the lists of each term end.
     pub(crate) ends: Vec<usize>,
+}
+
+impl Drop for TermPositions {
+    fn drop(self) {
+        let TermPositions { lists: _, ends } = self;
+        release(ends);
+    }
 }
 
 /// The positions of a term's postings, among those of others.

@@ -5,12 +5,12 @@ ghost use Rattle.fts_model.specs.Limits.{most_built};
 ghost use Rattle.fts_snapshots.specs.Cuts.{IsCut, place_of, put_into, dealt_from, groups_of};
 
 use crate::commits::cut::place;
+use fts_base::release;
 use fts_model::{Cut, Document, Op, Stamp, Stamped};
 use std::alloc::{AllocError, Global};
 use std::marker::Model;
 
 /// The documents of a new segment: at most 65,536.
-#[derive(Drop)]
 pub(crate) struct Group {
     documents: Vec<Stamped<Document>>,
 }
@@ -26,6 +26,13 @@ impl Model for Group {
     ghost view = { λ g. g.documents.items };
 
     ghost invariant = { λ g. length g.documents.items ≤ most_built };
+}
+
+impl Drop for Group {
+    fn drop(self) {
+        let Group { documents } = self;
+        release(documents);
+    }
 }
 
 impl Group {
