@@ -9,7 +9,8 @@ use Rattle.std.proofs.lemmas.List.Elements.{All-nil, All-cons, All-append, All-h
 use Rattle.std.proofs.lemmas.List.Kept.{AllPairs-cons}
 use Rattle.std.proofs.lemmas.List.Sorted.{All-permutation, sum_by-IsPermutation}
 use Rattle.fts_merge.specs.declared.levels.Counted.{Counted}
-use Rattle.fts_merge.specs.Levels.{as_counted, considered, greatest_first, joins, levels_behind, levels_of, levels, large_enough, candidates}
+use Rattle.fts_merge.specs.declared.policy.MergePolicy.{MergePolicy}
+use Rattle.fts_merge.specs.Levels.{as_counted, considered, greatest_first, joins, levels_behind, levels_of, levels, large_enough, candidates, together, usual}
 use Rattle.fts_merge.proofs.LevelsLemmas.{considered_from, considered-cons}
 use Rattle.fts_merge.proofs.OrderLemmas.{IsPermutation-greatest_first}
 
@@ -34,7 +35,7 @@ joined-levels_of [] = refl
 joined-levels_of (c ∷ cs) = joined-behind c.size (c ∷ []) cs
 
 -- how often a number is this one: once, or not
-abbrev once : ℕ → ℕ → ℕ
+abbrev pub once : ℕ → ℕ → ℕ
 once i n = cond (n == i) 1 0
 
 -- how often a size has this index
@@ -49,32 +50,32 @@ absent i (c ∷ cs) above =
     let none : once_of i c ≡ 0 = grind (arith, nat_tests) in
     omega (arith, none, absent i cs (All-tail (λ (c : Counted). i < c.index) c cs above), sum_by-cons (once_of i) c cs)
 
-from_first : (n : ℕ) (sizes : List ℕ) → All (λ c. n ≤ c.index) (considered_from n sizes)
-from_first n [] = All-nil (λ (c : Counted). n ≤ c.index)
-from_first n (size ∷ sizes) =
+from_first : (p : MergePolicy) (n : ℕ) (sizes : List ℕ) → All (λ c. n ≤ c.index) (considered_from p n sizes)
+from_first p n [] = All-nil (λ (c : Counted). n ≤ c.index)
+from_first p n (size ∷ sizes) =
     let P : Counted → Type 0 = λ c. n ≤ c.index in
-    let rest = All-weaker (λ (c : Counted). n + 1 ≤ c.index) P (λ c h. omega (arith, h)) (considered_from (n + 1) sizes) (from_first (n + 1) sizes) in
-    subst (All P) (sym (considered-cons n size sizes))
-    (elim (nat_le size 1000000) as (λ b. All P (cond b (as_counted (n, size) ∷ considered_from (n + 1) sizes) (considered_from (n + 1) sizes))) [
-      | true ↦ All-cons P (as_counted (n, size)) (considered_from (n + 1) sizes) (omega arith) rest
+    let rest = All-weaker (λ (c : Counted). n + 1 ≤ c.index) P (λ c h. omega (arith, h)) (considered_from p (n + 1) sizes) (from_first p (n + 1) sizes) in
+    subst (All P) (sym (considered-cons p n size sizes))
+    (elim (nat_le size p.most) as (λ b. All P (cond b (as_counted p.floor (n, size) ∷ considered_from p (n + 1) sizes) (considered_from p (n + 1) sizes))) [
+      | true ↦ All-cons P (as_counted p.floor (n, size)) (considered_from p (n + 1) sizes) (omega arith) rest
       | false ↦ rest
     ])
 
-considered_once : (i n : ℕ) (sizes : List ℕ) → sum_by (once_of i) (considered_from n sizes) ≤ 1
-considered_once i n [] = omega arith
-considered_once i n (size ∷ sizes) =
-    let others = considered_from (n + 1) sizes in
-    let rest = considered_once i (n + 1) sizes in
-    subst (λ (cs : List Counted). sum_by (once_of i) cs ≤ 1) (sym (considered-cons n size sizes))
-    (elim (nat_le size 1000000) as (λ b. sum_by (once_of i) (cond b (as_counted (n, size) ∷ others) others) ≤ 1) [
-      | true ↦ elim (n == i) as (λ b. (n == i) ≡ b → sum_by (once_of i) (as_counted (n, size) ∷ others) ≤ 1) [
+considered_once : (p : MergePolicy) (i n : ℕ) (sizes : List ℕ) → sum_by (once_of i) (considered_from p n sizes) ≤ 1
+considered_once p i n [] = omega arith
+considered_once p i n (size ∷ sizes) =
+    let others = considered_from p (n + 1) sizes in
+    let rest = considered_once p i (n + 1) sizes in
+    subst (λ (cs : List Counted). sum_by (once_of i) cs ≤ 1) (sym (considered-cons p n size sizes))
+    (elim (nat_le size p.most) as (λ b. sum_by (once_of i) (cond b (as_counted p.floor (n, size) ∷ others) others) ≤ 1) [
+      | true ↦ elim (n == i) as (λ b. (n == i) ≡ b → sum_by (once_of i) (as_counted p.floor (n, size) ∷ others) ≤ 1) [
         | true ↦ λ is.
             let same : n ≡ i = grind (arith, nat_tests) in
-            let one : once_of i (as_counted (n, size)) ≡ 1 = ap (λ b. cond b 1 0) is in
-            let none = absent i others (All-weaker (λ (c : Counted). n + 1 ≤ c.index) (λ (c : Counted). i < c.index) (λ c h. omega (arith, h, same)) others (from_first (n + 1) sizes)) in
-            omega (arith, one, none, sum_by-cons (once_of i) (as_counted (n, size)) others)
+            let one : once_of i (as_counted p.floor (n, size)) ≡ 1 = ap (λ b. cond b 1 0) is in
+            let none = absent i others (All-weaker (λ (c : Counted). n + 1 ≤ c.index) (λ (c : Counted). i < c.index) (λ c h. omega (arith, h, same)) others (from_first p (n + 1) sizes)) in
+            omega (arith, one, none, sum_by-cons (once_of i) (as_counted p.floor (n, size)) others)
         | false ↦ λ is.
-            let no : once_of i (as_counted (n, size)) ≡ 0 = ap (λ b. cond b 1 0) is in omega (arith, no, rest, sum_by-cons (once_of i) (as_counted (n, size)) others)
+            let no : once_of i (as_counted p.floor (n, size)) ≡ 0 = ap (λ b. cond b 1 0) is in omega (arith, no, rest, sum_by-cons (once_of i) (as_counted p.floor (n, size)) others)
       ] refl
       | false ↦ rest
     ])
@@ -88,20 +89,20 @@ sum-indexes i [] = refl
 sum-indexes i (c ∷ cs) = omega (arith, sum-indexes i cs, sum_by-cons (once i) c.index (indexes cs), sum_by-cons (once_of i) c cs)
 
 -- a level that is large enough, or isn't
-one_level : (level : List Counted) (more : List (List Counted)) → large_enough (level ∷ more) ≡ cond (nat_le 8 (length level)) (indexes level ∷ large_enough more) (large_enough more)
-one_level level more =
-    let is_large : List Counted → Bool = λ level. nat_le 8 (length level) in
-    elim (nat_le 8 (length level)) as (λ b. map indexes (cond b (level ∷ filter is_large more) (filter is_large more)) ≡ cond b (indexes level ∷ large_enough more) (large_enough more)) [ true ↦ refl | false ↦ refl ]
+one_level : (m : ℕ) (level : List Counted) (more : List (List Counted)) → large_enough m (level ∷ more) ≡ cond (nat_le m (length level)) (indexes level ∷ large_enough m more) (large_enough m more)
+one_level m level more =
+    let is_large : List Counted → Bool = λ level. nat_le m (length level) in
+    elim (nat_le m (length level)) as (λ b. map indexes (cond b (level ∷ filter is_large more) (filter is_large more)) ≡ cond b (indexes level ∷ large_enough m more) (large_enough m more)) [ true ↦ refl | false ↦ refl ]
 
 -- no more are named than stand in levels
-named-fewer : (i : ℕ) (ls : List (List Counted)) → sum_by (once i) (named (large_enough ls)) ≤ sum_by (once_of i) (joined ls)
-named-fewer i [] = omega arith
-named-fewer i (level ∷ ls) =
-    let rest = named-fewer i ls in
+named-fewer : (m i : ℕ) (ls : List (List Counted)) → sum_by (once i) (named (large_enough m ls)) ≤ sum_by (once_of i) (joined ls)
+named-fewer m i [] = omega arith
+named-fewer m i (level ∷ ls) =
+    let rest = named-fewer m i ls in
     let all = sum_by-append (once_of i) level (joined ls) in
-    subst (λ (found : List (List ℕ)). sum_by (once i) (named found) ≤ sum_by (once_of i) (level ++ joined ls)) (sym (one_level level ls))
-    (elim (nat_le 8 (length level)) as (λ b. sum_by (once i) (named (cond b (indexes level ∷ large_enough ls) (large_enough ls))) ≤ sum_by (once_of i) (level ++ joined ls)) [
-      | true ↦ omega (arith, rest, all, sum-indexes i level, sum_by-append (once i) (indexes level) (named (large_enough ls)))
+    subst (λ (found : List (List ℕ)). sum_by (once i) (named found) ≤ sum_by (once_of i) (level ++ joined ls)) (sym (one_level m level ls))
+    (elim (nat_le m (length level)) as (λ b. sum_by (once i) (named (cond b (indexes level ∷ large_enough m ls) (large_enough m ls))) ≤ sum_by (once_of i) (level ++ joined ls)) [
+      | true ↦ omega (arith, rest, all, sum-indexes i level, sum_by-append (once i) (indexes level) (named (large_enough m ls)))
       | false ↦ omega (arith, rest, all)
     ])
 
@@ -115,14 +116,14 @@ All-back P [] ys ps = ps
 All-back P (x ∷ xs) ys ps = All-back P xs ys (All-tail P x (xs ++ ys) ps)
 
 -- what holds of the indexes of all holds of those named
-All-named : (P : ℕ → Type 0) (ls : List (List Counted)) → All (λ c. P c.index) (joined ls) → All P (named (large_enough ls))
-All-named P [] ps = All-nil P
-All-named P (level ∷ ls) ps =
+All-named : (m : ℕ) (P : ℕ → Type 0) (ls : List (List Counted)) → All (λ c. P c.index) (joined ls) → All P (named (large_enough m ls))
+All-named m P [] ps = All-nil P
+All-named m P (level ∷ ls) ps =
     let Q : Counted → Type 0 = λ c. P c.index in
-    let rest = All-named P ls (All-back Q level (joined ls) ps) in
-    subst (λ (found : List (List ℕ)). All P (named found)) (sym (one_level level ls))
-    (elim (nat_le 8 (length level)) as (λ b. All P (named (cond b (indexes level ∷ large_enough ls) (large_enough ls)))) [
-      | true ↦ All-append P (indexes level) (named (large_enough ls)) (All-map P (λ (c : Counted). c.index) level (All-front Q level (joined ls) ps)) rest
+    let rest = All-named m P ls (All-back Q level (joined ls) ps) in
+    subst (λ (found : List (List ℕ)). All P (named found)) (sym (one_level m level ls))
+    (elim (nat_le m (length level)) as (λ b. All P (named (cond b (indexes level ∷ large_enough m ls) (large_enough m ls)))) [
+      | true ↦ All-append P (indexes level) (named (large_enough m ls)) (All-map P (λ (c : Counted). c.index) level (All-front Q level (joined ls) ps)) rest
       | false ↦ rest
     ])
 
@@ -133,40 +134,48 @@ apart n (m ∷ ns) h =
     let none : once n m ≡ 0 = omega (arith, h, sum_by-cons (once n) m ns) in
     All-cons (λ (m : ℕ). n ≢ m) m ns (λ e. let one : once n m ≡ 1 = grind (arith, nat_tests) in omega (arith, none, one)) (apart n ns (omega (arith, h, sum_by-cons (once n) m ns)))
 
-pairs_apart : (ns : List ℕ) → ((i : ℕ) → sum_by (once i) ns ≤ 1) → AllPairs (λ i j. i ≢ j) ns
+pub pairs_apart : (ns : List ℕ) → ((i : ℕ) → sum_by (once i) ns ≤ 1) → AllPairs (λ i j. i ≢ j) ns
 pairs_apart [] h = λ i j d lt within. absurd (omega (arith, within))
 pairs_apart (n ∷ ns) h =
     let one : once n n ≡ 1 = grind (arith, nat_tests) in
     AllPairs-cons (λ (i j : ℕ). i ≢ j) n ns (apart n ns (omega (arith, h n, one, sum_by-cons (once n) n ns))) (pairs_apart ns (λ i. omega (arith, h i, sum_by-cons (once i) n ns)))
 
-pub candidates-many : (sizes : List ℕ) → All (λ candidate. 8 ≤ length candidate) (candidates sizes)
-candidates-many sizes =
-    let is_large : List Counted → Bool = λ level. nat_le 8 (length level) in
-    All-map (λ (candidate : List ℕ). 8 ≤ length candidate) indexes (filter is_large (levels sizes))
-    (All-weaker (λ level. is_large level ≡ true) (λ level. 8 ≤ length (indexes level))
-    (λ level h. omega (arith, leb-true 8 (length level) h, length-map level (λ (c : Counted). c.index)))
-    (filter is_large (levels sizes)) (filter_passes is_large (levels sizes)))
+pub together-many : (p : MergePolicy) (sizes : List ℕ) → All (λ candidate. p.members ≤ length candidate) (together p sizes)
+together-many p sizes =
+    let is_large : List Counted → Bool = λ level. nat_le p.members (length level) in
+    All-map (λ (candidate : List ℕ). p.members ≤ length candidate) indexes (filter is_large (levels p sizes))
+    (All-weaker (λ level. is_large level ≡ true) (λ level. p.members ≤ length (indexes level))
+    (λ level h. omega (arith, leb-true p.members (length level) h, length-map level (λ (c : Counted). c.index)))
+    (filter is_large (levels p sizes)) (filter_passes is_large (levels p sizes)))
 
-considered_below : (n end : ℕ) (sizes : List ℕ) → n + length sizes ≤ end → All (λ c. c.index < end) (considered_from n sizes)
-considered_below n end [] e = All-nil (λ (c : Counted). c.index < end)
-considered_below n end (size ∷ sizes) e =
+considered_below : (p : MergePolicy) (n end : ℕ) (sizes : List ℕ) → n + length sizes ≤ end → All (λ c. c.index < end) (considered_from p n sizes)
+considered_below p n end [] e = All-nil (λ (c : Counted). c.index < end)
+considered_below p n end (size ∷ sizes) e =
     let P : Counted → Type 0 = λ c. c.index < end in
-    let rest = considered_below (n + 1) end sizes (omega (arith, e)) in
-    subst (All P) (sym (considered-cons n size sizes))
-    (elim (nat_le size 1000000) as (λ b. All P (cond b (as_counted (n, size) ∷ considered_from (n + 1) sizes) (considered_from (n + 1) sizes))) [
-      | true ↦ All-cons P (as_counted (n, size)) (considered_from (n + 1) sizes) (omega (arith, e)) rest
+    let rest = considered_below p (n + 1) end sizes (omega (arith, e)) in
+    subst (All P) (sym (considered-cons p n size sizes))
+    (elim (nat_le size p.most) as (λ b. All P (cond b (as_counted p.floor (n, size) ∷ considered_from p (n + 1) sizes) (considered_from p (n + 1) sizes))) [
+      | true ↦ All-cons P (as_counted p.floor (n, size)) (considered_from p (n + 1) sizes) (omega (arith, e)) rest
       | false ↦ rest
     ])
 
-pub candidates-within : (sizes : List ℕ) → All (λ index. index < length sizes) (named (candidates sizes))
-candidates-within sizes =
-    let cs = considered sizes in
+pub together-within : (p : MergePolicy) (sizes : List ℕ) → All (λ index. index < length sizes) (named (together p sizes))
+together-within p sizes =
+    let cs = considered p sizes in
     let P : Counted → Type 0 = λ c. c.index < length sizes in
-    let all = All-permutation P cs (greatest_first cs) (IsPermutation-greatest_first cs) (considered_below 0 (length sizes) sizes (omega arith)) in
-    All-named (λ index. index < length sizes) (levels sizes) (subst (All P) (sym (joined-levels_of (greatest_first cs))) all)
+    let all = All-permutation P cs (greatest_first cs) (IsPermutation-greatest_first cs) (considered_below p 0 (length sizes) sizes (omega arith)) in
+    All-named p.members (λ index. index < length sizes) (levels p sizes) (subst (All P) (sym (joined-levels_of (greatest_first cs))) all)
+
+pub together-sum : (p : MergePolicy) (sizes : List ℕ) (i : ℕ) → sum_by (once i) (named (together p sizes)) ≤ 1
+together-sum p sizes i =
+    let cs = considered p sizes in
+    omega (arith, named-fewer p.members i (levels p sizes), ap (sum_by (once_of i)) (joined-levels_of (greatest_first cs)), sum_by-IsPermutation (once_of i) cs (greatest_first cs) (IsPermutation-greatest_first cs), considered_once p i 0 sizes)
+
+pub candidates-many : (sizes : List ℕ) → All (λ candidate. 8 ≤ length candidate) (candidates sizes)
+candidates-many sizes = together-many usual sizes
+
+pub candidates-within : (sizes : List ℕ) → All (λ index. index < length sizes) (named (candidates sizes))
+candidates-within sizes = together-within usual sizes
 
 pub candidates-once : (sizes : List ℕ) → AllPairs (λ i j. i ≢ j) (named (candidates sizes))
-candidates-once sizes =
-    let cs = considered sizes in
-    pairs_apart (named (candidates sizes)) (λ i.
-    omega (arith, named-fewer i (levels sizes), ap (sum_by (once_of i)) (joined-levels_of (greatest_first cs)), sum_by-IsPermutation (once_of i) cs (greatest_first cs) (IsPermutation-greatest_first cs), considered_once i 0 sizes))
+candidates-once sizes = pairs_apart (named (candidates sizes)) (together-sum usual sizes)

@@ -7,3 +7,4 @@ pub mod PlacesLemmas
 pub mod LevelsLemmas
 pub mod OrderLemmas
 pub mod CandidatesLemmas
+pub mod AloneLemmas

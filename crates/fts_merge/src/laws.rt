@@ -8,7 +8,9 @@ ghost use Rattle.fts_model.specs.Documents.{DocumentValue};
 ghost use Rattle.fts_model.specs.Operations.{survives};
 ghost use Rattle.fts_segment.specs.Contents.{content};
 ghost use Rattle.fts_merge.specs.Strikes.{bits_after};
-ghost use Rattle.fts_merge.specs.Levels.{candidates};
+ghost use Rattle.fts_merge.specs.declared.policy.MergePolicy.{MergePolicy};
+ghost use Rattle.fts_merge.specs.declared.policy.SegmentSize.{SegmentSize};
+ghost use Rattle.fts_merge.specs.Levels.{candidates, candidates_by, is_mostly_dead, is_named, live_sizes, together, usual};
 ghost use Rattle.fts_merge.specs.Merges.{SourceValue, HasBits, IsMerged, contents, live_count, merge_of, origins_from};
 ghost use Rattle.fts_merge.specs.declared.origin.Origin.{Origin};
 
@@ -81,4 +83,21 @@ pub fn candidates_name_each_size_once()
         All (λ index. index < length sizes) (flat_map (λ candidate. candidate) (candidates sizes)) }
     ensures once { (sizes : List ℕ) →
         AllPairs (λ i j. i ≢ j) (flat_map (λ candidate. candidate) (candidates sizes)) }
+{}
+
+/// The candidates of a policy name all segments among those given, and none twice. Each of a level has as many members
+/// as the policy wants, and no segment of too many dead documents is left out. By the usual policy they are those of the
+/// live sizes alone.
+pub fn a_policy_names_each_segment_once()
+    ensures many { (policy : MergePolicy) (segments : List SegmentSize) →
+        All (λ candidate. policy.members ≤ length candidate) (together policy (live_sizes segments)) }
+    ensures within { (policy : MergePolicy) (segments : List SegmentSize) →
+        All (λ index. index < length segments) (flat_map (λ candidate. candidate) (candidates_by policy segments)) }
+    ensures once { (policy : MergePolicy) (segments : List SegmentSize) →
+        AllPairs (λ i j. i ≢ j) (flat_map (λ candidate. candidate) (candidates_by policy segments)) }
+    ensures dead { (policy : MergePolicy) (segments : List SegmentSize) (index : ℕ) (segment : SegmentSize) →
+        slice_get segments index ≡ Some segment → is_mostly_dead policy.dead segment ≡ true →
+        is_named (candidates_by policy segments) index ≡ true }
+    ensures usual { (segments : List SegmentSize) →
+        candidates_by usual segments ≡ candidates (live_sizes segments) }
 {}

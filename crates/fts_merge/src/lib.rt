@@ -23,10 +23,12 @@ mod levels;
 mod merged;
 mod merger;
 mod origin;
+mod policy;
 
 pub use deletes::strike;
 pub use fts_segment::Source;
-pub use levels::plan;
+pub use levels::{plan, plan_by};
 pub use merged::Merged;
 pub use merger::merge;
 pub use origin::Origin;
+pub use policy::{MergePolicy, SegmentSize};

@@ -4,4 +4,4 @@ use Rattle.fts_merge.proofs.LevelsLemmas.{considered_from}
 use Rattle.fts_merge.proofs.levels.considered.Given as goal
 
 abbrev pub invariant-loop-index : goal.invariant-loop-index
-invariant-loop-index l = l.counted.items ++ considered_from l.index (drop l.index l.sizes) ≡ considered l.sizes
+invariant-loop-index l = l.counted.items ++ considered_from l.policy l.index (drop l.index l.sizes) ≡ considered l.policy l.sizes

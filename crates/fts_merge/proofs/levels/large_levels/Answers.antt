@@ -15,20 +15,20 @@ loop-place-preserved c =
     let next : Counted = get_or cs place (record { size = 0; index = 0 }) in
     let is : next ≡ get_or cs place next = get_or_default cs place _ next c.loop-place-test.true in
     let found : List (List ℕ) = map (λ v. v.items) c.loop-place.levels.items in
-    let all = large_enough (levels_of cs) in
+    let all = large_enough c.args.members (levels_of cs) in
     elim c.if-not-joins.branch [
       | then-not-joins+in_ok-push_level w ↦
           let apart : joins_level first next.size ≡ false = sym c.joins.ensures ∙ w.if-not-joins.true in
           rw (w.levels-is, w.start-is, w.first-is) (record {
             begun = omega arith;
             first = c.requires place _ c.loop-place-test.true;
-            found = level_opened found (map (λ v. v.items) w.push_level.new.levels.items) all cs start place first next c.loop-place-test.true is apart w.in_ok-push_level.ensures c.loop-place.invariant.found;
+            found = level_opened c.args.members found (map (λ v. v.items) w.push_level.new.levels.items) all cs start place first next c.loop-place-test.true is apart w.in_ok-push_level.ensures c.loop-place.invariant.found;
           })
       | else-not-joins w ↦
           let joined : joins_level first next.size ≡ true = sym c.joins.ensures ∙ w.if-not-joins.false in
           rw (w.levels-is, w.start-is, w.first-is) (record {
             begun = omega arith;
             first = c.loop-place.invariant.first;
-            found = level_joined found all cs start place first next c.loop-place.invariant.begun c.loop-place-test.true is joined c.loop-place.invariant.found;
+            found = level_joined c.args.members found all cs start place first next c.loop-place.invariant.begun c.loop-place-test.true is joined c.loop-place.invariant.found;
           })
     ]
