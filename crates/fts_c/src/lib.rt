@@ -12,6 +12,9 @@ ghost use Rattle.std.specs.Box.Ownership.{box_owns};
 ghost use Rattle.std.specs.contracts.impls.GlobalAllocator.TheImpl.{ghosts};
 ghost use Rattle.fts_c.specs.declared.state.State.{State};
 ghost use Rattle.fts_c.specs.contracts.state.State.{the_row};
+ghost use Rattle.fts_c.specs.Blocks.{ExecutesLines};
+ghost use Rattle.fts_c.specs.CutSearches.{SearchesFields};
+ghost use Rattle.fts_c.specs.Pairs.{Replaces};
 ghost use Rattle.fts_c.specs.Calls.{copied, Answers, Executes, Opens, Searches, TellsReply};
 ghost use Rattle.fts_c.specs.Held.{held};
 ghost use Rattle.fts_session.specs.Finds.{at_commit};
@@ -157,6 +160,52 @@ pub extern "C" fn fts_execute(handle: &mut Handle, alloc: Global, line: &[u8]) -
     answer(handle, Call::Execute, alloc, line)
 }
 
+fn executed_lines(handle: Handle, alloc: Global, block: &[u8]) -> (Handle, (i32, usize))
+    ensures { ExecutesLines handle.state block.now result.0.state result.1.0 result.1.1 }
+{
+    let mut state = unwrap(handle);
+    let told = state.execute_lines(alloc, block);
+    (wrap(state), told)
+}
+
+/// Executes the lines of a block, each ended by its LF or by the block's end, up to the first for which `fts_execute`
+/// has another code than 0, and answers that code. The reply is theirs, one behind the other, and `done` tells how many
+/// lines were done.
+#[unsafe(no_mangle)]
+pub extern "C" fn fts_execute_lines(
+    handle: &mut Handle,
+    alloc: Global,
+    block: &[u8],
+    done: &mut usize,
+) -> i32
+    ensures { ExecutesLines handle.old.state block.now handle.new.state result done.new }
+{
+    let told = replace_with(handle, (alloc, block), |handle, (alloc, block)| {
+        executed_lines(handle, alloc, block)
+    });
+    *done = told.1;
+    told.0
+}
+
+fn replaced(handle: Handle, alloc: Global, delete: &[u8], add: &[u8]) -> (Handle, i32)
+    ensures { Replaces handle.state delete.now add.now result.0.state result.1 }
+{
+    let mut state = unwrap(handle);
+    let code = state.replace(alloc, delete, add);
+    (wrap(state), code)
+}
+
+/// Executes a deletion and an addition as one: both are done, or neither. The codes are those of `fts_execute`; a
+/// refusal of either line is a reply, and leaves the session as it was.
+#[unsafe(no_mangle)]
+pub extern "C" fn fts_replace(handle: &mut Handle, alloc: Global, delete: &[u8], add: &[u8]) -> i32
+    ensures { Replaces handle.old.state delete.now add.now handle.new.state result }
+{
+    replace_with(handle, (alloc, delete, add), |handle, (alloc, delete, add)| {
+        replaced(handle, alloc, delete, add)
+    })
+}
+
 fn without_reply(handle: Handle, alloc: Global) -> (Handle, String)
     ensures session { result.0.state.session ≡ handle.state.session }
     ensures reply { result.1 ≡ handle.state.reply }
@@ -255,6 +304,30 @@ pub extern "C" fn fts_search(searcher: &mut Handle, alloc: Global, line: &[u8]) 
     ensures { Searches searcher.old.state line.now searcher.new.state result }
 {
     answer(searcher, Call::Search, alloc, line)
+}
+
+fn searched_fields(handle: Handle, alloc: Global, line: &[u8], names: &[u8]) -> (Handle, i32)
+    ensures { SearchesFields handle.state line.now names.now result.0.state result.1 }
+{
+    let mut state = unwrap(handle);
+    let code = state.search_fields(alloc, line, names);
+    (wrap(state), code)
+}
+
+/// Answers a search, as `fts_search` does, with the documents of its hits cut to the fields that `names` lists: a JSON
+/// array of strings. An unknown name is refused as `UnknownField`.
+#[unsafe(no_mangle)]
+pub extern "C" fn fts_search_fields(
+    searcher: &mut Handle,
+    alloc: Global,
+    line: &[u8],
+    names: &[u8],
+) -> i32
+    ensures { SearchesFields searcher.old.state line.now names.now searcher.new.state result }
+{
+    replace_with(searcher, (alloc, line, names), |searcher, (alloc, line, names)| {
+        searched_fields(searcher, alloc, line, names)
+    })
 }
 
 /// The reply to the last search, as by `fts_reply`.

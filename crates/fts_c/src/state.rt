@@ -1,11 +1,14 @@
 // A session and its last reply.
 ghost use Rattle.std.specs.Prelude.{◌≡◌, [], MatchResult, string_bytes};
+ghost use Rattle.fts_c.specs.Blocks.{ExecutesLines, ExecutesNext};
 ghost use Rattle.fts_c.specs.Calls.{Answers, Executes, Searches};
+ghost use Rattle.fts_c.specs.CutSearches.{SearchesFields};
 ghost use Rattle.fts_c.specs.Codes.{IsFault, IsTried};
+ghost use Rattle.fts_c.specs.Pairs.{AreTried, IsFaultOfTwo, Replaces};
 
 use crate::codes::{LINE_TOO_LONG, MEMORY, OK, USED_UP};
 use fts_local::LocalEngine;
-use fts_session::Session;
+use fts_session::{Session, first_line};
 use std::alloc::{AllocError, Global};
 
 /// The most bytes that a line has.
@@ -39,15 +42,12 @@ fn code_of(tried: Result<(), AllocError>) -> i32
 }
 
 impl State {
-    /// Lets the last reply go, and tells whether the next line is tried, or the code of why not.
-    fn begin(&mut self, line: &[u8]) -> Result<(), i32>
-        ensures tried { MatchResult result
-            (λ _. IsTried self.old.session line.now)
-            (λ code. IsFault self.old.session line.now code) }
-        ensures same { self.new.session ≡ self.old.session }
-        ensures none { string_bytes self.new.reply ≡ [] }
+    /// Tells whether a line is tried, or the code of why not.
+    fn check(&self, line: &[u8]) -> Result<(), i32>
+        ensures { MatchResult result
+            (λ _. IsTried self.now.session line.now)
+            (λ code. IsFault self.now.session line.now code) }
     {
-        self.reply.clear();
         if line.len() > LONGEST {
             return Err(LINE_TOO_LONG);
         }
@@ -57,25 +57,96 @@ impl State {
         Ok(())
     }
 
-    /// Executes a line.
-    pub(crate) fn execute(&mut self, alloc: Global, line: &[u8]) -> i32
-        ensures { Executes self.old line.now self.new result }
+    /// Executes a line, and puts its reply behind the last.
+    fn execute_next(&mut self, alloc: Global, line: &[u8]) -> i32
+        ensures { ExecutesNext self.old line.now self.new result }
     {
-        if let Err(code) = self.begin(line) {
+        if let Err(code) = self.check(line) {
             return code;
         }
         let answered = self.session.answer(&((), alloc), line, &mut self.reply);
         code_of(answered)
     }
 
+    /// Executes a line.
+    pub(crate) fn execute(&mut self, alloc: Global, line: &[u8]) -> i32
+        ensures { Executes self.old line.now self.new result }
+    {
+        self.reply.clear();
+        self.execute_next(alloc, line)
+    }
+
+    /// Executes the lines of a block up to the first that isn't done, and tells its code and how many were done.
+    pub(crate) fn execute_lines(&mut self, alloc: Global, block: &[u8]) -> (i32, usize)
+        ensures { ExecutesLines self.old block.now self.new result.0 result.1 }
+    {
+        self.reply.clear();
+        let mut rest = block;
+        let mut done = 0;
+        while !rest.is_empty() {
+            let (line, behind) = first_line(rest);
+            let code = self.execute_next(alloc, line);
+            if code != OK {
+                return (code, done);
+            }
+            done += 1;
+            rest = behind;
+        }
+        (OK, done)
+    }
+
+    /// Tells whether two lines are tried, or the code of why not.
+    fn check_two(&self, delete: &[u8], add: &[u8]) -> Result<(), i32>
+        ensures { MatchResult result
+            (λ _. AreTried self.now.session delete.now add.now)
+            (λ code. IsFaultOfTwo self.now.session delete.now add.now code) }
+    {
+        if delete.len() > LONGEST || add.len() > LONGEST {
+            return Err(LINE_TOO_LONG);
+        }
+        if self.session.lines() >= MOST_LINES - 1 {
+            return Err(USED_UP);
+        }
+        Ok(())
+    }
+
+    /// Executes a deletion and an addition as one.
+    pub(crate) fn replace(&mut self, alloc: Global, delete: &[u8], add: &[u8]) -> i32
+        ensures { Replaces self.old delete.now add.now self.new result }
+    {
+        self.reply.clear();
+        if let Err(code) = self.check_two(delete, add) {
+            return code;
+        }
+        let replaced = self
+            .session
+            .replace(&((), alloc), delete, add, &mut self.reply);
+        code_of(replaced)
+    }
+
     /// Answers a search.
     pub(crate) fn search(&mut self, alloc: Global, line: &[u8]) -> i32
         ensures { Searches self.old line.now self.new result }
     {
-        if let Err(code) = self.begin(line) {
+        self.reply.clear();
+        if let Err(code) = self.check(line) {
             return code;
         }
         let found = self.session.find(&((), alloc), line, &mut self.reply);
+        code_of(found)
+    }
+
+    /// Answers a search, cut to the fields that another line lists.
+    pub(crate) fn search_fields(&mut self, alloc: Global, line: &[u8], names: &[u8]) -> i32
+        ensures { SearchesFields self.old line.now names.now self.new result }
+    {
+        self.reply.clear();
+        if let Err(code) = self.check(line) {
+            return code;
+        }
+        let found = self
+            .session
+            .find_fields(&((), alloc), line, names, &mut self.reply);
         code_of(found)
     }
 

@@ -1,3 +1,4 @@
 pub mod AnswerData
 pub mod CommandViews
 pub mod Commands
+pub mod Cuts

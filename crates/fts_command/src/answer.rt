@@ -6,8 +6,10 @@ ghost use Rattle.serde_json.specs.Written.{has_float};
 ghost use Rattle.fts_model.specs.Documents.{json_of};
 ghost use Rattle.fts_command.specs.AnswerData.{number_data, value_data, group_data, groups_data, hit_data, hits_data};
 ghost use Rattle.fts_command.specs.AnswerData.{answer_data};
+ghost use Rattle.fts_command.specs.Cuts.{cut_answer, cut_hit, cut_hits};
+ghost use Rattle.std.specs.Option.{option_copied};
 
-use fts_model::{Answer, GroupValue, Hit, Number};
+use fts_model::{Answer, GroupValue, Hit, Number, Text};
 use serde_json::{Map, Value, put};
 use std::alloc::{AllocError, Global};
 
@@ -49,10 +51,13 @@ fn groups_value(alloc: Global, groups: &[(GroupValue, u64)]) -> Result<Value, Al
     Ok(Value::Array(list))
 }
 
-/// The document of a hit.
-fn document_value(alloc: Global, hit: &Hit) -> Result<Value, AllocError>
-    ensures { IfOk result (λ value. view value ≡ json_of hit.now.document) }
+/// The document of a hit, cut to the fields of these names if there are names.
+fn document_value(alloc: Global, hit: &Hit, names: Option<&[Text]>) -> Result<Value, AllocError>
+    ensures { IfOk result (λ value. view value ≡ json_of (cut_hit (option_copied names.entry) hit.now).document) }
 {
+    if let Some(names) = names {
+        return hit.document.to_json_of(alloc, names);
+    }
     match hit.document.to_json(alloc) {
         Ok(value) => Ok(value),
         // The one refusal of `to_json` is want of memory.
@@ -60,22 +65,22 @@ fn document_value(alloc: Global, hit: &Hit) -> Result<Value, AllocError>
     }
 }
 
-fn hit_value(alloc: Global, hit: &Hit) -> Result<Value, AllocError>
-    ensures { IfOk result (λ value. view value ≡ hit_data hit.now) }
+fn hit_value(alloc: Global, hit: &Hit, names: Option<&[Text]>) -> Result<Value, AllocError>
+    ensures { IfOk result (λ value. view value ≡ hit_data (cut_hit (option_copied names.entry) hit.now)) }
 {
     let mut members = Map::new(alloc);
-    put(&mut members, alloc, "doc", document_value(alloc, hit)?)?;
+    put(&mut members, alloc, "doc", document_value(alloc, hit, names)?)?;
     put(&mut members, alloc, "stamp", Value::from(hit.stamp))?;
     put(&mut members, alloc, "value", number_value(hit.value))?;
     Ok(Value::Object(members))
 }
 
-fn hits_value(alloc: Global, hits: &[Hit]) -> Result<Value, AllocError>
-    ensures { IfOk result (λ value. view value ≡ array (hits_data hits.now)) }
+fn hits_value(alloc: Global, hits: &[Hit], names: Option<&[Text]>) -> Result<Value, AllocError>
+    ensures { IfOk result (λ value. view value ≡ array (hits_data (cut_hits (option_copied names.entry) hits.now))) }
 {
     let mut list = Vec::with_capacity(alloc, hits.len())?;
     for hit in hits {
-        list.push(hit_value(alloc, hit)?)?;
+        list.push(hit_value(alloc, hit, names)?)?;
     }
     Ok(Value::Array(list))
 }
@@ -92,16 +97,26 @@ fn put_groups(
     put(members, alloc, "groups", list)
 }
 
-fn put_top(alloc: Global, members: &mut Map<String, Value>, hits: &[Hit]) -> Result<(), AllocError>
+fn put_top(
+    alloc: Global,
+    members: &mut Map<String, Value>,
+    hits: &[Hit],
+    names: Option<&[Text]>,
+) -> Result<(), AllocError>
     ensures { OnOk result (members_view members.new.entries
-        ≡ put (codes "top") (array (hits_data hits.now)) (members_view members.old.entries)) }
+        ≡ put (codes "top") (array (hits_data (cut_hits (option_copied names.entry) hits.now)))
+        (members_view members.old.entries)) }
 {
-    let list = hits_value(alloc, hits)?;
+    let list = hits_value(alloc, hits, names)?;
     put(members, alloc, "top", list)
 }
 
-fn object_of(alloc: Global, answer: &Answer) -> Result<Value, AllocError>
-    ensures { IfOk result (λ value. view value ≡ answer_data answer.now) }
+fn object_of(
+    alloc: Global,
+    answer: &Answer,
+    names: Option<&[Text]>,
+) -> Result<Value, AllocError>
+    ensures { IfOk result (λ value. view value ≡ answer_data (cut_answer (option_copied names.entry) answer.now)) }
 {
     let mut members = Map::new(alloc);
     put(&mut members, alloc, "count", Value::from(answer.count))?;
@@ -109,15 +124,20 @@ fn object_of(alloc: Global, answer: &Answer) -> Result<Value, AllocError>
         put_groups(alloc, &mut members, groups)?;
     }
     if let Some(hits) = &answer.top {
-        put_top(alloc, &mut members, hits)?;
+        put_top(alloc, &mut members, hits, names)?;
     }
     Ok(Value::Object(members))
 }
 
-/// An answer as JSON: the count, and what else was asked for. There is no float in it.
-pub fn answer_value(alloc: Global, answer: &Answer) -> Result<Value, AllocError>
-    ensures value { IfOk result (λ value. view value ≡ answer_data answer.now) }
+/// An answer as JSON: the count, and what else was asked for. There is no float in it. Where there are names, only
+/// their fields stand in the documents of hits.
+pub fn answer_value(
+    alloc: Global,
+    answer: &Answer,
+    names: Option<&[Text]>,
+) -> Result<Value, AllocError>
+    ensures value { IfOk result (λ value. view value ≡ answer_data (cut_answer (option_copied names.entry) answer.now)) }
     ensures plain { IfOk result (λ value. has_float (view value) ≡ false) }
 {
-    object_of(alloc, answer)
+    object_of(alloc, answer, names)
 }

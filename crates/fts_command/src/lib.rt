@@ -6,6 +6,8 @@
 
 mod answer;
 mod command;
+mod names;
 
 pub use answer::answer_value;
 pub use command::{Command, Search, command_of};
+pub use names::names_of;

@@ -1,6 +1,7 @@
 -- What an engine of one thread keeps from call to call.
-use Rattle.std.proofs.Common.{◌≡◌, ◌+◌, ◌*◌, ◌≤◌, ℕ, true, None, List, [], ◌∷◌, ◌++◌, length, refl, sym, ap, subst, ◌∙◌, arith}
+use Rattle.std.proofs.Common.{◌≡◌, ◌+◌, ◌*◌, ◌<◌, ◌≤◌, ℕ, true, None, Result, Ok, nat_lt, List, [], ◌∷◌, ◌++◌, length, refl, sym, ap, subst, ◌∙◌, arith}
 use Rattle.std.specs.List.{range_with_len}
+use Rattle.std.proofs.lemmas.Bool.Decides.{nat_tests}
 use Rattle.std.proofs.lemmas.List.{length-append}
 use Rattle.fts_model.specs.declared.operation.Op.{Op}
 use Rattle.fts_model.specs.declared.operation.Stamped.{Stamped}
@@ -12,6 +13,11 @@ use Rattle.fts_snapshots.specs.Snapshots.{SnapshotValue, after_commit, content_o
 use Rattle.fts_snapshots.specs.Stamps.{stamps_of}
 use Rattle.fts_snapshots.proofs.CountLemmas.{commit_counted, merge_counted, misfit-push}
 use Rattle.fts_snapshots.proofs.StampLemmas.{numbered-push}
+use Rattle.fts_steps.specs.Indexes.{Index, indexes}
+use Rattle.fts_steps.specs.Pairs.{submit_two}
+use Rattle.fts_steps.specs.Steps.{submit}
+use Rattle.fts_base.specs.declared.refusal.Refusal.{Refusal}
+use Rattle.fts_base.specs.Results.{result_and_then}
 use Rattle.fts_local.specs.declared.commit.LocalCommit.{LocalCommit}
 use Rattle.fts_local.specs.LocalIndexes.{CommitsLocally, IsLocalEngine, MergesLocally}
 
@@ -28,6 +34,33 @@ local_submitted commit uncommitted cut calls stamp op i at fits =
       stamps = omega (arith, more, i.stamps);
       segments = omega (arith, more, i.segments);
     }
+
+-- two more
+pub local_submitted_two : (commit : LocalCommit) (uncommitted : List (Stamped Op)) (cut : Cut) (calls stamp : ℕ) (first second : Op) → IsLocalEngine commit uncommitted cut calls → stamp ≡ commit.stamp + length uncommitted + 1 →
+    op_fits commit.snapshot.schema first ≡ true → op_fits commit.snapshot.schema second ≡ true →
+    IsLocalEngine commit (uncommitted ++ record { stamp = stamp; value = first } ∷ [] ++ record { stamp = stamp + 1; value = second } ∷ []) cut (calls + 2)
+local_submitted_two commit uncommitted cut calls stamp first second i at fits_first fits_second =
+    let one : Stamped Op = record { stamp = stamp; value = first } in
+    let more : length (uncommitted ++ one ∷ []) ≡ length uncommitted + 1 = length-append uncommitted (one ∷ []) in
+    let first_in = local_submitted commit uncommitted cut calls stamp first i at fits_first in
+    let two : calls + 1 + 1 ≡ calls + 2 = omega arith in
+    subst (λ n. IsLocalEngine commit (uncommitted ++ one ∷ [] ++ record { stamp = stamp + 1; value = second } ∷ []) cut n) two
+    (local_submitted commit (uncommitted ++ one ∷ []) cut (calls + 1) (stamp + 1) second first_in (omega (arith, at, more)) fits_second)
+
+-- what two more make of an index
+pub submitted_two : (i : Index) (first second : Op) (stamp : ℕ) → length i.uncommitted + 1 < 1000000 → stamp ≡ i.commit_stamp + length i.uncommitted + 1 →
+    submit_two indexes first second i ≡ Ok (record i { uncommitted = i.uncommitted ++ record { stamp = stamp; value = first } ∷ [] ++ record { stamp = stamp + 1; value = second } ∷ [] }, stamp + 1)
+submitted_two i first second stamp few at =
+    let one : Stamped Op = record { stamp = i.commit_stamp + length i.uncommitted + 1; value = first } in
+    let more : length (i.uncommitted ++ one ∷ []) ≡ length i.uncommitted + 1 = length-append i.uncommitted (one ∷ []) in
+    let below : nat_lt (length i.uncommitted) 1000000 ≡ true = grind (arith, nat_tests) in
+    let below_two : nat_lt (length (i.uncommitted ++ one ∷ [])) 1000000 ≡ true = grind (arith, nat_tests) in
+    let next : i.commit_stamp + length (i.uncommitted ++ one ∷ []) + 1 ≡ stamp + 1 = omega (arith, at, more) in
+    let left : ℕ → ℕ → Result (Index × ℕ) Refusal = λ a b. Ok (record i { uncommitted = i.uncommitted ++ record { stamp = a; value = first } ∷ [] ++ record { stamp = b; value = second } ∷ [] }, b) in
+    let last : submit indexes second (indexes.submitted first i) ≡ left (i.commit_stamp + length i.uncommitted + 1) (i.commit_stamp + length (i.uncommitted ++ one ∷ []) + 1) = rw below_two refl in
+    let taken : submit indexes first i ≡ Ok (indexes.submitted first i, i.commit_stamp + length i.uncommitted + 1) = rw below refl in
+    ap (result_and_then (λ (t : Index × ℕ). submit indexes second t.0)) taken ∙ last
+    ∙ ap (λ b. left (i.commit_stamp + length i.uncommitted + 1) b) next ∙ ap (λ a. left a (stamp + 1)) (sym at)
 
 -- the uncommitted operations are committed
 pub local_committed : (old new : LocalCommit) (uncommitted : List (Stamped Op)) (cut : Cut) (calls : ℕ) → IsLocalEngine old uncommitted cut calls → CommitsLocally uncommitted old new → IsLocalEngine new [] cut (calls + 1)

@@ -1,12 +1,12 @@
 // An index over segments that needs nothing but memory: no other thread, and nothing to wait for.
-ghost use Rattle.std.specs.Prelude.{◌≡◌, []};
+ghost use Rattle.std.specs.Prelude.{◌≡◌, ◌+◌, ◌^◌, ◌<◌, ◌++◌, ◌∷◌, [], OnOk, OnErr};
 
 use crate::changes::{merge_all, merge_behind, next_commit};
 use crate::commit::LocalCommit;
 use fts_model::{Answer, Cut, Op, Query, Refusal, Request, Schema, Stamp, Stamped};
 use fts_searches::search_alone;
 use fts_snapshots::Snapshot;
-use fts_steps::{Engine, EngineOver, Fork, MOST_UNCOMMITTED, Merge, Options};
+use fts_steps::{Engine, EngineOver, Fork, MOST_UNCOMMITTED, Merge, Options, Pairs};
 use std::alloc::{AllocError, Global};
 use std::marker::Model;
 use std::sync::Arc;
@@ -20,6 +20,36 @@ fn let_go(ops: &mut Vec<Stamped<Op>>)
 {
     ops.clear();
     ops.shrink_to(MOST_KEPT);
+}
+
+/// Puts two operations behind others, from this stamp on, or neither.
+fn push_two(
+    ops: &mut Vec<Stamped<Op>>,
+    stamp: Stamp,
+    first: Op,
+    second: Op,
+) -> Result<(), AllocError>
+    requires { stamp < 2 ^ 63 }
+    ensures ok { OnOk result (ops.new.items ≡ ops.old.items
+        ++ record { stamp = stamp; value = first } ∷ [] ++ record { stamp = stamp + 1; value = second } ∷ []) }
+    ensures err { OnErr result (ops.new.items ≡ ops.old.items) }
+{
+    let len = ops.len();
+    ops.push(Stamped {
+        stamp,
+        value: first,
+    })?;
+    let stamp = stamp + 1;
+    match ops.push(Stamped {
+        stamp,
+        value: second,
+    }) {
+        Ok(()) => Ok(()),
+        Err(_) => {
+            ops.truncate(len);
+            Err(AllocError)
+        }
+    }
 }
 
 /// The last commit, which forks share, and the operations since.
@@ -86,6 +116,23 @@ impl Engine for LocalEngine {
         let stamp = self.commit.stamp + self.uncommitted.len() as u64 + 1;
         self.uncommitted.push(Stamped { stamp, value: op })?;
         Ok(stamp)
+    }
+}
+
+impl Pairs for LocalEngine {
+    fn second_stamp(&self) -> Stamp {
+        self.commit.stamp + self.uncommitted.len() as u64 + 2
+    }
+
+    fn submit_two(&mut self, first: Op, second: Op) -> Result<Stamp, Refusal> {
+        self.calls += 2;
+        let taken = self.uncommitted.len();
+        if taken + 1 >= MOST_UNCOMMITTED {
+            return Err(Refusal::LaneFull);
+        }
+        let stamp = self.commit.stamp + taken as u64 + 1;
+        push_two(&mut self.uncommitted, stamp, first, second)?;
+        Ok(stamp + 1)
     }
 }
 

@@ -7,3 +7,4 @@ pub mod Queries
 pub mod Answers
 pub mod Internals
 pub mod Shorts
+pub mod Restricted

@@ -7,6 +7,7 @@ ghost use Rattle.serde_json.specs.View.{items_of, items_view, view, members_view
 ghost use Rattle.fts_base.specs.Results.{Gives, error_if_err};
 ghost use Rattle.serde_json.specs.Data.{array, object, no_members, string};
 ghost use Rattle.fts_model.specs.Schemas.{schema_fault, is_named};
+ghost use Rattle.fts_model.specs.Restricted.{is_among, restrict, value_among, values_among};
 ghost use Rattle.fts_model.specs.Documents.{list_in, strings_in, value_in, value_at};
 ghost use Rattle.fts_model.specs.Internals.Lists.{bytes_behind};
 ghost use Rattle.fts_model.specs.declared.schema.Kind.TheVariants as Kind;
@@ -298,6 +299,16 @@ impl Document {
         Ok(Value::Object(members_of(alloc, fields, &self.stored.values)?))
     }
 
+    /// The fields of these names that have a value, as a JSON object with the names in the order of their bytes. No other
+    /// field is copied.
+    pub fn to_json_of(&self, alloc: Global, names: &[Text]) -> Result<Value, AllocError>
+        ensures { IfOk result (λ json. view json ≡ json_of (restrict names.now self.now)) }
+    {
+        let fields = self.stored.schema.fields();
+        let members = members_among(alloc, names, fields, &self.stored.values)?;
+        Ok(Value::Object(members))
+    }
+
     /// Whether each field that has a value stands in the schema, at the same number and under the
     /// same name, and is of a kind that holds such a value.
     pub fn fits(&self, schema: &Schema) -> bool
@@ -397,6 +408,49 @@ fn members_of(
     let mut members = Map::new(alloc);
     for (field, value) in fields.iter().zip(values) {
         put_value(alloc, &mut members, field, value)?;
+    }
+    Ok(members)
+}
+
+/// Whether a field has one of these names.
+fn is_among(names: &[Text], field: &Field) -> bool
+    ensures { result ≡ is_among names.now field.now }
+{
+    names
+        .iter()
+        .any(|name| field.name.as_str() == name.as_str())
+}
+
+/// Puts the value of a field of these names among the members of an object, if there is one.
+fn put_among(
+    alloc: Global,
+    members: &mut Map<String, Value>,
+    names: &[Text],
+    field: &Field,
+    value: &Option<FieldValue>,
+) -> Result<(), AllocError>
+    ensures { OnOk result (members_view members.new.entries
+        ≡ with_value (members_view members.old.entries) field.now (value_among names.now field.now value.now)) }
+{
+    if is_among(names, field) {
+        put_value(alloc, members, field, value)?;
+    }
+    Ok(())
+}
+
+/// The members of an object for the fields of these names that have a value.
+fn members_among(
+    alloc: Global,
+    names: &[Text],
+    fields: &[Field],
+    values: &[Option<FieldValue>],
+) -> Result<Map<String, Value>, AllocError>
+    ensures { IfOk result (λ members. members_view members.entries
+        ≡ with_values no_members fields.now (values_among names.now fields.now values.now)) }
+{
+    let mut members = Map::new(alloc);
+    for (field, value) in fields.iter().zip(values) {
+        put_among(alloc, &mut members, names, field, value)?;
     }
     Ok(members)
 }

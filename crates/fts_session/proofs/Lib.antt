@@ -1,2 +1,4 @@
 pub mod CarrierLemmas
 pub mod HistoryLemmas
+pub mod LineLemmas
+pub mod ReplaceLemmas

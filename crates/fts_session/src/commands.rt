@@ -78,7 +78,7 @@ fn submit<E: Engine>(
 }
 
 /// The document that a value is.
-fn document_in<E: Engine>(alloc: Global, engine: &E, json: &Value) -> Result<Document, Refusal>
+pub(crate) fn document_in<E: Engine>(alloc: Global, engine: &E, json: &Value) -> Result<Document, Refusal>
     ensures document { Gives (λ document. document) result
         (document_of (E.index engine.now).schema (view json.now)) }
     ensures fits { IfOk result (λ document. fits (E.index engine.now).schema document ≡ true) }
@@ -105,7 +105,7 @@ fn add<E: Engine>(
 }
 
 /// The term that a value is in the field of a name.
-fn term_in<E: Engine>(alloc: Global, engine: &E, name: &str, json: &Value) -> Result<Term, Refusal>
+pub(crate) fn term_in<E: Engine>(alloc: Global, engine: &E, name: &str, json: &Value) -> Result<Term, Refusal>
     ensures term { Gives (λ term. term) result
         (term_of (E.index engine.now).schema name.now (view json.now)) }
     ensures fits { IfOk result (λ term. term_fits (E.index engine.now).schema term ≡ true) }
@@ -144,7 +144,7 @@ fn without_byte(refusal: Refusal) -> Refusal
 }
 
 /// The query that a text is.
-fn query_of(alloc: Global, schema: &Schema, text: &str) -> Result<Query, Refusal>
+pub(crate) fn query_of(alloc: Global, schema: &Schema, text: &str) -> Result<Query, Refusal>
     ensures query { Gives query_value result (answer schema.now text.now) }
     ensures fits { IfOk result (λ query. query_fits schema.now (query_value query) ≡ true) }
 {
@@ -155,7 +155,7 @@ fn query_of(alloc: Global, schema: &Schema, text: &str) -> Result<Query, Refusal
 }
 
 /// The request for these groups and this top list.
-fn request_of(
+pub(crate) fn request_of(
     schema: &Schema,
     groups: Option<&str>,
     top: Option<(&str, u64, Order)>,
@@ -185,7 +185,7 @@ fn search<R: AllocGlobal + Sync, E: EngineOver<R>>(
     let query = query_of(rt.alloc(), engine.schema(), asked.query)?;
     let request = request_of(engine.schema(), asked.groups, asked.top)?;
     let answer = engine.search(rt, &query, &request)?;
-    let value = answer_value(rt.alloc(), &answer)?;
+    let value = answer_value(rt.alloc(), &answer, None)?;
     Ok(Reply::new(rt.alloc(), value, out)?)
 }
 
@@ -254,7 +254,7 @@ fn execute<R: AllocGlobal + Sync, E: EngineOver<R>>(
 }
 
 /// The JSON value that a line is: `BadJson` where it isn't one.
-fn json_of(alloc: Global, line: &[u8]) -> Result<Value, Refusal>
+pub(crate) fn json_of(alloc: Global, line: &[u8]) -> Result<Value, Refusal>
     ensures { Gives (λ value. view value) result (ok_or (json_in line.now) Refusal.BadJson) }
 {
     match Value::from_slice(alloc, line) {

@@ -5,10 +5,12 @@
 #![tactic(auto)]
 
 mod commands;
+mod cut_search;
 pub mod laws;
+mod replace;
 mod reply;
 mod session;
 mod text;
 
 pub use session::Session;
-pub use text::{is_blank, is_white};
+pub use text::{first_line, is_blank, is_white};

@@ -1,16 +1,21 @@
 // A script line by line: what it has come to, and its replies.
-ghost use Rattle.std.specs.Prelude.{◌≡◌, ◌+◌, ◌^◌, ◌≤◌, false, IfOk, OnOk, OnErr, string_bytes};
+ghost use Rattle.std.specs.Prelude.{◌≡◌, ◌+◌, ◌^◌, ◌<◌, ◌≤◌, false, length, IfOk, OnOk, OnErr, string_bytes};
 ghost use Rattle.fts_session.specs.Text.{is_blank};
 ghost use Rattle.fts_session.specs.Finds.{at_commit, reply_to_search};
 ghost use Rattle.fts_session.specs.Outputs.{start, after_line, reply_to};
+ghost use Rattle.fts_command.specs.Commands.{longest};
+ghost use Rattle.fts_session.specs.CutSearches.{reply_to_cut_search};
+ghost use Rattle.fts_session.specs.Replaces.{after_replace, reply_to_replace};
 ghost use Rattle.fts_session.specs.KeptLines.{TooLong, after_kept, reply_to_kept};
 ghost use Rattle.fts_session.specs.Sessions.{Appends, ChangesAtMost, IsAnswerable};
 
 use crate::commands::{answer_find, answer_whole};
+use crate::cut_search::answer_find_cut;
+use crate::replace::answer_replace;
 use crate::reply::Reply;
 use crate::text::is_blank;
 use fts_model::Refusal;
-use fts_steps::{Engine, EngineOver, Fork, Options};
+use fts_steps::{Engine, EngineOver, Fork, Options, Pairs};
 use std::alloc::{AllocError, Global};
 use std::marker::Model;
 
@@ -124,6 +129,55 @@ impl<E: Engine> Session<E> {
             (reply_to_search self.old line.now) }
     {
         answer_find(rt, &mut self.index, self.number + 1, line, out)
+    }
+
+    /// Replies to a line that deletes and a line that adds, as one: both are done, or neither. At a refusal, and at an
+    /// `Err`, the script is as it was. An `Err` is for want of memory, or where 2^61 lines were tried.
+    pub fn replace<R: AllocGlobal + Sync>(
+        &mut self,
+        rt: &R,
+        delete: &[u8],
+        add: &[u8],
+        out: &mut String,
+    ) -> Result<(), AllocError>
+    where
+        E: EngineOver<R> + Pairs,
+        requires line_number_fits { self.old.number < 2 ^ 61 }
+        requires fits_delete { length delete.now ≤ longest }
+        requires fits_add { length add.now ≤ longest }
+        ensures reply { Appends result (string_bytes out.old) (string_bytes out.new)
+            (reply_to_replace self.old delete.now add.now) }
+        ensures script { OnOk result (self.new ≡ after_replace self.old delete.now add.now) }
+        ensures kept { OnErr result (self.new ≡ self.old) }
+        ensures lines_counted { self.new.number ≤ self.old.number + 2 }
+    {
+        if self.tries >= MOST_TRIES - 1 {
+            return Err(AllocError);
+        }
+        self.tries += 2;
+        let number = self.number + 1;
+        let done = answer_replace(rt, &mut self.index, number, delete, add, out)?;
+        self.number += done;
+        Ok(())
+    }
+
+    /// Replies to a search, as `find` does, with the documents of its hits cut to the fields that another line lists. An
+    /// unknown name is refused as `UnknownField`.
+    pub fn find_fields<R: AllocGlobal + Sync>(
+        &mut self,
+        rt: &R,
+        line: &[u8],
+        names: &[u8],
+        out: &mut String,
+    ) -> Result<(), AllocError>
+    where
+        E: EngineOver<R>,
+        requires { IsAnswerable self.old line.now }
+        ensures same { self.new ≡ self.old }
+        ensures reply { Appends result (string_bytes out.old) (string_bytes out.new)
+            (reply_to_cut_search self.old line.now names.now) }
+    {
+        answer_find_cut(rt, &mut self.index, self.number + 1, line, names, out)
     }
 
     /// A session before its first line, over a fork of the index at its last commit.

@@ -9,8 +9,10 @@ mod engine;
 mod fork;
 mod list_engine;
 mod options;
+mod pairs;
 
 pub use engine::{Engine, EngineOver, MOST_UNCOMMITTED};
 pub use fork::Fork;
 pub use list_engine::ListEngine;
 pub use options::{Cut, Merge, Options};
+pub use pairs::Pairs;

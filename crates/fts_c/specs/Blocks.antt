@@ -1,0 +1,31 @@
+-- What a call of many lines leaves, and its code.
+use Rattle.std.specs.Prelude.{◌≡◌, ◌≢◌, ◌<◌, ℤ, ℕ, false, List, [], ◌++◌, length, take, slice_index_or, string_bytes}
+use Rattle.fts_session.specs.Outputs.{after_line, after_lines, replies, reply_to}
+use Rattle.fts_session.specs.Text.{is_blank, lines_of}
+use Rattle.fts_c.specs.declared.codes.TheConstants.{OK, MEMORY}
+use Rattle.fts_c.specs.declared.state.State.{State}
+use Rattle.fts_c.specs.Codes.{IsCodeOf}
+
+-- A line was executed, as one alone, and its reply put behind the last.
+pub record ExecutesNext (old : State) (line : List ℕ) (new : State) (code : ℤ) : Type 0 where
+  pub code_is : IsCodeOf old.session line code
+  pub reply : code ≡ OK → string_bytes new.reply ≡ string_bytes old.reply ++ reply_to old.session line
+  pub session : code ≡ OK → new.session ≡ after_line old.session line
+  pub same : code ≢ OK → new.session ≡ old.session
+  pub none : code ≢ OK → string_bytes new.reply ≡ string_bytes old.reply
+  pub not_blank : code ≡ MEMORY → is_blank line ≡ false
+
+-- the first line that was not done has this code, of those at which a line is not done
+pub record StopsAt (at : State) (line : List ℕ) (code : ℤ) : Type 0 where
+  pub code_is : IsCodeOf at.session line code
+  pub not_ok : code ≢ OK
+  pub not_blank : code ≡ MEMORY → is_blank line ≡ false
+
+-- The lines of a block were executed up to the first that has another code than 0: the reply is theirs, one behind the
+-- other, and the session is behind them. The code is 0 where all were done, and else that of the next.
+pub record ExecutesLines (old : State) (block : List ℕ) (new : State) (code : ℤ) (done : ℕ) : Type 0 where
+  pub reply : string_bytes new.reply ≡ replies old.session (take done (lines_of block))
+  pub session : new.session ≡ after_lines old.session (take done (lines_of block))
+  pub all : code ≡ OK → done ≡ length (lines_of block)
+  pub within : code ≢ OK → done < length (lines_of block)
+  pub stopped : code ≢ OK → StopsAt new (slice_index_or (lines_of block) done []) code

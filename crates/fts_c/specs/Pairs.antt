@@ -1,0 +1,34 @@
+-- What a call of two lines leaves, and its code.
+use Rattle.std.specs.Prelude.{◌≡◌, ◌≢◌, ◌+◌, ◌<◌, ◌≤◌, ◌⊎◌, ◌↔◌, ◌^◌, ℤ, ℕ, List, [], length, string_bytes}
+use Rattle.fts_command.specs.Commands.{longest}
+use Rattle.fts_session.specs.Outputs.{SessionValue}
+use Rattle.fts_session.specs.Replaces.{after_replace, reply_to_replace}
+use Rattle.fts_c.specs.declared.codes.TheConstants.{OK, LINE_TOO_LONG, USED_UP}
+use Rattle.fts_c.specs.declared.state.State.{State}
+use Rattle.fts_c.specs.Codes.{IsOfTried}
+
+-- two lines that are tried
+pub record AreTried (s : SessionValue) (delete add : List ℕ) : Type 0 where
+  pub fits_delete : length delete ≤ longest
+  pub fits_add : length add ≤ longest
+  pub lines_left : s.number + 1 < 2 ^ 61
+
+-- two lines have this code
+pub record IsCodeOfTwo (s : SessionValue) (delete add : List ℕ) (code : ℤ) : Type 0 where
+  pub line_too_long : (code ≡ LINE_TOO_LONG) ↔ ((longest < length delete) ⊎ (longest < length add))
+  pub used_up : (code ≡ USED_UP) ↔ ((length delete ≤ longest) × (length add ≤ longest) × (2 ^ 61 ≤ s.number + 1))
+  pub tried : IsOfTried code ↔ AreTried s delete add
+
+-- two lines aren't tried, and have this code
+pub record IsFaultOfTwo (s : SessionValue) (delete add : List ℕ) (code : ℤ) : Type 0 where
+  pub code_is : IsCodeOfTwo s delete add code
+  pub untried : AreTried s delete add → ⊥
+
+-- A deletion and an addition were executed as one: the reply is the definition's, and the session goes on as it says. At
+-- another code there is no reply, and the session is as it was.
+pub record Replaces (old : State) (delete add : List ℕ) (new : State) (code : ℤ) : Type 0 where
+  pub code_is : IsCodeOfTwo old.session delete add code
+  pub reply : code ≡ OK → string_bytes new.reply ≡ reply_to_replace old.session delete add
+  pub session : code ≡ OK → new.session ≡ after_replace old.session delete add
+  pub same : code ≢ OK → new.session ≡ old.session
+  pub none : code ≢ OK → string_bytes new.reply ≡ []
