@@ -1,14 +1,16 @@
 -- Single bits in words, and what a write of one changes.
-use Rattle.std.proofs.Common.{◌≡◌, ℕ, zero, suc, ◌+◌, ◌-◌, ◌*◌, ◌/◌, ◌%◌, ◌^◌, ◌<◌, ◌≤◌, ◌≢◌, inl, inr, List, [], ◌∷◌, ◌++◌, Bool, true, false, ◌==◌, replicate, slice_get, Some, length, get_or, take, drop, set, bit_and, bit_or, count_by, refl, sym, ap, ap₂, ◌∙◌, subst, arith, mul-one, mod-eq_of_lt, suc-mul, lit<, cond, lt_of_le_of_lt, Decides}
+use Rattle.std.proofs.Common.{◌≡◌, ◌||◌, ℕ, zero, suc, ◌+◌, ◌-◌, ◌*◌, ◌/◌, ◌%◌, ◌^◌, ◌<◌, ◌≤◌, ◌≢◌, inl, inr, List, [], ◌∷◌, ◌++◌, Bool, true, false, ◌==◌, replicate, slice_get, Some, length, get_or, take, drop, set, bit_and, bit_or, count_by, refl, sym, ap, ap₂, ◌∙◌, subst, arith, mul-one, mod-eq_of_lt, suc-mul, lit<, cond, lt_of_le_of_lt, Decides}
 use Rattle.std.proofs.lemmas.List.Folds.{sum_by-replicate}
 use Rattle.std.proofs.lemmas.List.Sums.{count_by-le-length, sum_by-set}
 use Rattle.std.specs.Int.{bit_at, w64}
 use Rattle.std.proofs.lemmas.Nat.{pow_pos, mod_below, shr_split, div-add-mod', pow-add, one_shl, pow_below, or_lt, and_le_l, mod_low, mod-pow-add, shr-shr, shl_whole, or_comm, or_shifted}
 use mir.Val.{bool_byte}
-use Rattle.std.proofs.lemmas.Nat.Bits.{same_from_bits, bit_at_above, bit_at_cat_low, bit_at_ones, bit_at-zero, bit_at_set_same, bit_at_set_other, bit_at_clear_same, bit_at_clear_other, shr_and_one}
-use Rattle.std.proofs.lemmas.List.{get_or-map, ext_get_or, length-set, length-map, get_or-set_same, get_or-set_other, get_or-replicate, length-replicate, replicate_more, set_at, length_push}
+use Rattle.std.proofs.lemmas.Nat.Bits.{same_from_bits, bit_at_above, bit_at_cat_low, bit_at_ones, bit_at-zero, bit_at_set_same, bit_at_set_other, bit_at_clear_same, bit_at_clear_other, shr_and_one, bit_at_lowest, bit_at-suc}
+use Rattle.std.proofs.lemmas.List.{take_all, get_or-take, get_or-drop, get_or-map, ext_get_or, length-set, length-map, get_or-set_same, get_or-set_other, get_or-replicate, length-replicate, replicate_more, set_at, length_push}
 use Rattle.std.proofs.lemmas.Option.{get_or_from_slice_get, slice_get-get_or}
-use Rattle.std.proofs.lemmas.Bool.{cases_lt, cases_eq}
+use Rattle.std.proofs.lemmas.Bool.{cases_lt, cases_eq, eq-eqb, ne_eqb}
+use Rattle.std.specs.List.{list_any}
+use Rattle.std.proofs.lemmas.List.Folds.{list_any_more}
 use Rattle.std.proofs.lemmas.Bool.Decides.{same_from_decides, Decides-eqb}
 use Rattle.std.proofs.lemmas.Slice.Eq.{slice_eq-Decides}
 use Rattle.std.specs.Cmp.{booleans_Decides}
@@ -344,3 +346,67 @@ module _ (bits : List Bool) (doc : ℕ) (was : Bool) (inside : doc < length bits
 -- all are set, or none
 pub ones_replicated : (bits : List Bool) (n : ℕ) (b : Bool) → bits ≡ replicate n b → n * one_if b ≡ count_by (λ bit. bit) bits
 ones_replicated bits n b is = sym (ap (count_by (λ bit. bit)) is ∙ sum_by-replicate one_if n b)
+
+-- a digit of booleans as a number is 1 where its boolean is true
+bit_at-number_of : (bits : List Bool) (k : ℕ) → bit_at (number_of bits) k ≡ cond (get_or bits k false) 1 0
+unfolding joined
+bit_at-number_of [] k = bit_at-zero k
+bit_at-number_of (true ∷ bits) zero = bit_at_lowest (number_of (true ∷ bits)) ∙ omega arith
+bit_at-number_of (false ∷ bits) zero = bit_at_lowest (number_of (false ∷ bits)) ∙ omega arith
+bit_at-number_of (true ∷ bits) (suc k) =
+    let half : (number_of bits * 2 ^ 1 + 1) / 2 ≡ number_of bits = omega arith in
+    bit_at-suc (number_of (true ∷ bits)) k ∙ ap (λ n. bit_at n k) half ∙ bit_at-number_of bits k
+bit_at-number_of (false ∷ bits) (suc k) =
+    let half : (number_of bits * 2 ^ 1 + 0) / 2 ≡ number_of bits = omega arith in
+    bit_at-suc (number_of (false ∷ bits)) k ∙ ap (λ n. bit_at n k) half ∙ bit_at-number_of bits k
+
+-- a bit of a word is the boolean of its document
+pub word_bit : (bits : List Bool) (start word k : ℕ) → word ≡ number_of (take 64 (drop start bits)) → k < 64 → (bit_at word k == 1) ≡ get_or bits (start + k) false
+word_bit bits start word k is inside =
+    let one : (b : Bool) → (cond b 1 0 == 1) ≡ b = elim [ true ↦ refl | false ↦ refl ] in
+    let part = take 64 (drop start bits) in
+    ap (λ n. bit_at n k == 1) is ∙ ap (λ n. n == 1) (bit_at-number_of part k) ∙ one (get_or part k false)
+    ∙ get_or-take 64 (drop start bits) k false inside ∙ get_or-drop start bits k false
+
+-- bits after the first of some documents were set
+pub record AreSet (old new : List Bool) (docs : List ℕ) : Type 0 where
+  pub len : length new ≡ length old
+  pub set_are : (d : ℕ) → get_or new d false ≡ (get_or old d false || list_any (λ x. x == d) docs)
+
+or-false : (b : Bool) → (b || false) ≡ b
+or-false true = refl
+or-false false = refl
+
+pub AreSet-none : (bits : List Bool) (docs : List ℕ) → AreSet bits bits (take 0 docs)
+AreSet-none bits docs = record { len = refl; set_are = λ d. sym (or-false (get_or bits d false)) }
+
+or_same : (a b : Bool) → (a || (b || true)) ≡ true
+or_same true b = refl
+or_same false true = refl
+or_same false false = refl
+
+or_false : (a b : Bool) → (a || (b || false)) ≡ (a || b)
+or_false true b = refl
+or_false false true = refl
+or_false false false = refl
+
+pub AreSet-more : (old new after : List Bool) (docs : List ℕ) (i doc : ℕ) → AreSet old new (take i docs) → i < length docs → doc ≡ get_or docs i 0 → doc < length old → after ≡ set new doc true → AreSet old after (take (i + 1) docs)
+AreSet-more old new after docs i doc h inside is there put = record {
+  len = ap length put ∙ length-set new doc true ∙ h.len;
+  set_are = λ d.
+      let room : doc < length new = omega (arith, there, h.len) in
+      let more : list_any (λ x. x == d) (take (i + 1) docs) ≡ (list_any (λ x. x == d) (take i docs) || (doc == d)) = list_any_more (λ x. x == d) docs i 0 inside ∙ ap (λ x. list_any (λ x. x == d) (take i docs) || (x == d)) (sym is) in
+      ap (λ v. get_or v d false) put ∙ (elim (cases_eq d doc) [
+        | inl e ↦ (
+            let same : (doc == d) ≡ true = rw e (eq-eqb doc doc refl) in
+            (rw (e, get_or-set_same) refl) ∙ sym (or_same (get_or old d false) (list_any (λ x. x == d) (take i docs))) ∙ ap (λ b. get_or old d false || (list_any (λ x. x == d) (take i docs) || b)) (sym same) ∙ ap (λ b. get_or old d false || b) (sym more)
+            )
+        | inr ne ↦ (
+            let other : (doc == d) ≡ false = ne_eqb doc d (λ e. ne (sym e)) in
+            (rw get_or-set_other (h.set_are d)) ∙ sym (or_false (get_or old d false) (list_any (λ x. x == d) (take i docs))) ∙ ap (λ b. get_or old d false || (list_any (λ x. x == d) (take i docs) || b)) (sym other) ∙ ap (λ b. get_or old d false || b) (sym more)
+            )
+      ]);
+}
+
+pub AreSet-all : (old new : List Bool) (docs : List ℕ) (i : ℕ) → AreSet old new (take i docs) → length docs ≤ i → AreSet old new docs
+AreSet-all old new docs i h past = subst (AreSet old new) (take_all i docs past) h

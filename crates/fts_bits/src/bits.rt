@@ -1,6 +1,7 @@
 // One bit a document: bit `i % 64` of word `i / 64` is document `i`'s, and the bits past the last document are 0.
 ghost use Rattle.std.specs.Prelude.{◌≡◌, ℕ, ◌<◌, ◌*◌, List, Bool, true, false, IfOk, IsOkUnless, count_by, ◌==◌, drop};
-ghost use Rattle.std.specs.Prelude.{length, map, replicate, slice_get, slice_set, take};
+ghost use Rattle.std.specs.Prelude.{All, ◌||◌, length, map, replicate, slice_get, slice_index_or, slice_set, take};
+ghost use Rattle.std.specs.List.{list_any};
 ghost use Rattle.std.specs.Cmp.{bool_eq_equiv, partial_equiv_from_equiv};
 ghost use Rattle.std.specs.Cmp.Lexicographic.{pointwise, lists_per};
 ghost use Rattle.std.proofs.lemmas.Cmp.{lists_equiv};
@@ -126,6 +127,30 @@ impl Bits {
         ensures { self.new ≡ slice_set self.old doc true }
     {
         self.put(doc, true);
+    }
+
+    /// Sets the bits of documents.
+    pub fn set_all(&mut self, docs: &[u32])
+        requires { All (λ d. d < length self.old) docs.now }
+        ensures len { length self.new ≡ length self.old }
+        ensures set { (d : ℕ) → slice_index_or self.new d false
+            ≡ (slice_index_or self.old d false || list_any (λ x. x == d) docs.now) }
+    {
+        for doc in docs {
+            self.put(*doc as usize, true);
+        }
+    }
+
+    /// Bits for so many documents, of which these are set.
+    pub fn of_documents(alloc: Global, len: usize, docs: &[u32]) -> Result<Bits, AllocError>
+        requires { All (λ d. d < len) docs.now }
+        ensures len { IfOk result (λ bits. length bits ≡ len) }
+        ensures set { IfOk result (λ bits. (d : ℕ) → slice_index_or bits d false
+            ≡ list_any (λ x. x == d) docs.now) }
+    {
+        let mut bits = Self::zeroed(alloc, len)?;
+        bits.set_all(docs);
+        Ok(bits)
     }
 
     /// Clears the document's bit.

@@ -18,6 +18,7 @@ use Rattle.fts_postings.specs.Conjoined.{AllFollow, Conjoined, bound_of, common_
 use Rattle.fts_postings.specs.Bounds.{Bound}
 use Rattle.fts_cursor.specs.Openings.{bound_of_all, shortest_of}
 use Rattle.fts_cursor.specs.Leading.{IsLed, IsOver}
+use Rattle.fts_cursor.specs.Splits.{bound_over}
 use Rattle.fts_postings.specs.Sets.{common, has, in_all}
 use Rattle.fts_postings.specs.Posting.{Posting, remaining_of}
 use Rattle.fts_cursor.specs.Terms.{AreTied, IsTied}
@@ -220,4 +221,31 @@ conjoins segment queries shortest ls lead ps c led over zip follows same =
       hits = same ∙ fresh.remaining ∙ led_hits segment queries shortest (lists_of ls) led;
       bound = continues.bound ∙ fresh.bound;
       opened = λ some. omega (arith, many, continues.more, fresh.opened (λ none. some (same ∙ fresh.remaining ∙ none)));
+    }
+
+-- a conjunction over a list and others, as it was made or later on
+pub record IsConjoinedOver (shortest : List ℕ) (others : List (List ℕ)) (c : Conjoined) : Type 0 where
+  pub fresh : AreTied c
+  pub remaining : common_of c ≡ common shortest others
+  pub bound : bound_of c ≡ bound_over shortest (length others)
+  pub opened : (d : ℕ) → has shortest d ≡ true → in_all others d ≡ true → suc (length others) ≤ counts_of c
+
+pub fresh_others : (ps : List Posting) (ls : List (Bor (List ℕ))) → AllZip (λ p l. IsOver p l.now) ps ls → All (λ p. p.opened ≤ 1) ps
+fresh_others ps ls zip = (are_over ps ls zip).opened
+
+pub conjoined_over : (shortest : List ℕ) (ls : List (Bor (List ℕ))) (lead : Posting) (ps : List Posting) (c : Conjoined) → IsOver lead shortest → AllZip (λ p l. IsOver p l.now) ps ls →
+    AllFollow (record { lead = lead; others = ps }) c → common_of c ≡ common (remaining_of lead) (each_remaining ps) → IsConjoinedOver shortest (lists_of ls) c
+conjoined_over shortest ls lead ps c over zip follows same =
+    let rest = are_over ps ls zip in
+    let on = terms-continue (record { lead = lead; others = ps }) c follows (over.tied, rest.tied) in
+    let continues = on.0 [] [] in
+    let many : length ps ≡ length (lists_of ls) = omega (arith, length_zip (λ (p : Posting) (l : Bor (List ℕ)). IsOver p l.now) ps ls zip, length_lists ls) in
+    let lead_is : bound_of (record { lead = lead; others = ps }) ≡ bound_over shortest (length ps) =
+    ap (λ (bs : List (List ℕ)). bound_of (record { lead = record lead { blocks = bs }; others = ps })) over.blocks
+    ∙ ap₂ (λ (n : ℕ) (xs : List ℕ). let b : Bound = record { blocks = n; lead = xs; others = length ps } in b) (length-blocks_of shortest) (blocks_joined shortest) in
+    record {
+      fresh = on.1;
+      remaining = same ∙ ap₂ common over.remaining rest.remaining;
+      bound = continues.bound ∙ lead_is ∙ ap (bound_over shortest) many;
+      opened = λ d first at. omega (arith, continues.more, over.enters (some_in shortest d first), over.tied, rest.enters d at, many);
     }

@@ -19,3 +19,8 @@ pub mod KeywordRangeLemmas
 pub mod CostLemmas
 pub mod ListedLemmas
 pub mod LiveLemmas
+pub mod DenseLemmas
+pub mod CutLemmas
+pub mod RowLemmas
+pub mod FilterLemmas
+pub mod SplitLemmas

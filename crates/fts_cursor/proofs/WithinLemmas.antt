@@ -21,7 +21,8 @@ AreMarks-of low high column from marks is fits = record {
   fits = fits;
 }
 
-none_past : (low high : ℕ) (column : List (Option ℕ)) (doc : ℕ) → length column ≤ doc → has_within low high column doc ≡ false
+-- behind the last number none is within
+pub none_past : (low high : ℕ) (column : List (Option ℕ)) (doc : ℕ) → length column ≤ doc → has_within low high column doc ≡ false
 none_past low high column doc past = ap (is_within low high) (get_or_past column doc None past)
 
 -- what is marked is there

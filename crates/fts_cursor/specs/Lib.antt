@@ -12,3 +12,6 @@ pub mod Falls
 pub mod Ranges
 pub mod Hits
 pub mod Live
+pub mod Dense
+pub mod Filters
+pub mod Splits

@@ -1,5 +1,5 @@
 -- The documents that are kept by their numbers alone, a stretch at a time.
-use Rattle.std.specs.Prelude.{◌≡◌, ℕ, ◌-◌, ◌%◌, ◌^◌, ◌<◌, ◌≤◌, Bool, true, false, Option, None}
+use Rattle.std.specs.Prelude.{◌≡◌, ℕ, ◌-◌, ◌%◌, ◌^◌, ◌<◌, ◌≤◌, ◌&&◌, Bool, true, false, Option, None}
 use Rattle.std.specs.Prelude.{IfSome, List, drop, length, min, take, is_some, slice_get, slice_index_or}
 use Rattle.std.specs.Option.{option_map_or}
 use Rattle.fts_model.specs.Documents.{DocumentValue, value_in_field}
@@ -7,11 +7,18 @@ use Rattle.fts_model.specs.declared.operation.Stamped.{Stamped}
 use Rattle.fts_column.specs.Column.{is_within}
 use Rattle.fts_postings.specs.Windows.{passing}
 use Rattle.fts_cursor.specs.declared.kept.Kept.{Kept}
-use Rattle.fts_cursor.specs.declared.kept.Kept.TheVariants.{Every, Within, Valued}
+use Rattle.fts_cursor.specs.declared.kept.Kept.TheVariants.{Every, Within, WithinLive, Valued, Told}
+use Rattle.fts_cursor.specs.Dense.{AreWithin, HoldsRow, is_dense}
+use Rattle.fts_cursor.specs.declared.dense.Row.{Row}
+use Rattle.fts_cursor.specs.Hits.{is_live}
 
 -- whether a document's number in a column is within these
 abbrev pub has_within : ℕ → ℕ → List (Option ℕ) → ℕ → Bool
 has_within low high column doc = is_within low high (slice_index_or column doc None)
+
+-- and whether its bit is set
+abbrev pub has_within_live : ℕ → ℕ → List (Option ℕ) → List Bool → ℕ → Bool
+has_within_live low high column live doc = has_within low high column doc && is_live live doc
 
 -- whether a document has a value of a field
 abbrev pub has_value : List (Stamped DocumentValue) → ℕ → ℕ → Bool
@@ -22,13 +29,17 @@ has_value documents field doc =
 abbrev pub keeps : Kept → ℕ → Bool
 keeps Every doc = true
 keeps (Within column low high) doc = has_within low high column.now doc
+keeps (WithinLive column low high live) doc = has_within_live low high column.now live.now doc
 keeps (Valued segment field) doc = has_value segment.now.documents field doc
+keeps (Told dense) doc = is_dense dense doc
 
 -- there is a number, or a document, for each of so many
 abbrev pub AreFor : Kept → ℕ → Type 0
 AreFor Every docs = Unit {0}
 AreFor (Within column low high) docs = length column.now ≡ docs
+AreFor (WithinLive column low high live) docs = length column.now ≡ docs
 AreFor (Valued segment field) docs = length segment.now.documents ≡ docs
+AreFor (Told dense) docs = AreWithin dense docs
 
 -- those kept of so many documents, from one on
 abbrev pub kept_from : Kept → ℕ → ℕ → List ℕ
@@ -39,8 +50,8 @@ abbrev pub kept_in : Kept → ℕ → ℕ → List ℕ
 kept_in kept from docs = passing (keeps kept) from (min 128 (docs - from))
 
 -- how the fields stand to one another: those kept in the stretch lie at the front of the array, and if there is a
--- number, so many remain
-pub record IsScan (kept : Kept) (docs : ℕ) (total : Option ℕ) (from at len : ℕ) (numbers : List ℕ)
+-- number, so many remain; what was read of words tells of those kept
+pub record IsScan (kept : Kept) (docs : ℕ) (total : Option ℕ) (from at len : ℕ) (numbers : List ℕ) (row : Row)
     : Type 0 where
   pub few : docs ≤ 2 ^ 32
   pub are_for : AreFor kept docs
@@ -50,3 +61,4 @@ pub record IsScan (kept : Kept) (docs : ℕ) (total : Option ℕ) (from at len :
   pub numbers_are : take len numbers ≡ kept_in kept from docs
   pub stands : from < docs → at < len
   pub total_is : IfSome total (λ n. n ≡ length (drop at (kept_from kept from docs)))
+  pub held : HoldsRow (keeps kept) row

@@ -14,8 +14,8 @@ use Rattle.fts_cursor.specs.declared.tree.buffered_union.BufferedUnion.{Buffered
 use Rattle.fts_cursor.specs.declared.tree.exclusion.Exclusion.{Exclusion}
 use Rattle.fts_cursor.specs.declared.tree.intersection.Intersection.{Intersection}
 use Rattle.fts_cursor.specs.declared.tree.Node.{Node}
-use Rattle.fts_cursor.specs.declared.tree.Node.TheVariants.{Scan, Listed, Postings, Terms, Phrase, And, Or}
-use Rattle.fts_cursor.specs.declared.tree.Node.TheVariants.{Without}
+use Rattle.fts_cursor.specs.declared.tree.Node.TheVariants.{Scan, Listed, Postings, Terms, Filter, Phrase}
+use Rattle.fts_cursor.specs.declared.tree.Node.TheVariants.{And, Or, Without}
 use Rattle.fts_cursor.specs.declared.tree.Source.{Source}
 use Rattle.fts_cursor.specs.declared.tree.Source.TheVariants.{Nothing, Cursor}
 use Rattle.fts_postings.specs.declared.window.Window.{Window}
@@ -44,7 +44,12 @@ abbrev pub differ : Exclusion → List ℕ
 differ parts = without parts.kept.value.remaining parts.dropped.value.remaining
 
 abbrev pub tree_value : Node → TreeValue
-tree_value (Scan documents) = leaf (record { remaining = documents; openings = 0; bound = at_most 0; whole = false })
+tree_value (Scan documents opened) = leaf (record {
+  remaining = documents;
+  openings = opened;
+  bound = at_most opened;
+  whole = false;
+})
 tree_value (Listed documents) = leaf (record { remaining = documents; openings = 0; bound = at_most 0; whole = false })
 tree_value (Postings p) = leaf (record {
   remaining = remaining_of p;
@@ -53,6 +58,7 @@ tree_value (Postings p) = leaf (record {
   whole = p.opened == blocks_reached p;
 })
 tree_value (Terms c) = leaf (of_terms c (common_of c))
+tree_value (Filter s) = leaf (record s { whole = false })
 tree_value (Phrase s) = leaf (record s { whole = false })
 tree_value (And parts) = beside parts.lead.value (together parts.others.items) (meet parts)
 tree_value (Or buffered) = beside (together buffered.parts.items) (together []) (gathered buffered)

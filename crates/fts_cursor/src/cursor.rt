@@ -1,6 +1,6 @@
 // The cursor of a query: of the documents that match, those that are live remain.
-ghost use Rattle.std.specs.Prelude.{◌≡◌, ◌-◌, ◌^◌, ◌≤◌, true, [], MatchOption, drop, filter, length, min, slice_get};
-ghost use Rattle.std.specs.Prelude.{take};
+ghost use Rattle.std.specs.Prelude.{◌≡◌, ◌-◌, ◌^◌, ◌≤◌, true, [], IfOk, MatchOption, drop, filter, length, min};
+ghost use Rattle.std.specs.Prelude.{slice_get, take};
 ghost use Rattle.fts_cursor.specs.Hits.{is_live};
 ghost use Rattle.fts_postings.specs.Bounds.{most_at};
 ghost use Rattle.fts_postings.specs.Sets.{FirstPasses};
@@ -10,6 +10,7 @@ ghost use Rattle.fts_cursor.specs.Standing.{Continues, Walked};
 use crate::tree::Tree;
 use fts_bits::Bits;
 use fts_postings::DocSet;
+use std::alloc::{AllocError, Global};
 use std::marker::Model;
 
 /// The live documents of a segment that match a query, from the first on. It borrows the segment and its bits.
@@ -42,16 +43,23 @@ impl<'a> Cursor<'a> {
     }
 
     /// Of those whose bit is set.
-    pub(crate) fn live(tree: Tree<'a>, live: &'a Bits) -> Cursor<'a>
-        ensures remaining { result.remaining ≡ filter (is_live live.now) tree.entry.remaining }
-        ensures walked { Walked tree.entry.standing result }
+    pub(crate) fn live(
+        alloc: Global,
+        tree: Tree<'a>,
+        live: &'a Bits,
+    ) -> Result<Cursor<'a>, AllocError>
+        ensures remaining { IfOk result (λ c. c.remaining ≡ filter (is_live live.now) tree.entry.remaining) }
+        ensures walked { IfOk result (λ c. Walked tree.entry.standing c) }
     {
         let mut tree = tree;
+        if tree.cut(alloc, live)? {
+            return Ok(Cursor { tree, live: None });
+        }
         settle(&mut tree, live);
-        Cursor {
+        Ok(Cursor {
             tree,
             live: Some(live),
-        }
+        })
     }
 
     /// How many blocks were opened since the cursor was made, the making included, or the greatest `u64`: at every
@@ -67,8 +75,8 @@ impl<'a> Cursor<'a> {
     }
 
     /// How many documents remain, or the greatest `usize`, where they needn't be gone through one after the other for
-    /// that, and leaves them behind then: for a list, for a range that is read from a column, and for a union, in a
-    /// segment all of whose documents are live.
+    /// that, and leaves them behind then: for what words tell, and, in a segment all of whose documents are live, for a
+    /// list and for a union.
     pub fn count(&mut self) -> Option<usize>
         ensures counted { MatchOption result (self.new ≡ self.old)
             (λ count. (count ≡ min (2 ^ 64 - 1) (length self.old.remaining)) × (self.new.remaining ≡ [])) }

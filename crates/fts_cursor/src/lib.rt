@@ -19,8 +19,12 @@
 //! ```
 #![tactic(auto)]
 
+mod any;
 mod cursor;
+mod dense;
+mod filter;
 mod kept;
+mod led;
 mod listed;
 mod phrase;
 mod position_cursor;

@@ -14,13 +14,15 @@ ghost use Rattle.fts_segment.specs.ListIds.{documents_in, positions_in};
 ghost use Rattle.fts_cursor.specs.Standing.{at_most};
 ghost use Rattle.fts_cursor.specs.TreeValues.{TreeValue, remains};
 
+use crate::any::{apart_by_words, by_words};
 use crate::cursor::Cursor;
 use crate::kept::Kept;
+use crate::led::cursor_over;
 use crate::phrase::{Member, PhraseCursor};
 use crate::position_cursor::PositionCursor;
 use crate::range::of_range;
 use crate::scan::ScanCursor;
-use crate::terms::{are_terms, cursor_over, of_terms};
+use crate::terms::{are_terms, of_terms};
 use crate::tree::Tree;
 use fts_bits::Bits;
 use fts_model::{FieldValue, Query, Refusal, Term, Text};
@@ -49,9 +51,11 @@ pub fn cursor_of<'a>(
         Err(AllocError) => Err(Refusal::Memory),
         Ok(tree) => {
             if all_set(live) {
-                Ok(Cursor::all(tree))
-            } else {
-                Ok(Cursor::live(tree, live))
+                return Ok(Cursor::all(tree));
+            }
+            match Cursor::live(alloc, tree, live) {
+                Err(AllocError) => Err(Refusal::Memory),
+                Ok(cursor) => Ok(cursor),
             }
         }
     }
@@ -97,6 +101,9 @@ fn tree_of<'a>(alloc: Global, segment: &'a Segment, query: &Query) -> Result<Tre
             if must_not.is_empty() {
                 return Ok(kept);
             }
+            if let Some(tree) = apart_by_words(alloc, segment, must, must_not)? {
+                return Ok(tree);
+            }
             let dropped = any_of(alloc, segment, must_not)?;
             let kept = Box::new(alloc, kept)?;
             let dropped = Box::new(alloc, dropped)?;
@@ -123,7 +130,10 @@ fn any_of<'a>(
     match queries {
         [] => Ok(Tree::nothing()),
         [query] => tree_of(alloc, segment, query),
-        _ => Tree::or(alloc, trees_of(alloc, segment, queries)?),
+        _ => match by_words(alloc, segment, queries)? {
+            Some(tree) => Ok(tree),
+            None => Tree::or(alloc, trees_of(alloc, segment, queries)?),
+        },
     }
 }
 

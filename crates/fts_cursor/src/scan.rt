@@ -1,12 +1,18 @@
 // A cursor over the documents that are kept by their number alone.
-ghost use Rattle.std.specs.Prelude.{◌≡◌, ◌%◌, ◌^◌, ◌-◌, ◌<◌, ◌≤◌, IfSome, [], length, slice_index, take};
+ghost use Rattle.std.specs.Prelude.{◌≡◌, ◌%◌, ◌^◌, ◌-◌, ◌<◌, ◌≤◌, IfErr, IfOk, IfSome, [], true, false, filter, length, slice_index};
+ghost use Rattle.std.specs.Prelude.{take};
 ghost use Rattle.fts_postings.specs.Fills.{IsStretch};
 ghost use Rattle.fts_postings.specs.Remaining.{at_least};
-ghost use Rattle.fts_cursor.specs.Scans.{AreFor, kept_from, kept_in};
+ghost use Rattle.fts_cursor.specs.Hits.{is_live};
+ghost use Rattle.fts_cursor.specs.Dense.{HoldsRow};
+ghost use Rattle.fts_cursor.specs.Scans.{AreFor, keeps, kept_from, kept_in};
 
+use crate::dense::Row;
 use crate::kept::{self, Kept};
+use fts_bits::Bits;
 use fts_postings::DocSet;
 use fts_postings::stretch::{copy_part, place_of};
+use std::alloc::{AllocError, Global};
 use std::marker::Model;
 
 // A stretch that begins behind each document, since these have 32 bits.
@@ -23,6 +29,7 @@ pub(crate) struct ScanCursor<'a> {
     at: usize,
     len: usize,
     numbers: [u32; 128],
+    row: Row,
 }
 
 impl<'a> Model for ScanCursor<'a> {
@@ -33,7 +40,7 @@ impl<'a> Model for ScanCursor<'a> {
 
     ghost view = { λ s. drop s.at (kept_from s.kept s.from s.docs) };
 
-    ghost invariant = { λ s. IsScan s.kept s.docs s.total s.from s.at s.len s.numbers };
+    ghost invariant = { λ s. IsScan s.kept s.docs s.total s.from s.at s.len s.numbers s.row };
 }
 
 impl<'a> ScanCursor<'a> {
@@ -45,7 +52,8 @@ impl<'a> ScanCursor<'a> {
         ensures { result ≡ kept_from kept.entry 0 docs }
     {
         let mut numbers = [0; 128];
-        let (from, len) = find(kept, docs, 0, 0, &mut numbers);
+        let mut row = Row::new();
+        let (from, len) = find(&kept, docs, 0, 0, &mut numbers, &mut row);
         ScanCursor {
             kept,
             docs,
@@ -54,6 +62,7 @@ impl<'a> ScanCursor<'a> {
             at: 0,
             len,
             numbers,
+            row,
         }
     }
 
@@ -81,6 +90,31 @@ impl<'a> ScanCursor<'a> {
         count
     }
 
+    /// Keeps of those that remain only those whose bit is set, where words tell of both and none was left behind yet, and
+    /// says whether it did.
+    pub(crate) fn cut(&mut self, alloc: Global, live: &'a Bits) -> Result<bool, AllocError>
+        ensures cut { IfOk result (λ did. did ≡ true → self.new ≡ filter (is_live live.now) self.old) }
+        ensures uncut { IfOk result (λ did. did ≡ false → self.new ≡ self.old) }
+        ensures failed { IfErr result (λ _. self.new ≡ self.old) }
+    {
+        if self.at > 0 || !kept::cut(&mut self.kept, alloc, self.docs, live)? {
+            return Ok(false);
+        }
+        self.total = None;
+        self.row.clear();
+        let (from, len) = find(
+            &self.kept,
+            self.docs,
+            self.from,
+            0,
+            &mut self.numbers,
+            &mut self.row,
+        );
+        self.from = from;
+        self.len = len;
+        Ok(true)
+    }
+
     // How many documents remain.
     fn remaining(&self) -> usize
         ensures { result ≡ length self.now }
@@ -89,7 +123,7 @@ impl<'a> ScanCursor<'a> {
             Some(total) => total,
             None => {
                 let here = self.len.saturating_sub(self.at);
-                here + count_from(self.kept, self.docs, self.from + 128)
+                here + count_from(&self.kept, self.docs, self.from + 128)
             }
         }
     }
@@ -109,7 +143,14 @@ impl<'a> ScanCursor<'a> {
             self.at += count;
         } else {
             let next = self.from + 128;
-            let (from, len) = find(self.kept, self.docs, next, 0, &mut self.numbers);
+            let (from, len) = find(
+                &self.kept,
+                self.docs,
+                next,
+                0,
+                &mut self.numbers,
+                &mut self.row,
+            );
             self.from = from;
             self.at = 0;
             self.len = len;
@@ -140,7 +181,14 @@ impl DocSet for ScanCursor<'_> {
             self.at += 1;
         } else {
             let next = self.from + 128;
-            let (from, len) = find(self.kept, self.docs, next, 0, &mut self.numbers);
+            let (from, len) = find(
+                &self.kept,
+                self.docs,
+                next,
+                0,
+                &mut self.numbers,
+                &mut self.row,
+            );
             self.from = from;
             self.at = 0;
             self.len = len;
@@ -155,7 +203,14 @@ impl DocSet for ScanCursor<'_> {
         self.total = None;
         if self.numbers[self.len - 1] < target {
             let next = (self.from + 128).max(target as usize / 128 * 128);
-            let (from, len) = find(self.kept, self.docs, next, target, &mut self.numbers);
+            let (from, len) = find(
+                &self.kept,
+                self.docs,
+                next,
+                target,
+                &mut self.numbers,
+                &mut self.row,
+            );
             self.from = from;
             self.at = 0;
             self.len = len;
@@ -180,28 +235,31 @@ impl DocSet for ScanCursor<'_> {
 // The first stretch from one on in which a document of the target or more is kept, and how many are kept there: they
 // lie at the front of `numbers`.
 fn find(
-    kept: Kept,
+    kept: &Kept,
     docs: usize,
     from: usize,
     target: u32,
     numbers: &mut [u32; 128],
+    row: &mut Row,
 ) -> (usize, usize)
     requires few { docs ≤ 2 ^ 32 }
-    requires are_for { AreFor kept docs }
+    requires are_for { AreFor kept.now docs }
     requires aligned { from % 64 ≡ 0 }
     requires near { from ≤ 2 ^ 33 }
+    requires held { HoldsRow (keeps kept.now) row.old }
+    ensures held { HoldsRow (keeps kept.now) row.new }
     ensures aligned { result.0 % 64 ≡ 0 }
     ensures near { result.0 ≤ 2 ^ 33 }
-    ensures same { at_least target (kept_from kept.entry result.0 docs)
-        ≡ at_least target (kept_from kept.entry from docs) }
+    ensures same { at_least target (kept_from kept.now result.0 docs)
+        ≡ at_least target (kept_from kept.now from docs) }
     ensures some { result.0 < docs → 0 < result.1 }
     ensures reaches { result.0 < docs → target ≤ slice_index numbers.new (result.1 - 1) }
-    ensures count { result.1 ≡ length (kept_in kept.entry result.0 docs) }
-    ensures written { take result.1 numbers.new ≡ kept_in kept.entry result.0 docs }
+    ensures count { result.1 ≡ length (kept_in kept.now result.0 docs) }
+    ensures written { take result.1 numbers.new ≡ kept_in kept.now result.0 docs }
 {
     let mut from = from;
     while from < docs {
-        let len = kept::write(kept, docs, from, numbers);
+        let len = kept::write(kept, docs, from, numbers, row);
         if len > 0 && numbers[len - 1] >= target {
             return (from, len);
         }
@@ -211,12 +269,15 @@ fn find(
 }
 
 // How many documents from one on are kept.
-fn count_from(kept: Kept, docs: usize, from: usize) -> usize
+fn count_from(kept: &Kept, docs: usize, from: usize) -> usize
     requires few { docs ≤ 2 ^ 32 }
-    requires are_for { AreFor kept docs }
+    requires are_for { AreFor kept.now docs }
     requires aligned { from % 64 ≡ 0 }
-    ensures { result ≡ length (kept_from kept.entry from docs) }
+    ensures { result ≡ length (kept_from kept.now from docs) }
 {
+    if let Kept::Told(dense) = kept {
+        return dense.count_from(docs, from);
+    }
     let mut count = 0;
     let mut from = from;
     while from < docs {

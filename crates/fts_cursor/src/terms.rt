@@ -1,21 +1,21 @@
 // The cursor of queries that are terms and must all match: one conjunction, led by the shortest list.
 ghost use Rattle.std.specs.Prelude.{◌≡◌, ◌≢◌, ℕ, ◌≤◌, ◌<◌, nat_lt, false, true, if◌then◌else◌, IfOk, MatchOption};
 ghost use Rattle.std.specs.Prelude.{Option, [], ◌∷◌, length, map};
-ghost use Rattle.std.specs.List.{AllZip, list_all};
+ghost use Rattle.std.specs.List.{list_all};
 ghost use Rattle.fts_model.specs.Queries.{matches};
 ghost use Rattle.fts_model.specs.QueryValues.{query_value};
 ghost use Rattle.fts_segment.specs.Segments.{numbers_where};
 ghost use Rattle.fts_cursor.specs.Builds.{is_term};
 ghost use Rattle.fts_cursor.specs.Hits.{segment_hits};
-ghost use Rattle.fts_cursor.specs.Leading.{IsLed, IsOver};
+ghost use Rattle.fts_cursor.specs.Leading.{IsLed};
 ghost use Rattle.fts_cursor.specs.Openings.{bound_of_all};
 ghost use Rattle.fts_postings.specs.Bounds.{most_at};
 ghost use Rattle.fts_postings.specs.Sets.{in_all};
 
+use crate::led::of_lists;
 use crate::tree::Tree;
 use fts_model::Query;
-use fts_pack::{List, ListSource};
-use fts_postings::{Conjunction, PostingCursor};
+use fts_pack::List;
 use fts_segment::Segment;
 use std::alloc::{AllocError, Global};
 
@@ -50,9 +50,7 @@ pub(crate) fn of_terms<'a>(
     let Some(lists) = lists_of(alloc, segment, queries)? else {
         return Ok(Tree::nothing());
     };
-    let lead = cursor_over(lists.shortest);
-    let others = cursors_over(alloc, &lists.others)?;
-    Tree::terms(alloc, Conjunction::new(lead, others))
+    of_lists(alloc, lists.shortest, &lists.others)
 }
 
 // Lists, of which the shortest leads.
@@ -92,7 +90,7 @@ fn lists_of<'a>(
 }
 
 // The list of a term, and none where no document has it.
-fn list_of<'a>(segment: &'a Segment, query: &Query) -> Option<&'a List>
+pub(crate) fn list_of<'a>(segment: &'a Segment, query: &Query) -> Option<&'a List>
     requires { is_term (query_value query.now) ≡ true }
     ensures { MatchOption result
         (segment_hits segment.now (query_value query.now) ≡ [])
@@ -112,27 +110,6 @@ fn by_length<'a>(a: &'a List, b: &'a List) -> (&'a List, &'a List)
         ≡ (if nat_lt (length b.now) (length a.now) then a.now else b.now) }
 {
     if b.len() < a.len() { (b, a) } else { (a, b) }
-}
-
-/// A cursor over a list.
-pub(crate) fn cursor_over(list: &List) -> PostingCursor<ListSource<'_>>
-    ensures { IsOver result list.now }
-{
-    PostingCursor::new(list.source())
-}
-
-// A cursor over each list.
-fn cursors_over<'a>(
-    alloc: Global,
-    lists: &[&'a List],
-) -> Result<Vec<PostingCursor<ListSource<'a>>>, AllocError>
-    ensures { IfOk result (λ cursors. AllZip (λ p l. IsOver p l.now) cursors.items lists.now) }
-{
-    let mut cursors = Vec::with_capacity(alloc, lists.len())?;
-    for list in lists {
-        cursors.push(cursor_over(list))?;
-    }
-    Ok(cursors)
 }
 
 // Whether the query is a term.

@@ -1,11 +1,12 @@
 // Cursors of queries within one another, each of which knows the first document that remains of it.
-ghost use Rattle.std.specs.Prelude.{◌≡◌, ℕ, ◌-◌, ◌^◌, ◌<◌, ◌≤◌, All, IfOk, [], MatchOption, true, drop, length, min};
-ghost use Rattle.std.specs.Prelude.{slice_get, take};
+ghost use Rattle.std.specs.Prelude.{◌≡◌, ℕ, ◌-◌, ◌^◌, ◌<◌, ◌≤◌, All, IfOk, [], MatchOption, true, false, drop, filter, length};
+ghost use Rattle.std.specs.Prelude.{min, slice_get, take};
 ghost use Rattle.std.specs.List.Sorted.{IsStrictlyIncreasing};
 ghost use Rattle.fts_postings.specs.Bounds.{most_at};
 ghost use Rattle.fts_postings.specs.Conjoined.{bound_of, common_of, counts_of};
 ghost use Rattle.fts_postings.specs.Sets.{common, has, union, without};
 ghost use Rattle.fts_postings.specs.Remaining.{at_least};
+ghost use Rattle.fts_cursor.specs.Hits.{is_live};
 ghost use Rattle.fts_cursor.specs.Standing.{Walked, at_most};
 ghost use Rattle.fts_cursor.specs.TreeValues.{TreeContinues, all_most, all_openings, remains};
 ghost use Rattle.fts_cursor.specs.Trees.{IsNow, StandsAt, tree_value};
@@ -15,11 +16,13 @@ mod buffered_union;
 mod exclusion;
 mod intersection;
 
+use crate::filter::FilterCursor;
 use crate::listed::ListedCursor;
 use crate::phrase::PhraseCursor;
 use crate::scan::ScanCursor;
 use buffered_union::{BufferedUnion, count_gathered, fill_gathered, gather, refill};
 use exclusion::{Exclusion, settle};
+use fts_bits::Bits;
 use fts_pack::{List, ListSource};
 use fts_postings::{Conjunction, DocSet, PostingCursor, Window};
 use intersection::{Intersection, align};
@@ -46,10 +49,12 @@ enum Source<'a> {
 #[cycle(tree)]
 #[derive(Drop)]
 enum Node<'a> {
-    Scan(ScanCursor<'a>),
+    /// Beside it how many blocks were opened of the lists that it stands for.
+    Scan(ScanCursor<'a>, u64),
     Listed(ListedCursor),
     Postings(PostingCursor<ListSource<'a>>),
     Terms(Conjunction<ListSource<'a>>),
+    Filter(FilterCursor<'a>),
     Phrase(PhraseCursor<'a>),
     And(Intersection<'a>),
     Or(BufferedUnion<'a>),
@@ -101,7 +106,19 @@ impl<'a> Tree<'a> {
         ensures remaining { IfOk result (λ t. t.remaining ≡ scan.entry) }
         ensures counts { IfOk result (λ t. (t.openings ≡ 0) × (t.bound ≡ at_most 0)) }
     {
-        Tree::of(alloc, scan.doc(), Node::Scan(scan))
+        Tree::dense(alloc, scan, 0)
+    }
+
+    /// Of documents that bits tell of lists of which so many blocks were opened.
+    pub(crate) fn dense(
+        alloc: Global,
+        scan: ScanCursor<'a>,
+        opened: u64,
+    ) -> Result<Tree<'a>, AllocError>
+        ensures remaining { IfOk result (λ t. t.remaining ≡ scan.entry) }
+        ensures counts { IfOk result (λ t. (t.openings ≡ opened) × (t.bound ≡ at_most opened)) }
+    {
+        Tree::of(alloc, scan.doc(), Node::Scan(scan, opened))
     }
 
     /// Of documents that lie in memory.
@@ -135,6 +152,15 @@ impl<'a> Tree<'a> {
         ensures bound { IfOk result (λ t. t.bound ≡ bound_of terms.entry) }
     {
         Tree::of(alloc, terms.doc(), Node::Terms(terms))
+    }
+
+    /// Of what lists have in common and bits tell.
+    pub(crate) fn filter(alloc: Global, filter: FilterCursor<'a>) -> Result<Tree<'a>, AllocError>
+        ensures remaining { IfOk result (λ t. t.remaining ≡ filter.entry.remaining) }
+        ensures openings { IfOk result (λ t. t.openings ≡ filter.entry.openings) }
+        ensures bound { IfOk result (λ t. t.bound ≡ filter.entry.bound) }
+    {
+        Tree::of(alloc, filter.doc(), Node::Filter(filter))
     }
 
     /// Of a phrase.
@@ -183,6 +209,31 @@ impl<'a> Tree<'a> {
         Tree::of(alloc, doc, Node::Without(parts))
     }
 
+    /// Keeps of those that remain only those whose bit is set, where words tell of both, and says whether it did.
+    pub(crate) fn cut(&mut self, alloc: Global, live: &'a Bits) -> Result<bool, AllocError>
+        ensures cut { IfOk result (λ did. did ≡ true
+            → self.new.remaining ≡ filter (is_live live.now) self.old.remaining) }
+        ensures uncut { IfOk result (λ did. did ≡ false → self.new.remaining ≡ self.old.remaining) }
+        ensures walked { Walked self.old.standing self.new.standing }
+    {
+        let Source::Cursor(node) = &mut self.source else {
+            return Ok(true);
+        };
+        match &mut **node {
+            Node::Scan(scan, _) => {
+                let did = scan.cut(alloc, live)?;
+                self.doc = scan.doc();
+                Ok(did)
+            }
+            Node::Filter(filter) => {
+                filter.cut(alloc, live)?;
+                self.doc = filter.doc();
+                Ok(true)
+            }
+            _ => Ok(false),
+        }
+    }
+
     /// How many blocks were opened since the cursors were made, the making included, or the greatest `u64`: no more
     /// than the bound where it stands.
     #[cycle(openings)]
@@ -197,9 +248,11 @@ impl<'a> Tree<'a> {
             return 0;
         };
         match &**node {
-            Node::Scan(_) | Node::Listed(_) => 0,
+            Node::Scan(_, opened) => *opened,
+            Node::Listed(_) => 0,
             Node::Postings(postings) => postings.openings(),
             Node::Terms(terms) => terms.openings(),
+            Node::Filter(filter) => filter.openings(),
             Node::Phrase(phrase) => phrase.openings(),
             Node::And(parts) => parts
                 .lead
@@ -223,10 +276,11 @@ impl<'a> Tree<'a> {
             return 0;
         };
         match &**node {
-            Node::Scan(scan) => scan.cost(),
+            Node::Scan(scan, _) => scan.cost(),
             Node::Listed(listed) => listed.cost(),
             Node::Postings(postings) => postings.cost(),
             Node::Terms(terms) => terms.cost(),
+            Node::Filter(filter) => filter.cost(),
             Node::Phrase(phrase) => phrase.cost(),
             Node::And(parts) => parts.lead.cost(),
             Node::Or(buffered) => buffered
@@ -288,7 +342,7 @@ impl<'a> Tree<'a> {
             return Some(0);
         };
         let count = match &mut **node {
-            Node::Scan(scan) => scan.count(),
+            Node::Scan(scan, _) => scan.count(),
             Node::Postings(postings) => postings.count(),
             Node::Or(buffered) => count_gathered(buffered, self.doc),
             _ => return None,
@@ -348,7 +402,7 @@ fn step(node: &mut Node) -> Option<u32>
     ensures height { (tree_value node.new).height ≡ (tree_value node.old).height }
 {
     match node {
-        Node::Scan(scan) => {
+        Node::Scan(scan, _) => {
             scan.advance();
             scan.doc()
         }
@@ -363,6 +417,10 @@ fn step(node: &mut Node) -> Option<u32>
         Node::Terms(terms) => {
             terms.advance();
             terms.doc()
+        }
+        Node::Filter(filter) => {
+            filter.advance();
+            filter.doc()
         }
         Node::Phrase(phrase) => {
             phrase.advance();
@@ -391,7 +449,7 @@ fn skip(node: &mut Node, target: u32) -> Option<u32>
     ensures continues { TreeContinues (tree_value node.old) (tree_value node.new) }
 {
     match node {
-        Node::Scan(scan) => {
+        Node::Scan(scan, _) => {
             scan.seek(target);
             scan.doc()
         }
@@ -406,6 +464,10 @@ fn skip(node: &mut Node, target: u32) -> Option<u32>
         Node::Terms(terms) => {
             terms.seek(target);
             terms.doc()
+        }
+        Node::Filter(filter) => {
+            filter.seek(target);
+            filter.doc()
         }
         Node::Phrase(phrase) => {
             phrase.seek(target);
@@ -432,7 +494,7 @@ fn fill(node: &mut Node, doc: Option<u32>, out: &mut [u32; 128]) -> (usize, Opti
     ensures walked { Walked (tree_value node.old).standing (tree_value node.new).standing }
 {
     match node {
-        Node::Scan(scan) => {
+        Node::Scan(scan, _) => {
             let count = scan.fill(out);
             (count, scan.doc())
         }
@@ -447,6 +509,10 @@ fn fill(node: &mut Node, doc: Option<u32>, out: &mut [u32; 128]) -> (usize, Opti
         Node::Terms(terms) => {
             let count = terms.fill(out);
             (count, terms.doc())
+        }
+        Node::Filter(filter) => {
+            let count = filter.fill(out);
+            (count, filter.doc())
         }
         Node::Phrase(phrase) => {
             let count = phrase.fill(out);

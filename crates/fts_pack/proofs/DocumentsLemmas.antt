@@ -95,3 +95,17 @@ last_is next documents some = sym (after_last next documents some)
 pub first_block : (documents : List ℕ) (block : ℕ) → length documents ≤ 128 → block < block_count (length documents) → block_at documents block ≡ documents
 first_block documents zero few h = take_all 128 documents few
 first_block documents (suc block) few h = absurd (omega (arith, few, h))
+
+-- the last is the greatest
+pub within_last : (next : ℕ) (xs : List ℕ) → Rises next xs → (k : ℕ) → k < length xs → get_or xs k 0 ≤ get_or xs (length xs - 1) 0
+within_last next [] h k inside = absurd (omega arith)
+within_last next (x ∷ []) h zero inside = omega arith
+within_last next (x ∷ []) h (suc k) inside = absurd (omega arith)
+within_last next (x ∷ y ∷ ys) h k inside =
+    let n = length (y ∷ ys) in
+    let e : length (x ∷ y ∷ ys) - 1 ≡ suc (n - 1) = omega arith in
+    let last : get_or (x ∷ y ∷ ys) (length (x ∷ y ∷ ys) - 1) 0 ≡ get_or (y ∷ ys) (n - 1) 0 = ap (λ i. get_or (x ∷ y ∷ ys) i 0) e in
+    elim k as (λ j. j < length (x ∷ y ∷ ys) → get_or (x ∷ y ∷ ys) j 0 ≤ get_or (x ∷ y ∷ ys) (length (x ∷ y ∷ ys) - 1) 0) [
+      | zero ↦ λ low. (let up = within_last (suc x) (y ∷ ys) h.1 0 (omega arith) in omega (arith, last, h.1.0, up))
+      | suc j ↦ λ low. (let up = within_last (suc x) (y ∷ ys) h.1 j (omega (arith, low)) in omega (arith, last, up))
+    ] inside

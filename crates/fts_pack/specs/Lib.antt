@@ -8,3 +8,4 @@ pub mod Packed
 pub mod Repr
 pub mod SourceLaws
 pub mod Unpacked
+pub mod DenseList

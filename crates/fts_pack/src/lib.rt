@@ -3,6 +3,7 @@
 
 mod block;
 mod blocks;
+mod dense_list;
 mod few;
 mod gaps;
 mod lanes;

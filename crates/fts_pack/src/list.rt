@@ -1,13 +1,17 @@
 // A strictly rising list of documents: a few lie in the list itself, some are plain numbers, and many lie in blocks.
-ghost use Rattle.std.specs.Prelude.{◌≡◌, ℕ, ◌<◌, ◌==◌, List, IfOk, IsOkUnless, length, take};
+ghost use Rattle.std.specs.Prelude.{◌≡◌, ℕ, ◌^◌, ◌<◌, ◌≤◌, ◌==◌, List, IfOk, IfSome, IsOkUnless, false, length};
+ghost use Rattle.std.specs.Prelude.{slice_index_or, take, true};
+ghost use Rattle.std.specs.List.{list_any};
 ghost use Rattle.std.specs.List.Sorted.{IsStrictlyIncreasing};
 ghost use Rattle.fts_pack.specs.Documents.{block_at, block_count, last_of};
 
+use crate::dense_list::DenseList;
 use crate::few::{FEW, Few};
 use crate::list_source::ListSource;
 use crate::long_list::LongList;
 use crate::plain::{MOST_PLAIN, Plain};
 use fts_base::Refusal;
+use fts_bits::Bits;
 use std::alloc::{AllocError, Global};
 use std::marker::Model;
 
@@ -16,6 +20,7 @@ enum Repr {
     Short(Few),
     Medium(Plain),
     Long(Box<LongList>),
+    Dense(Box<DenseList>),
 }
 
 /// A strictly rising list of documents.
@@ -53,6 +58,10 @@ impl List {
         let repr = match documents.len() {
             1..=FEW => Repr::Short(Few::new(documents)),
             1..=MOST_PLAIN => Repr::Medium(Plain::new(alloc, documents)?),
+            _ if is_dense(documents) => Repr::Dense(Box::new(
+                alloc,
+                DenseList::build(alloc, documents)?,
+            )?),
             _ => Repr::Long(Box::new(alloc, LongList::build(alloc, documents)?)?),
         };
         Ok(List { repr })
@@ -66,6 +75,7 @@ impl List {
             Repr::Short(few) => few.len(),
             Repr::Medium(plain) => plain.len(),
             Repr::Long(long) => long.len(),
+            Repr::Dense(dense) => dense.long().len(),
         }
     }
 
@@ -83,6 +93,7 @@ impl List {
             Repr::Short(few) => few.blocks(),
             Repr::Medium(plain) => plain.blocks(),
             Repr::Long(long) => long.blocks(),
+            Repr::Dense(dense) => dense.long().blocks(),
         }
     }
 
@@ -94,6 +105,7 @@ impl List {
             Repr::Short(few) => few.last(),
             Repr::Medium(plain) => plain.last(),
             Repr::Long(long) => long.last(block),
+            Repr::Dense(dense) => dense.long().last(block),
         }
     }
 
@@ -106,7 +118,30 @@ impl List {
             Repr::Short(few) => few.open(out),
             Repr::Medium(plain) => plain.open(out),
             Repr::Long(long) => long.open(block, out),
+            Repr::Dense(dense) => dense.long().open(block, out),
         }
+    }
+
+    /// A bit for each document up to the last, where the documents lie close together.
+    pub fn bits(&self) -> Option<&Bits>
+        ensures tells { IfSome result (λ bits. (d : ℕ) →
+            slice_index_or bits.now d false ≡ list_any (λ x. x == d) self.now) }
+        ensures few { IfSome result (λ bits. length bits.now ≤ 2 ^ 32) }
+    {
+        match &self.repr {
+            Repr::Dense(dense) => Some(dense.bits()),
+            Repr::Short(_) | Repr::Medium(_) | Repr::Long(_) => None,
+        }
+    }
+}
+
+// Whether at least one in 64 of the documents up to the last is in the list.
+fn is_dense(documents: &[u32]) -> bool
+    ensures { result ≡ true → 0 < length documents.now }
+{
+    match documents.last() {
+        None => false,
+        Some(last) => *last as usize / 64 < documents.len(),
     }
 }
 

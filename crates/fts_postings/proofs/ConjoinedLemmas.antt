@@ -6,13 +6,13 @@ use Rattle.std.proofs.lemmas.Bool.{cases_lt, le-leb, lt-leb}
 use Rattle.std.proofs.lemmas.List.{get_or-set_same, get_or-set_other, length-set, length-map, get_or_default, length-append, length-drop}
 use Rattle.std.proofs.lemmas.List.Sums.{count_by-le-length, length-filter, sum_by-le}
 use Rattle.std.proofs.lemmas.Nat.{mul-le}
-use Rattle.std.proofs.lemmas.List.Elements.{All-head, All-tail, AllZip-get_or, length_all_zip}
+use Rattle.std.proofs.lemmas.List.Elements.{All-nil, All-head, All-tail, AllZip-get_or, length_all_zip}
 use Rattle.fts_pack.specs.Documents.{Rises}
 use Rattle.fts_postings.specs.Bounds.{Bound, most_at, reached}
 use Rattle.fts_postings.specs.Posting.{Follows, Posting, members_of, remaining_of}
 use Rattle.fts_postings.specs.Remaining.{at_least}
 use Rattle.fts_postings.specs.Sets.{FirstPasses, has, in_all, common}
-use Rattle.fts_postings.specs.Conjoined.{AllFollow, Conjoined, Sought, StandAt, StandTogether, Brought, IsAhead, MayBeBrought, AreFew, common_of, bound_of, each_remaining, members_reached, openings_of}
+use Rattle.fts_postings.specs.Conjoined.{AllFollow, Conjoined, Sought, StandAt, StandTogether, Brought, IsAhead, IsConjoined, MayBeBrought, AreFew, common_of, bound_of, each_remaining, members_reached, openings_of}
 use Rattle.fts_postings.proofs.RemainingLemmas.{at_least-at_least, first-at_least, fewer-at_least}
 use Rattle.fts_postings.proofs.SetLemmas.{has-before_first, has-first, has-none, in_all-lacking, in_all-each, has-at_least, filter-first, filter-same, filter-ahead, filter-none, Rises-from_first}
 use Rattle.fts_postings.proofs.PostingLemmas.{Follows-same, Follows-trans, members-split, remaining_within}
@@ -298,3 +298,15 @@ most-at_end b (Some doc) =
     let le : reached b.lead (Some doc) + 1 ≤ length b.lead + 1 = omega (arith, length-filter (λ d. nat_le d doc) b.lead, count_by-le-length (λ d. nat_le d doc) b.lead) in
     let times = mul-le b.others (reached b.lead (Some doc) + 1) b.others (length b.lead + 1) (omega arith) le in
     omega (arith, times)
+
+-- a leading list alone
+all_kept : (xs : List ℕ) → filter (in_all []) xs ≡ xs
+all_kept [] = refl
+all_kept (x ∷ xs) = ap (λ ys. x ∷ ys) (all_kept xs)
+
+module _ (lead : Posting) (others : List Posting) (none : others ≡ []) where
+  pub common_alone : common (remaining_of lead) (each_remaining others) ≡ remaining_of lead
+  common_alone = ap (λ ps. common (remaining_of lead) (each_remaining ps)) none ∙ all_kept (remaining_of lead)
+
+  pub IsConjoined-alone : IsConjoined lead others
+  IsConjoined-alone = subst (IsConjoined lead) (sym none) (record { together = λ doc first. All-nil (λ p. slice_get (remaining_of p) 0 ≡ Some doc); few = All-nil (λ p. p.opened ≤ members_reached lead + 1) })

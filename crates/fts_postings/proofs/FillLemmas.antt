@@ -1,5 +1,5 @@
 -- Documents that are taken from the front of a list, one after the other.
-use Rattle.std.proofs.Common.{◌≡◌, ℕ, ◌+◌, ◌-◌, ◌<◌, ◌≤◌, Some, None, List, [], ◌∷◌, ◌++◌, append_assoc, length, get_or, set, take, drop, min, refl, sym, ap, ap₂, subst, ◌∙◌, inl, inr, arith}
+use Rattle.std.proofs.Common.{◌≡◌, ℕ, ◌+◌, ◌-◌, ◌<◌, ◌≤◌, Some, None, List, [], ◌∷◌, ◌++◌, Bool, true, append_assoc, length, get_or, set, take, drop, min, refl, sym, ap, ap₂, subst, ◌∙◌, inl, inr, arith}
 use Rattle.std.specs.List.{slice_get}
 use Rattle.std.proofs.lemmas.Bool.{cases_lt}
 use Rattle.std.proofs.lemmas.List.{append-nil, drop-take, length-append, nil_from_length, take-append-drop, take-append-le, take-take, take_more, take_more_set, take_all, drop_all, drop-drop, get_or-drop, length-drop}
@@ -156,3 +156,21 @@ behind_some left mid out written filled end h none some =
       | inl more ↦ more
       | inr all ↦ absurd (none (let none_taken : end - filled ≡ 0 = omega (arith, all) in omega (arith, some, ap length h.left_is, length-drop (end - filled) left, none_taken)))
     ]
+
+-- one document is a stretch
+pub stretch_of_one : (left next out : List ℕ) (filled d : ℕ) → Some d ≡ slice_get left 0 → filled < 128 → length out ≡ 128 → next ≡ drop 1 left → IsStretch left next out (set out filled d) filled 1
+stretch_of_one left next out filled d is room long step =
+    let some : 0 < length left = first_within left d is in
+    let inside : filled < length out = omega (arith, room, long) in
+    let one : take 1 left ≡ d ∷ [] = elim left as (λ xs. Some d ≡ slice_get xs 0 → take 1 xs ≡ d ∷ []) [ [] ↦ λ e. absurd (let f : Some d ≡ None = e in cc) | x ∷ xs ↦ λ e. (let f : Some d ≡ Some x = e in let g : x ≡ d = cc in ap (λ y. y ∷ []) g) ] is in
+    record {
+      some = λ _. omega arith;
+      within = omega (arith, some);
+      room = omega (arith, room);
+      front = take_more_set out filled d inside ∙ ap (λ xs. take filled out ++ xs) (sym one);
+      left_is = step;
+    }
+
+pub no_first : (left : List ℕ) → None ≡ slice_get left 0 → 0 < length left → ⊥
+no_first [] none some = omega (arith, some)
+no_first (x ∷ xs) none some = let e : None ≡ Some x = none in cc

@@ -9,6 +9,7 @@ ghost use Rattle.fts_postings.specs.Sets.{common};
 ghost use Rattle.fts_pack.specs.Documents.{blocks_of};
 ghost use Rattle.fts_postings.specs.Posting.{Follows, Posting, remaining_of};
 ghost use Rattle.fts_postings.specs.Remaining.{at_least};
+ghost use Rattle.fts_postings.specs.Fills.{IsStretch};
 
 use crate::doc_set::DocSet;
 use crate::posting::PostingCursor;
@@ -89,6 +90,24 @@ impl<B: Blocks + Drop> Conjunction<B> {
             sum = sum.saturating_add(other.openings());
         }
         sum
+    }
+
+    /// Copies some of the first documents that remain behind what fills `out` so far, at least one where there is any,
+    /// and leaves them behind. Of one list alone it takes what lies open.
+    pub fn take_stretch(&mut self, out: &mut [u32; 128], filled: usize) -> usize
+        requires { filled < 128 }
+        ensures taken { IsStretch (common_of self.old) (common_of self.new) out.old out.new filled result }
+        ensures follows { AllFollow self.old self.new }
+    {
+        if self.others.is_empty() {
+            return self.lead.take_block(out, filled);
+        }
+        let Some(doc) = self.doc() else {
+            return 0;
+        };
+        out[filled] = doc;
+        self.advance();
+        1
     }
 }
 

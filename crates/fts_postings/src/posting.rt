@@ -174,7 +174,7 @@ impl<B: Blocks> PostingCursor<B> {
     }
 
     // Copies what fits of the rest of the open block behind what fills `out` so far, and leaves it behind.
-    fn take_block(&mut self, out: &mut [u32; 128], filled: usize) -> usize
+    pub(crate) fn take_block(&mut self, out: &mut [u32; 128], filled: usize) -> usize
         requires { filled < 128 }
         ensures taken { IsStretch (remaining_of self.old) (remaining_of self.new) out.old out.new
             filled result }

@@ -14,5 +14,5 @@ returns-then-all_set-clause-hits c = ap (λ (s : Standing). s.remaining) c.all.e
 pub returns-then-all_set-clause-opens : goal.returns-then-all_set-clause-opens
 returns-then-all_set-clause-opens c = subst (Opens c.args.segment.now (query_value c.args.query.now)) (sym c.all.ensures) c.in-Ok.ensures.opens
 
-pub returns-else-all_set-clause-opens : goal.returns-else-all_set-clause-opens
-returns-else-all_set-clause-opens c = opens_walked c.args.segment.now (query_value c.args.query.now) (is_live c.args.live.now) c.in-Ok.tree.standing c.live.result c.in-Ok.ensures.opens c.live.ensures.walked c.live.ensures.remaining
+pub returns-in-Ok-live-clause-opens : goal.returns-in-Ok-live-clause-opens
+returns-in-Ok-live-clause-opens c = opens_walked c.args.segment.now (query_value c.args.query.now) (is_live c.args.live.now) c.in-Ok.tree.standing c.in-Ok-live.cursor c.in-Ok.ensures.opens c.in-Ok-live.ensures.walked c.in-Ok-live.ensures.remaining

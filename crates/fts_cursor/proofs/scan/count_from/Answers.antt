@@ -7,14 +7,14 @@ use Rattle.fts_cursor.proofs.scan.count_from.Goals as goal
 
 pub overflow_add-count : goal.overflow_add-count
 overflow_add-count c =
-    let p = keeps c.args.kept in
+    let p = keeps c.args.kept.now in
     omega (arith, c.requires.few, c.loop-from.invariant.sum, length-stretch p c.loop-from.from c.args.docs, c.count-count.ensures, scan_cost p c.args.from (c.args.docs - c.args.from) 0)
 
 pub loop-from-preserved : goal.loop-from-preserved
 loop-from-preserved c = record {
   aligned = omega (arith, c.loop-from.invariant.aligned);
-  sum = omega (arith, c.loop-from.invariant.sum, length-stretch (keeps c.args.kept) c.loop-from.from c.args.docs, c.count-count.ensures);
+  sum = omega (arith, c.loop-from.invariant.sum, length-stretch (keeps c.args.kept.now) c.loop-from.from c.args.docs, c.count-count.ensures);
 }
 
 pub returns : goal.returns
-returns c = omega (arith, c.loop-from.invariant.sum, ap length (none_behind (keeps c.args.kept) c.loop-from.from c.args.docs (omega (arith, c.loop-from-test.false))))
+returns c = omega (arith, c.loop-from.invariant.sum, ap length (none_behind (keeps c.args.kept.now) c.loop-from.from c.args.docs (omega (arith, c.loop-from-test.false))))

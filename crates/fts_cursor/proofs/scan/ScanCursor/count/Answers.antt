@@ -18,6 +18,7 @@ invariant_of-self c =
       numbers_are = sym none;
       stands = λ inside. omega (arith, inside, past);
       total_is = record {};
+      held = c.self.invariant.held;
     }
 
 pub returns-clause-none : goal.returns-clause-none

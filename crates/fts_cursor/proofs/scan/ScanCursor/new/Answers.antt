@@ -17,6 +17,7 @@ invariant_of-result c =
       numbers_are = found.written;
       stands = found.some;
       total_is = subst P (sym (same_all (keeps c.args.kept) next (c.args.docs - next) 0 (c.args.docs - 0) found.same)) c.requires.total;
+      held = found.held;
     }
 
 pub returns : goal.returns

@@ -1,11 +1,22 @@
 -- The first that is left lies at its place in the array.
-use Rattle.std.proofs.Common.{◌-◌, ap, subst, ◌∙◌}
+use Rattle.std.proofs.Common.{◌-◌, min, ap, subst, ◌∙◌, arith}
+use Rattle.fts_postings.proofs.CostLemmas.{scan_cost}
 use Rattle.std.specs.List.{slice_get}
 use Rattle.std.specs.List.Sorted.{IsStrictlyIncreasing}
 use Rattle.fts_cursor.specs.Scans.{keeps}
 use Rattle.fts_cursor.proofs.ScanLemmas.{passing-stretch, scan_first}
 use Rattle.fts_postings.proofs.PassingLemmas.{increasing-passing}
 use Rattle.fts_cursor.proofs.scan.ScanCursorDocSet.doc.Goals as goal
+
+pub offset_bounds-self-inside-self-inside : goal.offset_bounds-self-inside-self-inside
+offset_bounds-self-inside-self-inside c =
+    let s = c.self.inside in
+    omega (arith, c.if-self.true, c.self.invariant.size, scan_cost (keeps s.kept) s.from (min 128 (s.docs - s.from)) 0)
+
+pub bounds-self-inside-self-inside : goal.bounds-self-inside-self-inside
+bounds-self-inside-self-inside c =
+    let s = c.self.inside in
+    omega (arith, c.if-self.true, c.self.invariant.size, scan_cost (keeps s.kept) s.from (min 128 (s.docs - s.from)) 0)
 
 pub returns-then-self-clause-first : goal.returns-then-self-clause-first
 returns-then-self-clause-first c =

@@ -4,7 +4,7 @@ use Rattle.fts_pack.specs.Documents.{blocks_of}
 use Rattle.fts_cursor.proofs.BoolHits.{one_or_none}
 use Rattle.fts_cursor.proofs.LeadingLemmas.{one_where, one_where_some}
 use Rattle.fts_postings.proofs.PostingLemmas.{posting_new}
-use Rattle.fts_cursor.proofs.terms.cursor_over.Goals as goal
+use Rattle.fts_cursor.proofs.led.cursor_over.Goals as goal
 
 pub returns : goal.returns
 returns c =

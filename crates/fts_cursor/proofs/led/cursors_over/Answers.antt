@@ -4,7 +4,7 @@ use Rattle.std.specs.Borrow.{Bor}
 use Rattle.fts_cursor.specs.Leading.{IsOver}
 use Rattle.fts_postings.specs.Posting.{Posting}
 use Rattle.fts_cursor.proofs.BoolHits.{paired_more}
-use Rattle.fts_cursor.proofs.terms.cursors_over.Goals as goal
+use Rattle.fts_cursor.proofs.led.cursors_over.Goals as goal
 
 pub loop-list-preserved : goal.loop-list-preserved
 loop-list-preserved c =

@@ -2,7 +2,7 @@
 use Rattle.std.proofs.Common.{take}
 use Rattle.std.specs.List.{AllZip}
 use Rattle.fts_cursor.specs.Leading.{IsOver}
-use Rattle.fts_cursor.proofs.terms.cursors_over.Given as goal
+use Rattle.fts_cursor.proofs.led.cursors_over.Given as goal
 
 abbrev pub invariant-loop-list : goal.invariant-loop-list
 invariant-loop-list l = AllZip (λ p documents. IsOver p documents.now) l.cursors.items (take l.list-index l.lists)

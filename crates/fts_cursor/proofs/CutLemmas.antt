@@ -1,0 +1,62 @@
+-- Those of what is kept whose bit is set.
+use Rattle.std.proofs.Common.{◌≡◌, ◌&&◌, ℕ, ◌+◌, ◌^◌, ◌<◌, Bool, true, false, cond, ◌==◌, Option, List, [], ◌∷◌, ◌++◌, length, get_or, take, drop, bit_and, refl, sym, ap, ap₂, ◌∙◌, inl, inr}
+use Rattle.std.specs.Borrow.{Bor}
+use Rattle.std.specs.Prelude.{not, None}
+use Rattle.std.specs.Int.{bit_at}
+use Rattle.std.specs.List.{filter}
+use Rattle.std.proofs.lemmas.Bool.{cases_Bool}
+use Rattle.std.proofs.lemmas.List.Folds.{list_all-append}
+use Rattle.fts_bits.specs.Bits.{number_of}
+use Rattle.fts_bits.proofs.BitsLemmas.{word_bit}
+use Rattle.fts_column.specs.Column.{is_within}
+use Rattle.fts_cursor.specs.Dense.{Tells, in_each, in_one, is_dense}
+use Rattle.fts_cursor.specs.Hits.{is_live}
+use Rattle.fts_cursor.specs.Scans.{has_within_live}
+use Rattle.fts_cursor.specs.declared.dense.Dense.{Dense}
+use Rattle.fts_cursor.proofs.DenseLemmas.{AreTold, bit_of_and}
+use Rattle.fts_cursor.proofs.WithinLemmas.{none_past}
+
+-- what passes one test and another
+pub filter-both : (p q l : ℕ → Bool) → ((d : ℕ) → q d ≡ (p d && l d)) → (xs : List ℕ) → filter q xs ≡ filter l (filter p xs)
+filter-both p q l h [] = refl
+filter-both p q l h (x ∷ xs) = elim (cases_Bool (p x)) [
+  | inl live ↦ (
+      let kept : filter p (x ∷ xs) ≡ x ∷ filter p xs = ap (λ b. cond b (x ∷ filter p xs) (filter p xs)) live in
+      ap (λ b. cond b (x ∷ filter q xs) (filter q xs)) (h x ∙ ap (λ b. b && l x) live) ∙ ap (λ ys. cond (l x) (x ∷ ys) ys) (filter-both p q l h xs) ∙ sym (ap (filter l) kept)
+      )
+  | inr dead ↦ (
+      let kept : filter p (x ∷ xs) ≡ filter p xs = ap (λ b. cond b (x ∷ filter p xs) (filter p xs)) dead in
+      ap (λ b. cond b (x ∷ filter q xs) (filter q xs)) (h x ∙ ap (λ b. b && l x) dead) ∙ filter-both p q l h xs ∙ sym (ap (filter l) kept)
+      )
+]
+
+and_last : (s a n l : Bool) → ((s && (a && (l && true))) && not n) ≡ (((s && a) && not n) && l)
+and_last true true true true = refl
+and_last true true true false = refl
+and_last true true false true = refl
+and_last true true false false = refl
+and_last true false n l = refl
+and_last false a n l = refl
+
+-- bits that all are to have, one list of them more
+pub dense_more : (dense : Dense) (all : List (Bor (List Bool))) (live : Bor (List Bool)) (doc : ℕ) → all ≡ dense.all.items ++ live ∷ [] →
+    ((in_one dense.some.items doc && in_each all doc) && not (in_one dense.none.items doc)) ≡ (is_dense dense doc && is_live live.now doc)
+dense_more dense all live doc is =
+    let some = in_one dense.some.items doc in
+    let none = in_one dense.none.items doc in
+    ap (λ xs. (some && in_each xs doc) && not none) is
+    ∙ ap (λ b. (some && b) && not none) (list_all-append (λ (b : Bor (List Bool)). is_live b.now doc) dense.all.items (live ∷ []))
+    ∙ and_last some (in_each dense.all.items doc) none (is_live live.now doc)
+
+-- a word of marks and a word of bits
+pub Tells-within : (low high : ℕ) (column : List (Option ℕ)) (live : List Bool) (from at marks word : ℕ) → at ≡ from → ((k : ℕ) → k < 64 → (bit_at marks k == 1) ≡ is_within low high (get_or column (from + k) None)) → word ≡ number_of (take 64 (drop at live))
+    → Tells (has_within_live low high column live) from (bit_and marks word)
+Tells-within low high column live from at marks word start is word_is k low_k =
+    bit_of_and marks word k ∙ ap₂ (λ a b. a && b) (is k low_k) (word_bit live from word k (word_is ∙ ap (λ n. number_of (take 64 (drop n live))) start) low_k)
+
+pub AreTold-within : (low high : ℕ) (column : List (Option ℕ)) (live : List Bool) (from word : ℕ) → Tells (has_within_live low high column live) from word → word < 2 ^ 64 → AreTold (has_within_live low high column live) (length column) from word
+AreTold-within low high column live from word tells fits = record {
+  tells = tells;
+  fits = fits;
+  past = λ d up. ap (λ b. b && is_live live d) (none_past low high column d up);
+}

@@ -1,0 +1,129 @@
+-- Words of bits, and the documents that they tell.
+use Rattle.std.proofs.Common.{◌≡◌, ◌||◌, ◌&&◌, ℕ, zero, suc, ◌+◌, ◌-◌, ◌^◌, ◌<◌, ◌≤◌, Bool, true, false, ◌==◌, List, [], ◌++◌, length, get_or, take, drop, min, max, bit_and, bit_or, refl, sym, ap, ap₂, subst, ◌∙◌, inl, inr, arith}
+use Rattle.std.specs.Borrow.{Bor}
+use Rattle.std.specs.Prelude.{not}
+use Rattle.std.specs.Int.{bit_at, bit_not, w64}
+use Rattle.std.proofs.lemmas.Bool.{cases_lt}
+use Rattle.std.proofs.lemmas.List.{append-nil, get_or_past}
+use Rattle.std.proofs.lemmas.List.Folds.{list_all_more, list_any_more, list_any_none}
+use Rattle.std.proofs.lemmas.Nat.Bits.{bit_at_above, bit_at_and, bit_at_or, bit_at-lt, bit_at_not, bit_at_ones, bit_at-zero}
+use Rattle.fts_bits.specs.Bits.{number_of}
+use Rattle.fts_bits.proofs.BitsLemmas.{word_bit}
+use Rattle.fts_cursor.specs.Hits.{is_live}
+use Rattle.std.specs.Prelude.{All}
+use Rattle.fts_cursor.specs.declared.dense.Dense.{Dense}
+use Rattle.fts_cursor.specs.Dense.{AreWithin, Tells, in_each, in_one, is_dense}
+use Rattle.fts_postings.specs.Windows.{is_marked, marked, passing}
+use Rattle.fts_postings.proofs.PassingLemmas.{passing-append}
+use Rattle.fts_postings.proofs.WindowLemmas.{passing-same, nothing}
+
+or_one : (a b : ℕ) → a < 2 → b < 2 → (max a b == 1) ≡ ((a == 1) || (b == 1))
+or_one zero zero low high = refl
+or_one zero (suc zero) low high = refl
+or_one (suc zero) zero low high = refl
+or_one (suc zero) (suc zero) low high = refl
+or_one (suc (suc a)) b low high = absurd (omega (arith, low))
+or_one a (suc (suc b)) low high = absurd (omega (arith, high))
+
+and_one : (a b : ℕ) → a < 2 → b < 2 → (min a b == 1) ≡ ((a == 1) && (b == 1))
+and_one zero zero low high = refl
+and_one zero (suc zero) low high = refl
+and_one (suc zero) zero low high = refl
+and_one (suc zero) (suc zero) low high = refl
+and_one (suc (suc a)) b low high = absurd (omega (arith, low))
+and_one a (suc (suc b)) low high = absurd (omega (arith, high))
+
+not_one : (a : ℕ) → a < 2 → (1 - a == 1) ≡ not (a == 1)
+not_one zero low = refl
+not_one (suc zero) low = refl
+not_one (suc (suc a)) low = absurd (omega (arith, low))
+
+-- words joined
+pub bit_of_or : (a b k : ℕ) → (bit_at (bit_or a b) k == 1) ≡ ((bit_at a k == 1) || (bit_at b k == 1))
+bit_of_or a b k = ap (λ n. n == 1) (bit_at_or a b k) ∙ or_one (bit_at a k) (bit_at b k) (bit_at-lt a k) (bit_at-lt b k)
+
+pub bit_of_and : (a b k : ℕ) → (bit_at (bit_and a b) k == 1) ≡ ((bit_at a k == 1) && (bit_at b k == 1))
+bit_of_and a b k = ap (λ n. n == 1) (bit_at_and a b k) ∙ and_one (bit_at a k) (bit_at b k) (bit_at-lt a k) (bit_at-lt b k)
+
+pub bit_of_not : (a k : ℕ) → a < 2 ^ 64 → k < 64 → (bit_at (bit_not w64 a) k == 1) ≡ not (bit_at a k == 1)
+bit_of_not a k fits inside = ap (λ n. n == 1) (bit_at_not w64 a k fits inside) ∙ not_one (bit_at a k) (bit_at-lt a k)
+
+-- no bits, and one list of bits more
+pub Tells-none : (list : List (Bor (List Bool))) (from : ℕ) → Tells (in_one (take 0 list)) from 0
+Tells-none list from k inside = ap (λ n. n == 1) (bit_at-zero k)
+
+pub Tells-every : (list : List (Bor (List Bool))) (from : ℕ) → Tells (in_each (take 0 list)) from (2 ^ 64 - 1)
+Tells-every list from k inside = ap (λ n. n == 1) (bit_at_ones 64 k inside)
+
+module _ (list : List (Bor (List Bool))) (i : ℕ) (bits : Bor (List Bool)) (inside : i < length list) (is : bits ≡ get_or list i bits) (from old word : ℕ) (word_is : word ≡ number_of (take 64 (drop from bits.now))) where
+  here : (k : ℕ) → k < 64 → (bit_at word k == 1) ≡ is_live (get_or list i bits).now (from + k)
+  here k low = word_bit bits.now from word k word_is low ∙ ap (λ (b : Bor (List Bool)). is_live b.now (from + k)) is
+
+  pub Tells-or : Tells (in_one (take i list)) from old → Tells (in_one (take (i + 1) list)) from (bit_or old word)
+  Tells-or h k low = bit_of_or old word k ∙ ap₂ (λ a b. a || b) (h k low) (here k low) ∙ sym (list_any_more (λ (b : Bor (List Bool)). is_live b.now (from + k)) list i bits inside)
+
+  pub Tells-and : Tells (in_each (take i list)) from old → Tells (in_each (take (i + 1) list)) from (bit_and old word)
+  Tells-and h k low = bit_of_and old word k ∙ ap₂ (λ a b. a && b) (h k low) (here k low) ∙ sym (list_all_more (λ (b : Bor (List Bool)). is_live b.now (from + k)) list i bits inside)
+
+-- what a word tells of documents that pass; none behind the last does
+pub record AreTold (test : ℕ → Bool) (docs from word : ℕ) : Type 0 where
+  pub tells : Tells test from word
+  pub fits : word < 2 ^ 64
+  pub past : (d : ℕ) → docs ≤ d → test d ≡ false
+
+module _ (test : ℕ → Bool) (docs : ℕ) where
+  at : (from word : ℕ) → Tells test from word → (k : ℕ) → k < 64 → test (from + k) ≡ is_marked from word (from + k)
+  at from word h k low = let same : from + k - from ≡ k = omega arith in sym (ap (λ j. bit_at word j == 1) same ∙ h k low)
+
+  -- what is marked is there
+  pub told_inside : (from word : ℕ) → AreTold test docs from word → (k : ℕ) → bit_at word k ≡ 1 → from + k < docs
+  told_inside from word h k is = elim (cases_lt k 64) [
+    | inr above ↦ absurd (let e = bit_at_above word 64 k h.fits above in omega (arith, is, e))
+    | inl low ↦ elim (cases_lt (from + k) docs) [
+      | inl there ↦ there
+      | inr past ↦ (
+          let e : false ≡ true = sym (h.past (from + k) past) ∙ sym (h.tells k low) ∙ ap (λ b. b == 1) is in
+          absurd (cc)
+          )
+    ]
+  ]
+
+  -- two words have what a stretch has
+  pub two_told : (from first second : ℕ) → from < docs → AreTold test docs from first → AreTold test docs (from + 64) second
+      → passing test from (min 128 (docs - from)) ≡ marked from (from + 63) first ++ marked (from + 64) (from + 64 + 63) second
+  two_told from first second inside here there =
+      let n = min 128 (docs - from) in
+      let a = suc (from + 63) - from in
+      let b = suc (from + 64 + 63) - (from + 64) in
+      let m = 128 - n in
+      let whole : n + m ≡ a + b = omega arith in
+      let start : from + a ≡ from + 64 = omega arith in
+      let none : passing test (from + n) m ≡ [] = nothing test (from + n) m (λ d up down. here.past d (omega (arith, up, down, inside))) in
+      sym (append-nil (passing test from n)) ∙ ap (λ ys. passing test from n ++ ys) (sym none) ∙ sym (passing-append test from n m)
+      ∙ ap (passing test from) whole ∙ passing-append test from a b
+      ∙ ap₂ (λ xs ys. xs ++ ys)
+      (passing-same test (is_marked from first) from a (λ d up down. let e : from + (d - from) ≡ d = omega (arith, up) in subst (λ x. test x ≡ is_marked from first x) e (at from first here.tells (d - from) (omega (arith, up, down)))))
+      (ap (λ s. passing test s b) start ∙ passing-same test (is_marked (from + 64) second) (from + 64) b (λ d up down. let e : from + 64 + (d - (from + 64)) ≡ d = omega (arith, up) in subst (λ x. test x ≡ is_marked (from + 64) second x) e (at (from + 64) second there.tells (d - (from + 64)) (omega (arith, up, down)))))
+
+-- the word of documents that some have, and all, and none
+pub Tells-dense : (some all none : List (Bor (List Bool))) (from a b x : ℕ) → Tells (in_one some) from a → Tells (in_each all) from b → Tells (in_one none) from x → x < 2 ^ 64 →
+    Tells (λ doc. (in_one some doc && in_each all doc) && not (in_one none doc)) from (bit_and (bit_and a b) (bit_not w64 x))
+Tells-dense some all none from a b x a_is b_is x_is fits k low =
+    bit_of_and (bit_and a b) (bit_not w64 x) k
+    ∙ ap₂ (λ p q. p && q)
+    (bit_of_and a b k ∙ ap₂ (λ p q. p && q) (a_is k low) (b_is k low))
+    (bit_of_not x k fits low ∙ ap not (x_is k low))
+
+-- behind the last document none has a bit
+none_behind : (list : List (Bor (List Bool))) (docs d : ℕ) → All (λ b. length b.now ≤ docs) list → docs ≤ d → in_one list d ≡ false
+none_behind list docs d within past = list_any_none (λ (b : Bor (List Bool)). is_live b.now d) list (λ k b low. get_or_past (get_or list k b).now d false (let e = within k b low in omega (arith, e, past)))
+
+pub past_dense : (dense : Dense) (docs : ℕ) → AreWithin dense docs → (d : ℕ) → docs ≤ d → is_dense dense d ≡ false
+past_dense dense docs within d up = ap (λ a. (a && in_each dense.all.items d) && not (in_one dense.none.items d)) (none_behind dense.some.items docs d within up)
+
+pub AreTold-dense : (dense : Dense) (docs from word : ℕ) → AreWithin dense docs → Tells (is_dense dense) from word → word < 2 ^ 64 → AreTold (is_dense dense) docs from word
+AreTold-dense dense docs from word within tells fits = record {
+  tells = tells;
+  fits = fits;
+  past = past_dense dense docs within;
+}

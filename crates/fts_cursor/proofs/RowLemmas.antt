@@ -1,0 +1,73 @@
+-- 16 words of bits, a word after the other.
+use Rattle.std.proofs.Common.{◌≡◌, ◌≢◌, ℕ, suc, ◌+◌, ◌-◌, ◌*◌, ◌^◌, ◌<◌, ◌≤◌, Bool, false, List, [], ◌++◌, length, min, get_or, set, count_ones, refl, sym, ap, ◌∙◌, inl, inr, arith}
+use Rattle.std.proofs.lemmas.Bool.{cases_lt}
+use Rattle.std.proofs.lemmas.List.{append-nil, get_or-set_other, length-append, length-set}
+use Rattle.std.proofs.lemmas.Grind.{get_or-set_at}
+use Rattle.fts_cursor.specs.Dense.{Tells}
+use Rattle.fts_postings.specs.Windows.{is_marked, passing}
+use Rattle.fts_postings.proofs.PassingLemmas.{passing-append}
+use Rattle.fts_postings.proofs.TakingLemmas.{marked-ones}
+use Rattle.fts_postings.proofs.WindowLemmas.{nothing, passing-same}
+
+-- the first words are made of what they were
+pub record MadeUpTo (f : ℕ → ℕ → ℕ) (old row : List ℕ) (place : ℕ) : Type 0 where
+  pub done : (k : ℕ) → k < place → get_or row k 0 ≡ f k (get_or old k 0)
+  pub left : (k : ℕ) → place ≤ k → get_or row k 0 ≡ get_or old k 0
+  pub long : length row ≡ length old
+
+pub MadeUpTo-none : (f : ℕ → ℕ → ℕ) (old : List ℕ) → MadeUpTo f old old 0
+MadeUpTo-none f old = record { done = λ k low. absurd (omega (arith, low)); left = λ k up. refl; long = refl }
+
+pub MadeUpTo-more : (f : ℕ → ℕ → ℕ) (old row : List ℕ) (place v : ℕ) → MadeUpTo f old row place → place < length row → v ≡ f place (get_or row place 0) → MadeUpTo f old (set row place v) (place + 1)
+MadeUpTo-more f old row place v h inside is = record {
+  done = λ k low. elim (cases_lt k place) [
+    | inl below ↦ let other : k ≢ place = omega (arith, below) in get_or-set_other row place k v 0 other ∙ h.done k below
+    | inr up ↦ (
+        let at : k ≡ place = omega (arith, low, up) in
+        get_or-set_at row place k v 0 at inside ∙ is ∙ ap (f place) (h.left place (omega arith)) ∙ ap (λ j. f j (get_or old j 0)) (sym at)
+        )
+  ];
+  left = λ k up. let other : k ≢ place = omega (arith, up) in get_or-set_other row place k v 0 other ∙ h.left k (omega (arith, up));
+  long = length-set row place v ∙ h.long;
+}
+
+-- a word has what 64 documents have
+pub length-word : (test : ℕ → Bool) (from word : ℕ) → Tells test from word → word < 2 ^ 64 → length (passing test from 64) ≡ count_ones word
+length-word test from word tells fits =
+    let whole : 64 ≡ suc (from + 63) - from = omega arith in
+    ap length (passing-same test (is_marked from word) from 64 (λ d up down.
+    let k : ℕ = d - from in
+    let at : from + k ≡ d = omega (arith, up) in
+    sym (tells k (omega (arith, up, down)) ∙ ap test at))) ∙ ap (λ n. length (passing (is_marked from word) from n)) whole ∙ marked-ones from word fits
+
+pub length-more : (test : ℕ → Bool) (from place word : ℕ) → Tells test (from + 64 * place) word → word < 2 ^ 64 → length (passing test from (64 * (place + 1))) ≡ length (passing test from (64 * place)) + count_ones word
+length-more test from place word tells fits =
+    let size : 64 * (place + 1) ≡ 64 * place + 64 = omega arith in
+    ap (λ n. length (passing test from n)) size ∙ ap length (passing-append test from (64 * place) 64) ∙ length-append (passing test from (64 * place)) (passing test (from + 64 * place) 64)
+    ∙ ap (λ n. length (passing test from (64 * place)) + n) (length-word test (from + 64 * place) word tells fits)
+
+-- behind the last document nothing passes
+pub length-row : (test : ℕ → Bool) (docs from m : ℕ) → ((d : ℕ) → docs ≤ d → test d ≡ false) → m ≡ 1024 → length (passing test from m) ≡ length (passing test from (min 1024 (docs - from)))
+length-row test docs from m past is =
+    let n = min 1024 (docs - from) in
+    let k = m - n in
+    let whole : m ≡ n + k = omega (arith, is) in
+    let none : passing test (from + n) k ≡ [] = nothing test (from + n) k (λ d up down. past d (omega (arith, up, down, is))) in
+    ap (λ j. length (passing test from j)) whole ∙ ap length (passing-append test from n k ∙ ap (λ ys. passing test from n ++ ys) none ∙ append-nil (passing test from n))
+
+-- the first 1,024 documents, and the others
+pub rows_more : (p : ℕ → Bool) (from docs m : ℕ) → m ≡ 1024 → length (passing p from (docs - from)) ≡ length (passing p from (min m (docs - from))) + length (passing p (from + m) (docs - (from + m)))
+rows_more p from docs m is = elim (cases_lt (docs - from) m) [
+  | inl short ↦ (
+      let none : docs - (from + m) ≡ 0 = omega (arith, short) in
+      let all : min m (docs - from) ≡ docs - from = omega (arith, short) in
+      let a = ap (λ n. length (passing p from n)) all in
+      let b = ap (λ n. length (passing p (from + m) n)) none in
+      omega (arith, a, b)
+      )
+  | inr long ↦ (
+      let e : docs - from ≡ m + (docs - (from + m)) = omega (arith, long) in
+      let all : m ≡ min m (docs - from) = omega (arith, long) in
+      ap (λ n. length (passing p from n)) e ∙ ap length (passing-append p from m (docs - (from + m))) ∙ length-append (passing p from m) (passing p (from + m) (docs - (from + m))) ∙ ap (λ n. length (passing p from n) + length (passing p (from + m) (docs - (from + m)))) all
+      )
+]

@@ -1,0 +1,19 @@
+-- One document more is looked at.
+use Rattle.std.proofs.Common.{◌+◌, get_or, refl, ap, sym, arith}
+use Rattle.fts_cursor.specs.Dense.{is_dense}
+use Rattle.fts_cursor.proofs.LiveLemmas.{kept_all, kept_more, kept_size}
+use Rattle.fts_cursor.proofs.filter.keep.Goals as goal
+
+pub loop-index-init : goal.loop-index-init
+loop-index-init c = record { front = sym c.requires.passed; rest = refl; behind = omega arith; within = omega (arith, c.requires.room); long = refl }
+
+pub loop-index-preserved : goal.loop-index-preserved
+loop-index-preserved c =
+    let l = c.loop-index in
+    kept_more (is_dense c.args.dense.now) c.args.docs.now l.docs l.kept l.index (get_or l.docs l.index 0) _ c.has.result l.invariant (omega arith) refl c.has.ensures (ap (λ n. l.kept + n) c.from-kept.ensures)
+
+pub returns-clause-kept : goal.returns-clause-kept
+returns-clause-kept c = kept_all (is_dense c.args.dense.now) c.args.docs.now c.loop-index.docs c.loop-index.kept c.loop-index.index (c.args.from + c.args.count) c.loop-index.invariant (omega (arith, c.loop-index-test.false))
+
+pub returns-clause-size : goal.returns-clause-size
+returns-clause-size c = kept_size (is_dense c.args.dense.now) c.args.docs.now c.loop-index.docs c.loop-index.kept c.loop-index.index (c.args.from + c.args.count) c.loop-index.invariant (omega (arith, c.loop-index-test.false))

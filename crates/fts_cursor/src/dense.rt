@@ -1,0 +1,221 @@
+// Documents that are told by bits: 64 at once, by words.
+ghost use Rattle.std.specs.Prelude.{◌≡◌, ℕ, true, false, ◌+◌, ◌-◌, ◌%◌, ◌*◌, ◌^◌, ◌<◌, ◌≤◌, bit_and, bit_or, length, min};
+ghost use Rattle.std.specs.Prelude.{slice_index_or};
+ghost use Rattle.fts_cursor.specs.Dense.{AreWithin, HoldsRow, IsRow, Tells, in_each, in_one, is_dense, word_of};
+ghost use Rattle.fts_cursor.specs.Hits.{is_live};
+ghost use Rattle.fts_postings.specs.Windows.{passing};
+
+use fts_bits::Bits;
+
+/// The documents whose bit is set in some of the first, in all of the second, and in none of the last.
+#[derive(Drop)]
+pub(crate) struct Dense<'a> {
+    pub(crate) some: Vec<&'a Bits>,
+    pub(crate) all: Vec<&'a Bits>,
+    pub(crate) none: Vec<&'a Bits>,
+}
+
+impl Dense<'_> {
+    /// Which of the 1,024 documents from `from` on these are, 64 a word, the first of them the lowest bit.
+    pub(crate) fn row(&self, from: usize) -> [u64; 16]
+        requires aligned { from % 64 ≡ 0 }
+        requires near { from < 2 ^ 63 }
+        ensures { IsRow (is_dense self.now) from result }
+    {
+        let index = from / 64;
+        let mut row = row_of_some(&self.some, index);
+        let all = row_of_all(&self.all, index);
+        let none = row_of_some(&self.none, index);
+        for place in 0..16 {
+            row[place] = row[place] & all[place] & !none[place];
+        }
+        row
+    }
+
+    /// How many of the 1,024 documents from `from` on these are, of so many.
+    fn count(&self, docs: usize, from: usize) -> usize
+        requires few { docs ≤ 2 ^ 32 }
+        requires within { AreWithin self.now docs }
+        requires inside { from < docs }
+        requires aligned { from % 64 ≡ 0 }
+        ensures { result ≡ length (passing (is_dense self.now) from (min 1024 (docs - from))) }
+    {
+        let row = self.row(from);
+        let mut count = 0;
+        for place in 0..16 {
+            count += row[place].count_ones() as usize;
+        }
+        count
+    }
+
+    /// How many documents from one on these are, of so many.
+    pub(crate) fn count_from(&self, docs: usize, from: usize) -> usize
+        requires few { docs ≤ 2 ^ 32 }
+        requires within { AreWithin self.now docs }
+        requires aligned { from % 64 ≡ 0 }
+        ensures { result ≡ length (passing (is_dense self.now) from (docs - from)) }
+    {
+        let mut count = 0;
+        let mut from = from;
+        while from < docs {
+            count += self.count(docs, from);
+            from += 1024;
+        }
+        count
+    }
+
+    /// Whether the document is one of these.
+    #[inline]
+    pub(crate) fn has(&self, doc: u32) -> bool
+        ensures { result ≡ is_dense self.now doc }
+    {
+        let doc = doc as usize;
+        (in_one(&self.some, doc) && in_each(&self.all, doc)) && !in_one(&self.none, doc)
+    }
+}
+
+/// The last 16 words that were read of some documents, if there are some.
+#[derive(Drop)]
+pub(crate) struct Row {
+    read: bool,
+    from: usize,
+    words: [u64; 16],
+}
+
+impl Row {
+    /// Nothing was read yet.
+    pub(crate) fn new() -> Row
+        ensures read { result.read ≡ false }
+        ensures aligned { result.from ≡ 0 }
+    {
+        Row {
+            read: false,
+            from: 0,
+            words: [0; 16],
+        }
+    }
+
+    /// Leaves behind what was read.
+    pub(crate) fn clear(&mut self)
+        ensures read { self.new.read ≡ false }
+        ensures from { self.new.from ≡ self.old.from }
+    {
+        self.read = false;
+    }
+
+    /// Which of the 64 documents from `from` on are some, and which of the next 64. Where they weren't read yet, the words
+    /// behind them are read too.
+    #[inline]
+    pub(crate) fn words(&mut self, dense: &Dense, from: usize) -> (u64, u64)
+        requires aligned { from % 64 ≡ 0 }
+        requires near { from < 2 ^ 63 }
+        requires held { HoldsRow (is_dense dense.now) self.old }
+        ensures first { Tells (is_dense dense.now) from result.0 }
+        ensures second { Tells (is_dense dense.now) (from + 64) result.1 }
+        ensures fits { (result.0 < 2 ^ 64) × (result.1 < 2 ^ 64) }
+        ensures held { HoldsRow (is_dense dense.now) self.new }
+    {
+        self.reach(dense, from);
+        let place = (from - self.from) / 64;
+        (self.words[place], self.words[place + 1])
+    }
+
+    // Reads the words from there on, if those of 128 documents from there on were not read yet.
+    #[inline]
+    fn reach(&mut self, dense: &Dense, from: usize)
+        requires aligned { from % 64 ≡ 0 }
+        requires near { from < 2 ^ 63 }
+        requires held { HoldsRow (is_dense dense.now) self.old }
+        ensures held { HoldsRow (is_dense dense.now) self.new }
+        ensures read { self.new.read ≡ true }
+        ensures low { self.new.from ≤ from }
+        ensures high { from - self.new.from ≤ 896 }
+    {
+        if self.read && self.from <= from && from - self.from <= 896 {
+            return;
+        }
+        self.words = dense.row(from);
+        self.from = from;
+        self.read = true;
+    }
+}
+
+// Whether the document's bit is set in one of these.
+#[inline]
+fn in_one(list: &[&Bits], doc: usize) -> bool
+    ensures { result ≡ in_one list.now doc }
+{
+    let mut found = false;
+    for bits in list {
+        found = found || has_bit(bits, doc);
+    }
+    found
+}
+
+// Whether it is in each of these.
+#[inline]
+fn in_each(list: &[&Bits], doc: usize) -> bool
+    ensures { result ≡ in_each list.now doc }
+{
+    let mut found = true;
+    for bits in list {
+        found = found && has_bit(bits, doc);
+    }
+    found
+}
+
+// Whether the document's bit is set. What has no bit isn't there.
+#[inline]
+fn has_bit(bits: &Bits, doc: usize) -> bool
+    ensures { result ≡ is_live bits.now doc }
+{
+    doc < bits.len() && bits.get(doc)
+}
+
+// 16 words of several bits, joined by "or".
+fn row_of_some(list: &[&Bits], index: usize) -> [u64; 16]
+    requires { index < 2 ^ 60 }
+    ensures { IsRow (in_one list.now) (64 * index) result }
+{
+    let mut row = [0; 16];
+    for bits in list {
+        add(&mut row, bits, index);
+    }
+    row
+}
+
+// The same, joined by "and".
+fn row_of_all(list: &[&Bits], index: usize) -> [u64; 16]
+    requires { index < 2 ^ 60 }
+    ensures { IsRow (in_each list.now) (64 * index) result }
+{
+    let mut row = [u64::MAX; 16];
+    for bits in list {
+        keep(&mut row, bits, index);
+    }
+    row
+}
+
+// Adds the words of bits.
+#[inline]
+fn add(row: &mut [u64; 16], bits: &Bits, index: usize)
+    requires { index < 2 ^ 60 }
+    ensures { (k : ℕ) → k < 16 → slice_index_or row.new k 0
+        ≡ bit_or (slice_index_or row.old k 0) (word_of bits.now (index + k)) }
+{
+    for place in 0..16 {
+        row[place] |= bits.word(index + place);
+    }
+}
+
+// Keeps what the words of bits have too.
+#[inline]
+fn keep(row: &mut [u64; 16], bits: &Bits, index: usize)
+    requires { index < 2 ^ 60 }
+    ensures { (k : ℕ) → k < 16 → slice_index_or row.new k 0
+        ≡ bit_and (slice_index_or row.old k 0) (word_of bits.now (index + k)) }
+{
+    for place in 0..16 {
+        row[place] &= bits.word(index + place);
+    }
+}

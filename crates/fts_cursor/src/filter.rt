@@ -1,0 +1,178 @@
+// A cursor over the documents of lists that bits tell too.
+ghost use Rattle.std.specs.Prelude.{◌≡◌, ℕ, ◌+◌, ◌-◌, ◌^◌, ◌≤◌, IfErr, IfOk, Option, drop, filter, length, min, slice_get, take};
+ghost use Rattle.fts_postings.specs.Bounds.{most_at};
+ghost use Rattle.fts_postings.specs.Conjoined.{AllFollow, bound_of, common_of, counts_of};
+ghost use Rattle.fts_postings.specs.Remaining.{at_least};
+ghost use Rattle.fts_postings.specs.Sets.{FirstPasses};
+ghost use Rattle.fts_cursor.specs.Dense.{is_dense};
+ghost use Rattle.fts_cursor.specs.Hits.{is_live};
+ghost use Rattle.fts_cursor.specs.Standing.{Continues, Walked};
+ghost use Rattle.fts_cursor.specs.Terms.{AreTied};
+
+use crate::dense::Dense;
+use fts_bits::Bits;
+use fts_pack::ListSource;
+use fts_postings::{Conjunction, DocSet};
+use std::alloc::{AllocError, Global};
+use std::marker::Model;
+
+/// A cursor over the documents that lists have in common and bits tell. What the lists have is taken a stretch at a
+/// time, and cut by the bits.
+#[derive(Drop)]
+pub(crate) struct FilterCursor<'a> {
+    terms: Conjunction<ListSource<'a>>,
+    dense: Dense<'a>,
+    // How many blocks were opened of the lists for which the bits stand.
+    opened: u64,
+}
+
+impl<'a> Model for FilterCursor<'a> {
+    ghost use Rattle.std.specs.Prelude.{filter};
+    ghost use Rattle.fts_cursor.specs.Standing.{Standing};
+
+    ghost Value = { Standing };
+
+    ghost use Rattle.fts_postings.specs.Conjoined.{common_of};
+    ghost use Rattle.fts_cursor.specs.Dense.{is_dense};
+    ghost use Rattle.fts_cursor.specs.Filters.{IsFilter, filtered};
+
+    ghost view = { λ c. filtered c.terms c.opened (filter (is_dense c.dense) (common_of c.terms)) };
+
+    ghost invariant = { λ c. IsFilter c.terms (is_dense c.dense) };
+}
+
+impl<'a> FilterCursor<'a> {
+    /// Takes the terms as they were made, and how many blocks were opened of the lists for which the bits stand.
+    pub(crate) fn new(
+        terms: Conjunction<ListSource<'a>>,
+        dense: Dense<'a>,
+        opened: u64,
+    ) -> FilterCursor<'a>
+        requires tied { AreTied terms }
+        ensures remaining { result.remaining ≡ filter (is_dense dense.entry) (common_of terms.entry) }
+        ensures openings { counts_of terms.entry + opened ≤ result.openings }
+        ensures bound { (doc : Option ℕ) → most_at result.bound doc ≡ most_at (bound_of terms.entry) doc + opened }
+    {
+        let mut terms = terms;
+        settle(&mut terms, &dense);
+        FilterCursor {
+            terms,
+            dense,
+            opened,
+        }
+    }
+
+    /// Keeps of those that remain only those whose bit is set.
+    pub(crate) fn cut(&mut self, alloc: Global, live: &'a Bits) -> Result<(), AllocError>
+        ensures cut { IfOk result (λ _. self.new.remaining ≡ filter (is_live live.now) self.old.remaining) }
+        ensures failed { IfErr result (λ _. self.new ≡ self.old) }
+        ensures walked { Walked self.old self.new }
+    {
+        self.dense.all.push(live)?;
+        settle(&mut self.terms, &self.dense);
+        Ok(())
+    }
+
+    /// How many documents remain at most, or the greatest `usize`.
+    pub(crate) fn cost(&self) -> usize
+        ensures { min (2 ^ 64 - 1) (length self.now.remaining) ≤ result }
+    {
+        self.terms.cost()
+    }
+
+    /// How many blocks were opened since the cursors were made, or the greatest `u64`.
+    pub(crate) fn openings(&self) -> u64
+        ensures sum { result ≡ min (2 ^ 64 - 1) self.now.openings }
+        ensures bound { self.now.openings
+            ≤ most_at self.now.bound (slice_get self.now.remaining 0) }
+    {
+        self.terms.openings().saturating_add(self.opened)
+    }
+}
+
+impl<'a> DocSet for FilterCursor<'a> {
+    ghost remaining = { λ c. c.remaining };
+
+    fn doc(&self) -> Option<u32> {
+        self.terms.doc()
+    }
+
+    fn advance(&mut self)
+        ensures remaining { self.new.remaining ≡ drop 1 self.old.remaining }
+        ensures walked { Walked self.old self.new }
+    {
+        self.terms.advance();
+        settle(&mut self.terms, &self.dense);
+    }
+
+    fn seek(&mut self, target: u32)
+        ensures remaining { self.new.remaining ≡ at_least target self.old.remaining }
+        ensures continues { Continues self.old self.new }
+    {
+        self.terms.seek(target);
+        settle(&mut self.terms, &self.dense);
+    }
+
+    fn fill(&mut self, out: &mut [u32; 128]) -> usize
+        ensures count { result ≡ min 128 (length self.old.remaining) }
+        ensures taken { take result out.new ≡ take 128 self.old.remaining }
+        ensures remaining { self.new.remaining ≡ drop 128 self.old.remaining }
+        ensures walked { Walked self.old self.new }
+    {
+        let filled = fill_kept(&mut self.terms, &self.dense, out);
+        settle(&mut self.terms, &self.dense);
+        filled
+    }
+}
+
+// Takes the next 128 documents that bits tell.
+fn fill_kept(terms: &mut Conjunction<ListSource>, dense: &Dense, out: &mut [u32; 128]) -> usize
+    ensures count { result ≡ min 128 (length (filter (is_dense dense.now) (common_of terms.old))) }
+    ensures taken { take result out.new ≡ take 128 (filter (is_dense dense.now) (common_of terms.old)) }
+    ensures remaining { filter (is_dense dense.now) (common_of terms.new)
+        ≡ drop 128 (filter (is_dense dense.now) (common_of terms.old)) }
+    ensures follows { AllFollow terms.old terms.new }
+{
+    let mut filled = 0;
+    while filled < 128 {
+        let count = terms.take_stretch(out, filled);
+        if count == 0 {
+            return filled;
+        }
+        filled = keep(dense, filled, count, out);
+    }
+    128
+}
+
+// Keeps those of `count` documents that bits tell, behind the first `from`, which they tell too, and gives how many all
+// are.
+fn keep(dense: &Dense, from: usize, count: usize, docs: &mut [u32; 128]) -> usize
+    requires room { from + count ≤ 128 }
+    requires passed { filter (is_dense dense.now) (take from docs.old) ≡ take from docs.old }
+    ensures kept { take result docs.new ≡ filter (is_dense dense.now) (take (from + count) docs.old) }
+    ensures size { result ≡ length (filter (is_dense dense.now) (take (from + count) docs.old)) }
+    ensures few { result ≤ from + count }
+{
+    let mut kept = from;
+    for index in from..from + count {
+        let doc = docs[index];
+        docs[kept] = doc;
+        kept += usize::from(dense.has(doc));
+    }
+    kept
+}
+
+// Passes over documents that bits don't tell.
+fn settle(terms: &mut Conjunction<ListSource>, dense: &Dense)
+    ensures same { filter (is_dense dense.now) (common_of terms.new)
+        ≡ filter (is_dense dense.now) (common_of terms.old) }
+    ensures settled { FirstPasses (is_dense dense.now) (common_of terms.new) }
+    ensures follows { AllFollow terms.old terms.new }
+{
+    while let Some(doc) = terms.doc() {
+        if dense.has(doc) {
+            return;
+        }
+        terms.advance();
+    }
+}
