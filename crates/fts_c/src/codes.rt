@@ -11,3 +11,6 @@ pub const LINE_TOO_LONG: i32 = 2;
 
 /// There were 2^61 lines.
 pub const USED_UP: i32 = 3;
+
+/// The handle is closed.
+pub const CLOSED: i32 = 4;

@@ -7,7 +7,7 @@
 //! of `specs/Calls.antt`.
 #![tactic(auto)]
 
-ghost use Rattle.std.specs.Prelude.{◌≡◌, Option, Some, IfOk};
+ghost use Rattle.std.specs.Prelude.{◌≡◌, Option, Some, None, IfOk, MatchResult};
 ghost use Rattle.std.specs.Box.Ownership.{box_owns};
 ghost use Rattle.std.specs.contracts.impls.GlobalAllocator.TheImpl.{ghosts};
 ghost use Rattle.fts_c.specs.declared.state.State.{State};
@@ -17,13 +17,14 @@ ghost use Rattle.fts_c.specs.CutSearches.{SearchesFields};
 ghost use Rattle.fts_c.specs.Pairs.{Replaces};
 ghost use Rattle.fts_c.specs.Calls.{copied, Answers, Executes, Opens, Searches, TellsReply};
 ghost use Rattle.fts_c.specs.Held.{held};
+ghost use Rattle.fts_c.specs.Open.{IfOpen};
 ghost use Rattle.fts_session.specs.Finds.{at_commit};
 ghost use Rattle.fts_session.specs.Outputs.{start};
 
 mod codes;
 mod state;
 
-use codes::{MEMORY, OK};
+use codes::{CLOSED, MEMORY, OK};
 use core::mem::{replace, replace_with};
 use fts_local::LocalEngine;
 use fts_model::MOST_BUILT;
@@ -65,6 +66,20 @@ impl Slot {
     {
         let Handle { at, alloc } = handle;
         Slot { at, alloc }
+    }
+
+    /// The handle that is there, or the place again if it is null.
+    fn handle(self) -> Result<Handle, Slot>
+        ensures { MatchResult result
+            (λ handle. self.state ≡ Some handle.state)
+            (λ slot. (self.state ≡ None) × (slot.state ≡ None)) }
+    {
+        let Slot { at, alloc } = self;
+        if at.is_null() {
+            Err(Slot { at, alloc })
+        } else {
+            Ok(Handle { at, alloc })
+        }
     }
 }
 
@@ -203,6 +218,28 @@ pub extern "C" fn fts_replace(handle: &mut Handle, alloc: Global, delete: &[u8],
 {
     replace_with(handle, (alloc, delete, add), |handle, (alloc, delete, add)| {
         replaced(handle, alloc, delete, add)
+    })
+}
+
+fn answered_if_open(slot: Slot, call: Call, alloc: Global, line: &[u8]) -> (Slot, i32)
+    ensures { IfOpen slot.state result.0.state result.1 (λ old new. Answers call old line.now new result.1) }
+{
+    match slot.handle() {
+        Ok(handle) => {
+            let (handle, code) = answered(handle, call, alloc, line);
+            (Slot::full(handle), code)
+        }
+        Err(slot) => (slot, CLOSED),
+    }
+}
+
+/// Executes a line where the place holds a session, and else answers that it is closed.
+#[unsafe(no_mangle)]
+pub extern "C" fn fts_execute_at(slot: &mut Slot, alloc: Global, line: &[u8]) -> i32
+    ensures { IfOpen slot.old.state slot.new.state result (λ old new. Executes old line.now new result) }
+{
+    replace_with(slot, (alloc, line), |slot, (alloc, line)| {
+        answered_if_open(slot, Call::Execute, alloc, line)
     })
 }
 
