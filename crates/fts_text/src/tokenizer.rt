@@ -54,7 +54,8 @@ impl<'a> Tokens<'a> {
 
     /// The tokens of a text, from its first on.
     pub fn new(text: &'a str) -> Tokens<'a>
-        ensures { places_left result ≡ places text.now }
+        ensures tokens { places_left result ≡ places text.now }
+        ensures following { following_left result ≡ following 0 text.now }
     {
         Tokens::over(text, 0)
     }
@@ -137,14 +138,19 @@ impl<'a> Tokens<'a> {
 impl Iterator for Tokens<'_> {
     type Item = Token;
 
-    ghost use Rattle.std.specs.Iterator.{YieldsFirst, item_count};
-    ghost use Rattle.fts_text.specs.Places.{places_left};
+    ghost use Rattle.std.specs.Prelude.{◌≡◌, ⊤};
+    ghost use Rattle.std.specs.Iterator.{YieldsFirst, MakesProgress, item_count};
+    ghost use Rattle.fts_text.specs.Places.{following_left, places_left};
 
     ghost next_gives = { YieldsFirst places_left };
 
     ghost remaining = { item_count places_left };
 
-    fn next(&mut self) -> Option<Token> {
+    fn next(&mut self) -> Option<Token>
+        ensures gives { YieldsFirst places_left self.old result self.new }
+        ensures progress { MakesProgress (λ _. ⊤) (item_count places_left) self.old result self.new }
+        ensures following { following_left self.new ≡ following_left self.old }
+    {
         self.next_token()
     }
 }
