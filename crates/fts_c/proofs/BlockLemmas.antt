@@ -49,7 +49,7 @@ reached_next old now new block rest line behind done code r first shorter e ok =
       room = omega (arith, r.room, shorter);
       within = omega (arith, n.within);
       reply = e.reply ok ∙ ap (λ v. v ++ reply_to now.session line) r.reply ∙ ap (λ s. replies old.session (take done ls) ++ reply_to s line) r.session
-      ∙ sym (replies-push old.session (take done ls) line) ∙ ap (replies old.session) (sym n.taken);
+          ∙ sym (replies-push old.session (take done ls) line) ∙ ap (replies old.session) (sym n.taken);
       session = e.session ok ∙ ap (λ s. after_line s line) r.session ∙ sym (after_lines-push old.session (take done ls) line) ∙ ap (after_lines old.session) (sym n.taken);
     }
 

@@ -216,9 +216,11 @@ fn replaced(handle: Handle, alloc: Global, delete: &[u8], add: &[u8]) -> (Handle
 pub extern "C" fn fts_replace(handle: &mut Handle, alloc: Global, delete: &[u8], add: &[u8]) -> i32
     ensures { Replaces handle.old.state delete.now add.now handle.new.state result }
 {
-    replace_with(handle, (alloc, delete, add), |handle, (alloc, delete, add)| {
-        replaced(handle, alloc, delete, add)
-    })
+    replace_with(
+        handle,
+        (alloc, delete, add),
+        |handle, (alloc, delete, add)| { replaced(handle, alloc, delete, add) },
+    )
 }
 
 fn answered_if_open(slot: Slot, call: Call, alloc: Global, line: &[u8]) -> (Slot, i32)
@@ -362,9 +364,11 @@ pub extern "C" fn fts_search_fields(
 ) -> i32
     ensures { SearchesFields searcher.old.state line.now names.now searcher.new.state result }
 {
-    replace_with(searcher, (alloc, line, names), |searcher, (alloc, line, names)| {
-        searched_fields(searcher, alloc, line, names)
-    })
+    replace_with(
+        searcher,
+        (alloc, line, names),
+        |searcher, (alloc, line, names)| { searched_fields(searcher, alloc, line, names) },
+    )
 }
 
 /// The reply to the last search, as by `fts_reply`.

@@ -69,7 +69,12 @@ fn hit_value(alloc: Global, hit: &Hit, names: Option<&[Text]>) -> Result<Value, 
     ensures { IfOk result (λ value. view value ≡ hit_data (cut_hit (option_copied names.entry) hit.now)) }
 {
     let mut members = Map::new(alloc);
-    put(&mut members, alloc, "doc", document_value(alloc, hit, names)?)?;
+    put(
+        &mut members,
+        alloc,
+        "doc",
+        document_value(alloc, hit, names)?,
+    )?;
     put(&mut members, alloc, "stamp", Value::from(hit.stamp))?;
     put(&mut members, alloc, "value", number_value(hit.value))?;
     Ok(Value::Object(members))
@@ -111,11 +116,7 @@ fn put_top(
     put(members, alloc, "top", list)
 }
 
-fn object_of(
-    alloc: Global,
-    answer: &Answer,
-    names: Option<&[Text]>,
-) -> Result<Value, AllocError>
+fn object_of(alloc: Global, answer: &Answer, names: Option<&[Text]>) -> Result<Value, AllocError>
     ensures { IfOk result (λ value. view value ≡ answer_data (cut_answer (option_copied names.entry) answer.now)) }
 {
     let mut members = Map::new(alloc);

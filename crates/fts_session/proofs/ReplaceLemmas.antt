@@ -39,7 +39,6 @@ json_in-blank (b ∷ white) line h =
     let parts = and_parts (is_white b) (is_blank white) h in
     json_in-white b (white ++ line) parts.0 ∙ json_in-blank white line parts.1
 
-
 -- a blank line is no command
 json_in-none : (line : List ℕ) → is_blank line ≡ true → json_in line ≡ None
 unfolding json_in is_utf8 chars encode_utf8 lex punctuate value

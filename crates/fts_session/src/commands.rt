@@ -78,7 +78,11 @@ fn submit<E: Engine>(
 }
 
 /// The document that a value is.
-pub(crate) fn document_in<E: Engine>(alloc: Global, engine: &E, json: &Value) -> Result<Document, Refusal>
+pub(crate) fn document_in<E: Engine>(
+    alloc: Global,
+    engine: &E,
+    json: &Value,
+) -> Result<Document, Refusal>
     ensures document { Gives (λ document. document) result
         (document_of (E.index engine.now).schema (view json.now)) }
     ensures fits { IfOk result (λ document. fits (E.index engine.now).schema document ≡ true) }
@@ -105,7 +109,12 @@ fn add<E: Engine>(
 }
 
 /// The term that a value is in the field of a name.
-pub(crate) fn term_in<E: Engine>(alloc: Global, engine: &E, name: &str, json: &Value) -> Result<Term, Refusal>
+pub(crate) fn term_in<E: Engine>(
+    alloc: Global,
+    engine: &E,
+    name: &str,
+    json: &Value,
+) -> Result<Term, Refusal>
     ensures term { Gives (λ term. term) result
         (term_of (E.index engine.now).schema name.now (view json.now)) }
     ensures fits { IfOk result (λ term. term_fits (E.index engine.now).schema term ≡ true) }
