@@ -2,8 +2,8 @@
 #![tactic(auto)]
 
 ghost use Rattle.std.specs.Prelude.{◌≡◌, ◌≢◌, ◌⊎◌};
-ghost use Rattle.fts_script.specs.Runs.{FailsRead, FailsWrite, Flushes, ReadsTooMuch, StopsInLastRead, TellsEnd};
-ghost use Rattle.fts_script.specs.Runs.{WritesBeginning, WritesEnded, WritesOutput};
+ghost use Rattle.fts_script.specs.Runs.{FailsNever, FailsRead, FailsWrite, Flushes, FlushesAll, ReadsTooMuch};
+ghost use Rattle.fts_script.specs.Runs.{StopsInLastRead, TellsEnd, WritesBeginning, WritesEnded, WritesOutput};
 ghost use Rattle.fts_cli.specs.Arguments.{run_status_of};
 
 use fts_cli::args::{ArgFault, Asked, args};
@@ -41,6 +41,8 @@ fn run_standard<R: AllocGlobal + Sync + Eprint, E: EngineOver<R>>(
     ensures ok { result.0 ≡ 0 → WritesOutput streams.old streams.new }
     ensures end { result.0 ≡ 0 → TellsEnd streams.old streams.new }
     ensures flushed { result.0 ≡ 0 → Flushes streams.old streams.new }
+    ensures flushed_all { result.0 ≡ 0 → FlushesAll streams.new }
+    ensures none_failed { result.0 ≡ 0 → FailsNever streams.old streams.new }
 
     ensures stopped { result.0 ≢ 0 → WritesBeginning streams.old streams.new }
     ensures memory { result.0 ≡ 3 → StopsInLastRead streams.old streams.new }

@@ -6,8 +6,8 @@ ghost use Rattle.fts_model.specs.Operations.{alive, adds};
 ghost use Rattle.fts_rounds.specs.Rounds.{fresh};
 ghost use Rattle.fts_snapshots.specs.Cuts.{IsCut};
 ghost use Rattle.fts_snapshots.specs.Commits.{misfit};
-ghost use Rattle.fts_snapshots.specs.Infos.{info_of, candidate_ids};
-ghost use Rattle.fts_snapshots.specs.Snapshots.{content_of, merge_fault};
+ghost use Rattle.fts_snapshots.specs.Infos.{info_of, infos_after_merge, candidate_ids};
+ghost use Rattle.fts_snapshots.specs.Snapshots.{content_of, merge_fault, IsSnapshot};
 ghost use Rattle.fts_snapshots.specs.Merges.{entries_at, names_fault};
 ghost use Rattle.fts_snapshots.specs.MergedSegments.{merged_of};
 ghost use Rattle.fts_snapshots.specs.Successors.{Follows, Fits};
@@ -99,9 +99,11 @@ impl Writer {
         })
     }
 
-    /// The stamp of the last commit, and 0 before the first.
+    /// The stamp of the last commit, and 0 before the first. It is above those of all documents.
     pub fn commit_stamp(&self) -> Stamp
-        ensures { result ≡ self.now.front.stamp }
+        ensures stamp { result ≡ self.now.front.stamp }
+        ensures front { IsFront self.now.front }
+        ensures snapshot { IsSnapshot self.now.front.snapshot }
     {
         self.publisher.commit_stamp()
     }
@@ -146,6 +148,7 @@ impl Writer {
         ensures refused { IsRefusedFor (round_fault lanes cap self.old) result }
         ensures round { IfOk result (λ r. r.0.limits ≡ next_round lanes cap self.old) }
         ensures lanes { IfOk result (λ r. r.1.items ≡ map (fresh r.0) (range_with_len 0 lanes)) }
+        ensures follows { Follows self.old.front.snapshot self.new.front.snapshot }
         ensures same { OnErr result (self.new ≡ self.old) }
     {
         if self.round.is_some() {
@@ -193,6 +196,7 @@ impl Writer {
             ≡ alive self.old.front.snapshot.schema
             (adds (content_of self.old.front.snapshot) ++ batch.now.ops)) }
         ensures seen { IfOk result (λ c. c.seen ≡ self.new.front.seen) }
+        ensures follows { Follows self.old.front.snapshot self.new.front.snapshot }
         ensures same { OnErr result (self.new ≡ self.old) }
     {
         if !is_of(self.round, batch) {
@@ -212,6 +216,7 @@ impl Writer {
     /// Gives up the open round, if there is one, and answers the stamp of the last commit.
     pub fn abandon(&mut self) -> Stamp
         ensures writer { self.new ≡ without_round self.old }
+        ensures follows { Follows self.old.front.snapshot self.new.front.snapshot }
         ensures stamp { result ≡ self.old.front.stamp }
     {
         self.round = None;
@@ -246,8 +251,11 @@ impl Writer {
     pub fn merge<R: Wait>(&mut self, rt: &R, alloc: Global, ids: &[u64]) -> Result<(), Refusal>
         ensures writer { OnOk result (self.new ≡ with_merge ids.now self.old) }
         ensures refused { IsRefusedFor (merge_fault ids.now self.old.front.snapshot) result }
+        ensures segments { OnOk result (map info_of self.new.front.snapshot.entries
+            ≡ infos_after_merge ids.now self.old.front.snapshot) }
         ensures content { OnOk result
             (content_of self.new.front.snapshot ≡ content_of self.old.front.snapshot) }
+        ensures follows { Follows self.old.front.snapshot self.new.front.snapshot }
         ensures same { OnErr result (self.new ≡ self.old) }
     {
         let merged = self.publisher.snapshot().merge(alloc, ids)?;

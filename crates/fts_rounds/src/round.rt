@@ -153,11 +153,44 @@ impl Round {
         if let Some(lane) = least_missing(&ends, self.limits.lanes) {
             return Err((self, ends, Refusal::LaneMissing(lane)));
         }
+        let mut ends = ends;
+        if ends.len() == 1
+            && let Some(end) = ends.pop()
+        {
+            return Ok(self.alone(end));
+        }
         let count = submitted(&ends, &self.limits);
         let Ok(room) = Vec::with_capacity(alloc, count) else {
             return Err((self, ends, Refusal::Memory));
         };
         Ok(self.merge(ends, room))
+    }
+
+    /// The batch of a round of one lane: its operations as they were submitted, which are in the order of their stamps.
+    fn alone(self, end: LaneEnd) -> Batch
+        requires lane { IsLaneOf self end }
+        requires one { self.limits.lanes ≡ 1 }
+        ensures round { result.round ≡ self.limits.round }
+        ensures first { result.first ≡ self.limits.first }
+        ensures shuffle { IsShuffle self.limits.first result.ops (end ∷ []) }
+        ensures alone { result.ops ≡ end.ops }
+    {
+        let Round {
+            table,
+            mut seat,
+            limits,
+        } = self;
+        let LaneEnd { ended } = end;
+        let Lane {
+            seat: other, ops, ..
+        } = ended;
+        table.shared.join_seat::<Collect>(&mut seat, other);
+        table.shared.load::<Look>(&mut seat, 0);
+        Batch {
+            round: limits.round,
+            first: limits.first,
+            ops,
+        }
     }
 
     /// Merges the ends of all lanes, by a sort in place: the one growth lies behind, so that

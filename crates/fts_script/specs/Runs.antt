@@ -1,5 +1,5 @@
 -- What a run did to its streams: each tells one thing of the streams before it and after it.
-use Rattle.std.specs.Prelude.{ℕ, ◌≡◌, ◌<◌, ◌^◌, List, ◌++◌, length}
+use Rattle.std.specs.Prelude.{ℕ, ◌≡◌, ◌+◌, ◌<◌, ◌^◌, List, ◌++◌, length}
 use Rattle.fts_script.specs.Streams.{StreamsValue, Wrote, LosesGiven, GainsTaken}
 use Rattle.fts_session.specs.Outputs.{output}
 use Rattle.fts_script.specs.Stops.{AnswersEnded, AnswersFirst, BeginsOutputUnless, StopsFirst}
@@ -18,13 +18,21 @@ TellsEnd old new = old.ends < new.ends
 abbrev pub Flushes : StreamsValue → StreamsValue → Type 0
 Flushes old new = old.flushes < new.flushes
 
--- A read failed.
-abbrev pub FailsRead : StreamsValue → StreamsValue → Type 0
-FailsRead old new = old.failed_reads < new.failed_reads
+-- The latest flush that succeeded had all that was written.
+abbrev pub FlushesAll : StreamsValue → Type 0
+FlushesAll new = new.flushed ≡ new.taken
 
--- A write or a flush failed.
+-- No call failed.
+abbrev pub FailsNever : StreamsValue → StreamsValue → Type 0
+FailsNever old new = (new.failed_reads ≡ old.failed_reads) × (new.failed_writes ≡ old.failed_writes)
+
+-- One read failed, and no other call.
+abbrev pub FailsRead : StreamsValue → StreamsValue → Type 0
+FailsRead old new = (new.failed_reads ≡ old.failed_reads + 1) × (new.failed_writes ≡ old.failed_writes)
+
+-- One write or flush failed, and no other call.
 abbrev pub FailsWrite : StreamsValue → StreamsValue → Type 0
-FailsWrite old new = old.failed_writes < new.failed_writes
+FailsWrite old new = (new.failed_reads ≡ old.failed_reads) × (new.failed_writes ≡ old.failed_writes + 1)
 
 -- What was read is what the reader lost of the bytes that it tells.
 abbrev pub LosesRead : StreamsValue → StreamsValue → Type 0

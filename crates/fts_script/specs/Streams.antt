@@ -37,6 +37,8 @@ pub record StreamsValue : Type 0 where
   pub failed_writes : ℕ
   -- how many flushes succeeded
   pub flushes : ℕ
+  -- the bytes that writes had taken when the latest of these flushes did
+  pub flushed : List ℕ
 
 -- A writer had taken `before` and has now taken `now`: what came behind is so.
 pub record Wrote (before now : List ℕ) (P : List ℕ → Type 0) : Type 0 where

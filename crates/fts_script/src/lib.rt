@@ -27,4 +27,4 @@ pub use fault::Fault;
 pub use fts_steps::{Cut, Engine, EngineOver, ListEngine, Merge, Options};
 pub use run::run_script;
 pub use std_streams::Plain;
-pub use streams::{ScriptIn, ScriptOut, Streams};
+pub use streams::{ScriptIn, ScriptOut, StreamError, Streams};

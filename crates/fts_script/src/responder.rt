@@ -30,8 +30,8 @@ fn send<W: ScriptOut>(writer: &mut W, replies: &mut String) -> Result<(), Fault>
     ensures held { GainsTaken (W.taken writer.old) (W.taken writer.new) (W.held writer.old)
         (W.held writer.new) }
     ensures write { OnErr result (result ≡ Err Fault.Write) }
-    ensures fails { OnErr result (W.failed writer.old < W.failed writer.new) }
-    ensures failed { W.failed writer.old ≤ W.failed writer.new }
+    ensures fails { OnErr result (W.failed writer.new ≡ W.failed writer.old + 1) }
+    ensures none_fails { OnOk result (W.failed writer.new ≡ W.failed writer.old) }
     ensures flushes { W.flushes writer.new ≡ W.flushes writer.old }
 {
     let bytes = replies.as_bytes();
@@ -207,8 +207,9 @@ impl<E: Engine> Responder<E> {
             (W.held writer.new) }
         ensures no_read { IsErrOf result Fault.Read → ⊥ }
         ensures not_used_up { IsErrOf result Fault.StampsUsedUp → ⊥ }
-        ensures fails { IsErrOf result Fault.Write → W.failed writer.old < W.failed writer.new }
-        ensures failed { W.failed writer.old ≤ W.failed writer.new }
+        ensures fails { IsErrOf result Fault.Write → W.failed writer.new ≡ W.failed writer.old + 1 }
+        ensures none_fails { OnOk result (W.failed writer.new ≡ W.failed writer.old) }
+        ensures memory_alone { IsErrOf result Fault.Memory → W.failed writer.new ≡ W.failed writer.old }
         ensures flushes { W.flushes writer.new ≡ W.flushes writer.old }
         ensures lines_counted { IfOk result (λ fed.
             fed.session.number ≤ self.session.number + length piece.now) }
@@ -274,8 +275,11 @@ impl<E: Engine> Responder<E> {
             (W.held writer.new) }
         ensures no_read { IsErrOf result Fault.Read → ⊥ }
         ensures not_used_up { IsErrOf result Fault.StampsUsedUp → ⊥ }
-        ensures fails { IsErrOf result Fault.Write → W.failed writer.old < W.failed writer.new }
+        ensures fails { IsErrOf result Fault.Write → W.failed writer.new ≡ W.failed writer.old + 1 }
+        ensures none_fails { OnOk result (W.failed writer.new ≡ W.failed writer.old) }
+        ensures memory_alone { IsErrOf result Fault.Memory → W.failed writer.new ≡ W.failed writer.old }
         ensures flushed { OnOk result (W.flushes writer.old < W.flushes writer.new) }
+        ensures flushed_all { OnOk result (W.flushed writer.new ≡ W.taken writer.new) }
     {
         let ended = self.end_input(rt);
         let Responder {

@@ -1,8 +1,9 @@
 // A run of a script: blocks of the input, until it ends.
 ghost use Rattle.std.specs.Prelude.{◌≡◌, vec_len, IfOk, OnOk, OnErr, IsErrOf};
 ghost use Rattle.std.specs.Io.KnownBytes.{IsAtEnd};
-ghost use Rattle.fts_script.specs.Runs.{FailsRead, FailsWrite, Flushes, GainsWritten, LosesRead, ReadsTooMuch};
-ghost use Rattle.fts_script.specs.Runs.{StopsInLastRead, TellsEnd, WritesBeginning, WritesEnded, WritesOutput};
+ghost use Rattle.fts_script.specs.Runs.{FailsNever, FailsRead, FailsWrite, Flushes, FlushesAll, GainsWritten, LosesRead};
+ghost use Rattle.fts_script.specs.Runs.{ReadsTooMuch, StopsInLastRead, TellsEnd, WritesBeginning, WritesEnded};
+ghost use Rattle.fts_script.specs.Runs.{WritesOutput};
 
 use crate::fault::Fault;
 use crate::responder::Responder;
@@ -32,6 +33,7 @@ pub fn run_script<G: AllocGlobal + Sync, E: EngineOver<G>, R: ScriptIn, W: Scrip
     ensures ok { OnOk result (WritesOutput streams.old streams.new) }
     ensures end { OnOk result (TellsEnd streams.old streams.new) }
     ensures flushed { OnOk result (Flushes streams.old streams.new) }
+    ensures flushed_all { OnOk result (FlushesAll streams.new) }
 
     // Where the reader tells what it has left, and the writer what it holds, it is the same bytes.
     ensures left { LosesRead streams.old streams.new }
@@ -42,6 +44,10 @@ pub fn run_script<G: AllocGlobal + Sync, E: EngineOver<G>, R: ScriptIn, W: Scrip
     ensures memory { IsErrOf result Fault.Memory → StopsInLastRead streams.old streams.new }
     ensures read { IsErrOf result Fault.Read → WritesEnded streams.old streams.new }
 
+    // A call that fails is the one that fails, and its fault is what the run answers.
+    ensures none_failed { OnOk result (FailsNever streams.old streams.new) }
+    ensures memory_alone { IsErrOf result Fault.Memory → FailsNever streams.old streams.new }
+    ensures used_up_alone { IsErrOf result Fault.StampsUsedUp → FailsNever streams.old streams.new }
     ensures read_failed { IsErrOf result Fault.Read → FailsRead streams.old streams.new }
     ensures write_failed { IsErrOf result Fault.Write → FailsWrite streams.old streams.new }
     ensures used_up { IsErrOf result Fault.StampsUsedUp → ReadsTooMuch streams.old streams.new }

@@ -14,6 +14,7 @@ pub struct Plain<T> {
     ends: GhostCount,
     failed: GhostCount,
     flushes: GhostCount,
+    flushed: GhostBytes,
 }
 
 impl<T> Plain<T> {
@@ -24,6 +25,7 @@ impl<T> Plain<T> {
         ensures ends { result.ends ≡ 0 }
         ensures failed { result.failed ≡ 0 }
         ensures flushes { result.flushes ≡ 0 }
+        ensures flushed { result.flushed.bytes ≡ [] }
     {
         Plain {
             inner,
@@ -32,6 +34,7 @@ impl<T> Plain<T> {
             ends: GhostCount::zero(),
             failed: GhostCount::zero(),
             flushes: GhostCount::zero(),
+            flushed: GhostBytes::none(),
         }
     }
 
@@ -82,6 +85,8 @@ impl<T: Write> ScriptOut for Plain<T> {
 
     ghost flushes = { λ p. p.flushes };
 
+    ghost flushed = { λ p. p.flushed.bytes };
+
     fn write(&mut self, bytes: &[u8]) -> Result<usize, StreamError> {
         match self.inner.write(bytes) {
             Ok(n) => {
@@ -102,6 +107,7 @@ impl<T: Write> ScriptOut for Plain<T> {
         match self.inner.flush() {
             Ok(()) => {
                 self.flushes = self.flushes.and_one();
+                self.flushed = self.moved.and(&[]);
                 Ok(())
             }
             Err(_) => {

@@ -31,6 +31,7 @@ impl<R: ScriptIn, W: ScriptOut> Model for Streams<R, W> {
       held = W.held s.writer;
       failed_writes = W.failed s.writer;
       flushes = W.flushes s.writer;
+      flushed = W.flushed s.writer;
     } };
 }
 
@@ -77,6 +78,9 @@ pub trait ScriptOut {
     /// How many calls of `flush` succeeded.
     ghost flushes: { Self → ℕ };
 
+    /// The bytes that calls had taken when the latest of these succeeded.
+    ghost flushed: { Self → List ℕ };
+
     /// Writes some bytes from the front of `bytes`, and says how many.
     fn write(&mut self, bytes: &[u8]) -> Result<usize, StreamError>
         ensures bound { IfOk result (λ n. n ≤ length bytes.now) }
@@ -84,7 +88,8 @@ pub trait ScriptOut {
         ensures held { WriteAppends (held self.old) (held self.new) result bytes.now }
         ensures fails { failed self.new
             ≡ (if takes_none result (length bytes.now) then failed self.old + 1 else failed self.old) }
-        ensures flushes { flushes self.new ≡ flushes self.old };
+        ensures flushes { flushes self.new ≡ flushes self.old }
+        ensures flushed { flushed self.new ≡ flushed self.old };
 
     /// Hands on what was written and waits.
     fn flush(&mut self) -> Result<(), StreamError>
@@ -93,5 +98,7 @@ pub trait ScriptOut {
         ensures fails { failed self.new
             ≡ (if is_err result then failed self.old + 1 else failed self.old) }
         ensures flushes { flushes self.new
-            ≡ (if is_ok result then flushes self.old + 1 else flushes self.old) };
+            ≡ (if is_ok result then flushes self.old + 1 else flushes self.old) }
+        ensures flushed { flushed self.new
+            ≡ (if is_ok result then taken self.old else flushed self.old) };
 }

@@ -1,19 +1,23 @@
 -- What a session answers, against what a script does.
 use Rattle.std.specs.Prelude.{◌≡◌, ℕ, ◌+◌, ◌^◌, ◌≤◌, ◌⊎◌, ◌++◌, List, length, Option, MatchOption}
-use Rattle.std.specs.Prelude.{Result, Ok, Err, OnOk, OnErr}
-use Rattle.serde_json.specs.View.{view}
+use Rattle.std.specs.Prelude.{Result, Ok, Err, OnOk, OnErr, string_bytes}
+use Rattle.fts_base.specs.Results.{result_map}
 use Rattle.fts_base.specs.declared.refusal.Refusal.{Refusal}
 use Rattle.fts_base.specs.declared.refusal.Refusal.TheVariants.{Memory}
 use Rattle.fts_command.specs.Commands.{longest}
 use Rattle.fts_steps.specs.Indexes.{Index}
-use Rattle.fts_session.specs.Replies.{Outcome}
+use Rattle.fts_session.specs.Replies.{Outcome, line_of}
 use Rattle.fts_session.specs.Outputs.{SessionValue}
 use Rattle.fts_session.specs.declared.reply.Reply.{Reply}
+
+-- what an outcome leaves: the index, and the line of the reply
+abbrev pub printed : Outcome Index → Option Index × List ℕ
+printed done = (done.index, line_of done.reply)
 
 -- What was answered, and what an index came to, is the outcome that was wanted; at a refusal the index is as it was,
 -- and the refusal is the one wanted, or memory ran out.
 abbrev pub Executes : Result (Outcome Index) Refusal → Option Index → Option Index → Result Reply Refusal → Type 0
-Executes wanted old new (Ok reply) = wanted ≡ Ok (record { index = new; reply = view reply.value })
+Executes wanted old new (Ok reply) = result_map printed wanted ≡ Ok (new, string_bytes reply.line)
 Executes wanted old new (Err refusal) = (new ≡ old) × ((refusal ≡ Memory) ⊎ (wanted ≡ Err refusal))
 
 -- a bound on what an engine counts, if there is one

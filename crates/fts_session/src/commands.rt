@@ -195,7 +195,7 @@ fn search<R: AllocGlobal + Sync, E: EngineOver<R>>(
     let request = request_of(engine.schema(), asked.groups, asked.top)?;
     let answer = engine.search(rt, &query, &request)?;
     let value = answer_value(rt.alloc(), &answer, None)?;
-    Ok(Reply::new(rt.alloc(), value, out)?)
+    Ok(Reply::new(rt.alloc(), &value, out)?)
 }
 
 /// Executes a command that comes behind the schema.

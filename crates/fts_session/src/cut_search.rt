@@ -80,7 +80,7 @@ fn search_cut<R: AllocGlobal + Sync, E: EngineOver<R>>(
     let request = cut_request_of(engine.schema(), asked.groups, asked.top, names)?;
     let answer = engine.search(rt, &query, &request)?;
     let value = answer_value(rt.alloc(), &answer, Some(names))?;
-    Ok(Reply::new(rt.alloc(), value, out)?)
+    Ok(Reply::new(rt.alloc(), &value, out)?)
 }
 
 /// Executes a search, cut to the fields of these names. Another command is refused as `BadCommand`.

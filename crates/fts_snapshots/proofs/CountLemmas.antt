@@ -90,7 +90,7 @@ no_commit_fault cut ops s room =
     ap (λ b. cond b (Some StampsUsedUp) None) left
 
 -- the segments of other numbers than this one
-abbrev but : ℕ → List EntryValue → List EntryValue
+abbrev pub but : ℕ → List EntryValue → List EntryValue
 but id es = filter (λ e. not (e.id == id)) es
 
 but-le : (id : ℕ) (es : List EntryValue) → length (but id es) ≤ length es
@@ -119,7 +119,7 @@ all_still_there : (id : ℕ) (ids : List ℕ) (es : List EntryValue) → AllByRe
 all_still_there id [] es d t = tt
 all_still_there id (other ∷ ids) es d t = (still_there id other es d.0 t.0, all_still_there id ids es d.1 t.1)
 
-without-more : (id : ℕ) (ids : List ℕ) (es : List EntryValue) → without es (id ∷ ids) ≡ without (but id es) ids
+pub without-more : (id : ℕ) (ids : List ℕ) (es : List EntryValue) → without es (id ∷ ids) ≡ without (but id es) ids
 without-more id ids [] = refl
 without-more id ids (e ∷ es) =
     elim (e.id == id) as (λ b. cond (not (b || is_among ids e.id)) (e ∷ without es (id ∷ ids)) (without es (id ∷ ids)) ≡ without (cond (not b) (e ∷ but id es) (but id es)) ids) [

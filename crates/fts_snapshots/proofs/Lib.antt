@@ -18,3 +18,4 @@ pub mod BeginLemmas
 pub mod StampLemmas
 pub mod CountLemmas
 pub mod PreparedLemmas
+pub mod MergedInfoLemmas

@@ -1,13 +1,22 @@
 -- How large the segments of a snapshot are, and which are worth merging.
-use Rattle.std.specs.Prelude.{ℕ, List, length, map, slice_get}
+use Rattle.std.specs.Prelude.{ℕ, List, [], ◌∷◌, ◌++◌, length, map, slice_get, sum_by}
 use Rattle.std.specs.Option.{option_map_or}
 use Rattle.fts_merge.specs.Levels.{candidates}
 use Rattle.fts_snapshots.specs.Entries.{EntryValue, live_count}
+use Rattle.fts_snapshots.specs.Merges.{entries_at, without}
+use Rattle.fts_snapshots.specs.Snapshots.{SnapshotValue}
 use Rattle.fts_snapshots.specs.declared.entries.entry.SegmentInfo.{SegmentInfo}
 
 -- the number of a segment, and how many documents and live documents it has
 abbrev pub info_of : EntryValue → SegmentInfo
 info_of entry = record { id = entry.id; docs = length entry.segment.documents; live = live_count entry }
+
+-- how large segments are after a merge of those of these numbers: in their place is one under the next number, each of
+-- whose documents is live, as many as they had live ones together
+abbrev pub infos_after_merge : List ℕ → SnapshotValue → List SegmentInfo
+infos_after_merge ids s =
+    let live = sum_by live_count (entries_at s.entries ids) in
+    map info_of (without s.entries ids) ++ record { id = s.next_id; docs = live; live = live } ∷ []
 
 -- the number of the segment at an index
 abbrev pub id_at : List EntryValue → ℕ → ℕ

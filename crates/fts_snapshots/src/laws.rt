@@ -1,5 +1,5 @@
 //! What ties the definitions to each other: each contract is a law, and the body is empty.
-ghost use Rattle.std.specs.Prelude.{◌≡◌, ◌<◌, ◌≤◌, ◌++◌, ℕ, None, List, All, length, sum_by};
+ghost use Rattle.std.specs.Prelude.{◌≡◌, ◌<◌, ◌≤◌, ◌++◌, ℕ, None, List, All, length, map, sum_by};
 ghost use Rattle.fts_model.specs.declared.operation.Op.{Op};
 ghost use Rattle.fts_model.specs.declared.operation.Stamped.{Stamped};
 ghost use Rattle.fts_model.specs.Documents.{DocumentValue};
@@ -8,9 +8,10 @@ ghost use Rattle.fts_snapshots.specs.Entries.{IsEntry, EntryValue, content, live
 ghost use Rattle.fts_snapshots.specs.Merges.{entries_at, names_fault};
 ghost use Rattle.fts_model.specs.declared.cut.Cut.{Cut};
 ghost use Rattle.fts_snapshots.specs.MergedSegments.{MergedSegmentValue, IsMergedSegment, merged_of};
-ghost use Rattle.fts_snapshots.specs.Snapshots.{SnapshotValue, IsSnapshot, after_commit};
+ghost use Rattle.fts_snapshots.specs.Infos.{info_of, infos_after_merge};
+ghost use Rattle.fts_snapshots.specs.Snapshots.{SnapshotValue, IsSnapshot, after_commit, merge_fault};
 ghost use Rattle.fts_snapshots.specs.Successors.{Follows, Fits};
-ghost use Rattle.fts_snapshots.specs.LateMerges.{after_end};
+ghost use Rattle.fts_snapshots.specs.LateMerges.{after_end, after_merge};
 
 /// Whatever history left the content before a commit, what is alive after it and the batch is the content afterwards.
 pub fn a_commit_continues_each_history()
@@ -25,6 +26,12 @@ pub fn a_commit_continues_each_history()
 pub fn a_merge_counts_live_documents()
     ensures { (entries : List EntryValue) → All IsEntry entries →
         length (merged_of entries).merged.segment.documents ≡ sum_by live_count entries }
+{}
+
+/// A merge puts one segment in place of its sources, under the next number: it has their live documents, all of them live.
+pub fn a_merge_leaves_one_segment()
+    ensures { (s : SnapshotValue) (ids : List ℕ) → IsSnapshot s → merge_fault ids s ≡ None →
+        map info_of (after_merge ids s).entries ≡ infos_after_merge ids s }
 {}
 
 /// A snapshot follows itself, and what follows one that follows it.

@@ -147,8 +147,8 @@ impl Iterator for Tokens<'_> {
     ghost remaining = { item_count places_left };
 
     fn next(&mut self) -> Option<Token>
-        ensures gives { YieldsFirst places_left self.old result self.new }
-        ensures progress { MakesProgress (λ _. ⊤) (item_count places_left) self.old result self.new }
+        ensures steps { YieldsFirst places_left self.old result self.new }
+        ensures goes { MakesProgress (λ _. ⊤) (item_count places_left) self.old result self.new }
         ensures following { following_left self.new ≡ following_left self.old }
     {
         self.next_token()

@@ -1,10 +1,12 @@
 // A snapshot at its commit stamp, with the publications that were seen when it was taken: what publishers, readers and
 // searchers each hold.
-ghost use Rattle.std.specs.Prelude.{◌≡◌, ◌<◌, ◌≤◌, ◌⊎◌, ◌↔◌, [], ◌∷◌, IsTrue, IfOk, IfSome, MatchOption, length};
+ghost use Rattle.std.specs.Prelude.{◌≡◌, ◌<◌, ◌≤◌, ◌⊎◌, ◌↔◌, [], ◌∷◌, List, IsTrue, IfOk, IfSome};
+ghost use Rattle.std.specs.Prelude.{MatchOption, length};
 ghost use Rattle.std.specs.Arc.{arc_value};
 ghost use mathlib.Core.List.{IsPrefix};
-ghost use Rattle.fts_snapshots.specs.Snapshots.{content_of};
+ghost use Rattle.fts_snapshots.specs.Snapshots.{content_of, IsSnapshot};
 ghost use Rattle.fts_snapshots.specs.Stamps.{IsStamped};
+ghost use Rattle.fts_index.specs.declared.publications.publication.Publication.{Publication};
 ghost use Rattle.fts_index.specs.Publications.{opening, publication, published, schema_of};
 ghost use Rattle.fts_index.specs.Publications.{Follows, IsFront, IsOneCommit};
 ghost use Rattle.fts_index.specs.PublicationsHistory.{head_of};
@@ -157,7 +159,8 @@ impl Front {
     /// Whether both are of one commit, which one writer's stamps tell.
     pub fn is_of_commit(&self, other: &Front) -> bool
         requires { other.now.seen.of ≡ self.now.seen.of }
-        ensures { IsTrue result ↔ IsOneCommit self.now other.now }
+        ensures commit { IsTrue result ↔ IsOneCommit self.now other.now }
+        ensures one_list { (all : List Publication) × IsPrefix self.now.seen.list all × IsPrefix other.now.seen.list all }
     {
         let mut both = self.seen.again();
         both.learn(&other.seen);
@@ -168,6 +171,7 @@ impl Front {
     pub fn stamp(&self) -> Stamp
         ensures stamp { result ≡ self.now.stamp }
         ensures front { IsFront self.now }
+        ensures snapshot { IsSnapshot self.now.snapshot }
     {
         self.commit.stamp
     }

@@ -49,6 +49,7 @@ impl Reader {
         ensures grows { IsPrefix self.old.list self.new.list }
         ensures seen { IfOk result (λ s. s.seen ≡ self.new) }
         ensures schema { IfOk result (λ s. s.snapshot.schema ≡ schema_of self.old) }
+        ensures schema_kept { schema_of self.new ≡ schema_of self.old }
         ensures newest { IfOk result IsFront }
         ensures memory { IsOkUnless result Refusal.Memory }
     {

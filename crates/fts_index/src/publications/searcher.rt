@@ -1,11 +1,13 @@
 // What is handed out: a snapshot to search, and what a commit was seen to publish.
-ghost use Rattle.std.specs.Prelude.{◌≡◌, ◌≤◌, true, IfOk, IsOkUnless};
+ghost use Rattle.std.specs.Prelude.{◌≡◌, ◌≤◌, ◌↔◌, true, List, IsTrue, IfOk, IsOkUnless};
+ghost use mathlib.Core.List.{IsPrefix};
 ghost use Rattle.fts_model.specs.Queries.{query_fits, request_fits};
 ghost use Rattle.fts_model.specs.QueryValues.{query_value};
 ghost use Rattle.fts_model.specs.Answers.{answer};
 ghost use Rattle.fts_snapshots.specs.Snapshots.{content_of};
 ghost use Rattle.fts_searches.specs.Searches.{OpensInAll};
-ghost use Rattle.fts_index.specs.Publications.{IsFront};
+ghost use Rattle.fts_index.specs.declared.publications.publication.Publication.{Publication};
+ghost use Rattle.fts_index.specs.Publications.{IsFront, IsOneCommit};
 
 use crate::publications::front::Front;
 use crate::searches::{Found, openings_of, segment_parts};
@@ -48,6 +50,16 @@ impl Searcher {
         ensures front { IsFront self.now }
     {
         self.front.snapshot()
+    }
+
+    /// Whether another searcher, which the same writer or a reader of it made, searches the same commit: whatever readers
+    /// they are of, both know beginnings of the one list that the writer published.
+    pub fn is_of_commit(&self, other: &Searcher) -> bool
+        requires { other.now.seen.of ≡ self.now.seen.of }
+        ensures commit { IsTrue result ↔ IsOneCommit self.now other.now }
+        ensures one_list { (all : List Publication) × IsPrefix self.now.seen.list all × IsPrefix other.now.seen.list all }
+    {
+        self.front.is_of_commit(&other.front)
     }
 
     /// What a query finds among all documents of the commit. The segments are searched by up to so many threads, 1 to

@@ -7,7 +7,7 @@ invariant-loop-at g l = record {
   within : l.at ≤ length l.bytes;
   sent : g.W.ScriptOut.taken l.writer ≡ g.W.ScriptOut.taken l.fn.writer ++ take l.at l.bytes;
   held : GainsTaken (g.W.ScriptOut.taken l.fn.writer) (g.W.ScriptOut.taken l.writer) (g.W.ScriptOut.held l.fn.writer) (g.W.ScriptOut.held l.writer);
-  failed : g.W.ScriptOut.failed l.fn.writer ≤ g.W.ScriptOut.failed l.writer;
+  failed : g.W.ScriptOut.failed l.writer ≡ g.W.ScriptOut.failed l.fn.writer;
   flushes : g.W.ScriptOut.flushes l.writer ≡ g.W.ScriptOut.flushes l.fn.writer;
 }
 

@@ -19,7 +19,7 @@ reads-preserved g c = record {
   counted = length_more c.reads.invariant.input c.read.new.buffer c.in-Ok.n c.reads.count c.in-Ok.ensures.bound c.reads.invariant.counted;
   most = omega (arith, c.reads.invariant.most, c.if-n-count.false);
   number = omega (arith, c.in_ok-responder-in-Ok.ensures.lines_counted, c.reads.invariant.number, length-take-le c.in-Ok.n c.read.new.buffer c.in-Ok.ensures.bound);
-  write_failed = omega (arith, c.reads.invariant.write_failed, c.feed.ensures.failed);
+  write_failed = c.in_ok-responder-in-Ok.ensures.none_fails ∙ c.reads.invariant.write_failed;
   flushes = c.feed.ensures.flushes ∙ c.reads.invariant.flushes;
 }
 

@@ -16,7 +16,7 @@ invariant-reads g l = record {
   counted : l.count ≡ length input;
   most : l.count ≤ 2 ^ 61;
   number : l.responder.session.number ≤ l.count;
-  write_failed : l.fn.streams.failed_writes ≤ g.W.ScriptOut.failed l.streams-inside.writer;
+  write_failed : g.W.ScriptOut.failed l.streams-inside.writer ≡ l.fn.streams.failed_writes;
   flushes : g.W.ScriptOut.flushes l.streams-inside.writer ≡ l.fn.streams.flushes;
 }
 

@@ -52,6 +52,6 @@ loop-at-preserved g c =
           (c.loop-at.invariant.reached before input r));
       counted = omega (arith, c.loop-at.invariant.counted, c.in-Ok-taken.ensures.lines_counted);
       held = GainsTaken-trans _ _ _ _ _ (g.W.ScriptOut.held c.send.new.writer) c.loop-at.invariant.held c.send.ensures.held;
-      failed = omega (arith, c.loop-at.invariant.failed, c.send.ensures.failed);
+      failed = c.in-Ok.ensures.none_fails ∙ c.loop-at.invariant.failed;
       flushes = c.send.ensures.flushes ∙ c.loop-at.invariant.flushes;
     }

@@ -12,7 +12,7 @@ invariant-loop-at g l = record {
       RunState before (g.W.ScriptOut.taken l.writer) l.self.session l.self.line (input ++ take l.at l.piece);
   counted : l.self.session.number ≤ l.fn.self.session.number + l.at;
   held : GainsTaken (g.W.ScriptOut.taken l.fn.writer) (g.W.ScriptOut.taken l.writer) (g.W.ScriptOut.held l.fn.writer) (g.W.ScriptOut.held l.writer);
-  failed : g.W.ScriptOut.failed l.fn.writer ≤ g.W.ScriptOut.failed l.writer;
+  failed : g.W.ScriptOut.failed l.writer ≡ g.W.ScriptOut.failed l.fn.writer;
   flushes : g.W.ScriptOut.flushes l.writer ≡ g.W.ScriptOut.flushes l.fn.writer;
 }
 
