@@ -29,6 +29,13 @@ fn number_line(alloc: Global, name: &str, n: u64) -> Result<String, AllocError>
     Ok(line)
 }
 
+/// The value that tells a refusal in the line of this number.
+fn refusal_value(alloc: Global, refusal: Refusal, line: u64) -> Result<Value, AllocError>
+    ensures value { IfOk result (λ value. view value ≡ refusal_reply refusal line) }
+{
+    json!(in alloc; {"error": refusal.name(), "line": line})
+}
+
 impl Reply {
     /// The reply of a line, with room for it after others.
     fn of_line(line: String, out: &mut String) -> Result<Reply, AllocError>
@@ -78,7 +85,7 @@ impl Reply {
         ensures out { string_bytes out.new ≡ string_bytes out.old }
         ensures room { IfOk result (λ reply. string_len out.new + string_len reply.line ≤ string_capacity out.new) }
     {
-        let value = json!(in alloc; {"error": refusal.name(), "line": line})?;
+        let value = refusal_value(alloc, refusal, line)?;
         Reply::new(alloc, &value, out)
     }
 

@@ -138,19 +138,14 @@ impl<'a> Tokens<'a> {
 impl Iterator for Tokens<'_> {
     type Item = Token;
 
-    ghost use Rattle.std.specs.Prelude.{◌≡◌, ⊤};
-    ghost use Rattle.std.specs.Iterator.{YieldsFirst, MakesProgress, item_count};
-    ghost use Rattle.fts_text.specs.Places.{following_left, places_left};
+    ghost use Rattle.std.specs.Iterator.{YieldsFirst, item_count};
+    ghost use Rattle.fts_text.specs.Places.{places_left};
 
     ghost next_gives = { YieldsFirst places_left };
 
     ghost remaining = { item_count places_left };
 
-    fn next(&mut self) -> Option<Token>
-        ensures steps { YieldsFirst places_left self.old result self.new }
-        ensures goes { MakesProgress (λ _. ⊤) (item_count places_left) self.old result self.new }
-        ensures following { following_left self.new ≡ following_left self.old }
-    {
+    fn next(&mut self) -> Option<Token> {
         self.next_token()
     }
 }
