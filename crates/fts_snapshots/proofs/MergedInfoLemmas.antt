@@ -33,7 +33,7 @@ passes_where_counted p [] h = absurd (omega (arith, h))
 passes_where_counted p (x ∷ xs) h =
     elim (p x) as (λ b. 0 < cond b 1 0 + count_by p xs → (b || list_any p xs) ≡ true) [
       | true ↦ λ _. refl
-      | false ↦ λ k. passes_where_counted p xs k
+      | false ↦ λ k. passes_where_counted p xs (omega (arith, k))
     ] (omega (arith, h, sum_by-cons (λ y. cond (p y) 1 0) x xs))
 
 -- where one passes, some are counted
@@ -43,7 +43,7 @@ counted_where_passes p (x ∷ xs) h =
     let rest : (b : Bool) → (b || list_any p xs) ≡ true → 0 < cond b 1 0 + count_by p xs = λ b.
     elim b as (λ b. (b || list_any p xs) ≡ true → 0 < cond b 1 0 + count_by p xs) [
       | true ↦ λ _. omega arith
-      | false ↦ λ k. counted_where_passes p xs k
+      | false ↦ λ k. omega (arith, counted_where_passes p xs k)
     ] in
     omega (arith, rest (p x) h, sum_by-cons (λ y. cond (p y) 1 0) x xs)
 
@@ -103,7 +103,7 @@ live_without (id ∷ ids) es d =
 
 -- what segments contain, by their live documents
 length-content : (es : List EntryValue) → All IsEntry es → length (content es) ≡ sum_by live_count es
-length-content es each = sym (length_permutation (flat_map live_in es) (content es) (permutation_in_order (flat_map live_in es))) ∙ length-live_in es each
+length-content es each = length_permutation (flat_map live_in es) (content es) (permutation_in_order (flat_map live_in es)) ∙ length-live_in es each
 
 -- a size without a fault is small
 small : (n : ℕ) → size_fault n ≡ None → n ≤ 1048576
