@@ -1,5 +1,5 @@
 -- What the loop of `merge` has done so far, and how an end goes in.
-use Rattle.std.proofs.Common.{◌≡◌, ℕ, ◌+◌, List, [], ◌∷◌, ◌++◌, length, IsPermutation, sym, ap, ◌∙◌, subst, arith, append_assoc, append-nil}
+use Rattle.std.proofs.Common.{◌≡◌, ℕ, ◌+◌, List, [], ◌∷◌, ◌++◌, length, IsPermutation, refl, sym, ap, ◌∙◌, subst, arith, append_assoc, append-nil}
 use Rattle.std.proofs.lemmas.List.{map-append, nil_from_length}
 use Rattle.std.proofs.lemmas.List.Sorted.{IsPermutation-append, IsPermutation-append_comm, IsPermutation-refl, IsPermutation-trans}
 use Rattle.atomic_table.specs.Table.{Me}
@@ -68,6 +68,17 @@ module _ (all left : List Held) (merged : List (Stamped Op)) (limits : RoundLimi
 
   pub done_seat : me ≡ (drawn limits (length all) (stamps_of merged), [])
   done_seat = m.seat ∙ ap (λ (l : List Held). (drawn limits (length l) (stamps_of merged), [])) all_gone
+
+-- the seat of a round of one lane, when its end went in
+pub alone_seat : (end : Held) (ops : List (Stamped Op)) (limits : RoundLimits) (me me' mine : Me (Unit {0}) Drawn)
+    → me ≡ (drawn limits 0 [], []) → ops ≡ end.ops → Rises (stamps_of ops) → mine ≡ (drawn limits 1 (stamps_of ops), [])
+    → me' ≡ (joined me.0 mine.0, me.1) → me' ≡ (drawn limits (length (end ∷ [])) (stamps_of ops), [])
+alone_seat end ops limits me me' mine fresh is rises of_lane both =
+    let list = ap stamps_of is in
+    done_seat (end ∷ []) [] ops limits me'
+    (goes_in (end ∷ []) (end ∷ []) [] end [] ops limits me me' mine (starts (end ∷ []) [] limits me refl fresh) refl (subst Rises list rises) is
+    (of_lane ∙ ap (λ l. (drawn limits 1 l, [])) list) both)
+    refl
 
 -- what the load tells the seat of all lanes
 pub told : (limits : RoundLimits) (n : ℕ) (stamps : List ℕ) (me : Me (Unit {0}) Drawn) → me ≡ (drawn limits n stamps, []) → n ≡ limits.lanes

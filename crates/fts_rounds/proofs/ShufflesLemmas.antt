@@ -4,7 +4,7 @@ use Rattle.std.specs.List.{list_any}
 use Rattle.std.specs.List.Sorted.{IsNonDecreasingBy}
 use Rattle.std.proofs.lemmas.List.{length-map, append-nil}
 use Rattle.std.proofs.lemmas.List.Elements.{All-nil, All-cons, All-head, All-contains, All-contains_itself, All-filter, filter_passes, Contains-append_left, Contains-append_right}
-use Rattle.std.proofs.lemmas.List.Sorted.{IsPermutation-map, IsPermutation-trans, IsPermutation-sym, Contains-permutation, length_permutation}
+use Rattle.std.proofs.lemmas.List.Sorted.{IsPermutation-map, IsPermutation-refl, IsPermutation-trans, IsPermutation-sym, Contains-permutation, length_permutation}
 use Rattle.fts_model.specs.declared.operation.Op.{Op}
 use Rattle.fts_model.specs.declared.operation.Stamped.{Stamped}
 use Rattle.std.specs.List.{range_with_len}
@@ -147,15 +147,15 @@ climbs : (xs : Listed) → IsNonDecreasingBy (λ (s : Stamped Op). s.stamp) xs �
 climbs [] up = tt
 climbs (x ∷ xs) up = (all_from x.stamp xs (λ j d lt. up 0 (suc j) d (omega arith) (omega arith)), climbs xs (λ i j d le lt. up (suc i) (suc j) d (omega arith) (omega arith)))
 
--- what `merge` has after it sorted
-pub shuffled : (first : ℕ) (lanes : List Held) (merged batch : Listed) → AllRise lanes → IsPermutation (submissions lanes) merged
+-- a list whose stamps climb, with the submissions of the lanes, where each stamp was drawn once
+shuffled_climbing : (first : ℕ) (lanes : List Held) (merged batch : Listed) → AllRise lanes → IsPermutation (submissions lanes) merged
     → ((x : ℕ) → times x (stamps_of merged) ≡ times x (range_with_len first (length (stamps_of merged))))
-    → IsPermutation merged batch → IsNonDecreasingBy (λ (s : Stamped Op). s.stamp) batch → IsShuffle first batch lanes
-shuffled first lanes merged batch rise members drawn moved up =
+    → IsPermutation merged batch → Climbs (stamps_of batch) → IsShuffle first batch lanes
+shuffled_climbing first lanes merged batch rise members drawn moved up =
     let stamp : Stamped Op → ℕ = λ s. s.stamp in
     let count : length (stamps_of merged) ≡ length batch = length-map merged stamp ∙ sym (length_permutation merged batch moved) in
     let numbered : stamps_of batch ≡ range_with_len first (length batch)
-    = run_from_times first (length batch) (stamps_of batch) (climbs batch up)
+    = run_from_times first (length batch) (stamps_of batch) up
     (λ x. times-permutation x (stamps_of merged) (stamps_of batch) (IsPermutation-map stamp merged batch moved) ∙ (drawn x ∙ ap (λ (k : ℕ). times x (range_with_len first k)) count)) in
     let each : IsPermutation (submissions lanes) batch = IsPermutation-trans (submissions lanes) merged batch members moved in
     let rises : Rises (stamps_of batch) = subst Rises (sym numbered) (run-rises first (length batch)) in
@@ -164,6 +164,28 @@ shuffled first lanes merged batch rise members drawn moved up =
       each_once = each;
       in_order = all_parts batch rises lanes rise (λ z m. Contains-permutation (submissions lanes) batch z each m);
     }
+
+-- what `merge` has after it sorted
+pub shuffled : (first : ℕ) (lanes : List Held) (merged batch : Listed) → AllRise lanes → IsPermutation (submissions lanes) merged
+    → ((x : ℕ) → times x (stamps_of merged) ≡ times x (range_with_len first (length (stamps_of merged))))
+    → IsPermutation merged batch → IsNonDecreasingBy (λ (s : Stamped Op). s.stamp) batch → IsShuffle first batch lanes
+shuffled first lanes merged batch rise members drawn moved up = shuffled_climbing first lanes merged batch rise members drawn moved (climbs batch up)
+
+from_above : (n : ℕ) (xs : List ℕ) → AllAbove n xs → AllFrom n xs
+from_above n [] a = tt
+from_above n (x ∷ xs) a = let lt = a.0 in (omega arith, from_above n xs a.1)
+
+climbs_rising : (xs : List ℕ) → Rises xs → Climbs xs
+climbs_rising [] r = tt
+climbs_rising (x ∷ xs) r = (from_above x xs r.0, climbs_rising xs r.1)
+
+-- what a round of one lane has: the lane's operations as they are
+pub alone_shuffled : (first : ℕ) (h : Held) (batch : Listed) → batch ≡ h.ops → Rises (stamps_of batch)
+    → ((x : ℕ) → times x (stamps_of batch) ≡ times x (range_with_len first (length (stamps_of batch)))) → IsShuffle first batch (h ∷ [])
+alone_shuffled first h batch is rises drawn =
+    let whole : submissions (h ∷ []) ≡ batch = append-nil h.ops ∙ sym is in
+    shuffled_climbing first (h ∷ []) batch batch (subst (λ (l : Listed). Rises (stamps_of l)) is rises, tt)
+    (subst (λ (l : Listed). IsPermutation l batch) (sym whole) (IsPermutation-refl batch)) drawn (IsPermutation-refl batch) (climbs_rising (stamps_of batch) rises)
 
 -- the batch of a round of one lane is that lane's list
 pub one_lane_is : (first : ℕ) (batch : Listed) (h : Held) → IsShuffle first batch (h ∷ []) → batch ≡ h.ops

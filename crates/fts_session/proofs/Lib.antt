@@ -2,3 +2,4 @@ pub mod CarrierLemmas
 pub mod HistoryLemmas
 pub mod LineLemmas
 pub mod ReplaceLemmas
+pub mod ResultLemmas

@@ -1,5 +1,5 @@
 -- Two lines as one: a deletion and the addition behind it, both or neither.
-use Rattle.std.specs.Prelude.{◌≡◌, ℕ, ◌+◌, List, Result, Ok, Err, Option}
+use Rattle.std.specs.Prelude.{◌≡◌, ℕ, ◌+◌, List, Result, Ok, Err, Option, is_ok, if◌then◌else◌}
 use Rattle.fts_base.specs.declared.refusal.Refusal.{Refusal}
 use Rattle.fts_base.specs.declared.refusal.Refusal.TheVariants.{BadCommand}
 use Rattle.fts_base.specs.Results.{result_and_then}
@@ -31,8 +31,7 @@ replace on index delete add =
 
 -- how many lines were done of two that are one
 abbrev pub lines_done : {S : Type 0} → Result (Outcome S) Refusal → ℕ
-lines_done (Ok done) = 2
-lines_done (Err refusal) = 0
+lines_done outcome = if is_ok outcome then 2 else 0
 
 -- the script behind a line that deletes and a line that adds: both lines were done, or it is as it was
 abbrev pub after_replace : SessionValue → List ℕ → List ℕ → SessionValue

@@ -1,7 +1,7 @@
 // Commands over an engine, with their replies.
 ghost use Rattle.std.specs.Prelude.{◌≡◌, ◌+◌, ◌^◌, ◌<◌, ◌≤◌, ◌++◌, ℕ, Option, Some, None, Ok, Err, true};
 ghost use Rattle.std.specs.Prelude.{IfOk, OnOk, OnErr, length, string_bytes, string_capacity, string_len, option_map};
-ghost use Rattle.std.specs.Prelude.{codes};
+ghost use Rattle.std.specs.Prelude.{codes, is_ok, Result};
 ghost use Rattle.serde_json.specs.View.{view};
 ghost use Rattle.std.specs.Option.{ok_or};
 ghost use Rattle.fts_base.specs.Results.{Gives};
@@ -14,10 +14,10 @@ ghost use Rattle.fts_query.specs.Outcomes.{refusal_without_byte};
 ghost use Rattle.fts_query.specs.Answers.{answer};
 ghost use Rattle.fts_command.specs.Commands.{longest, Add, Delete, Commit, Rollback, Merge, json_in};
 ghost use Rattle.fts_command.specs.CommandViews.{command_value, search_value};
-ghost use Rattle.fts_steps.specs.Indexes.{indexes};
+ghost use Rattle.fts_steps.specs.Indexes.{Index, indexes};
 ghost use Rattle.fts_steps.specs.Steps.{submit};
 ghost use Rattle.fts_session.specs.Replies.{replied, answer_search, execute, execute_line, number_reply};
-ghost use Rattle.fts_session.specs.Replies.{text_of, index_after};
+ghost use Rattle.fts_session.specs.Replies.{Outcome, text_of, index_after};
 ghost use Rattle.fts_session.specs.Finds.{find, find_line};
 ghost use Rattle.fts_session.specs.Sessions.{Executes, ChangesAtMost, ChangesOnce};
 
@@ -301,6 +301,33 @@ fn execute_whole<R: AllocGlobal + Sync, E: EngineOver<R>>(
     }
 }
 
+/// The reply to the line of this number, of what it came to, and whether it was done: a refusal is a reply too, unless
+/// memory ran out.
+pub(crate) fn replied_line(
+    alloc: Global,
+    number: u64,
+    done: Result<Reply, Refusal>,
+    out: &mut String,
+) -> Result<(Reply, bool), AllocError>
+    requires room { IfOk done (λ reply. string_len out.old + string_len reply.line ≤ string_capacity out.old) }
+    ensures text { IfOk result (λ r. (wanted : Result (Outcome Index) Refusal) (old new : Option Index) →
+        Executes wanted old new done → string_bytes r.0.line ≡ text_of number wanted) }
+    ensures done { IfOk result (λ r. (wanted : Result (Outcome Index) Refusal) (old new : Option Index) →
+        Executes wanted old new done → r.1 ≡ is_ok wanted) }
+    ensures index { OnOk result ((wanted : Result (Outcome Index) Refusal) (old new : Option Index) →
+        Executes wanted old new done → new ≡ index_after old wanted) }
+    ensures kept { OnErr result ((wanted : Result (Outcome Index) Refusal) (old new : Option Index) →
+        Executes wanted old new done → new ≡ old) }
+    ensures out { string_bytes out.new ≡ string_bytes out.old }
+    ensures room { IfOk result (λ r. string_len out.new + string_len r.0.line ≤ string_capacity out.new) }
+{
+    match done {
+        Ok(reply) => Ok((reply, true)),
+        Err(Refusal::Memory) => Err(AllocError),
+        Err(refusal) => Ok((Reply::of_refusal(alloc, refusal, number, out)?, false)),
+    }
+}
+
 /// Replies to a line that isn't blank and isn't too long.
 pub(crate) fn answer_whole<R: AllocGlobal + Sync, E: EngineOver<R>>(
     rt: &R,
@@ -320,11 +347,8 @@ pub(crate) fn answer_whole<R: AllocGlobal + Sync, E: EngineOver<R>>(
     ensures kept { OnErr result (option_map E.index index.new ≡ option_map E.index index.old) }
     ensures changes { ChangesOnce E.changes index.old index.new }
 {
-    let reply = match execute_whole(rt, options, index, line, out) {
-        Ok(reply) => reply,
-        Err(Refusal::Memory) => return Err(AllocError),
-        Err(refusal) => Reply::of_refusal(rt.alloc(), refusal, number, out)?,
-    };
+    let done = execute_whole(rt, options, index, line, out);
+    let (reply, _) = replied_line(rt.alloc(), number, done, out)?;
     reply.push(out);
     Ok(())
 }
@@ -390,11 +414,8 @@ pub(crate) fn answer_find<R: AllocGlobal + Sync, E: EngineOver<R>>(
     ensures err { OnErr result (string_bytes out.new ≡ string_bytes out.old) }
     ensures changes { (n : ℕ) → ChangesAtMost E.changes n index.old → ChangesAtMost E.changes n index.new }
 {
-    let reply = match find_whole(rt, index, line, out) {
-        Ok(reply) => reply,
-        Err(Refusal::Memory) => return Err(AllocError),
-        Err(refusal) => Reply::of_refusal(rt.alloc(), refusal, number, out)?,
-    };
+    let found = find_whole(rt, index, line, out);
+    let (reply, _) = replied_line(rt.alloc(), number, found, out)?;
     reply.push(out);
     Ok(())
 }

@@ -14,7 +14,7 @@ ghost use Rattle.fts_session.specs.CutSearches.{answer_cut, find_cut, find_cut_l
 ghost use Rattle.fts_session.specs.Replies.{text_of};
 ghost use Rattle.fts_session.specs.Sessions.{Executes, ChangesAtMost};
 
-use crate::commands::{json_of, query_of, request_of};
+use crate::commands::{json_of, query_of, replied_line, request_of};
 use crate::reply::Reply;
 use fts_command::{Command, Search, answer_value, command_of, names_of};
 use fts_model::{Order, Refusal, Request, Schema, Text};
@@ -150,11 +150,8 @@ pub(crate) fn answer_find_cut<R: AllocGlobal + Sync, E: EngineOver<R>>(
     ensures err { OnErr result (string_bytes out.new ≡ string_bytes out.old) }
     ensures changes { (n : ℕ) → ChangesAtMost E.changes n index.old → ChangesAtMost E.changes n index.new }
 {
-    let reply = match find_cut_whole(rt, index, line, names, out) {
-        Ok(reply) => reply,
-        Err(Refusal::Memory) => return Err(AllocError),
-        Err(refusal) => Reply::of_refusal(rt.alloc(), refusal, number, out)?,
-    };
+    let found = find_cut_whole(rt, index, line, names, out);
+    let (reply, _) = replied_line(rt.alloc(), number, found, out)?;
     reply.push(out);
     Ok(())
 }

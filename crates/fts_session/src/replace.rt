@@ -1,7 +1,7 @@
 // A deletion and the addition behind it, both or neither.
 ghost use Rattle.std.specs.Prelude.{◌≡◌, ◌+◌, ◌-◌, ◌^◌, ◌<◌, ◌≤◌, ◌++◌, ℕ, Option, Some, None, Ok, Err, true};
 ghost use Rattle.std.specs.Prelude.{IfOk, OnOk, OnErr, length, string_bytes, string_capacity, string_len, option_map};
-ghost use Rattle.std.specs.Prelude.{codes, not, nat_lt};
+ghost use Rattle.std.specs.Prelude.{codes, not, nat_lt, if◌then◌else◌};
 ghost use Rattle.serde_json.specs.View.{view};
 ghost use Rattle.std.specs.Option.{ok_or};
 ghost use Rattle.fts_base.specs.Results.{Gives, result_and_then};
@@ -15,7 +15,7 @@ ghost use Rattle.fts_session.specs.Replaces.{addition, deletion, execute_two, li
 ghost use Rattle.fts_session.specs.Replies.{replied, number_reply, text_of, index_after};
 ghost use Rattle.fts_session.specs.Sessions.{Executes, ChangesAtMost};
 
-use crate::commands::{document_in, json_of, term_in};
+use crate::commands::{document_in, json_of, replied_line, term_in};
 use crate::reply::Reply;
 use fts_command::{Command, command_of};
 use fts_model::{Document, Op, Refusal, Term};
@@ -128,6 +128,13 @@ fn replace_whole<E: Pairs>(
     }
 }
 
+/// How many lines two are that were done as one, or weren't.
+fn lines_of(done: bool) -> u64
+    ensures { result ≡ (if done then 2 else 0) }
+{
+    if done { 2 } else { 0 }
+}
+
 /// Replies to a line that deletes and a line that adds, as one, and says how many lines were done: 2 or 0.
 pub(crate) fn answer_replace<R: AllocGlobal + Sync, E: EngineOver<R> + Pairs>(
     rt: &R,
@@ -151,11 +158,8 @@ pub(crate) fn answer_replace<R: AllocGlobal + Sync, E: EngineOver<R> + Pairs>(
     ensures kept { OnErr result (option_map E.index index.new ≡ option_map E.index index.old) }
     ensures changes { (n : ℕ) → ChangesAtMost E.changes n index.old → ChangesAtMost E.changes (n + 2) index.new }
 {
-    let (reply, done) = match replace_whole(rt.alloc(), index, delete, add, out) {
-        Ok(reply) => (reply, 2),
-        Err(Refusal::Memory) => return Err(AllocError),
-        Err(refusal) => (Reply::of_refusal(rt.alloc(), refusal, number, out)?, 0),
-    };
+    let replaced = replace_whole(rt.alloc(), index, delete, add, out);
+    let (reply, done) = replied_line(rt.alloc(), number, replaced, out)?;
     reply.push(out);
-    Ok(done)
+    Ok(lines_of(done))
 }
