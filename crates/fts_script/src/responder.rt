@@ -38,8 +38,9 @@ fn send<W: ScriptOut>(writer: &mut W, replies: &mut String) -> Result<(), Fault>
     let mut at = 0;
     while at < bytes.len() {
         match writer.write(&bytes[at..]) {
-            Ok(0) | Err(_) => return Err(Fault::Write),
+            Ok(0) => return Err(Fault::Write),
             Ok(n) => at += n,
+            Err(_) => return Err(Fault::Write),
         }
     }
     replies.clear();
