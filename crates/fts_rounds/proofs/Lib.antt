@@ -6,3 +6,4 @@ pub mod RoundsStepsLemmas
 pub mod RoundsDealtLemmas
 pub mod RoundsMergingLemmas
 pub mod ShufflesLemmas
+pub mod EndsLemmas

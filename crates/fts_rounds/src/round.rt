@@ -1,6 +1,6 @@
 // A round: it deals its lanes out, and gathers their ends into one batch.
 ghost use Rattle.std.specs.Prelude.{◌≡◌, ℕ, ◌+◌, ◌*◌, ◌^◌, ◌<◌, ◌≤◌, ◌↔◌, ◌⊎◌, [], ◌∷◌, map, length};
-ghost use Rattle.std.specs.Prelude.{vec_len, All, IsTrue, IfOk, IfErr, IsErrAnd, IsOkUnless, MatchOption};
+ghost use Rattle.std.specs.Prelude.{vec_len, All, IsTrue, IfOk, IfErr, IsErrAnd, IsOkUnless, MatchOption, MatchResult};
 ghost use Rattle.std.specs.List.{range_with_len};
 ghost use Rattle.std.specs.Vec.{vec_capacity};
 ghost use Rattle.fts_pool.specs.Totals.{times};
@@ -114,6 +114,19 @@ fn least_missing(ends: &[LaneEnd], lanes: usize) -> Option<usize>
     None
 }
 
+/// The end that is there alone, or the ends again.
+fn only(ends: Vec<LaneEnd>) -> Result<LaneEnd, Vec<LaneEnd>>
+    ensures { MatchResult result (λ end. ends.items ≡ end ∷ []) (λ others. others ≡ ends) }
+{
+    let mut ends = ends;
+    if ends.len() == 1
+        && let Some(end) = ends.pop()
+    {
+        return Ok(end);
+    }
+    Err(ends)
+}
+
 /// How many operations were submitted to all of them.
 fn submitted(ends: &[LaneEnd], limits: &RoundLimits) -> usize
     requires few { length ends.now * limits.now.cap < 2 ^ 62 }
@@ -153,12 +166,28 @@ impl Round {
         if let Some(lane) = least_missing(&ends, self.limits.lanes) {
             return Err((self, ends, Refusal::LaneMissing(lane)));
         }
-        let mut ends = ends;
-        if ends.len() == 1
-            && let Some(end) = ends.pop()
-        {
-            return Ok(self.alone(end));
+        match only(ends) {
+            Ok(end) => Ok(self.alone(end)),
+            Err(ends) => self.gather_all(alloc, ends),
         }
+    }
+
+    /// Gathers the ends of all lanes. The one refusal is `Memory`.
+    fn gather_all(
+        self,
+        alloc: Global,
+        ends: Vec<LaneEnd>,
+    ) -> Result<Batch, (Round, Vec<LaneEnd>, Refusal)>
+        requires lanes { All (IsLaneOf self) ends.items }
+        requires each_once { (n : ℕ) → times n (lanes_of ends.items) ≤ 1 }
+        requires none_missing { (n : ℕ) → n < self.limits.lanes → 0 < times n (lanes_of ends.items) }
+        ensures round { IfOk result (λ b. b.round ≡ self.limits.round) }
+        ensures first { IfOk result (λ b. b.first ≡ self.limits.first) }
+        ensures shuffle { IfOk result (λ b. IsShuffle self.limits.first b.ops ends.items) }
+        ensures alone { (end : _) → ends.items ≡ end ∷ [] → IfOk result (λ b. b.ops ≡ end.ops) }
+        ensures refused { IfErr result (λ e. e.2 ≡ Refusal.Memory) }
+        ensures handed_back { IfErr result (λ e. (e.0 ≡ self) × (e.1 ≡ ends)) }
+    {
         let count = submitted(&ends, &self.limits);
         let Ok(room) = Vec::with_capacity(alloc, count) else {
             return Err((self, ends, Refusal::Memory));
@@ -182,7 +211,9 @@ impl Round {
         } = self;
         let LaneEnd { ended } = end;
         let Lane {
-            seat: other, ops, ..
+            seat: other,
+            ops,
+            ..
         } = ended;
         table.shared.join_seat::<Collect>(&mut seat, other);
         table.shared.load::<Look>(&mut seat, 0);
