@@ -12,7 +12,7 @@ use Rattle.fts_script.specs.Stops.{AnswersFirst, AnswersEnded, BeginsOutput, Beg
 use Rattle.fts_script.specs.Responders.{Answered, Finishes, Advances, AdvancesFirst, AdvancesToStop, RunState}
 use Rattle.fts_script.proofs.BlankLemmas.{IsWritten-front}
 use Rattle.fts_script.proofs.StreamLemmas.{append_more}
-use Rattle.fts_script.proofs.LineLemmas.{lines_of-append, lines_of-ended, lines_of-unended, HasNoEnd-append, HasNoEnd-late, HasNoEnd-shorter, IsWhole-ended}
+use Rattle.fts_session.proofs.LineLemmas.{lines_of-append, lines_of-ended, lines_of-unended, HasNoEnd-append, HasNoEnd-late, HasNoEnd-shorter, IsWhole-ended}
 
 replies-append : (s : SessionValue) (xs ys : List (List ℕ)) → replies s (xs ++ ys) ≡ replies s xs ++ replies (after_lines s xs) ys
 replies-append s [] ys = refl

@@ -3,3 +3,4 @@ pub mod HistoryLemmas
 pub mod LineLemmas
 pub mod ReplaceLemmas
 pub mod ResultLemmas
+pub mod WhiteLemmas

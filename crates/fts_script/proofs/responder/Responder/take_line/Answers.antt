@@ -5,7 +5,7 @@ use Rattle.fts_script.specs.Stops.{IsWritten}
 use Rattle.fts_script.specs.Responders.{Advances}
 use Rattle.fts_script.proofs.BlankLemmas.{IsWritten-front}
 use Rattle.fts_script.proofs.KeptLemmas.{not_blank-kept}
-use Rattle.fts_script.proofs.LineLemmas.{HasNoEnd-append, HasNoEnd-before, HasNoEnd-none, take-ended}
+use Rattle.fts_session.proofs.LineLemmas.{HasNoEnd-append, HasNoEnd-before, HasNoEnd-none, take-ended}
 use Rattle.fts_script.proofs.RunLemmas.{Advances-ended, Advances-unended, on_err}
 use Rattle.fts_script.proofs.responder.Responder.take_line.Goals as goal
 
