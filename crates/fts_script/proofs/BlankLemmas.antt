@@ -1,16 +1,13 @@
 -- White space before a line changes no reply.
-use Rattle.std.proofs.Common.{◌≡◌, ◌<◌, ◌≤◌, ◌+◌, ◌-◌, ℕ, suc, Bool, true, false, cond, eqb, ltb, List, [], ◌∷◌, ◌++◌, length, take, drop, refl, sym, ap, subst, ◌∙◌, take-append-drop, arith, Option, ◌&&◌, ◌||◌}
-use Rattle.std.specs.Str.{is_utf8, chars}
-use Rattle.std.specs.Char.{encode_utf8}
+use Rattle.std.proofs.Common.{◌≡◌, ◌<◌, ◌≤◌, ◌+◌, ◌-◌, ℕ, suc, Bool, true, false, cond, ltb, List, [], ◌∷◌, ◌++◌, length, take, drop, refl, sym, ap, subst, ◌∙◌, take-append-drop, arith, Option, ◌&&◌}
 use Rattle.std.specs.List.{prefix_len}
-use Rattle.std.proofs.lemmas.Bool.{eqb-true, false_from_ne_true, and_parts, and_right}
+use Rattle.std.proofs.lemmas.Bool.{false_from_ne_true, and_parts, and_right}
 use Rattle.std.proofs.lemmas.Bool.Decides.{nat_tests}
 use Rattle.std.proofs.lemmas.List.{length-append, length-drop, take_all}
 use Rattle.std.proofs.lemmas.List.Folds.{list_all-append}
-use Rattle.json.specs.Lex.{lex}
 use Rattle.std.specs.List.{onto_first}
 use Rattle.fts_session.specs.Text.{is_white, is_blank, lines_of, HasNoEnd}
-use Rattle.fts_command.specs.Commands.{json_in, longest, command}
+use Rattle.fts_command.specs.Commands.{longest, command}
 use Rattle.fts_session.specs.Replies.{execute, execute_line, reply_on, carried_over}
 use Rattle.fts_base.specs.Results.{result_and_then}
 use Rattle.fts_session.specs.Outputs.{SessionValue, after_line, reply_to}

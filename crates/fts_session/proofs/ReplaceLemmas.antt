@@ -1,22 +1,22 @@
 -- Two lines as one, and one after the other.
-use Rattle.std.proofs.Common.{◌≡◌, ◌+◌, ◌-◌, ℕ, suc, Bool, true, false, cond, eqb, ltb, List, [], ◌∷◌, ◌++◌, length, refl, sym, ap, subst, ◌∙◌, append-nil, arith, Option, Some, None, Result, Ok, Err, OnOk, OnErr, ◌&&◌, ◌||◌}
+use Rattle.std.proofs.Common.{◌≡◌, ◌+◌, ℕ, Bool, true, false, cond, ltb, List, [], length, refl, sym, ap, ◌∙◌, append-nil, arith, None, Result, Ok, Err, OnOk, OnErr}
 use Rattle.std.specs.Str.{is_utf8, chars}
 use Rattle.std.specs.Char.{encode_utf8}
 use Rattle.std.specs.Option.{ok_or}
-use Rattle.std.proofs.lemmas.Bool.{eqb-true, and_parts, false_from_ne_true}
+use Rattle.std.proofs.lemmas.Bool.{false_from_ne_true}
 use Rattle.json.specs.Json.{value}
 use Rattle.json.specs.Lex.{lex, punctuate}
 use Rattle.serde_json.specs.Data.{Data}
 use Rattle.fts_base.specs.declared.refusal.Refusal.{Refusal}
 use Rattle.fts_base.specs.declared.refusal.Refusal.TheVariants.{BadCommand, BadJson, LineTooLong}
 use Rattle.fts_base.specs.Results.{result_and_then}
-use Rattle.fts_command.specs.Commands.{Command, Schema, Add, Delete, DeleteAll, Commit, Rollback, Merge, Find, command, command_in, json_in, longest}
+use Rattle.fts_command.specs.Commands.{Command, Add, Delete, command, command_in, json_in, longest}
 use Rattle.fts_steps.specs.Indexes.{Index, indexes}
-use Rattle.fts_session.specs.Text.{is_white, is_blank}
+use Rattle.fts_session.specs.Text.{is_blank}
 use Rattle.fts_session.proofs.WhiteLemmas.{json_in-blank}
-use Rattle.fts_session.specs.Replies.{Outcome, execute, execute_line, index_after, line_of, text_of, carried_over, reply_on}
+use Rattle.fts_session.specs.Replies.{Outcome, execute, execute_line, index_after, line_of, carried_over, reply_on}
 use Rattle.fts_session.specs.Outputs.{SessionValue, after_line, reply_to}
-use Rattle.fts_session.specs.Replaces.{AreDone, addition, after_replace, deletion, execute_two, lines_done, replace, reply_to_replace}
+use Rattle.fts_session.specs.Replaces.{AreDone, addition, after_replace, deletion, execute_two, lines_done, replace}
 
 -- a blank line is no command
 json_in-none : (line : List ℕ) → is_blank line ≡ true → json_in line ≡ None
