@@ -103,14 +103,14 @@ impl Writer {
     pub fn commit_stamp(&self) -> Stamp
         ensures stamp { result ≡ self.now.front.stamp }
         ensures front { IsFront self.now.front }
-        ensures snapshot { IsSnapshot self.now.front.snapshot }
     {
         self.publisher.commit_stamp()
     }
 
-    /// The schema of all documents.
+    /// The schema of all documents. The numbers of segments rise, and no stamp stands twice.
     pub fn schema(&self) -> &Schema
-        ensures { result.now ≡ self.now.front.snapshot.schema }
+        ensures schema { result.now ≡ self.now.front.snapshot.schema }
+        ensures snapshot { IsSnapshot self.now.front.snapshot }
     {
         self.publisher.snapshot().schema()
     }

@@ -8,7 +8,8 @@ use Rattle.std.proofs.lemmas.List.Sorted.{length_permutation}
 use Rattle.std.proofs.lemmas.List.Sums.{sum_by-cons, sum_by-append, count_by-le-length}
 use Rattle.fts_base.specs.declared.refusal.Refusal.{Refusal}
 use Rattle.fts_base.specs.declared.refusal.Refusal.TheVariants.{TooLarge}
-use Rattle.fts_base.specs.Results.{first_of}
+use Rattle.std.specs.Prelude.{Result, Ok, Err, IfOk}
+use Rattle.fts_base.specs.Results.{Gives, first_of, ok_unless}
 use Rattle.fts_merge.specs.declared.origin.Origin.{Origin}
 use Rattle.fts_snapshots.specs.declared.entries.entry.SegmentInfo.{SegmentInfo}
 use Rattle.fts_snapshots.specs.Commits.{numbers_fault}
@@ -25,7 +26,7 @@ use Rattle.fts_snapshots.proofs.EndedLemmas.{schema_ended}
 use Rattle.fts_snapshots.proofs.MergeLemmas.{AreDifferent, names_given}
 use Rattle.fts_snapshots.proofs.OrderLemmas.{permutation_in_order}
 use Rattle.fts_snapshots.proofs.SnapshotLemmas.{all_entries_at, some_sources}
-use Rattle.fts_snapshots.proofs.SourceLemmas.{first_none, numbers_room}
+use Rattle.fts_snapshots.proofs.SourceLemmas.{first_none, numbers_room, unless_ok}
 
 -- where some are counted, one passes
 passes_where_counted : {X : Type 0} (p : X → Bool) (xs : List X) → 0 < count_by p xs → list_any p xs ≡ true
@@ -158,3 +159,9 @@ infos_merged s ids i fine =
             | true ↦ omega (arith, sum_by-cons live_count e [])
             | false ↦ omega arith
           ]
+
+-- the same of what a merge gives
+pub infos_given : (s : SnapshotValue) (ids : List ℕ) (r : Result SnapshotValue Refusal) → IsSnapshot s → Gives (λ new. new) r (ok_unless (merge_fault ids s) (after_merge ids s)) →
+    IfOk r (λ new. map info_of new.entries ≡ infos_after_merge ids s)
+infos_given s ids (Ok new) i g = let both = unless_ok (merge_fault ids s) (after_merge ids s) new g in ap (λ n. map info_of n.entries) both.1 ∙ infos_merged s ids i both.0
+infos_given s ids (Err e) i g = tt

@@ -2,7 +2,7 @@
 ghost use Rattle.std.specs.Prelude.{◌≡◌, ◌^◌, [], None, map, IfOk, IsOkUnless};
 ghost use Rattle.fts_base.specs.Results.{Gives, ok_unless};
 ghost use Rattle.fts_snapshots.specs.Entries.{content};
-ghost use Rattle.fts_snapshots.specs.Infos.{info_of, candidate_ids};
+ghost use Rattle.fts_snapshots.specs.Infos.{info_of, infos_after_merge, candidate_ids};
 ghost use Rattle.fts_snapshots.specs.Cuts.{IsCut};
 ghost use Rattle.fts_snapshots.specs.Commits.{misfit};
 ghost use Rattle.fts_snapshots.specs.Merges.{entries_at, names_fault};
@@ -131,6 +131,7 @@ impl Snapshot {
     pub fn merge(&self, alloc: Global, ids: &[u64]) -> Result<Snapshot, Refusal>
         ensures snapshot { Gives (λ new. new) result
             (ok_unless (merge_fault ids.now self.now) (after_merge ids.now self.now)) }
+        ensures segments { IfOk result (λ new. map info_of new.entries ≡ infos_after_merge ids.now self.now) }
         ensures content { IfOk result (λ new. content new.entries ≡ content self.now.entries) }
     {
         let job = self.begin_merge(alloc, ids)?;
@@ -148,6 +149,7 @@ impl Snapshot {
         ensures job { Gives (λ job. job) result
             (ok_unless (names_fault self.now.entries ids.now) (entries_at self.now.entries ids.now)) }
         ensures fits { IfOk result (λ job. Fits (merged_of job) self.now) }
+        ensures snapshot { IsSnapshot self.now }
     {
         let entries = named_entries(alloc, &self.entries, ids)?;
         Ok(MergeJob::new(entries))

@@ -4,7 +4,7 @@ ghost use Rattle.std.specs.Prelude.{◌≡◌, ◌<◌, ◌≤◌, ◌⊎◌, �
 ghost use Rattle.std.specs.Prelude.{MatchOption, length};
 ghost use Rattle.std.specs.Arc.{arc_value};
 ghost use mathlib.Core.List.{IsPrefix};
-ghost use Rattle.fts_snapshots.specs.Snapshots.{content_of, IsSnapshot};
+ghost use Rattle.fts_snapshots.specs.Snapshots.{content_of};
 ghost use Rattle.fts_snapshots.specs.Stamps.{IsStamped};
 ghost use Rattle.fts_index.specs.declared.publications.publication.Publication.{Publication};
 ghost use Rattle.fts_index.specs.Publications.{opening, publication, published, schema_of};
@@ -171,7 +171,6 @@ impl Front {
     pub fn stamp(&self) -> Stamp
         ensures stamp { result ≡ self.now.stamp }
         ensures front { IsFront self.now }
-        ensures snapshot { IsSnapshot self.now.snapshot }
     {
         self.commit.stamp
     }

@@ -2,7 +2,7 @@
 ghost use Rattle.std.specs.Prelude.{◌≡◌, ◌<◌, ◌^◌, ◌⊎◌, ◌↔◌, [], ◌∷◌, ◌++◌, Some, IsTrue, IfOk};
 ghost use Rattle.std.specs.Prelude.{IfErr, OnOk, OnErr, IsOkUnless, MatchResult, length};
 ghost use Rattle.std.specs.Arc.{arc_value};
-ghost use Rattle.fts_snapshots.specs.Snapshots.{content_of, IsSnapshot};
+ghost use Rattle.fts_snapshots.specs.Snapshots.{content_of};
 ghost use Rattle.fts_snapshots.specs.Stamps.{IsStamped};
 ghost use Rattle.fts_index.specs.Publications.{opening, newest, publication, published, schema_of};
 ghost use Rattle.fts_index.specs.Publications.{Follows, IsFront, IsOneCommit};
@@ -106,7 +106,6 @@ impl Publisher {
     pub fn commit_stamp(&self) -> Stamp
         ensures stamp { result ≡ self.now.stamp }
         ensures front { IsFront self.now }
-        ensures snapshot { IsSnapshot self.now.snapshot }
     {
         self.front.stamp()
     }
