@@ -1,5 +1,5 @@
 -- What a writer publishes: which lists of publications there are, and what is known of one.
-use Rattle.std.specs.Prelude.{◌≡◌, ℕ, ◌<◌, ◌≤◌, ◌^◌, List, [], ◌∷◌, ◌++◌, All, AllPairs, Some, fold, length, slice_get}
+use Rattle.std.specs.Prelude.{◌≡◌, ℕ, ◌≤◌, List, [], ◌∷◌, ◌++◌, AllPairs, Some, fold, slice_get}
 use Rattle.logbook.specs.Pages.{Book}
 use Rattle.fts_model.specs.declared.schema.Field.{Field}
 use Rattle.fts_snapshots.specs.Snapshots.{SnapshotValue, content_of}

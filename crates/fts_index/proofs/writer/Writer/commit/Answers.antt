@@ -1,9 +1,8 @@
-use Rattle.std.proofs.Common.{◌<◌, ◌+◌, ◌++◌, All, length, subst, sym, ap, ◌∙◌, arith}
+use Rattle.std.proofs.Common.{◌<◌, ◌+◌, All, length, subst, sym, ap, ◌∙◌, arith}
 use Rattle.fts_index.specs.Publications.{FrontValue}
 use Rattle.fts_index.specs.Writers.{WriterValue}
 use Rattle.fts_model.specs.declared.operation.Stamped.{Stamped}
 use Rattle.fts_model.specs.Documents.{DocumentValue}
-use Rattle.fts_model.specs.Operations.{alive, adds}
 use Rattle.fts_snapshots.specs.Snapshots.{SnapshotValue, IsBehind, after_commit, commit_fault, content_of}
 use Rattle.fts_snapshots.specs.Successors.{Follows}
 use Rattle.fts_snapshots.proofs.FollowLemmas.{follows_commit}

@@ -1,5 +1,5 @@
 -- What is left of the proof of `writer::Writer::merge`.
-use Rattle.std.proofs.Common.{◌∙◌, ◌≡◌, ap, map, sym, subst}
+use Rattle.std.proofs.Common.{◌∙◌, ap, map, sym, subst}
 use Rattle.fts_snapshots.specs.Infos.{info_of, infos_after_merge}
 use Rattle.fts_snapshots.specs.Merges.{entries_at}
 use Rattle.fts_snapshots.specs.MergedSegments.{merged_of}
