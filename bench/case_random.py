@@ -125,8 +125,8 @@ def query(chance, depth):
     return f"({sign}{text}{between}{other})", found
 
 
-def write_walk(s, chance, sentence, asked, documents, live):
-    """A walk that mixes steps, searches forward and back, and stretches."""
+def write_walk(s, chance, sentence, asked, documents, live, targets=450):
+    """A walk that mixes steps, searches forward and back to documents below `targets`, and stretches."""
     text, match = asked
     found = [n for n in live if match(documents[n])]
     steps, gives, at = [], [], 0
@@ -139,7 +139,7 @@ def write_walk(s, chance, sentence, asked, documents, live):
             gives.append(found[at:at + 128])
             at += 128
         elif move < 3:
-            target = chance.below(450)
+            target = chance.below(targets)
             steps.append({"seek": target})
             at = next((k for k, n in enumerate(found) if k >= at and n >= target), len(found))
         else:

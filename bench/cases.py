@@ -6,6 +6,7 @@ import os
 from case_model import GREATEST, HERE, Subject, answer, error, named, tokens
 from case_queries import LONG, t, write_cursors, write_phrases, write_queries
 from case_random import write_cuttings, write_generated, write_joins, write_walks
+from case_words import write_words
 
 
 def write_tokens():
@@ -533,5 +534,5 @@ if __name__ == "__main__":
     for write in [write_tokens, write_schemas, write_documents, write_scan, write_queries, write_segments,
                   write_cursors, write_phrases, write_collectors,
                   write_merges, write_packing, write_generated, write_walks, write_cuttings, write_joins, write_lists,
-                  write_wrong]:
+                  write_words, write_wrong]:
         write()
