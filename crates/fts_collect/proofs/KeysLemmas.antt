@@ -302,7 +302,7 @@ beyond k keys bound key is behind =
     ∙ take-append-le k keys (key ∷ []) (omega (arith, is.full)) ∙ take_all k keys (omega (arith, is.full))
 
 -- a key put among others makes them one more
-length-put_key : (keys : List Key) (key : Key) → length (put_key keys key) ≡ length keys + 1
+pub length-put_key : (keys : List Key) (key : Key) → length (put_key keys key) ≡ length keys + 1
 length-put_key [] key = omega arith
 length-put_key (other ∷ others) key =
     elim (key_lt key other) as (λ b. length (cond b (key ∷ other ∷ others) (other ∷ put_key others key)) ≡ length (other ∷ others) + 1)

@@ -14,3 +14,7 @@ pub mod RanksLemmas
 pub mod SeenLemmas
 pub mod TallyLemmas
 pub mod ValuesLemmas
+pub mod BestLemmas
+pub mod WalkLemmas
+pub mod BetweenLemmas
+pub mod WalkedLemmas

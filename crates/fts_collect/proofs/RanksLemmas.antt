@@ -318,7 +318,7 @@ behind_falling greatest most None fits all low out = tt
 behind_falling greatest most (Some x) fits all low out = grind arith
 
 -- each number lies in the range
-in_range : (values : List (Option ℕ)) (range : ℕ × ℕ) (doc : ℕ) → IsRangeOf values (Some range) → IfSome (slice_index_or values doc None) (λ x. (range.0 ≤ x) × (x ≤ range.1))
+pub in_range : (values : List (Option ℕ)) (range : ℕ × ℕ) (doc : ℕ) → IsRangeOf values (Some range) → IfSome (slice_index_or values doc None) (λ x. (range.0 ≤ x) × (x ≤ range.1))
 in_range values range doc h =
     let P : Option ℕ → Type 0 = λ v. IfSome v (λ x. (range.0 ≤ x) × (x ≤ range.1)) in
     elim (cases_lt doc (length values)) [
@@ -326,11 +326,11 @@ in_range values range doc h =
       | inr past ↦ subst P (sym (get_or_past values doc None past)) tt
     ]
 
-least_in : (least greatest : ℕ) (v : Option ℕ) → IfSome v (λ x. (least ≤ x) × (x ≤ greatest)) → IfSome v (λ x. least ≤ x)
+pub least_in : (least greatest : ℕ) (v : Option ℕ) → IfSome v (λ x. (least ≤ x) × (x ≤ greatest)) → IfSome v (λ x. least ≤ x)
 least_in least greatest None h = tt
 least_in least greatest (Some x) h = h.0
 
-most_in : (least greatest : ℕ) (v : Option ℕ) → IfSome v (λ x. (least ≤ x) × (x ≤ greatest)) → IfSome v (λ x. x ≤ greatest)
+pub most_in : (least greatest : ℕ) (v : Option ℕ) → IfSome v (λ x. (least ≤ x) × (x ≤ greatest)) → IfSome v (λ x. x ≤ greatest)
 most_in least greatest None h = tt
 most_in least greatest (Some x) h = h.1
 

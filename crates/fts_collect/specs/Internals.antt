@@ -4,3 +4,5 @@ pub mod Keys
 pub mod Tallies
 pub mod Ranks
 pub mod Collected
+pub mod Lent
+pub mod Walks

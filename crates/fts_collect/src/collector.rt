@@ -1,29 +1,30 @@
 // What a segment tells of its live hits.
 ghost use Rattle.std.specs.Prelude.{◌≡◌, ◌<◌, ◌≤◌, ◌++◌, ◌^◌, ℕ, List, [], true, All, IfOk, IfSome, OnOk, IsOkUnless};
-ghost use Rattle.std.specs.Prelude.{MatchOption, Some, length, min, option_map, slice_index_or, ◌-◌};
+ghost use Rattle.std.specs.Prelude.{MatchOption, Some, length, min, option_map, ◌-◌};
+ghost use Rattle.fts_cursor.specs.Hits.{live_hits};
 ghost use Rattle.fts_cursor.specs.Standing.{Walked};
 ghost use Rattle.fts_model.specs.declared.operation.Term.{Term};
 ghost use Rattle.fts_model.specs.Queries.{is_number_field, is_ordered_field, query_fits, request_fits};
-ghost use Rattle.fts_model.specs.QueryValues.{query_value};
+ghost use Rattle.fts_model.specs.QueryValues.{every, query_value};
 ghost use Rattle.fts_model.specs.Answers.{answer, answer_of, groups, top};
 ghost use Rattle.fts_segment.specs.Contents.{content_of};
-ghost use Rattle.fts_segment.specs.Segments.{column, keywords};
-ghost use Rattle.fts_model.specs.Operations.{kind_at};
-ghost use Rattle.fts_model.specs.declared.schema.Kind.TheVariants as kinds;
 ghost use Rattle.fts_postings.specs.Bounds.{most_at};
 ghost use Rattle.fts_cursor.specs.Openings.{HasMusts};
 ghost use Rattle.fts_collect.specs.Parts.{OpensIn};
 ghost use Rattle.fts_collect.specs.Internals.Collected.{AreHits, HasCounted, HasNumbers, HasRanked, HasSeen, HasValues};
-ghost use Rattle.fts_collect.specs.Internals.Collected.{IsTallyOf, KeysWithin, column_of, hits_at, named_by, value_at};
+ghost use Rattle.fts_collect.specs.Internals.Collected.{IsTallyOf, KeysWithin, column_of, hits_at};
+ghost use Rattle.fts_collect.specs.Internals.Walks.{set_in};
 
+use crate::lent::Counted;
 use crate::part::Part;
-use crate::ranks::{Ranking, hits_of};
+use crate::ranks::{Ranking, hits_of, numbers_of};
 use crate::tally::Tally;
 use crate::top_k::TopK;
-use fts_bits::{Bits, u64_to_i64};
+use crate::walk::offer_best;
+use fts_bits::Bits;
 use fts_column::Column;
 use fts_cursor::{Cursor, DocSet, cursor_of};
-use fts_model::{Answer, GroupValue, Hit, Kind, Query, Refusal, Request, Text, Top};
+use fts_model::{Hit, Query, Refusal, Request, Top};
 use fts_segment::Segment;
 use std::alloc::{AllocError, Global};
 
@@ -43,59 +44,6 @@ fn column_of(segment: &Segment, field: usize) -> &Column
     ensures { result.now ≡ column_of segment.now field }
 {
     segment.column(field)
-}
-
-/// The column of a number field.
-fn numbers_of(segment: &Segment, field: usize) -> &Column
-    requires { is_number_field segment.now.schema field ≡ true }
-    ensures { result.now ≡ column segment.now field }
-{
-    segment.column(field)
-}
-
-/// The keyword of an ordinal in a field, and no text where there is none.
-fn keyword_at(segment: &Segment, field: usize, ordinal: u64) -> &str
-    requires { kind_at segment.now.schema field ≡ Some kinds.Keyword }
-    ensures { result.now ≡ slice_index_or (keywords segment.now field) ordinal [] }
-{
-    segment.keyword(field, ordinal).unwrap_or("")
-}
-
-/// The value that the column of a field keeps as a number. A keyword is copied.
-fn value_at(
-    alloc: Global,
-    segment: &Segment,
-    field: usize,
-    number: u64,
-) -> Result<GroupValue, AllocError>
-    requires { is_ordered_field segment.now.schema field ≡ true }
-    ensures { IfOk result (λ value. value ≡ value_at segment.now field number) }
-{
-    match segment.schema().kind(field) {
-        Kind::U64 | Kind::Text => Ok(GroupValue::U64(number)),
-        Kind::I64 => Ok(GroupValue::I64(u64_to_i64(number))),
-        Kind::Keyword => {
-            let text = String::from_str(alloc, keyword_at(segment, field, number))?;
-            Ok(GroupValue::Keyword(Text::new(text)))
-        }
-    }
-}
-
-/// Counts of the numbers of a column, with the values that it keeps as these.
-fn named(
-    alloc: Global,
-    segment: &Segment,
-    field: usize,
-    counts: &[(u64, u64)],
-) -> Result<Vec<(GroupValue, u64)>, AllocError>
-    requires { is_ordered_field segment.now.schema field ≡ true }
-    ensures { IfOk result (λ list. list.items ≡ named_by (value_at segment.now field) counts.now) }
-{
-    let mut list = Vec::with_capacity(alloc, counts.len())?;
-    for count in counts {
-        list.push((value_at(alloc, segment, field, count.0)?, count.1))?;
-    }
-    Ok(list)
 }
 
 /// The tally of no hits, for the field of the groups.
@@ -136,19 +84,18 @@ fn groups_told(
     segment: &Segment,
     field: Option<usize>,
     tally: Tally,
-) -> Result<Option<Vec<(GroupValue, u64)>>, AllocError>
+) -> Result<Option<Counted>, AllocError>
     requires fits { IfSome field (λ f. is_ordered_field segment.now.schema f ≡ true) }
     requires documents { HasValues segment.now }
     requires places { IsTallyOf segment.now field tally }
     ensures { (docs : List ℕ) → HasCounted segment.now field docs tally → length docs < 2 ^ 64 →
-        IfOk result (λ found. option_map (λ g. g.items) found
-        ≡ option_map (λ f. groups f (hits_at segment.now docs)) field) }
+        IfOk result (λ found. found ≡ option_map (λ f. groups f (hits_at segment.now docs)) field) }
 {
     match field {
         None => Ok(None),
         Some(field) => {
             let counts = tally.into_counts(alloc)?;
-            Ok(Some(named(alloc, segment, field, &counts)?))
+            Ok(Some(Counted::new(segment, field, counts)?))
         }
     }
 }
@@ -262,6 +209,97 @@ fn see_all(
     Ok(())
 }
 
+/// The same where the first keys of the hits are known: takes the hits for what else is asked for.
+fn see_beside(
+    segment: &Segment,
+    request: &Request,
+    top: Top,
+    top_k: TopK,
+    cursor: &mut Cursor<'_>,
+    seen: &mut Seen,
+) -> Result<(), AllocError>
+    requires fits { request_fits segment.now.schema request.now ≡ true }
+    requires top { request.now.top ≡ Some top }
+    requires ranked { HasRanked segment.now (Some top) cursor.old.remaining top_k }
+    requires within { All (λ doc. doc < length segment.now.documents) cursor.old.remaining }
+    requires none { HasSeen segment.now request.now [] seen.old }
+    ensures seen { OnOk result (HasSeen segment.now request.now cursor.old.remaining seen.new) }
+    ensures end { OnOk result (cursor.new.remaining ≡ []) }
+    ensures walked { OnOk result (Walked cursor.old cursor.new) }
+{
+    let others = Request {
+        groups: request.groups,
+        top: None,
+    };
+    see_all(segment, &others, cursor, seen)?;
+    seen.top_k = top_k;
+    Ok(())
+}
+
+/// The same where the hits are those whose bits are set, and a top list is asked for: the first of them are looked for
+/// among the documents with the best numbers.
+fn see_set(
+    alloc: Global,
+    segment: &Segment,
+    bits: &Bits,
+    request: &Request,
+    top: Top,
+    cursor: &mut Cursor<'_>,
+    seen: &mut Seen,
+) -> Result<(), AllocError>
+    requires fits { request_fits segment.now.schema request.now ≡ true }
+    requires top { request.now.top ≡ Some top }
+    requires bits { length bits.now ≡ length segment.now.documents }
+    requires hits { cursor.old.remaining ≡ set_in segment.now bits.now }
+    requires within { All (λ doc. doc < length segment.now.documents) cursor.old.remaining }
+    requires none { HasSeen segment.now request.now [] seen.old }
+    ensures seen { OnOk result (HasSeen segment.now request.now cursor.old.remaining seen.new) }
+    ensures end { OnOk result (cursor.new.remaining ≡ []) }
+    ensures walked { OnOk result (Walked cursor.old cursor.new) }
+{
+    let mut top_k = TopK::new(alloc, top.k as usize);
+    let done = offer_best(alloc, segment, top, bits, &mut top_k)?;
+    if done {
+        return see_beside(segment, request, top, top_k, cursor, seen);
+    }
+    see_all(segment, request, cursor, seen)
+}
+
+/// Whether a query is that for all documents.
+fn is_all(query: &Query) -> bool
+    ensures { result ≡ true → query_value query.now ≡ every }
+{
+    matches!(query, Query::All)
+}
+
+/// Takes all hits that remain of the cursor of a query.
+fn see_hits(
+    alloc: Global,
+    segment: &Segment,
+    live: &Bits,
+    query: &Query,
+    request: &Request,
+    cursor: &mut Cursor<'_>,
+    seen: &mut Seen,
+) -> Result<(), AllocError>
+    requires fits { request_fits segment.now.schema request.now ≡ true }
+    requires bits { length live.now ≡ length segment.now.documents }
+    requires hits { cursor.old.remaining ≡ live_hits segment.now live.now (query_value query.now) }
+    requires within { All (λ doc. doc < length segment.now.documents) cursor.old.remaining }
+    requires none { HasSeen segment.now request.now [] seen.old }
+    ensures seen { OnOk result (HasSeen segment.now request.now cursor.old.remaining seen.new) }
+    ensures end { OnOk result (cursor.new.remaining ≡ []) }
+    ensures walked { OnOk result (Walked cursor.old cursor.new) }
+{
+    let Some(top) = request.top else {
+        return see_all(segment, request, cursor, seen);
+    };
+    if !is_all(query) {
+        return see_all(segment, request, cursor, seen);
+    }
+    see_set(alloc, segment, live, request, top, cursor, seen)
+}
+
 /// What is kept of no hits.
 fn nothing_seen(alloc: Global, segment: &Segment, request: &Request) -> Result<Seen, AllocError>
     requires { request_fits segment.now.schema request.now ≡ true }
@@ -279,20 +317,22 @@ fn nothing_seen(alloc: Global, segment: &Segment, request: &Request) -> Result<S
     })
 }
 
-/// The answer over the hits that were seen.
+/// The answer over the hits that were seen, and how many blocks were opened to find them.
 fn told(
     alloc: Global,
     segment: &Segment,
     request: &Request,
     seen: Seen,
-) -> Result<Answer, AllocError>
+    openings: u64,
+) -> Result<Part, AllocError>
     requires fits { request_fits segment.now.schema request.now ≡ true }
     requires documents { HasValues segment.now }
     requires places { IsTallyOf segment.now request.now.groups seen.tally }
     requires within { KeysWithin segment.now request.now.top seen.top_k }
-    ensures { (docs : List ℕ) →
+    ensures answer { (docs : List ℕ) →
         HasSeen segment.now request.now docs seen → AreHits segment.now docs →
-        IfOk result (λ answer. answer ≡ answer_of request.now (hits_at segment.now docs)) }
+        IfOk result (λ part. part.answer ≡ answer_of request.now (hits_at segment.now docs)) }
+    ensures openings { IfOk result (λ part. part.openings ≡ openings) }
 {
     let Seen {
         count,
@@ -301,19 +341,28 @@ fn told(
     } = seen;
     let groups = groups_told(alloc, segment, request.groups, tally)?;
     let top = top_told(alloc, segment, request.top, top_k)?;
-    Ok(Answer { count, groups, top })
+    Ok(Part {
+        count,
+        groups,
+        top,
+        openings,
+    })
 }
 
 /// What the live hits of a segment tell, and how many blocks were opened to find them.
 fn part_of(
     alloc: Global,
     segment: &Segment,
+    live: &Bits,
+    query: &Query,
     request: &Request,
     cursor: &mut Cursor<'_>,
 ) -> Result<Part, AllocError>
     requires fits { request_fits segment.now.schema request.now ≡ true }
     requires documents { HasValues segment.now }
+    requires bits { length live.now ≡ length segment.now.documents }
     requires hits { AreHits segment.now cursor.old.remaining }
+    requires remaining { cursor.old.remaining ≡ live_hits segment.now live.now (query_value query.now) }
     ensures answer { IfOk result (λ part. part.answer
         ≡ answer_of request.now (hits_at segment.now cursor.old.remaining)) }
     ensures most { IfOk result (λ part. part.openings ≤ most_at cursor.old.bound None) }
@@ -322,10 +371,10 @@ fn part_of(
         part.openings ≡ min (2 ^ 64 - 1) (most_at cursor.old.bound None)) }
 {
     let mut seen = nothing_seen(alloc, segment, request)?;
-    see_all(segment, request, cursor, &mut seen)?;
+    see_hits(alloc, segment, live, query, request, cursor, &mut seen)?;
     let openings = cursor.openings();
-    let answer = told(alloc, segment, request, seen)?;
-    Ok(Part { answer, openings })
+    let part = told(alloc, segment, request, seen, openings)?;
+    Ok(part)
 }
 
 /// How many musts a query has.
@@ -342,7 +391,9 @@ fn musts_of(query: &Query) -> usize
 /// over its live documents in their order, and the openings of a cursor that ran to its end.
 ///
 /// The hits come from a cursor, 128 at a time, and nothing is kept of them but what the request wants: counts by
-/// number, the first keys, and in the end a handle for each document of the top list. The only refusal is `Memory`.
+/// number, the first keys, and in the end a handle for each document of the top list. Where each live document is a hit,
+/// the first keys are looked for among the documents with the best numbers; the openings don't count the lists of these.
+/// The only refusal is `Memory`.
 pub fn collect(
     alloc: Global,
     segment: &Segment,
@@ -362,6 +413,6 @@ pub fn collect(
     let _documents = segment.docs();
     let _musts = musts_of(query);
     let mut cursor = cursor_of(alloc, segment, live, query)?;
-    let part = part_of(alloc, segment, request, &mut cursor)?;
+    let part = part_of(alloc, segment, live, query, request, &mut cursor)?;
     Ok(part)
 }

@@ -6,47 +6,11 @@ ghost use Rattle.fts_model.specs.Answers.{groups};
 ghost use Rattle.fts_collect.specs.Parts.{joined};
 ghost use Rattle.fts_collect.specs.Internals.Joins.{AreGroupsOf, GroupsRise, add_group};
 
+use crate::lent::Lent;
 use crate::part::Part;
 use fts_model::GroupValue;
 use std::alloc::{AllocError, Global};
 use std::cmp::Ordering;
-use std::marker::Model;
-
-/// A group whose value stays in its part. Contracts see the value and the count.
-#[derive(Drop)]
-struct Lent<'a> {
-    value: &'a GroupValue,
-    count: u64,
-}
-
-impl<'a> Model for Lent<'a> {
-    ghost use Rattle.std.specs.Prelude.{ℕ};
-    ghost use Rattle.fts_model.specs.declared.value.GroupValue.{GroupValue};
-
-    ghost Value = { GroupValue × ℕ };
-
-    ghost view = { λ g. (g.value.now, g.count) };
-}
-
-impl<'a> Lent<'a> {
-    fn new(value: &'a GroupValue, count: u64) -> Lent<'a>
-        ensures { result ≡ (value.now, count) }
-    {
-        Lent { value, count }
-    }
-
-    fn value(&self) -> &'a GroupValue
-        ensures { result.now ≡ self.now.0 }
-    {
-        self.value
-    }
-
-    fn count(&self) -> u64
-        ensures { result ≡ self.now.1 }
-    {
-        self.count
-    }
-}
 
 /// Puts some of these groups, from a place on, behind others.
 fn lend_rest<'a>(
@@ -101,28 +65,17 @@ fn merged<'a>(
     Ok(list)
 }
 
-/// Groups, lent.
-fn lend(alloc: Global, groups: &[(GroupValue, u64)]) -> Result<Vec<Lent<'_>>, AllocError>
-    ensures { IfOk result (λ list. list.items ≡ groups.now) }
+/// The groups that a part tells, lent.
+fn groups_of(alloc: Global, part: &Part) -> Result<Vec<Lent<'_>>, AllocError>
+    ensures { IfOk result (λ list. list.items ≡ unwrap_or part.now.answer.groups []) }
 {
-    let mut list = Vec::with_capacity(alloc, groups.len())?;
-    for group in groups {
-        list.push(Lent::new(&group.0, group.1))?;
-    }
-    Ok(list)
-}
-
-/// The groups that a part tells.
-fn groups_of(part: &Part) -> &[(GroupValue, u64)]
-    ensures { result.now ≡ unwrap_or part.now.answer.groups [] }
-{
-    match &part.answer.groups {
-        None => &[],
-        Some(groups) => groups,
+    match &part.groups {
+        None => Ok(Vec::new(alloc)),
+        Some(groups) => groups.lend(alloc),
     }
 }
 
-/// The groups of all parts: those of each half, merged. Their values stay in the parts.
+/// The groups of all parts: those of each half, merged. Their keywords stay in the segments.
 fn merged_groups(alloc: Global, parts: &[Part]) -> Result<Vec<Lent<'_>>, AllocError>
     ensures { (field : ℕ) (lists : List (List (Stamped DocumentValue))) →
         AreGroupsOf field lists parts.now → length (joined lists) < 2 ^ 64 →
@@ -130,7 +83,7 @@ fn merged_groups(alloc: Global, parts: &[Part]) -> Result<Vec<Lent<'_>>, AllocEr
 {
     match parts {
         [] => Ok(Vec::new(alloc)),
-        [part] => lend(alloc, groups_of(part)),
+        [part] => groups_of(alloc, part),
         _ => {
             let (front, back) = parts.split_at(parts.len() / 2);
             let front = merged_groups(alloc, front)?;
@@ -146,12 +99,12 @@ fn copied(alloc: Global, groups: &[Lent<'_>]) -> Result<Vec<(GroupValue, u64)>, 
 {
     let mut list = Vec::with_capacity(alloc, groups.len())?;
     for group in groups {
-        list.push((group.value().clone()?, group.count()))?;
+        list.push((group.value().copied(alloc)?, group.count()))?;
     }
     Ok(list)
 }
 
-/// The groups of all parts. Each value is copied once.
+/// The groups of all parts. Each keyword is copied here, once.
 pub(crate) fn joined_groups(
     alloc: Global,
     parts: &[Part],

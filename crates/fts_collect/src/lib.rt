@@ -11,12 +11,14 @@
 
 mod collector;
 mod groups;
+mod lent;
 mod order;
 mod part;
 mod ranks;
 mod tally;
 mod top;
 mod top_k;
+mod walk;
 
 pub use collector::collect;
 pub use part::Part;

@@ -8,24 +8,32 @@ ghost use Rattle.fts_collect.specs.Parts.{ArePartsOf};
 ghost use Rattle.fts_collect.specs.Internals.Joins.{all_hits};
 
 use crate::groups::joined_groups;
+use crate::lent::Counted;
 use crate::top::{joined_top, room_for_hits};
 use fts_model::{Answer, GroupValue, Hit, Refusal, Request};
 use std::alloc::{AllocError, Global};
 use std::marker::Model;
 
-/// What one segment tells of its hits: the answer over them, and how many blocks were opened to find them.
+/// What one segment tells of its hits: the answer over them, and how many blocks were opened to find them. The keywords
+/// of groups stay in the segment, which it shares.
 #[derive(Drop)]
 pub struct Part {
-    pub(crate) answer: Answer,
+    pub(crate) count: u64,
+    pub(crate) groups: Option<Counted>,
+    pub(crate) top: Option<Vec<Hit>>,
     pub(crate) openings: u64,
 }
 
 impl Model for Part {
+    ghost use Rattle.std.specs.Prelude.{option_map};
     ghost use Rattle.fts_collect.specs.Parts.{PartValue};
 
     ghost Value = { PartValue };
 
-    ghost view = { λ p. record { answer = p.answer; openings = p.openings } };
+    ghost view = { λ p. record {
+      answer = record { count = p.count; groups = p.groups; top = option_map (λ hits. hits.items) p.top };
+      openings = p.openings;
+    } };
 }
 
 impl Part {
@@ -85,7 +93,7 @@ fn joined_count(parts: &[Part]) -> u64
 {
     let mut count = 0u64;
     for part in parts {
-        count = count.saturating_add(part.answer.count);
+        count = count.saturating_add(part.count);
     }
     count
 }

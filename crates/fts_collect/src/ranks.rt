@@ -1,6 +1,8 @@
 // The first hits of a segment, picked by their numbers in a column.
 ghost use Rattle.std.specs.Prelude.{◌≡◌, ◌+◌, ◌<◌, ◌/◌, ◌++◌, ◌∷◌, [], true, All, IfOk, IfSome, None, OnOk, drop};
 ghost use Rattle.std.specs.Prelude.{length, map, slice_index};
+ghost use Rattle.fts_model.specs.Queries.{is_number_field};
+ghost use Rattle.fts_segment.specs.Segments.{column};
 ghost use Rattle.fts_collect.specs.Internals.Ranks.{AreOfBlock, IsBeyond, Offers, best_rank, hit_of, rank_in};
 
 use crate::tally::number_at;
@@ -15,6 +17,14 @@ const BLOCK: u32 = 128;
 
 // From how far apart the numbers of a column are on, blocks are looked at: eight times as far as a block has documents.
 const FEW_NUMBERS: u64 = 1024;
+
+/// The column of a number field.
+pub(crate) fn numbers_of(segment: &Segment, field: usize) -> &Column
+    requires { is_number_field segment.now.schema field ≡ true }
+    ensures { result.now ≡ column segment.now field }
+{
+    segment.column(field)
+}
 
 /// Where a number stands among those of 64 bits in an order, and also the number that stands there.
 fn rank_in(order: Order, number: u64) -> u64
@@ -120,7 +130,7 @@ impl Ranking<'_> {
 
     /// Offers the hits that have a number in the column, the last first: where ranks fall from document to document,
     /// each hit would else keep out those before it, and few are kept out at one compare.
-    fn offer_each(&self, docs: &[u32], top_k: &mut TopK) -> Result<(), AllocError>
+    pub(crate) fn offer_each(&self, docs: &[u32], top_k: &mut TopK) -> Result<(), AllocError>
         requires { All (λ doc. doc < length self.now.segment.now.documents) docs.now }
         ensures { OnOk result (Offers self.now docs.now top_k.old top_k.new) }
     {

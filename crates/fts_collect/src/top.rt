@@ -4,7 +4,7 @@ ghost use Rattle.fts_collect.specs.Internals.Joins.{AreApart, all_hits, first_of
 
 use crate::order::rank;
 use crate::part::Part;
-use fts_model::{Answer, Hit, Top};
+use fts_model::{Hit, Top};
 use std::alloc::{AllocError, Global};
 
 /// Keeps the first hits of a top list, in their order.
@@ -20,7 +20,7 @@ fn keep_first(wanted: Top, list: &mut Vec<Hit>)
 fn length_of(part: &Part) -> usize
     ensures { result ≡ length (hits_in part.now) }
 {
-    match &part.answer.top {
+    match &part.top {
         None => 0,
         Some(hits) => hits.len(),
     }
@@ -45,8 +45,7 @@ fn move_hits(list: &mut Vec<Hit>, part: Part)
     ensures len { vec_len list.new ≡ vec_len list.old + length (hits_in part) }
     ensures room { vec_capacity list.old ≤ vec_capacity list.new }
 {
-    let Part { answer, .. } = part;
-    let Answer { top, .. } = answer;
+    let Part { top, .. } = part;
     if let Some(mut hits) = top {
         let _ = list.append(&mut hits);
     }

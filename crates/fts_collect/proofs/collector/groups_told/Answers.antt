@@ -8,8 +8,8 @@ use Rattle.fts_collect.specs.Internals.Collected.{HasCounted, column_of, hits_at
 use Rattle.fts_collect.proofs.CollectLemmas.{groups_at}
 use Rattle.fts_collect.proofs.collector.groups_told.Goals as goal
 
-pub returns-in_ok-named-in-Some : goal.returns-in_ok-named-in-Some
-returns-in_ok-named-in-Some c = λ docs counted few.
+pub returns-in_ok-new-in-Some : goal.returns-in_ok-new-in-Some
+returns-in_ok-new-in-Some c = λ docs counted few.
     let segment = c.args.segment.now in
     let f = c.in-Some.field in
     let P : Option ℕ → Type 0 = λ o. HasCounted segment o docs c.args.tally in
@@ -17,7 +17,7 @@ returns-in_ok-named-in-Some c = λ docs counted few.
     let here = subst P c.in-Some.is counted in
     let column = column_of segment f in
     ap Some (
-    c.in_ok-named-in-Some.ensures
-    ∙ ap (named_by (value_at segment f)) (c.deref.ensures.value ∙ c.in_ok-counts-in-Some.ensures (present_at column docs) here (omega (arith, few, length-filter_map (λ doc. slice_index_or column doc None) docs)))
+    c.in_ok-new-in-Some.ensures
+    ∙ ap (named_by (value_at segment f)) (c.in_ok-counts-in-Some.ensures (present_at column docs) here (omega (arith, few, length-filter_map (λ doc. slice_index_or column doc None) docs)))
     ∙ groups_at segment f docs c.requires.documents (subst Q c.in-Some.is c.requires.fits))
     ∙ ap (λ (o : Option ℕ). option_map (λ f. groups f (hits_at segment docs)) o) (sym c.in-Some.is)

@@ -10,8 +10,8 @@ pub returns-in-len1 : goal.returns-in-len1
 returns-in-len1 t c = λ field lists are few.
     let one = only_one c.args.parts.now c.part-item.result c.part-item.is c.in-len1.len_at_least c.in-len1.len_below in
     let P : List PartValue → Type 0 = AreGroupsOf field lists in
-    let Q : List (GroupValue × ℕ) → Type 0 = λ xs. IfOk c.lend.result (λ list. list.items ≡ xs) in
-    subst Q (c.groups_of.ensures ∙ groups-alone field lists c.part-item.result (subst P one are)) c.lend.ensures
+    let Q : List (GroupValue × ℕ) → Type 0 = λ xs. IfOk c.groups_of.result (λ list. list.items ≡ xs) in
+    subst Q (groups-alone field lists c.part-item.result (subst P one are)) c.groups_of.ensures
 
 pub returns-in_ok-back-in_default : goal.returns-in_ok-back-in_default
 returns-in_ok-back-in_default t c = λ field lists are few.

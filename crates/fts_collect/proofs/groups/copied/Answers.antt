@@ -11,7 +11,7 @@ loop-group-preserved c =
     let group = c.group-item.result in
     let within : i < length groups = omega arith in
     c.in_ok-push.ensures.items
-    ∙ ap (λ (v : GroupValue). items ++ (v, c.count.result) ∷ []) (c.in_ok-clone.ensures.cases ∙ c.value.ensures)
+    ∙ ap (λ (v : GroupValue). items ++ (v, c.count.result) ∷ []) (c.in_ok-copied.ensures ∙ c.value.ensures)
     ∙ ap (λ (n : ℕ). items ++ (group.0, n) ∷ []) c.count.ensures
     ∙ ap (λ (g : GroupValue × ℕ). items ++ g ∷ []) c.group-item.is
     ∙ ap (λ gs. gs ++ get_or groups i group ∷ []) c.loop-group.invariant

@@ -4,6 +4,7 @@ use Rattle.std.specs.declared.cmp.Ordering.TheVariants.{Less, Equal, Greater}
 use Rattle.fts_model.specs.declared.value.GroupValue.{GroupValue}
 use Rattle.fts_model.specs.Answers.{group_cmp}
 use Rattle.fts_collect.specs.Internals.Joins.{add_group, counts_added}
+use Rattle.fts_collect.specs.Internals.Lent.{value_of}
 use Rattle.fts_collect.proofs.GroupsLemmas.{merged-less, merged-equal, merged-greater, merged-end}
 use Rattle.fts_collect.proofs.groups.merged.Goals as goal
 use Rattle.fts_collect.proofs.groups.merged.Goals.{then-loop-i-test+else-j-back, else-loop-i-test}
@@ -26,9 +27,9 @@ loop-i-preserved-in-Less c = record {
       let a : GroupValue × ℕ = c.index-front-i.result in
       let b : GroupValue × ℕ = c.index-back-j.result in
       let rest = fold add_group (drop c.loop-i.i front) (drop (c.loop-i.j + 1) back) in
-      let less = compared a b c.value.result.now c.value-in-loop-i.result.now Less c.compare.result c.value.ensures c.value-in-loop-i.ensures c.compare.ensures c.in-Less.is in
+      let less = compared a b (value_of c.value.result) (value_of c.value-in-loop-i.result) Less c.compare.result c.value.ensures c.value-in-loop-i.ensures c.compare.ensures c.in-Less.is in
       ap (λ xs. xs ++ rest) (c.in_ok-push-in-Less.ensures.items
-      ∙ ap (λ g. c.loop-i.list.items ++ g ∷ []) (again b c.new.result c.value-in-Less.result.now c.count.result c.new.ensures c.value-in-Less.ensures c.count.ensures))
+      ∙ ap (λ g. c.loop-i.list.items ++ g ∷ []) (again b c.new.result (value_of c.value-in-Less.result) c.count.result c.new.ensures c.value-in-Less.ensures c.count.ensures))
       ∙ merged-less front back c.loop-i.list.items c.loop-i.i c.loop-i.j a b (fold add_group front back) c.loop-i-test.true c.if-j-back.true c.index-front-i.is c.index-back-j.is less rising (c.loop-i.invariant.so_far rising);
 }
 
@@ -42,12 +43,12 @@ loop-i-preserved-in-Equal c = record {
       let a : GroupValue × ℕ = c.index-front-i.result in
       let b : GroupValue × ℕ = c.index-back-j.result in
       let rest = fold add_group (drop (c.loop-i.i + 1) front) (drop (c.loop-i.j + 1) back) in
-      let equal = compared a b c.value.result.now c.value-in-loop-i.result.now Equal c.compare.result c.value.ensures c.value-in-loop-i.ensures c.compare.ensures c.in-Equal.is in
+      let equal = compared a b (value_of c.value.result) (value_of c.value-in-loop-i.result) Equal c.compare.result c.value.ensures c.value-in-loop-i.ensures c.compare.ensures c.in-Equal.is in
       let counts : c.saturating_add-in-Equal.result ≡ counts_added a.1 b.1 =
       c.saturating_add-in-Equal.ensures ∙ ap (λ n. counts_added n c.count-in-Equal-2.result) c.count-in-Equal.ensures ∙ ap (counts_added a.1) c.count-in-Equal-2.ensures in
       ap (λ xs. xs ++ rest) (c.in_ok-push-in-Equal.ensures.items
       ∙ ap (λ g. c.loop-i.list.items ++ g ∷ [])
-      (again (a.0, counts_added a.1 b.1) c.new-in-Equal.result c.value-in-Equal.result.now c.saturating_add-in-Equal.result c.new-in-Equal.ensures c.value-in-Equal.ensures counts))
+      (again (a.0, counts_added a.1 b.1) c.new-in-Equal.result (value_of c.value-in-Equal.result) c.saturating_add-in-Equal.result c.new-in-Equal.ensures c.value-in-Equal.ensures counts))
       ∙ merged-equal front back c.loop-i.list.items c.loop-i.i c.loop-i.j a b (fold add_group front back) c.loop-i-test.true c.if-j-back.true c.index-front-i.is c.index-back-j.is equal rising (c.loop-i.invariant.so_far rising);
 }
 
@@ -61,9 +62,9 @@ loop-i-preserved c = record {
       let a : GroupValue × ℕ = c.index-front-i.result in
       let b : GroupValue × ℕ = c.index-back-j.result in
       let rest = fold add_group (drop (c.loop-i.i + 1) front) (drop c.loop-i.j back) in
-      let greater = compared a b c.value.result.now c.value-in-loop-i.result.now Greater c.compare.result c.value.ensures c.value-in-loop-i.ensures c.compare.ensures c.in-Greater.is in
+      let greater = compared a b (value_of c.value.result) (value_of c.value-in-loop-i.result) Greater c.compare.result c.value.ensures c.value-in-loop-i.ensures c.compare.ensures c.in-Greater.is in
       ap (λ xs. xs ++ rest) (c.in_ok-push-in-Greater.ensures.items
-      ∙ ap (λ g. c.loop-i.list.items ++ g ∷ []) (again a c.new-in-Greater.result c.value-in-Greater.result.now c.count-in-Greater.result c.new-in-Greater.ensures c.value-in-Greater.ensures c.count-in-Greater.ensures))
+      ∙ ap (λ g. c.loop-i.list.items ++ g ∷ []) (again a c.new-in-Greater.result (value_of c.value-in-Greater.result) c.count-in-Greater.result c.new-in-Greater.ensures c.value-in-Greater.ensures c.count-in-Greater.ensures))
       ∙ merged-greater front back c.loop-i.list.items c.loop-i.i c.loop-i.j a b (fold add_group front back) c.loop-i-test.true c.if-j-back.true c.index-front-i.is c.index-back-j.is greater rising (c.loop-i.invariant.so_far rising);
 }
 
