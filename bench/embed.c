@@ -10,7 +10,7 @@
 #include <string.h>
 #include <time.h>
 
-#include "fts.h"
+#include "dilforec.h"
 
 typedef struct {
     uint8_t *bytes;
@@ -35,14 +35,14 @@ static double seconds(void) {
 }
 
 /* How many lines there were. */
-static size_t run(fts_t *index, text_t text) {
+static size_t run(dilforec_t *index, text_t text) {
     static uint8_t reply[1 << 20];
     size_t lines = 0;
     for (size_t at = 0; at < text.length;) {
         uint8_t *end = memchr(text.bytes + at, '\n', text.length - at);
         size_t length = end ? (size_t)(end - text.bytes) - at : text.length - at;
-        if (fts_execute(index, text.bytes + at, length) != FTS_OK) exit(2);
-        if (fts_reply(index, reply, sizeof reply) > sizeof reply) exit(3);
+        if (dilforec_execute(index, text.bytes + at, length) != DILFOREC_OK) exit(2);
+        if (dilforec_reply(index, reply, sizeof reply) > sizeof reply) exit(3);
         at += length + 1;
         lines++;
     }
@@ -50,8 +50,8 @@ static size_t run(fts_t *index, text_t text) {
 }
 
 int main(int count, char **words) {
-    fts_t index = {0};
-    if (count < 2 || fts_open(&index) != FTS_OK) return 1;
+    dilforec_t index = {0};
+    if (count < 2 || dilforec_open(&index) != DILFOREC_OK) return 1;
     for (int word = 1; word < count; word++) {
         text_t text = read_file(words[word]);
         double began = seconds();
@@ -59,6 +59,6 @@ int main(int count, char **words) {
         printf("%.1f\n", (seconds() - began) / (double)lines * 1e9);
         free(text.bytes);
     }
-    fts_close(index);
+    dilforec_close(&index);
     return 0;
 }

@@ -1,20 +1,12 @@
 #!/bin/sh
-# Builds what C, Python and Rust programs need of the library that `rt lib` made in crates/fts_c, and their examples.
+# Makes out/libdilforec.a and out/libdilforec.so.0 of the library that `rt lib` made in crates/fts_c, and the examples in C,
+# Python and Rust.
 set -e
 cd "$(dirname "$0")"
 
-library=${FTS_ARCHIVE:-../crates/fts_c/out/libfts_c.a}
-kit=${FTS_LIBC_ARCHIVE:-$(dirname "$(dirname "$(realpath "$(command -v rt)")")")/c/liblibc_c.a}
-for archive in "$library" "$kit"; do
-    if [ ! -f "$archive" ]; then
-        echo "bindings: $archive isn't there: run 'rt lib' in crates/fts_c, with the kit on the PATH" >&2
-        exit 1
-    fi
-done
-
 mkdir -p out
-${CC:-cc} -O2 -Wall -Wextra -o out/books c/example.c "$library" "$kit"
 python3 python/link.py
+${CC:-cc} -O2 -Wall -Wextra -o out/books c/example.c out/libdilforec.a
 if command -v cargo > /dev/null; then
     (cd rust && cargo build --quiet --offline --release --examples --target-dir ../out/target)
 fi

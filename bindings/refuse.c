@@ -1,7 +1,7 @@
 /* Refuses the library memory, as a test tells it to. Stands before the C library: linked into a test, or preloaded.
  *
  *     refuse_growth(3, NULL)      the third call for memory from now on finds none, whoever makes it
- *     refuse_growth(3, "libfts")  the third that comes from a file with such a name
+ *     refuse_growth(3, "libdilforec")  the third that comes from a file with such a name
  *     refuse_growth(0, NULL)      none is refused any more; the result is how many were asked for
  */
 #define _GNU_SOURCE

@@ -3,9 +3,10 @@
 
     python3 bindings/test.py
 
-Build the library first: `rt lib` in crates/fts_c. Each worked script through each language has to give the replies
-that are stored beside it, also where each growth is refused in turn and the call made again; the rest stands in the
-tests. The last line is 'N passed, M failed'.
+Build the library first, by `make`. Each worked script through each language has to give the replies
+that are stored beside it, also where each growth is refused in turn and the call made again; the rest is in the tests.
+What isn't there is skipped, and told: cargo and rustc, a compiler of C++, mypy. The last line is 'N passed, M
+failed'.
 """
 import os
 import pathlib
@@ -13,12 +14,15 @@ import re
 import shutil
 import subprocess
 import sys
+import tempfile
 
 HERE = pathlib.Path(__file__).resolve().parent
 OUT = HERE / "out"
 EXAMPLES = HERE.parent / "examples"
 SCRIPTS = [path for path in sorted(EXAMPLES.glob("*.jsonl")) if not path.name.endswith(".replies.jsonl")]
 CC = os.environ.get("CC", "cc")
+COUNTS = r"(\d+) passed, (\d+) failed"
+STRICTLY = ["-pedantic", "-Wall", "-Wextra", "-Werror"]
 
 sys.path.insert(0, str(HERE / "python"))
 
@@ -35,38 +39,89 @@ def count(name, good, bad, words=""):
         print(words, flush=True)
 
 
+def skipped(name, what):
+    print(f"bindings: {name}: skipped, since {what} isn't there", flush=True)
+
+
 def run(*words, **settings):
     return subprocess.run(words, capture_output=True, timeout=900, **settings)
 
 
 def step(name, *words, counts=None, **settings):
-    """Counts what a pattern finds in a command's words, how many passed and failed; without one, the command itself."""
+    """Counts what a pattern finds in a command's words, how many passed and failed; without one, the command itself.
+
+    How many growths were refused is told beside it, if the command says it.
+    """
     done = run(*words, text=True, **settings)
     said = done.stdout + done.stderr
     told = [(int(good), int(bad)) for good, bad in re.findall(counts, said)] if counts else [(1, 0)]
     good, bad = sum(it[0] for it in told), sum(it[1] for it in told)
+    refusals = sum(int(number) for number in re.findall(r"(\d+) refusals", said))
+    name += f" ({refusals} refusals)" if refusals else ""
     count(name, good, bad if done.returncode == 0 and good else max(bad, 1), said)
     return done.returncode == 0
 
 
-def compiled(name):
+def compiled(name, *more):
     """The path of a test in C, with the library and the refusals of bindings/refuse.c in it."""
     made = OUT / name
-    done = run(CC, "-std=c11", "-O1", "-Wall", "-Wextra", "-I", HERE / "c", "-o", made, HERE / f"c/tests/{name}.c",
-               HERE / "refuse.c", *link.archives(), "-pthread", "-ldl", text=True)
+    done = run(CC, "-std=c11", "-O1", *STRICTLY, "-I", HERE / "c", "-o", made, HERE / f"c/tests/{name}.c",
+               *more, link.ARCHIVE, "-pthread", "-ldl", text=True)
     if done.returncode != 0 or done.stderr:
         count(f"C, {name} compiled without a warning", 0, 1, done.stderr)
     return made
 
 
 def in_c():
-    strictly = ["-std=c99", "-pedantic", "-Wall", "-Wextra", "-Werror", "-fsyntax-only"]
-    step("C, the header alone", CC, *strictly, "-include", HERE / "c/fts.h", "-x", "c", "/dev/null")
-    step("C, handles", compiled("handles"), counts=r"(\d+) passed, (\d+) failed")
-    step("C, four threads", compiled("threads"))
-    lines = compiled("lines")
+    names()
+    refuse = OUT / "refuse.o"
+    step("C, the refusals", CC, "-c", "-O1", "-o", refuse, HERE / "refuse.c")
+    header = HERE / "c/dilforec.h"
+    step("C, the header alone", CC, "-std=c99", *STRICTLY, "-fsyntax-only", "-include", header, "-x", "c", "/dev/null")
+    step("C, handles", compiled("handles"), counts=COUNTS)
+    step("C, blocks, pairs and chosen fields, each growth refused", compiled("calls", refuse), counts=COUNTS)
+    step("C, the deepest lines in a stack of 512 KiB", compiled("stack"), counts=COUNTS)
+    step("C, eight threads", compiled("threads"))
+    lines = compiled("lines", refuse)
     worked("C, worked scripts", lines)
     worked("C, worked scripts, each growth refused", lines, "refuse")
+    beside()
+
+
+def names():
+    """Others see the functions of the header alone, in the archive and in the shared object."""
+    wanted = set(re.findall(r"\b(dilforec_\w+)\(", (HERE / "c/dilforec.h").read_text()))
+    for words in ["nm", "-g", "--defined-only", link.ARCHIVE], ["nm", "-D", "--defined-only", OUT / link.SONAME]:
+        found = {line.split()[2] for line in run(*words, text=True).stdout.splitlines() if len(line.split()) == 3}
+        count(f"C, the names of {words[-1].name}", int(found == wanted), int(found != wanted), found ^ wanted)
+    told = run("readelf", "-d", OUT / link.SONAME, text=True).stdout
+    count("C, the soname", int(f"[{link.SONAME}]" in told), int(f"[{link.SONAME}]" not in told), told)
+
+
+def beside():
+    """A program that walks folders by glibc's fts(3), and its headers beside ours."""
+    walks = HERE / "c/tests/walk.c", HERE / "c/tests/beside.c"
+    strictly = [*STRICTLY, "-D_DEFAULT_SOURCE", "-I", HERE / "c"]
+    step("C, both headers as C99", CC, "-std=c99", *strictly, "-fsyntax-only", *walks)
+    if shutil.which("c++"):
+        step("C, both headers as C++17", "c++", "-std=c++17", *strictly, "-fsyntax-only", "-x", "c++", *walks)
+    else:
+        skipped("C, both headers as C++17", "c++")
+    with tempfile.TemporaryDirectory() as folder:
+        files = pathlib.Path(folder, "files")
+        files.mkdir()
+        for number in range(7):
+            (files / str(number)).touch()
+        library = f"{folder}/libwalk.so"
+        if not step("C, a library over fts(3)", CC, *strictly, "-shared", "-fPIC", "-o", library, walks[0]):
+            return
+        for name, ours in ("archive", [link.ARCHIVE]), ("shared object", [OUT / link.SONAME, f"-Wl,-rpath,{OUT}"]):
+            # Both orders of linking, and the neighbour as a shared object.
+            for place, given in enumerate(([library, *ours], [*ours, library])):
+                made = f"{folder}/beside"
+                step(f"C, the {name} linked beside fts(3)", CC, "-std=c99", *strictly, "-o", made, walks[1], *given,
+                     f"-Wl,-rpath,{folder}")
+                step(f"C, the {name} beside fts(3), {'after' if place == 0 else 'before'} it", made, files, "7")
 
 
 def worked(name, *words):
@@ -82,49 +137,61 @@ def worked(name, *words):
 
 def in_python():
     environment = {**os.environ, "PYTHONPATH": str(HERE / "python"), "PYTHONDONTWRITEBYTECODE": "1"}
-    link.link()
     refuse = OUT / "refuse.so"
     if not step("Python, the refusals", CC, "-shared", "-fPIC", "-O1", "-o", refuse, HERE / "refuse.c", "-ldl"):
         return
-    for name, more in ("fts", {}), ("memory", {"LD_PRELOAD": str(refuse)}):
-        test = HERE / f"python/tests/test_{name}.py"
-        done = run(sys.executable, test, env={**environment, **more}, text=True)
+    for path in sorted((HERE / "python/tests").glob("test_*.py")):
+        if path.stem.startswith(("test_service", "test_cluster")):
+            continue  # tests/service.py and tests/cluster.py run these.
+        more = {"LD_PRELOAD": str(refuse)} if path.stem == "test_memory" else {}
+        done = run(sys.executable, path, env={**environment, **more}, text=True)
         tests = int((re.search(r"Ran (\d+) test", done.stderr) or [0, 0])[1])
         bad = len(re.findall(r"^(?:FAIL|ERROR): ", done.stderr, re.MULTILINE))
         if done.returncode or not tests:
             bad = max(bad, 1)
-        count(f"Python, {test.name}", max(tests - bad, 0), bad, done.stderr)
+        refusals = re.search(r"\d+ refusals", done.stdout)
+        name = f"Python, {path.name}" + (f" ({refusals[0]})" if refusals else "")
+        count(name, max(tests - bad, 0), bad, done.stderr)
+    mypy = shutil.which("mypy") or shutil.which("mypy", path="/usr/bin")
+    if mypy:
+        step("Python, mypy --strict", mypy, "--strict", "--cache-dir", OUT / "mypy", "dilforec", "examples",
+             cwd=HERE / "python")
+    else:
+        skipped("Python, mypy --strict", "mypy")
 
 
 def in_rust():
-    rust = HERE / "rust"
+    rust, refuse = HERE / "rust", OUT / "refuse.so"
+    results = r"test result: \w+. (\d+) passed; (\d+) failed"
     if shutil.which("cargo"):
-        step("Rust", "cargo", "test", "--offline", "--target-dir", OUT / "target", cwd=rust,
-             counts=r"test result: \w+. (\d+) passed; (\d+) failed")
+        cargo = ["cargo", "test", "--offline", "--target-dir", OUT / "target"]
+        step("Rust", *cargo, cwd=rust, counts=results)
+        step("Rust, each growth refused", *cargo, "--test", "growths", "--", "--nocapture", cwd=rust, counts=results,
+             env={**os.environ, "LD_PRELOAD": str(refuse)})
     elif shutil.which("rustc"):
-        paths = [f"-Lnative={archive.parent}" for archive in link.archives()]
-        done = run("rustc", "--edition=2021", "--crate-type=rlib", "--crate-name=fts", rust / "src/lib.rs", *paths,
-                   "-lstatic=fts_c", "-lstatic=libc_c", "-o", OUT / "libfts.rlib", text=True)
-        environment = {**os.environ, "CARGO_MANIFEST_DIR": str(rust)}
+        made = OUT / "libdilforec.rlib"
+        environment = {**os.environ, "CARGO_MANIFEST_DIR": str(rust), "CARGO_PKG_VERSION": "0"}
+        done = run("rustc", "--edition=2021", "--crate-type=rlib", "--crate-name=dilforec", rust / "src/lib.rs",
+                   f"-Lnative={OUT}", "-lstatic=dilforec", "-o", made, text=True, env=environment)
         done = done.returncode and done or run(
-            "rustc", "--edition=2021", "--test", rust / "tests/index.rs", f"--extern=fts={OUT / 'libfts.rlib'}", *paths,
-            "-o", OUT / "index", env=environment, text=True)
+            "rustc", "--edition=2021", "--test", rust / "tests/index.rs", f"--extern=dilforec={made}",
+            f"-Lnative={OUT}", "-o", OUT / "index", env=environment, text=True)
         if done.returncode:
             count("Rust, compiled by rustc", 0, 1, done.stderr)
         else:
-            step("Rust", OUT / "index", counts=r"test result: \w+. (\d+) passed; (\d+) failed")
+            step("Rust", OUT / "index", counts=results)
     else:
-        print("bindings: neither cargo nor rustc is there, so nothing was tried from Rust")
+        skipped("Rust", "neither cargo nor rustc")
 
 
 def main():
     OUT.mkdir(exist_ok=True)
     try:
-        link.archives()
+        link.link()
         in_c()
         in_python()
         in_rust()
-    except (link.NotBuilt, subprocess.SubprocessError) as error:
+    except (link.NotBuilt, OSError, subprocess.SubprocessError) as error:
         count("the library", 0, 1, error)
     print(f"{passed} passed, {failed} failed")
     return 1 if failed else 0

@@ -8,7 +8,7 @@
 #include <stdlib.h>
 #include <string.h>
 
-#include "fts.h"
+#include "dilforec.h"
 
 long refuse_growth(long n, const char *file);
 
@@ -21,32 +21,32 @@ static int is_refusing;
         if (is_refusing) refuse_growth(n, NULL);       \
         code = call;                                   \
         refuse_growth(0, NULL);                        \
-        if (code != FTS_MEMORY || !is_refusing) break; \
+        if (code != DILFOREC_MEMORY || !is_refusing) break; \
         refusals++;                                    \
     }
 
-static uint8_t *reply_of(fts_t *index, size_t *length) {
+static uint8_t *reply_of(dilforec_t *index, size_t *length) {
     uint8_t none;
-    *length = fts_reply(index, &none, 0);
+    *length = dilforec_reply(index, &none, 0);
     uint8_t *reply = malloc(*length + 1);
-    if (!reply || fts_reply(index, reply, *length) != *length) abort();
+    if (!reply || dilforec_reply(index, reply, *length) != *length) abort();
     return reply;
 }
 
 int main(int count, char **words) {
     (void)words;
     is_refusing = count > 1;
-    fts_t index = {0};
+    dilforec_t index = {0};
     int32_t code;
-    AGAIN(code, fts_open(&index));
-    if (code != FTS_OK) return 1;
+    AGAIN(code, dilforec_open(&index));
+    if (code != DILFOREC_OK) return 1;
     char *line = NULL;
     size_t room = 0;
     ssize_t length;
     while ((length = getline(&line, &room, stdin)) > 0) {
         if (line[length - 1] == '\n') length--;
-        AGAIN(code, fts_execute(&index, (uint8_t *)line, (size_t)length));
-        if (code != FTS_OK) return 2;
+        AGAIN(code, dilforec_execute(&index, (uint8_t *)line, (size_t)length));
+        if (code != DILFOREC_OK) return 2;
         size_t size;
         uint8_t *reply = reply_of(&index, &size);
         fwrite(reply, 1, size, stdout);
@@ -54,5 +54,5 @@ int main(int count, char **words) {
     }
     free(line);
     if (is_refusing) fprintf(stderr, "%ld\n", refusals);
-    return fts_close(index) == FTS_OK ? 0 : 3;
+    return dilforec_close(&index) == DILFOREC_OK ? 0 : 3;
 }

@@ -1,11 +1,11 @@
-/* Four threads with an index each: none sees anything of another. Then four with a searcher each, while a writer adds and
- * commits: each finds its own commit and nothing else.
+/* Four threads with an index each: none sees anything of another. Then four with a searcher each, while a writer adds
+ * and commits: each finds its own commit and nothing else.
  */
 #include <pthread.h>
 #include <stdio.h>
 #include <string.h>
 
-#include "fts.h"
+#include "dilforec.h"
 
 enum { THREADS = 4, BOOKS = 200, SEARCHES = 2000 };
 
@@ -14,18 +14,18 @@ static const char *SCHEMA = "{\"schema\":[{\"name\":\"title\",\"kind\":\"text\",
 typedef struct {
     int number;
     int wrong;
-    fts_searcher_t searcher;
+    dilforec_searcher_t searcher;
 } task_t;
 
 /* Whether an index replies to a line as it is wanted. */
-static int replies(fts_t *index, const char *line, const char *wanted) {
+static int replies(dilforec_t *index, const char *line, const char *wanted) {
     char reply[256];
-    if (fts_execute(index, (const uint8_t *)line, strlen(line)) != FTS_OK) return 0;
-    size_t length = fts_reply(index, (uint8_t *)reply, sizeof reply);
+    if (dilforec_execute(index, (const uint8_t *)line, strlen(line)) != DILFOREC_OK) return 0;
+    size_t length = dilforec_reply(index, (uint8_t *)reply, sizeof reply);
     return length == strlen(wanted) && memcmp(reply, wanted, length) == 0;
 }
 
-static void add_and_find(fts_t *index, task_t *task) {
+static void add_and_find(dilforec_t *index, task_t *task) {
     char line[128], wanted[128];
     for (int book = 1; book <= BOOKS; book++) {
         snprintf(line, sizeof line, "{\"add\":{\"title\":\"thread %d\"}}", task->number);
@@ -42,11 +42,11 @@ static void add_and_find(fts_t *index, task_t *task) {
 
 static void *write_one(void *given) {
     task_t *task = given;
-    fts_t index = {0};
-    task->wrong += fts_open(&index) != FTS_OK;
+    dilforec_t index = {0};
+    task->wrong += dilforec_open(&index) != DILFOREC_OK;
     task->wrong += !replies(&index, SCHEMA, "{\"fields\":1}\n");
     add_and_find(&index, task);
-    task->wrong += fts_close(index) != FTS_OK;
+    task->wrong += dilforec_close(&index) != DILFOREC_OK;
     return NULL;
 }
 
@@ -56,16 +56,16 @@ static void *search_one(void *given) {
     char reply[256], wanted[128];
     snprintf(wanted, sizeof wanted, "{\"count\":%d}\n", task->number);
     for (int search = 0; search < SEARCHES; search++) {
-        task->wrong += fts_search(&task->searcher, (const uint8_t *)LINE, strlen(LINE)) != FTS_OK;
-        size_t length = fts_searcher_reply(&task->searcher, (uint8_t *)reply, sizeof reply);
+        task->wrong += dilforec_search(&task->searcher, (const uint8_t *)LINE, strlen(LINE)) != DILFOREC_OK;
+        size_t length = dilforec_searcher_reply(&task->searcher, (uint8_t *)reply, sizeof reply);
         task->wrong += length != strlen(wanted) || memcmp(reply, wanted, length) != 0;
     }
-    task->wrong += fts_searcher_close(task->searcher) != FTS_OK;
+    task->wrong += dilforec_searcher_close(&task->searcher) != DILFOREC_OK;
     return NULL;
 }
 
 /* Adds a book and commits. */
-static int commits(fts_t *index, int book) {
+static int commits(dilforec_t *index, int book) {
     char wanted[128];
     snprintf(wanted, sizeof wanted, "{\"stamp\":%d}\n", 2 * book - 1);
     if (!replies(index, "{\"add\":{\"title\":\"thread\"}}", wanted)) return 0;
@@ -76,11 +76,11 @@ static int commits(fts_t *index, int book) {
 int main(void) {
     task_t writers[THREADS] = {0}, searchers[THREADS] = {0};
     pthread_t threads[2 * THREADS];
-    fts_t index = {0};
-    int wrong = fts_open(&index) != FTS_OK || !replies(&index, SCHEMA, "{\"fields\":1}\n");
+    dilforec_t index = {0};
+    int wrong = dilforec_open(&index) != DILFOREC_OK || !replies(&index, SCHEMA, "{\"fields\":1}\n");
     for (int i = 0; i < THREADS; i++) {
         writers[i].number = searchers[i].number = i + 1;
-        wrong += !commits(&index, i + 1) || fts_searcher(&index, &searchers[i].searcher) != FTS_OK;
+        wrong += !commits(&index, i + 1) || dilforec_searcher(&index, &searchers[i].searcher) != DILFOREC_OK;
         if (pthread_create(&threads[i], NULL, write_one, &writers[i])) return 1;
         if (pthread_create(&threads[THREADS + i], NULL, search_one, &searchers[i])) return 1;
     }
@@ -90,7 +90,7 @@ int main(void) {
         pthread_join(threads[THREADS + i], NULL);
         wrong += writers[i].wrong + searchers[i].wrong;
     }
-    wrong += fts_close(index) != FTS_OK;
+    wrong += dilforec_close(&index) != DILFOREC_OK;
     printf("%d threads, %d wrong\n", 2 * THREADS, wrong);
     return wrong != 0;
 }

@@ -3,6 +3,7 @@ use std::fmt;
 
 /// Why a call failed. Whatever it was, the index is as it was before.
 #[derive(Clone, Debug, PartialEq, Eq)]
+#[non_exhaustive]
 pub enum Error {
     /// There was no memory.
     Memory,
@@ -10,14 +11,59 @@ pub enum Error {
     LineTooLong,
     /// The index took 2^61 lines.
     UsedUp,
-    /// The index refused the line. Names and causes stand in docs/SCRIPT.md.
-    Refused { name: String, line: u64 },
-    /// A code that this crate doesn't know.
+    /// The index refused the line.
+    Refused(Refusal),
+    /// A document that replaces another has another value in the field, or none.
+    OtherKey,
+    /// The library replied what this crate can't read.
+    Reply,
+    /// The library answered a code that this crate doesn't know.
     Unknown(i32),
 }
 
+/// Why the index refused a line. Names and causes are in docs/SCRIPT.md.
+#[derive(Clone, Debug, PartialEq, Eq)]
+pub struct Refusal {
+    /// Its name, as `Syntax`.
+    pub name: &'static str,
+    /// The number of the line, from 1.
+    pub line: u64,
+}
+
+/// The names of all refusals.
+const NAMES: [&str; 28] = [
+    "Memory",
+    "NoFields",
+    "TooManyFields",
+    "BadName",
+    "NameTwice",
+    "BadDefault",
+    "NotAnObject",
+    "UnknownField",
+    "WrongKind",
+    "TooManyTexts",
+    "TextTooLong",
+    "KeywordTooLong",
+    "LaneFull",
+    "TooLarge",
+    "BadLimit",
+    "NotANumberField",
+    "TooLong",
+    "TooDeep",
+    "Syntax",
+    "RangeOnText",
+    "BadNumber",
+    "NoDefaultField",
+    "AllNegative",
+    "BadJson",
+    "BadCommand",
+    "NoSchema",
+    "SchemaTwice",
+    "LineTooLong",
+];
+
 impl Error {
-    /// What a code of fts.h stands for.
+    /// What a code of dilforec.h stands for.
     pub(crate) fn of(code: i32) -> Result<(), Error> {
         Err(match code {
             0 => return Ok(()),
@@ -32,10 +78,11 @@ impl Error {
     pub(crate) fn of_reply(reply: &str) -> Result<&str, Error> {
         let reply = reply.trim_end_matches('\n');
         let refusal = reply.strip_prefix(r#"{"error":""#).and_then(|rest| rest.strip_suffix('}'));
-        match refusal.and_then(|rest| rest.split_once(r#"","line":"#)) {
-            Some((name, line)) => Err(Error::Refused { name: name.to_owned(), line: line.parse().unwrap_or(0) }),
-            None => Ok(reply),
-        }
+        let Some((name, line)) = refusal.and_then(|rest| rest.split_once(r#"","line":"#)) else {
+            return Ok(reply);
+        };
+        let name = NAMES.iter().find(|known| **known == name).ok_or(Error::Reply)?;
+        Err(Error::Refused(Refusal { name, line: line.parse().unwrap_or(0) }))
     }
 }
 
@@ -45,8 +92,10 @@ impl fmt::Display for Error {
             Error::Memory => write!(out, "there was no memory"),
             Error::LineTooLong => write!(out, "the line has more than 4,194,304 bytes"),
             Error::UsedUp => write!(out, "the index took 2^61 lines"),
-            Error::Refused { name, line } => write!(out, "{name} in line {line}"),
-            Error::Unknown(code) => write!(out, "code {code}"),
+            Error::Refused(refusal) => write!(out, "{} in line {}", refusal.name, refusal.line),
+            Error::OtherKey => write!(out, "the document has another value in the field, or none"),
+            Error::Reply => write!(out, "the library's reply can't be read"),
+            Error::Unknown(code) => write!(out, "code {code} of the library"),
         }
     }
 }

@@ -1,11 +1,11 @@
-//! The functions of bindings/c/fts.h.
+//! The functions of bindings/c/dilforec.h.
 use crate::Error;
 use std::ffi::c_void;
 use std::ptr::null_mut;
 
-/// A handle; closed, where it is null.
+/// A handle; closed, if it is null.
 #[repr(C)]
-#[derive(Clone, Copy, Debug)]
+#[derive(Debug)]
 pub struct Raw {
     at: *mut c_void,
 }
@@ -15,26 +15,63 @@ impl Raw {
 }
 
 extern "C" {
-    pub fn fts_open(slot: *mut Raw) -> i32;
-    pub fn fts_execute(index: *mut Raw, line: *const u8, length: usize) -> i32;
-    pub fn fts_reply(index: *mut Raw, out: *mut u8, room: usize) -> usize;
-    pub fn fts_close(index: Raw);
-    pub fn fts_searcher(index: *mut Raw, slot: *mut Raw) -> i32;
-    pub fn fts_searcher_again(searcher: *mut Raw, slot: *mut Raw) -> i32;
-    pub fn fts_search(searcher: *mut Raw, line: *const u8, length: usize) -> i32;
-    pub fn fts_searcher_reply(searcher: *mut Raw, out: *mut u8, room: usize) -> usize;
-    pub fn fts_searcher_close(searcher: Raw);
+    pub fn dilforec_open(slot: *mut Raw) -> i32;
+    pub fn dilforec_execute(index: *mut Raw, line: *const u8, length: usize) -> i32;
+    pub fn dilforec_execute_fields(
+        index: *mut Raw,
+        line: *const u8,
+        length: usize,
+        names: *const u8,
+        names_length: usize,
+    ) -> i32;
+    pub fn dilforec_replace(
+        index: *mut Raw,
+        delete: *const u8,
+        delete_length: usize,
+        add: *const u8,
+        add_length: usize,
+    ) -> i32;
+    pub fn dilforec_reply(index: *mut Raw, out: *mut u8, room: usize) -> usize;
+    pub fn dilforec_close(index: *mut Raw) -> i32;
+    pub fn dilforec_searcher(index: *mut Raw, slot: *mut Raw) -> i32;
+    pub fn dilforec_searcher_again(searcher: *mut Raw, slot: *mut Raw) -> i32;
+    pub fn dilforec_search(searcher: *mut Raw, line: *const u8, length: usize) -> i32;
+    pub fn dilforec_search_fields(
+        searcher: *mut Raw,
+        line: *const u8,
+        length: usize,
+        names: *const u8,
+        names_length: usize,
+    ) -> i32;
+    pub fn dilforec_searcher_reply(searcher: *mut Raw, out: *mut u8, room: usize) -> usize;
+    pub fn dilforec_searcher_close(searcher: *mut Raw) -> i32;
 }
 
-/// Copies a reply into a buffer, which keeps its room for the next. `copy` takes a place and its room, and tells the
-/// length.
-pub fn read(buffer: &mut Vec<u8>, mut copy: impl FnMut(*mut u8, usize) -> usize) -> Result<&str, Error> {
-    let length = copy(buffer.as_mut_ptr(), buffer.len());
-    if length > buffer.len() {
-        buffer.try_reserve(length - buffer.len()).map_err(|_| Error::Memory)?;
-        buffer.resize(length, 0);
-        copy(buffer.as_mut_ptr(), length);
+/// The most bytes of the reply to a line that isn't a search.
+const REPLY_TO_CHANGE: usize = 128;
+
+/// The most bytes of a buffer that is kept for the next reply.
+const KEPT_ROOM: usize = 1 << 20;
+
+/// Makes room for the reply to a line that changes something, so that no error follows a change.
+pub fn make_room(buffer: &mut Vec<u8>) -> Result<(), Error> {
+    if buffer.capacity() > KEPT_ROOM {
+        *buffer = Vec::new();
     }
+    buffer.clear();
+    buffer.try_reserve(REPLY_TO_CHANGE).map_err(|_| Error::Memory)
+}
+
+/// Copies a reply into a buffer that has room for a short one. `copy` takes a place and its room, and tells the length.
+pub fn read(buffer: &mut Vec<u8>, mut copy: impl FnMut(*mut u8, usize) -> usize) -> Result<&str, Error> {
+    let mut length = copy(buffer.as_mut_ptr(), buffer.capacity());
+    if length > buffer.capacity() {
+        // This long is a reply to a search alone, which may be asked again.
+        buffer.try_reserve(length).map_err(|_| Error::Memory)?;
+        length = copy(buffer.as_mut_ptr(), buffer.capacity());
+    }
+    // SAFETY: `copy` filled as many bytes, and the capacity is no less.
+    unsafe { buffer.set_len(length) };
     // A reply is JSON in UTF-8, and an LF.
-    Ok(std::str::from_utf8(&buffer[..length]).expect("a reply is UTF-8"))
+    std::str::from_utf8(buffer).map_err(|_| Error::Reply)
 }

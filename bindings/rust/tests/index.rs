@@ -1,28 +1,25 @@
 //! The crate over the worked scripts, in threads, and at its edges.
-use fts::{Error, Index, Searcher};
+use dilforec::{quoted, Document, Error, Field, Index, Order, Refusal, Search, Searcher, Value};
 use std::fs;
 use std::path::Path;
 use std::thread;
 
-const SCHEMA: &str = r#"{"schema":[{"name":"title","kind":"text","default":true}]}"#;
-const ADD: &str = r#"{"add":{"title":"rust"}}"#;
-const COMMIT: &str = r#"{"commit":true}"#;
-const FIND: &str = r#"{"query":"rust"}"#;
+fn fields() -> [Field<'static>; 4] {
+    [Field::text("title").default(), Field::keyword("shelf"), Field::u64("year"), Field::i64("rating")]
+}
 
-fn opened() -> Result<Index, Error> {
-    let mut index = Index::open()?;
-    index.execute(SCHEMA)?;
-    Ok(index)
+fn book(title: &str) -> Document<'_> {
+    Document::new().with("title", title)
 }
 
 fn commit(index: &mut Index) -> Result<(), Error> {
-    index.execute(ADD)?;
-    index.execute(COMMIT)?;
+    index.add(&book("rust"))?;
+    index.commit()?;
     Ok(())
 }
 
-fn refused(name: &str, line: u64) -> Error {
-    Error::Refused { name: name.to_owned(), line }
+fn refused(name: &'static str, line: u64) -> Error {
+    Error::Refused(Refusal { name, line })
 }
 
 #[test]
@@ -47,8 +44,54 @@ fn worked_scripts_give_their_stored_replies() -> Result<(), Error> {
 }
 
 #[test]
+fn documents_go_in_and_come_out() -> Result<(), Error> {
+    let mut index = Index::with_schema(&fields())?;
+    let odd = "a \"quoted\" \\ text,\n\u{1}\u{1f600} й";
+    let list = Value::from(vec!["left", "hand"]);
+    index.add(&Document::new().with("title", odd).with("shelf", "a").with("year", u64::MAX).with("rating", i64::MIN))?;
+    index.add(&Document::new().with("title", list.clone()).with("shelf", "b").with("year", 1))?;
+    assert_eq!(index.commit()?, 3);
+    let mut searcher = index.searcher()?;
+    let search = Search::new("*").groups("shelf").top("year", 10, Order::Falling);
+    let answer = index.search(search.clone())?;
+    assert_eq!(answer.count, 2);
+    assert_eq!(answer.groups, [(Value::from("a"), 1), (Value::from("b"), 1)]);
+    assert_eq!((answer.hits[0].value, answer.hits[0].stamp), (i128::from(u64::MAX), 1));
+    assert_eq!(answer.hits[0].document.get("title"), Some(&Value::from(odd)));
+    assert_eq!(answer.hits[0].document.get("rating"), Some(&Value::from(i64::MIN)));
+    assert_eq!(answer.hits[1].document.get("title"), Some(&list));
+    assert_eq!(searcher.search(search.clone())?, answer);
+    let names = ["shelf"];
+    let cut = index.search(search.clone().fields(&names))?;
+    assert_eq!(cut.hits[0].document, Document::new().with("shelf", "a"));
+    assert_eq!(searcher.search(search.fields(&names))?, cut);
+    let unknown = Search::new("*").top("year", 1, Order::Rising).fields(&["titel"]);
+    assert_eq!(index.search(unknown), Err(refused("UnknownField", 6)));
+    assert_eq!(index.search(Search::new(quoted("\"quoted\" \\ text")))?.count, 1);
+    assert_eq!(index.search(Search::new("*").groups("rating"))?.groups, [(Value::from(i64::MIN), 1)]);
+    Ok(())
+}
+
+#[test]
+fn operations_answer_their_stamps() -> Result<(), Error> {
+    let mut index = Index::with_schema(&fields())?;
+    commit(&mut index)?;
+    assert_eq!((index.add(&book("rust"))?, index.delete("title", "rust")?, index.rollback()?), (3, 4, 2));
+    assert_eq!((index.delete("year", 1)?, index.commit()?), (3, 4));
+    let keyed = Document::new().with("shelf", "a").with("title", "old");
+    index.add(&keyed)?;
+    assert_eq!(index.replace("shelf", &Document::new().with("shelf", "a").with("title", "new"))?, 7);
+    assert_eq!(index.replace("year", &keyed), Err(Error::OtherKey));
+    let late = Document::new().with("shelf", "a").with("year", "late");
+    assert_eq!(index.replace("shelf", &late), Err(refused("WrongKind", 12)));
+    assert_eq!(index.commit()?, 8);
+    assert_eq!((index.search("old")?.count, index.search("new")?.count, index.search("*")?.count), (0, 1, 2));
+    Ok(())
+}
+
+#[test]
 fn four_threads_have_an_index_each() -> Result<(), Error> {
-    fn fill(mut index: Index, documents: usize) -> Result<Index, Error> {
+    fn fill(mut index: Index, documents: u64) -> Result<Index, Error> {
         for _ in 0..documents {
             commit(&mut index)?;
         }
@@ -57,26 +100,26 @@ fn four_threads_have_an_index_each() -> Result<(), Error> {
 
     let mut threads = Vec::new();
     for number in 1..=4 {
-        let index = opened()?;
+        let index = Index::with_schema(&fields())?;
         threads.push((number, thread::spawn(move || fill(index, 50 * number))));
     }
     for (number, thread) in threads {
         let mut index = thread.join().expect("no thread panics")?;
-        assert_eq!(index.search(FIND), Ok(format!(r#"{{"count":{}}}"#, 50 * number).as_str()));
+        assert_eq!(index.search("rust")?.count, 50 * number);
     }
     Ok(())
 }
 
 #[test]
 fn four_threads_search_their_own_searcher_while_the_writer_commits() -> Result<(), Error> {
-    fn look(mut searcher: Searcher, count: usize) -> Result<(), Error> {
+    fn look(mut searcher: Searcher, count: u64) -> Result<(), Error> {
         for _ in 0..200 {
-            assert_eq!(searcher.search(FIND)?, format!(r#"{{"count":{count}}}"#));
+            assert_eq!(searcher.search("rust")?.count, count);
         }
         Ok(())
     }
 
-    let mut index = opened()?;
+    let mut index = Index::with_schema(&fields())?;
     let mut threads = Vec::new();
     for count in 1..=100 {
         commit(&mut index)?;
@@ -86,7 +129,7 @@ fn four_threads_search_their_own_searcher_while_the_writer_commits() -> Result<(
         }
     }
     assert_eq!(threads.len(), 4);
-    assert_eq!(index.search(FIND)?, r#"{"count":100}"#);
+    assert_eq!(index.search("rust")?.count, 100);
     drop(index);
     for thread in threads {
         thread.join().expect("no thread panics")?;
@@ -96,27 +139,40 @@ fn four_threads_search_their_own_searcher_while_the_writer_commits() -> Result<(
 
 #[test]
 fn a_searcher_is_one_commit_and_refuses_as_line_1() -> Result<(), Error> {
-    let mut index = opened()?;
+    let mut index = Index::with_schema(&fields())?;
     commit(&mut index)?;
-    index.execute(ADD)?;
+    index.add(&book("rust"))?;
     let mut searcher = index.searcher()?;
     index.execute(r#"{"delete_all":true}"#)?;
-    index.execute(COMMIT)?;
-    assert_eq!(searcher.search(FIND), Ok(r#"{"count":1}"#));
-    assert_eq!(searcher.search(r#"{"query":"rust OR"}"#), Err(refused("Syntax", 1)));
-    assert_eq!(index.search(FIND), Ok(r#"{"count":0}"#));
-    assert_eq!(Index::open()?.searcher()?.search(FIND), Err(refused("NoSchema", 1)));
+    index.commit()?;
+    assert_eq!(searcher.search("rust")?.count, 1);
+    assert_eq!(searcher.search("rust OR"), Err(refused("Syntax", 1)));
+    assert_eq!(index.search("rust")?.count, 0);
+    assert_eq!(Index::open()?.searcher()?.search("rust"), Err(refused("NoSchema", 1)));
     Ok(())
 }
 
 #[test]
 fn refusals_and_codes_leave_the_index_as_it_was() -> Result<(), Error> {
-    assert_eq!(Index::open()?.search(FIND), Err(refused("NoSchema", 1)));
-    let mut index = opened()?;
+    assert_eq!(Index::open()?.search("rust"), Err(refused("NoSchema", 1)));
+    let mut index = Index::with_schema(&fields())?;
     assert_eq!(index.execute(b"{\"add\":{\"title\":\"\xff\"}}"), Err(refused("BadJson", 2)));
     assert_eq!(index.execute(vec![b' '; 4_194_305]), Err(Error::LineTooLong));
-    assert_eq!(index.execute(r#"{"add":{"colour":"red"}}"#), Err(refused("UnknownField", 3)));
+    assert_eq!(index.add(&Document::new().with("colour", "red")), Err(refused("UnknownField", 3)));
     assert_eq!(index.execute(" \t\r"), Ok(""));
-    assert_eq!(index.execute(ADD), Ok(r#"{"stamp":1}"#));
+    assert_eq!(index.add(&book("rust")), Ok(1));
+    let long = "я".repeat(500_000);
+    assert_eq!(index.add(&book(&long)), Ok(2));
+    Ok(())
+}
+
+#[test]
+fn the_deepest_query_fits_into_512_kib() -> Result<(), Error> {
+    let deep = format!("{}rust{}", "(a b AND c OR (".repeat(16), "))".repeat(16));
+    let mut index = Index::with_schema(&fields())?;
+    commit(&mut index)?;
+    let look = move || index.search(deep.as_str()).map(|answer| answer.count);
+    let thread = thread::Builder::new().stack_size(512 * 1024).spawn(look).expect("a thread");
+    assert_eq!(thread.join().expect("no panic"), Ok(1));
     Ok(())
 }

@@ -18,7 +18,7 @@ after_lines-push : (s : SessionValue) (xs : List (List ℕ)) (line : List ℕ) �
 after_lines-push s [] line = refl
 after_lines-push s (x ∷ xs) line = after_lines-push (after_line s x) xs line
 
--- the next of a list behind its first n
+-- the next of a list after its first n
 record IsNext (xs : List (List ℕ)) (n : ℕ) (y : List ℕ) (ys : List (List ℕ)) : Type 0 where
   within : n < length xs
   at : get_or xs n [] ≡ y
@@ -32,7 +32,7 @@ next_of xs n y ys e =
     let at : get_or xs n [] ≡ y = cc in
     record { within = within; at = at; left = cc; taken = take_more xs n [] within ∙ ap (λ v. take n xs ++ v ∷ []) at }
 
--- so many lines of a block were done, and this is left of it
+-- that many lines of a block were done, and this is left of it
 pub record Reached (old : State) (block rest : List ℕ) (now : State) (done : ℕ) : Type 0 where
   pub left : drop done (lines_of block) ≡ lines_of rest
   pub room : done + length rest ≤ length block
@@ -40,11 +40,11 @@ pub record Reached (old : State) (block rest : List ℕ) (now : State) (done : �
   pub reply : string_bytes now.reply ≡ replies old.session (take done (lines_of block))
   pub session : now.session ≡ after_lines old.session (take done (lines_of block))
 
-pub reached_next : (old now new : State) (block rest line behind : List ℕ) (done : ℕ) (code : ℤ) → Reached old block rest now done →
-    lines_of rest ≡ line ∷ lines_of behind → length behind < length rest → ExecutesNext now line new code → code ≡ OK → Reached old block behind new (done + 1)
-reached_next old now new block rest line behind done code r first shorter e ok =
+pub reached_next : (old now new : State) (block rest line later : List ℕ) (done : ℕ) (code : ℤ) → Reached old block rest now done →
+    lines_of rest ≡ line ∷ lines_of later → length later < length rest → ExecutesNext now line new code → code ≡ OK → Reached old block later new (done + 1)
+reached_next old now new block rest line later done code r first shorter e ok =
     let ls : List (List ℕ) = lines_of block in
-    let n : IsNext ls done line (lines_of behind) = next_of ls done line (lines_of behind) (r.left ∙ first) in record {
+    let n : IsNext ls done line (lines_of later) = next_of ls done line (lines_of later) (r.left ∙ first) in record {
       left = n.left;
       room = omega (arith, r.room, shorter);
       within = omega (arith, n.within);
@@ -53,11 +53,11 @@ reached_next old now new block rest line behind done code r first shorter e ok =
       session = e.session ok ∙ ap (λ s. after_line s line) r.session ∙ sym (after_lines-push old.session (take done ls) line) ∙ ap (after_lines old.session) (sym n.taken);
     }
 
-pub reached_stop : (old now new : State) (block rest line behind : List ℕ) (done : ℕ) (code : ℤ) → Reached old block rest now done →
-    lines_of rest ≡ line ∷ lines_of behind → ExecutesNext now line new code → code ≢ OK → ExecutesLines old block new code done
-reached_stop old now new block rest line behind done code r first e bad =
+pub reached_stop : (old now new : State) (block rest line later : List ℕ) (done : ℕ) (code : ℤ) → Reached old block rest now done →
+    lines_of rest ≡ line ∷ lines_of later → ExecutesNext now line new code → code ≢ OK → ExecutesLines old block new code done
+reached_stop old now new block rest line later done code r first e bad =
     let ls : List (List ℕ) = lines_of block in
-    let n : IsNext ls done line (lines_of behind) = next_of ls done line (lines_of behind) (r.left ∙ first) in
+    let n : IsNext ls done line (lines_of later) = next_of ls done line (lines_of later) (r.left ∙ first) in
     let stop : StopsAt new line code = record { code_is = subst (λ s. IsCodeOf s line code) (sym (e.same bad)) e.code_is; not_ok = bad; not_blank = e.not_blank } in record {
       reply = e.none bad ∙ r.reply;
       session = e.same bad ∙ r.session;

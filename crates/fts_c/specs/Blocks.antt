@@ -6,7 +6,7 @@ use Rattle.fts_c.specs.declared.codes.TheConstants.{OK, MEMORY}
 use Rattle.fts_c.specs.declared.state.State.{State}
 use Rattle.fts_c.specs.Codes.{IsCodeOf}
 
--- A line was executed, as one alone, and its reply put behind the last.
+-- A line was executed, as one alone, and its reply put after the last.
 pub record ExecutesNext (old : State) (line : List ℕ) (new : State) (code : ℤ) : Type 0 where
   pub code_is : IsCodeOf old.session line code
   pub reply : code ≡ OK → string_bytes new.reply ≡ string_bytes old.reply ++ reply_to old.session line
@@ -15,14 +15,14 @@ pub record ExecutesNext (old : State) (line : List ℕ) (new : State) (code : �
   pub none : code ≢ OK → string_bytes new.reply ≡ string_bytes old.reply
   pub not_blank : code ≡ MEMORY → is_blank line ≡ false
 
--- the first line that was not done has this code, of those at which a line is not done
+-- the first line that wasn't done has this code, of those at which a line isn't done
 pub record StopsAt (at : State) (line : List ℕ) (code : ℤ) : Type 0 where
   pub code_is : IsCodeOf at.session line code
   pub not_ok : code ≢ OK
   pub not_blank : code ≡ MEMORY → is_blank line ≡ false
 
--- The lines of a block were executed up to the first that has another code than 0: the reply is theirs, one behind the
--- other, and the session is behind them. The code is 0 where all were done, and else that of the next.
+-- The lines of a block were executed up to the first that has another code than 0: the reply is theirs, one after the
+-- other, and so is the session. The code is 0 if all were done, and else that of the next.
 pub record ExecutesLines (old : State) (block : List ℕ) (new : State) (code : ℤ) (done : ℕ) : Type 0 where
   pub reply : string_bytes new.reply ≡ replies old.session (take done (lines_of block))
   pub session : new.session ≡ after_lines old.session (take done (lines_of block))

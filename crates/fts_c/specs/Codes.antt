@@ -13,7 +13,7 @@ pub record IsTried (s : SessionValue) (line : List ℕ) : Type 0 where
 abbrev pub IsOfTried : ℤ → Type 0
 IsOfTried code = (code ≡ OK) ⊎ (code ≡ MEMORY)
 
--- a line has this code: that of its fault exactly where it has one, and one of what was tried exactly where it has none
+-- a line has this code: that of its fault exactly if it has one, and one of what was tried exactly if it has none
 pub record IsCodeOf (s : SessionValue) (line : List ℕ) (code : ℤ) : Type 0 where
   pub line_too_long : (code ≡ LINE_TOO_LONG) ↔ (longest < length line)
   pub used_up : (code ≡ USED_UP) ↔ ((length line ≤ longest) × (2 ^ 61 ≤ s.number))

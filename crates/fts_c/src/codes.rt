@@ -1,4 +1,4 @@
-// What a call answers to C, as `fts.h` names it.
+// What a call answers to C, as `dilforec.h` names it.
 
 /// It was done.
 pub const OK: i32 = 0;
@@ -14,3 +14,6 @@ pub const USED_UP: i32 = 3;
 
 /// The handle is closed.
 pub const CLOSED: i32 = 4;
+
+/// The length of a reply, of a closed handle.
+pub const NO_REPLY: usize = usize::MAX;

@@ -8,7 +8,7 @@ ghost use Rattle.fts_c.specs.Pairs.{AreTried, IsFaultOfTwo, Replaces};
 
 use crate::codes::{LINE_TOO_LONG, MEMORY, OK, USED_UP};
 use fts_local::LocalEngine;
-use fts_session::{Session, first_line};
+use fts_session::{Session, first_line, is_blank};
 use std::alloc::{AllocError, Global};
 
 /// The most bytes that a line has.
@@ -57,7 +57,15 @@ impl State {
         Ok(())
     }
 
-    /// Executes a line, and puts its reply behind the last.
+    /// Forgets the last reply.
+    fn forget(&mut self)
+        ensures same { self.new.session ≡ self.old.session }
+        ensures none { string_bytes self.new.reply ≡ [] }
+    {
+        self.reply.clear();
+    }
+
+    /// Executes a line, and puts its reply after the last.
     fn execute_next(&mut self, alloc: Global, line: &[u8]) -> i32
         ensures { ExecutesNext self.old line.now self.new result }
     {
@@ -72,7 +80,7 @@ impl State {
     pub(crate) fn execute(&mut self, alloc: Global, line: &[u8]) -> i32
         ensures { Executes self.old line.now self.new result }
     {
-        self.reply.clear();
+        self.forget();
         self.execute_next(alloc, line)
     }
 
@@ -80,17 +88,17 @@ impl State {
     pub(crate) fn execute_lines(&mut self, alloc: Global, block: &[u8]) -> (i32, usize)
         ensures { ExecutesLines self.old block.now self.new result.0 result.1 }
     {
-        self.reply.clear();
+        self.forget();
         let mut rest = block;
         let mut done = 0;
         while !rest.is_empty() {
-            let (line, behind) = first_line(rest);
+            let (line, after) = first_line(rest);
             let code = self.execute_next(alloc, line);
             if code != OK {
                 return (code, done);
             }
             done += 1;
-            rest = behind;
+            rest = after;
         }
         (OK, done)
     }
@@ -114,7 +122,7 @@ impl State {
     pub(crate) fn replace(&mut self, alloc: Global, delete: &[u8], add: &[u8]) -> i32
         ensures { Replaces self.old delete.now add.now self.new result }
     {
-        self.reply.clear();
+        self.forget();
         if let Err(code) = self.check_two(delete, add) {
             return code;
         }
@@ -128,9 +136,12 @@ impl State {
     pub(crate) fn search(&mut self, alloc: Global, line: &[u8]) -> i32
         ensures { Searches self.old line.now self.new result }
     {
-        self.reply.clear();
+        self.forget();
         if let Err(code) = self.check(line) {
             return code;
+        }
+        if is_blank(line) {
+            return OK;
         }
         let found = self.session.find(&((), alloc), line, &mut self.reply);
         code_of(found)
@@ -140,9 +151,12 @@ impl State {
     pub(crate) fn search_fields(&mut self, alloc: Global, line: &[u8], names: &[u8]) -> i32
         ensures { SearchesFields self.old line.now names.now self.new result }
     {
-        self.reply.clear();
+        self.forget();
         if let Err(code) = self.check(line) {
             return code;
+        }
+        if is_blank(line) {
+            return OK;
         }
         let found = self
             .session
@@ -163,7 +177,7 @@ impl State {
 
 fn needs_send<T: Send>() {}
 
-/// What is behind a handle may go to another thread.
+/// What a handle points to may go to another thread.
 pub fn a_handle_may_be_sent() {
     needs_send::<State>()
 }

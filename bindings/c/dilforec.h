@@ -1,0 +1,129 @@
+/* A full-text index inside a C program: the lines of a script in, their replies out.
+ *
+ * A line is a JSON object with one member, the command; docs/SCRIPT.md has all commands, replies and limits. The
+ * replies are those of `fts run` to the same lines, to the byte.
+ *
+ * Ownership. A handle is a struct that belongs to the caller. Initialize it with {0}, pass its address to the function
+ * that opens it, and later to the one that closes it. What the handle points to belongs to the library. Lines and
+ * buffers belong to the caller, and are only used during the call. Opening over an open handle loses what was open. No
+ * pointer may be NULL, even if the length beside it is 0, and no two arguments may overlap.
+ *
+ * Closed handles. A struct with NULL in it is a closed handle: before it is opened, and after a close. Each call
+ * answers DILFOREC_CLOSED for it and does nothing. A copy of a struct isn't closed with it, so don't use copies: a
+ * handle that was closed through another struct can't be detected.
+ *
+ * Threads. A handle is used by one thread at a time, and may move from thread to thread. Calls on two handles may run
+ * at the same time, even those on an index and on its searchers: they share what was committed, which never changes. No
+ * call starts a thread, waits or opens a file. None may be made by a signal handler that may have interrupted another,
+ * nor, in the child of a fork, on a handle that another thread was using.
+ *
+ * Stack. A call needs at most 512 KiB of its thread's stack: the deepest query and the deepest JSON are within it.
+ *
+ * Searchers. A searcher is one commit for ever: it finds what its index had committed when the searcher was opened,
+ * whatever is done to the index afterwards, and stays usable when the index is closed. To search from several threads,
+ * open a searcher for each before it starts.
+ *
+ * Codes. At each code other than DILFOREC_OK everything is as it was before the call, slots included, except that there
+ * is no reply. So a line for which there was no memory may be sent again. (dilforec_execute_lines alone may have done
+ * some of its lines, and tells how many.) A refusal of the script, such as {"error":"Syntax","line":5}, is a reply, and
+ * the code is DILFOREC_OK.
+ *
+ * Versions. The shared object is libdilforec.so.0 until version 1.0; docs/EMBEDDING.md says what changes the number.
+ */
+#ifndef DILFOREC_H
+#define DILFOREC_H
+
+#include <stddef.h>
+#include <stdint.h>
+
+#ifdef __cplusplus
+extern "C" {
+#endif
+
+#define DILFOREC_VERSION "0.1.0"
+
+enum {
+    DILFOREC_OK = 0,
+    DILFOREC_MEMORY = 1,        /* there was no memory */
+    DILFOREC_LINE_TOO_LONG = 2, /* a line has more than DILFOREC_LONGEST_LINE bytes */
+    DILFOREC_USED_UP = 3,       /* the index took 2^61 lines */
+    DILFOREC_CLOSED = 4         /* the handle is closed */
+};
+
+#define DILFOREC_LONGEST_LINE 4194304
+#define DILFOREC_NO_REPLY SIZE_MAX
+
+/* An index. It forgets everything when it is closed. */
+typedef struct {
+    void *at;
+} dilforec_t;
+
+/* Opens an index without a schema. DILFOREC_OK or DILFOREC_MEMORY. */
+int32_t dilforec_open(dilforec_t *slot);
+
+/* Does what a line says. `line` has `length` bytes and no LF at its end; any bytes will do. DILFOREC_OK,
+ * DILFOREC_MEMORY, DILFOREC_LINE_TOO_LONG, DILFOREC_USED_UP or DILFOREC_CLOSED. Lines are counted at DILFOREC_OK, from
+ * 1, blank ones too. */
+int32_t dilforec_execute(dilforec_t *index, const uint8_t *line, size_t length);
+
+/* Does what the lines of a block say, one after the other, as dilforec_execute does. Each line ends at its LF; the last
+ * may lack it. It stops at the first line that has another code than DILFOREC_OK, and answers that code. `done` is how
+ * many lines were done before, all of them at DILFOREC_OK; the reply is the replies to these, one after the other, and
+ * stays readable at each code. A refused line is done: its reply is the refusal. To go on after DILFOREC_MEMORY, pass
+ * the block from line `done` on. */
+int32_t dilforec_execute_lines(dilforec_t *index, const uint8_t *block, size_t length, size_t *done);
+
+/* Does what a delete's line and an add's say, or neither: {"delete":..} and {"add":..}. Both are read and checked
+ * before anything is done. At DILFOREC_OK the reply is the add's, and both lines are counted, or it is the refusal of
+ * the one that was refused first, and neither is. DILFOREC_USED_UP also if one line more is all that is left. */
+int32_t dilforec_replace(dilforec_t *index, const uint8_t *delete_line, size_t delete_length,
+                         const uint8_t *add_line, size_t add_length);
+
+/* Answers a search of the last commit, a line as for dilforec_execute, {"search":..}: the reply is the same, but that
+ * each document of a top list has the fields alone that `names` lists, a JSON list of texts. An unknown name is refused
+ * as UnknownField, any other command as BadCommand, and a blank line has an empty reply. The line isn't counted; a
+ * refusal names the next. */
+int32_t dilforec_execute_fields(dilforec_t *index, const uint8_t *line, size_t length,
+                                const uint8_t *names, size_t names_length);
+
+/* The length of the last call's reply, its LF included; 0 after a blank line, or after a code other than DILFOREC_OK
+ * (but see dilforec_execute_lines). The reply is copied to `out` if it fits into `room` bytes; otherwise `out` stays as
+ * it was. The reply stays until the next line, so a call with a room of 0 tells how much is needed. DILFOREC_NO_REPLY
+ * for a closed handle. The reply to a line other than a search has at most 128 bytes. */
+size_t dilforec_reply(dilforec_t *index, uint8_t *out, size_t room);
+
+/* Closes an index. DILFOREC_OK, or DILFOREC_CLOSED if it was closed before. */
+int32_t dilforec_close(dilforec_t *index);
+
+/* The last commit of an index, to search. */
+typedef struct {
+    void *at;
+} dilforec_searcher_t;
+
+/* Opens a searcher of the last commit of an index; uncommitted operations aren't found. DILFOREC_OK, DILFOREC_MEMORY or
+ * DILFOREC_CLOSED. */
+int32_t dilforec_searcher(dilforec_t *index, dilforec_searcher_t *slot);
+
+/* Opens another searcher of a searcher's commit. DILFOREC_OK, DILFOREC_MEMORY or DILFOREC_CLOSED. */
+int32_t dilforec_searcher_again(dilforec_searcher_t *searcher, dilforec_searcher_t *slot);
+
+/* Answers a search: a line as for dilforec_execute, {"search":..}. Any other command is refused as BadCommand, and
+ * refusals name line 1. A blank line has an empty reply. DILFOREC_OK, DILFOREC_MEMORY, DILFOREC_LINE_TOO_LONG or
+ * DILFOREC_CLOSED. */
+int32_t dilforec_search(dilforec_searcher_t *searcher, const uint8_t *line, size_t length);
+
+/* Answers a search whose documents have the fields alone that `names` lists, as dilforec_execute_fields does. */
+int32_t dilforec_search_fields(dilforec_searcher_t *searcher, const uint8_t *line, size_t length,
+                               const uint8_t *names, size_t names_length);
+
+/* The reply to the last search, as by dilforec_reply. */
+size_t dilforec_searcher_reply(dilforec_searcher_t *searcher, uint8_t *out, size_t room);
+
+/* Closes a searcher. DILFOREC_OK, or DILFOREC_CLOSED if it was closed before. */
+int32_t dilforec_searcher_close(dilforec_searcher_t *searcher);
+
+#ifdef __cplusplus
+}
+#endif
+
+#endif

@@ -1,0 +1,189 @@
+/* Blocks of lines, two lines as one, and searches with chosen fields: what they reply, and what refused growths leave.
+ *
+ * Each call is made with its first growth refused, then with its second, and so on until it takes place; a block goes
+ * on after the lines that were done. Documents are counted at the end.
+ */
+#include <stdio.h>
+#include <stdlib.h>
+#include <string.h>
+
+#include "dilforec.h"
+
+long refuse_growth(long n, const char *file);
+
+enum { DOCUMENTS = 200 };
+
+static const char *SCHEMA = "{\"schema\":[{\"name\":\"title\",\"kind\":\"text\",\"default\":true},"
+                            "{\"name\":\"isbn\",\"kind\":\"u64\"},{\"name\":\"note\",\"kind\":\"text\"}]}";
+static const char *TOP = "{\"search\":{\"query\":\"rust\",\"top\":{\"by\":\"isbn\",\"k\":2,\"order\":\"rising\"}}}";
+static int passed, failed;
+static long refusals;
+
+static void expect(int holds, const char *sentence) {
+    if (holds) passed++;
+    else {
+        failed++;
+        printf("calls: not so: %s\n", sentence);
+    }
+}
+
+static const uint8_t *bytes(const char *text) { return (const uint8_t *)text; }
+
+/* Repeats a call until it isn't refused: each time one growth more is granted first. */
+#define AGAIN(code, call)                 \
+    for (long n = 1;; n++) {              \
+        refuse_growth(n, NULL);           \
+        code = call;                      \
+        refuse_growth(0, NULL);           \
+        if (code != DILFOREC_MEMORY) break; \
+        refusals++;                       \
+    }
+
+static int32_t execute(dilforec_t *index, const char *line) {
+    int32_t code;
+    AGAIN(code, dilforec_execute(index, bytes(line), strlen(line)));
+    return code;
+}
+
+static int32_t replace(dilforec_t *index, const char *delete_line, const char *add_line) {
+    int32_t code;
+    AGAIN(code, dilforec_replace(index, bytes(delete_line), strlen(delete_line), bytes(add_line), strlen(add_line)));
+    return code;
+}
+
+static int32_t fields(dilforec_t *index, const char *line, const char *names) {
+    int32_t code;
+    AGAIN(code, dilforec_execute_fields(index, bytes(line), strlen(line), bytes(names), strlen(names)));
+    return code;
+}
+
+static int replies(dilforec_t *index, const char *wanted) {
+    static uint8_t reply[65536];
+    size_t length = dilforec_reply(index, reply, sizeof reply);
+    if (length == strlen(wanted) && memcmp(reply, wanted, length) == 0) return 1;
+    printf("calls: wanted %s", wanted);
+    printf("calls: got    %.*s", length < sizeof reply ? (int)length : 0, (const char *)reply);
+    return 0;
+}
+
+/* The place in a block after some of its lines. */
+static const char *after(const char *block, size_t lines) {
+    while (lines--) block = strchr(block, '\n') + 1;
+    return block;
+}
+
+static void blocks(void) {
+    static char block[64 * DOCUMENTS], wanted[64 * DOCUMENTS], told[64 * DOCUMENTS];
+    dilforec_t index = {0};
+    size_t done = 0, lines = 0, room = 0;
+    const char *rest = block;
+    expect(dilforec_open(&index) == DILFOREC_OK && execute(&index, SCHEMA) == DILFOREC_OK, "an index is opened");
+    for (int i = 1, in = 0, out = 0; i <= DOCUMENTS; i++) {
+        in += sprintf(block + in, "{\"add\":{\"title\":\"rust %d\",\"isbn\":%d}}\n", i, i);
+        out += sprintf(wanted + out, "{\"stamp\":%d}\n", i);
+    }
+    for (long n = 1; *rest; n = done ? 1 : n + 1) {
+        refuse_growth(n, NULL);
+        int32_t code = dilforec_execute_lines(&index, bytes(rest), strlen(rest), &done);
+        refuse_growth(0, NULL);
+        refusals += code == DILFOREC_MEMORY;
+        expect(code == DILFOREC_OK || code == DILFOREC_MEMORY, "a block has the code of a line");
+        room += dilforec_reply(&index, (uint8_t *)told + room, sizeof told - room);
+        rest = after(rest, done);
+        lines += done;
+    }
+    expect(lines == DOCUMENTS && room == strlen(wanted) && memcmp(told, wanted, room) == 0, "the replies of all lines");
+    execute(&index, "{\"commit\":true}");
+    execute(&index, "{\"search\":{\"query\":\"rust\"}}");
+    expect(replies(&index, "{\"count\":200}\n"), "each document is there once");
+    const char *mixed = "{\"add\":{}}\n\n{\"add\":1}\nnonsense\n{\"add\":{}}";
+    expect(dilforec_execute_lines(&index, bytes(mixed), strlen(mixed), &done) == DILFOREC_OK && done == 5
+               && replies(&index, "{\"stamp\":202}\n{\"error\":\"NotAnObject\",\"line\":206}\n"
+                                  "{\"error\":\"BadJson\",\"line\":207}\n{\"stamp\":203}\n"),
+           "blank and refused lines are done, and an end without an LF ends a line");
+    expect(dilforec_execute_lines(&index, bytes(""), 0, &done) == DILFOREC_OK && done == 0 && replies(&index, ""),
+           "an empty block has no line");
+    char *longest = malloc(DILFOREC_LONGEST_LINE + 16);
+    if (!longest) abort();
+    memset(longest, ' ', DILFOREC_LONGEST_LINE + 16);
+    memcpy(longest, "{\"add\":{}}\n", 11);
+    expect(dilforec_execute_lines(&index, bytes(longest), DILFOREC_LONGEST_LINE + 16, &done) == DILFOREC_LINE_TOO_LONG
+               && done == 1 && replies(&index, "{\"stamp\":204}\n"), "a line over the limit ends a block");
+    free(longest);
+    dilforec_close(&index);
+}
+
+static void pairs(void) {
+    dilforec_t index = {0};
+    char delete_line[64], add_line[64], wanted[64];
+    dilforec_open(&index);
+    execute(&index, SCHEMA);
+    execute(&index, "{\"add\":{\"title\":\"rust\",\"isbn\":1}}");
+    for (int i = 1; i <= DOCUMENTS; i++) {
+        sprintf(delete_line, "{\"delete\":{\"isbn\":%d}}", i);
+        sprintf(add_line, "{\"add\":{\"title\":\"rust\",\"isbn\":%d}}", i + 1);
+        sprintf(wanted, "{\"stamp\":%d}\n", 2 * i + 1);
+        if (replace(&index, delete_line, add_line) != DILFOREC_OK || !replies(&index, wanted)) break;
+    }
+    expect(replies(&index, "{\"stamp\":401}\n"), "a replacement answers the stamp of its add");
+    const char *bad[][3] = {
+        {"{\"delete\":{\"isbn\":201}}", "{\"add\":{\"isbn\":\"late\"}}", "{\"error\":\"WrongKind\",\"line\":403}\n"},
+        {"{\"delete\":{\"none\":201}}", "{\"add\":{\"isbn\":1}}", "{\"error\":\"UnknownField\",\"line\":403}\n"},
+        {"{\"add\":{\"isbn\":1}}", "{\"add\":{\"isbn\":1}}", "{\"error\":\"BadCommand\",\"line\":403}\n"},
+        {"{\"delete\":{\"isbn\":201}}", "{\"commit\":true}", "{\"error\":\"BadCommand\",\"line\":403}\n"},
+        {"{\"delete\":{\"isbn\":201}}", "", "{\"error\":\"BadJson\",\"line\":403}\n"},
+    };
+    for (size_t i = 0; i < sizeof bad / sizeof *bad; i++)
+        expect(replace(&index, bad[i][0], bad[i][1]) == DILFOREC_OK && replies(&index, bad[i][2]),
+               "a refused replacement does nothing");
+    execute(&index, "{\"commit\":true}");
+    expect(replies(&index, "{\"commit\":402}\n"), "and draws no stamp");
+    execute(&index, "{\"search\":{\"query\":\"isbn:201\"}}");
+    expect(replies(&index, "{\"count\":1}\n"), "the last one is there");
+    execute(&index, "{\"search\":{\"query\":\"*\"}}");
+    expect(replies(&index, "{\"count\":1}\n"), "and alone");
+    dilforec_close(&index);
+}
+
+static void chosen(void) {
+    dilforec_t index = {0};
+    dilforec_searcher_t searcher = {0};
+    uint8_t reply[4096];
+    int32_t code;
+    const char *cut = "{\"count\":2,\"top\":[{\"doc\":{\"title\":\"rust\"},\"stamp\":1,\"value\":1},"
+                      "{\"doc\":{\"title\":\"more rust\"},\"stamp\":2,\"value\":2}]}\n";
+    dilforec_open(&index);
+    expect(fields(&index, TOP, "[]") == DILFOREC_OK && replies(&index, "{\"error\":\"NoSchema\",\"line\":1}\n"),
+           "there is no schema");
+    execute(&index, SCHEMA);
+    execute(&index, "{\"add\":{\"title\":\"rust\",\"isbn\":1,\"note\":\"red\"}}");
+    execute(&index, "{\"add\":{\"title\":\"more rust\",\"isbn\":2}}");
+    execute(&index, "{\"commit\":true}");
+    expect(fields(&index, TOP, "[\"title\"]") == DILFOREC_OK && replies(&index, cut), "the chosen field alone");
+    expect(fields(&index, TOP, "[\"note\",\"title\",\"note\"]") == DILFOREC_OK
+               && replies(&index, "{\"count\":2,\"top\":[{\"doc\":{\"note\":\"red\",\"title\":\"rust\"},\"stamp\":1,"
+                                  "\"value\":1},{\"doc\":{\"title\":\"more rust\"},\"stamp\":2,\"value\":2}]}\n"),
+           "fields that have a value, each once");
+    expect(fields(&index, TOP, "[\"titel\"]") == DILFOREC_OK
+               && replies(&index, "{\"error\":\"UnknownField\",\"line\":5}\n"), "an unknown name is refused");
+    expect(fields(&index, TOP, "7") == DILFOREC_OK && replies(&index, "{\"error\":\"BadCommand\",\"line\":5}\n"),
+           "and what is no list");
+    expect(fields(&index, "{\"commit\":true}", "[]") == DILFOREC_OK
+               && replies(&index, "{\"error\":\"BadCommand\",\"line\":5}\n"), "and another command");
+    expect(fields(&index, " ", "[]") == DILFOREC_OK && replies(&index, ""), "a blank line has an empty reply");
+    expect(dilforec_searcher(&index, &searcher) == DILFOREC_OK, "a searcher");
+    AGAIN(code, dilforec_search_fields(&searcher, bytes(TOP), strlen(TOP), bytes("[\"title\"]"), 9));
+    expect(code == DILFOREC_OK && dilforec_searcher_reply(&searcher, reply, sizeof reply) == strlen(cut)
+               && memcmp(reply, cut, strlen(cut)) == 0, "replies the same");
+    dilforec_searcher_close(&searcher);
+    dilforec_close(&index);
+}
+
+int main(void) {
+    blocks();
+    pairs();
+    chosen();
+    printf("%d passed, %d failed\n", passed, failed);
+    printf("%ld refusals\n", refusals);
+    return failed != 0;
+}
