@@ -11,9 +11,13 @@ use fts_cli::status::{arg_status, run_status, status};
 use fts_engine::IndexEngine;
 use fts_script::{EngineOver, Fault, Options, Plain, Streams, run_script};
 use std::env::Env;
-use std::io::{Eprint, Stdin, Stdout};
+use std::io::{Eprint, IsTerminal, Stdin, Stdout};
 use std::process::ExitCode;
 use std::{env, io};
+
+/// What a run says on a terminal before it reads.
+const WAITS: &str =
+    "fts: waiting for the lines of a script; Ctrl-D ends it, and 'fts run --help' shows one";
 
 /// What the process's own command line asks for.
 fn asked(rt: &(impl Env + AllocGlobal)) -> Result<Asked, ArgFault> {
@@ -60,6 +64,9 @@ fn run_standard<R: AllocGlobal + Sync + Eprint, E: EngineOver<R>>(
 fn main(rt: HostRuntime) -> ExitCode {
     ExitCode::from(match asked(&rt) {
         Ok(Asked::Run(options)) => {
+            if rt.stdin().is_terminal() {
+                let _ = rt.eprintln(WAITS);
+            }
             let mut streams = Streams {
                 reader: Plain::new(rt.stdin()),
                 writer: Plain::new(rt.stdout()),

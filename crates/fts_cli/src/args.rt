@@ -42,6 +42,15 @@ impl From<AllocError> for ArgFault {
     }
 }
 
+/// What is wrong, as clap says it, and how a script is run if no subcommand is given.
+fn complaint(alloc: Global, error: &clap::Error) -> Result<String, AllocError> {
+    let mut text = error.to_string(alloc)?;
+    if matches!(error.kind(), ErrorKind::MissingSubcommand) {
+        text.push_str("\n'fts run' runs a script; 'fts run --help' shows one.\n")?;
+    }
+    Ok(text)
+}
+
 /// Reads the words of a command line, of which the first is the program's name.
 pub fn args(alloc: Global, words: Vec<String>) -> Result<Asked, ArgFault>
     ensures ok { IfOk result (Asks (map string_bytes words.items)) }
@@ -57,7 +66,7 @@ pub fn args(alloc: Global, words: Vec<String>) -> Result<Asked, ArgFault>
             ErrorKind::DisplayHelp | ErrorKind::DisplayVersion => {
                 Ok(Asked::Help(error.to_string(alloc)?))
             }
-            _ => Err(ArgFault::Usage(error.to_string(alloc)?)),
+            _ => Err(ArgFault::Usage(complaint(alloc, &error)?)),
         },
     }
 }

@@ -11,8 +11,24 @@ use clap::{Arg, ArgMatches, Command, Error};
 use fts_model::MOST_BUILT;
 use std::alloc::{AllocError, Global};
 
+/// The version, which the file VERSION says too: a test compares them.
+const VERSION: &str = "0.1.0";
+
 /// The values of `--merge`.
 static MERGES: [&str; 2] = ["off", "policy"];
+
+/// The end of the help of `run`.
+const EXAMPLE: &str = r#"A script of four lines, and a reply for each:
+
+  fts run <<'END'
+  {"schema":[{"name":"title","kind":"text","default":true},{"name":"year","kind":"u64"}]}
+  {"add":{"title":"Programming Pearls","year":1986}}
+  {"commit":true}
+  {"search":{"query":"pearls OR year:>=2000"}}
+  END
+
+docs/SCRIPT.md has every command, reply and limit, docs/QUERIES.md the query language;
+after 'make install' they are in share/doc/dilforec, and 'man fts' names them."#;
 
 /// An option that takes one value, with what help calls the value and says of the option.
 fn option<'a>(
@@ -67,7 +83,7 @@ fn run<'a>(alloc: Global) -> Result<Command<'a>, AllocError>
         "When segments are merged: never, or as the merge policy says [default: off]",
     );
     let about = "Runs the script on standard input, a command a line, and writes a reply for each";
-    let run = Command::new(alloc, "run").about(about);
+    let run = Command::new(alloc, "run").about(about).after_help(EXAMPLE);
     run.arg(workers)?.arg(runs)?.arg(deal)?.arg(merge)
 }
 
@@ -77,7 +93,7 @@ pub fn parse<'a>(alloc: Global, words: &'a [String]) -> Result<ArgMatches<'a>, E
 {
     let fts = Command::new(alloc, "fts")
         .about("A full-text index over JSON documents")
-        .version("0.1.0")
+        .version(VERSION)
         .subcommand_required(true)
         .subcommand(run(alloc)?)?;
     fts.try_get_matches_from(words)

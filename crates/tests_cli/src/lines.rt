@@ -37,6 +37,8 @@ static HELP: [(&str, &[&str]); 4] = [
             "--deal <M>",
             "--merge <WHEN>",
             "[possible values: off, policy]",
+            "fts run <<'END'\n",
+            "docs/SCRIPT.md",
         ],
     ),
 ];
@@ -45,8 +47,9 @@ static HELP: [(&str, &[&str]); 4] = [
 const OF_FTS: &[&str] = &["Usage: fts <COMMAND>", "Runs the script on standard input"];
 
 /// Command lines that are wrong, with what the program says of them.
-static WRONG: [(&str, &str); 13] = [
+static WRONG: [(&str, &str); 14] = [
     ("fts", "requires a subcommand"),
+    ("fts", "'fts run --help' shows one"),
     ("fts walk", "unrecognized subcommand 'walk'"),
     ("fts run --fast", "unexpected argument '--fast'"),
     ("fts run now", "unexpected argument 'now'"),
