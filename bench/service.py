@@ -1,0 +1,276 @@
+#!/usr/bin/env python3
+"""Times the service beside the same service over SQLite's FTS5: searches and posts a second, by 1, 4 and 16 clients.
+
+    python3 bench/service.py [DOCUMENTS] [SECONDS]
+
+Build and link the package's library first (docs/EMBEDDING.md). 100,000 documents without an argument, of 30 words, a
+keyword and a number; each measurement takes 5 seconds. A search asks for one word or two that both have to match, with
+the groups of the keyword and the first ten by the number. A post has one document, and its answer says that it is on
+disk. Before the start the journal was compacted, and FTS5's table optimized. FTS5 has a write-ahead log and
+`synchronous=full`, shares its syncs among clients as the service does, and groups and top lists join a table by the
+row's number. Clients are processes that keep their connection. The output is a table in Markdown: requests a second,
+and the milliseconds within which half and 99 % of them were answered.
+"""
+from __future__ import annotations
+
+import itertools
+import json
+import logging
+import multiprocessing
+import os
+import pathlib
+import random
+import signal
+import socket
+import sqlite3
+import subprocess
+import sys
+import tempfile
+import threading
+import time
+from collections.abc import Iterator
+from contextlib import contextmanager
+from typing import Any, Optional
+
+ROOT = pathlib.Path(__file__).resolve().parent.parent
+if not os.environ.get("PYTHONPATH"):
+    sys.path.insert(0, str(ROOT / "bindings/python"))
+    os.environ["PYTHONPATH"] = str(ROOT / "bindings/python")
+
+from dilforec import Top, keyword, text, u64  # noqa: E402
+from dilforec.service import Answer, Done, Hit, Store, Transaction, application  # noqa: E402
+from dilforec.service._turns import Turns  # noqa: E402
+
+FIELDS = [text("body", default=True), keyword("tag"), u64("n")]
+CLIENTS = (1, 4, 16)
+
+
+class Words:
+    """Words of Zipf's law, the same ones for a seed."""
+
+    def __init__(self, seed: int) -> None:
+        chance = random.Random(1)
+        letters = "abcdefghijklmnopqrstuvwxyz"
+        found = {"".join(chance.choices(letters, k=chance.randint(4, 9))) for _ in range(50_000)}
+        self.words = sorted(found)
+        chance.shuffle(self.words)
+        self.sums = list(itertools.accumulate(1 / (rank + 1) for rank in range(len(self.words))))
+        self.chance = random.Random(seed)
+
+    def some(self, count: int) -> list[str]:
+        return self.chance.choices(self.words, cum_weights=self.sums, k=count)
+
+    def document(self) -> dict[str, Any]:
+        return {
+            "body": " ".join(self.some(30)), "tag": f"t{self.chance.randrange(1000):03}",
+            "n": self.chance.randrange(1_000_000),
+        }
+
+
+class FtsStore:
+    """What an application asks of a store, over FTS5."""
+
+    def __init__(self, path: str) -> None:
+        self.path = path
+        self.local = threading.local()
+        self.writer = self.opened()
+        self.writer.executescript("""
+            PRAGMA journal_mode = wal;
+            CREATE TABLE IF NOT EXISTS documents (id INTEGER PRIMARY KEY, tag TEXT, n INTEGER, text TEXT);
+            CREATE VIRTUAL TABLE IF NOT EXISTS bodies USING fts5(body, content='');
+        """)
+        self.last = self.writer.execute("SELECT coalesce(max(id), 0) FROM documents").fetchone()[0]
+        self.turns: Turns[Any] = Turns(self.lead)
+
+    def opened(self) -> sqlite3.Connection:
+        connection = sqlite3.connect(self.path, check_same_thread=False, isolation_level=None)
+        connection.execute("PRAGMA synchronous = full")
+        connection.execute("PRAGMA cache_size = -262144")
+        return connection
+
+    def lead(self, jobs: list[Any]) -> int:
+        self.writer.execute("BEGIN IMMEDIATE")
+        for job in jobs:
+            for operation in job["operations"]:
+                self.last += 1
+                document = json.loads(operation.text)
+                self.writer.execute("INSERT INTO documents VALUES (?, ?, ?, ?)",
+                                    (self.last, document["tag"], document["n"], operation.text.decode()))
+                self.writer.execute("INSERT INTO bodies (rowid, body) VALUES (?, ?)", (self.last, document["body"]))
+                job["ids"].append(self.last)
+        self.writer.execute("COMMIT")
+        return len(jobs)
+
+    @contextmanager
+    def transaction(self) -> Iterator[Transaction]:
+        transaction = Transaction()
+        yield transaction
+        job: dict[str, Any] = {"operations": transaction._operations, "ids": []}
+        self.turns.do(job)
+        transaction._done = Done(tuple(job["ids"]), self.last)
+
+    @contextmanager
+    def snapshot(self) -> Iterator[FtsStore]:
+        if not hasattr(self.local, "connection"):
+            self.local.connection = self.opened()
+        self.local.connection.execute("BEGIN")
+        try:
+            yield self
+        finally:
+            self.local.connection.execute("COMMIT")
+
+    def search(self, query: str, *, groups: list[str], top: Top, fields: Optional[list[str]]) -> Answer:
+        wanted = " ".join(f'"{word}"' for word in query.replace("+", "").split())
+        one = self.local.connection
+        joined = "FROM bodies JOIN documents ON id = bodies.rowid WHERE bodies MATCH ?"
+        counts = dict(one.execute(f"SELECT tag, count(*) {joined} GROUP BY tag ORDER BY tag", (wanted,)))
+        rows = one.execute(f"SELECT id, n, text {joined} ORDER BY n DESC, id LIMIT ?", (wanted, top.k))
+        hits = tuple(Hit(id, value, json.loads(document)) for id, value, document in rows)
+        return Answer(sum(counts.values()), {"tag": counts}, hits, 0)
+
+
+def serve_fts(path: str) -> None:
+    """Serves FTS5 as the command serves a store."""
+    import waitress
+
+    logging.getLogger("waitress.queue").setLevel(logging.ERROR)
+    bound = socket.socket()
+    bound.bind(("127.0.0.1", 0))
+    port = bound.getsockname()[1]
+    store: Any = FtsStore(path)
+    served = application(store, hosts=[f"127.0.0.1:{port}"])
+    server = waitress.create_server(served, sockets=[bound], threads=16, asyncore_use_poll=True, ident=None)
+    print(f"at http://127.0.0.1:{port}/", flush=True)
+    server.run()
+
+
+def filled(folder: pathlib.Path, count: int) -> None:
+    """A journal and a database with the same documents."""
+    words = Words(2)
+    documents = [words.document() for _ in range(count)]
+    fts: Any = FtsStore(str(folder / "database"))
+    with Store(FIELDS, folder / "journal") as store:
+        for start in range(0, count, 10_000):
+            for each in store, fts:
+                with each.transaction() as transaction:
+                    for document in documents[start : start + 10_000]:
+                        transaction.add(document)
+        store.compact()
+        fts.writer.execute("INSERT INTO bodies (bodies) VALUES ('optimize')")
+    (folder / "schema.json").write_text(json.dumps([vars(field) for field in FIELDS]))
+
+
+@contextmanager
+def served(*command: object) -> Iterator[int]:
+    """The port of a service that runs meanwhile."""
+    process = subprocess.Popen([sys.executable, *map(str, command)], stdout=subprocess.PIPE)
+    assert process.stdout is not None
+    try:
+        yield int(process.stdout.readline().rstrip(b"/\n").rpartition(b":")[2])
+    finally:
+        process.send_signal(signal.SIGTERM)
+        process.wait(60)
+
+
+def requests(kind: str, port: int, seed: int) -> Iterator[bytes]:
+    words = Words(seed)
+    head = f"HTTP/1.1\r\nHost: 127.0.0.1:{port}\r\n"
+    while True:
+        if kind == "post":
+            body = json.dumps(words.document()).encode()
+            length = f"Content-Type: application/json\r\nContent-Length: {len(body)}\r\n\r\n"
+            yield f"POST /documents {head}{length}".encode() + body
+        else:
+            query = words.some(1)[0] if words.chance.random() < 0.5 else "%2B" + "+%2B".join(words.some(2))
+            yield f"GET /search?q={query}&groups=tag&top=n,10,falling {head}\r\n".encode()
+
+
+def answer(connection: socket.socket) -> bytes:
+    """Reads an answer to its end."""
+    told = connection.recv(1 << 16)
+    while b"\r\n\r\n" not in told:
+        told += connection.recv(1 << 16)
+    head, _, body = told.partition(b"\r\n\r\n")
+    length = int(head.lower().partition(b"content-length: ")[2].partition(b"\r\n")[0])
+    while len(body) < length:
+        body += connection.recv(1 << 18)
+    assert head[9:12] in (b"200", b"201"), told
+    return body
+
+
+def client(kind: str, port: int, seed: int, seconds: float, start: Any, told: Any) -> None:
+    """Asks until the time is over, and tells the milliseconds of each request."""
+    asked = list(itertools.islice(requests(kind, port, seed), 3000))
+    with socket.create_connection(("127.0.0.1", port)) as connection:
+        connection.setsockopt(socket.IPPROTO_TCP, socket.TCP_NODELAY, 1)
+        start.wait()
+        times = []
+        end = time.perf_counter() + seconds
+        for request in itertools.cycle(asked):
+            began = time.perf_counter()
+            if began > end:
+                break
+            connection.sendall(request)
+            answer(connection)
+            times.append(1e3 * (time.perf_counter() - began))
+    told.put(times)
+
+
+def measured(kind: str, port: int, clients: int, seconds: float) -> tuple[float, float, float]:
+    """Requests a second, and the milliseconds of the middle one and of the one that 99 % are faster than."""
+    start, told = multiprocessing.Barrier(clients), multiprocessing.SimpleQueue()
+    processes = [
+        multiprocessing.Process(target=client, args=(kind, port, 100 * clients + number, seconds, start, told))
+        for number in range(clients)
+    ]
+    for process in processes:
+        process.start()
+    times = sorted(itertools.chain.from_iterable(told.get() for _ in processes))
+    for process in processes:
+        process.join()
+    return len(times) / seconds, times[len(times) // 2], times[len(times) * 99 // 100]
+
+
+def answers(port: int) -> list[Any]:
+    """The answers to some searches, without what they were at."""
+    told = []
+    with socket.create_connection(("127.0.0.1", port)) as connection:
+        for request in itertools.islice(requests("search", port, 7), 100):
+            connection.sendall(request)
+            found = json.loads(answer(connection))
+            told.append([found["count"], found["groups"], [hit["value"] for hit in found["hits"]]])
+    return told
+
+
+def rows(port: int, seconds: float) -> dict[str, tuple[float, float, float]]:
+    measured("search", port, 4, 1)
+    return {
+        f"{kind}, {clients} client{'s' * (clients > 1)}": measured(kind, port, clients, seconds)
+        for kind in ("search", "post") for clients in CLIENTS
+    }
+
+
+def main() -> None:
+    if sys.argv[1:2] == ["fts5"]:
+        return serve_fts(sys.argv[2])
+    count, seconds = int((sys.argv[1:] + ["100000"])[0]), float((sys.argv[2:] + ["5"])[0])
+    with tempfile.TemporaryDirectory(dir=os.environ.get("TMPDIR")) as name:
+        folder = pathlib.Path(name)
+        filled(folder, count)
+        command = ("-m", "dilforec", "serve", "--listen", "127.0.0.1:0", "--log", "warning")
+        with served(*command, "--schema", folder / "schema.json", "--journal", folder / "journal") as port:
+            expected = answers(port)
+            ours = rows(port, seconds)
+        with served(__file__, "fts5", folder / "database") as port:
+            assert answers(port) == expected, "the two services answer differently"
+            theirs = rows(port, seconds)
+    print("| | the service: a second | 50 %, ms | 99 %, ms | over FTS5: a second | 50 %, ms | 99 %, ms | times |")
+    print("|---|---|---|---|---|---|---|---|")
+    for name, (rate, half, most) in ours.items():
+        other, other_half, other_most = theirs[name]
+        mine, their = (f"{a:,.0f} | {b:.2f} | {c:.2f}" for a, b, c in (ours[name], theirs[name]))
+        print(f"| {name} | {mine} | {their} | {rate / other:.1f} |")
+
+
+if __name__ == "__main__":
+    main()

@@ -1,0 +1,73 @@
+"""What a service counts, as a text in Prometheus's format."""
+from __future__ import annotations
+
+import os
+import resource
+import sys
+import threading
+import time
+from collections.abc import Iterator
+from contextlib import contextmanager
+
+
+class Metrics:
+    """Counts of one process."""
+
+    def __init__(self) -> None:
+        self._lock = threading.Lock()
+        self._counts: "dict[str, float]" = {}
+        self._began = time.time()
+
+    def count(self, name: str, by: float = 1) -> None:
+        """Adds to a count."""
+        with self._lock:
+            self._counts[name] = self._counts.get(name, 0) + by
+
+    @contextmanager
+    def timed(self, name: str) -> "Iterator[None]":
+        """Counts one of a kind of calls, and its seconds."""
+        began = time.perf_counter()
+        try:
+            yield
+        finally:
+            seconds = time.perf_counter() - began
+            with self._lock:
+                self._counts[f"{name}_total"] = self._counts.get(f"{name}_total", 0) + 1
+                self._counts[f"{name}_seconds_total"] = self._counts.get(f"{name}_seconds_total", 0) + seconds
+
+    def text(self, gauges: "dict[str, tuple[str, float]]") -> str:
+        """Prometheus's text: the counts, and what is measured now, each with a sentence of help."""
+        with self._lock:
+            counts = {name: self._counts.get(name, 0) for name in _COUNTS}
+        told = {name: ("counter", text, counts[name]) for name, text in _COUNTS.items()}
+        told.update({name: ("gauge", text, value) for name, (text, value) in gauges.items()})
+        told["start_time_seconds"] = "gauge", "When the service started, in seconds since 1970.", self._began
+        lines = []
+        for name, (kind, text, value) in told.items():
+            full = f"dilforec_{name}"
+            lines += [f"# HELP {full} {text}", f"# TYPE {full} {kind}", f"{full} {_number(value)}"]
+        return "\n".join(lines) + "\n"
+
+
+_COUNTS = {
+    "searches_total": "Searches that were answered or refused.",
+    "searches_seconds_total": "Seconds that searches took.",
+    "transactions_total": "Transactions that were committed or refused.",
+    "transactions_seconds_total": "Seconds that transactions took, with their wait for others.",
+    "refusals_total": "Requests that were answered by a status from 400 to 499.",
+    "failures_total": "Requests that were answered by a status from 500 on.",
+}
+
+
+def _number(value: float) -> str:
+    return str(int(value)) if value == int(value) else f"{value:.6f}"
+
+
+def resident_bytes() -> int:
+    """The memory that the process has now; where the system doesn't say so, the most that it ever had."""
+    try:
+        with open("/proc/self/statm") as file:
+            return int(file.read().split()[1]) * os.sysconf("SC_PAGE_SIZE")
+    except (OSError, ValueError, IndexError):
+        most = resource.getrusage(resource.RUSAGE_SELF).ru_maxrss
+        return most if sys.platform == "darwin" else most * 1024

@@ -1,0 +1,107 @@
+"""One commit of a store, to search."""
+from __future__ import annotations
+
+from collections.abc import Iterator, Sequence
+from dataclasses import dataclass
+from typing import Any, NamedTuple, Optional
+
+from dilforec.index import Searcher
+from dilforec.values import Groups, Top
+
+class Hit(NamedTuple):
+    """A document that was found: its number, the value that it was ordered by, and its fields that have a value."""
+
+    id: int
+    value: int
+    document: "dict[str, Any]"
+
+
+@dataclass(frozen=True)
+class Answer:
+    """What a search found: how many documents, how many with each value of some fields, the first of them.
+
+    `groups` has for each field the values, in rising order, with the number of hits that have it. `commit` is the
+    number of the commit that was searched.
+    """
+
+    count: int
+    groups: "dict[str, Groups]"
+    hits: "tuple[Hit, ...]"
+    commit: int
+
+
+class Snapshot:
+    """One commit of a store, whatever is done to the store meanwhile. One thread uses it, until it is closed.
+
+        with store.snapshot() as snapshot:
+            print(snapshot.commit, snapshot.search("pearls").count)
+    """
+
+    def __init__(self, searcher: Searcher, commit: int) -> None:
+        self._searcher = searcher
+        self.commit = commit
+
+    def __enter__(self) -> Snapshot:
+        return self
+
+    def __exit__(self, *_: object) -> None:
+        self.close()
+
+    def close(self) -> None:
+        """Gives the commit back."""
+        self._searcher.close()
+
+    def __len__(self) -> int:
+        """How many documents there are."""
+        return self._searcher.search("*").count
+
+    def __bool__(self) -> bool:
+        # A commit without documents is one all the same.
+        return True
+
+    def search(
+        self, query: str, *, groups: Sequence[str] = (), top: Optional[Top] = None,
+        fields: Optional[Sequence[str]] = None,
+    ) -> Answer:
+        """How many documents a query finds, how many with each value of some fields, and the first of them.
+
+        Without `top` the hits are the ten newest, by their numbers; `fields` names those of a hit's document. A query,
+        a field or a number of hits that the index refuses raises its refusal, as dilforec.Syntax.
+        """
+        if isinstance(groups, str) or isinstance(fields, str):
+            raise TypeError("groups and fields are lists of names")
+        wanted = None if fields is None else list(dict.fromkeys([*fields, "id"]))
+        found = self._searcher.search(
+            query, groups=list(groups), top=top or Top("id", 10, "falling"), fields=wanted,
+        )
+        return Answer(
+            found.count, dict(found.groups),
+            tuple(_hit(hit.value, hit.document, fields) for hit in found.hits), self.commit,
+        )
+
+    def get(self, id: int) -> "Optional[dict[str, Any]]":
+        """The document of a number, its `id` in it; None if there is none."""
+        hits = self._searcher.search(f"id:{id:d}", top=Top("id", 1)).hits
+        return hits[0].document if hits else None
+
+    def documents(self, after: int = 0, limit: int = 100) -> "list[dict[str, Any]]":
+        """The documents with the smallest numbers above one, at most `limit`, 1 to 10,000; none at the end."""
+        found = self._searcher.search(f"id:>{after:d}", top=Top("id", limit))
+        return [hit.document for hit in found.hits]
+
+    def ids(self) -> "Iterator[int]":
+        """The numbers of all documents, in rising order."""
+        after, page = 0, 10_000
+        while page == 10_000:
+            found = self._searcher.search(f"id:>{after:d}", top=Top("id", 10_000), fields=["id"])
+            for hit in found.hits:
+                yield hit.value
+                after = hit.value
+            page = len(found.hits)
+
+
+def _hit(value: int, document: "dict[str, Any]", fields: Optional[Sequence[str]]) -> Hit:
+    id = document["id"]
+    if fields is not None and "id" not in fields:
+        document = {name: document[name] for name in document if name != "id"}
+    return Hit(id, value, document)

@@ -1,0 +1,77 @@
+"""Threads that hand in jobs: one of them at a time does all that wait, and the others get theirs done."""
+from __future__ import annotations
+
+import threading
+from collections.abc import Callable
+from typing import Generic, TypeVar
+
+J = TypeVar("J")
+
+
+class _Waiting(Generic[J]):
+    def __init__(self, job: J) -> None:
+        self.job = job
+        self.done = False
+        # The thread was interrupted, and waits no longer.
+        self.left = False
+        self.woken = threading.Lock()
+        self.woken.acquire()
+
+
+class Turns(Generic[J]):
+    """What waits is done in the order in which it came.
+
+    `lead` takes a beginning of the jobs that wait, does it, and returns how many that were, at least one. It notes in
+    a job what came of it, and raises nothing but what ends the thread.
+    """
+
+    def __init__(self, lead: "Callable[[list[J]], int]") -> None:
+        self._lead = lead
+        self._mutex = threading.Lock()
+        self._waiting: "list[_Waiting[J]]" = []
+        self._led = False
+
+    def do(self, job: J) -> None:
+        """Returns when the job is done, by this thread or another. After an interrupt of the wait it may yet be done."""
+        mine = _Waiting(job)
+        with self._mutex:
+            self._waiting.append(mine)
+            leads, self._led = not self._led, True
+        if not leads:
+            try:
+                mine.woken.acquire()
+            except BaseException:
+                self._leave(mine)
+                raise
+        while not mine.done:
+            self._take_turn(mine)
+
+    def _take_turn(self, mine: "_Waiting[J]") -> None:
+        with self._mutex:
+            waiting = list(self._waiting)
+        taken = len(waiting)
+        try:
+            taken = self._lead([each.job for each in waiting])
+        finally:
+            with self._mutex:
+                self._hand_on(mine, taken)
+
+    def _hand_on(self, mine: "_Waiting[J]", taken: int) -> None:
+        """Wakes those whose jobs are done, and, if this thread has no more to do, the next that leads."""
+        done, rest = self._waiting[:taken], self._waiting[taken:]
+        self._waiting = [each for each in rest if not each.left]
+        for each in done:
+            each.done = True
+            if each is not mine:
+                each.woken.release()
+        self._led = bool(self._waiting)
+        if self._waiting and (mine.done or mine.left):
+            self._waiting[0].woken.release()
+
+    def _leave(self, mine: "_Waiting[J]") -> None:
+        with self._mutex:
+            mine.left = True
+            was_woken = mine.woken.acquire(blocking=False)
+            if was_woken and not mine.done:
+                # It was to lead.
+                self._hand_on(mine, 0)

@@ -1,0 +1,161 @@
+"""What the tests of the service share: a schema, disks that fail, processes that are killed."""
+from __future__ import annotations
+
+import http.client
+import importlib.util
+import json
+import logging
+import os
+import pathlib
+import re
+import signal
+import subprocess
+import sys
+import tempfile
+import unittest
+
+import dilforec
+from dilforec.service import Store
+from dilforec.service._disk import Disk
+
+FIELDS = [dilforec.text("title", default=True), dilforec.keyword("shelf"), dilforec.u64("year")]
+# Faults are asked for here, and their lines of the log aren't looked at.
+logging.getLogger("dilforec.service").addHandler(logging.NullHandler())
+logging.getLogger("dilforec.service").propagate = False
+HERE = pathlib.Path(__file__).resolve().parent
+
+
+class Failing(Disk):
+    """A disk whose calls of a name fail, as many as `fails` says of it, after as many as `after` says."""
+
+    def __init__(self, error=OSError(5, "Input/output error")):
+        self.error, self.fails, self.after, self.calls = error, {}, {}, []
+
+    def _call(self, name, *given):
+        self.calls.append(name)
+        if self.after.get(name, 0) > 0:
+            self.after[name] -= 1
+        elif self.fails.get(name, 0) > 0:
+            self.fails[name] -= 1
+            if name == "write":
+                # A part of it is there.
+                super().write(given[0], given[1][: len(given[1]) // 2], given[2])
+            raise self.error
+        getattr(super(), name)(*given)
+
+    def write(self, fd, data, at):
+        self._call("write", fd, data, at)
+
+    def cut(self, fd, size):
+        self._call("cut", fd, size)
+
+    def sync(self, fd):
+        self._call("sync", fd)
+
+    def rename(self, old, new):
+        self._call("rename", old, new)
+
+    def sync_folder(self, folder):
+        self._call("sync_folder", folder)
+
+
+class Killing(Failing):
+    """A disk that ends the process before the nth call from now on, or in the middle of it, if it is a write."""
+
+    left = None
+
+    def _call(self, name, *given):
+        if self.left is not None:
+            self.left -= 1
+            if self.left < 0:
+                if name == "write":
+                    Disk.write(self, given[0], given[1][: len(given[1]) // 2], given[2])
+                os.kill(os.getpid(), signal.SIGKILL)
+        getattr(Disk, name)(self, *given)
+
+
+class Stored(unittest.TestCase):
+    """A test with a folder of its own, and a journal in it."""
+
+    def setUp(self):
+        folder = tempfile.TemporaryDirectory()
+        self.addCleanup(folder.cleanup)
+        self.folder = pathlib.Path(folder.name)
+        self.journal = self.folder / "journal"
+
+    def opened(self, **more):
+        store = Store(FIELDS, self.journal, **more)
+        self.addCleanup(store.close)
+        return store
+
+    def all(self, store):
+        """All documents, by their numbers."""
+        return {document.pop("id"): document for document in store.documents(0, 10_000)}
+
+
+def child(code, *words, **more):
+    """A process of Python that runs a text, with this folder's modules."""
+    environment = {**os.environ, "PYTHONPATH": os.pathsep.join([str(HERE), os.environ.get("PYTHONPATH", "")])}
+    command = [sys.executable, "-c", code, *map(str, words)]
+    return subprocess.Popen(command, stdout=subprocess.PIPE, env=environment, **more)
+
+
+def need_waitress():
+    """Skips a test that serves, without waitress."""
+    if importlib.util.find_spec("waitress") is None:
+        raise unittest.SkipTest("waitress isn't there")
+
+
+class Server:
+    """A service in a process of its own, at a port that is free."""
+
+    def __init__(self, *words):
+        self.log = tempfile.TemporaryFile()
+        self.process = subprocess.Popen(
+            [sys.executable, "-m", "dilforec", "serve", "--listen", "127.0.0.1:0", *map(str, words)],
+            stdout=subprocess.PIPE, stderr=self.log,
+        )
+        self.ready = self.process.stdout.readline().decode()
+        found = re.search(r":([0-9]+)/", self.ready)
+        if not found:
+            self.stop(signal.SIGKILL)
+            raise AssertionError(f"the service didn't begin: {self.said()}")
+        self.port = int(found[1])
+
+    def __enter__(self):
+        return self
+
+    def __exit__(self, *_):
+        self.stop(signal.SIGTERM)
+        self.log.close()
+
+    def said(self):
+        self.log.seek(0)
+        return self.log.read().decode()
+
+    def stop(self, number):
+        self.process.send_signal(number)
+        status = self.process.wait(30)
+        self.process.stdout.close()
+        return status
+
+    def connect(self):
+        return http.client.HTTPConnection("127.0.0.1", self.port, timeout=30)
+
+    def ask(self, method, path, body=None, **headers):
+        """The status, and the answer, read if it is JSON."""
+        connection = self.connect()
+        try:
+            given = {name.replace("_", "-"): value for name, value in headers.items()}
+            if body is not None and not isinstance(body, (bytes, str)):
+                body = json.dumps(body)
+            if method != "GET" and "Content-Type" not in given and method != "DELETE":
+                given["Content-Type"] = "application/json"
+            connection.request(method, path, body, given)
+            response = connection.getresponse()
+            told = response.read()
+            is_json = response.headers.get("Content-Type", "").startswith("application/json")
+            self.headers = response.headers
+            return response.status, json.loads(told) if is_json and told else told.decode()
+        finally:
+            connection.close()

@@ -1,0 +1,407 @@
+"""The service over HTTP, as its command serves it: answers, refusals, and clients that mean no good."""
+import contextlib
+import json
+import os
+import pathlib
+import random
+import re
+import resource
+import shutil
+import signal
+import socket
+import subprocess
+import sys
+import threading
+import time
+import unittest
+from unittest import mock
+
+import dilforec
+from dilforec.service import Store
+from service_tools import Server, Stored, need_waitress
+
+GUIDE = pathlib.Path(__file__).resolve().parents[3] / "docs/SERVICE.md"
+SCHEMA = [
+    {"name": "title", "kind": "text", "default": True}, {"name": "day", "kind": "keyword"},
+    {"name": "year", "kind": "u64"},
+]
+
+
+class Served(Stored):
+    def setUp(self):
+        need_waitress()
+        super().setUp()
+        self.schema = self.folder / "schema.json"
+        self.schema.write_text(json.dumps(SCHEMA))
+
+    def serve(self, *words, journal=None):
+        server = Server("--schema", self.schema, "--journal", journal or self.journal, *words)
+        self.addCleanup(server.__exit__)
+        return server
+
+    def refused(self, *words, **more):
+        """What the command says where it can't begin."""
+        command = [sys.executable, "-m", "dilforec", *map(str, words)]
+        done = subprocess.run(command, capture_output=True, text=True, timeout=60, **more)
+        self.assertEqual(done.returncode, 2, done.stderr)
+        return done.stderr
+
+
+class Answers(Served):
+    def test_calls(self):
+        """Each call, as docs/SERVICE.md has it."""
+        server = self.serve()
+        self.assertRegex(server.ready, r"^0 documents in [0-9.]+ s, at http://127\.0\.0\.1:[0-9]+/\n$")
+        ask = server.ask
+        told = ask("POST", "/documents", {"title": "Rust book", "year": 2018})
+        self.assertEqual(told, (201, {"ids": [1], "commit": 1}))
+        two = b'{"title":"a","day":"mon"}\n\n{"title":["b","c"],"day":"tue"}\n'
+        told = ask("POST", "/documents", two, Content_Type="application/x-ndjson")
+        self.assertEqual(told, (201, {"ids": [2, 3], "commit": 2}))
+        self.assertEqual(ask("POST", "/documents", [{}, {"day": "mon"}]), (201, {"ids": [4, 5], "commit": 3}))
+        self.assertEqual(ask("GET", "/documents/1"), (200, {"id": 1, "title": "Rust book", "year": 2018}))
+        self.assertEqual(ask("PUT", "/documents/1", {"title": "Rust", "id": 1}), (200, {"ids": [1], "commit": 4}))
+        self.assertEqual(ask("DELETE", "/documents/4"), (200, {"ids": [], "commit": 5}))
+        lines = b'{"delete":{"day":"mon"}}\n{"add":{"title":"\xc3\xa9"}}\n{"add":{}}\n'
+        told = ask("POST", "/transaction", lines, Content_Type="application/x-ndjson")
+        self.assertEqual(told, (201, {"ids": [6, 7], "commit": 6}))
+        self.assertEqual(ask("GET", "/documents?after=1&limit=2"), (200, {"documents": [
+            {"id": 3, "title": ["b", "c"], "day": "tue"}, {"id": 6, "title": "é"}]}))
+        self.assertEqual(ask("GET", "/documents?after=7"), (200, {"documents": []}))
+        self.assertEqual(ask("GET", "/search?q=rust+OR+b&groups=day&groups=year&top=id,1,rising&fields=title"), (200, {
+            "count": 2, "groups": {"day": [["tue", 1]], "year": []},
+            "hits": [{"id": 1, "value": 1, "document": {"title": "Rust"}}], "commit": 6}))
+        self.assertEqual([hit["id"] for hit in ask("GET", "/search")[1]["hits"]], [7, 6, 3, 1])
+        self.assertEqual(ask("GET", "/search?q=%C3%A9")[1]["count"], 1)
+        status = ask("GET", "/status")[1]
+        self.assertEqual((status["documents"], status["commit"], status["schema"][0]), (4, 6, SCHEMA[0]))
+        told, text = ask("GET", "/metrics")
+        self.assertEqual(told, 200)
+        self.assertIn("\ndilforec_documents 4\n", text)
+        self.assertIn("\ndilforec_searches_total 3\n", text)
+        self.assertEqual(ask("POST", "/compact")[0], 200)
+        self.assertEqual(ask("POST", "/transaction", [{"delete_all": True}]), (201, {"ids": [], "commit": 7}))
+        self.assertEqual(ask("HEAD", "/documents"), (200, ""))
+        status, page = ask("GET", "/")
+        self.assertEqual((status, "<script>" in page), (200, True))
+        self.assertIn("default-src 'none'", server.headers["Content-Security-Policy"])
+        self.assertEqual(server.stop(signal.SIGTERM), 0)
+        with Store([dilforec.Field(**field) for field in SCHEMA], self.journal) as store:
+            self.assertEqual((len(store), store.commits), (0, 7))
+
+    def test_refusals(self):
+        """A bad request says what is wrong and where, and changes nothing."""
+        server = self.serve("--body", 100_000)
+        server.ask("POST", "/documents", {"title": "kept"})
+        lines = {"Content_Type": "application/x-ndjson"}
+        for method, path, body, status, name, at, headers in [
+            ("POST", "/documents", {"titel": "x"}, 400, "UnknownField", 1, {}),
+            ("POST", "/documents", [{}, {"year": "late"}], 400, "WrongKind", 2, {}),
+            ("POST", "/documents", b'{}\n\n{"year":-1}\n', 400, "WrongKind", 3, lines),
+            ("POST", "/documents", b'{}\nnonsense\n', 400, "BadJson", 2, lines),
+            ("POST", "/documents", b'{"title":"\xff"}', 400, "BadJson", None, {}),
+            ("POST", "/documents", b'{"title":"\\ud800"}', 400, "BadJson", 1, {}),
+            ("POST", "/documents", b'{"year":NaN}', 400, "BadJson", None, {}),
+            ("POST", "/documents", b"[" * 50_000, 400, "BadJson", None, {}),
+            ("POST", "/documents", b"", 400, "BadJson", None, {}),
+            ("POST", "/documents", b"\n", 400, "Empty", None, lines),
+            ("POST", "/documents", {"id": 9}, 400, "BadCommand", 1, {}),
+            ("POST", "/documents", "[1]", 400, "NotAnObject", 1, {}),
+            ("POST", "/transaction", b'{"add":{}}\n{"commit":true}\n', 400, "BadCommand", 2, lines),
+            ("POST", "/transaction", b'{"add":{}}\n{"delete":{"year":"x"}}\n', 400, "WrongKind", 2, lines),
+            ("POST", "/documents", b"{}", 415, "BadContentType", None, {"Content_Type": "text/plain"}),
+            ("POST", "/compact", b"", 415, "BadContentType", None, {"Content_Type": "multipart/form-data"}),
+            ("PUT", "/documents/1", {"id": 2}, 400, "BadId", None, {}),
+            ("PUT", "/documents/2", {}, 404, "NoSuchDocument", None, {}),
+            ("PUT", "/documents/1", {"year": "late"}, 400, "WrongKind", None, {}),
+            ("DELETE", "/documents/2", None, 404, "NoSuchDocument", None, {}),
+            ("GET", "/documents/2", None, 404, "NoSuchDocument", None, {}),
+            ("GET", "/documents/01", None, 404, "NotFound", None, {}),
+            ("GET", "/documents/99999999999999999999", None, 400, "BadParameter", None, {}),
+            ("GET", "/documents?after=x", None, 400, "BadParameter", None, {}),
+            ("GET", "/documents?limit=1001", None, 400, "BadLimit", None, {}),
+            ("GET", "/search?q=title:%5Ba+TO+b%5D", None, 400, "RangeOnText", None, {}),
+            ("GET", "/search?q=%ff", None, 400, "BadParameter", None, {}),
+            ("GET", "/search?q=a&q=b", None, 400, "BadParameter", None, {}),
+            ("GET", "/search?query=a", None, 400, "BadParameter", None, {}),
+            ("GET", "/search?top=year", None, 400, "BadParameter", None, {}),
+            ("GET", "/search?top=year,0,rising", None, 400, "BadLimit", None, {}),
+            ("GET", "/search?top=title,1,rising", None, 400, "NotANumberField", None, {}),
+            ("GET", "/search?groups=colour", None, 400, "UnknownField", None, {}),
+            ("GET", "/search?q=" + "a" * 5000, None, 400, "TooLong", None, {}),
+            ("GET", "/search?q=" + "a" * 70_000, None, 414, "TooLong", None, {}),
+            ("GET", "/nowhere", None, 404, "NotFound", None, {}),
+            ("POST", "/search", b"{}", 405, "MethodNotAllowed", None, {}),
+            ("BREW", "/documents", b"{}", 405, "MethodNotAllowed", None, {}),
+        ]:
+            with self.subTest(method=method, path=path[:40], name=name):
+                got, told = server.ask(method, path, body, **headers)
+                self.assertEqual((got, told["error"], told.get("at")), (status, name, at), told)
+                self.assertRegex(told["message"], "[a-z]")
+        self.assertEqual(server.ask("POST", "/documents", b"[" + b" " * 200_000 + b"]")[0], 413)
+        self.assertEqual(server.ask("GET", "/search?q=rust+OR")[1]["error"], "Syntax")
+        self.assertEqual(server.ask("GET", "/documents"), (200, {"documents": [{"id": 1, "title": "kept"}]}))
+        self.assertNotIn("Traceback", server.said())
+
+    @unittest.skipUnless(shutil.which("curl"), "there is no curl")
+    def test_documented(self):
+        """The commands of docs/SERVICE.md that ask a service do what they say."""
+        server = self.serve()
+        blocks = re.findall(r"(?:^    .*\n)+", GUIDE.read_text("utf-8"), re.MULTILINE)
+        lines = [line for block in blocks if "localhost:8090" in block for line in block.splitlines()]
+        script = "\n".join(line[4:] for line in lines if "dilforec serve" not in line)
+        (self.folder / "books.jsonl").write_text('{"title":"Managing Gigabytes","year":1994,"day":"2026-11-25"}\n' * 3)
+        script = script.replace("localhost:8090", f"localhost:{server.port}").replace("curl ", "curl -sS ")
+        done = subprocess.run(["sh", "-ec", script], cwd=self.folder, capture_output=True, text=True, timeout=60)
+        self.assertEqual((done.returncode, done.stderr), (0, ""))
+        self.assertEqual([json.loads(line) for line in done.stdout.splitlines()], [
+            {"ids": [1], "commit": 1}, {"ids": [2, 3, 4], "commit": 2},
+            {"count": 1, "groups": {"year": [[1986, 1]]}, "commit": 2, "hits": [
+                {"id": 1, "value": 1, "document": {"id": 1, "title": "Programming Pearls", "year": 1986}}]},
+            {"ids": [5, 6, 7], "commit": 3}, {"ids": [], "commit": 4}])
+        self.assertEqual(server.ask("GET", "/status")[1]["documents"], 1)
+
+    def test_retention(self):
+        """A keyword `day`, and one delete a day."""
+        server = self.serve()
+        for day in ("2026-11-25", "2026-11-26", "2026-11-27"):
+            server.ask("POST", "/documents", [{"title": "line", "day": day}] * 3)
+        delete = b'{"delete":{"day":"2026-11-25"}}\n'
+        self.assertEqual(server.ask("POST", "/transaction", delete, Content_Type="application/x-ndjson")[0], 201)
+        found = server.ask("GET", "/search?q=line&groups=day")[1]
+        self.assertEqual(found["groups"], {"day": [["2026-11-26", 3], ["2026-11-27", 3]]})
+
+    def test_killed(self):
+        """kill -9 while clients post: what was acknowledged is there after the next start."""
+        acknowledged, lock = set(), threading.Lock()
+        for _ in range(3):
+            server = self.serve()
+
+            def post():
+                while True:
+                    try:
+                        status, told = server.ask("POST", "/documents", [{"title": "pair"}, {"title": "pair"}])
+                    except (OSError, ValueError, Exception):
+                        return
+                    if status == 201:
+                        with lock:
+                            acknowledged.update(told["ids"])
+
+            clients = [threading.Thread(target=post) for _ in range(4)]
+            for client in clients:
+                client.start()
+            time.sleep(random.uniform(0.2, 0.5))
+            server.stop(signal.SIGKILL)
+            for client in clients:
+                client.join()
+        with self.serve() as server:
+            after, there = 0, []
+            while found := server.ask("GET", f"/documents?after={after}&limit=1000")[1]["documents"]:
+                there += [document["id"] for document in found]
+                after = there[-1]
+        self.assertEqual((acknowledged - set(there), len(there) % 2), (set(), 0))
+        self.assertGreater(len(acknowledged), 10)
+
+
+class Starts(Served):
+    def test_refused(self):
+        """What stops a start says so, with status 2."""
+        schema, journal = ("--schema", self.schema), ("--journal", self.journal)
+        bad = self.folder / "bad.json"
+        for content, words in [
+            ("[", "isn't JSON"), ("{}", "isn't a schema"), ('[{"name":"a","kind":"date"}]', "isn't a schema"),
+            ('[{"name":"id","kind":"u64"}]', "the store's own"), ('[{"name":"OR","kind":"u64"}]', "refused"),
+            (json.dumps([{"name": f"n{n}", "kind": "u64"} for n in range(32)]), "31 at most"),
+        ]:
+            bad.write_text(content)
+            self.assertIn(words, self.refused("serve", "--schema", bad, *journal))
+        self.assertIn("can't be read", self.refused("serve", "--schema", self.folder / "none", *journal))
+        self.assertIn("--journal", self.refused("serve", *schema))
+        self.assertIn("HOST:PORT", self.refused("serve", *schema, *journal, "--listen", "nowhere"))
+        self.assertIn("--token-file", self.refused("serve", *schema, *journal, "--token-reads"))
+        bad.write_text("short")
+        self.assertIn("16 letters", self.refused("serve", *schema, *journal, "--token-file", bad))
+        self.assertIn("isn't there", self.refused("compact", *journal))
+        self.assertFalse(self.journal.exists())
+        limit = lambda: resource.setrlimit(resource.RLIMIT_NOFILE, (500, 500))
+        self.assertIn("descriptors", self.refused("serve", *schema, *journal, preexec_fn=limit))
+        server = self.serve()
+        self.assertIn("open in another process", self.refused("serve", *schema, *journal, "--listen", "127.0.0.1:0"))
+        self.assertIn("open in another process", self.refused("compact", *journal))
+        port = f"127.0.0.1:{server.port}"
+        other = ("--journal", self.folder / "other")
+        self.assertIn("can't listen", self.refused("serve", *schema, *other, "--listen", port))
+        server.ask("POST", "/documents", {"title": "x"})
+        server.stop(signal.SIGTERM)
+        bad.write_text('[{"name":"title","kind":"text"}]')
+        self.assertIn("isn't that of", self.refused("serve", "--schema", bad, *journal))
+        with self.journal.open("ab") as damaged:
+            damaged.write(b'{"add":{"id":2,"year":"x"}}\n{"commit":true}\n')
+        before = self.journal.read_bytes()
+        self.assertRegex(self.refused("serve", *schema, *journal), "line 4, byte [0-9]+: WrongKind")
+        self.assertEqual(self.journal.read_bytes(), before)
+
+    def test_without_waitress(self):
+        (self.folder / "waitress.py").write_text("raise ImportError\n")
+        path = os.pathsep.join([str(self.folder), os.environ.get("PYTHONPATH", "")])
+        told = self.refused("serve", "--example", env={**os.environ, "PYTHONPATH": path})
+        self.assertIn("python3-waitress", told)
+
+    def test_torn(self):
+        """A torn tail is cut off and told."""
+        server = self.serve()
+        server.ask("POST", "/documents", {"title": "x"})
+        server.stop(signal.SIGKILL)
+        with self.journal.open("ab") as journal:
+            journal.write(b'{"add":{"id":2')
+        with self.serve() as server:
+            self.assertEqual(server.ask("GET", "/status")[1]["documents"], 1)
+            self.assertIn("cut 14 bytes", server.said())
+
+    def test_systemd(self):
+        """systemd is told when it is ready, and when it ends."""
+        path = str(self.folder / "notify")
+        with socket.socket(socket.AF_UNIX, socket.SOCK_DGRAM) as told, mock.patch.dict(os.environ, NOTIFY_SOCKET=path):
+            told.bind(path)
+            told.settimeout(30)
+            with self.serve() as server:
+                self.assertEqual(told.recv(100), b"READY=1")
+                self.assertEqual(server.stop(signal.SIGINT), 0)
+                self.assertEqual(told.recv(100), b"STOPPING=1")
+
+    def test_example(self):
+        """The example's books, in a journal that goes with the process."""
+        with Server("--example") as server:
+            found = server.ask("GET", "/search?q=whale+OR+windmills&groups=language")[1]
+            self.assertEqual(found["groups"], {"language": [["English", 1], ["Spanish", 1]]})
+
+
+class Guards(Served):
+    def test_hosts_and_origins(self):
+        """A page elsewhere can't use it: neither by a name that leads here, nor by a request of its own."""
+        server = self.serve("--host", "search.example.org")
+        port = server.port
+        for host, status in [
+            (f"127.0.0.1:{port}", 200), (f"localhost:{port}", 200), (f"[::1]:{port}", 200), ("search.example.org", 200),
+            ("SEARCH.example.org:8443", 200), ("evil.example", 421), (f"evil.example:{port}", 421), ("127.0.0.1", 421),
+            ("127.0.0.1:1", 421), ("", 421), ("search.example.org.evil.example", 421),
+        ]:
+            with self.subTest(host=host):
+                self.assertEqual(server.ask("GET", "/status", Host=host)[0], status)
+        for origin, status in [
+            (f"http://127.0.0.1:{port}", 201), (f"http://localhost:{port}", 403), ("http://evil.example", 403),
+            ("null", 403), (f"ftp://127.0.0.1:{port}", 403), ("", 403),
+        ]:
+            with self.subTest(origin=origin):
+                self.assertEqual(server.ask("POST", "/documents", {}, Origin=origin)[0], status)
+        self.assertEqual(server.ask("DELETE", "/documents/1", Origin="http://evil.example")[0], 403)
+        self.assertEqual(server.ask("DELETE", "/documents/1", Content_Type="text/plain")[0], 415)
+
+    def test_tokens(self):
+        """With a token, what changes something needs it, and, if wanted, what reads; the page alone doesn't."""
+        token = self.folder / "token"
+        token.write_text("abcdefghijklmnop\n")
+        right, wrong = {"Authorization": "Bearer abcdefghijklmnop"}, {"Authorization": "Bearer abcdefghijklmnoq"}
+        for reads in (), ("--token-reads",):
+            server = self.serve("--token-file", token, *reads, journal=self.folder / f"journal{len(reads)}")
+            basic = {"Authorization": "Basic abcdefghijklmnop"}
+            for headers, status in ({}, 401), (wrong, 401), (basic, 401), (right, 201):
+                self.assertEqual(server.ask("POST", "/documents", {}, **headers)[0], status)
+            self.assertEqual(server.ask("DELETE", "/documents/1")[0], 401)
+            self.assertEqual(server.headers["WWW-Authenticate"], "Bearer")
+            for path in "/search", "/documents", "/documents/1", "/status", "/metrics":
+                self.assertEqual(server.ask("GET", path)[0], 401 if reads else 200)
+                self.assertEqual(server.ask("GET", path, **right)[0], 200)
+            self.assertEqual(server.ask("GET", "/")[0], 200)
+
+    def test_beyond_the_machine(self):
+        """Where it listens beyond the machine, nothing can be changed without a token, and it says so."""
+        server = Server("--schema", self.schema, "--journal", self.journal, "--listen", "0.0.0.0:0")
+        with server:
+            self.assertEqual((server.ask("GET", "/status")[0], server.ask("POST", "/documents", {})[0]), (200, 403))
+            self.assertIn("WARNING it listens beyond this machine without a token", server.said())
+
+
+class Hostile(Served):
+    def setUp(self):
+        super().setUp()
+        self.server = self.serve("--idle", 3, "--connections", 1500)
+        self.assertEqual(self.server.ask("POST", "/documents", [{"title": "rust"}] * 10)[0], 201)
+
+    def resident(self):
+        return self.server.ask("GET", "/status")[1]["resident_bytes"]
+
+    def opened(self, data=b""):
+        connection = socket.create_connection(("127.0.0.1", self.server.port), timeout=30)
+        self.addCleanup(connection.close)
+        connection.sendall(data)
+        return connection
+
+    def answers(self, count=20):
+        """Whether others are answered, each within ten seconds."""
+        for _ in range(count):
+            began = time.monotonic()
+            self.assertEqual(self.server.ask("GET", "/search?q=rust")[1]["count"], 10)
+            self.assertLess(time.monotonic() - began, 10)
+
+    def test_idle(self):
+        """1,000 connections that are silent or drip: others are answered, and the silent ones are closed."""
+        before = self.resident()
+        head = f"POST /documents HTTP/1.1\r\nHost: 127.0.0.1:{self.server.port}\r\nContent-Length: 999999\r\n".encode()
+        silent = [self.opened() for _ in range(500)]
+        dripping = [self.opened(head[:40] if number % 2 else head + b"\r\n{") for number in range(500)]
+        began = time.monotonic()
+        while time.monotonic() - began < 6:
+            for connection in dripping:
+                # One that dripped too slowly, on a busy machine, is closed, too.
+                with contextlib.suppress(OSError):
+                    connection.sendall(b"x")
+            self.answers(5)
+        closed = sum(connection.recv(1) == b"" for connection in silent[::50])
+        self.assertEqual(closed, 10)
+        self.answers()
+        self.assertLess(self.resident() - before, 100 << 20)
+
+    def test_large(self):
+        """Bodies of 1 GB, announced and in chunks, are refused, and memory stays."""
+        before, port = self.resident(), self.server.port
+        head = f"POST /documents HTTP/1.1\r\nHost: 127.0.0.1:{port}\r\nContent-Type: application/json\r\n"
+        for _ in range(50):
+            connection = self.opened((head + "Content-Length: 1073741824\r\n\r\n").encode())
+            self.assertIn(b" 413 ", connection.recv(100))
+        connection = self.opened((head + "Transfer-Encoding: chunked\r\n\r\n").encode())
+        block = b"100000\r\n" + b"x" * 0x100000 + b"\r\n"
+        with self.assertRaises(OSError):
+            for _ in range(1000):
+                connection.sendall(block)
+        self.answers()
+        self.assertLess(self.resident() - before, 100 << 20)
+
+    def test_broken(self):
+        """Requests that aren't ones, pipelined ones, and clients that go away."""
+        port = self.server.port
+        for data in (b"\0\0\0\0\r\n\r\n", b"GET\r\n\r\n", b"GET / HTTP/9.9\r\n\r\n",
+                     b"GET /\xff?\xff HTTP/1.1\r\nHost: \xff\r\n\r\n",
+                     b"POST / HTTP/1.1\r\nContent-Length: -1\r\n\r\n", b"POST / HTTP/1.1\r\nContent-Length: x\r\n\r\n",
+                     b"POST / HTTP/1.1\r\nTransfer-Encoding: chunked\r\n\r\nzz\r\n", b"x" * 200_000):
+            connection = self.opened()
+            try:
+                connection.sendall(data)
+                told = connection.recv(1000)
+            except OSError:
+                continue
+            self.assertRegex(told, rb"^(HTTP/1\.[01] [45][0-9][0-9] |$)")
+        request = f"GET /search?q=rust HTTP/1.1\r\nHost: 127.0.0.1:{port}\r\n\r\n".encode()
+        connection, told = self.opened(request * 100), b""
+        while told.count(b'{"count":10') < 100:
+            read = connection.recv(1 << 16)
+            self.assertNotEqual(read, b"")
+            told += read
+        for number in range(200):
+            self.opened(request[: number % len(request)] if number % 2 else request).close()
+        self.answers()
+        self.assertEqual(self.server.ask("GET", "/documents")[1]["documents"][9]["id"], 10)
+
+
+if __name__ == "__main__":
+    unittest.main()

@@ -1,0 +1,366 @@
+"""Journals: disks that fail, files that are cut and damaged, compactions that are killed."""
+import pathlib
+import signal
+import subprocess
+import sys
+import threading
+import time
+import unittest
+from unittest import mock
+
+import dilforec
+from dilforec.service import BadJournal, BadSchema, Busy, NotWritten, OutcomeUnknown, Stopped, Store
+from service_tools import FIELDS, Failing, Stored, child
+
+PROGRAM = pathlib.Path(__file__).resolve().parents[3] / "crates/fts/out/fts"
+
+
+class Disks(Stored):
+    def test_failing(self):
+        """A write or a sync that fails, at each transaction: nothing is visible, and it goes on."""
+        disk = Failing()
+        store, there = self.opened(disk=disk), {}
+        for number in range(12):
+            disk.fails = {["write", "sync"][number % 2]: 1}
+            with self.assertRaises(NotWritten), store.transaction() as transaction:
+                transaction.add({"title": "lost"})
+                transaction.delete_all()
+            self.assertEqual(self.all(store), there)
+            there[store.add({"title": f"kept {number}"})] = {"title": f"kept {number}"}
+            self.assertEqual(self.journal.stat().st_size, store.journal_bytes)
+        store.close()
+        self.assertEqual(self.all(self.opened()), there)
+
+    def test_unknown(self):
+        """If the file can't be cut back either, no write is taken until a restart; then it is there whole, or not."""
+        for name, fails in ("write", {"write": 1, "cut": 1}), ("sync", {"sync": 2}):
+            with self.subTest(name):
+                disk = Failing()
+                store = Store(FIELDS, self.folder / name, disk=disk)
+                store.add({"title": "first"})
+                disk.fails = dict(fails)
+                with self.assertRaises(OutcomeUnknown) as raised, store.transaction() as transaction:
+                    transaction.add({"title": "a"})
+                    transaction.add({"title": "b"})
+                self.assertIn("outcome unknown", str(raised.exception))
+                for call in (lambda: store.add({}), lambda: store.delete(1), store.compact):
+                    self.assertRaises(Stopped, call)
+                self.assertEqual((self.all(store), store.writable), ({1: {"title": "first"}}, False))
+                store.close()
+                with Store(FIELDS, self.folder / name) as again:
+                    self.assertIn(len(again), (1, 3))
+                    self.assertEqual((again.get(1)["title"], again.writable), ("first", True))
+
+    def test_commit_refused(self):
+        """A commit that is refused after the sync is tried again, and else the file is cut back."""
+        store = self.opened()
+        store.add({"title": "first"})
+        commit = store._writer.index.commit
+        size = self.journal.stat().st_size
+        for refusals in 1, 2:
+            left = [MemoryError()] * refusals
+            with mock.patch.object(store._writer.index, "commit", lambda: (_raise(left.pop()) if left else commit())):
+                if refusals == 1:
+                    self.assertEqual(store.add({"title": "second"}), 2)
+                    size = self.journal.stat().st_size
+                else:
+                    self.assertRaises(NotWritten, store.add, {"title": "third"})
+        there = {1: {"title": "first"}, 2: {"title": "second"}}
+        self.assertEqual((self.all(store), self.journal.stat().st_size, store.writable), (there, size, True))
+        self.assertEqual(store.add({}), 3)
+        store.close()
+        self.assertEqual(len(self.opened()), 3)
+
+    def test_full(self):
+        """A disk that is full, by a limit on the size of files: nothing visible that isn't there, and it goes on."""
+        code = """if True:
+            import resource, sys, service_tools
+            from dilforec.service import NotWritten, Store
+            store = Store(service_tools.FIELDS, sys.argv[1])
+            soft, hard = resource.getrlimit(resource.RLIMIT_FSIZE)
+            acknowledged = refused = 0
+            for limit in range(2000, 8000, 50):
+                resource.setrlimit(resource.RLIMIT_FSIZE, (limit, hard))
+                try:
+                    store.add({"title": "word " * 20})
+                    acknowledged += 1
+                except NotWritten:
+                    refused += 1
+                assert len(store) == acknowledged, (len(store), acknowledged)
+            resource.setrlimit(resource.RLIMIT_FSIZE, (1, hard))
+            try:
+                store.compact()
+            except NotWritten:
+                refused += 1000
+            resource.setrlimit(resource.RLIMIT_FSIZE, (soft, hard))
+            store.add({})
+            print(acknowledged + 1, refused)
+        """
+        process = child(code, self.journal)
+        told = process.communicate(timeout=60)[0].split()
+        self.assertEqual(process.returncode, 0)
+        self.assertTrue(int(told[0]) > 10 and int(told[1]) > 1010, told)
+        self.assertEqual(len(self.opened()), int(told[0]))
+
+
+def _raise(error):
+    raise error
+
+
+class Journals(Stored):
+    def filled(self):
+        """A small journal, the places after each whole transaction, and the documents then."""
+        store, places, there = self.opened(), [], []
+
+        def note():
+            places.append(self.journal.stat().st_size)
+            there.append(self.all(store))
+
+        note()
+        for number in range(4):
+            with store.transaction() as transaction:
+                transaction.add({"title": f"häß {number}", "year": number})
+                transaction.add({"shelf": "{\"commit\":true}\n"})
+            note()
+            store.replace(transaction.ids[0], {"title": "anew"})
+            note()
+        store.delete(1)
+        note()
+        store.close()
+        return self.journal.read_bytes(), places, there
+
+    def test_cut(self):
+        """A start on a journal cut at every byte, with and without what a torn write leaves: the whole transactions."""
+        whole, places, there = self.filled()
+        for size in range(len(whole) + 1):
+            tail = [b"", b"\0" * 9, b'{"add":{"id":99}}\n', b'{"commit":true}'][size % 4]
+            self.journal.write_bytes(whole[:size] + (tail if size >= places[0] else b""))
+            last = sum(place <= size for place in places) - 1
+            with Store(FIELDS, self.journal) as store:
+                self.assertEqual(self.all(store), there[last] if last >= 0 else {}, size)
+                self.assertEqual(store.commits, max(last, 0))
+            self.assertEqual(self.journal.stat().st_size, places[max(last, 0)])
+
+    def test_zeros(self):
+        """A last transaction with bytes 0 is torn, as where power failed; an earlier one is damaged."""
+        whole, places, there = self.filled()
+        self.journal.write_bytes(whole[: places[-2] + 3] + b"\0" * 6 + whole[places[-2] + 9 :])
+        with Store(FIELDS, self.journal) as store:
+            self.assertEqual((self.all(store), store.torn), (there[-2], len(whole) - places[-2]))
+        self.journal.write_bytes(whole[: places[-3] + 3] + b"\0" * 6 + whole[places[-3] + 9 :])
+        self.assertRaises(BadJournal, Store, FIELDS, self.journal)
+
+    def test_damaged(self):
+        """A line in the middle that is refused stops the start with its number and byte, and changes nothing."""
+        whole, places, _ = self.filled()
+        line = whole.count(b"\n", 0, places[2]) + 1
+        for bad in (
+            b'{"add":{"id":9,"year":"x"}}', b'{"rollback":true}', b'{"add":{"year":1}}', b"nonsense", b"",
+            b'{"merge":true}', b'{"search":{"query":"*"}}', b'{"add":{"id":9,"title":"' + b"x" * 4_194_304 + b'"}}',
+        ):
+            with self.subTest(bad[:30]):
+                damaged = whole[: places[2]] + bad + b"\n" + whole[places[2] :] + b"torn"
+                self.journal.write_bytes(damaged)
+                with self.assertRaises(BadJournal) as raised:
+                    Store(FIELDS, self.journal)
+                self.assertEqual((raised.exception.line, raised.exception.at), (line, places[2]))
+                self.assertEqual(self.journal.read_bytes(), damaged)
+        for other in (b"some text\n", b"\n", b'{"add":{}}\n', b"text"):
+            self.journal.write_bytes(other)
+            self.assertRaises((BadJournal, BadSchema), Store, FIELDS, self.journal)
+            self.assertEqual(self.journal.read_bytes(), other)
+
+    def test_script(self):
+        """The journal is a script: an index that executes its lines answers as the store does."""
+        whole, _, there = self.filled()
+        with Store(FIELDS, self.journal) as store:
+            store.compact()
+            store.add({"title": "last", "year": 1})
+            expected = store.search("*", groups=["shelf", "year"], top=dilforec.Top("year", 100))
+        if PROGRAM.exists():
+            with self.journal.open("rb") as script:
+                done = subprocess.run([PROGRAM, "run"], stdin=script, capture_output=True)
+            self.assertEqual((done.returncode, b"error" in done.stdout), (0, False))
+        lines = self.journal.read_bytes().splitlines(keepends=True)
+        with dilforec.Index() as index:
+            replies = [index.execute(line[:-1]) for line in lines]
+            self.assertEqual([reply for reply in replies if b"error" in reply], [])
+            found = index.search("*", groups=["shelf", "year"], top=dilforec.Top("year", 100))
+        self.assertEqual((found.count, found.groups), (expected.count, expected.groups))
+        self.assertEqual([hit.document for hit in found.hits], [hit.document for hit in expected.hits])
+
+
+class Compactions(Stored):
+    def ties(self, store):
+        """Top lists with ties, in both orders, and all documents."""
+        tops = [store.search("*", top=dilforec.Top("year", 100, order)).hits for order in ("rising", "falling")]
+        return [[(hit.id, hit.document) for hit in hits] for hits in tops]
+
+    def test_answers(self):
+        """Ties, numbers and commits are the same after a compaction and a restart."""
+        store = self.opened()
+        for number in range(40):
+            store.add({"title": f"n{number}", "year": number % 3})
+        for id in (7, 3, 30, 4, 8):
+            store.replace(id, {"title": "anew", "year": id % 3})
+        for id in (1, 2, 40):
+            store.delete(id)
+        before, commit = self.ties(store), store.commits
+        sizes = store.compact()
+        self.assertLess(sizes.after, sizes.before)
+        self.assertEqual((self.ties(store), store.commits, self.journal.stat().st_size), (before, commit, sizes.after))
+        store.close()
+        store = self.opened()
+        self.assertEqual((self.ties(store), store.commits), (before, commit))
+        # 40 was the newest, and was deleted.
+        self.assertEqual((store.add({}), store.commits), (41, commit + 1))
+        store.close()
+        self.assertEqual(len(self.opened()), 38)
+
+    def test_empty(self):
+        """Nothing to keep but the numbers; and again."""
+        store = self.opened()
+        store.compact()
+        store.add({})
+        store.delete(1)
+        for _ in range(3):
+            store.compact()
+            store.close()
+            store = self.opened()
+        self.assertEqual((len(store), store.commits, store.add({})), (0, 2, 2))
+
+    def test_beside_writers(self):
+        """Compactions while others write and search."""
+        store, kept = self.opened(), {}
+
+        def write(writer):
+            for number in range(60):
+                id = store.add({"title": f"w{writer} n{number}", "year": number})
+                if number % 3 == 0:
+                    store.delete(id)
+                elif number % 3 == 1:
+                    kept[store.replace(id, {"title": "anew"}).ids[0]] = {"title": "anew"}
+                else:
+                    kept[id] = {"title": f"w{writer} n{number}", "year": number}
+
+        writers = [threading.Thread(target=write, args=(writer,)) for writer in range(4)]
+        for writer in writers:
+            writer.start()
+        compactions = 0
+        while any(writer.is_alive() for writer in writers):
+            store.compact()
+            compactions += 1
+        self.assertGreater(compactions, 1)
+        there, ties, commit = self.all(store), self.ties(store), store.commits
+        self.assertEqual(there, kept)
+        store.close()
+        store = self.opened()
+        self.assertEqual((self.all(store), self.ties(store), store.commits), (there, ties, commit))
+
+    def test_close(self):
+        """A close ends a compaction; the journal is whole."""
+        store = self.opened()
+        with store.transaction() as transaction:
+            for number in range(100):
+                transaction.add({"title": "x " * 10_000})
+        told, disk = [], store._journal.disk
+        began, write = threading.Event(), disk.write
+        disk.write = lambda *given: (began.set(), time.sleep(0.1), write(*given))
+
+        def compact():
+            try:
+                told.append(store.compact())
+            except Stopped as error:
+                told.append(error)
+
+        thread = threading.Thread(target=compact)
+        thread.start()
+        began.wait(10)
+        store.close()
+        thread.join()
+        self.assertIsInstance(told[0], Stopped)
+        self.assertEqual([path.name for path in self.folder.iterdir()], ["journal"])
+        self.assertEqual(len(self.opened()), 100)
+
+    def test_busy(self):
+        store = self.opened()
+        store._compacting.acquire()
+        try:
+            self.assertRaises(Busy, store.compact)
+        finally:
+            store._compacting.release()
+
+    def test_failing(self):
+        """A call on the disk that fails during a compaction: the journal is as it was, and it goes on."""
+        disk = Failing()
+        store = self.opened(disk=disk)
+        for number in range(20):
+            store.add({"title": f"n{number}"})
+        there = self.all(store)
+        for name, after in ("write", 0), ("sync", 0), ("sync", 1), ("rename", 0):
+            with self.subTest(name=name, after=after):
+                disk.fails, disk.after = {name: 1}, {name: after}
+                size = self.journal.stat().st_size
+                self.assertRaises(NotWritten, store.compact)
+                self.assertEqual((self.all(store), self.journal.stat().st_size), (there, size))
+                self.assertEqual([path.name for path in self.folder.iterdir()], ["journal"])
+                there[store.add({"title": "more"})] = {"title": "more"}
+        with mock.patch.object(store._journal, "beside_begin", side_effect=PermissionError(13, "Permission denied")):
+            self.assertRaises(NotWritten, store.compact)
+        disk.fails, disk.after = {"sync_folder": 1}, {}
+        self.assertRaises(OutcomeUnknown, store.compact)
+        self.assertRaises(Stopped, store.add, {})
+        store.close()
+        self.assertEqual(self.all(self.opened()), there)
+
+    def test_taken_back(self):
+        """A transaction whose commit is refused after the sync isn't copied by a compaction meanwhile."""
+        store = self.opened()
+        store.add({"title": "first"})
+        compaction, snapshot = store._begin_compaction()
+        with snapshot:
+            compaction.write(snapshot.ids())
+
+        def commit():
+            compaction.follow()
+            raise MemoryError
+
+        with mock.patch.object(store._writer.index, "commit", commit):
+            self.assertRaises(NotWritten, store.add, {"title": "second"})
+        store.add({"title": "third"})
+        store._finish_compaction(compaction)
+        there = self.all(store)
+        store.close()
+        self.assertEqual((self.all(self.opened()), there), (there, {1: {"title": "first"}, 2: {"title": "third"}}))
+
+    def test_killed(self):
+        """kill -9 before each call on the disk of a compaction, and in the middle of each write: nothing is lost."""
+        code = """if True:
+            import sys, service_tools
+            from dilforec.service import Store
+            disk = service_tools.Killing()
+            store = Store(service_tools.FIELDS, sys.argv[1], disk=disk)
+            for number in range(20):
+                store.add({"title": "kept", "year": number})
+                if number % 2:
+                    store.delete(number)
+            print(len(store), store.commits, flush=True)
+            disk.left = int(sys.argv[2])
+            store.compact()
+            print("compacted")
+        """
+        for step in range(20):
+            journal = self.folder / f"journal{step}"
+            process = child(code, journal, step)
+            told = process.communicate(timeout=60)[0].decode().split()
+            with Store(FIELDS, journal) as store:
+                self.assertEqual([str(len(store)), str(store.commits), store.add({})], [told[0], told[1], 21])
+            self.assertEqual(list(self.folder.glob("*.compacting")), [])
+            if "compacted" in told:
+                break
+            self.assertEqual(process.returncode, -signal.SIGKILL)
+        self.assertIn(step, range(4, 15))
+
+
+if __name__ == "__main__":
+    unittest.main()

@@ -1,0 +1,86 @@
+#!/usr/bin/env python3
+"""Tests the service of the Python package: its store, HTTP, the page in a browser, and 50 rounds of kill -9.
+
+    python3 tests/service.py
+
+Link the package's shared object first: `rt lib` in crates/fts_c, then bindings/build.sh. A Chromium and waitress that
+aren't there are installed by apt-get, if this runs as root on a machine that has it, unless DILFOREC_INSTALL is 0;
+else what needs them is skipped, and counted. The last line is 'N passed, M failed'.
+"""
+from __future__ import annotations
+
+import concurrent.futures
+import importlib.util
+import os
+import pathlib
+import re
+import shutil
+import subprocess
+import sys
+import tempfile
+
+HERE = pathlib.Path(__file__).resolve().parent
+PACKAGE = HERE.parent / "bindings/python"
+TESTS = PACKAGE / "tests"
+DEBIAN = pathlib.Path("/usr/lib/python3/dist-packages/waitress")
+BROWSERS = ("chromium", "chromium-browser", "google-chrome")
+
+
+def install(package: str) -> None:
+    """Installs a package of Debian, if that may be done here."""
+    if os.environ.get("DILFOREC_INSTALL") == "0" or os.geteuid() or not shutil.which("apt-get"):
+        return
+    print(f"service: installing {package}", flush=True)
+    try:
+        subprocess.run(
+            ["apt-get", "install", "-y", "--no-install-recommends", package], capture_output=True, timeout=120,
+            env={**os.environ, "DEBIAN_FRONTEND": "noninteractive"},
+        )
+    except subprocess.TimeoutExpired:
+        print(f"service: installing {package} took too long", flush=True)
+
+
+def with_waitress(folder: str) -> list[str]:
+    """The folders of modules that give this Python waitress; it is Python alone, so Debian's does for each version."""
+    if importlib.util.find_spec("waitress"):
+        return []
+    if not DEBIAN.is_dir():
+        install("python3-waitress")
+    if DEBIAN.is_dir():
+        os.symlink(DEBIAN, os.path.join(folder, "waitress"))
+    return [folder]
+
+
+def run(test: pathlib.Path, paths: list[str]) -> tuple[str, int, int, int, str]:
+    """How many tests of a file passed, failed and were skipped, and what it said."""
+    environment = {**os.environ, "PYTHONPATH": os.pathsep.join(paths), "PYTHONDONTWRITEBYTECODE": "1"}
+    done = subprocess.run([sys.executable, test], env=environment, capture_output=True, text=True, timeout=600)
+    tests = int((re.search(r"Ran (\d+) test", done.stderr) or [0, 0])[1])
+    skipped = int((re.search(r"skipped=(\d+)", done.stderr) or [0, 0])[1])
+    failed = len(re.findall(r"^(?:FAIL|ERROR): ", done.stderr, re.MULTILINE))
+    if done.returncode or not tests:
+        failed = max(failed, 1)
+    return test.name, max(tests - failed - skipped, 0), failed, skipped, done.stderr
+
+
+def main() -> int:
+    passed = failed = 0
+    if not any(map(shutil.which, BROWSERS)):
+        install("chromium")
+    with tempfile.TemporaryDirectory() as folder, concurrent.futures.ThreadPoolExecutor(4) as pool:
+        # The environment's package comes first, such as one that is installed.
+        given = [path for path in [os.environ.get("PYTHONPATH", "")] if path]
+        paths = [*given, str(PACKAGE), str(TESTS), *with_waitress(folder)]
+        tests = sorted(TESTS.glob("test_service_*.py"))
+        for name, good, bad, skipped, said in pool.map(lambda test: run(test, paths), tests):
+            passed, failed = passed + good, failed + bad
+            rounds = "".join(f" ({line})" for line in re.findall(r"^\d+ rounds: .*", said, re.MULTILINE))
+            print(f"service: {name}: {good} passed, {bad} failed, {skipped} skipped{rounds}", flush=True)
+            if bad:
+                print(said, flush=True)
+    print(f"{passed} passed, {failed} failed")
+    return 1 if failed else 0
+
+
+if __name__ == "__main__":
+    sys.exit(main())
