@@ -1,12 +1,10 @@
 #!/usr/bin/env python3
 """Runs a script over several processes of `fts run`, each with the documents of some keys, and joins their answers.
 
-    python3 examples/sharded/sharded.py --key isbn < script.jsonl
     python3 examples/sharded/sharded.py --key isbn 'ssh one fts run' 'ssh two fts run' < script.jsonl
 
-Each argument is the command of a shard; without one, there are four of the program as README.md builds it. An add
-goes to the shard of its key, and so does a delete by the key; every other line goes to all shards. docs/SCALE.md says
-what the joined answers mean.
+Each argument is the command of a shard. An add goes to the shard of its key, and so does a delete by the key; every
+other line goes to all shards. docs/SCALE.md says what the joined answers mean.
 
     python3 examples/sharded/sharded.py --key isbn --split 4 part < script.jsonl
     python3 examples/sharded/sharded.py --key isbn --join part.*.replies < script.jsonl
@@ -16,8 +14,6 @@ they replied.
 """
 import argparse
 import contextlib
-import heapq
-import itertools
 import json
 import pathlib
 import queue
@@ -28,7 +24,9 @@ import threading
 import zlib
 from typing import NamedTuple
 
-PROGRAM = pathlib.Path(__file__).resolve().parents[2] / "crates/fts/out/fts"
+sys.path.insert(0, str(pathlib.Path(__file__).resolve().parents[2] / "bindings/python"))
+
+from dilforec import joins  # noqa: E402
 
 
 class Line(NamedTuple):
@@ -58,12 +56,9 @@ class Router:
         if name == "schema":
             self.refuse_text_key(value)
         if isinstance(value, dict) and (name == "add" or name == "delete" and self.key in value):
-            return [self.shard_of(value.get(self.key))]
+            # This depends on the value alone: the same in each run, and in each language that has CRC-32.
+            return [zlib.crc32(json.dumps(value.get(self.key)).encode()) % len(self.all)]
         return self.all
-
-    def shard_of(self, value):
-        """Depends on the value alone: the same in each run, and in each language that has CRC-32."""
-        return zlib.crc32(json.dumps(value).encode()) % len(self.all)
 
     def refuse_text_key(self, fields):
         """A delete by a word of a text would have to reach documents of every shard."""
@@ -88,7 +83,7 @@ def joined(line, replies):
         refusal = {"error": next(iter(refusals.values())), "line": line.number}
         return refusal if len(refusals) == len(replies) else {**refusal, "shards": list(refusals)}
     if line.name == "search":
-        return joined_answers(line, replies)
+        return joins.answer(line.value, replies, [{"shard": shard} for shard in line.shards])
     if line.name == "schema":
         return replies[0]
     if line.name == "merge":
@@ -99,40 +94,13 @@ def joined(line, replies):
     return {word: [reply[word] for reply in replies] for word in replies[0]}
 
 
-def joined_answers(line, replies):
-    answer = {"count": sum(reply["count"] for reply in replies)}
-    if "groups" in replies[0]:
-        answer["groups"] = joined_groups([reply["groups"] for reply in replies])
-    if "top" in replies[0]:
-        lists = [[{**hit, "shard": shard} for hit in reply["top"]] for shard, reply in zip(line.shards, replies)]
-        answer["top"] = joined_top(line.value["top"], lists)
-    return answer
-
-
-def joined_groups(lists):
-    """Value by value. Each list rises: numbers as such, keywords as UTF-8, which is the order of Python's strings."""
-    def value_of(group):
-        return group[0]
-
-    merged = itertools.groupby(heapq.merge(*lists, key=value_of), value_of)
-    return [[value, sum(count for _, count in groups)] for value, groups in merged]
-
-
-def joined_top(top, lists):
-    """The first k by value; equal values by shard, and within a shard by stamp, as each list has them."""
-    sign = -1 if top["order"] == "falling" else 1
-    merged = heapq.merge(*lists, key=lambda hit: (sign * hit["value"], hit["shard"], hit["stamp"]))
-    return list(itertools.islice(merged, top["k"]))
-
-
 def write_replies(lines, replies, out):
-    """Writes the joined reply to each line, up to the first that lacks one. `replies` are streams, one a shard."""
+    """Writes the joined reply to each line, up to the first that lacks one. `replies` has a stream for each shard."""
     for line in lines:
         told = [replies[shard].readline() for shard in line.shards]
         if not all(told):
             return False
-        reply = joined(line, [json.loads(text) for text in told])
-        out.write(json.dumps(reply, ensure_ascii=False, separators=(",", ":"), sort_keys=True).encode() + b"\n")
+        out.write(joins.encoded(joined(line, [json.loads(text) for text in told])))
         out.flush()
     return True
 
@@ -146,7 +114,7 @@ def ask(router, commands, script, out):
         try:
             write_replies(iter(sent.get, None), [shard.stdout for shard in shards], out)
         finally:
-            # Where this ends early, the shards' next writes fail and so do ours to them; nobody waits for ever.
+            # If this ends early, the shards' next writes fail and so do ours to them; nobody waits for ever.
             for shard in shards:
                 shard.stdout.close()
 
@@ -184,19 +152,21 @@ def main():
     parser.add_argument("shards", nargs="*", metavar="COMMAND", help="runs a shard; with --join, a file of its replies")
     parser.add_argument("--key", required=True, help="the keyword or number field by which documents are shared out")
     parser.add_argument("--split", nargs=2, metavar=("SHARDS", "FRONT"), help="write the script of each shard instead")
-    parser.add_argument("--join", action="store_true", help="join replies that lie in files instead")
+    parser.add_argument("--join", action="store_true", help="join replies that are in files instead")
     words = parser.parse_args()
     script, out = sys.stdin.buffer, sys.stdout.buffer
     if words.split:
-        split(Router(words.key, int(words.split[0])), words.split[1], script)
-    elif words.join:
+        return split(Router(words.key, int(words.split[0])), words.split[1], script)
+    if not words.shards:
+        parser.error("no shard: give the command of each, such as 'fts run', or with --join the file of each")
+    router = Router(words.key, len(words.shards))
+    if words.join:
         with contextlib.ExitStack() as stack:
             replies = [stack.enter_context(open(name, "rb")) for name in words.shards]
-            if not write_replies(Router(words.key, len(replies)).lines(script), replies, out):
+            if not write_replies(router.lines(script), replies, out):
                 raise SystemExit("sharded: a shard replied to fewer lines than it was sent")
     else:
-        commands = [shlex.split(command) for command in words.shards] or [[str(PROGRAM), "run"]] * 4
-        statuses = ask(Router(words.key, len(commands)), commands, script, out)
+        statuses = ask(router, [shlex.split(command) for command in words.shards], script, out)
         if any(statuses):
             raise SystemExit(f"sharded: the shards ended with the statuses {statuses}")
 

@@ -3,8 +3,8 @@
 
     python3 examples/sharded/test_sharded.py [PROGRAM]
 
-PROGRAM is `fts`, that of README.md where none is given. Counts, groups and refusals must be those of the one process to
-the byte; top lists must have its values, and its documents too where no two have one value. The last line is 'N passed,
+PROGRAM is `fts`, that of README.md if none is given. Counts, groups and refusals must be those of the one process to
+the byte; top lists must have its values, and its documents too if no two have one value. The last line is 'N passed,
 M failed'.
 """
 import json
@@ -17,7 +17,7 @@ import tempfile
 
 HERE = pathlib.Path(__file__).resolve().parent
 ROOT = HERE.parents[1]
-sys.path.insert(0, str(ROOT / "bench"))
+sys.path[:0] = [str(ROOT / "tests"), str(ROOT / "bench")]
 
 import random_scripts  # noqa: E402
 
@@ -32,28 +32,25 @@ def run(words, script, status=0):
     return done.stdout
 
 
-def replies(words, script):
-    return [json.loads(line) for line in run(words, script).splitlines()]
-
-
 def same_answers(script, key, with_documents=False):
     """Compares the replies of four shards to a script with those of one process, and answers the joined ones."""
-    whole, shards = replies([PROGRAM, "run"], script), replies([*SHARDED, "--key", key, *RUN], script)
+    whole, shards = (run(words, script).splitlines() for words in ([PROGRAM, "run"], [*SHARDED, "--key", key, *RUN]))
     assert len(whole) == len(shards), (len(whole), len(shards))
     for one, four in zip(whole, shards):
-        if "count" in one:
-            assert told(one, with_documents) == told(four, with_documents), (one, four)
-        elif "error" in one or "fields" in one or "merged" in one:
+        alone, joined = json.loads(one), json.loads(four)
+        if "top" in alone:
+            assert told(alone, with_documents) == told(joined, with_documents), (one, four)
+        elif alone.keys() & {"count", "error", "fields", "merged"}:
             assert one == four, (one, four)
         else:
             # Stamps are each shard's own; that a line was taken is the same.
-            assert one.keys() <= four.keys(), (one, four)
-    return shards
+            assert alone.keys() <= joined.keys(), (one, four)
+    return [json.loads(reply) for reply in shards]
 
 
 def told(answer, with_documents):
-    hits = [(hit["value"], hit["doc"] if with_documents else None) for hit in answer.get("top", [])]
-    return answer["count"], answer.get("groups"), hits
+    hits = [(hit["value"], hit["doc"] if with_documents else None) for hit in answer["top"]]
+    return answer["count"], json.dumps(answer.get("groups")), hits
 
 
 def random_answers():
@@ -70,7 +67,7 @@ def worked_answers():
 
 
 def books(count):
-    """A script of so many books, some replaced by their keys, with searches. No two have one number."""
+    """A script of `count` books, some replaced by their keys, with searches. No two have one number."""
     chance = random.Random(count)
     lines = [{"schema": [
         {"name": "title", "kind": "text", "default": True}, {"name": "isbn", "kind": "keyword"},
@@ -110,7 +107,7 @@ def batches():
 
 
 def documented():
-    """The script of docs/SCALE.md gives the replies that stand there."""
+    """The script of docs/SCALE.md gives the replies that are beside it."""
     page = (ROOT / "docs/SCALE.md").read_text()
     blocks = re.findall(r"(?:^    .*\n)+", page[page.index("### The example"):], re.MULTILINE)
     script, told = (re.sub("^    ", "", block, flags=re.MULTILINE).encode() for block in blocks[1:3])
@@ -118,8 +115,9 @@ def documented():
 
 
 def refusals():
-    """A key that is a text; a shard that ends too early; replies that are missing."""
+    """No shard; a key that is a text; a shard that ends too early; replies that are missing."""
     script = books(2)
+    run([*SHARDED, "--key", "isbn"], script, status=2)
     assert run([*SHARDED, "--key", "title", *RUN], script, status=1) == b""
     run([*SHARDED, "--key", "isbn", *RUN[:3], "false"], script, status=1)
     run([*SHARDED, "--key", "isbn", "--join", "/dev/null"], script, status=1)

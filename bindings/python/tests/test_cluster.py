@@ -1,0 +1,365 @@
+"""Partitions on four Dask workers beside one index over the same lines; workers are killed, and sources change.
+
+It needs `distributed`. tests/cluster.py runs it, and prints what it counted.
+"""
+import contextlib
+import functools
+import io
+import json
+import os
+import pathlib
+import pickle
+import random
+import signal
+import sys
+import tempfile
+import threading
+import time
+import unittest
+from concurrent.futures import ThreadPoolExecutor
+
+from distributed.scheduler import KilledWorker
+
+import dilforec
+import machines
+from dilforec.cluster import Cluster, Documents, JsonLines, Refusal, Script, SourceChanged, SourceRefused
+
+ROOT = pathlib.Path(__file__).resolve().parents[3]
+sys.path[:0] = [str(ROOT / "tests"), str(ROOT / "bench")]
+
+import random_scripts  # noqa: E402
+
+SCHEMA = (
+    dilforec.text("title", default=True), dilforec.keyword("tag", default=True), dilforec.u64("price"),
+    dilforec.i64("temp"),
+)
+CUTTINGS = int(os.environ.get("DILFOREC_CUTTINGS", 200))
+DOCUMENTS = int(os.environ.get("DILFOREC_DOCUMENTS", 1_000_000))
+WORDS = [f"w{number}" for number in range(300)]
+
+
+def setUpModule():
+    global KEEP, FOLDER, MACHINES, CLIENT
+    KEEP = tempfile.TemporaryDirectory()
+    FOLDER = pathlib.Path(KEEP.name)
+    MACHINES = machines.Machines(FOLDER)
+    CLIENT = MACHINES.client
+
+
+def tearDownModule():
+    MACHINES.close()
+    KEEP.cleanup()
+
+
+def cluster(sources, **settings):
+    return Cluster(CLIENT, SCHEMA, sources, progress=False, **settings)
+
+
+def written(name, lines):
+    """A file of these lines."""
+    path = FOLDER / name
+    path.write_bytes(b"".join(line + b"\n" for line in lines))
+    return str(path)
+
+
+def line(command):
+    return json.dumps(command).encode()
+
+
+@contextlib.contextmanager
+def killing(count, states):
+    """Kills workers in the middle of what is done meanwhile, and then starts others."""
+    over = threading.Event()
+    with ThreadPoolExecutor(1) as thread:
+        killed = thread.submit(MACHINES.kill_soon, count, states, over.is_set)
+        try:
+            yield
+        finally:
+            over.set()
+    MACHINES.four()
+    assert killed.result() == count, "it was over before"
+
+
+def made(first, last):
+    """Documents that are the same each time. No two have one price."""
+    chance = random.Random(first)
+    for number in range(first, last):
+        title = " ".join(chance.choices(WORDS, k=4))
+        yield {"title": title, "tag": f"t{number % 997}", "price": number, "temp": number % 101 - 50}
+
+
+def made_in_turn(firsts, step):
+    for first in firsts:
+        yield from made(first, first + step)
+
+
+def source(first, last):
+    return Documents(f"{first}", functools.partial(made, first, last))
+
+
+def searches(seed):
+    """Searches of each kind, those of a random script among them."""
+    chance = random.Random(seed)
+    asked = [random_scripts.search(chance)["search"] for _ in range(6)]
+    asked.append({"query": "*", "groups": "tag", "top": {"by": "temp", "k": 5, "order": "falling"}})
+    return asked
+
+
+def without(search, *names):
+    return line({"search": {name: value for name, value in search.items() if name not in names}})
+
+
+class Exact(unittest.TestCase):
+    def setUp(self):
+        MACHINES.four()
+
+    def compare(self, one, many, asked):
+        """Counts, groups and refusals are one index's to the byte; top lists have its values."""
+        lines = [without(search, "top") for search in asked] + [line({"search": search}) for search in asked]
+        with one.searcher() as searcher:
+            of_one = [searcher.execute(each) for each in lines]
+        of_many = many._channel.ask_each(lines, None)
+        self.assertEqual(of_many[:len(asked)], of_one[:len(asked)])
+        for mine, theirs in zip(map(json.loads, of_many[len(asked):]), map(json.loads, of_one[len(asked):])):
+            values = [hit["value"] for hit in theirs.get("top", [])]
+            self.assertEqual([hit["value"] for hit in mine.get("top", [])], values)
+            if len(set(values)) == len(values) and values:
+                # The last may be one of several with its value.
+                documents = [[hit["doc"] for hit in reply["top"]][:-1] for reply in (mine, theirs)]
+                self.assertEqual(documents[0], documents[1])
+
+    def test_random_cuttings(self):
+        """The documents of random scripts, cut anyhow into files and functions."""
+        compared = 0
+        for seed in range(CUTTINGS):
+            chance = random.Random(seed)
+            commands = [random_scripts.document(chance) for _ in range(chance.randrange(60))]
+            parts = [[] for _ in range(chance.randint(1, 5))]
+            for document in commands:
+                chance.choice(parts).append(document)
+            sources = [self.source(f"{seed}.{place}", part, chance.randrange(3)) for place, part in enumerate(parts)]
+            with dilforec.Index(*SCHEMA) as one, cluster(sources) as many:
+                for document in commands:
+                    one.add(document)
+                one.commit()
+                self.compare(one, many, searches(seed))
+                self.assertEqual(sum(count.documents for count in many.counts().values()), len(commands))
+            compared += 1
+        print(f"cluster: {compared} random cuttings compared")
+
+    def source(self, name, documents, kind):
+        if kind == 0:
+            return Documents(name, functools.partial(list, documents))
+        if kind == 1:
+            return JsonLines(written(name, map(line, documents)))
+        return Script(written(name, [line({"add": document}) for document in documents]))
+
+    def test_a_million(self):
+        """Many documents over 8 partitions; workers are killed while they are searched, and then two at once."""
+        step = DOCUMENTS // 8
+        asked = [
+            {"query": "w1"}, {"query": "+w1 +w2", "groups": "tag"}, {"query": "temp:[-3 TO 3] w7", "groups": "temp"},
+            {"query": "w5", "top": {"by": "price", "k": 50, "order": "falling"}},
+            {"query": "*", "groups": "temp", "top": {"by": "price", "k": 3, "order": "rising"}},
+        ]
+        began = time.monotonic()
+        with cluster(source(first, first + step) for first in range(0, 8 * step, step)) as many:
+            built = time.monotonic() - began
+            with dilforec.Index(*SCHEMA) as one:
+                for first in range(0, 8 * step, step):
+                    one.add_many(made(first, first + step))
+                    one.commit()
+                self.compare(one, many, asked)
+                for count in 1, 2:
+                    with killing(count, "has_what"):
+                        for _ in range(4):
+                            self.compare(one, many, asked)
+        print(f"cluster: {8 * step:,} documents in 8 partitions, built in {built:.1f} s; right while workers died")
+
+    def test_killed_while_building(self):
+        """Workers that die while they make partitions."""
+        step = DOCUMENTS // 50
+        firsts = range(0, 8 * step, step)
+        with dilforec.Index(*SCHEMA) as one:
+            one.add_many(made_in_turn(firsts, step))
+            one.commit()
+            for count in 1, 2:
+                with killing(count, "processing"), cluster(source(first, first + step) for first in firsts) as many:
+                    self.compare(one, many, [{"query": "w1", "groups": "tag"}, {"query": "*"}])
+
+    def test_deadly(self):
+        """A source that ends every worker that reads it: Dask gives up, and says so."""
+        CLIENT.run_on_scheduler(_allow, 1)
+        try:
+            self.assertRaises(KilledWorker, cluster, [source(0, 10), Documents("deadly", _die)])
+        finally:
+            CLIENT.run_on_scheduler(_allow, 10)
+
+
+def _allow(failures, dask_scheduler):
+    dask_scheduler.allowed_failures = failures
+
+
+def _die():
+    os.kill(os.getpid(), signal.SIGKILL)
+
+
+class Sources(unittest.TestCase):
+    def setUp(self):
+        MACHINES.four()
+
+    def test_refused_lines(self):
+        """A refused line is skipped, counted and listed with its source and line; a strict cluster raises."""
+        lines = [b'{"title":"a"}', b"", b"nonsense", b'{"colour":1}', b'{"price":1},"add":{"price":2}',
+                 b'{"title":"\\u0061"}', b'{"price":1}}', b'"' + b"x" * 4_194_305 + b'"', b'{"price":7}']
+        path = written("refused.jsonl", lines)
+        names = [(3, "BadJson"), (4, "UnknownField"), (5, "BadJson"), (7, "BadJson"), (8, "LineTooLong")]
+        with cluster([path]) as many:
+            self.assertEqual(many.refused(), [Refusal(path, number, name) for number, name in sorted(names)])
+            self.assertEqual(many.counts(), {path: (3, 5)})
+            self.assertEqual(many.search("*").count, 3)
+        with self.assertRaises(SourceRefused) as raised:
+            cluster([path], strict=True)
+        self.assertEqual(raised.exception.refusal, Refusal(path, 3, "BadJson"))
+        self.assertIn("line 3: BadJson", str(raised.exception))
+        with cluster([Documents("given", lambda: [{"colour": 1}, {"title": "\ud800"}, {"title": "b"}])]) as many:
+            self.assertEqual(many.refused(), [Refusal("given", 1, "UnknownField"), Refusal("given", 2, "BadJson")])
+
+    def test_many_refused(self):
+        with cluster([written("many.jsonl", [b"{"] * 1_500 + [b"{}"])]) as many:
+            self.assertEqual((len(many.refused()), [*many.counts().values()]), (1_000, [(1, 1_500)]))
+
+    def test_scripts(self):
+        """A delete reaches its own source alone; a rollback, and the schema of a script, are its own too."""
+        schema = {"schema": [{"name": field.name, "kind": field.kind, "default": field.default} for field in SCHEMA]}
+        script = [schema, {"add": {"title": "a", "price": 1}}, {"add": {"title": "b", "price": 2}},
+                  {"delete": {"title": "a"}}, {"commit": True}, {"add": {"title": "c"}}, {"rollback": True},
+                  {"search": {"query": "*"}}, {"add": {"title": "d"}}]
+        other = [{"add": {"title": "a", "price": 3}}, {"schema": schema["schema"][:2]}]
+        paths = [written("one.script", map(line, script)), written("two.script", map(line, other))]
+        with cluster(map(Script, paths)) as many:
+            self.assertEqual([count.documents for count in many.counts().values()], [2, 1])
+            self.assertEqual([many.search(word).count for word in "abcd"], [1, 1, 0, 1])
+            self.assertEqual(many.refused(), [Refusal(paths[1], 2, "SchemaTwice")])
+
+    def test_hits(self):
+        """Hits have their source; equal values come by source, then stamp; chosen fields, several groups, all hits."""
+        found = {name: [{"title": f"x {name}", "price": number // 2} for number in range(4)] for name in "ba"}
+        sources = [Documents(name, functools.partial(list, documents)) for name, documents in found.items()]
+        with cluster(sources) as many:
+            first = dilforec.Top("price", 3, "falling")
+            answer = many.search("x", groups=["price", "tag"], top=first, fields=["price"])
+            self.assertEqual((answer.count, answer.groups), (8, {"price": {0: 4, 1: 4}, "tag": {}}))
+            self.assertEqual([(hit.source, hit.stamp, hit.document) for hit in answer],
+                             [("b", 3, {"price": 1}), ("b", 4, {"price": 1}), ("a", 3, {"price": 1})])
+            self.assertEqual(many.search("x", groups="price").groups, {0: 4, 1: 4})
+            every = [(hit.value, hit.source, hit.stamp) for hit in many.hits("x", "price", page=5)]
+            self.assertEqual(every, [(value, name, 2 * value + n) for value in (0, 1) for name in "ba" for n in (1, 2)])
+            self.assertEqual(len(many), 8)
+
+    def test_errors(self):
+        """Each refusal of a search is the exception that an index raises."""
+        with cluster([Documents("a", list)]) as many:
+            for refusal, call in [
+                (dilforec.Syntax, lambda: many.search("rust OR")), (dilforec.AllNegative, lambda: many.search("-rust")),
+                (dilforec.UnknownField, lambda: many.search("x", groups="colour")),
+                (dilforec.BadLimit, lambda: many.search("x", top=dilforec.Top("price", 0))),
+                (dilforec.UnknownField, lambda: many.search("x", top=dilforec.Top("price", 1), fields=["colour"])),
+            ]:
+                self.assertRaises(refusal, call)
+            self.assertEqual(json.loads(many.execute('{"add":{}}')), {"error": "BadCommand", "line": 1})
+            self.assertRaises(FileNotFoundError, many.add_source, FOLDER / "none.jsonl")
+            self.assertRaises(KeyError, many.drop_source, "b")
+            self.assertEqual(many.search("*").count, 0)
+        self.assertRaises(dilforec.Closed, many.search, "*")
+        self.assertRaises(ValueError, cluster, [Documents("a", list), Documents("a", list)])
+        with cluster([]) as none:
+            self.assertRaises(ValueError, none.search, "*")
+        with self.assertRaises(dilforec.BadName):
+            Cluster(CLIENT, [dilforec.text("AND")], [Documents("a", list)], progress=False)
+
+    def test_progress(self):
+        """Dask's bar is on a terminal alone."""
+        for terminal in True, False:
+            with io.StringIO() as out, contextlib.redirect_stdout(out):
+                out.isatty = lambda: terminal  # noqa: B023
+                Cluster(CLIENT, SCHEMA, [source(0, 10)]).close()
+                self.assertEqual(bool(out.getvalue()), terminal)
+
+    def test_added_and_dropped(self):
+        """A new source, and one that goes, touch no other partition."""
+        with cluster([source(0, 10), source(10, 20)]) as many:
+            kept = {name: part.future.key for name, part in many._channel.parts.items()}
+            many.add_source(source(20, 25))
+            self.assertEqual((many.search("*").count, list(many.counts())), (25, ["0", "10", "20"]))
+            many.drop_source("10")
+            self.assertEqual((many.search("*").count, list(many.counts())), (15, ["0", "20"]))
+            self.assertEqual(many._channel.parts["0"].future.key, kept["0"])
+            deadline = time.monotonic() + 10
+            while kept["10"] in CLIENT.who_has() and time.monotonic() < deadline:
+                time.sleep(0.05)
+            self.assertNotIn(kept["10"], CLIENT.who_has())
+
+
+class Lost(unittest.TestCase):
+    def setUp(self):
+        MACHINES.four()
+
+    def kill_all(self):
+        """Kills every worker that has a partition."""
+        MACHINES.kill(MACHINES.with_partitions("has_what"))
+        MACHINES.four()
+
+    def test_changed_file(self):
+        """A file that isn't what it was: SourceChanged, again and again, until it is added again or dropped."""
+        path = written("day.jsonl", [b'{"title":"a"}', b'{"title":"b"}'])
+        with cluster([path, source(0, 10)]) as many:
+            self.kill_all()
+            self.assertEqual(many.search("*").count, 12)
+            for change in (lambda: written("day.jsonl", [b'{"title":"a"}', b'{"title":"c"}']), lambda: os.unlink(path)):
+                change()
+                self.kill_all()
+                for _ in range(2):
+                    with self.assertRaises(SourceChanged) as raised:
+                        many.search("*")
+                    self.assertEqual(raised.exception.source, path)
+                written("day.jsonl", [b'{"title":"new"}'])
+                many.add_source(path)
+                self.assertEqual((many.search("*").count, list(many.counts())), (11, [path, "0"]))
+            os.unlink(path)
+            self.kill_all()
+            self.assertRaises(SourceChanged, many.search, "*")
+            many.drop_source(path)
+            self.assertEqual(many.search("*").count, 10)
+
+    def test_unfaithful_function(self):
+        """A function that gives other documents the second time."""
+        with cluster([Documents("clock", lambda: [{"price": time.monotonic_ns()}])]) as many:
+            self.assertEqual(many.search("*").count, 1)
+            self.kill_all()
+            self.assertRaises(SourceChanged, many.search, "*")
+
+    def test_moved(self):
+        """A partition that Dask copies to other workers goes as its source, and is made there at its first search."""
+        with cluster([source(0, 20_000)]) as many:
+            (part,) = many._channel.parts.values()
+            size = CLIENT.run_on_scheduler(_size_known, part.future.key)
+            self.assertGreater(size, 20_000 * 50)
+            CLIENT.replicate([part.future], n=4)
+            self.assertEqual(len(CLIENT.who_has([part.future])[part.future.key]), 4)
+            lengths = CLIENT.run(_pickled_length, part.future.key)
+            self.assertTrue(all(length < 2_000 for length in lengths.values()), lengths)
+            for _ in range(8):
+                self.assertEqual(many.search("*", groups="tag").count, 20_000)
+
+
+def _size_known(key, dask_scheduler):
+    return dask_scheduler.tasks[key].nbytes
+
+
+def _pickled_length(key, dask_worker):
+    return len(pickle.dumps(dask_worker.data[key]))
+
+
+if __name__ == "__main__":
+    unittest.main()

@@ -1,0 +1,82 @@
+"""Joined answers beside what a plain look at all documents gives. It needs nothing of the library."""
+import doctest
+import json
+import random
+import subprocess
+import sys
+import unittest
+
+from dilforec import joins
+
+KEYWORDS = ["", "a", "A", "é", "～", "😀", "\uffff", "\U00010000", "a\x00", 'a"b']
+
+
+def documents(chance, count):
+    """(stamp, group, value) of some documents; values are few, so that many are equal."""
+    numbers = chance.random() < 0.5
+    return [
+        (stamp, chance.choice([0, 1, 9, 10, 2**64 - 1] if numbers else KEYWORDS), chance.randrange(-2, 3) * 2**61)
+        for stamp in range(1, count + 1)
+    ]
+
+
+def reply(found, k, order):
+    """The reply of an index that has these documents."""
+    sign = -1 if order == "falling" else 1
+    def order_of(group):
+        return group if isinstance(group, int) else group.encode()
+
+    groups = sorted({group for _, group, _ in found}, key=order_of)
+    first = sorted(found, key=lambda document: (sign * document[2], document[0]))[:k]
+    return {
+        "count": len(found),
+        "groups": [[group, sum(other == group for _, other, _ in found)] for group in groups],
+        "top": [{"doc": {}, "stamp": stamp, "value": value} for stamp, _, value in first],
+    }
+
+
+class Joins(unittest.TestCase):
+    def test_cuttings(self):
+        """For each cutting the count and the groups are those of one index to the byte, and so are the values."""
+        for seed in range(500):
+            chance = random.Random(seed)
+            k, order = chance.randint(1, 12), chance.choice(["rising", "falling"])
+            every = documents(chance, chance.randrange(30))
+            parts = [[] for _ in range(chance.randint(1, 5))]
+            for document in every:
+                chance.choice(parts).append(document)
+            search = {"query": "*", "groups": "g", "top": {"by": "v", "k": k, "order": order}}
+            replies = [reply(part, k, order) for part in parts]
+            one = reply(every, k, order)
+            joined = joins.answer(search, replies, [{"part": number} for number in range(len(parts))])
+            for name in "count", "groups":
+                self.assertEqual(joins.encoded({name: joined[name]}), joins.encoded({name: one[name]}))
+            self.assertEqual([hit["value"] for hit in joined["top"]], [hit["value"] for hit in one["top"]])
+            sign = -1 if order == "falling" else 1
+            order_of = [(sign * hit["value"], hit["part"], hit["stamp"]) for hit in joined["top"]]
+            self.assertEqual(order_of, sorted(order_of))
+            self.assertEqual(replies, [reply(part, k, order) for part in parts], "what is joined stays as it is")
+
+    def test_only_what_was_asked(self):
+        replies = [{"count": 1}, {"count": 2}]
+        self.assertEqual(joins.answer({"query": "*"}, replies), {"count": 3})
+
+    def test_bytes(self):
+        """Texts are escaped as the index does, which is as RFC 8259 has it at least."""
+        text = "".join(map(chr, range(0x20))) + '"\\/\x7f\u2028é😀'
+        encoded = joins.encoded({"b": text, "a": [1, -1]})
+        self.assertEqual(json.loads(encoded), {"a": [1, -1], "b": text})
+        self.assertTrue(encoded.startswith(b'{"a":[1,-1],"b":"\\u0000\\u0001'), encoded)
+        self.assertTrue(encoded.endswith('\\"\\\\/\x7f\u2028é😀"}\n'.encode()), encoded)
+
+    def test_examples(self):
+        self.assertEqual(doctest.testmod(joins).failed, 0)
+
+    def test_without_the_library(self):
+        """The module, and the package, are there without the shared object."""
+        code = "import sys, dilforec.joins; sys.exit('ctypes' in sys.modules or 'dilforec.library' in sys.modules)"
+        self.assertEqual(subprocess.run([sys.executable, "-c", code]).returncode, 0)
+
+
+if __name__ == "__main__":
+    unittest.main()

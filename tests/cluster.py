@@ -1,0 +1,204 @@
+#!/usr/bin/env python3
+"""Tests `dilforec.cluster` over four Dask workers on this machine, and the joins that it is made of.
+
+    python3 tests/cluster.py
+
+Link the shared object first: bindings/python/link.py. Dask's `distributed` may be that of another Python than the one
+that runs this: $DILFOREC_PYTHON, or the system's, for which Debian has python3-distributed. If none has it, it is
+installed from pip's index, if that can be reached; else what needs it is skipped, and counted as that. The last line is
+'N passed, M failed'.
+"""
+import contextlib
+import os
+import pathlib
+import re
+import shutil
+import signal
+import subprocess
+import sys
+import tempfile
+import time
+from typing import NamedTuple, Optional
+
+ROOT = pathlib.Path(__file__).resolve().parents[1]
+PACKAGE = ROOT / "bindings/python"
+SHARED = PACKAGE / "dilforec/libdilforec.so"
+OUT = ROOT / "bindings/out"
+
+passed = failed = skipped = 0
+
+
+class Done(NamedTuple):
+    status: Optional[int]
+    said: str
+
+
+def count(name, good, bad, words=""):
+    global passed, failed
+    passed, failed = passed + good, failed + bad
+    print(f"cluster: {name}: {f'{bad} FAILED' if bad else good}", flush=True)
+    if bad:
+        print(words, flush=True)
+
+
+def skip(name, why):
+    global skipped
+    skipped += 1
+    print(f"cluster: {name}: skipped, {why}", flush=True)
+
+
+def environment(*paths):
+    return {**os.environ, "PYTHONPATH": os.pathsep.join(map(str, paths)), "PYTHONDONTWRITEBYTECODE": "1"}
+
+
+def run(*words, seconds=240, **settings):
+    """The status of a command, None if it took too long, and what it printed. What it left running ends with it."""
+    with tempfile.TemporaryFile("w+") as said:
+        process = subprocess.Popen(words, stdin=subprocess.DEVNULL, stdout=said, stderr=subprocess.STDOUT,
+                                   start_new_session=True, **settings)
+        status = None
+        with contextlib.suppress(subprocess.TimeoutExpired):
+            status = process.wait(seconds)
+        with contextlib.suppress(ProcessLookupError):
+            os.killpg(process.pid, signal.SIGKILL)
+        process.wait()
+        said.seek(0)
+        return Done(status, said.read())
+
+
+def imports_distributed(python, *paths):
+    return bool(shutil.which(python)) and run(python, "-c", "import distributed", env=environment(*paths)).status == 0
+
+
+def with_distributed():
+    """A Python that has `distributed`, and the folders that it needs on its path; None if there is none."""
+    for python in (os.environ.get("DILFOREC_PYTHON"), sys.executable, "/usr/bin/python3"):
+        if python and imports_distributed(python):
+            return python, []
+    folder = OUT / "dask"
+    if not folder.is_dir():
+        pip = [sys.executable, "-m", "pip", "install", "--timeout", "5", "--retries", "0"]
+        run(*pip, "--target", folder, "distributed")
+    return (sys.executable, [folder]) if imports_distributed(sys.executable, folder) else None
+
+
+def unittests(name, python, *paths):
+    """Counts the tests of a module of bindings/python/tests; what they print goes on."""
+    done = run(python, "-m", "unittest", name, env=environment(PACKAGE, PACKAGE / "tests", *paths))
+    tests = int((re.search(r"Ran (\d+) test", done.said) or [0, 0])[1])
+    bad = len(re.findall(r"^(?:FAIL|ERROR): ", done.said, re.MULTILINE))
+    if done.status != 0 or not tests:
+        bad = max(bad, 1)
+    print("".join(line + "\n" for line in done.said.splitlines() if line.startswith("cluster: ")), end="")
+    count(name, max(tests - bad, 0), bad, done.said)
+
+
+# The example of docs/SCALE.md.
+
+LEVELS, MESSAGES = ("info", "warning", "error"), ("timeout of db", "started")
+
+
+def example(folder):
+    """Writes the page's program beside a folder of log files, and returns what it should print."""
+    page = (ROOT / "docs/SCALE.md").read_text()
+    blocks = re.findall(r"(?:^(?:    .*)?\n)+", page, re.MULTILINE)
+    (block,) = (block for block in blocks if "from dilforec.cluster import Cluster" in block)
+    program = re.sub("^    ", "", block, flags=re.MULTILINE).strip() + "\n"
+    (folder / "logs.py").write_text(program)
+    (folder / "logs").mkdir()
+    lines = []
+    for day in range(5):
+        of_day = [(day * 1000 + number, LEVELS[number % 3], MESSAGES[number % 2]) for number in range(60)]
+        lines += [(f"logs/{day}.jsonl", *line) for line in of_day]
+        (folder / f"logs/{day}.jsonl").write_text("".join(
+            f'{{"time":{when},"level":"{level}","message":"{message}-{when}"}}\n' for when, level, message in of_day))
+    found = [line for line in lines if line[3] == "timeout of db"]
+    levels = {level: sum(line[2] == level for line in found) for level in ("error", "info", "warning")}
+    newest = sorted(found, key=lambda line: -line[1])[:10]
+    told = [f"{path} {when} {message}-{when}\n" for path, when, _, message in newest]
+    return "".join([f"{len(found)} {levels}\n", *told])
+
+
+def runs_as_told(name, told, python, folder, env, *words):
+    done = run(python, "logs.py", *words, cwd=folder, env=env)
+    # Dask may have words of its own around it.
+    good = done.status == 0 and told in done.said
+    count(name, int(good), int(not good), done.said + "\nand not\n" + told)
+
+
+@contextlib.contextmanager
+def commands(python, folder, env):
+    """A scheduler and four workers, as the page starts them. Its address."""
+    file = folder / "scheduler.json"
+    both = ["--scheduler-file", file, "--no-dashboard"]
+    started = [["scheduler", "--port", "0", "--host", "127.0.0.1"], ["worker", "--nworkers", "4", "--nthreads", "1"]]
+    running = [subprocess.Popen([python, "-m", f"distributed.cli.dask_{kind}", *options, *both], cwd=folder, env=env,
+                                stdout=subprocess.DEVNULL, stderr=subprocess.DEVNULL, start_new_session=True)
+               for kind, *options in started]
+    try:
+        deadline = time.monotonic() + 30
+        while not file.exists() and time.monotonic() < deadline:
+            time.sleep(0.1)
+        yield re.search(r'"address": "([^"]*)"', file.read_text())[1]
+    finally:
+        for process in reversed(running):
+            process.send_signal(signal.SIGINT)
+        for process in running:
+            with contextlib.suppress(subprocess.TimeoutExpired):
+                process.wait(10)
+            with contextlib.suppress(ProcessLookupError):
+                os.killpg(process.pid, signal.SIGKILL)
+
+
+def the_example(python, paths):
+    env = environment(PACKAGE, *paths)
+    with tempfile.TemporaryDirectory() as name:
+        folder = pathlib.Path(name)
+        told = example(folder)
+        runs_as_told("the example with LocalCluster", told, python, folder, env)
+        with commands(python, folder, env) as address:
+            runs_as_told("the example with dask-scheduler and dask-worker", told, python, folder, env, address)
+
+
+def from_the_wheel(python, paths):
+    """The example with the package as a wheel installs it, with its extra, in a plain environment."""
+    with tempfile.TemporaryDirectory() as name:
+        folder = pathlib.Path(name)
+        told = example(folder)
+        pip = [sys.executable, "-m", "pip", "--disable-pip-version-check"]
+        done = run(*pip, "wheel", "--quiet", "--no-index", "--no-deps", "--no-build-isolation", "-w", folder, PACKAGE)
+        wheels = list(folder.glob("dilforec-*.whl"))
+        if done.status != 0 or len(wheels) != 1:
+            return count("the wheel", 0, 1, done.said)
+        run(python, "-m", "venv", "--without-pip", "--system-site-packages", folder / "plain")
+        plain = folder / "plain/bin/python"
+        env = environment(*paths)
+        done = run(*pip, "--python", plain, "install", "--quiet", "--no-index", f"{wheels[0]}[cluster]", env=env)
+        if done.status != 0:
+            return count("the wheel, installed", 0, 1, done.said)
+        runs_as_told("the example from the wheel", told, plain, folder, env)
+
+
+def main():
+    began = time.monotonic()
+    unittests("test_joins", sys.executable)
+    found = with_distributed()
+    if not SHARED.is_file():
+        count("the shared object", 0, 1, f"{SHARED} isn't there: bindings/python/link.py makes it")
+    elif found is None:
+        for name in ("test_cluster", "the example of docs/SCALE.md", "the example from the wheel"):
+            skip(name, "since no Python here has distributed")
+    else:
+        python, paths = found
+        unittests("test_cluster", python, *paths)
+        the_example(python, paths)
+        from_the_wheel(python, paths)
+    print(f"cluster: took {time.monotonic() - began:.0f} s")
+    if skipped:
+        print(f"{skipped} skipped")
+    print(f"{passed} passed, {failed} failed")
+    return 1 if failed else 0
+
+
+if __name__ == "__main__":
+    sys.exit(main())
