@@ -1,10 +1,12 @@
-"""Links the shared object that the package calls, by the C compiler, from two archives.
+"""Makes what other programs link: `libdilforec.a`, and the shared object that the package calls.
 
     python3 bindings/python/link.py
 
-`libfts_c.a` is what `rt lib` makes in crates/fts_c; the environment's FTS_ARCHIVE names another. `liblibc_c.a` comes
-with the kit: it lies in `c/` beside the folder of `rt`, or where FTS_LIBC_ARCHIVE says. CC is the compiler, `cc`
-without it.
+Both are made of two archives: `libfts_c.a`, which `rt lib` makes in crates/fts_c, and the kit's `liblibc_c.a`, in `c/`
+beside the folder of `rt`. The environment's DILFOREC_CRATE_ARCHIVE and DILFOREC_LIBC_ARCHIVE name others. CC, LD and
+OBJCOPY are the tools, `cc`, `ld` and `objcopy` without them.
+
+Others see the functions of dilforec.h alone, in the archive as in the shared object.
 """
 from __future__ import annotations
 
@@ -15,44 +17,84 @@ import subprocess
 import tempfile
 
 HERE = pathlib.Path(__file__).resolve().parent
-SHARED = HERE / "fts/libfts.so"
+OUT = HERE.parent / "out"
+ARCHIVE = OUT / "libdilforec.a"
+SHARED = HERE / "dilforec/libdilforec.so"
 
-# What others see of the shared object: the functions of fts.h.
-EXPORTS = "{ global: fts_*; local: *; };\n"
+# It changes with the interface; docs/EMBEDDING.md says when.
+SONAME = "libdilforec.so.0"
+EXPORTS = "{ global: dilforec_*; local: *; };\n"
 
 
 class NotBuilt(Exception):
-    """An archive that the shared object is made of isn't there."""
+    """An archive that the library is made of isn't there."""
 
 
 def archives() -> tuple[pathlib.Path, pathlib.Path]:
-    """The library's archive and the kit's."""
+    """The crate's archive and the kit's."""
     own = HERE.parents[1] / "crates/fts_c/out/libfts_c.a"
     kit = pathlib.Path(os.path.realpath(shutil.which("rt") or "rt")).parents[1] / "c/liblibc_c.a"
-    found = pathlib.Path(os.environ.get("FTS_ARCHIVE", own)), pathlib.Path(os.environ.get("FTS_LIBC_ARCHIVE", kit))
+    found = (
+        pathlib.Path(os.environ.get("DILFOREC_CRATE_ARCHIVE", own)),
+        pathlib.Path(os.environ.get("DILFOREC_LIBC_ARCHIVE", kit)),
+    )
     for path in found:
         if not path.is_file():
-            raise NotBuilt(f"{path} isn't there: run `rt lib` in crates/fts_c, with the kit on the PATH")
+            raise NotBuilt(f"{path} isn't there: run `make` at the top of the repository, with the kit on the PATH")
     return found
 
 
-def link() -> pathlib.Path:
-    """Makes the shared object within the package, and returns its path."""
+def archive(to: pathlib.Path = ARCHIVE) -> pathlib.Path:
+    """Makes one archive of both, with one object in it, and returns its path."""
     own, kit = archives()
+    with tempfile.TemporaryDirectory() as folder:
+        made = pathlib.Path(folder, "dilforec.o")
+        subprocess.run(
+            [os.environ.get("LD", "ld"), "-r", "-o", made, "--whole-archive", own, "--no-whole-archive", kit],
+            check=True,
+        )
+        subprocess.run(
+            [os.environ.get("OBJCOPY", "objcopy"), "--wildcard", "--keep-global-symbol=dilforec_*", made],
+            check=True,
+        )
+        packed = pathlib.Path(folder, to.name)
+        subprocess.run(["ar", "rcs", packed, made], check=True)
+        _replace(packed, to)
+    return to
+
+
+def shared(to: pathlib.Path = SHARED) -> pathlib.Path:
+    """Makes a shared object of both, and returns its path."""
     with tempfile.TemporaryDirectory() as folder:
         exports = pathlib.Path(folder, "exports")
         exports.write_text(EXPORTS)
-        made = pathlib.Path(folder, SHARED.name)
+        made = pathlib.Path(folder, to.name)
+        whole = archive(pathlib.Path(folder, ARCHIVE.name))
         subprocess.run(
-            [os.environ.get("CC", "cc"), "-shared", "-o", made, f"-Wl,--version-script={exports}",
-             "-Wl,--whole-archive", own, "-Wl,--no-whole-archive", kit],
+            [os.environ.get("CC", "cc"), "-shared", "-o", made, f"-Wl,-soname,{SONAME}",
+             f"-Wl,--version-script={exports}", "-Wl,--whole-archive", whole, "-Wl,--no-whole-archive"],
             check=True,
         )
-        # A program that has the old one open keeps it.
-        SHARED.unlink(missing_ok=True)
-        shutil.copy(made, SHARED)
-    return SHARED
+        _replace(made, to)
+    return to
+
+
+def _replace(made: pathlib.Path, to: pathlib.Path) -> None:
+    # A program that has the old one open keeps it.
+    to.parent.mkdir(parents=True, exist_ok=True)
+    to.unlink(missing_ok=True)
+    shutil.copy(made, to)
+
+
+def link() -> None:
+    """Makes both where they belong: the archive in bindings/out, the shared object there and within the package."""
+    archive()
+    shared()
+    _replace(SHARED, OUT / SONAME)
+    (OUT / SHARED.name).unlink(missing_ok=True)
+    (OUT / SHARED.name).symlink_to(SONAME)
 
 
 if __name__ == "__main__":
-    print(link())
+    link()
+    print(ARCHIVE, OUT / SONAME, SHARED, sep="\n")

@@ -1,40 +1,102 @@
-"""Refuses each growth of the library in turn, under bindings/refuse.c: LD_PRELOAD names it, as it is built.
+"""Refuses each growth in turn, under bindings/refuse.c: LD_PRELOAD names it, as it is built.
 
 A call that is refused raises MemoryError and changes nothing, so the same call, made again, gives what it would have.
+`add_many` tells which documents were done, and goes on after them.
 """
 import ctypes
 import pathlib
 import unittest
 
-import fts
+import dilforec
 
 EXAMPLES = pathlib.Path(__file__).resolve().parents[3] / "examples"
 REFUSE = ctypes.CDLL(None).refuse_growth
 REFUSE.argtypes, REFUSE.restype = [ctypes.c_long, ctypes.c_char_p], ctypes.c_long
+FIELDS = (dilforec.text("title", default=True), dilforec.u64("year"))
+DOCUMENTS = 200
 
 
 class Memory(unittest.TestCase):
     refusals = 0
 
-    def again(self, call):
+    @classmethod
+    def tearDownClass(cls):
+        print(f"{cls.refusals} refusals")
+
+    def again(self, call, asker=b"libdilforec"):
         """What a call gives once it is granted all growths: the first time none, then one, then two and so on."""
         for growth in range(1, 1_000_000):
-            REFUSE(growth, b"libfts")
+            REFUSE(growth, asker)
             try:
                 return call()
-            except MemoryError:
-                self.refusals += 1
+            except MemoryError as error:
+                if isinstance(error, dilforec.Unfinished):
+                    raise
+                type(self).refusals += 1
             finally:
                 REFUSE(0, None)
 
     def test_scripts(self):
         for name in ("groups", "ties", "shelves"):
-            self.refusals = 0
+            before = self.refusals
             script = (EXAMPLES / f"{name}.jsonl").read_bytes().split(b"\n")
-            with self.subTest(name), self.again(fts.Index) as index:
+            with self.subTest(name), self.again(dilforec.Index) as index:
                 told = [self.again(lambda: index.execute(line)) for line in script]  # noqa: B023
                 self.assertEqual(b"".join(told), (EXAMPLES / f"{name}.replies.jsonl").read_bytes())
-                self.assertGreater(self.refusals, 5)
+                self.assertGreater(self.refusals, before + 5)
+
+    def test_documents_are_added_once(self):
+        """Growths of the library and of Python are refused, and each document is there once."""
+        for asker in b"libdilforec", None:
+            with dilforec.Index(*FIELDS) as index:
+                for number in range(DOCUMENTS):
+                    document = {"title": f"rust {number}", "year": number}
+                    self.again(lambda: index.add(document), asker)  # noqa: B023
+                self.again(index.commit, asker)
+                self.assertEqual((len(index), index.commit()), (DOCUMENTS, DOCUMENTS + 2))
+
+    def test_documents_are_replaced_once(self):
+        with dilforec.Index(*FIELDS) as index:
+            index.add({"title": "rust", "year": 7})
+            for number in range(DOCUMENTS):
+                document = {"title": f"rust {number}", "year": 7}
+                stamp = self.again(lambda: index.replace("year", 7, document))  # noqa: B023
+                self.assertEqual(stamp, 2 * number + 3)
+            index.commit()
+            self.assertEqual((len(index), index.search(f"{DOCUMENTS - 1}").count), (1, 1))
+
+    def test_many_are_added_once(self):
+        """Each growth of a block is refused in turn; what was done is told, and isn't done twice."""
+        for asker in b"libdilforec", None:
+            with dilforec.Index(*FIELDS) as index:
+                documents = [{"title": f"rust {number}", "year": number} for number in range(DOCUMENTS)]
+                stamps, growth = [], 1
+                while len(stamps) < DOCUMENTS:
+                    REFUSE(growth, asker)
+                    try:
+                        more = index.add_many(documents[len(stamps):])
+                    except dilforec.Unfinished as error:
+                        more = error.stamps
+                        type(self).refusals += 1
+                    except MemoryError:
+                        more = []
+                        type(self).refusals += 1
+                    finally:
+                        REFUSE(0, None)
+                    stamps += more
+                    growth = 1 if more else growth + 1
+                self.assertEqual(stamps, list(range(1, DOCUMENTS + 1)))
+                index.commit()
+                self.assertEqual(len(index), DOCUMENTS)
+
+    def test_large_replies(self):
+        """A reply that finds no room is asked for again."""
+        with dilforec.Index(*FIELDS) as index:
+            index.add({"title": "rust " * 100_000, "year": 1})
+            index.commit()
+            for asker in b"libdilforec", None:
+                answer = self.again(lambda: index.search("rust", top=dilforec.Top("year", 1)), asker)
+                self.assertEqual(len(answer.hits[0].document["title"]), 500_000)
 
 
 if __name__ == "__main__":

@@ -1,0 +1,399 @@
+"""An index, by the commands of a script."""
+from __future__ import annotations
+
+import contextlib
+import json
+import re
+from collections.abc import Iterable, Iterator, Mapping, Sequence
+from typing import Any, Callable, Optional, TypeVar, Union, cast, overload
+
+from dilforec import sentences
+from dilforec.library import LINE_TOO_LONG, MEMORY, OK, Asking, Channel, Closed, fault
+from dilforec.refusals import LineTooLong, Refused, SomeRefused, TooDeep, TooLong, Unfinished, refused
+from dilforec.values import Answer, Field, Groups, Hit, Order, Top, as_json
+
+S = TypeVar("S", bound="Searching")
+
+# What isn't ASCII goes as UTF-8: the escapes of JSON would be up to six times as long.
+ENCODE: Callable[[Any], str] = json.JSONEncoder(
+    ensure_ascii=False, check_circular=False, separators=(",", ":")
+).encode
+
+LONGEST_LINE = 4_194_304
+LONGEST_QUERY = 4096
+# What `hits` puts around a query, and the longest range that it adds.
+AROUND = len("+() +:>=-9223372036854775808")
+BLOCK_LINES, BLOCK_BYTES = 1000, 1 << 20
+REPLY = re.compile(rb'\{"(?:stamp":([0-9]+)|error":"([A-Za-z]+)","line":([0-9]+))\}\n')
+
+
+def to_line(command: Any) -> bytes:
+    """A value as JSON. A lone surrogate is no UTF-8, which is the index's to refuse."""
+    return ENCODE(command).encode("utf-8", "surrogatepass")
+
+
+class Searching:
+    """What an index and its searchers have in common. One thread is in each at a time; others wait."""
+
+    _channel: Asking
+    _schema: tuple[Field, ...]
+
+    def __enter__(self: S) -> S:
+        return self
+
+    @property
+    def schema(self) -> tuple[Field, ...]:
+        """The fields, in their order; none before a schema is set."""
+        return self._schema
+
+    def __len__(self) -> int:
+        """How many documents the last commit has."""
+        return self.search("*").count
+
+    def __bool__(self) -> bool:
+        # An index without documents is one all the same.
+        return True
+
+    def __repr__(self) -> str:
+        fields = ", ".join(f"{field.name}: {field.kind}" for field in self._schema)
+        state = "" if self._channel.is_open else ", closed"
+        return f"<dilforec.{type(self).__name__} of ({fields}){state}>"
+
+    def execute(self, line: Union[str, bytes, bytearray, memoryview]) -> bytes:
+        """The reply to a line of a script, with its LF; nothing to a blank line. A refusal is a reply here.
+
+        LineTooLong if the line has more than 4,194,304 bytes.
+        """
+        if isinstance(line, str):
+            line = line.encode("utf-8", "surrogatepass")
+        elif not isinstance(line, (bytes, bytearray, memoryview)):
+            raise TypeError(f"a line is a str or bytes, not {type(line).__name__}")
+        return self._channel.ask(bytes(line))
+
+    @overload
+    def search(self, query: str, *, groups: Optional[str] = None, top: Optional[Top] = None,
+               fields: Optional[Sequence[str]] = None) -> Answer[Groups]: ...
+
+    @overload
+    def search(self, query: str, *, groups: Union[list[str], tuple[str, ...]], top: Optional[Top] = None,
+               fields: Optional[Sequence[str]] = None) -> Answer[dict[str, Groups]]: ...
+
+    def search(self, query: str, *, groups: Union[str, list[str], tuple[str, ...], None] = None,
+               top: Optional[Top] = None, fields: Optional[Sequence[str]] = None) -> Answer[Any]:
+        """How many documents a query finds, how many of each value of a field, and the first of them by another.
+
+        The hits of an answer are those of `top`: without it there are none. `groups` is the name of a keyword or number
+        field, or a list of names: then `answer.groups` has a dict for each, of one commit. `fields` names the fields
+        that the documents of the hits are to have; without it they are whole, which takes time if texts are long.
+
+        TypeError if the query isn't a str; Refused if the index refuses it, as Syntax or UnknownField.
+        """
+        _expect(query, str, "a query is a str")
+        _expect(groups, (str, list, tuple, type(None)), "groups are by the name of a field, or a list of names")
+        _expect(top, (Top, type(None)), "a top list is a dilforec.Top")
+        by = [groups] if isinstance(groups, str) else list(groups or [])
+        names = None if fields is None else _names(fields)
+        search: dict[str, Any] = {"query": query}
+        # The first search has the top list, and each has the groups of one field.
+        asked: list[dict[str, Any]] = [{**search, "groups": field} for field in by] or [search]
+        if top is not None:
+            asked[0]["top"] = as_json(top)
+        lines = [to_line({"search": each}) for each in asked]
+        if len(lines) == 1 and names is None:
+            told = [self._channel.ask(lines[0])]
+        else:
+            told = self._channel.ask_each(lines, names)
+        replies = [json.loads(reply.decode()) for reply in told]
+        for reply in replies:
+            if "error" in reply:
+                raise self._refused_search(reply["error"], reply["line"], query, by, top, list(fields or []))
+        counted = [{value: count for value, count in reply.get("groups", [])} for reply in replies]
+        hits = tuple(Hit(hit["value"], hit["stamp"], hit["doc"], hit.get("source")) for hit in replies[0].get("top", []))
+        is_list = groups is not None and not isinstance(groups, str)
+        return Answer(replies[0]["count"], dict(zip(by, counted)) if is_list else counted[0], hits)
+
+    def _refused_search(self, name: str, line: int, query: str, groups: Sequence[str], top: Optional[Top],
+                        fields: Sequence[str]) -> Refused:
+        return refused(name, line, sentences.of_search(name, self._schema, query, groups, top, fields))
+
+    def hits(self, query: str, by: str, *, order: Order = "rising", page: int = 10_000,
+             fields: Optional[Sequence[str]] = None) -> Iterator[Hit]:
+        """All documents that a query finds and that have a value in `by`, a number field, in the order of these values.
+
+        They are asked for a page at a time, each page from the last value of the one before, so ValueError is raised
+        if all documents of a page have the same value. A commit to the index between two pages shows in the later one.
+        `fields` is that of `search`.
+
+        A range is added to the query, so it may be some 60 bytes shorter than others, and nest 31 deep (32 if all of it
+        is in one pair of parentheses); TooLong or TooDeep is raised at once if it isn't.
+        """
+        _expect(query, str, "a query is a str")
+        whole = query if sentences.is_group(query) else f"({query})"
+        longest = LONGEST_QUERY - AROUND - len(by)
+        if sentences.size(query) > longest:
+            raise TooLong("TooLong", None, "no room is left for the range that a page adds: the query has "
+                          f"{sentences.size(query):,} bytes, and {longest:,} are the most")
+        if sentences.depth(whole) > sentences.DEEPEST:
+            raise TooDeep("TooDeep", None, "a page puts the query into parentheses, so its own may nest 31 deep")
+        return self._pages(query, whole, Top(by, page, order), fields)
+
+    def _pages(self, query: str, whole: str, top: Top, fields: Optional[Sequence[str]]) -> Iterator[Hit]:
+        last: Optional[Hit] = None
+        # Hits of the last value, by what names their documents: the next page begins with them.
+        told: set[tuple[Optional[str], int]] = set()
+        while True:
+            since = "" if last is None else f"{'>=' if top.order == 'rising' else '<='}{last.value}"
+            asked = query if last is None else f"+{whole} +{top.by}:{since}"
+            found = self.search(asked, top=top, fields=fields).hits
+            fresh = [hit for hit in found if not (last and hit.value == last.value and (hit.source, hit.stamp) in told)]
+            yield from fresh
+            if len(found) < top.k:
+                return
+            if not fresh:
+                raise ValueError(f"{top.k} documents or more have {found[-1].value} in {top.by}")
+            last = found[-1]
+            told = {(hit.source, hit.stamp) for hit in found if hit.value == last.value}
+
+    def searcher(self) -> Searcher:
+        """A searcher of the last commit, or another one of a searcher's."""
+        return Searcher(self._channel.searcher(), self._schema)
+
+    def close(self) -> None:
+        """Gives back what it holds. Later calls raise Closed, except `close`."""
+        self._channel.close()
+
+    def __exit__(self, *_: object) -> None:
+        self.close()
+
+
+class Index(Searching):
+    """An index in memory. It may be used from several threads, of which one is in it at a time.
+
+        with dilforec.Index(dilforec.text("title", default=True), dilforec.u64("year")) as index:
+            with index.transaction():
+                index.add({"title": "Programming Pearls", "year": 1986})
+            print(index.search("pearls").count)
+    """
+
+    _channel: Channel
+
+    def __init__(self, *fields: Field) -> None:
+        """Opens an index. Without fields it has no schema, and takes one by `execute`."""
+        for field in fields:
+            _expect(field, Field, "a field is made by dilforec.text, keyword, u64 or i64")
+        self._schema = ()
+        self._channel = Channel()
+        if fields:
+            reply = self._channel.ask(to_line({"schema": [as_json(field) for field in fields]}))
+            if not reply.startswith(b'{"fields"'):
+                self._channel.close()
+                raise self._refused(reply)
+            self._schema = fields
+
+    def execute(self, line: Union[str, bytes, bytearray, memoryview]) -> bytes:
+        """As `Searching.execute`; a schema that is set so is the schema of the index."""
+        reply = super().execute(line)
+        if reply.startswith(b'{"fields"'):
+            text = line if isinstance(line, str) else bytes(line).decode()
+            self._schema = tuple(Field(field["name"], field["kind"], field.get("default", False))
+                                 for field in json.loads(text)["schema"])
+        return reply
+
+    def _refused(self, reply: bytes, document: Optional[Mapping[str, Any]] = None) -> Refused:
+        told = json.loads(reply.decode())
+        name: str = told["error"]
+        return refused(name, told["line"], sentences.of_document(name, self._schema, document or {}))
+
+    def _stamp(self, reply: bytes, key: bytes, document: Optional[Mapping[str, Any]] = None) -> int:
+        """The number of a reply of one member."""
+        if reply.startswith(key):
+            return int(reply[len(key):-2])
+        raise self._refused(reply, document)
+
+    def add(self, document: Mapping[str, Any]) -> int:
+        """Adds a document, and returns its stamp. Searches see it after the next commit.
+
+        Refused if it doesn't fit the schema, as UnknownField or WrongKind, or if 1,000,000 operations are uncommitted.
+        """
+        return self._stamp(self._channel.ask(_add(document)), b'{"stamp":', document)
+
+    def add_many(self, documents: Iterable[Mapping[str, Any]]) -> list[int]:
+        """Adds documents, and returns their stamps. It takes less time than an `add` for each.
+
+        A refused document doesn't stop the others: SomeRefused, at the end, has each one's number and why, and the
+        stamps of the others. Unfinished, a MemoryError, if memory runs out: it tells which documents were done. An
+        exception that the iterable raises is passed on, after the documents that it gave before are added.
+        """
+        adding = _Adding(self._channel, self._schema)
+        try:
+            for document in documents:
+                adding.take(document)
+        except MemoryError:
+            adding.flush()
+            raise adding.unfinished() from None
+        except BaseException:
+            adding.flush()
+            raise
+        adding.flush()
+        return adding.stamps_of_all()
+
+    def replace(self, field: str, value: Union[str, int], document: Mapping[str, Any]) -> int:
+        """Deletes the documents of smaller stamps that have a value, and adds one, or does neither. Its stamp.
+
+        `field` is a keyword or number field, and `document[field] == value`, else ValueError. If the document is
+        refused, or memory runs out, the old one stays. Both are visible after the next commit.
+        """
+        kind = sentences.kinds(self._schema).get(field)
+        if kind not in ("keyword", "u64", "i64"):
+            what = f"a {kind} field" if kind else "no field of the schema"
+            raise ValueError(f"a document is replaced by a keyword or number field, and {field!r} is {what}")
+        if field not in document or document[field] != value:
+            raise ValueError(f"the document has {document.get(field)!r} in {field!r}, and not {value!r}")
+        delete = to_line({"delete": {field: value}})
+        return self._stamp(self._channel.replace(delete, _add(document)), b'{"stamp":', document)
+
+    def delete(self, field: str, value: Union[str, int]) -> int:
+        """Deletes the documents of smaller stamps that have a value: a whole keyword, a number, or a word of a text."""
+        given = {field: value}
+        return self._stamp(self._channel.ask(to_line({"delete": given})), b'{"stamp":', given)
+
+    def delete_all(self) -> int:
+        """Deletes every document of a smaller stamp."""
+        return self._stamp(self._channel.ask(b'{"delete_all":true}'), b'{"stamp":')
+
+    def commit(self) -> int:
+        """Makes what was added and deleted visible, at once, and returns the commit's stamp."""
+        return self._stamp(self._channel.ask(b'{"commit":true}'), b'{"commit":')
+
+    def rollback(self) -> int:
+        """Gives up what wasn't committed, and returns the stamp of the last commit."""
+        return self._stamp(self._channel.ask(b'{"rollback":true}'), b'{"rollback":')
+
+    def merge(self) -> int:
+        """Makes one segment of all, and returns how many documents it has. No search finds anything else by it."""
+        return self._stamp(self._channel.ask(b'{"merge":true}'), b'{"merged":')
+
+    @contextlib.contextmanager
+    def transaction(self) -> Iterator[Index]:
+        """Commits at the end, and rolls back at an exception, also one of the commit.
+
+        That takes along what was uncommitted before, and what other threads add meanwhile.
+        """
+        try:
+            yield self
+            self.commit()
+        except BaseException:
+            with contextlib.suppress(Closed):
+                self.rollback()
+            raise
+
+
+class Searcher(Searching):
+    """One commit of an index for ever, whatever is done to the index afterwards. It lives on when the index is closed.
+
+    A searcher and its index, and two searchers, never wait for each other: so each thread that searches has its own.
+
+        with index.searcher() as searcher:
+            print(searcher.search("pearls").count)
+
+    It takes searches alone: `execute` refuses any other command as BadCommand.
+    """
+
+    def __init__(self, channel: Asking, schema: tuple[Field, ...] = ()) -> None:
+        _expect(channel, Asking, "a searcher is opened by index.searcher()")
+        self._channel = channel
+        self._schema = schema
+
+
+class _Adding:
+    """Documents that are added a block at a time."""
+
+    def __init__(self, channel: Channel, schema: tuple[Field, ...]) -> None:
+        self._channel = channel
+        self._schema = schema
+        self._lines: list[bytes] = []
+        self._waiting: list[tuple[int, Mapping[str, Any]]] = []
+        self._bytes = 0
+        self._stamps: list[Optional[int]] = []
+        self._refusals: list[tuple[int, Exception]] = []
+
+    def take(self, document: Mapping[str, Any]) -> None:
+        number = len(self._stamps)
+        try:
+            line = _add(document)
+            if len(line) > LONGEST_LINE:
+                raise fault(LINE_TOO_LONG)
+        except (TypeError, ValueError, RecursionError, LineTooLong) as why:
+            self._refusals.append((number, why))
+            self._stamps.append(None)
+            return
+        self._waiting.append((number, document))
+        self._stamps.append(None)
+        self._lines.append(line)
+        self._bytes += len(line)
+        if len(self._lines) >= BLOCK_LINES or self._bytes >= BLOCK_BYTES:
+            self.flush()
+
+    def flush(self) -> None:
+        """Has the block done. If memory runs out, what wasn't done is forgotten, and Unfinished tells it."""
+        lines, waiting = self._lines, self._waiting
+        self._lines, self._waiting, self._bytes = [], [], 0
+        code, done = OK, 0
+        try:
+            if lines:
+                code, done = self._channel.ask_block(lines, lambda replies: self._keep(waiting, replies))
+        except MemoryError:
+            code = MEMORY
+        if code != OK or done < len(waiting):
+            self._forget(waiting[done][0])
+        if code != OK:
+            raise self.unfinished() if code == MEMORY else fault(code)
+
+    def _forget(self, number: int) -> None:
+        """Forgets the document of a number, and those after it."""
+        del self._stamps[number:]
+        self._refusals = [each for each in self._refusals if each[0] < number]
+
+    def _keep(self, waiting: list[tuple[int, Mapping[str, Any]]], replies: memoryview) -> None:
+        """Keeps stamps and refusals. It may be called again if it found no memory."""
+        refusals = []
+        for (number, document), reply in zip(waiting, REPLY.finditer(replies)):
+            if reply[1]:
+                self._stamps[number] = int(reply[1])
+            else:
+                name = reply[2].decode()
+                why = sentences.of_document(name, self._schema, document)
+                refusals.append((number, refused(name, int(reply[3]), why)))
+        self._refusals.extend(refusals)
+
+    def unfinished(self) -> Unfinished:
+        return Unfinished(self._refusals, self._stamps)
+
+    def stamps_of_all(self) -> list[int]:
+        if self._stamps.count(None) > len(self._refusals):
+            raise self.unfinished()
+        if self._refusals:
+            self._refusals.sort(key=lambda each: each[0])
+            raise SomeRefused(self._refusals, self._stamps)
+        # Each is a number, then. A copy of the list could find no memory.
+        return cast("list[int]", self._stamps)
+
+
+def _add(document: Mapping[str, Any]) -> bytes:
+    """The line that adds a document."""
+    if not isinstance(document, dict):
+        _expect(document, Mapping, "a document is a mapping of the names of fields to values")
+        document = dict(document)
+    return b'{"add":' + ENCODE(document).encode("utf-8", "surrogatepass") + b"}"
+
+
+def _names(fields: Sequence[str]) -> bytes:
+    """A list of names as JSON."""
+    if isinstance(fields, str) or not all(isinstance(field, str) for field in fields):
+        raise TypeError("fields are a list of names")
+    return to_line(list(fields))
+
+
+def _expect(value: object, kinds: Union[type, tuple[type, ...]], words: str) -> None:
+    if not isinstance(value, kinds):
+        raise TypeError(f"{words}, not {type(value).__name__}")

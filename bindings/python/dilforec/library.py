@@ -1,0 +1,305 @@
+"""The functions of the shared object (bindings/c/dilforec.h), and handles that threads, signals and forks can't misuse."""
+from __future__ import annotations
+
+import contextlib
+import ctypes
+import os
+import pathlib
+import threading
+import weakref
+from collections.abc import Callable, Sequence
+from typing import Any, Optional, Protocol, runtime_checkable
+
+from dilforec.refusals import LineTooLong
+
+SHARED = pathlib.Path(__file__).resolve().parent / "libdilforec.so"
+
+OK, MEMORY, LINE_TOO_LONG, USED_UP, CLOSED = range(5)
+NO_REPLY = ctypes.c_size_t(-1).value
+
+# A longer reply has a buffer of its own, which isn't kept.
+KEPT_ROOM = 1 << 20
+FIRST_ROOM = 4096
+# The most bytes of the reply to a line other than a search.
+REPLY_TO_CHANGE = 128
+# How often replies that are there are taken, if memory is short.
+TRIES = 3
+
+
+class Closed(ValueError):
+    """The index or the searcher was closed."""
+
+
+class UsedUp(OverflowError):
+    """The index took 2**61 lines."""
+
+
+class Busy(RuntimeError):
+    """A signal handler, or a finalizer, called an index or a searcher in the middle of a call on it in its thread."""
+
+
+class Handle(ctypes.Structure):
+    _fields_ = [("at", ctypes.c_void_p)]
+
+
+def load() -> ctypes.CDLL:
+    """The shared object, with the types of its functions. While one of them runs, other threads of Python do too."""
+    if not SHARED.is_file():
+        raise ImportError(f"{SHARED} isn't there: bindings/python/link.py makes it")
+    library = ctypes.CDLL(str(SHARED))
+    # Handles and buffers go by their addresses, which costs least.
+    at, text, size, code = ctypes.c_void_p, ctypes.c_char_p, ctypes.c_size_t, ctypes.c_int32
+    types: dict[str, tuple[list[Any], Any]] = {
+        "dilforec_open": ([at], code),
+        "dilforec_execute": ([at, text, size], code),
+        "dilforec_execute_lines": ([at, text, size, at], code),
+        "dilforec_execute_fields": ([at, text, size, text, size], code),
+        "dilforec_replace": ([at, text, size, text, size], code),
+        "dilforec_reply": ([at, at, size], size),
+        "dilforec_close": ([at], code),
+        "dilforec_searcher": ([at, at], code),
+        "dilforec_searcher_again": ([at, at], code),
+        "dilforec_search": ([at, text, size], code),
+        "dilforec_search_fields": ([at, text, size, text, size], code),
+        "dilforec_searcher_reply": ([at, at, size], size),
+        "dilforec_searcher_close": ([at], code),
+    }
+    for name, (given, told) in types.items():
+        function = getattr(library, name)
+        function.argtypes, function.restype = given, told
+    return library
+
+
+LIBRARY = load()
+
+
+def fault(code: int) -> Exception:
+    """What a code other than 0 stands for."""
+    if code == MEMORY:
+        return MemoryError("the index had no memory; nothing changed")
+    if code == LINE_TOO_LONG:
+        return LineTooLong("LineTooLong")
+    if code == USED_UP:
+        return UsedUp("the index took 2**61 lines")
+    if code == CLOSED:
+        return Closed("closed")
+    return RuntimeError(f"code {code} of the library")
+
+
+@runtime_checkable
+class Asking(Protocol):
+    """What an index, a searcher and a cluster have in common: lines of searches in, and replies out."""
+
+    @property
+    def is_open(self) -> bool: ...
+
+    def ask(self, line: bytes) -> bytes: ...
+
+    def ask_each(self, lines: Sequence[bytes], names: Optional[bytes]) -> list[bytes]: ...
+
+    def searcher(self) -> Asking: ...
+
+    def close(self) -> None: ...
+
+
+class Channel:
+    """Lines in and replies out, over one handle. One thread is in it at a time; others wait for it.
+
+    The lock may be taken again by the thread that has it, so that a signal handler gets an error and doesn't wait for
+    itself; `_busy` says that a call is on its way.
+    """
+
+    _ask, _ask_fields, _reply, _fork, _close = (
+        LIBRARY.dilforec_execute, LIBRARY.dilforec_execute_fields, LIBRARY.dilforec_reply, LIBRARY.dilforec_searcher,
+        LIBRARY.dilforec_close,
+    )
+
+    def __init__(self, opened: Callable[[int], int] = LIBRARY.dilforec_open) -> None:
+        self.lock = threading.RLock()
+        self._busy = False
+        self._make_room(FIRST_ROOM)
+        self._handle = Handle()
+        self._at = ctypes.addressof(self._handle)
+        code = opened(self._at)
+        if code:
+            raise fault(code)
+        OPEN[id(self)] = weakref.ref(self)
+
+    def _make_room(self, size: int) -> None:
+        self._room = ctypes.create_string_buffer(size)
+        self._room_at = ctypes.addressof(self._room)
+        self._room_size = size
+        self._view = memoryview(self._room).cast("B")
+
+    def _check(self) -> None:
+        if self._busy:
+            raise Busy("this came in the middle of a call on the same index or searcher, as from a signal handler")
+
+    def ask(self, line: bytes) -> bytes:
+        """The reply to a line; none to a blank one."""
+        with self.lock:
+            self._check()
+            try:
+                self._busy = True
+                code = self._ask(self._at, line, len(line))
+                if code:
+                    raise fault(code)
+                return self._read()
+            finally:
+                self._busy = False
+
+    def ask_each(self, lines: Sequence[bytes], names: Optional[bytes]) -> list[bytes]:
+        """The replies to several searches, between which no other thread comes; the first one's with chosen fields."""
+        with self.lock:
+            self._check()
+            try:
+                self._busy = True
+                told = []
+                for place, line in enumerate(lines):
+                    cut = names is not None and place == 0
+                    code = (self._ask_fields(self._at, line, len(line), names, len(names or b"")) if cut
+                            else self._ask(self._at, line, len(line)))
+                    if code:
+                        raise fault(code)
+                    told.append(self._read())
+                return told
+            finally:
+                self._busy = False
+
+    def replace(self, delete: bytes, add: bytes) -> bytes:
+        """The reply to a delete's line and an add's, as one."""
+        with self.lock:
+            self._check()
+            try:
+                self._busy = True
+                code = LIBRARY.dilforec_replace(self._at, delete, len(delete), add, len(add))
+                if code:
+                    raise fault(code)
+                return self._read()
+            finally:
+                self._busy = False
+
+    def ask_block(self, lines: Sequence[bytes], take: Callable[[memoryview], None]) -> tuple[int, int]:
+        """Has several lines done, none of which is a search. The code, and how many were done before it.
+
+        `take` gets their replies, in room that was made before. A MemoryError is of what comes before the lines are
+        done; if `take` has one, it is tried again, and then given up.
+        """
+        with self.lock:
+            self._check()
+            try:
+                self._busy = True
+                if self._room_size < len(lines) * REPLY_TO_CHANGE:
+                    self._make_room(len(lines) * REPLY_TO_CHANGE)
+                block, done = b"\n".join(lines), ctypes.c_size_t()
+                code = LIBRARY.dilforec_execute_lines(self._at, block, len(block), ctypes.addressof(done))
+                for _ in range(TRIES if code != CLOSED else 0):
+                    with contextlib.suppress(MemoryError):
+                        take(self._view[:self._reply(self._at, self._room_at, self._room_size)])
+                        break
+                return code, done.value
+            finally:
+                self._busy = False
+
+    def _read(self) -> bytes:
+        length = self._reply(self._at, self._room_at, self._room_size)
+        if length <= self._room_size:
+            return self._view[:length].tobytes()
+        # This long is a reply to a search alone, which may be asked again.
+        if length <= KEPT_ROOM:
+            self._make_room(length)
+            self._reply(self._at, self._room_at, length)
+            return self._view[:length].tobytes()
+        own = ctypes.create_string_buffer(length)
+        self._reply(self._at, ctypes.addressof(own), length)
+        return memoryview(own).cast("B").tobytes()
+
+    def searcher(self) -> Searches:
+        """A channel of its own to the last commit."""
+        with self.lock:
+            self._check()
+            try:
+                self._busy = True
+                return Searches(lambda slot: int(self._fork(self._at, slot)))
+            finally:
+                self._busy = False
+
+    @property
+    def is_open(self) -> bool:
+        return bool(self._handle.at)
+
+    def close(self) -> None:
+        """Closes the handle; again, it does nothing."""
+        with self.lock:
+            self._check()
+            try:
+                self._busy = True
+                self._close(self._at)
+                OPEN.pop(id(self), None)
+            finally:
+                self._busy = False
+
+    def abandon(self) -> None:
+        """Leaves the handle closed, and what it pointed to as it is."""
+        self._handle.at = None
+        self._busy = False
+
+    def __del__(self) -> None:
+        # An interpreter that ends may have taken the library apart already.
+        if getattr(self, "_at", None) and self._handle.at:
+            self.close()
+
+
+class Searches(Channel):
+    """Searches in and replies out, over one commit. Each of them counts as the first line of a script."""
+
+    _ask, _ask_fields, _reply, _fork, _close = (
+        LIBRARY.dilforec_search, LIBRARY.dilforec_search_fields, LIBRARY.dilforec_searcher_reply,
+        LIBRARY.dilforec_searcher_again, LIBRARY.dilforec_searcher_close,
+    )
+
+
+# A fork waits for the calls of other threads, since the child has none of these threads to end a call that was on its
+# way. One thread at a time takes the locks; its own signal handlers may fork within that, so there is a list for each
+# fork.
+OPEN: dict[int, weakref.ref[Channel]] = {}
+FORKING = threading.RLock()
+HELD: list[list[Channel]] = []
+
+
+def opened(known: Sequence[Channel]) -> list[Channel]:
+    """The channels that are open, but those that are known, in one order."""
+    references = (OPEN.get(key) for key in sorted(OPEN))
+    return [channel for reference in references if reference and (channel := reference()) and channel not in known]
+
+
+def before_fork() -> None:
+    FORKING.acquire()
+    held: list[Channel] = []
+    HELD.append(held)
+    # Others may be opened meanwhile.
+    while channels := opened(held):
+        for channel in channels:
+            channel.lock.acquire()
+            held.append(channel)
+
+
+def after_fork() -> None:
+    for channel in HELD.pop():
+        channel.lock.release()
+    FORKING.release()
+
+
+def after_fork_in_child() -> None:
+    # Opened after the last look, and in use: the child can't have it.
+    for channel in opened(HELD[-1]):
+        if channel.lock.acquire(blocking=False):
+            channel.lock.release()
+        else:
+            channel.lock = threading.RLock()
+            channel.abandon()
+    after_fork()
+
+
+if hasattr(os, "register_at_fork"):
+    os.register_at_fork(before=before_fork, after_in_parent=after_fork, after_in_child=after_fork_in_child)

@@ -1,0 +1,143 @@
+"""Forks, pools, signals and threads with small stacks."""
+import concurrent.futures
+import multiprocessing
+import os
+import signal
+import threading
+import time
+import unittest
+
+import dilforec
+
+FIELDS = (dilforec.text("title", default=True), dilforec.u64("year"))
+
+
+def search_badly(_):
+    with dilforec.Index(*FIELDS) as index:
+        return index.search("rust OR").count
+
+
+class Pools(unittest.TestCase):
+    def test_a_refusal_crosses(self):
+        """A worker's refusal comes to the parent as it was, and the pool goes on."""
+        kinds = multiprocessing.get_context("spawn")
+        with concurrent.futures.ProcessPoolExecutor(1, mp_context=kinds) as pool:
+            for _ in range(2):
+                with self.assertRaises(dilforec.Syntax) as raised:
+                    pool.submit(search_badly, 0).result(timeout=60)
+                self.assertIn("grammar", str(raised.exception))
+        with kinds.Pool(1) as pool:
+            for _ in range(2):
+                with self.assertRaises(dilforec.Syntax):
+                    pool.apply_async(search_badly, (0,)).get(timeout=60)
+
+
+class Forks(unittest.TestCase):
+    @unittest.skipUnless(hasattr(os, "fork"), "needs fork")
+    def test_forks_under_load(self):
+        """A child of a fork in the middle of other threads' calls has an index and searchers that work."""
+        stop = threading.Event()
+
+        def work(index, searcher):
+            while not stop.is_set():
+                index.add_many({"title": "rust", "year": year} for year in range(50))
+                index.commit()
+                searcher.search("rust", groups="year")
+                with index.searcher() as other:
+                    other.search("rust")
+
+        with dilforec.Index(*FIELDS) as index:
+            index.add({"title": "rust"})
+            index.commit()
+            searcher = index.searcher()
+            threads = [threading.Thread(target=work, args=(index, searcher)) for _ in range(3)]
+            for thread in threads:
+                thread.start()
+            ended = [self.child(index, searcher) for _ in range(10)]
+            stop.set()
+            for thread in threads:
+                thread.join()
+        self.assertEqual(ended, [0] * 10)
+
+    @staticmethod
+    def child(index, searcher):
+        """The status of a child that uses both. It is killed after ten seconds, by its alarm."""
+        time.sleep(0.02)
+        pid = os.fork()
+        if pid == 0:
+            signal.alarm(10)
+            before = len(index)
+            index.add({"title": "child"})
+            index.commit()
+            os._exit(not (index.search("child").count == 1 and len(index) >= before and len(searcher) == 1))
+        return os.waitpid(pid, 0)[1]
+
+    @unittest.skipUnless(hasattr(os, "fork"), "needs fork")
+    def test_fork_in_a_handler(self):
+        """A fork in a signal handler that interrupted a call doesn't wait for it."""
+        children = []
+
+        def handle(*_):
+            pid = os.fork()
+            if pid == 0:
+                os._exit(0)
+            children.append(pid)
+
+        with dilforec.Index(*FIELDS) as index:
+            interrupted(index, handle, lambda: children)
+        self.assertEqual(os.waitpid(children[0], 0)[1], 0)
+
+
+def interrupted(index, handle, done):
+    """Calls an index until a signal that comes meanwhile was handled in the middle of a call, or for ten seconds."""
+    before = signal.signal(signal.SIGALRM, handle)
+    signal.setitimer(signal.ITIMER_REAL, 0.001, 0.001)
+    try:
+        until = time.monotonic() + 10
+        while not done() and time.monotonic() < until:
+            index.add({"title": "rust " * 200})
+    finally:
+        signal.setitimer(signal.ITIMER_REAL, 0)
+        signal.signal(signal.SIGALRM, before)
+
+
+class Signals(unittest.TestCase):
+    def test_a_handler_in_a_call(self):
+        """A handler of a signal that came within a call gets an error that says so, and the call ends as ever."""
+        told, calls = [], [0]
+
+        def handle(*_):
+            calls[0] += 1
+            try:
+                index.search("rust")
+            except dilforec.Busy as busy:
+                told.append(str(busy))
+
+        with dilforec.Index(*FIELDS) as index:
+            interrupted(index, handle, lambda: told)
+            self.assertIn("in the middle of a call", told[0])
+            stamp = index.commit()
+            self.assertEqual(len(index), stamp - 1)
+
+
+class Stacks(unittest.TestCase):
+    def test_a_small_stack(self):
+        """A call needs at most 512 KiB, and Python a little: a thread of 1 MiB takes the deepest query."""
+        found = []
+
+        def look():
+            with dilforec.Index(*FIELDS) as index:
+                found.append(index.search("(" * 32 + "rust" + ")" * 32).count)
+
+        before = threading.stack_size(1 << 20)
+        try:
+            thread = threading.Thread(target=look)
+            thread.start()
+            thread.join()
+        finally:
+            threading.stack_size(before)
+        self.assertEqual(found, [0])
+
+
+if __name__ == "__main__":
+    unittest.main()

@@ -1,0 +1,235 @@
+"""What the package answers, and what it says of mistakes."""
+import copy
+import pathlib
+import pickle
+import re
+import unittest
+
+import dilforec
+from dilforec import refusals
+
+ROOT = pathlib.Path(__file__).resolve().parents[3]
+FIELDS = (
+    dilforec.text("title", default=True), dilforec.keyword("shelf"), dilforec.u64("year"), dilforec.i64("rating"),
+)
+LONG = "я" * 450_000
+
+
+def opened(*documents):
+    index = dilforec.Index(*FIELDS)
+    for document in documents:
+        index.add(document)
+    index.commit()
+    return index
+
+
+class Sentences(unittest.TestCase):
+    def test_refusals(self):
+        """A refusal says what is wrong, with the field or the value, and no number of a line that nobody has."""
+        with opened() as index:
+            for sentence, call in [
+                ("the schema has no field 'titel'", lambda: index.add({"title": "a", "titel": "b"})),
+                ("the schema has no field 'titel'", lambda: index.search("titel:a")),
+                ("the schema has no field 'titel'", lambda: index.search("a", groups="titel")),
+                ("the schema has no field 'titel'", lambda: index.search("a", fields=["titel"])),
+                ("the schema has no field 'titel'", lambda: index.search("a", top=dilforec.Top("titel", 1))),
+                ("'year' is a u64 field, and can't be 'late'", lambda: index.add({"year": "late"})),
+                ("'year' is a u64 field, and can't be -1", lambda: index.add({"year": -1})),
+                ("'shelf' is a keyword field, and can't be ['a']", lambda: index.add({"shelf": ["a"]})),
+                ("'year' is a u64 field, and can't be True", lambda: index.delete("year", True)),
+                ("the keyword of 'shelf' has 257 bytes, and 256 are the most", lambda: index.add({"shelf": "a" * 257})),
+                ("'title' has 1,025 texts, and 1,024 are the most", lambda: index.add({"title": ["a"] * 1025})),
+                ("a top list has 1 to 10,000 hits, not 0", lambda: index.search("a", top=dilforec.Top("year", 0))),
+                ("'title' is a text field, and groups are by", lambda: index.search("a", groups="title")),
+                ("'shelf' is a keyword field, and a top list", lambda: index.search("a", top=dilforec.Top("shelf", 1))),
+                ("the query isn't in the grammar", lambda: index.search("rust OR")),
+                ("parentheses of a query nest more than 32 deep", lambda: index.search("(" * 33)),
+            ]:
+                with self.subTest(sentence), self.assertRaises(dilforec.Refused) as raised:
+                    call()
+                self.assertIn(sentence, str(raised.exception))
+                self.assertNotRegex(str(raised.exception), "line [0-9]")
+            self.assertEqual(index.add({}), 2)
+
+    def test_mistakes(self):
+        """What isn't of its type is a TypeError or a ValueError with a sentence, before the index is asked."""
+        with opened() as index:
+            for error, sentence, call in [
+                (TypeError, "a query is a str, not NoneType", lambda: index.search(None)),
+                (TypeError, "a query is a str, not int", lambda: index.hits(1, "year")),
+                (TypeError, "a field is made by dilforec.text", lambda: dilforec.Index("a")),
+                (TypeError, "a searcher is opened by index.searcher()", lambda: dilforec.Searcher(index)),
+                (ValueError, "the order of a top list is 'rising' or 'falling', not 'desc'",
+                 lambda: dilforec.Top("year", 1, "desc")),
+                (TypeError, "the length of a top list is an int, not str", lambda: dilforec.Top("year", "1")),
+                (ValueError, "a field's kind is", lambda: dilforec.Field("a", "blob")),
+                (TypeError, "a document is a mapping", lambda: index.add(["a"])),
+                (TypeError, "a line is a str or bytes, not int", lambda: index.execute(1)),
+                (TypeError, "fields are a list of names", lambda: index.search("a", fields="title")),
+                (TypeError, "groups are by the name of a field", lambda: index.search("a", groups=1)),
+                (TypeError, "a top list is a dilforec.Top", lambda: index.search("a", top=("year", 1))),
+            ]:
+                with self.subTest(sentence), self.assertRaises(error) as raised:
+                    call()
+                self.assertIn(sentence, str(raised.exception))
+            self.assertEqual(index.add({}), 2)
+
+    def test_pickled(self):
+        """A refusal of each name can be pickled and copied, and stays what it was."""
+        for name, kind in refusals.BY_NAME.items():
+            error = refusals.refused(name, 7, "the sentence" if name == "Syntax" else "")
+            for other in pickle.loads(pickle.dumps(error)), copy.copy(error), copy.deepcopy(error):
+                self.assertIs(type(other), kind)
+                self.assertEqual((vars(other), str(other), other.args), (vars(error), str(error), error.args))
+            self.assertTrue(str(error))
+        some = dilforec.SomeRefused([(1, dilforec.Syntax("Syntax"))], [1, None])
+        for other in pickle.loads(pickle.dumps(some)), copy.copy(some):
+            self.assertEqual((str(other), other.stamps), (str(some), [1, None]))
+        self.assertEqual(len(refusals.BY_NAME), 27)
+
+
+class Utf8(unittest.TestCase):
+    def test_long_document(self):
+        """A document within the limits is never too long for a line."""
+        fields = [dilforec.text(name, default=True) for name in "abcd"]
+        with dilforec.Index(*fields) as index:
+            self.assertEqual(index.add({name: LONG for name in "abcd"}), 1)
+            self.assertEqual(index.add_many([{name: LONG for name in "abcd"}] * 2), [2, 3])
+            index.commit()
+            self.assertEqual(index.search(LONG[:128]).count, 0)
+
+    def test_surrogates(self):
+        with opened() as index:
+            for call in (lambda: index.add({"title": "\ud800"}), lambda: index.search("\ud800")):
+                self.assertRaises(dilforec.BadJson, call)
+            self.assertEqual(index.add({"title": "\U0001f600 й\n\x00"}), 2)
+
+    def test_lines(self):
+        """A line is text or bytes of any kind."""
+        line = '{"add":{"title":"й"}}'
+        with opened() as index:
+            for number, given in enumerate([line, line.encode(), bytearray(line.encode()), memoryview(line.encode())]):
+                self.assertEqual(index.execute(given), b'{"stamp":%d}\n' % (number + 2))
+
+
+class Calls(unittest.TestCase):
+    def test_groups(self):
+        """Groups of several fields are of one commit; one name answers a dict by value."""
+        with opened({"shelf": "a", "year": 1}, {"shelf": "a", "year": 2}, {"shelf": "b"}) as index:
+            for each in index, index.searcher():
+                self.assertEqual(each.search("*", groups="shelf").groups, {"a": 2, "b": 1})
+                answer = each.search("*", groups=["shelf", "year"], top=dilforec.Top("year", 1), fields=["shelf"])
+                self.assertEqual(answer.groups, {"shelf": {"a": 2, "b": 1}, "year": {1: 1, 2: 1}})
+                self.assertEqual((answer.count, list(answer)), (3, [dilforec.Hit(1, 1, {"shelf": "a"})]))
+                self.assertEqual(each.search("*", groups=[]).groups, {})
+
+    def test_fields(self):
+        """Documents have the chosen fields alone."""
+        book = {"title": ["Left", "Hand"], "shelf": "a", "year": 1}
+        with opened(book, {"title": "Left", "year": 2}) as index:
+            for each in index, index.searcher():
+                top = dilforec.Top("year", 9)
+                for fields, wanted in [
+                    (None, [book, {"title": "Left", "year": 2}]), ([], [{}, {}]), (["shelf"], [{"shelf": "a"}, {}]),
+                    (("year", "title"), [{"title": ["Left", "Hand"], "year": 1}, {"title": "Left", "year": 2}]),
+                ]:
+                    self.assertEqual([hit.document for hit in each.search("left", top=top, fields=fields)], wanted)
+                    hits = each.hits("left", "year", page=2, fields=fields)
+                    self.assertEqual([hit.document for hit in hits], wanted)
+
+    def test_transaction(self):
+        """It commits at the end, and rolls back at an exception."""
+        with opened() as index:
+            with index.transaction() as same:
+                index.add({"title": "rust"})
+            self.assertIs(same, index)
+            self.assertEqual(len(index), 1)
+            with self.assertRaises(ZeroDivisionError), index.transaction():
+                index.add({"title": "rust"})
+                raise ZeroDivisionError
+            self.assertEqual((index.commit(), len(index)), (4, 1))
+            with self.assertRaises(dilforec.Closed), index.transaction():
+                index.close()
+
+    def test_replace(self):
+        """An update by key is done, or the old document stays."""
+        with opened({"title": "old", "shelf": "a", "year": 1}) as index:
+            self.assertEqual(index.replace("shelf", "a", {"title": "new", "shelf": "a"}), 4)
+            self.assertRaises(dilforec.WrongKind, index.replace, "shelf", "a", {"shelf": "a", "year": "late"})
+            for field, value, document in [
+                ("title", "new", {"title": "new"}), ("none", 1, {"none": 1}), ("shelf", "a", {"shelf": "b"}),
+                ("shelf", "a", {}),
+            ]:
+                self.assertRaises(ValueError, index.replace, field, value, document)
+            self.assertEqual(index.commit(), 5)
+            self.assertEqual((len(index), index.search("new").count), (1, 1))
+            index.add({"year": 7})
+            self.assertEqual(index.replace("year", 7, {"year": 7, "title": "seven"}), 8)
+            index.commit()
+            self.assertEqual((len(index), index.search("year:7 AND seven").count), (2, 1))
+
+    def test_add_many(self):
+        """It answers the stamps; a refused document doesn't stop the others."""
+        with opened() as index:
+            self.assertEqual(index.add_many({"year": year} for year in range(2500)), list(range(2, 2502)))
+            self.assertEqual(index.add_many([]), [])
+            good, long = {"title": "good"}, {"title": LONG * 5}
+            bad = [{"titel": 1}, {"year": "late"}, ["a"], {"title": object()}, long]
+            with self.assertRaises(dilforec.SomeRefused) as raised:
+                index.add_many([good, *bad, good])
+            error = raised.exception
+            self.assertEqual(error.stamps, [2502, None, None, None, None, None, 2503])
+            self.assertEqual([number for number, _ in error.refusals], [1, 2, 3, 4, 5])
+            self.assertEqual([type(why).__name__ for _, why in error.refusals],
+                             ["UnknownField", "WrongKind", "TypeError", "TypeError", "LineTooLong"])
+            self.assertEqual(str(error), "5 of 7 documents were refused, document 1 first: "
+                                         "UnknownField: the schema has no field 'titel'")
+
+            def broken():
+                yield good
+                raise ZeroDivisionError
+            self.assertRaises(ZeroDivisionError, index.add_many, broken())
+            self.assertEqual((index.commit(), len(index)), (2505, 2503))
+
+    def test_small_things(self):
+        with opened({"title": 'the "left" \\ hand'}) as index:
+            self.assertEqual(index.search(dilforec.quoted('"left" \\ hand')).count, 1)
+            self.assertEqual(index.search(dilforec.quoted("left OR (")).count, 0)
+            self.assertEqual(index.schema, FIELDS)
+            self.assertEqual(repr(index), "<dilforec.Index of (title: text, shelf: keyword, year: u64, rating: i64)>")
+            with index.searcher() as searcher:
+                self.assertEqual((len(searcher), searcher.schema), (1, FIELDS))
+            self.assertIn("closed", repr(searcher))
+        with dilforec.Index() as index:
+            self.assertEqual((bool(index), index.schema), (True, ()))
+            index.execute('{"schema":[{"name":"n","kind":"u64"}]}')
+            self.assertEqual(index.schema, (dilforec.u64("n"),))
+
+    def test_deep_pages(self):
+        """What a page can't ask is refused at once, and what the first page can, the second can."""
+        with opened(*({"title": "rust", "year": year} for year in range(5))) as index:
+            deep = "(" * 32 + "rust" + ")" * 32
+            for query in (deep, "(" * 31 + "rust" + ")" * 31 + " OR hand", '"((" OR rust'):
+                self.assertEqual(len(list(index.hits(query, "year", page=2))), 5)
+            self.assertRaises(dilforec.TooDeep, index.hits, f"{deep} OR hand", "year")
+            self.assertRaises(dilforec.TooLong, index.hits, "rust " * 815, "year")
+            self.assertEqual(len(list(index.hits("rust " * 810, "year", page=2))), 5)
+
+    def test_large_reply_is_not_kept(self):
+        with opened(*({"title": LONG, "year": year} for year in range(2))) as index:
+            answer = index.search("*", top=dilforec.Top("year", 2))
+            self.assertEqual([len(hit.document["title"]) for hit in answer], [450_000] * 2)
+            self.assertLessEqual(index._channel._room_size, 1 << 20)
+
+    def test_versions(self):
+        """One version for the program, the header and the packages."""
+        for path, pattern in [
+            ("bindings/c/dilforec.h", r'DILFOREC_VERSION "(.+)"'),
+            ("bindings/rust/Cargo.toml", r'(?m)^version = "(.+)"'),
+            ("crates/fts_cli/src/parser.rt", r'(?m)^(?:pub )?const VERSION: &str = "(.+)";'),
+        ]:
+            self.assertEqual(re.search(pattern, (ROOT / path).read_text())[1], dilforec.__version__)
+
+
+if __name__ == "__main__":
+    unittest.main()
