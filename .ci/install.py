@@ -1,0 +1,130 @@
+#!/usr/bin/env python3
+"""Installs what was built into an empty folder, and uses it from there as a user would.
+
+    .ci/install.py          what `make install` installs, and a wheel; after `make`, or after the gate's other parts
+    .ci/install.py --deb    what `make deb` packs, unpacked side by side
+
+What the machine lacks, as cmake or a second Python, is skipped and counted. The last line is 'N passed, M failed'.
+"""
+import os
+import pathlib
+import re
+import shutil
+import sys
+import tempfile
+
+import uses
+from trials import ROOT, VERSION, Place, attempt, check, finish, run, said, skip
+
+# Below the prefix.
+EXPECTED = [
+    "bin/fts", "lib/libdilforec.so.0", "lib/libdilforec.so", "lib/libdilforec.a", "include/dilforec.h",
+    "lib/pkgconfig/dilforec.pc", "lib/cmake/dilforec/dilforec-config.cmake", "share/man/man1/fts.1",
+    "share/man/man1/dilforec-serve.1",
+    "share/man/man3/dilforec.3", "share/bash-completion/completions/fts", "share/zsh/site-functions/_fts",
+    "share/doc/dilforec/README.md", "share/doc/dilforec/docs/SCRIPT.md", "share/doc/dilforec/examples/catalogue.jsonl",
+]
+
+# What lintian may say: no licence has been chosen, and there is no bug whose number an upload could close.
+ALLOWED = {"copyright-without-copyright-notice", "initial-upload-closes-no-bugs"}
+
+
+def make(*words):
+    """Calls make with what is built, so that nothing is proved here."""
+    built = {
+        "DILFOREC_PROGRAM": str(ROOT / "crates/fts/out/fts"),
+        "DILFOREC_CRATE_ARCHIVE": str(ROOT / "crates/fts_c/out/libfts_c.a"),
+    }
+    return run("make", "-s", "-C", ROOT, *words, env={**built, **os.environ})
+
+
+def files():
+    """The files outside the folder that an installation could write, each with its time."""
+    folders = "/usr/local", *(ROOT / it for it in ("bindings", "packaging", "docs", "examples"))
+    return {str(path): path.lstat().st_mtime_ns for it in folders for path in pathlib.Path(it).rglob("*")
+            if path.is_symlink() or path.is_file()}
+
+
+def installed(folder):
+    """Installs below a folder, and returns the place, or nothing."""
+    # This links the library if need be, so that what follows has to leave all else as it was.
+    done = make("all")
+    if not check("make", done.returncode == 0, said(done)):
+        return None
+    before = files()
+    done = make("install", f"DESTDIR={folder}", "PREFIX=/usr/local")
+    if not check("make install", done.returncode == 0, said(done)):
+        return None
+    after = files()
+    check("nothing else was written", before == after, set(before.items()) ^ set(after.items()))
+    place = Place(folder, "usr/local", "lib", "share/zsh/site-functions")
+    missing = [name for name in EXPECTED if not (place.prefix / name).exists()]
+    check("each file is there", not missing, missing)
+    return place
+
+
+def uninstalled(place):
+    done = make("uninstall", f"DESTDIR={place.root}", "PREFIX=/usr/local")
+    left = [path for path in place.root.rglob("*") if not path.is_dir() or "dilforec" in path.name]
+    check("make uninstall", done.returncode == 0 and not left, f"{said(done)}{left}")
+
+
+def unpacked(folder):
+    """Unpacks the packages for Debian below a folder, and returns the place, or nothing."""
+    done = make("deb")
+    if not check("make deb", done.returncode == 0, said(done)):
+        return None
+    made = [ROOT / line for line in done.stdout.splitlines() if line.endswith(".deb")]
+    check("four packages", len(made) == 4, done.stdout)
+    for package in made:
+        run("dpkg-deb", "--extract", package, folder)
+    if shutil.which("lintian"):
+        told = re.findall(r"^[EW]: .*", said(run("lintian", "--allow-root", *made)), re.MULTILINE)
+        check("lintian", not [it for it in told if it.split()[2] not in ALLOWED], "\n".join(told))
+    else:
+        skip("lintian", "it isn't there")
+    libraries = run("dpkg-architecture", "-qDEB_HOST_MULTIARCH").stdout.strip()
+    return Place(folder, "usr", f"lib/{libraries}", "share/zsh/vendor-completions")
+
+
+def versions(place):
+    """Each place that has a version has that of the file VERSION."""
+    def found(pattern, text):
+        return (re.search(pattern, text, re.MULTILINE) or [None, None])[1]
+
+    cmake = place.libraries / "cmake/dilforec/dilforec-config-version.cmake"
+    told = {
+        "fts --version": found(r"^fts (.*)$", place.fts("--version").stdout),
+        "dilforec.h": found(r'^#define DILFOREC_VERSION "(.*)"$', place.header.read_text()),
+        "dilforec.pc": found(r"^Version: (.*)$", (place.libraries / "pkgconfig/dilforec.pc").read_text()),
+        "CMake": found(r'^set\(PACKAGE_VERSION "(.*)"\)$', cmake.read_text()),
+        "dilforec": found(r'^__version__ = "(.*)"$', (ROOT / "bindings/python/dilforec/__init__.py").read_text()),
+        "Cargo.toml": found(r'^version = "(.*)"$', (ROOT / "bindings/rust/Cargo.toml").read_text()),
+        "CHANGELOG.md": found(r"^## (\S+) \(\d{4}-\d\d-\d\d\)$", (place.pages / "CHANGELOG.md").read_text()),
+        "fts(1)": found(r'^\.TH FTS 1 "\d{4}-\d\d-\d\d" "Dilforec (\S+)"', place.manual("fts.1")),
+    }
+    check("one version", set(told.values()) == {VERSION}, told)
+
+
+def main():
+    of_debian = "--deb" in sys.argv[1:]
+    with tempfile.TemporaryDirectory() as name:
+        folder = pathlib.Path(name)
+        (folder / "root").mkdir()
+        place = (unpacked if of_debian else installed)(folder / "root")
+        if not place:
+            return finish()
+        for part in versions, uses.examples, uses.at_terminal, uses.help_of_run, uses.pages, uses.completions:
+            attempt(part, place)
+        for part in uses.byte_order_mark, uses.in_c, uses.in_cmake:
+            attempt(part, place, folder)
+        if of_debian:
+            attempt(uses.with_debian_python, place)
+        else:
+            attempt(uses.with_wheel, folder)
+            attempt(uninstalled, place)
+    return finish()
+
+
+if __name__ == "__main__":
+    sys.exit(main())

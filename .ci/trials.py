@@ -1,0 +1,91 @@
+"""What the test of an installation is made of: checks that are counted, commands, and where things are."""
+import gzip
+import os
+import pathlib
+import subprocess
+
+ROOT = pathlib.Path(__file__).resolve().parents[1]
+VERSION = (ROOT / "VERSION").read_text(encoding="utf-8").strip()
+
+# Nothing of the caller's own Python, and no network.
+PLAIN = {name: value for name, value in os.environ.items() if not name.startswith(("PYTHON", "PIP_", "VIRTUAL_ENV"))}
+PLAIN |= {
+    "PIP_NO_INDEX": "1", "PIP_NO_CACHE_DIR": "1", "PIP_DISABLE_PIP_VERSION_CHECK": "1", "PYTHONDONTWRITEBYTECODE": "1",
+    "http_proxy": "http://127.0.0.1:9", "https_proxy": "http://127.0.0.1:9",
+}
+
+counts = {"passed": 0, "failed": 0, "skipped": 0}
+
+
+def check(name, good, words=""):
+    """Counts a check, and returns whether it passed; words are shown if it didn't."""
+    counts["passed" if good else "failed"] += 1
+    print(f"install: {name}: {'ok' if good else 'FAILED'}", flush=True)
+    if not good:
+        print(words, flush=True)
+    return good
+
+
+def skip(name, why):
+    """Counts what the machine can't try."""
+    counts["skipped"] += 1
+    print(f"install: {name}: skipped, since {why}", flush=True)
+
+
+def attempt(part, *given):
+    """Calls a part of the test; if it raises something, it fails."""
+    try:
+        part(*given)
+    except Exception as error:
+        check(part.__name__, False, f"{type(error).__name__}: {error}")
+
+
+def finish():
+    """Prints the counts, and returns the exit status."""
+    print(f"{counts['skipped']} skipped")
+    print(f"{counts['passed']} passed, {counts['failed']} failed")
+    return 1 if counts["failed"] else 0
+
+
+def run(*words, **settings):
+    """What a command did: its status, standard output and standard error as text."""
+    return subprocess.run(words, **{"capture_output": True, "text": True, "timeout": 300, "env": PLAIN, **settings})
+
+
+def said(done):
+    """All that a command printed."""
+    return done.stdout + done.stderr
+
+
+def is_in_page(text):
+    """Whether a program printed what docs/EMBEDDING.md says that it prints."""
+    wanted = "".join(f"    {line}\n" for line in text.splitlines())
+    return bool(text) and wanted in (ROOT / "docs/EMBEDDING.md").read_text(encoding="utf-8")
+
+
+class Place:
+    """Where things are, installed below an empty folder."""
+
+    def __init__(self, root, prefix, libraries, zsh):
+        self.root = root
+        self.prefix = root / prefix
+        self.libraries = self.prefix / libraries
+        self.program = self.prefix / "bin/fts"
+        self.pages = self.prefix / "share/doc/dilforec"
+        self.header = self.prefix / "include/dilforec.h"
+        self.bash = self.prefix / "share/bash-completion/completions/fts"
+        self.zsh = self.prefix / zsh / "_fts"
+
+    def manual(self, name):
+        """The text of a manual page."""
+        found = next((self.prefix / "share/man").glob(f"*/{name}*"))
+        return (gzip.decompress(found.read_bytes()) if found.suffix == ".gz" else found.read_bytes()).decode()
+
+    def fts(self, *words, **settings):
+        """Runs the program."""
+        return run(self.program, *words, **settings)
+
+    def shell(self, script, **settings):
+        """Runs a script of the shell that finds `fts` here."""
+        path = f"{self.program.parent}:{os.environ['PATH']}"
+        return run("sh", "-c", script, env={**PLAIN, "PATH": path}, **settings)
