@@ -1,72 +1,85 @@
-"""The documents and searches that programs of bench/ are timed over, and how such a program is run.
+"""The documents that the timings of bench/ are taken over: one description, one way to make them.
 
-100,000 documents of 30 words, of a vocabulary of 50,000 with Zipf's law, with a keyword, a `u64` and an `i64`; 200 searches a
-kind. A program stands in bench/NAME; `outputs` copies it to a crate of a scratch copy of the repository, proves it and runs it.
-It is no part of the tests: it needs the kit's rt, and its times are this machine's.
+`DESCRIPTION` is the sentence that docs/MEASURED.md has about them. Documents are made one after the other from a seed, so the first 1,000 of
+100,000 are those of a corpus of 1,000.
 """
-import bisect
+from __future__ import annotations
+
 import itertools
 import json
-import pathlib
 import random
-import shutil
-import subprocess
-import tempfile
+from typing import Iterable, Iterator, NamedTuple
 
-ROOT = pathlib.Path(__file__).resolve().parent.parent
-COUNT, SEARCHES = 100_000, 200
-random.seed(1)
-WORDS = [f"w{rank}" for rank in range(50_000)]
-SUMS = list(itertools.accumulate(1 / (rank + 1) for rank in range(len(WORDS))))
+WORDS_EACH = 30
+VOCABULARY = 50_000
+TAGS = 1_000
+PRICES = 1_000_000
+LEAST_TEMP, TEMPS = -50, 100
 
+DESCRIPTION = (
+    f"A document has a text of {WORDS_EACH} words, drawn by Zipf's law from a vocabulary of {VOCABULARY:,} random words of 4 to 9 letters (word r "
+    f"comes with a chance in proportion to 1/r); a keyword, one of {TAGS:,}; a `u64` below {PRICES:,}, almost all of them different; and an `i64` "
+    f"from {LEAST_TEMP} to {LEAST_TEMP + TEMPS - 1}. All are drawn independently."
+)
 
-def word():
-    return WORDS[bisect.bisect(SUMS, random.random() * SUMS[-1])]
-
-
-DOCUMENTS = [
-    {"body": " ".join(word() for _ in range(30)), "tag": f"t{random.randrange(100)}", "n": random.randrange(1000), "z": number - COUNT // 2}
-    for number in range(COUNT)
-]
-PAIRS = [(word(), word()) for _ in range(SEARCHES)]
-LOWS = [random.randrange(900) for _ in range(SEARCHES)]
-CASES = [(a, b, low) for (a, b), low in zip(PAIRS, LOWS)]
-
-# What a search of each kind asks beside the count, and its query.
-KINDS = {
-    "term": ("count", lambda a, b, low: a),
-    "+a +b": ("count", lambda a, b, low: f"+{a} +{b}"),
-    "a b": ("count", lambda a, b, low: f"{a} {b}"),
-    "phrase": ("count", lambda a, b, low: f'"{a} {b}"'),
-    "range": ("count", lambda a, b, low: f"n:[{low} TO {low + 100}]"),
-    "groups": ("groups", lambda a, b, low: a),
-    "top 10": ("top", lambda a, b, low: a),
-}
+SCHEMA = {"schema": [
+    {"name": "body", "kind": "text", "default": True}, {"name": "tag", "kind": "keyword"},
+    {"name": "price", "kind": "u64"}, {"name": "temp", "kind": "i64"},
+]}
 
 
-def lines():
-    yield from (json.dumps(document) for document in DOCUMENTS)
-    for kind, (asked, query) in KINDS.items():
-        yield from (f"{kind}\t{asked}\t{query(*case)}" for case in CASES)
+class Document(NamedTuple):
+    body: str
+    tag: str
+    price: int
+    temp: int
 
 
-def outputs(name, stands_on, runs=1):
-    """The lines that the program bench/NAME writes about these documents and searches, split at tabs; of several runs, one
-    after the other."""
-    with tempfile.TemporaryDirectory() as scratch:
-        copy = pathlib.Path(scratch) / "copy"
-        shutil.copytree(ROOT, copy, ignore=shutil.ignore_patterns(".git"))
-        crate = copy / "crates" / f"{name}_bench"
-        # The gate takes no source outside of the crates, so they end in .txt there.
-        for source in (ROOT / "bench" / name).rglob("*.txt"):
-            place = crate / source.relative_to(ROOT / "bench" / name).with_suffix("")
-            place.parent.mkdir(parents=True, exist_ok=True)
-            shutil.copy(source, place)
-        with open(copy / "crates.txt", "a") as crates:
-            crates.write(f"{name}_bench: {stands_on}\n")
-        data = "\n".join(lines()).encode()
-        # This builds it; run on nothing, the program itself may fail.
-        subprocess.run(["rt", "run"], cwd=crate, input=b"", stdout=subprocess.DEVNULL)
-        for _ in range(runs):
-            run = subprocess.run([crate / "out" / f"{name}_bench"], input=data, stdout=subprocess.PIPE, check=True)
-            yield from (line.split("\t") for line in run.stdout.decode().splitlines())
+def vocabulary() -> list[str]:
+    """The words, the most frequent first."""
+    chance = random.Random(0)
+    letters = "abcdefghijklmnopqrstuvwxyz"
+    words: dict[str, None] = {}
+    while len(words) < VOCABULARY:
+        words["".join(chance.choices(letters, k=chance.randint(4, 9)))] = None
+    return list(words)
+
+
+WORDS = vocabulary()
+WEIGHTS = list(itertools.accumulate(1 / rank for rank in range(1, VOCABULARY + 1)))
+
+
+def tag(number: int) -> str:
+    """The tag of a number; the order of tags is that of their numbers."""
+    return f"t{number:03}"
+
+
+def words(chance: random.Random, count: int) -> list[str]:
+    """So many words, drawn as those of the texts are."""
+    return chance.choices(WORDS, cum_weights=WEIGHTS, k=count)
+
+
+def documents(count: int, seed: int = 1) -> Iterator[Document]:
+    """The first `count` documents."""
+    chance = random.Random(seed)
+    for _ in range(count):
+        body = " ".join(words(chance, WORDS_EACH))
+        yield Document(body, tag(chance.randrange(TAGS)), chance.randrange(PRICES), chance.randrange(LEAST_TEMP, LEAST_TEMP + TEMPS))
+
+
+def add(document: Document) -> str:
+    """The line of a script that adds a document."""
+    return json.dumps({"add": document._asdict()}, separators=(",", ":"))
+
+
+def doomed(given: Iterable[Document], share: int = 10, seed: int = 2) -> tuple[list[int], list[int]]:
+    """A random one in `share` of the documents, for deletes: the prices that they alone have, and the documents' numbers, rising."""
+    having: dict[int, list[int]] = {}
+    for number, document in enumerate(given):
+        having.setdefault(document.price, []).append(number)
+    prices = list(having)
+    random.Random(seed).shuffle(prices)
+    wanted = sum(map(len, having.values())) // share
+    ends = itertools.accumulate(len(having[price]) for price in prices)
+    chosen = [price for price, end in zip(prices, ends) if end <= wanted]
+    return chosen, sorted(number for price in chosen for number in having[price])

@@ -1,16 +1,26 @@
-"""Times an index within a C and a Python program, beside the program `fts run --merge policy`.
+"""Times an index within a C and a Python program, beside the program `fts run --merge policy` and SQLite's FTS5.
 
     python3 bench/embed.py [DOCUMENTS] [SEARCHES]
     python3 bench/embed.py instructions [DOCUMENTS] [SEARCHES]
+    python3 bench/embed.py package [DOCUMENTS]
 
-Build the library (docs/EMBEDDING.md) and the program (README.md) first. The documents are those of bench/scale.py,
+Build the library (docs/EMBEDDING.md) and the program (README.md) first. The documents are those of bench/corpus.py,
 100,000 without an argument, in one commit, and 1,000 searches a kind. Each number is microseconds a line, the least of
 three runs; that of the program is the time of a run with the lines, less that of a run without, so its reads and writes
 count there. With the word `instructions` it counts those a line, by callgrind, of 3,000 documents and 500 searches a
 kind, which other work on the machine doesn't change; Python is left out.
+
+With the word `package` it times the calls of the Python package beside SQLite's FTS5 in memory, in microseconds of
+processor time, the least of five runs: adds of 20,000 of the documents without their commit, by `add` and by
+`add_many`, beside `execute` and `executemany`; and ten hits by a number over 100 documents of 20,000 words, with the
+titles alone and with the whole documents. It needs the library and no program.
 """
+import contextlib
+import json
 import pathlib
+import random
 import re
+import sqlite3
 import subprocess
 import sys
 import tempfile
@@ -18,24 +28,40 @@ import time
 
 ROOT = pathlib.Path(__file__).resolve().parent.parent
 PROGRAM = [str(ROOT / "crates/fts/out/fts"), "run", "--merge", "policy"]
-COUNTS = sys.argv[1:2] == ["instructions"]
-GIVEN = [int(word) for word in sys.argv[1 + COUNTS:]]
-DOCUMENTS, SEARCHES = GIVEN + [[100_000, 1_000], [3_000, 500]][COUNTS][len(GIVEN):]
-sys.argv[1:] = [str(DOCUMENTS)]
+COUNTS, PACKAGE = sys.argv[1:2] == ["instructions"], sys.argv[1:2] == ["package"]
+GIVEN = [int(word) for word in sys.argv[1 + (COUNTS or PACKAGE):]]
+USUAL = [20_000, 0] if PACKAGE else [3_000, 500] if COUNTS else [100_000, 1_000]
+DOCUMENTS, SEARCHES = GIVEN + USUAL[len(GIVEN):]
+LONG_DOCUMENTS, LONG_WORDS = 100, 20_000
 sys.path[:0] = [str(ROOT / "bindings/python")]
 
 import link  # noqa: E402
-import scale  # noqa: E402
+import corpus  # noqa: E402
+
+CHANCE = random.Random(1)
+
+
+def commands():
+    """The lines of a script that adds the documents, with one commit."""
+    yield corpus.SCHEMA
+    for document in corpus.documents(DOCUMENTS):
+        yield {"add": document._asdict()}
+    yield {"commit": True}
+
+
+def write(path, lines):
+    with open(path, "w") as file:
+        file.writelines(json.dumps(line) + "\n" for line in lines)
 
 
 def searches(kind):
     for _ in range(SEARCHES):
-        a, b = scale.words(2)
-        n = scale.random.randrange(900)
+        a, b = corpus.words(CHANCE, 2)
+        n = CHANCE.randrange(corpus.LEAST_TEMP, corpus.LEAST_TEMP + corpus.TEMPS - 10)
         yield {"search": {
             "a term": {"query": a}, "+a +b": {"query": f"+{a} +{b}"},
-            "groups": {"query": a, "groups": "n"}, "a range": {"query": f"n:[{n} TO {n + 100}]"},
-            "top 10": {"query": a, "top": {"by": "z", "k": 10, "order": "falling"}},
+            "groups": {"query": a, "groups": "temp"}, "a range": {"query": f"temp:[{n} TO {n + 9}]"},
+            "top 10": {"query": a, "top": {"by": "price", "k": 10, "order": "falling"}},
         }[kind]}
 
 
@@ -80,10 +106,10 @@ def by_c(program, folder, names):
 
 
 def by_python(folder, names):
-    import fts
+    import dilforec
 
     def once():
-        with fts.Index() as index:
+        with dilforec.Index() as index:
             for name in ("documents", *names):
                 lines = pathlib.Path(folder, name).read_bytes().splitlines()
                 began = time.perf_counter()
@@ -112,14 +138,94 @@ def count(program, folder):
         print(f"{kind:14}{each[0]:10.2f}{each[1]:10.2f}")
 
 
+def processor_time(of):
+    """The seconds of this process that a call takes, the least of five."""
+    def once():
+        began = time.process_time()
+        of()
+        return time.process_time() - began
+
+    return min(once() for _ in range(5))
+
+
+def adds():
+    """Microseconds of processor time an add takes in this package and in FTS5, one alone and one of many."""
+    import dilforec
+
+    documents = [document._asdict() for document in corpus.documents(DOCUMENTS)]
+    rows = [tuple(document.values()) for document in documents]
+    fields = [dilforec.Field(**field) for field in corpus.SCHEMA["schema"]]
+
+    def into_index(add):
+        def run():
+            with dilforec.Index(*fields) as index:
+                add(index)
+        return processor_time(run) / len(documents) * 1e6
+
+    def into_table(add):
+        def run():
+            with contextlib.closing(sqlite3.connect(":memory:", isolation_level=None)) as base:
+                base.execute("create virtual table d using fts5(body, tag unindexed, price unindexed, temp unindexed)")
+                base.execute("begin")
+                add(base)
+                base.execute("commit")
+        return processor_time(run) / len(documents) * 1e6
+
+    insert = "insert into d values (?, ?, ?, ?)"
+    return [
+        ("an add", into_index(lambda index: [index.add(document) for document in documents]),
+         into_table(lambda base: [base.execute(insert, row) for row in rows])),
+        ("an add of many", into_index(lambda index: index.add_many(documents)),
+         into_table(lambda base: base.executemany(insert, rows))),
+    ]
+
+
+def titles():
+    """Microseconds of processor time a top list of ten takes over long documents, with the titles alone and whole."""
+    import dilforec
+
+    title = [" ".join(corpus.words(CHANCE, 5)) for _ in range(LONG_DOCUMENTS)]
+    text = [" ".join(corpus.words(CHANCE, LONG_WORDS)) for _ in range(10)]
+    top = dilforec.Top("n", 10)
+    with dilforec.Index(dilforec.text("title", True), dilforec.text("body"), dilforec.u64("n")) as index:
+        index.add_many({"title": f"all {title[n]}", "body": text[n % 10], "n": n} for n in range(LONG_DOCUMENTS))
+        index.commit()
+        with contextlib.closing(sqlite3.connect(":memory:")) as base:
+            base.execute("create virtual table d using fts5(title, body, n unindexed)")
+            base.executemany("insert into d values (?, ?, ?)",
+                             ((f"all {title[n]}", text[n % 10], n) for n in range(LONG_DOCUMENTS)))
+
+            def asked(columns):
+                query = f"select {columns} from d where title match 'all' order by n limit 10"
+                return lambda: base.execute(query).fetchall()
+
+            return [
+                ("ten titles", processor_time(lambda: index.search("all", top=top, fields=["title"])) * 1e6,
+                 processor_time(asked("title")) * 1e6),
+                ("ten documents", processor_time(lambda: index.search("all", top=top)) * 1e6,
+                 processor_time(asked("title, body")) * 1e6),
+            ]
+
+
+def package():
+    """Prints a row for each call of the package, beside FTS5."""
+    print(f"{DOCUMENTS:,} documents; microseconds of processor time a call")
+    print(f"{'':16}{'dilforec':>10}{'FTS5':>10}")
+    for rows in adds, titles:
+        for name, ours, theirs in rows():
+            print(f"{name:16}{ours:10.2f}{theirs:10.2f}", flush=True)
+
+
 def main():
     link.link()
+    if PACKAGE:
+        return package()
     with tempfile.TemporaryDirectory() as folder:
-        scale.write(f"{folder}/documents", scale.commands())
+        write(f"{folder}/documents", commands())
         for number, kind in enumerate(KINDS):
-            scale.write(f"{folder}/{number}", searches(kind))
+            write(f"{folder}/{number}", searches(kind))
         program = f"{folder}/embed"
-        made_of = [ROOT / "bench/embed.c", *link.archives()]
+        made_of = [ROOT / "bench/embed.c", link.ARCHIVE]
         subprocess.run(["cc", "-O2", "-I", ROOT / "bindings/c", "-o", program, *made_of], check=True)
         if COUNTS:
             return count(program, folder)

@@ -3,32 +3,46 @@
 
     python3 bench/index.py
 
-The documents and searches are those of bench/corpus.py: eight segments of all 100,000 documents each for the searches, ten for the
-rest. The program stands in bench/index.
+The documents and searches are those of bench/script.py: eight segments of all 100,000 documents each for the searches, ten for the rest. The
+program is in bench/index.
 """
-import collections
+from __future__ import annotations
 
-from corpus import KINDS, outputs
+import collections
+from typing import Any
+
+from crates import outputs, searched
+from floor_table import number, table
+from search import KINDS
 
 CRATES = "fts_index fts_rounds fts_snapshots fts_pool fts_query fts_model serde_json anyhow"
-told = collections.defaultdict(list)
-for what, *rest in outputs("index", CRATES):
-    told[what].append(rest)
+WORKERS = (1, 2, 4)
 
-nanos = {(kind, int(workers)): int(time) / int(count) for kind, workers, count, time, _ in told["search"]}
-print("| 8 segments of 100,000 documents | 1 worker, us | 2 workers | 4 workers |")
-print("|---|---|---|---|")
-for kind in KINDS:
-    one, two, four = (nanos[kind, workers] for workers in (1, 2, 4))
-    print(f"| `{kind}` | {one / 1000:.0f} | {one / two:.2f} times | {one / four:.2f} times |")
 
-print("\ncommits of one add to 1,000,000 documents: segments and microseconds")
-print(", ".join(f"{segments}: {int(time) / 1000:.0f}" for segments, time in told["commit"]))
+def measure(count: int = 100_000, each: int = 200) -> dict[str, list[list[str]]]:
+    """What the program told, by the first word of each line."""
+    told: dict[str, list[list[str]]] = collections.defaultdict(list)
+    for line in outputs("index", CRATES, searched(count, each, KINDS)):
+        what, *rest = line.split("\t")
+        told[what].append(rest)
+    return dict(told)
 
-print("\nsearchers of a reader: places, threads, nanoseconds each")
-for places, threads, count, time, *_ in told["searcher"]:
-    print(f"{places}, {threads}: {int(time) / int(count):.0f}")
 
-print("\nsearches of three readers: commits beside them, searches a second")
-for commits, count, rounds, time in told["beside"]:
-    print(f"{commits}: {3 * int(count) * int(rounds) / int(time) * 1e9:.0f}")
+def shown(raw: dict[str, Any]) -> str:
+    nanos = {(kind, int(workers)): int(time) / int(count) for kind, workers, count, time, _ in raw["search"]}
+    rows = [[kind, number(nanos[kind, 1] / 1e3), *(number(nanos[kind, 1] / nanos[kind, workers]) for workers in WORKERS[1:])]
+            for kind in KINDS if (kind, 1) in nanos]
+    commits = [[segments, number(int(time) / 1e3)] for segments, time in raw["commit"]]
+    searchers = [[places, threads, number(int(time) / int(count))] for places, threads, count, time, *_ in raw["searcher"]]
+    beside = [[commits, number(3 * int(count) * int(rounds) / int(time) * 1e9)] for commits, count, rounds, time in raw["beside"]]
+    return "\n\n".join([
+        "Eight segments of 100,000 documents, and ten for what follows the first table.",
+        table(["", "one worker, microseconds", *(f"{workers} workers, times as fast" for workers in WORKERS[1:])], rows),
+        table(["segments", "a commit of one add, microseconds"], commits),
+        table(["readers", "threads", "a searcher, nanoseconds"], searchers),
+        table(["commits beside three readers", "their searches a second"], beside),
+    ])
+
+
+if __name__ == "__main__":
+    print(shown(measure()))

@@ -1,58 +1,49 @@
+#!/usr/bin/env python3
 """Times the layer of packed numbers (`fts_pack`, `fts_column`, `fts_bits`) beside the same loops in C++ over the same numbers.
 
-    python3 bench/pack.py [RT]
+    python3 bench/pack.py
 
-Puts `bench/pack` among the crates for the while, proves it, runs it and `bench/pack.cpp`, and prints a table: nanoseconds
-a number, the fastest of many rounds by the thread's processor time. The kernel in C++ goes the same way, the plain loop
-takes one number after the other. RT is the command of the kit, `rt` unless it is given.
+The program is in bench/pack, the loops in bench/pack.cpp. Nanoseconds a number, the fastest of many rounds by the thread's processor time. The
+kernel in C++ works the same way as the proved one, the plain loop takes one number after the other; all print a sum of what they read, and the
+sums have to agree.
 """
-import pathlib
-import shutil
-import subprocess
-import sys
+from __future__ import annotations
+
 import tempfile
+from typing import Any, Iterable
 
-BENCH = pathlib.Path(__file__).resolve().parent
-TOP = BENCH.parent
-CRATE = TOP / "crates" / "pack_bench"
-RT = sys.argv[1] if len(sys.argv) > 1 else "rt"
+from crates import outputs
+from floor_table import number, table
+from programs import ROOT, run
 
-
-def lines(command, folder):
-    done = subprocess.run(command, cwd=folder, stdout=subprocess.PIPE, text=True, check=True)
-    return [line.split() for line in done.stdout.splitlines() if line.split()[:1] in [["unpack"], ["open"], ["values"], ["count"]]]
+LOOPS = ("unpack", "open", "values", "count")
 
 
-def ours():
-    listed = (TOP / "crates.txt").read_text()
-    # The gate takes no source outside of the crates, so they end in .txt here.
-    for source in (BENCH / "pack").rglob("*.txt"):
-        copy = CRATE / source.relative_to(BENCH / "pack").with_suffix("")
-        copy.parent.mkdir(parents=True, exist_ok=True)
-        shutil.copy(source, copy)
-    (TOP / "crates.txt").write_text(listed + "pack_bench: fts_pack fts_column fts_bits fts_model\n")
-    try:
-        return lines([RT, "run", "--", "go"], CRATE)
-    finally:
-        (TOP / "crates.txt").write_text(listed)
-        shutil.rmtree(CRATE)
+def told(lines: Iterable[str]) -> dict[tuple[str, str], list[int]]:
+    """By loop and width what a line tells: picoseconds a number, of one or two loops, and the sum."""
+    words = [line.split() for line in lines]
+    return {(each[0], each[1]): [int(word) for word in each[2:]] for each in words if each[:1] and each[0] in LOOPS}
 
 
-def theirs():
+def measure() -> list[dict[str, Any]]:
     with tempfile.TemporaryDirectory() as folder:
-        program = pathlib.Path(folder) / "pack"
-        subprocess.run(["g++", "-O3", "-march=x86-64-v2", "-std=c++17", "-o", program, BENCH / "pack.cpp"], check=True)
-        return {(name, width): rest for name, width, *rest in lines([program], folder)}
+        run("g++", "-O3", "-march=x86-64-v2", "-std=c++17", "-o", f"{folder}/pack", ROOT / "bench/pack.cpp")
+        theirs = told(run(f"{folder}/pack").splitlines())
+    rows = []
+    for (loop, width), (ours, total) in told(outputs("pack", "fts_pack fts_column fts_bits fts_model", [], words=["go"])).items():
+        kernel, plain, same = theirs[loop, width]
+        if total != same:
+            raise RuntimeError(f"{loop} {width} read other numbers: {total}, {same}")
+        rows.append({"loop": loop, "width": int(width), "fts": ours / 1e3, "kernel": kernel / 1e3, "plain": plain / 1e3})
+    return rows
 
 
-def main():
-    cpp = theirs()
-    print("| loop | width | fts_pack | C++ kernel | ratio | C++ plain loop |\n|---|---|---|---|---|---|")
-    for name, width, time, total in ours():
-        kernel, plain, same = cpp[(name, width)]
-        assert total == same, f"{name} {width} read other numbers: {total}, {same}"
-        mine, kernel, plain = int(time) / 1000, int(kernel) / 1000, int(plain) / 1000
-        print(f"| {name} | {width} | {mine:.3f} | {kernel:.3f} | {mine / kernel:.2f} | {plain:.3f} |")
+def shown(raw: list[dict[str, Any]]) -> str:
+    rows = [[f"`{row['loop']}`", str(row["width"]), *(f"{row[name]:.3f}" for name in ("fts", "kernel", "plain")), number(row["fts"] / row["kernel"])]
+            for row in raw]
+    return "Nanoseconds for each number (for `count`, each document), over 8,192 numbers in the first cache.\n\n" + table(
+        ["loop", "width", "fts", "C++ kernel", "C++ plain loop", "fts / kernel"], rows)
 
 
-main()
+if __name__ == "__main__":
+    print(shown(measure()))

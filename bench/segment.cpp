@@ -12,7 +12,7 @@
 #include <vector>
 
 struct Document {
-    std::string title, tag;
+    std::string body, tag;
     uint64_t price;
     int64_t temp;
 };
@@ -68,21 +68,21 @@ int main() {
     std::ios::sync_with_stdio(false);
     std::vector<Document> documents;
     for (std::string line; std::getline(std::cin, line);) {
-        documents.push_back({text_behind(line, "\"title\":\""), text_behind(line, "\"tag\":\""),
+        documents.push_back({text_behind(line, "\"body\":\""), text_behind(line, "\"tag\":\""),
                              uint64_t(number_behind(line, "\"price\":")), number_behind(line, "\"temp\":")});
     }
     auto start = std::chrono::steady_clock::now();
-    Terms titles, tags;
+    Terms bodies, tags;
     Numbers<uint64_t> prices;
     Numbers<int64_t> temps;
     for (uint32_t document = 0; document < documents.size(); document++) {
         const Document& d = documents[document];
-        add_tokens(titles, d.title, document);
+        add_tokens(bodies, d.body, document);
         add(tags, d.tag, document, 0);
         prices[d.price].push_back(document);
         temps[d.temp].push_back(document);
     }
-    size_t terms = in_order(titles) + in_order(tags) + in_order(prices) + in_order(temps);
+    size_t terms = in_order(bodies) + in_order(tags) + in_order(prices) + in_order(temps);
     auto time = std::chrono::duration_cast<std::chrono::microseconds>(std::chrono::steady_clock::now() - start);
     std::cout << documents.size() << " documents built in " << time.count() << " us by C++, " << terms << " terms\n";
 }

@@ -1,0 +1,152 @@
+"""What bench/floor.py measured, as tables of docs/MEASURED.md and as a picture; and the goals."""
+from __future__ import annotations
+
+import pathlib
+from typing import Any, NamedTuple
+
+from indexes import BITMAPS, FTS, PACKED, PLAIN
+
+Rows = dict[str, dict[str, float]]
+
+
+class Goal(NamedTuple):
+    """Microseconds that `fts run` is to take at most where the loops over plain arrays take `plain` and CRoaring takes `bitmaps`. The ratios are
+    the goal, since a machine is faster than another, and slower with other work on it."""
+    micros: float
+    plain: float
+    bitmaps: float | None = None
+
+
+# What a line costs the loops, before any document is looked at.
+LINE = 0.85
+GOALS: dict[str, dict[str, Goal]] = {
+    "live": {
+        "term": Goal(5, LINE), "absent term": Goal(1.2, LINE), "rare term": Goal(2.2, LINE), "keyword": Goal(1.5, LINE),
+        "`+a +b`": Goal(9, 62, 4.5), "AND of four": Goal(12, 259, 30), "`+a -b`": Goal(15, 186, 5.2),
+        "`a b`": Goal(20, 78, 25), "OR of ten": Goal(50, 48, 33),
+        "groups": Goal(60, 46, 95), "groups by keyword": Goal(180, 117, 168),
+        "top 10": Goal(40, 95), "top 10 over a range": Goal(40, 210), "top 10 over everything": Goal(5, 320),
+    },
+    "deleted": {
+        "term": Goal(12, 7.8), "`+a +b`": Goal(10, 63), "`a b`": Goal(30, 80), "OR of ten": Goal(65, 46),
+        "range, a tenth": Goal(18, 26), "keyword range, a tenth": Goal(18, 26), "groups": Goal(85, 80),
+        "top 10 over everything": Goal(5, 300),
+    },
+}
+HEADINGS = {"live": "All documents live", "deleted": "A tenth of the documents deleted"}
+
+
+def number(value: float | None) -> str:
+    """About three digits."""
+    if value is None:
+        return "–"
+    return f"{value:,.0f}" if value >= 100 else f"{value:.{1 if value >= 10 else 2 if value >= 0.1 else 3}f}"
+
+
+def table(head: list[str], rows: list[list[str]]) -> str:
+    return "\n".join(f"| {' | '.join(row)} |" for row in [head, ["---"] * len(head), *rows])
+
+
+def times(rows: Rows, programs: list[str]) -> str:
+    return table(["microseconds a search", *programs], [[kind, *(number(row.get(name)) for name in programs)] for kind, row in rows.items()])
+
+
+class Standing(NamedTuple):
+    """A ratio of `fts run` to a column, and what it is to be at most."""
+    column: str
+    ratio: float
+    goal: float | None
+
+    @property
+    def is_short(self) -> bool:
+        return self.goal is not None and self.ratio > self.goal
+
+
+def standings(row: dict[str, float], goal: Goal | None) -> list[Standing]:
+    """How `fts run` stands to the loops over plain arrays and to CRoaring, where these were asked."""
+    at_most = {PLAIN: goal.micros / goal.plain, BITMAPS: goal.micros / goal.bitmaps if goal.bitmaps else None} if goal else {}
+    return [Standing(name, row[FTS] / row[name], at_most.get(name)) for name in (PLAIN, BITMAPS) if FTS in row and name in row]
+
+
+def cells(row: dict[str, float], goal: Goal | None) -> list[str]:
+    """A row's ratios to the three columns to divide by, with the goal beside the first and the last."""
+    by_name = {each.column: each for each in standings(row, goal)}
+    found = []
+    for name in (PLAIN, BITMAPS):
+        each = by_name.get(name)
+        found += [number(each.ratio if each else None), number(each.goal if each else None)]
+    return [*found, number(row[FTS] / row[PACKED] if PACKED in row else None)]
+
+
+def verdict(rows: Rows, goals: dict[str, Goal]) -> str:
+    """How many goals hold, and which rows fall short of which."""
+    short = []
+    for kind, goal in goals.items():
+        told = [f"{number(each.ratio)} of {each.column}, goal {number(each.goal)}" for each in standings(rows[kind], goal) if each.is_short]
+        short += [f"{kind} ({'; '.join(told)})"] if told else []
+    return f"{len(goals) - len(short)} of {len(goals)} rows with a goal hold." + (f" These fall short: {', '.join(short)}." if short else "")
+
+
+def ratios(rows: Rows, goals: dict[str, Goal]) -> str:
+    """A table of the ratios beside the goals', and which rows fall short."""
+    head = ["", f"fts / {PLAIN}", "goal", f"fts / {BITMAPS}", "goal", f"fts / {PACKED}"]
+    return table(head, [[kind, *cells(row, goals.get(kind))] for kind, row in rows.items()]) + "\n\n" + verdict(rows, goals)
+
+
+HOW = (
+    "Microseconds of processor time a search: the least of several rounds, in several passes over all kinds, in which each program has its turn. The "
+    "index is one segment. `fts run`, the loops, CRoaring, Xapian and Groonga take lines of JSON by a pipe, and the time is that of the whole process; "
+    "`fts run` and Groonga answer in JSON. FTS5 is called through Python, and its top lists come without the number of hits. Lucene's time is that of "
+    "the thread that searches, after rounds in which its code was compiled. Whether a document is deleted is a bit that `fts run` and the loops test; "
+    "CRoaring does one AND NOT more. A goal is a ratio that was set beforehand: what `fts run` was to take, by what the column took then.")
+
+
+def opening(raw: dict[str, Any]) -> str:
+    """What was asked of which programs, and that they agree."""
+    names = [f"{name} {version}".strip() for name, version in raw["programs"].items()]
+    missing = raw["left_out"]
+    were = "was" if len(missing) == 1 else "were"
+    left_out = f"{len(missing) or 'none'} {were} left out{': ' if missing else '.'}{' '.join(missing)}"
+    return (
+        f"{raw['documents']:,} documents, {raw['searches']} searches of each kind; {raw['dead']:,} documents are deleted for the second half. "
+        f"{len(names)} programs were asked ({', '.join(names)}), {left_out} {raw['compared']:,} answers were compared with the first program's, and all "
+        "agree.")
+
+
+def shown(raw: dict[str, Any]) -> str:
+    """The tables, with what has to be known before them."""
+    parts = [opening(raw)]
+    for condition, heading in HEADINGS.items():
+        parts += [f"**{heading}**", times(raw[condition], list(raw["programs"]))]
+        if FTS in raw["programs"]:
+            parts.append(ratios(raw[condition], GOALS[condition]))
+    if raw["built"]:
+        parts.append(
+            "To build and commit the documents took `fts run` {seconds:.2f} s of processor time and left {committed:.0f} MB resident, and "
+            "{merged:.0f} MB after a merge into one segment.".format(**raw["built"]))
+    return "\n\n".join(parts)
+
+
+def draw(raw: dict[str, Any], file: pathlib.Path) -> None:
+    """Draws the times with all documents live, by matplotlib."""
+    import matplotlib  # type: ignore[import]
+    matplotlib.use("svg")
+    matplotlib.rcParams["svg.hashsalt"] = "searches"
+    from matplotlib import pyplot
+    rows: Rows = raw["live"]
+    names = list(raw["programs"])
+    width = 0.8 / len(names)
+    figure, axes = pyplot.subplots(figsize=(9, 11))
+    for place, name in enumerate(names):
+        found = [(at - 0.4 + width * (place + 0.5), row[name]) for at, row in enumerate(rows.values()) if name in row]
+        label = f"{name} run, JSON included" if name == FTS else name
+        axes.barh([at for at, _ in found], [micros for _, micros in found], width, label=label)
+    axes.set_yticks(range(len(rows)), [kind.replace("`", "") for kind in rows])
+    axes.set_xscale("log")
+    axes.set_xlabel(f"microseconds a search, {raw['documents']:,} documents")
+    axes.margins(y=0.01)
+    axes.invert_yaxis()
+    axes.legend(loc="upper center", bbox_to_anchor=(0.4, -0.06), ncol=4)
+    figure.tight_layout()
+    figure.savefig(file, metadata={"Date": None})
+    pyplot.close(figure)

@@ -1,0 +1,218 @@
+#!/usr/bin/env python3
+"""Writes docs/MEASURED.md whole from what was measured.
+
+    python3 bench/report.py [--only PART[,PART..]] [--written]
+
+Without arguments it measures every part anew; with --only, those parts, and the others keep what they were measured with, and their own commit.
+With --written nothing is measured: the page is written again from what bench/measured holds. A part's raw results are kept there, in PART.json,
+with the commit, the date, the machine, the kit and the load when its measuring began.
+
+A part is a line of `PARTS`. It names a module of bench/ that has `measure()`, which gives raw results that JSON can hold, and `shown(raw)`, which
+gives them as Markdown; or, by `printed`, a program of bench/ whose output is shown as it is.
+"""
+from __future__ import annotations
+
+import argparse
+import datetime
+import hashlib
+import importlib
+import importlib.util
+import json
+import os
+import pathlib
+import platform
+import subprocess
+import sys
+import textwrap
+import time
+from typing import Any, Callable, NamedTuple
+
+import corpus
+import floor_table
+from programs import PROGRAM, ROOT, run
+
+PAGE = ROOT / "docs/MEASURED.md"
+KEPT = ROOT / "bench/measured"
+WIDTH = 140
+
+
+class Part(NamedTuple):
+    """What `measure` gives is kept; `shown` makes Markdown of it, and `draw` the picture of that name in docs/, if there is one."""
+    name: str
+    title: str
+    measure: Callable[[], Any]
+    shown: Callable[[Any], str]
+    picture: str = ""
+    draw: Callable[[Any, pathlib.Path], object] | None = None
+    asks_program: bool = True
+
+
+def module(name: str, title: str, of: str, picture: str = "", asks_program: bool = True, **settings: Any) -> Part:
+    """A part whose module has `measure(**settings)`, `shown(raw)` and, for a picture, `draw(raw, path)`. It is imported when it is needed."""
+    return Part(name, title, lambda: importlib.import_module(of).measure(**settings), lambda raw: str(importlib.import_module(of).shown(raw)),
+                picture, (lambda raw, path: importlib.import_module(of).draw(raw, path)) if picture else None, asks_program)
+
+
+def printed(name: str, title: str, *command: str) -> Part:
+    """A part whose raw result is what a program prints, a table in Markdown or lines of text."""
+    def measure() -> Any:
+        return run(sys.executable, ROOT / command[0], *command[1:])
+
+    def shown(raw: Any) -> str:
+        text = str(raw).strip()
+        return text if text.startswith("|") else f"```\n{text}\n```"
+
+    return Part(name, title, measure, shown)
+
+
+LOOPS = ("fts", "plain arrays", "packed lists", "CRoaring")
+PARTS = (
+    module("floor", "Searches of 100,000 documents", "floor", picture="searches.svg"),
+    module("million", "Searches of 1,000,000 documents", "floor", count=1_000_000, each=100, names=LOOPS),
+    module("instructions", "Instructions of a search", "floor_instructions"),
+    module("scripts", "Scripts, by the clock", "script"),
+    module("commits", "Commits of one add, and merges", "commits"),
+    module("segments", "The building of a segment, and its bytes", "segment", asks_program=False),
+    module("collecting", "Searches without a script", "search", asks_program=False),
+    module("workers", "An index of several segments", "index", asks_program=False),
+    module("packing", "Packed numbers", "pack", asks_program=False),
+    printed("embedding", "Inside another program", "bench/embed.py"),
+    module("scale", "Partitions", "scale", asks_program=False),
+    printed("service", "The service", "bench/service.py"),
+    printed("hostile", "Scripts that were made to be slow", "bench/hostile.py"),
+)
+
+
+def commit() -> str:
+    """The commit that is checked out, and whether anything but the measurements was changed since."""
+    name = run("git", "-C", ROOT, "log", "-1", "--format=%h").strip()
+    changed = run("git", "-C", ROOT, "status", "--porcelain", "--untracked-files=no", "--", ".", ":!docs", ":!bench/measured").strip()
+    return name + " with changes" if changed else name
+
+
+def machine() -> str:
+    """Processors, their model, and memory."""
+    cpu = next((line.split(":")[1].strip() for line in open("/proc/cpuinfo") if line.startswith("model name")), platform.machine())
+    kilobytes = next(int(line.split()[1]) for line in open("/proc/meminfo") if line.startswith("MemTotal"))
+    return f"{os.cpu_count()} processors ({cpu}), {kilobytes * 1024 / 1e9:.0f} GB"
+
+
+def kit() -> str:
+    try:
+        return subprocess.run(["rt", "version"], capture_output=True, text=True, check=True).stdout.strip().splitlines()[0]
+    except (OSError, subprocess.CalledProcessError, IndexError):
+        return "none"
+
+
+def program() -> str:
+    """The beginning of the program's SHA-256, which tells whether two parts measured the same one."""
+    begins = hashlib.sha256(PROGRAM.read_bytes()).hexdigest()[:12]
+    return begins + (" (named in $FTS)" if "FTS" in os.environ else "")
+
+
+def measured(part: Part) -> dict[str, Any]:
+    """What is kept of a part: the conditions, as they were before it was measured, and its raw results."""
+    now = datetime.datetime.now(datetime.timezone.utc)
+    conditions: dict[str, Any] = {
+        "commit": commit(), "date": f"{now:%Y-%m-%d %H:%M} UTC", "machine": machine(), "kit": kit(),
+        "program": program() if part.asks_program else None, "load": [round(load, 2) for load in os.getloadavg()],
+    }
+    began = time.monotonic()
+    raw = part.measure()
+    return {**conditions, "seconds": round(time.monotonic() - began), "raw": raw}
+
+
+def place(part: Part) -> pathlib.Path:
+    return KEPT / f"{part.name}.json"
+
+
+def kept_anew(part: Part) -> bool:
+    """Measures a part and keeps its results; if that fails, says so, and what was kept stays."""
+    try:
+        told = json.dumps(measured(part), indent=1)
+    except Exception as error:
+        print(f"{part.name}: {error}", file=sys.stderr)
+        return False
+    place(part).write_text(told + "\n")
+    print(f"{part.name}: measured")
+    return True
+
+
+def kept(part: Part) -> dict[str, Any]:
+    """What was kept of the part, or nothing."""
+    found: dict[str, Any] = json.loads(place(part).read_text()) if place(part).exists() else {}
+    return found
+
+
+def section(part: Part) -> str:
+    """A part's heading, conditions, tables and picture."""
+    told = kept(part)
+    program = f" program {told['program']};" if told["program"] else ""
+    conditions = (
+        f"Commit {told['commit']}, {told['date']}, in {told['seconds']} s, on {told['machine']}; kit {told['kit']};{program} load when it began "
+        f"{', '.join(f'{load:.1f}' for load in told['load'])}.")
+    picture = [f"![{part.title}]({part.picture})"] if part.picture else []
+    return "\n\n".join([f"## {part.title}", f"    python3 bench/report.py --only {part.name}", conditions, part.shown(told["raw"]), *picture])
+
+
+INTRODUCTION = f"""# What was measured
+
+`python3 bench/report.py` writes this page: nothing in it is written by hand, and no other page gets a table of times. Each part says at which
+commit, when and on what it was measured, with which kit, how the SHA-256 of the program begins, and the load (processes that ran or waited to
+run, over 1, 5 and 15 minutes) when it began. Above a load of zero other work was on the processors: then a ratio of two columns says more than
+either. A dash means that a program has nothing for the search.
+
+## The documents
+
+{corpus.DESCRIPTION}
+
+## How searches are timed
+
+{floor_table.HOW}"""
+
+
+def wrapped(text: str) -> str:
+    """A paragraph in lines of at most WIDTH; tables, headings, pictures and code stay as they are."""
+    return text if text.startswith(("|", "#", "!", " ", "```")) else textwrap.fill(text, WIDTH, break_long_words=False, break_on_hyphens=False)
+
+
+def page() -> str:
+    there = [part for part in PARTS if kept(part)]
+    missing = ", ".join(f"{part.title.lower()} (`--only {part.name}`)" for part in PARTS if part not in there)
+    closing = [f"## Not measured yet\n\n{missing[0].upper()}{missing[1:]}."] if missing else []
+    whole = "\n\n".join([INTRODUCTION, *map(section, there), *closing])
+    return "\n\n".join(map(wrapped, whole.split("\n\n"))) + "\n"
+
+
+def draw() -> None:
+    """Draws the pictures of what was measured, if matplotlib is installed."""
+    wanted = [part for part in PARTS if part.draw and kept(part)]
+    if not importlib.util.find_spec("matplotlib"):
+        print(f"{', '.join(part.picture for part in wanted)} stays as it is, since matplotlib isn't installed (Debian: python3-matplotlib).")
+        return
+    for part in wanted:
+        assert part.draw
+        part.draw(kept(part)["raw"], PAGE.parent / part.picture)
+
+
+def main() -> None:
+    names = [part.name for part in PARTS]
+    arguments = argparse.ArgumentParser(description="Writes docs/MEASURED.md from what was measured.")
+    arguments.add_argument("--only", help="parts with commas between: " + ", ".join(names))
+    arguments.add_argument("--written", action="store_true", help="measure nothing, write the page again")
+    given = arguments.parse_args()
+    chosen = [] if given.written else given.only.split(",") if given.only else names
+    unknown = [name for name in chosen if name not in names]
+    if unknown:
+        arguments.error(f"no such part: {', '.join(unknown)}; there are {', '.join(names)}")
+    if not PROGRAM.exists() and any(part.asks_program for part in PARTS if part.name in chosen):
+        arguments.error(f"{PROGRAM} isn't there: build the program first (README.md), or name it in $FTS")
+    KEPT.mkdir(exist_ok=True)
+    failed = [part.name for part in PARTS if part.name in chosen and not kept_anew(part)]
+    draw()
+    PAGE.write_text(page())
+    sys.exit(f"not measured: {', '.join(failed)}" if failed else 0)
+
+
+if __name__ == "__main__":
+    main()

@@ -1,0 +1,106 @@
+"""The searches of bench/floor.py, by kind, over the documents of bench/corpus.py, and what each program makes of one.
+
+Words are taken by rank: the most frequent has rank 0 and is in more than nine tenths of the documents, rank 20 in about an eighth, and those
+from rank 20,000 on in about ten of 100,000.
+"""
+from __future__ import annotations
+
+import json
+import random
+from typing import Callable, NamedTuple
+
+import corpus
+
+TOP = 10
+
+
+class Search(NamedTuple):
+    """A form of query ('any', 'all', 'phrase', 'range', 'tag', 'tags', 'every') with its words, of which those with a minus aren't to be in
+    the document, or its two bounds; and what is asked: 'count', 'groups FIELD', or 'FIELD falling' or 'FIELD rising' for a top list."""
+    form: str
+    asked: str
+    parts: tuple[str, ...]
+
+
+def query(search: Search) -> str:
+    """The query in the language of a script (docs/QUERIES.md)."""
+    parts = search.parts
+    if search.form == "all":
+        return " ".join(part if part[0] == "-" else "+" + part for part in parts)
+    templates = {"phrase": '"{} {}"', "range": "price:[{} TO {}]", "tag": "tag:{}", "tags": "tag:[{} TO {}]", "every": "*"}
+    return templates.get(search.form, " ".join(parts)).format(*parts)
+
+
+def line(search: Search) -> str:
+    """The search as a line of a script."""
+    told: dict[str, object] = {"query": query(search)}
+    first, _, second = search.asked.partition(" ")
+    if first == "groups":
+        told["groups"] = second
+    elif first != "count":
+        told["top"] = {"by": first, "k": TOP, "order": second}
+    return json.dumps({"search": told}, separators=(",", ":"))
+
+
+def tabbed(search: Search) -> str:
+    """The search as a line of its parts, with tabs between."""
+    return "\t".join([search.form, search.asked, " ".join(search.parts)])
+
+
+def is_top(search: Search) -> bool:
+    return search.asked.endswith(("falling", "rising"))
+
+
+def told(reply: str) -> str:
+    """What a reply of `fts run` says, as the others write it: the count, and then `value:count` of each group or `value@document` of each hit.
+
+    Documents are numbered from 0; the stamp of the first is 1."""
+    found = json.loads(reply)
+    groups = [f"{value}:{count}" for value, count in found.get("groups", [])]
+    top = [f"{hit['value']}@{hit['stamp'] - 1}" for hit in found.get("top", [])]
+    return " ".join([str(found["count"]), *groups, *top])
+
+
+def kinds(documents: int) -> dict[str, Callable[[random.Random], Search]]:
+    """How a search of each kind is drawn, in the order of the tables."""
+    def word(chance: random.Random, first: int, end: int) -> str:
+        return corpus.WORDS[chance.randrange(first, end)]
+
+    def some(chance: random.Random, count: int, end: int) -> tuple[str, ...]:
+        return tuple(corpus.WORDS[rank] for rank in chance.sample(range(end), count))
+
+    def prices(chance: random.Random, width: int) -> tuple[str, str]:
+        low = chance.randrange(corpus.PRICES - width)
+        return str(low), str(low + width)
+
+    def tags(chance: random.Random, width: int) -> tuple[str, str]:
+        low = chance.randrange(corpus.TAGS - width)
+        return corpus.tag(low), corpus.tag(low + width - 1)
+
+    frequent = (0, 20)
+    tenth = corpus.PRICES // 10
+    return {
+        "term": lambda chance: Search("any", "count", (word(chance, 0, 200),)),
+        "absent term": lambda chance: Search("any", "count", (word(chance, 0, 200) + "zzzzzz",)),
+        "rare term": lambda chance: Search("any", "count", (word(chance, 20_000, corpus.VOCABULARY),)),
+        "keyword": lambda chance: Search("tag", "count", (corpus.tag(chance.randrange(corpus.TAGS)),)),
+        "`+a +b`": lambda chance: Search("all", "count", (word(chance, *frequent), word(chance, 20, 500))),
+        "AND of four": lambda chance: Search("all", "count", some(chance, 4, 30)),
+        "`+a -b`": lambda chance: Search("all", "count", (word(chance, 0, 100), "-" + word(chance, *frequent))),
+        "`a b`": lambda chance: Search("any", "count", some(chance, 2, 100)),
+        "OR of ten": lambda chance: Search("any", "count", some(chance, 10, 500)),
+        "phrase": lambda chance: Search("phrase", "count", some(chance, 2, 10)),
+        "range, a tenth": lambda chance: Search("range", "count", prices(chance, tenth)),
+        "range, ten documents": lambda chance: Search("range", "count", prices(chance, 10 * corpus.PRICES // documents)),
+        "keyword range, a tenth": lambda chance: Search("tags", "count", tags(chance, corpus.TAGS // 10)),
+        "groups": lambda chance: Search("any", "groups temp", (word(chance, *frequent),)),
+        "groups by keyword": lambda chance: Search("any", "groups tag", (word(chance, *frequent),)),
+        "top 10": lambda chance: Search("any", "price falling", (word(chance, *frequent),)),
+        "top 10 over a range": lambda chance: Search("range", "temp rising", prices(chance, tenth)),
+        "top 10 over everything": lambda chance: Search("every", chance.choice(("price falling", "price rising")), ()),
+    }
+
+
+def drawn(documents: int, count: int, seed: int = 3) -> dict[str, list[Search]]:
+    """So many searches of each kind."""
+    return {kind: [make(random.Random(f"{seed} {kind} {number}")) for number in range(count)] for kind, make in kinds(documents).items()}
