@@ -29,7 +29,7 @@ fn copies(rt: HostRuntime) {
 }
 
 /// The bits of all documents of a segment.
-pub(crate) fn all_set(rt: &impl Abort, alloc: Global, segment: &Segment) -> Bits {
+fn all_set(rt: &impl Abort, alloc: Global, segment: &Segment) -> Bits {
     let live = Bits::all_set(alloc, segment.docs());
     live.expect(rt, "bits")
 }
@@ -71,7 +71,7 @@ fn cursors(rt: HostRuntime) {
 }
 
 /// What a segment tells of its documents that match.
-pub(crate) fn part_of(
+fn part_of(
     rt: &impl Abort,
     alloc: Global,
     segment: &Segment,
@@ -93,12 +93,7 @@ pub(crate) fn part_of(
 }
 
 /// What two parts tell together. Where a growth was refused, they come back, and the second try succeeds.
-pub(crate) fn joined(
-    rt: &impl Abort,
-    alloc: Global,
-    parts: Vec<Part>,
-    request: &Request,
-) -> Answer {
+fn joined(rt: &impl Abort, alloc: Global, parts: Vec<Part>, request: &Request) -> Answer {
     match Part::join(alloc, parts, request) {
         Ok(answer) => answer,
         Err((parts, refusal)) => {

@@ -11,5 +11,3 @@ mod growths;
 mod pack;
 #[cfg(test)]
 mod schema;
-#[cfg(test)]
-mod tops;
