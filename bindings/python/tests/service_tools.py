@@ -90,7 +90,11 @@ class Stored(unittest.TestCase):
 
     def all(self, store):
         """All documents, by their numbers."""
-        return {document.pop("id"): document for document in store.documents(0, 10_000)}
+        all, last = {}, 0
+        while page := store.documents(last, 10_000):
+            last = page[-1]["id"]
+            all.update((document.pop("id"), document) for document in page)
+        return all
 
 
 def child(code, *words, **more):

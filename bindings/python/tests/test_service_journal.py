@@ -217,6 +217,22 @@ class Compactions(Stored):
         store.close()
         self.assertEqual(len(self.opened()), 38)
 
+    def test_many(self):
+        """More documents than a search gives at once."""
+        store, kept = self.opened(), {}
+        for start in range(0, 20_001, 1000):
+            given = [{"title": "one", "year": year} for year in range(start, min(start + 1000, 20_001))]
+            with store.transaction() as transaction:
+                for document in given:
+                    transaction.add(document)
+            kept.update(zip(transaction.ids, given))
+        store.delete(7)
+        del kept[7]
+        store.compact()
+        self.assertEqual(self.all(store), kept)
+        store.close()
+        self.assertEqual(self.all(self.opened()), kept)
+
     def test_empty(self):
         """Nothing to keep but the numbers; and again."""
         store = self.opened()
