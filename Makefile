@@ -70,7 +70,7 @@ all: $(PROGRAM) $(LIBRARY)
 crates/fts/out/fts: $(SOURCES)
 	$(HAS_KIT)
 	@echo "Proving and building what is missing: half an hour on four processors if nothing was proved before"
-	@echo "(README.md has the minutes), less than a minute if everything was."
+	@echo "(README.md has the minutes), some minutes if everything was."
 	.ci/build --version
 	touch $@
 
