@@ -92,7 +92,8 @@ def link() -> None:
     shared()
     _replace(SHARED, OUT / SONAME)
     (OUT / SHARED.name).unlink(missing_ok=True)
-    (OUT / SHARED.name).symlink_to(SONAME)
+    # No symbolic link: the gate refuses one in the tree.
+    os.link(OUT / SONAME, OUT / SHARED.name)
 
 
 if __name__ == "__main__":
