@@ -40,7 +40,7 @@ SOURCES := crates.txt HANDLES $(shell find crates -name out -prune -o \( -name '
 
 # Documents and examples keep the folders that they have here, so that their links lead somewhere.
 PAGES := README.md CHANGELOG.md $(wildcard docs/*.md docs/*.svg docs/*.png)
-EXAMPLES := $(wildcard examples/*.jsonl examples/*/*.py bindings/c/example.c bindings/python/examples/*.py)
+EXAMPLES := $(wildcard examples/*.jsonl examples/*/*.py examples/service/* bindings/c/example.c bindings/python/examples/*.py)
 DOCS = $(PAGES) $(EXAMPLES)
 
 FILL = sed -e 's|@VERSION@|$(VERSION)|g' -e 's|@DATE@|$(DATE)|g' -e 's|@PREFIX@|$(PREFIX)|g' \
@@ -71,7 +71,7 @@ crates/fts/out/fts: $(SOURCES)
 	$(HAS_KIT)
 	@echo "Proving and building what is missing: half an hour on four processors if nothing was proved before"
 	@echo "(README.md has the minutes), some minutes if everything was."
-	.ci/build --version
+	.ci/build.py --version
 	touch $@
 
 crates/fts_c/out/libfts_c.a: $(SOURCES) | $(PROGRAM)

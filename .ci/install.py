@@ -71,6 +71,8 @@ def uninstalled(place):
 
 def unpacked(folder):
     """Unpacks the packages for Debian below a folder, and returns the place, or nothing."""
+    if not all(map(shutil.which, ("dpkg-deb", "dpkg-architecture"))):
+        return skip("make deb", "dpkg-deb or dpkg-architecture isn't there")
     done = make("deb")
     if not check("make deb", done.returncode == 0, said(done)):
         return None

@@ -1,4 +1,6 @@
 """What a user does with an installation: runs scripts, reads help and pages, links programs, imports the package."""
+import http.client
+import json
 import os
 import pathlib
 import pty
@@ -6,9 +8,13 @@ import re
 import shutil
 import subprocess
 import sys
+import tempfile
 import zipfile
 
 from trials import PLAIN, ROOT, VERSION, attempt, check, is_in_page, run, said, skip
+
+sys.path.append(str(ROOT / "tests"))
+import service  # noqa: E402
 
 CC = os.environ.get("CC", "cc")
 BACKEND = ROOT / "bindings/python"
@@ -243,6 +249,7 @@ def in_python(own, name, made, package):
     done = run(own, "-m", "pip", "install", "--no-index", "--force-reinstall", made)
     if check(f"{name}: pip install of {package}", done.returncode == 0, said(done)):
         run_examples(own, name, own.parents[1], PLAIN)
+        serves(own, f"{name}: {package}", PLAIN)
 
 
 def run_examples(python, name, folder, variables):
@@ -251,6 +258,42 @@ def run_examples(python, name, folder, variables):
         done = run(python, path, cwd=folder, env=variables)
         good = done.returncode == 0 and (path.name != "books.py" or is_in_page(done.stdout))
         check(f"{name}: {path.name}", good, said(done))
+
+
+def serves(python, name, variables):
+    """The service of an installed package takes a document, finds it, and stops at SIGTERM."""
+    with tempfile.TemporaryDirectory() as folder:
+        # It is Python alone, so Debian's does for each Python.
+        if not service.DEBIAN.is_dir():
+            service.install("python3-waitress")
+        if service.DEBIAN.is_dir():
+            os.symlink(service.DEBIAN, f"{folder}/waitress")
+        paths = os.pathsep.join(filter(None, [variables.get("PYTHONPATH"), folder]))
+        variables = {**variables, "PYTHONPATH": paths}
+        if run(python, "-c", "import waitress", cwd=folder, env=variables).returncode:
+            return skip(f"{name}: the service", "waitress isn't there")
+        pathlib.Path(folder, "schema.json").write_text('[{"name":"title","kind":"text","default":true}]')
+        words = [python, "-m", "dilforec", "serve", "--schema", "schema.json", "--journal", "journal",
+                 "--listen", "127.0.0.1:0"]
+        with subprocess.Popen(words, cwd=folder, env=variables, text=True, stdout=subprocess.PIPE,
+                              stderr=subprocess.PIPE) as served:
+            ready = served.stdout.readline()
+            try:
+                told = answers(int(re.search(r":(\d+)/", ready)[1]))
+            finally:
+                served.terminate()
+                words = served.communicate(timeout=60)
+        check(f"{name}: the service", told == (201, 1) and served.returncode == 0, f"{ready}{told} {words}")
+
+
+def answers(port):
+    """The status of a posted document, and how many are found."""
+    asked = http.client.HTTPConnection("127.0.0.1", port, timeout=30)
+    asked.request("POST", "/documents", '{"title":"Programming Pearls"}', {"Content-Type": "application/json"})
+    posted = asked.getresponse()
+    posted.read()
+    asked.request("GET", "/search?q=pearls")
+    return posted.status, json.load(asked.getresponse())["count"]
 
 
 def shown(own, name):
@@ -278,4 +321,5 @@ def with_debian_python(place):
         return skip("python3-dilforec", f"there is no {python}")
     variables = {**PLAIN, "PYTHONPATH": str(place.prefix / "lib/python3/dist-packages")}
     run_examples(python, "python3-dilforec", place.root, variables)
+    serves(python, "python3-dilforec", variables)
     in_pydoc(python, "python3-dilforec", place.pages, variables)

@@ -1,10 +1,10 @@
--- Segments that fit go on to fit, and so they do where one is taken out or put in.
+-- Segments that fit go on to fit, and so they do if one is taken out or put in.
 use Rattle.std.proofs.Common.{◌≡◌, ℕ, ◌+◌, ◌<◌, List, [], ◌∷◌, ◌++◌, length, take, drop, get_or, sym, subst}
 use Rattle.std.proofs.lemmas.List.Elements.{All-weaker, All-append, All-take, All-drop, All-push, All-get_or}
-use Rattle.fts_snapshots.specs.MergedSegments.{MergedSegmentValue}
-use Rattle.fts_snapshots.specs.Snapshots.{SnapshotValue}
-use Rattle.fts_snapshots.specs.Successors.{Follows, Fits}
-use Rattle.fts_snapshots.proofs.FollowLemmas.{fits_further}
+use Rattle.dilforec.specs.MergedSegments.{MergedSegmentValue}
+use Rattle.dilforec.specs.Snapshots.{SnapshotValue}
+use Rattle.dilforec.specs.Successors.{Follows, Fits}
+use Rattle.dilforec.proofs.FollowLemmas.{fits_further}
 use Rattle.cases_index.specs.Late.{AllFit}
 
 pub all_further : (a b : SnapshotValue) → Follows a b → (ms : List MergedSegmentValue) → AllFit a ms → AllFit b ms

@@ -2,17 +2,15 @@
 // of options, and walks, which are steps over a new writer.
 #![tactic(auto)]
 
-mod asked;
-mod changed;
-mod late;
+mod changes;
+mod late_merges;
 mod script;
-mod shown;
+mod searches;
+mod views;
 mod walk;
 mod ways;
 
-use cases::{Tally, Trial, Wanted, case_on, judged, text};
-use fts_engine::{IndexEngine, LocalEngine};
-use fts_script::{EngineOver, ListEngine};
+use dilforec::script::{EngineOver, IndexEngine, ListEngine, LocalEngine};
 use script::script_of;
 use serde_json::Value;
 use std::process::ExitCode;
@@ -20,6 +18,7 @@ use std::rt::{Env, Files};
 use std::sync::Wait;
 use std::thread::Threads;
 use std::{env, fs, io};
+use testing_cases::{Tally, Trial, Wanted, case_on, judged, text};
 use ways::give_replies;
 
 /// Gives what the steps of a walk give; of a script how many replies it has, or else what some way of running it gave

@@ -1,13 +1,13 @@
 // The script of a case, and the replies that it should have.
-use cases::{Trial, Trouble, nonempty, only, text};
 use serde_json::Value;
 use std::fs;
 use std::rt::Files;
+use testing_cases::{Trial, Trouble, nonempty, only, text};
 
 /// A script and its replies, each line of both ended by an LF.
 #[derive(Drop)]
 pub(crate) struct Script {
-    /// Whether it runs over segments too. What it shows may lie in its lines alone, which no engine sees.
+    /// Whether it runs over segments too. What it shows may be in its lines alone, which no engine sees.
     pub(crate) over_segments: bool,
     pub(crate) input: String,
     pub(crate) wanted: String,
@@ -23,7 +23,7 @@ const SCHEMA: &str = "{\"schema\":[\
 /// The most that a line or a piece of it is repeated.
 const MOST: u64 = 10_000_000;
 
-/// How many times a piece stands in a stretch.
+/// How many times a piece is in a stretch.
 const STRETCH: u64 = 4096;
 
 /// How many times something stands.
@@ -37,7 +37,7 @@ fn times_of(trial: &mut Trial, json: &Value) -> u64 {
     }
 }
 
-/// Puts a text behind others, so many times.
+/// Puts a text after others, this many times.
 fn push_times(trial: &mut Trial, line: &mut String, text: &str, times: u64) {
     for _ in 0..times {
         let pushed = line.push_str(text);
@@ -45,7 +45,7 @@ fn push_times(trial: &mut Trial, line: &mut String, text: &str, times: u64) {
     }
 }
 
-/// Puts a text behind others, so many times: many of them by stretches.
+/// Puts a text after others, this many times: many of them by stretches.
 fn push_repeated(trial: &mut Trial, line: &mut String, text: &str, times: u64) {
     let mut stretch = String::new(trial.alloc());
     push_times(trial, &mut stretch, text, STRETCH);
@@ -53,7 +53,7 @@ fn push_repeated(trial: &mut Trial, line: &mut String, text: &str, times: u64) {
     push_times(trial, line, text, times % STRETCH);
 }
 
-/// Puts a piece of a line behind others: a text, or `[times, text]`.
+/// Puts a piece of a line after others: a text, or `[times, text]`.
 fn push_piece(trial: &mut Trial, line: &mut String, piece: &Value) {
     if let Some(text) = piece.as_str() {
         return push_times(trial, line, text, 1);
@@ -67,14 +67,14 @@ fn push_piece(trial: &mut Trial, line: &mut String, piece: &Value) {
     }
 }
 
-/// Puts the pieces of a line behind others.
+/// Puts the pieces of a line after others.
 fn push_pieces(trial: &mut Trial, line: &mut String, pieces: &[Value]) {
     for piece in pieces {
         push_piece(trial, line, piece);
     }
 }
 
-/// Puts a value in compact form behind others.
+/// Puts a value in compact form after others.
 fn push_compact(trial: &mut Trial, line: &mut String, json: &Value) {
     let text = json.to_string(trial.alloc());
     if let Some(text) = trial.kept(text) {
@@ -82,7 +82,7 @@ fn push_compact(trial: &mut Trial, line: &mut String, json: &Value) {
     }
 }
 
-/// A line or a reply and its end: a text as it stands, an object in compact form, or a list of pieces.
+/// A line or a reply and its end: a text as it is, an object in compact form, or a list of pieces.
 fn line_of(trial: &mut Trial, json: &Value) -> String {
     let mut line = String::new(trial.alloc());
     match json {
@@ -97,7 +97,7 @@ fn line_of(trial: &mut Trial, json: &Value) -> String {
     line
 }
 
-/// The reply to a line that stands so many times, where it stands for the i-th time from 0: its stamp rises by one.
+/// The reply to a line that stands this many times, where it stands for the i-th time from 0: its stamp rises by one.
 fn reply_of(trial: &mut Trial, json: &Value, i: u64) -> String {
     if json.is_null() {
         return String::new(trial.alloc());
@@ -118,7 +118,7 @@ impl Script {
         self.wanted.as_str().lines().count() as u64
     }
 
-    /// Puts a line behind others, so many times, and what it should be answered, if it should be.
+    /// Puts a line after others, this many times, and what it should be answered, if it should be.
     fn push(&mut self, trial: &mut Trial, line: &Value, reply: &Value, times: u64) {
         let line = line_of(trial, line);
         for i in 0..times {
@@ -128,7 +128,7 @@ impl Script {
         }
     }
 
-    /// Puts `[line, reply]` or `[line, reply, times]` behind others.
+    /// Puts `[line, reply]` or `[line, reply, times]` after others.
     fn push_pair(&mut self, trial: &mut Trial, pair: &Value) {
         let times = match pair.get(2usize) {
             Some(times) => times_of(trial, times),
@@ -164,7 +164,7 @@ fn of_files<R: AllocGlobal + Files>(rt: &R, trial: &mut Trial, case: &Value) -> 
     }
 }
 
-/// The script of lines that stand beside their replies, behind other lines and their replies.
+/// The script of lines that stand beside their replies, after other lines and their replies.
 fn of_lines(
     trial: &mut Trial,
     case: &Value,

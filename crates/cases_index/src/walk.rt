@@ -1,15 +1,15 @@
 // A walk: a new writer, and steps over it, each of which gives something, a refusal too.
 ghost use Rattle.cases_index.specs.Late.{AllFit};
 
-use crate::asked::asked;
-use crate::changed::changed;
-use crate::late::ended;
-use crate::shown::shown;
-use cases::{Trial, Trouble, nonempty, only, schema_of, text};
-use fts_index::{Batch, MergedSegment, Searcher, Writer};
+use crate::changes::changed;
+use crate::late_merges::ended;
+use crate::searches::asked;
+use crate::views::shown;
+use dilforec::{Batch, MergedSegment, Searcher, Writer};
 use serde_json::Value;
 use std::sync::Wait;
 use std::thread::Threads;
+use testing_cases::{Trial, Trouble, nonempty, only, schema_of, text};
 
 /// What the steps of a walk made beside the writer.
 #[derive(Drop)]

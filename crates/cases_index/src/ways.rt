@@ -1,11 +1,12 @@
 // The ways of running a script: over a plain list of documents, and over segments under each kind of options. The
 // engines are chosen by `main`.
 use crate::script::Script;
-use cases::{Trial, Trouble};
-use fts_script::{Cut, EngineOver, Merge, Options, Plain, Streams, run_script};
+use dilforec::Cut;
+use dilforec::script::{EngineOver, Merge, Options, Plain, Streams, run_script};
 use std::alloc::{AllocError, Global};
 use std::sync::Wait;
 use std::thread::Threads;
+use testing_cases::{Trial, Trouble};
 
 /// How segments are cut and merged, and by how many workers.
 static WAYS: [(usize, Cut, Merge); 8] = [

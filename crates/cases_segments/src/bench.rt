@@ -2,14 +2,14 @@
 ghost use Rattle.std.specs.Prelude.{◌≡◌, IfSome};
 
 use crate::numbers::{all_bits, turn};
-use cases::{
+use fts_model::{Document, MOST_MERGED, Schema, Stamped};
+use fts_pack::bits::Bits;
+use fts_segment::{Builder, Segment};
+use serde_json::Value;
+use testing_cases::{
     Trial, Trouble, has, list, nonempty, number, numbers, only, only_in_case, optional_flag,
     optional_list, schema_of,
 };
-use fts_bits::Bits;
-use fts_model::{Document, MOST_MERGED, Schema, Stamped};
-use fts_segment::{Builder, Segment};
-use serde_json::Value;
 
 /// A segment, and which of its documents are live.
 #[derive(Drop)]
@@ -18,7 +18,7 @@ pub(crate) struct Bench {
     pub(crate) live: Bits,
 }
 
-/// Puts the documents of a list behind those that a case has. The stamp of each is that of its place in `stamps`, and
+/// Puts the documents of a list after those that a case has. The stamp of each is that of its place in `stamps`, and
 /// its number and one without these.
 fn push_all(
     trial: &mut Trial,
@@ -39,7 +39,7 @@ fn push_all(
     }
 }
 
-/// Puts documents behind others, so often as is said beside them.
+/// Puts documents after others, as often as is said beside them.
 fn push_repeated(
     trial: &mut Trial,
     found: &mut Vec<Stamped<Document>>,
@@ -76,7 +76,7 @@ fn documents_of(trial: &mut Trial, schema: &Schema, case: &Value) -> Vec<Stamped
     found
 }
 
-/// The stamps of so many documents of a case, and none where it has no `stamps`.
+/// The stamps of this many documents of a case, and none if it has no `stamps`.
 fn stamps_of(trial: &mut Trial, case: &Value, documents: usize) -> Vec<u32> {
     if !has(case, "stamps") {
         return Vec::new(trial.alloc());

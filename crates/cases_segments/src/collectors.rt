@@ -2,12 +2,12 @@
 use crate::bench::Bench;
 use crate::queries::query_of;
 use crate::texts::text_of;
-use cases::{Trial, Trouble, give_answer, request_of};
 use fts_collect::{Part, collect};
 use fts_model::{Query, Request};
 use serde_json::Value;
+use testing_cases::{Trial, Trouble, give_answer, request_of};
 
-/// Puts what one segment tells of a query behind what others told.
+/// Puts what one segment tells of a query after what others told.
 fn push_told(
     trial: &mut Trial,
     parts: &mut Vec<Part>,
@@ -25,7 +25,7 @@ fn push_told(
     }
 }
 
-/// Puts what one segment tells of a text behind what others told.
+/// Puts what one segment tells of a text after what others told.
 fn push_part(
     trial: &mut Trial,
     parts: &mut Vec<Part>,

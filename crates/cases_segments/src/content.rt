@@ -1,12 +1,12 @@
 // Cases of documents and of what is alive: `document`, `long_document`, `fits`, `has`, `term` and `alive`.
 use crate::texts::push_times;
-use cases::{
-    Trial, Trouble, document_of, fields_of, list, member, nonempty, number, op_of, schema_of,
-    schema_of_four, schema_with, term_of, text,
-};
 use fts_model::{Document, Op, Schema, Stamped, Term};
 use fts_scan::{alive, has};
 use serde_json::Value;
+use testing_cases::{
+    Trial, Trouble, document_of, fields_of, list, member, nonempty, number, op_of, schema_of,
+    schema_of_four, schema_with, term_of, text,
+};
 
 /// A document as JSON.
 fn json_of(trial: &mut Trial, document: &Document) -> Option<Value> {
@@ -84,7 +84,7 @@ fn give_length(trial: &mut Trial, schema: &Schema, name: &str, text: &str) {
     }
 }
 
-/// How many bytes the value has of a document with so many times `x` in a field.
+/// How many bytes the value has of a document with this many times `x` in a field.
 fn long_document(trial: &mut Trial, case: &Value) {
     let mut long = String::new(trial.alloc());
     let times = number(trial, case, "times");

@@ -4,13 +4,13 @@ ghost use Rattle.std.specs.Prelude.{◌≡◌, All, IfSome};
 use crate::bench::{Bench, segment_with};
 use crate::merges::give_merged;
 use crate::numbers::all_bits;
-use cases::{Trial, Trouble};
-use fts_bits::Bits;
 use fts_merge::{Merged, Source, merge};
 use fts_model::{Document, Schema, Stamped};
+use fts_pack::bits::Bits;
 use fts_segment::Segment;
+use testing_cases::{Trial, Trouble};
 
-/// Puts a document of a segment behind others.
+/// Puts a document of a segment after others.
 fn push_document(
     trial: &mut Trial,
     found: &mut Vec<Stamped<Document>>,
@@ -38,7 +38,7 @@ fn made_again(trial: &mut Trial, schema: &Schema, segment: &Segment) -> Option<S
     segment_with(trial, false, schema, &documents)
 }
 
-/// Puts a segment of the same documents under a schema behind others.
+/// Puts a segment of the same documents under a schema after others.
 fn push_again(trial: &mut Trial, again: &mut Vec<Segment>, schema: &Schema, segment: &Segment)
     requires { All (λ made. made.schema ≡ schema.now) again.old.items }
     ensures { All (λ made. made.schema ≡ schema.now) again.new.items }
@@ -60,7 +60,7 @@ fn all_again(trial: &mut Trial, schema: &Schema, made: &[Bench]) -> Vec<Segment>
     again
 }
 
-/// Puts a segment with its live bits behind sources.
+/// Puts a segment with its live bits after sources.
 fn push_source<'a>(
     trial: &mut Trial,
     sources: &mut Vec<Source<'a>>,

@@ -5,8 +5,8 @@
 mod bench;
 mod collectors;
 mod content;
-mod indexed;
 mod joins;
+mod lookups;
 mod matches;
 mod merges;
 mod numbers;
@@ -16,13 +16,13 @@ mod texts;
 mod walks;
 
 use bench::{Bench, cleared, made};
-use cases::{Driver, Trial, Trouble, only_in_case, run, text};
 use serde_json::Value;
 use std::io;
 use std::process::ExitCode;
+use testing_cases::{Driver, Trial, Trouble, only_in_case, run, text};
 
 /// What a case of each word may have beside its sentence, its word and what it gives.
-const MEMBERS: [(&str, &[&str]); 45] = [
+const MEMBERS: [(&str, &[&str]); 46] = [
     ("tokens", &["text"]),
     ("places", &["text"]),
     ("fold", &["text", "behind"]),
@@ -58,6 +58,10 @@ const MEMBERS: [(&str, &[&str]); 45] = [
     ("answer", &["query", "groups", "top"]),
     ("answer_openings", &["query"]),
     ("plan", &["sizes"]),
+    (
+        "plan_by",
+        &["docs", "live", "floor", "members", "most", "dead"],
+    ),
     ("postings", &["term"]),
     ("positions", &["term", "posting"]),
     ("all_positions", &["term"]),
@@ -128,7 +132,7 @@ fn without_segments(trial: &mut Trial, word: &str, case: &Value) -> bool {
 
 /// Gives what a word gives of the first segment, and answers whether it is one.
 fn in_segment(trial: &mut Trial, word: &str, case: &Value, bench: &Bench) -> bool {
-    indexed::given(trial, word, case, &bench.segment)
+    lookups::given(trial, word, case, &bench.segment)
         || matches::given(trial, word, case, bench)
         || walks::given(trial, word, case, bench)
         || merges::given(trial, word, case, bench)
@@ -141,6 +145,9 @@ fn in_segments(trial: &mut Trial, word: &str, case: &Value, made: &[Bench]) {
     }
     if word == "plan" {
         return merges::planned(trial, case);
+    }
+    if word == "plan_by" {
+        return merges::planned_by(trial, case);
     }
     let is_known = match made.first() {
         Some(bench) => in_segment(trial, word, case, bench),

@@ -2,10 +2,10 @@
 use crate::bench::Bench;
 use crate::queries::query_of;
 use crate::texts::text_of;
-use cases::{Trial, Trouble};
 use fts_cursor::{Cursor, DocSet, cursor_of};
 use fts_model::Query;
 use serde_json::Value;
+use testing_cases::{Trial, Trouble};
 
 /// The cursor of a query.
 fn cursor<'a>(trial: &mut Trial, bench: &'a Bench, query: &Query) -> Option<Cursor<'a>> {
@@ -109,7 +109,7 @@ fn give_three(trial: &mut Trial, scan: &[u32], steps: &[u32], stretches: &[u32])
     trial.close_object();
 }
 
-/// Gives the documents that a query finds, or, where `counts` says so, how many they are. Where a scan, a cursor's
+/// Gives the documents that a query finds, or, if `counts` says so, how many they are. Where a scan, a cursor's
 /// steps and its stretches find others, those of all three.
 fn give_found(trial: &mut Trial, bench: &Bench, query: &Query, counts: bool) {
     let scan = scanned(trial, bench, query);

@@ -1,16 +1,19 @@
 // Cases of deletes and merges of the first segment that was made: `strike`, `merge`, `merged_postings` and
-// `merged_column`; and `plan`.
+// `merged_column`; and `plan` and `plan_by`.
+ghost use Rattle.std.specs.Prelude.{◌≤◌};
+ghost use Rattle.fts_model.specs.Limits.{most_merged};
+
 use crate::bench::Bench;
-use crate::indexed::{column, postings};
+use crate::lookups::{column, postings};
 use crate::numbers::{all_bits, turn};
-use cases::{Trial, Trouble, list, member, number, numbers, only, op_of};
-use fts_bits::Bits;
-use fts_merge::{Merged, Source, merge, plan, strike};
-use fts_model::{Op, Schema, Stamped};
+use fts_merge::{MergePolicy, Merged, SegmentSize, Source, merge, plan, plan_by, strike};
+use fts_model::{MOST_MERGED, Op, Schema, Stamped};
+use fts_pack::bits::Bits;
 use fts_segment::Segment;
 use serde_json::Value;
+use testing_cases::{Trial, Trouble, list, member, number, numbers, only, op_of, size};
 
-/// Puts the operation of an object `{"stamp":STAMP,"op":OPERATION}` behind others.
+/// Puts the operation of an object `{"stamp":STAMP,"op":OPERATION}` after others.
 fn push_op(trial: &mut Trial, ops: &mut Vec<Stamped<Op>>, schema: &Schema, item: &Value) {
     only(trial, item, &["stamp", "op"]);
     let stamp = number(trial, item, "stamp");
@@ -42,7 +45,7 @@ fn give_live(trial: &mut Trial, live: &Bits) {
     trial.close();
 }
 
-/// The documents that are live behind operations. The segment's own bits stay.
+/// The documents that are live after operations. The segment's own bits stay.
 fn struck(trial: &mut Trial, case: &Value, bench: &Bench) {
     if bench.live.len() != bench.segment.docs() {
         return trial.fail(Trouble::Impossible("not one bit a document"));
@@ -98,6 +101,50 @@ pub(crate) fn give_merged(trial: &mut Trial, merged: &Merged) {
 pub(crate) fn planned(trial: &mut Trial, case: &Value) {
     let sizes = numbers(trial, case, "sizes");
     let candidates = plan(trial.alloc(), &sizes);
+    if let Some(candidates) = trial.kept(candidates) {
+        give_candidates(trial, &candidates);
+    }
+}
+
+/// The number under a name, if it is at most that of the documents of a segment.
+fn few(trial: &mut Trial, case: &Value, name: &'static str) -> u32
+    ensures { result ≤ most_merged }
+{
+    let number = number(trial, case, name);
+    if number > MOST_MERGED as u64 {
+        trial.fail(Trouble::Impossible("too many documents"));
+        return 0;
+    }
+    number as u32
+}
+
+/// The sizes of segments of this many documents, of which this many are live.
+fn segment_sizes(trial: &mut Trial, case: &Value) -> Vec<SegmentSize> {
+    let docs = numbers(trial, case, "docs");
+    let live = numbers(trial, case, "live");
+    let mut sizes = Vec::new(trial.alloc());
+    for (docs, live) in docs.iter().zip(&live) {
+        trial.push(
+            &mut sizes,
+            SegmentSize {
+                docs: *docs,
+                live: *live,
+            },
+        );
+    }
+    sizes
+}
+
+/// Gives what is to be merged of such segments by a policy.
+pub(crate) fn planned_by(trial: &mut Trial, case: &Value) {
+    let sizes = segment_sizes(trial, case);
+    let policy = MergePolicy {
+        floor: few(trial, case, "floor"),
+        members: size(trial, case, "members"),
+        most: few(trial, case, "most"),
+        dead: few(trial, case, "dead"),
+    };
+    let candidates = plan_by(trial.alloc(), &policy, &sizes);
     if let Some(candidates) = trial.kept(candidates) {
         give_candidates(trial, &candidates);
     }

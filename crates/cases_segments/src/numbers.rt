@@ -1,10 +1,10 @@
 // Cases of packed numbers: `block`, `block_words`, `numbers`, `column_of`, `column_words`, `bits` and `signed`.
-use cases::{Trial, Trouble, flag, list, member, numbers, size};
-use fts_bits::{Bits, i64_to_u64, u64_to_i64};
-use fts_column::Column;
 use fts_model::MOST_MERGED;
+use fts_pack::bits::{Bits, i64_to_u64, u64_to_i64};
+use fts_pack::column::Column;
 use fts_pack::{Block, Numbers};
 use serde_json::Value;
+use testing_cases::{Trial, Trouble, flag, list, member, numbers, size};
 
 /// A block of up to 128 numbers.
 fn packed(trial: &mut Trial, case: &Value) -> Option<Block> {
@@ -94,7 +94,7 @@ fn column_words(trial: &mut Trial, case: &Value) {
     }
 }
 
-/// Gives each value of a column, and one behind its last.
+/// Gives each value of a column, and one after its last.
 fn give_values(trial: &mut Trial, column: &Column) {
     trial.open();
     for doc in 0..column.len().saturating_add(1) {
@@ -111,7 +111,7 @@ fn give_range(trial: &mut Trial, range: Option<(u64, u64)>) {
     }
 }
 
-/// The least and the greatest value of a column, its values and one behind the last, and the bits of the first 64.
+/// The least and the greatest value of a column, its values and one after the last, and the bits of the first 64.
 fn column(trial: &mut Trial, case: &Value) {
     if let Some(column) = built(trial, case) {
         trial.open_object();
@@ -155,7 +155,7 @@ pub(crate) fn turn(
     }
 }
 
-/// The words of so many bits, all set or all clear, of which some are then set and some cleared.
+/// The words of this many bits, all set or all clear, some of which are then set and some cleared.
 fn bits(trial: &mut Trial, case: &Value) {
     let len = size(trial, case, "len");
     let all = flag(trial, case, "all");
@@ -168,7 +168,7 @@ fn bits(trial: &mut Trial, case: &Value) {
     }
 }
 
-/// Gives how many bits are set, their words and one behind the last.
+/// Gives how many bits are set, their words and one after the last.
 fn give_bits(trial: &mut Trial, bits: &Bits) {
     trial.open_object();
     trial.name("ones");
@@ -182,7 +182,7 @@ fn give_bits(trial: &mut Trial, bits: &Bits) {
     trial.close_object();
 }
 
-/// The place of a signed number among the numbers from 0 on, and what stands at that place.
+/// The place of a signed number among the numbers from 0 on, and what is at that place.
 fn signed(trial: &mut Trial, case: &Value) {
     match member(trial, case, "number").and_then(Value::as_i64) {
         Some(number) => {

@@ -1,10 +1,10 @@
 // Cases of queries and requests without a segment: `parse`, `syntax_byte`, `scan`, `pattern` and `request`.
 use crate::texts::text_of;
-use cases::{Trial, Trouble, give_answer, nonempty, request_of, schema_of};
 use fts_model::{Document, Query, Refusal, Schema, Stamped, Text};
 use fts_query::parse;
 use fts_scan::answer;
 use serde_json::Value;
+use testing_cases::{Trial, Trouble, give_answer, nonempty, request_of, schema_of};
 
 /// The query of a text.
 pub(crate) fn query_of(trial: &mut Trial, schema: &Schema, text: &str) -> Option<Query> {
@@ -78,7 +78,7 @@ fn parsed(trial: &mut Trial, word: &str, case: &Value) {
     }
 }
 
-/// Puts the offset and the token of a pair behind others.
+/// Puts the offset and the token of a pair after others.
 fn push_member(trial: &mut Trial, pattern: &mut Vec<(u32, Text)>, pair: &Value) {
     let offset = pair.get(0usize).and_then(Value::as_u64);
     let token = pair.get(1usize).and_then(Value::as_str);

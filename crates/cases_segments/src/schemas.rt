@@ -1,7 +1,7 @@
 // Cases of schemas: `schema` and `field`.
-use cases::{Trial, fields_of, list, schema_of, text};
 use fts_model::{Field, Kind, Schema};
 use serde_json::Value;
+use testing_cases::{Trial, fields_of, list, schema_of, text};
 
 fn kind_name(kind: Kind) -> &'static str {
     match kind {
@@ -42,7 +42,7 @@ fn give_refused(trial: &mut Trial, name: &str, back: usize) {
     trial.close_object();
 }
 
-/// The fields of the schema of a list of fields. Where it is refused, how many fields come back.
+/// The fields of the schema of a list of fields. If it is refused, how many fields come back.
 fn schema(trial: &mut Trial, case: &Value) {
     let items = list(trial, case, "fields");
     let fields = fields_of(trial, items);

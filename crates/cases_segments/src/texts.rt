@@ -1,9 +1,9 @@
 // Cases of tokens: `tokens`, `places` and `fold`.
-use cases::{Trial, nonempty, number, only, text};
 use fts_text::{Tokens, fold_into};
 use serde_json::Value;
+use testing_cases::{Trial, nonempty, number, only, text};
 
-/// Puts a text behind others, so many times.
+/// Puts a text after others, this many times.
 pub(crate) fn push_times(trial: &mut Trial, out: &mut String, text: &str, times: u64) {
     for _ in 0..times {
         let pushed = out.push_str(text);
@@ -11,7 +11,7 @@ pub(crate) fn push_times(trial: &mut Trial, out: &mut String, text: &str, times:
     }
 }
 
-/// Puts a piece of a text behind others: a text, or one that stands so many times.
+/// Puts a piece of a text after others: a text, or one that stands this many times.
 fn push_piece(trial: &mut Trial, out: &mut String, piece: &Value) {
     if let Some(piece) = piece.as_str() {
         return push_times(trial, out, piece, 1);
@@ -22,7 +22,7 @@ fn push_piece(trial: &mut Trial, out: &mut String, piece: &Value) {
     push_times(trial, out, of, times);
 }
 
-/// The text of a case under a name: one that stands there, or a list of pieces.
+/// The text of a case under a name: one that is there, or a list of pieces.
 pub(crate) fn text_of(trial: &mut Trial, case: &Value, name: &'static str) -> String {
     let mut out = String::new(trial.alloc());
     if let Some(text) = case.get(name).and_then(Value::as_str) {
@@ -77,7 +77,7 @@ fn places(trial: &mut Trial, case: &Value) {
     placed(trial, text.as_str());
 }
 
-/// A text folded behind another.
+/// A text folded after another.
 fn folded(trial: &mut Trial, case: &Value) {
     let mut out = text_of(trial, case, "behind");
     let pushed = fold_into(text(trial, case, "text"), &mut out);

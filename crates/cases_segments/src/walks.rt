@@ -2,11 +2,11 @@
 use crate::bench::Bench;
 use crate::matches::cursor_over;
 use crate::texts::text_of;
-use cases::{Trial, Trouble, has, nonempty, number, only};
 use fts_cursor::{Cursor, DocSet};
 use serde_json::Value;
+use testing_cases::{Trial, Trouble, has, nonempty, number, only};
 
-/// How many documents remain, up to so many, one after the other.
+/// How many documents remain, up to this many, one after the other.
 fn counted(cursor: &mut Cursor, most: u64) -> u64 {
     let mut count = 0u64;
     for _ in 0..most {

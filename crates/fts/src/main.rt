@@ -8,7 +8,7 @@ ghost use Rattle.fts_cli.specs.Arguments.{run_status_of};
 
 use fts_cli::args::{ArgFault, Asked, args};
 use fts_cli::status::{arg_status, run_status, status};
-use fts_engine::IndexEngine;
+use fts_engine_index::IndexEngine;
 use fts_script::{EngineOver, Fault, Options, Plain, Streams, run_script};
 use std::env::Env;
 use std::io::{Eprint, IsTerminal, Stdin, Stdout};
@@ -39,7 +39,7 @@ fn run_standard<R: AllocGlobal + Sync + Eprint, E: EngineOver<R>>(
     streams: &mut Streams<Plain<Stdin>, Plain<Stdout>>,
     options: Options,
 ) -> (u8, Result<(), Fault>)
-    // 0 where the run came to its end, 3 for want of memory, 4 for a stream that failed, 5 for stamps that are used up
+    // 0 where the run came to its end, 3 if memory runs out, 4 for a stream that failed, 5 for stamps that are used up
     ensures status { result.0 ≡ run_status_of result.1 }
 
     ensures ok { result.0 ≡ 0 → WritesOutput streams.old streams.new }

@@ -1,1 +1,2 @@
 pub mod PiecesLemmas
+pub mod TotalsLemmas

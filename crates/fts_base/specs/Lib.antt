@@ -1,3 +1,4 @@
 pub mod Pieces
 pub mod Refusals
 pub mod Results
+pub mod Totals

@@ -22,7 +22,7 @@ impl GhostBytes {
         GhostBytes {}
     }
 
-    /// These bytes came behind them.
+    /// These bytes came after them.
     pub fn and(&self, more: &[u8]) -> GhostBytes
         ensures { result.bytes ≡ self.now.bytes ++ more.now }
     {

@@ -1,8 +1,8 @@
 //! What every crate stands on: why a call is refused, and what contracts alone count.
 //!
 //! [`Refusal`] is the one enum of all refusals of the index; its `specs/` also say how what a call answers stands to
-//! what a definition says (`Gives`: that, or for want of memory nothing). Crates that know no document stand on this
-//! crate alone. [`piece`] reads one of several lists that lie one behind the other in a buffer, and [`release`] lets a
+//! what a definition says (`Gives`: that, or if memory runs out nothing). Crates that know no document stand on this
+//! crate alone. [`piece`] reads one of several lists that come one after the other in a buffer, and [`release`] lets a
 //! large buffer go.
 #![tactic(auto)]
 

@@ -27,7 +27,7 @@ pub enum Refusal {
     NotAnObject,
     /// 7: the schema has no field of that name.
     UnknownField,
-    /// 8: the value isn't of the field's kind, or is null where a term is wanted.
+    /// 8: the value isn't of the field's kind, or is null if a term is wanted.
     WrongKind,
     /// 9: a text, or a list of texts together, has more than 1,048,576 bytes.
     TextTooLong,
@@ -114,7 +114,7 @@ impl Refusal {
         self.row().1
     }
 
-    // The number and the name.
+    /// The number and the name.
     fn row(&self) -> (u8, &'static str)
         ensures number { result.0 ≡ number_of self.now }
         ensures name { result.1.now ≡ name_of self.now }

@@ -1,8 +1,8 @@
 -- One line more of a block, the first that isn't done, and the end.
 use Rattle.std.proofs.Common.{◌≡◌, ◌≢◌, ◌+◌, ◌-◌, ◌<◌, ◌≤◌, ℕ, ℤ, List, [], ◌∷◌, ◌++◌, length, take, drop, get_or, refl, sym, ap, subst, ◌∙◌, append_assoc, append-nil, arith, string_bytes}
 use Rattle.std.proofs.lemmas.List.{length-drop, take_more, drop_more}
-use Rattle.fts_session.specs.Outputs.{SessionValue, after_line, after_lines, replies, reply_to}
-use Rattle.fts_session.specs.Text.{lines_of}
+use Rattle.fts_script.specs.session.Outputs.{SessionValue, after_line, after_lines, replies, reply_to}
+use Rattle.fts_script.specs.session.Text.{lines_of}
 use Rattle.fts_c.specs.declared.codes.TheConstants.{OK}
 use Rattle.fts_c.specs.declared.state.State.{State}
 use Rattle.fts_c.specs.Blocks.{ExecutesLines, ExecutesNext, StopsAt}

@@ -1,7 +1,7 @@
 -- What a call of many lines leaves, and its code.
 use Rattle.std.specs.Prelude.{◌≡◌, ◌≢◌, ◌<◌, ℤ, ℕ, false, List, [], ◌++◌, length, take, slice_index_or, string_bytes}
-use Rattle.fts_session.specs.Outputs.{after_line, after_lines, replies, reply_to}
-use Rattle.fts_session.specs.Text.{is_blank, lines_of}
+use Rattle.fts_script.specs.session.Outputs.{after_line, after_lines, replies, reply_to}
+use Rattle.fts_script.specs.session.Text.{is_blank, lines_of}
 use Rattle.fts_c.specs.declared.codes.TheConstants.{OK, MEMORY}
 use Rattle.fts_c.specs.declared.state.State.{State}
 use Rattle.fts_c.specs.Codes.{IsCodeOf}

@@ -1,9 +1,9 @@
 -- What a call leaves of a session that is open, and the code that it answers.
 use Rattle.std.specs.Prelude.{◌≡◌, ◌≢◌, ℕ, ℤ, false, nat_le, if◌then◌else◌, Option, MatchOption}
 use Rattle.std.specs.Prelude.{List, [], ◌++◌, length, drop, string_bytes}
-use Rattle.fts_session.specs.Finds.{reply_to_search}
-use Rattle.fts_session.specs.Outputs.{SessionValue, after_line, reply_to}
-use Rattle.fts_session.specs.Text.{is_blank}
+use Rattle.fts_script.specs.session.Finds.{reply_to_search}
+use Rattle.fts_script.specs.session.Outputs.{SessionValue, after_line, reply_to}
+use Rattle.fts_script.specs.session.Text.{is_blank}
 use Rattle.fts_c.specs.declared.codes.TheConstants.{OK, MEMORY}
 use Rattle.fts_c.specs.declared.state.Call.{Call}
 use Rattle.fts_c.specs.declared.state.Call.TheVariants as calls

@@ -1,7 +1,7 @@
 -- What the codes say of a line.
 use Rattle.std.specs.Prelude.{◌≡◌, ◌<◌, ◌≤◌, ◌⊎◌, ◌↔◌, ◌^◌, ℕ, ℤ, List, length}
-use Rattle.fts_command.specs.Commands.{longest}
-use Rattle.fts_session.specs.Outputs.{SessionValue}
+use Rattle.fts_script.specs.command.Commands.{longest}
+use Rattle.fts_script.specs.session.Outputs.{SessionValue}
 use Rattle.fts_c.specs.declared.codes.TheConstants.{OK, MEMORY, LINE_TOO_LONG, USED_UP}
 
 -- a line that is tried: it isn't longer than a line may be, and there were fewer than 2^61 lines

@@ -1,7 +1,7 @@
 -- What a call of a search leaves whose reply shows some fields alone.
 use Rattle.std.specs.Prelude.{◌≡◌, ◌≢◌, ℤ, ℕ, false, List, [], string_bytes}
-use Rattle.fts_session.specs.CutSearches.{reply_to_cut_search}
-use Rattle.fts_session.specs.Text.{is_blank}
+use Rattle.fts_script.specs.session.CutSearches.{reply_to_cut_search}
+use Rattle.fts_script.specs.session.Text.{is_blank}
 use Rattle.fts_c.specs.declared.codes.TheConstants.{OK, MEMORY}
 use Rattle.fts_c.specs.declared.state.State.{State}
 use Rattle.fts_c.specs.Calls.{unless_blank}

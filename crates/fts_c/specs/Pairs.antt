@@ -1,8 +1,8 @@
 -- What a call of two lines leaves, and its code.
 use Rattle.std.specs.Prelude.{◌≡◌, ◌≢◌, ◌+◌, ◌<◌, ◌≤◌, ◌⊎◌, ◌↔◌, ◌^◌, ℤ, ℕ, List, [], length, string_bytes}
-use Rattle.fts_command.specs.Commands.{longest}
-use Rattle.fts_session.specs.Outputs.{SessionValue}
-use Rattle.fts_session.specs.Replaces.{after_replace, reply_to_replace}
+use Rattle.fts_script.specs.command.Commands.{longest}
+use Rattle.fts_script.specs.session.Outputs.{SessionValue}
+use Rattle.fts_script.specs.session.Replaces.{after_replace, reply_to_replace}
 use Rattle.fts_c.specs.declared.codes.TheConstants.{OK, LINE_TOO_LONG, USED_UP}
 use Rattle.fts_c.specs.declared.state.State.{State}
 use Rattle.fts_c.specs.Codes.{IsOfTried}

@@ -17,3 +17,6 @@ pub const CLOSED: i32 = 4;
 
 /// The length of a reply, of a closed handle.
 pub const NO_REPLY: usize = usize::MAX;
+
+/// The byte of a query that isn't refused as `Syntax`.
+pub const NO_BYTE: usize = usize::MAX;

@@ -5,10 +5,11 @@
 //! of its own over the last commit of another, which another thread may have, and which takes searches alone. What a
 //! caller owes is a handle that was opened or is null, and true lengths. What each call leaves, and which code it
 //! answers, is a definition of `specs/Calls.antt`, `Blocks`, `Pairs` or `CutSearches`, for a place that is open, and of
-//! `specs/Open.antt` for one that may be closed.
+//! `specs/Open.antt` or `StatsOf` for one that may be closed. A call that needs no handle tells where a query can't be
+//! read any further (`specs/Syntaxes.antt`).
 #![tactic(auto)]
 
-ghost use Rattle.std.specs.Prelude.{◌≡◌, Option, Some, None, MatchOption, MatchResult};
+ghost use Rattle.std.specs.Prelude.{◌≡◌, Option, Some, None, IfOk, MatchOption, MatchResult};
 ghost use Rattle.std.specs.Box.Ownership.{box_owns};
 ghost use Rattle.std.specs.contracts.impls.GlobalAllocator.TheImpl.{ghosts};
 ghost use Rattle.fts_c.specs.declared.state.State.{State};
@@ -19,19 +20,23 @@ ghost use Rattle.fts_c.specs.Pairs.{Replaces};
 ghost use Rattle.fts_c.specs.Calls.{copied, Answers, Executes, Opens, Searches};
 ghost use Rattle.fts_c.specs.Held.{held};
 ghost use Rattle.fts_c.specs.Open.{Closes, IfOpen, OpensSearcher, TellsIfOpen};
-ghost use Rattle.fts_session.specs.Outputs.{start};
+ghost use Rattle.fts_c.specs.StatsOf.{TellsStats};
+ghost use Rattle.fts_c.specs.Syntaxes.{IsSyntaxAt, TellsSyntaxAt};
+ghost use Rattle.fts_script.specs.session.Outputs.{start};
 
 mod codes;
+mod loose;
 mod state;
 
-use codes::{CLOSED, MEMORY, NO_REPLY, OK};
+use crate::loose::Loose;
+use codes::{CLOSED, MEMORY, NO_BYTE, NO_REPLY, OK};
 use core::mem::replace_with;
 use core::ptr::null_mut;
-use fts_local::LocalEngine;
+use fts_engine::{Cut, Merge, Options};
+use fts_engine_local::{LocalEngine, Stats};
 use fts_model::MOST_BUILT;
-use fts_session::Session;
-use fts_steps::{Cut, Merge, Options};
-use loose::Loose;
+use fts_query::syntax_at;
+use fts_script::session::Session;
 use state::{Call, State};
 use std::alloc::{AllocError, Global};
 use std::marker::Model;
@@ -314,6 +319,57 @@ pub extern "C" fn dilforec_reply(slot: &mut Slot, alloc: Global, out: &mut [u8])
     reply(slot, alloc, out)
 }
 
+/// Tells how large the index is.
+fn tell_stats(slot: &mut Slot, alloc: Global, out: &mut Stats) -> i32
+    ensures { TellsStats slot.old.state slot.new.state out.old out.new result }
+{
+    match take(slot, alloc) {
+        Some(handle) => {
+            let state = unwrap(handle);
+            *out = state.stats();
+            *slot = Slot::full(wrap(state));
+            OK
+        }
+        None => CLOSED,
+    }
+}
+
+/// Tells how large the index is at its last commit: 0, or 4 if the place is closed.
+#[unsafe(no_mangle)]
+pub extern "C" fn dilforec_stats(slot: &mut Slot, alloc: Global, out: &mut Stats) -> i32
+    ensures { TellsStats slot.old.state slot.new.state out.old out.new result }
+{
+    tell_stats(slot, alloc, out)
+}
+
+/// The byte of a query's `Syntax`, or the greatest `usize` if it has none.
+fn syntax_of(alloc: Global, query: &[u8]) -> Result<usize, AllocError>
+    ensures { IfOk result (IsSyntaxAt query.now) }
+{
+    match str::from_utf8(query) {
+        Ok(text) => match syntax_at(alloc, text)? {
+            Some(byte) => Ok(byte),
+            None => Ok(NO_BYTE),
+        },
+        Err(_) => Ok(NO_BYTE),
+    }
+}
+
+/// Tells the byte at which a query can't be read any further, if it is refused as `Syntax`, and else the greatest
+/// `usize`: 0, or 1 if memory was refused. The schema doesn't matter.
+#[unsafe(no_mangle)]
+pub extern "C" fn dilforec_syntax_at(alloc: Global, query: &[u8], at: &mut usize) -> i32
+    ensures { TellsSyntaxAt query.now at.old at.new result }
+{
+    match syntax_of(alloc, query) {
+        Ok(byte) => {
+            *at = byte;
+            OK
+        }
+        Err(AllocError) => MEMORY,
+    }
+}
+
 /// Ends what is open in a place.
 fn close(slot: &mut Slot, alloc: Global) -> i32
     ensures { Closes slot.old.state slot.new.state result }
@@ -407,6 +463,18 @@ pub extern "C" fn dilforec_searcher_reply(
     ensures { TellsIfOpen searcher.old.state searcher.new.state out.old out.new result }
 {
     reply(searcher, alloc, out)
+}
+
+/// Tells how large the searcher's commit is, as `dilforec_stats` does.
+#[unsafe(no_mangle)]
+pub extern "C" fn dilforec_searcher_stats(
+    searcher: &mut Slot,
+    alloc: Global,
+    out: &mut Stats,
+) -> i32
+    ensures { TellsStats searcher.old.state searcher.new.state out.old out.new result }
+{
+    tell_stats(searcher, alloc, out)
 }
 
 /// Ends a searcher, and leaves its place closed: 0, or 4 if it was closed before.

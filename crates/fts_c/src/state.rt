@@ -5,10 +5,11 @@ ghost use Rattle.fts_c.specs.Calls.{Answers, Executes, Searches};
 ghost use Rattle.fts_c.specs.CutSearches.{SearchesFields};
 ghost use Rattle.fts_c.specs.Codes.{IsFault, IsTried};
 ghost use Rattle.fts_c.specs.Pairs.{AreTried, IsFaultOfTwo, Replaces};
+ghost use Rattle.fts_c.specs.StatsOf.{AreStatsOf};
 
 use crate::codes::{LINE_TOO_LONG, MEMORY, OK, USED_UP};
-use fts_local::LocalEngine;
-use fts_session::{Session, first_line, is_blank};
+use fts_engine_local::{LocalEngine, Stats};
+use fts_script::session::{Session, first_line, is_blank};
 use std::alloc::{AllocError, Global};
 
 /// The most bytes that a line has.
@@ -16,6 +17,13 @@ const LONGEST: usize = 4_194_304;
 
 /// How many lines there may be.
 const MOST_LINES: u64 = 1 << 61;
+
+/// How large an index is that has no schema.
+const NOTHING: Stats = Stats {
+    segments: 0,
+    documents: 0,
+    live: 0,
+};
 
 /// A session over segments, and its last reply.
 #[derive(Drop)]
@@ -162,6 +170,16 @@ impl State {
             .session
             .find_fields(&((), alloc), line, names, &mut self.reply);
         code_of(found)
+    }
+
+    /// How large the index is.
+    pub(crate) fn stats(&self) -> Stats
+        ensures { AreStatsOf self.now.session.index result }
+    {
+        match self.session.index() {
+            Some(engine) => engine.stats(),
+            None => NOTHING,
+        }
     }
 
     /// Answers a line as its call does.

@@ -1,4 +1,4 @@
--- Where clap finds no fault, the numbers behind the options of `run` are within their limits.
+-- If clap finds no fault, the numbers after the options of `run` are within their limits.
 use Rattle.std.proofs.Common.{◌≡◌, List, [], true, false, refl, codes, true≢false, sym, ◌∙◌}
 use Rattle.std.specs.Str.{bytes_eq}
 use Rattle.clap.specs.Faults.{entered_fault}

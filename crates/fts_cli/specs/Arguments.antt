@@ -32,13 +32,21 @@ Asks words (Help text) = (places : Places)
     × (IsAmong DisplayHelp (faults_of places words)
     ⊎ IsAmong DisplayVersion (faults_of places words))
 
--- Why these words ask for nothing: clap finds a fault, or finds none and both `--runs` and `--deal` are given.
+-- clap finds a fault in the words
+abbrev pub IsFaulty : Places → List Text → Type 0
+IsFaulty places words = (kind : ErrorKind)
+    × IsAmong kind (faults_of places words) × (kind ≢ DisplayHelp) × (kind ≢ DisplayVersion)
+
+-- clap finds none, and both `--runs` and `--deal` are given
+abbrev pub HasTwoCuts : Places → List Text → Type 0
+HasTwoCuts places words =
+    (faults_of places words ≡ []) × (cut_given (given_to_run places words) ≡ None)
+
+-- why these words ask for nothing
 abbrev pub Refuses : List Text → ArgFault → Type 0
 Refuses words refused.Memory = Unit {0}
-Refuses words (refused.Usage text) = (places : Places) × (kind : ErrorKind)
-    × IsAmong kind (faults_of places words) × (kind ≢ DisplayHelp) × (kind ≢ DisplayVersion)
-Refuses words refused.TwoCuts = (places : Places) × (faults_of places words ≡ [])
-    × (cut_given (given_to_run places words) ≡ None)
+Refuses words (refused.Usage text) =
+    (places : Places) × (IsFaulty places words ⊎ HasTwoCuts places words)
 
 -- the exit status of a run that stopped
 abbrev pub status_of : Fault → ℕ
@@ -56,4 +64,3 @@ run_status_of (Err fault) = status_of fault
 abbrev pub arg_status_of : ArgFault → ℕ
 arg_status_of refused.Memory = 3
 arg_status_of (refused.Usage text) = 2
-arg_status_of refused.TwoCuts = 2

@@ -1,4 +1,4 @@
--- What the options behind `run` ask for, and the command as clap's definitions see it.
+-- What the options after `run` ask for, and the command as clap's definitions see it.
 use Rattle.std.specs.Prelude.{ℕ, ◌≡◌, ◌<◌, ◌^◌, List, [], ◌∷◌, Option, Some, None, IfSome, codes}
 use Rattle.std.specs.Prelude.{if◌then◌else◌, option_map, true, unwrap_or}
 use Rattle.std.specs.Option.{option_map_or}
@@ -15,11 +15,11 @@ use Rattle.clap.specs.declared.parser.matches.ArgMatches.{ArgMatches}
 use Rattle.fts_model.specs.Limits.{most_built}
 use Rattle.fts_model.specs.declared.cut.Cut.{Cut}
 use Rattle.fts_model.specs.declared.cut.Cut.TheVariants.{Runs, Deal}
-use Rattle.fts_steps.specs.declared.options.Options.{Options}
-use Rattle.fts_steps.specs.declared.options.Merge.{Merge}
-use Rattle.fts_steps.specs.declared.options.Merge.TheVariants.{Off, Policy}
+use Rattle.fts_engine.specs.declared.options.Options.{Options}
+use Rattle.fts_engine.specs.declared.options.Merge.{Merge}
+use Rattle.fts_engine.specs.declared.options.Merge.TheVariants.{Off, Policy}
 
--- Where the values of `--merge` lie in memory: clap keeps a reference to them, and compares their texts alone.
+-- Where the values of `--merge` are in memory: clap keeps a reference to them, and compares their texts alone.
 pub record Places : Type 0 where
   pub values : ℕ × ℕ
   pub off : ℕ × ℕ
@@ -77,12 +77,12 @@ abbrev pub IsNumber : Text → Type 0
 IsNumber text = IsNumeral 10 (without_leading_plus text)
     × (digits_value 10 (without_leading_plus text) < 2 ^ 64)
 
--- the number behind an option, where it is given
+-- the number after an option, if it is given
 abbrev pub number_given : Text → List Row → Option ℕ
 number_given name rows =
     option_map (λ text. digits_value 10 (without_leading_plus text)) (one_of name rows)
 
--- the cut that `--runs` and `--deal` ask for: none where both are given
+-- the cut that `--runs` and `--deal` ask for: none if both are given
 abbrev pub cut_asked : Option ℕ → Option ℕ → Option Cut
 cut_asked (Some n) (Some m) = None
 cut_asked (Some n) None = Some (Runs n)

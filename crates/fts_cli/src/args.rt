@@ -6,9 +6,13 @@ ghost use Rattle.fts_cli.specs.declared.args.ArgFault.TheVariants.{Memory};
 use crate::options::options;
 use crate::parser::parse;
 use clap::error::ErrorKind;
-use fts_steps::Options;
+use fts_engine::Options;
 use std::alloc::{AllocError, Global};
 use thiserror::Error;
+
+/// What is said to both `--runs` and `--deal`, in clap's words for options that exclude each other.
+const TWO_CUTS: &str = "error: the argument '--runs <N>' cannot be used with '--deal <M>'\n\n\
+    Usage: fts run [OPTIONS]\n\nFor more information, try '--help'.\n";
 
 /// What the command line asks for.
 #[derive(Debug, Drop)]
@@ -25,13 +29,9 @@ pub enum ArgFault {
     /// A growth was refused.
     #[error("out of memory\n")]
     Memory,
-    /// The words are no command; the text says what is wrong, and how to get help.
+    /// The words are no command, or give both `--runs` and `--deal`; the text says what is wrong, and how to get help.
     #[error("{0}")]
     Usage(String),
-    /// Both `--runs` and `--deal` are given.
-    #[error("error: the argument '--runs <N>' cannot be used with '--deal <M>'\n\n\
-        Usage: fts run [OPTIONS]\n\nFor more information, try '--help'.\n")]
-    TwoCuts,
 }
 
 impl From<AllocError> for ArgFault {
@@ -59,7 +59,7 @@ pub fn args(alloc: Global, words: Vec<String>) -> Result<Asked, ArgFault>
     match parse(alloc, words.as_slice()) {
         Ok(matches) => match options(&matches) {
             Some(options) => Ok(Asked::Run(options)),
-            None => Err(ArgFault::TwoCuts),
+            None => Err(ArgFault::Usage(String::from_str(alloc, TWO_CUTS)?)),
         },
         Err(error) => match error.kind() {
             ErrorKind::OutOfMemory => Err(ArgFault::Memory),

@@ -6,7 +6,7 @@ ghost use Rattle.clap.specs.declared.error.kind.ErrorKind.TheVariants.{ValueVali
 ghost use Rattle.fts_cli.specs.Arguments.{faults_of};
 ghost use Rattle.fts_cli.specs.RunOptions.{Places, given_to_run, number_given};
 
-/// Behind the program's name, `run` alone asks for a run, `--help` for help, `--version` for the version, and no word
+/// After the program's name, `run` alone asks for a run, `--help` for help, `--version` for the version, and no word
 /// for nothing. A number of workers is read, and refused beyond 64; so is a time of merges that there isn't.
 pub fn command_line()
     ensures run { (places : Places) (name : List ℕ) →

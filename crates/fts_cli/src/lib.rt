@@ -3,6 +3,6 @@
 
 pub mod args;
 pub mod laws;
-pub mod options;
-pub mod parser;
+mod options;
+mod parser;
 pub mod status;

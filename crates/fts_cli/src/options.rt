@@ -6,10 +6,10 @@ ghost use Rattle.fts_cli.specs.RunOptions.{AreGiven, AreInRange, IsNumber, cut_a
 ghost use Rattle.fts_cli.specs.RunOptions.{merge_asked, number_given};
 
 use clap::ArgMatches;
+use fts_engine::{Cut, Merge, Options};
 use fts_model::MOST_BUILT;
-use fts_steps::{Cut, Merge, Options};
 
-/// The number behind an option, if it is given.
+/// The number after an option, if it is given.
 fn number(run: &ArgMatches, name: &str) -> Option<usize>
     requires { IfSome (one_of name.now (rows_of (found_of run.now))) IsNumber }
     ensures { result ≡ number_given name.now (rows_of (found_of run.now)) }

@@ -31,7 +31,7 @@ pub fn arg_status(fault: &ArgFault) -> u8
     ensures { result ≡ arg_status_of fault.now }
 {
     match fault {
-        ArgFault::Usage(_) | ArgFault::TwoCuts => 2,
+        ArgFault::Usage(_) => 2,
         ArgFault::Memory => 3,
     }
 }

@@ -1,4 +1,4 @@
--- The documents whose bits are set and whose numbers lie between two.
+-- The documents whose bits are set and whose numbers are between two.
 use Rattle.std.proofs.Common.{◌≡◌, ℕ, ◌+◌, ◌<◌, ◌≤◌, Bool, true, false, inl, inr, List, [], ◌++◌, length, filter, get_or, Option, Some, None, refl, sym, ap, subst, ◌∙◌, arith, All, AllPairs, Contains}
 use Rattle.std.specs.Prelude.{slice_get}
 use Rattle.std.specs.List.Sorted.{IsStrictlyIncreasing}
@@ -8,7 +8,7 @@ use Rattle.std.proofs.lemmas.List.Elements.{All-append, All-contains, All-from_g
 use Rattle.std.proofs.lemmas.List.Kept.{AllPairs-filter, AllPairs-from_increasing}
 use Rattle.std.proofs.lemmas.Option.{get_or_from_slice_get, slice_get-get_or}
 use Rattle.fts_model.proofs.Lists.{Contains-filter, Contains-from_filter, one_order}
-use Rattle.fts_column.specs.Column.{is_within}
+use Rattle.fts_pack.specs.column.Column.{is_within}
 use Rattle.fts_segment.specs.Between.{AreBetween}
 use Rattle.fts_segment.specs.Segments.{numbers_where}
 use Rattle.fts_segment.proofs.HoldingLemmas.{numbers_apart}

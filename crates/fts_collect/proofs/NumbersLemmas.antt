@@ -1,4 +1,4 @@
--- Numbers as a column keeps them stand in the order of the numbers that they are.
+-- Numbers as a column keeps them are in the order of the numbers that they are.
 use Rattle.std.proofs.Common.{◌≡◌, ℕ, ◌-◌, ◌^◌, ◌<◌, ◌≤◌, nat_lt, Bool, true, false, cond, refl, arith}
 use Rattle.std.specs.Prelude.{pos, negsuc}
 use Rattle.std.specs.Ordering.{nat_cmp, int_cmp}
@@ -8,7 +8,7 @@ use Rattle.std.specs.declared.cmp.Ordering.TheVariants.{Less, Equal, Greater}
 use Rattle.fts_model.specs.declared.schema.Kind.{Kind}
 use Rattle.fts_model.specs.declared.schema.Kind.TheVariants as kinds
 use Rattle.fts_model.specs.Answers.{number_cmp}
-use Rattle.fts_bits.specs.Signed.{i64_of}
+use Rattle.fts_pack.specs.bits.Signed.{i64_of}
 use Rattle.fts_collect.specs.Internals.Tallies.{number_at}
 
 -- below 2 ^ 63 the order is turned round twice

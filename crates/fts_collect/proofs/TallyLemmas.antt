@@ -14,8 +14,8 @@ use Rattle.std.proofs.lemmas.List.{append-nil, ext_get_or, get_or-set_other, get
 use Rattle.std.proofs.lemmas.Cmp.{nat_cmp_total, tied_itself}
 use Rattle.fts_model.specs.Answers.{count_one}
 use Rattle.fts_scan.specs.Scans.{hits_counted}
-use Rattle.fts_column.specs.Counts.{AreWithin, having, is_value}
-use Rattle.fts_column.proofs.CountsLemmas.{mod-add}
+use Rattle.fts_pack.specs.column.Counts.{AreWithin, having, is_value}
+use Rattle.fts_pack.proofs.CountsLemmas.{mod-add}
 use Rattle.fts_collect.specs.Internals.Tallies.{counts_from, counts_of, present_at, AreCounts}
 
 -- numbers that omega finds equal

@@ -16,7 +16,7 @@ use Rattle.fts_model.specs.Schemas.{holds_numbers}
 use Rattle.fts_model.specs.Documents.{DocumentValue, CanHave, value_in_field, fits_i64}
 use Rattle.fts_model.specs.Operations.{kind_at}
 use Rattle.fts_model.specs.Answers.{number_in_value, number_in_field}
-use Rattle.fts_bits.specs.Signed.{u64_of, i64_of}
+use Rattle.fts_pack.specs.bits.Signed.{u64_of, i64_of}
 use Rattle.fts_segment.specs.Segments.{SegmentValue, number_of, column}
 use Rattle.fts_collect.specs.Internals.Tallies.{number_at}
 

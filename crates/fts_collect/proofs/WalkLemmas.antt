@@ -3,7 +3,7 @@ use Rattle.std.proofs.Common.{◌≡◌, ℕ, zero, suc, ◌+◌, ◌-◌, ◌^�
 use Rattle.std.specs.Prelude.{nat_le, option_map}
 use Rattle.std.specs.Option.{option_map_or}
 use Rattle.std.specs.List.{filter_map, cons_option}
-use Rattle.fts_column.specs.Column.{is_within}
+use Rattle.fts_pack.specs.column.Column.{is_within}
 use Rattle.fts_segment.specs.Segments.{numbers_where}
 use Rattle.fts_model.proofs.Lists.{Contains-behind, Contains-first}
 use Rattle.fts_collect.specs.declared.top_k.Key.{Key}

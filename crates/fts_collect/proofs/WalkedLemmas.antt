@@ -13,7 +13,7 @@ use Rattle.fts_model.specs.declared.query.Request.{Request}
 use Rattle.fts_model.specs.declared.schema.Field.{Field}
 use Rattle.fts_model.specs.Documents.{DocumentValue}
 use Rattle.fts_model.specs.Queries.{is_limit, is_number_field, is_ordered_field, request_fits}
-use Rattle.fts_column.specs.Column.{IsRangeOf, is_within}
+use Rattle.fts_pack.specs.column.Column.{IsRangeOf, is_within}
 use Rattle.fts_segment.specs.Segments.{SegmentValue, column}
 use Rattle.fts_collect.specs.declared.top_k.Key.{Key}
 use Rattle.fts_collect.specs.declared.collector.Seen.{Seen}

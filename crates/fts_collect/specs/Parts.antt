@@ -16,7 +16,7 @@ pub record PartValue : Type 0 where
   pub answer : AnswerValue
   pub openings : ℕ
 
--- how many blocks a search opens: so many for one term, and for a conjunction of terms so many at least and at most
+-- how many blocks a search opens: this many for one term, and for a conjunction of terms this many at least and at most
 pub record AreOpenings
     (query : QueryValue) (blocks : Term → ℕ) (least most : List Term → ℕ) (openings : ℕ) : Type 0 where
   pub one_term : (t : Term) → IsOfOneTerm query t → openings ≡ blocks t
@@ -29,7 +29,7 @@ OpensIn segment query part =
     AreOpenings query (blocks_with segment) (λ terms. if nat_lt 0 part.answer.count then length terms else 0)
     (most_for_musts segment) part.openings
 
--- each list of hits behind the one before it
+-- each list of hits after the one before it
 abbrev pub joined : List (List (Stamped DocumentValue)) → List (Stamped DocumentValue)
 joined lists = flat_map (λ hits. hits) lists
 

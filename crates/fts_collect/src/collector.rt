@@ -21,10 +21,10 @@ use crate::ranks::{Ranking, hits_of, numbers_of};
 use crate::tally::Tally;
 use crate::top_k::TopK;
 use crate::walk::offer_best;
-use fts_bits::Bits;
-use fts_column::Column;
 use fts_cursor::{Cursor, DocSet, cursor_of};
 use fts_model::{Hit, Query, Refusal, Request, Top};
+use fts_pack::bits::Bits;
+use fts_pack::column::Column;
 use fts_segment::Segment;
 use std::alloc::{AllocError, Global};
 
@@ -168,7 +168,7 @@ fn see(
 }
 
 /// How many hits remain of a cursor, or the greatest `usize`, where nothing else is asked for and the cursor can tell;
-/// it leaves them behind then.
+/// it passes them then.
 fn count_alone(request: &Request, cursor: &mut Cursor<'_>) -> Option<usize>
     ensures alone { IfSome result (λ _. (request.now.groups ≡ None) × (request.now.top ≡ None)) }
     ensures counted { MatchOption result (cursor.new ≡ cursor.old)
@@ -387,7 +387,7 @@ fn musts_of(query: &Query) -> usize
     }
 }
 
-/// What a segment tells of its live hits, where `live` has one bit a document: the answer to the query and the request
+/// What a segment tells of its live hits, if `live` has one bit per document: the answer to the query and the request
 /// over its live documents in their order, and the openings of a cursor that ran to its end.
 ///
 /// The hits come from a cursor, 128 at a time, and nothing is kept of them but what the request wants: counts by

@@ -12,7 +12,7 @@ use fts_model::GroupValue;
 use std::alloc::{AllocError, Global};
 use std::cmp::Ordering;
 
-/// Puts some of these groups, from a place on, behind others.
+/// Puts some of these groups, from a place on, after others.
 fn lend_rest<'a>(
     list: &mut Vec<Lent<'a>>,
     groups: &[Lent<'a>],

@@ -7,8 +7,8 @@ ghost use Rattle.fts_segment.specs.Segments.{keywords};
 ghost use Rattle.fts_collect.specs.Internals.Collected.{value_at};
 ghost use Rattle.fts_collect.specs.Internals.Lent.{value_of};
 
-use fts_bits::u64_to_i64;
 use fts_model::{GroupValue, Kind, Text};
+use fts_pack::bits::u64_to_i64;
 use fts_segment::Segment;
 use std::alloc::{AllocError, Global};
 use std::cmp::Ordering;
@@ -27,7 +27,7 @@ impl LentValue<'_> {
     ghost use Rattle.fts_model.specs.Answers.{group_cmp};
     ghost use Rattle.fts_collect.specs.Internals.Lent.{value_of};
 
-    /// How it stands to another, as values of groups do.
+    /// How it is to another, as values of groups do.
     pub(crate) fn compare(self, other: LentValue<'_>) -> Ordering
         ensures { result ≡ group_cmp (value_of self.entry) (value_of other.entry) }
     {
@@ -97,7 +97,7 @@ impl<'a> Lent<'a> {
     }
 }
 
-/// The keyword of an ordinal in a field, and no text where there is none.
+/// The keyword of an ordinal in a field, and no text if there is none.
 fn keyword_at(segment: &Segment, field: usize, ordinal: u64) -> &str
     requires { kind_at segment.now.schema field ≡ Some kinds.Keyword }
     ensures { result.now ≡ slice_index_or (keywords segment.now field) ordinal [] }

@@ -4,7 +4,7 @@
 //! one segment: their number, their groups, and the first `k` of them, which is all that any answer over more segments
 //! can need of it. [`Part::join`] adds the numbers, merges the groups number by number and picks the first of the top
 //! lists: however documents were cut into segments, the joined parts are the answer over all of them, as long as no
-//! stamp stands twice.
+//! stamp occurs twice.
 //!
 //! Documents are handles here. A part holds those of its top list alone, and joining moves them.
 #![tactic(auto)]

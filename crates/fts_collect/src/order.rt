@@ -5,7 +5,7 @@ ghost use Rattle.fts_collect.specs.Internals.Joins.{rank};
 use fts_model::{Hit, Order};
 use std::cmp::Ordering;
 
-/// How two hits stand in a top list: by their values, and where these are equal by their stamps.
+/// How two hits compare in a top list: by their values, and where these are equal by their stamps.
 pub(crate) fn rank(order: Order, a: &Hit, b: &Hit) -> Ordering
     ensures { result ≡ rank order a.now b.now }
 {

@@ -52,8 +52,8 @@ impl Part {
         self.openings
     }
 
-    /// The answer over the hits of all parts, in whatever order the parts stand, where they are answers to this request
-    /// over hits among which no stamp stands twice. The top list moves out of the parts.
+    /// The answer over the hits of all parts, in whatever order the parts stand, if they are answers to this request
+    /// over hits among which no stamp occurs twice. The top list moves out of the parts.
     ///
     /// The only refusal is `Memory`, and it hands the parts back.
     pub fn join(

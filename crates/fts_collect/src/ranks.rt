@@ -7,12 +7,12 @@ ghost use Rattle.fts_collect.specs.Internals.Ranks.{AreOfBlock, IsBeyond, Offers
 
 use crate::tally::number_at;
 use crate::top_k::{Key, TopK};
-use fts_column::Column;
 use fts_model::{Hit, Kind, Order};
+use fts_pack::column::Column;
 use fts_segment::Segment;
 use std::alloc::{AllocError, Global};
 
-/// For so many documents a column tells the range of their values.
+/// For this many documents a column tells the range of their values.
 const BLOCK: u32 = 128;
 
 // From how far apart the numbers of a column are on, blocks are looked at: eight times as far as a block has documents.
@@ -26,7 +26,7 @@ pub(crate) fn numbers_of(segment: &Segment, field: usize) -> &Column
     segment.column(field)
 }
 
-/// Where a number stands among those of 64 bits in an order, and also the number that stands there.
+/// Where a number stands among those of 64 bits in an order, and also the number that is there.
 fn rank_in(order: Order, number: u64) -> u64
     ensures { result ≡ rank_in order number }
 {
@@ -173,7 +173,7 @@ impl Ranking<'_> {
     }
 }
 
-/// Puts the hit of a key behind others. The document is a copy, which shares it.
+/// Puts the hit of a key after others. The document is a copy, which shares it.
 fn push_hit(
     segment: &Segment,
     kind: Kind,

@@ -4,9 +4,9 @@ ghost use Rattle.std.specs.Prelude.{nat_eq, option_to_list, slice_index_or};
 ghost use Rattle.fts_scan.specs.Scans.{counts_of_sorted};
 ghost use Rattle.fts_collect.specs.Internals.Tallies.{counts_from, number_at, present_at};
 
-use fts_bits::u64_to_i64;
-use fts_column::Column;
 use fts_model::{Kind, Number};
+use fts_pack::bits::u64_to_i64;
+use fts_pack::column::Column;
 use itertools::Itertools;
 use std::alloc::{AllocError, Global};
 
@@ -20,7 +20,7 @@ pub(crate) fn number_at(kind: Kind, number: u64) -> Number
     }
 }
 
-/// The counts of numbers that stand in order: equal numbers are counted together.
+/// The counts of numbers that are in order: equal numbers are counted together.
 fn counts_of_sorted(alloc: Global, numbers: &[u64]) -> Result<Vec<(u64, u64)>, AllocError>
     ensures { IfOk result (λ list. list.items ≡ counts_of_sorted nat_eq numbers.now) }
 {
@@ -46,7 +46,7 @@ fn counts_from(alloc: Global, least: u64, counts: &[u64]) -> Result<Vec<(u64, u6
     Ok(list)
 }
 
-/// Puts the number of a document in a column behind others, if it has one.
+/// Puts the number of a document in a column after others, if it has one.
 fn push_doc(column: &Column, doc: u32, numbers: &mut Vec<u64>) -> Result<(), AllocError>
     ensures { OnOk result (numbers.new.items
         ≡ numbers.old.items ++ option_to_list (slice_index_or column.now doc None)) }
@@ -60,7 +60,7 @@ fn push_doc(column: &Column, doc: u32, numbers: &mut Vec<u64>) -> Result<(), All
     }
 }
 
-/// Puts the numbers of documents in a column behind others.
+/// Puts the numbers of documents in a column after others.
 fn push_docs(column: &Column, docs: &[u32], numbers: &mut Vec<u64>) -> Result<(), AllocError>
     ensures { OnOk result (numbers.new.items
         ≡ numbers.old.items ++ present_at column.now docs.now) }
@@ -83,10 +83,10 @@ pub(crate) enum Tally {
 /// The most numbers that are counted each at a place of its own.
 const MOST_COUNTS: u64 = 65_536;
 
-/// So many places are cleared and read in the time in which a number is sorted among others.
+/// This many places are cleared and read in the time in which a number is sorted among others.
 const COUNTS_PER_DOC: u64 = 8;
 
-/// How many places there may be for a column of so many documents: with more, its numbers are sorted sooner.
+/// How many places there may be for a column of this many documents: with more, its numbers are sorted sooner.
 fn most_counts(docs: usize) -> u64
     ensures { result ≤ MOST_COUNTS }
 {
@@ -99,7 +99,7 @@ impl Tally {
     ghost use Rattle.std.specs.Prelude.{◌≡◌, ◌<◌, ◌++◌, ◌^◌, ℕ, List, [], IfOk, OnOk, length};
     ghost use Rattle.fts_collect.specs.Internals.Tallies.{IsTally, IsTallyFor, counts_of, present_at};
 
-    /// Of no hits. There is a place for each number where they lie close together for so many documents.
+    /// Of no hits. There is a place for each number where they lie close together for this many documents.
     pub(crate) fn new(alloc: Global, column: &Column) -> Result<Tally, AllocError>
         ensures none { IfOk result (IsTally []) }
         ensures for_column { IfOk result (IsTallyFor column.now) }

@@ -38,7 +38,7 @@ pub(crate) fn room_for_hits(alloc: Global, parts: &[Part]) -> Result<Vec<Hit>, A
     Vec::with_capacity(alloc, count)
 }
 
-/// Moves the top list of a part behind hits, for which there is room.
+/// Moves the top list of a part after hits, for which there is room.
 fn move_hits(list: &mut Vec<Hit>, part: Part)
     requires { vec_len list.old + length (hits_in part) ≤ vec_capacity list.old }
     ensures items { list.new.items ≡ list.old.items ++ hits_in part }

@@ -16,7 +16,7 @@ pub(crate) struct Key {
 /// The `k` least of the keys that it was given. Contracts see `k` and these.
 ///
 /// Up to `2 * k` keys are held; when there is no room for one more, all but the least are dropped. From then on the
-/// greatest of those is a bound: what doesn't stand before it is dropped at once.
+/// greatest of those is a bound: what isn't before it is dropped at once.
 #[derive(Drop)]
 pub(crate) struct TopK {
     k: usize,

@@ -9,8 +9,8 @@ ghost use Rattle.fts_collect.specs.Internals.Walks.{IsBetween, IsEnd, RanksMore,
 
 use crate::ranks::{Ranking, numbers_of};
 use crate::top_k::TopK;
-use fts_bits::Bits;
 use fts_model::{Order, Top};
+use fts_pack::bits::Bits;
 use fts_pack::{Blocks, List};
 use fts_segment::Segment;
 use std::alloc::{AllocError, Global};
@@ -65,7 +65,7 @@ fn push_list(
     Ok(())
 }
 
-/// The documents whose bits are set and whose numbers in a field lie between two, these included, list by list.
+/// The documents whose bits are set and whose numbers in a field are between two, these included, list by list.
 fn set_between(
     alloc: Global,
     segment: &Segment,
@@ -89,7 +89,7 @@ fn set_between(
     Ok(found)
 }
 
-/// The hits whose numbers in a field lie between two, these included.
+/// The hits whose numbers in a field are between two, these included.
 fn hits_between(
     alloc: Global,
     segment: &Segment,
@@ -109,7 +109,7 @@ fn hits_between(
     Ok(found)
 }
 
-/// Where so many documents are in the lists up to this place, from the first on.
+/// Where this many documents are in the lists up to this place, from the first on.
 fn place_from_first(lists: &[List], docs: usize) -> Option<usize>
     ensures { IfSome result (λ place. place < length lists.now) }
 {
@@ -123,7 +123,7 @@ fn place_from_first(lists: &[List], docs: usize) -> Option<usize>
     None
 }
 
-/// Where so many documents are in the lists from this place on.
+/// Where this many documents are in the lists from this place on.
 fn place_from_last(lists: &[List], docs: usize) -> Option<usize>
     ensures { IfSome result (λ place. place < length lists.now) }
 {
@@ -139,7 +139,7 @@ fn place_from_last(lists: &[List], docs: usize) -> Option<usize>
     None
 }
 
-/// A number in a field that so many documents have, or a better one; none where fewer documents have a number. No block
+/// A number in a field that this many documents have, or a better one; none where fewer documents have a number. No block
 /// is opened.
 fn number_at_place(segment: &Segment, field: usize, order: Order, docs: usize) -> Option<u64>
     requires { is_number_field segment.now.schema field ≡ true }
@@ -157,8 +157,8 @@ fn number_at_place(segment: &Segment, field: usize, order: Order, docs: usize) -
     segment.column(field).get(doc as usize)
 }
 
-/// The bounds of the best numbers of a field that has numbers within a range: so many documents have one of these, and
-/// those that share the last of them.
+/// The bounds of the best numbers of a field that has numbers within a range: this many documents have one of these,
+/// and those that share the last of them.
 fn ends(segment: &Segment, field: usize, order: Order, range: (u64, u64), docs: usize) -> (u64, u64)
     requires { is_number_field segment.now.schema field ≡ true }
     ensures { IsEnd order range result.0 result.1 }
@@ -170,14 +170,14 @@ fn ends(segment: &Segment, field: usize, order: Order, range: (u64, u64), docs: 
     }
 }
 
-/// How many documents are looked at for the first `k` of so many hits: half as many again as there would be if hits were
-/// spread evenly over the numbers, and a few more.
+/// How many documents are looked at for the first `k` of this many hits: half as many again as there would be if hits
+/// were spread evenly over the numbers, and a few more.
 fn docs_for(k: u64, hits: usize, docs: usize) -> usize {
     let even = k.saturating_mul(docs as u64) / (hits as u64).max(1);
     even.saturating_add(even / 2).saturating_add(16) as usize
 }
 
-/// From how many documents on it takes longer to look at them than to offer each of so many hits.
+/// From how many documents on it takes longer to look at them than to offer each of this many hits.
 fn most_docs(k: u64, hits: usize) -> usize {
     k.saturating_mul(4).saturating_add(hits as u64 / 4) as usize
 }

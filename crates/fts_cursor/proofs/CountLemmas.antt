@@ -1,8 +1,8 @@
--- How many numbers of a column lie between two, and how many documents.
+-- How many numbers of a column are between two, and how many documents.
 use Rattle.std.proofs.Common.{◌≡◌, ℕ, zero, suc, ◌+◌, Bool, true, false, cond, Option, None, List, ◌∷◌, length, get_or, drop, sym, ap, ◌∙◌, arith}
 use Rattle.std.specs.Prelude.{filter}
 use Rattle.std.proofs.lemmas.List.{drop_all, drop_more}
-use Rattle.fts_column.specs.Column.{is_within}
+use Rattle.fts_pack.specs.column.Column.{is_within}
 use Rattle.fts_segment.specs.Between.{count_between}
 use Rattle.fts_cursor.specs.Scans.{has_within}
 use Rattle.fts_postings.specs.Windows.{passing}

@@ -4,11 +4,12 @@ use Rattle.std.specs.Borrow.{Bor}
 use Rattle.std.specs.Prelude.{not, None}
 use Rattle.std.specs.Int.{bit_at}
 use Rattle.std.specs.List.{filter}
+use Rattle.std.proofs.Math.Bool.{and-true}
 use Rattle.std.proofs.lemmas.Bool.{cases_Bool}
 use Rattle.std.proofs.lemmas.List.Folds.{list_all-append}
-use Rattle.fts_bits.specs.Bits.{number_of}
-use Rattle.fts_bits.proofs.BitsLemmas.{word_bit}
-use Rattle.fts_column.specs.Column.{is_within}
+use Rattle.fts_pack.specs.bits.Bits.{number_of}
+use Rattle.fts_pack.proofs.BitsLemmas.{word_bit}
+use Rattle.fts_pack.specs.column.Column.{is_within}
 use Rattle.fts_cursor.specs.Dense.{Tells, in_each, in_one, is_dense}
 use Rattle.fts_cursor.specs.Hits.{is_live}
 use Rattle.fts_cursor.specs.Scans.{has_within_live}
@@ -47,6 +48,12 @@ dense_more dense all live doc is =
     ap (λ xs. (some && in_each xs doc) && not none) is
     ∙ ap (λ b. (some && b) && not none) (list_all-append (λ (b : Bor (List Bool)). is_live b.now doc) dense.all.items (live ∷ []))
     ∙ and_last some (in_each dense.all.items doc) none (is_live live.now doc)
+
+-- whether the document's bit is set in each, one list of bits more
+pub each_more : (before all : List (Bor (List Bool))) (live : Bor (List Bool)) (doc : ℕ) → all ≡ before ++ live ∷ [] → in_each all doc ≡ (in_each before doc && is_live live.now doc)
+each_more before all live doc is =
+    ap (λ xs. in_each xs doc) is ∙ list_all-append (λ (b : Bor (List Bool)). is_live b.now doc) before (live ∷ [])
+    ∙ ap (λ b. in_each before doc && b) (and-true (is_live live.now doc))
 
 -- a word of marks and a word of bits
 pub Tells-within : (low high : ℕ) (column : List (Option ℕ)) (live : List Bool) (from at marks word : ℕ) → at ≡ from → ((k : ℕ) → k < 64 → (bit_at marks k == 1) ≡ is_within low high (get_or column (from + k) None)) → word ≡ number_of (take 64 (drop at live))

@@ -7,8 +7,8 @@ use Rattle.std.proofs.lemmas.Bool.{cases_lt}
 use Rattle.std.proofs.lemmas.List.{append-nil, get_or_past}
 use Rattle.std.proofs.lemmas.List.Folds.{list_all_more, list_any_more, list_any_none}
 use Rattle.std.proofs.lemmas.Nat.Bits.{bit_at_above, bit_at_and, bit_at_or, bit_at-lt, bit_at_not, bit_at_ones, bit_at-zero}
-use Rattle.fts_bits.specs.Bits.{number_of}
-use Rattle.fts_bits.proofs.BitsLemmas.{word_bit}
+use Rattle.fts_pack.specs.bits.Bits.{number_of}
+use Rattle.fts_pack.proofs.BitsLemmas.{word_bit}
 use Rattle.fts_cursor.specs.Hits.{is_live}
 use Rattle.std.specs.Prelude.{All}
 use Rattle.fts_cursor.specs.declared.dense.Dense.{Dense}

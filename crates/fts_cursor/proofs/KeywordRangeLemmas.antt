@@ -23,7 +23,7 @@ use Rattle.fts_segment.proofs.KeywordsLemmas.{from_excluded, from_included, to_e
 use Rattle.fts_segment.proofs.OccurrencesLemmas.{map-map}
 use Rattle.fts_postings.specs.Windows.{passing}
 use Rattle.fts_cursor.specs.Ranges.{IsLastOrdinal, is_bounded, ordinal_from, ordinal_to}
-use Rattle.fts_column.specs.Column.{is_within}
+use Rattle.fts_pack.specs.column.Column.{is_within}
 use Rattle.fts_cursor.specs.Scans.{has_within}
 use Rattle.fts_cursor.proofs.HitsLemmas.{numbers_are, passing_are, test_at}
 use Rattle.fts_cursor.proofs.RangeLemmas.{admits, small_of}

@@ -1,4 +1,5 @@
 pub mod TermsLemmas
+pub mod TermLemmas
 pub mod ScanLemmas
 pub mod WithinLemmas
 pub mod CountLemmas

@@ -1,4 +1,4 @@
--- Documents that lie in memory: what is left of them, and which of lists they are.
+-- Documents that are in memory: what is left of them, and which of lists they are.
 use Rattle.std.proofs.Common.{◌≡◌, ℕ, zero, suc, ◌+◌, ◌-◌, ◌<◌, ◌≤◌, true, ◌==◌, ◌&&◌, ◌||◌, nat_le, Option, Some, None, List, [], ◌∷◌, Contains, length, drop, get_or, refl, sym, ap, ap₂, subst, ◌∙◌, inl, inr, arith}
 use Rattle.std.specs.List.{flat_map, range_with_len, slice_get}
 use Rattle.std.specs.List.Sorted.{IsStrictlyIncreasing}
@@ -14,7 +14,7 @@ use Rattle.fts_postings.proofs.SetLemmas.{is_itself}
 use Rattle.fts_postings.proofs.PassingLemmas.{Rises-drop, Rises-passing}
 use Rattle.fts_postings.proofs.RemainingLemmas.{at_least_place, increasing-from_Rises}
 use Rattle.fts_segment.specs.Between.{AreBetween}
-use Rattle.fts_column.specs.Column.{is_within}
+use Rattle.fts_pack.specs.column.Column.{is_within}
 use Rattle.fts_cursor.specs.Scans.{has_within}
 use Rattle.fts_cursor.proofs.HitsLemmas.{has-filter, has-range, past-range, same_members}
 use Rattle.fts_pack.proofs.DocumentsLemmas.{Rises-from_increasing}

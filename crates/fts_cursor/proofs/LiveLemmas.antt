@@ -1,10 +1,10 @@
 -- Those of some documents that are live, at the front of what they lay in.
-use Rattle.std.proofs.Common.{◌≡◌, ℕ, ◌+◌, ◌<◌, Bool, true, false, cond, List, ◌++◌, length, get_or, set, take, drop, refl, sym, ap, ap₂, ◌∙◌, inl, inr, arith}
+use Rattle.std.proofs.Common.{◌≡◌, ℕ, ◌+◌, ◌<◌, ◌≤◌, Bool, true, false, cond, List, [], ◌∷◌, ◌++◌, length, get_or, set, take, drop, refl, sym, ap, ap₂, ◌∙◌, inl, inr, arith}
 use Rattle.std.specs.List.{filter}
 use Rattle.std.proofs.Math.Seq.{drop-append_seam, take-append_seam}
 use Rattle.std.proofs.lemmas.Bool.{cases_Bool}
 use Rattle.std.proofs.lemmas.Grind.{get_or_default_zero}
-use Rattle.std.proofs.lemmas.List.{drop-set-lt, length-append, length-set, length-take-le, take-append-drop, take-set-le}
+use Rattle.std.proofs.lemmas.List.{drop-set-lt, length-append, length-set, length-take-le, take-append-drop, take_more, take-set-le}
 use Rattle.std.proofs.lemmas.List.Elements.{filter-append}
 use Rattle.std.proofs.lemmas.List.Filters.{FiltersInPlace, FiltersInPlace-more_no, FiltersInPlace-more_set}
 use mir.Val.{bool_byte}
@@ -13,6 +13,10 @@ use Rattle.fts_postings.proofs.FillLemmas.{Taken}
 byte_is : (b : Bool) → bool_byte b ≡ cond {A = ℕ} b 1 0
 byte_is true = refl
 byte_is false = refl
+
+pub byte_few : (b : Bool) → bool_byte b ≤ 1
+byte_few true = omega arith
+byte_few false = omega arith
 
 -- one more, which is written in any case
 pub kept_more : (p : ℕ → Bool) (xs ys : List ℕ) (k i x more : ℕ) (b : Bool) → FiltersInPlace p xs ys k i → i < length ys → x ≡ get_or ys i 0 → b ≡ p x → more ≡ k + bool_byte b → FiltersInPlace p xs (set ys k x) more (i + 1)
@@ -53,3 +57,20 @@ Taken-live p whole next front out n kept front_is next_is written size =
       front = written ∙ sym (ap₂ (λ k xs. take k xs) size split ∙ take-append_seam taken left);
       within = omega (arith, size, ap length split, length-append taken left);
     }
+
+-- as many of some documents are live as of the first and of the others
+pub live_split : (p : ℕ → Bool) (n : ℕ) (xs : List ℕ) → length (filter p (take n xs)) + length (filter p (drop n xs)) ≡ length (filter p xs)
+live_split p n xs =
+    let split : filter p xs ≡ filter p (take n xs) ++ filter p (drop n xs) = sym (ap (filter p) (take-append-drop n xs)) ∙ filter-append p (take n xs) (drop n xs) in
+    omega (arith, ap length split, length-append (filter p (take n xs)) (filter p (drop n xs)))
+
+-- one document more is counted
+pub live_more : (p : ℕ → Bool) (docs : List ℕ) (i x count more : ℕ) (b : Bool) → i < length docs → x ≡ get_or docs i x → b ≡ p x → count ≡ length (filter p (take i docs)) → more ≡ count + bool_byte b → more ≡ length (filter p (take (i + 1) docs))
+live_more p docs i x count more b inside is test counted adds =
+    let whole : take (i + 1) docs ≡ take i docs ++ x ∷ [] = take_more docs i x inside ∙ ap (λ d. take i docs ++ d ∷ []) (sym is) in
+    let one : length (filter p (x ∷ [])) ≡ bool_byte b = elim (cases_Bool (p x)) [
+      | inl live ↦ ap (λ c. length (cond c (x ∷ []) [])) live ∙ sym (byte_is b ∙ ap (λ c. cond {A = ℕ} c 1 0) (test ∙ live))
+      | inr dead ↦ ap (λ c. length (cond c (x ∷ []) [])) dead ∙ sym (byte_is b ∙ ap (λ c. cond {A = ℕ} c 1 0) (test ∙ dead))
+    ] in
+    let split : filter p (take (i + 1) docs) ≡ filter p (take i docs) ++ filter p (x ∷ []) = ap (filter p) whole ∙ filter-append p (take i docs) (x ∷ []) in
+    omega (arith, counted, adds, one, ap length split, length-append (filter p (take i docs)) (filter p (x ∷ [])))

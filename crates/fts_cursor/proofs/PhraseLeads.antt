@@ -1,4 +1,4 @@
--- Any member of a phrase may lead: where it stands doesn't depend on which one does.
+-- Any member of a phrase may lead: where it is doesn't depend on which one does.
 use Rattle.std.proofs.Common.{◌≡◌, ℕ, zero, suc, ◌+◌, ◌<◌, ◌==◌, Bool, true, false, ◌&&◌, ◌||◌, List, [], ◌∷◌, map, length, get_or, refl, sym, ap, ap₂, ◌∙◌, inl, inr, arith}
 use Rattle.std.specs.List.{All, AllZip, list_all, list_any, remove}
 use Rattle.std.proofs.lemmas.Bool.{and_parts, cases_Bool, eq-eqb, eqb-true, false≢true, or_right}

@@ -19,9 +19,9 @@ use Rattle.fts_model.specs.Documents.{DocumentValue, fits_i64, is_term_of, value
 use Rattle.fts_model.specs.Operations.{kind_at}
 use Rattle.fts_model.specs.Schemas.{holds_numbers, is_ordered}
 use Rattle.fts_model.specs.Queries.{admits_from, admits_to, is_bound_of, is_number_field, is_range_of, value_le, value_lt}
-use Rattle.fts_bits.specs.Signed.{u64_of}
+use Rattle.fts_pack.specs.bits.Signed.{u64_of}
 use Rattle.fts_segment.specs.Numbers.{Fits64}
-use Rattle.fts_column.specs.Column.{IsRangeOf, is_within}
+use Rattle.fts_pack.specs.column.Column.{IsRangeOf, is_within}
 use Rattle.fts_segment.specs.FieldIndexes.{NumbersFit}
 use Rattle.fts_segment.specs.Occurrences.{values_in}
 use Rattle.fts_segment.specs.Segments.{SegmentValue, column, number_in, number_of, numbers_where}

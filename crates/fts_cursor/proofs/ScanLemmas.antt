@@ -12,8 +12,8 @@ use Rattle.fts_model.specs.declared.value.FieldValue.{FieldValue}
 use Rattle.fts_model.specs.Documents.{DocumentValue, value_in_field}
 use Rattle.fts_cursor.specs.Scans.{has_value, keeps, kept_from, kept_in}
 use Rattle.fts_postings.specs.Windows.{passing}
-use Rattle.fts_cursor.specs.declared.kept.Kept.{Kept}
-use Rattle.fts_cursor.specs.declared.kept.Kept.TheVariants.{Every}
+use Rattle.fts_cursor.specs.declared.rows.Kept.{Kept}
+use Rattle.fts_cursor.specs.declared.rows.Kept.TheVariants.{Every}
 use Rattle.fts_postings.proofs.RemainingLemmas.{Rises-front, at_least-append, at_least_all, at_least_place}
 use Rattle.fts_postings.proofs.SetLemmas.{filter-at_least}
 use Rattle.fts_postings.proofs.PostingLemmas.{all_below}

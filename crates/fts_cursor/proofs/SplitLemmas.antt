@@ -1,4 +1,4 @@
--- Lists of which some have bits: what is told, and what is opened.
+-- Lists some of which have bits: what is told, and what is opened.
 use Rattle.std.proofs.Common.{◌≡◌, ◌≢◌, ℕ, ◌+◌, ◌-◌, ◌*◌, ◌^◌, ◌<◌, ◌≤◌, Bool, true, false, ◌&&◌, ◌||◌, List, [], ◌∷◌, ◌++◌, length, map, take, get_or, refl, sym, ap, ap₂, ◌∙◌, inl, inr, arith}
 use Rattle.std.specs.Prelude.{Option, Result, Ok, Err, IfOk, All, not}
 use Rattle.std.specs.Borrow.{Bor}
@@ -129,14 +129,7 @@ module _ (shortest : List ℕ) (lists : List (List ℕ)) (first : Bor (List Bool
   }
 
 -- cut by bits: some of the lists have bits
-module _ (shortest : List ℕ) (lists : List (List ℕ)) (bits : List (Bor (List Bool))) (first : Bor (List Bool)) (rest : List (List ℕ)) (opened : ℕ) (rises : Rises 0 shortest) (split : IsSplit lists bits rest opened) (is : first ≡ get_or bits 0 first) (some : 0 < length bits) where
-  abbrev pub cut : ℕ → Bool
-  cut d = ((is_live first.now d || false) && in_each bits d) && true
-
-  each_has : (bs : List (Bor (List Bool))) (b : Bor (List Bool)) (d : ℕ) → b ≡ get_or bs 0 b → 0 < length bs → (((is_live b.now d || false) && in_each bs d) && true) ≡ in_each bs d
-  each_has [] b d same there = absurd (omega (arith, there))
-  each_has (x ∷ bs) b d same there = ap (λ (c : Bor (List Bool)). ((is_live c.now d || false) && in_each (x ∷ bs) d) && true) same ∙ told_twice (is_live x.now d) (in_each bs d)
-
+module _ (shortest : List ℕ) (lists : List (List ℕ)) (bits : List (Bor (List Bool))) (rest : List (List ℕ)) (opened : ℕ) (rises : Rises 0 shortest) (split : IsSplit lists bits rest opened) where
   and_swap : (a b c : Bool) → ((a && b) && c) ≡ (a && (c && b))
   and_swap true true true = refl
   and_swap true true false = refl
@@ -144,15 +137,15 @@ module _ (shortest : List ℕ) (lists : List (List ℕ)) (bits : List (Bor (List
   and_swap true false false = refl
   and_swap false b c = refl
 
-  pub cut_all : filter cut (common shortest rest) ≡ common shortest lists
+  pub cut_all : filter (in_each bits) (common shortest rest) ≡ common shortest lists
   cut_all =
-      same_members 0 (filter cut (common shortest rest)) (common shortest lists) (Rises-filter 0 cut (common shortest rest) (Rises-filter 0 (in_all rest) shortest rises)) (Rises-filter 0 (in_all lists) shortest rises)
-      (λ d. has-filter cut (common shortest rest) d ∙ ap₂ (λ a b. a && b) (has-filter (in_all rest) shortest d) (each_has bits first d is some) ∙ and_swap (has shortest d) (in_all rest d) (in_each bits d)
+      same_members 0 (filter (in_each bits) (common shortest rest)) (common shortest lists) (Rises-filter 0 (in_each bits) (common shortest rest) (Rises-filter 0 (in_all rest) shortest rises)) (Rises-filter 0 (in_all lists) shortest rises)
+      (λ d. has-filter (in_each bits) (common shortest rest) d ∙ ap (λ a. a && in_each bits d) (has-filter (in_all rest) shortest d) ∙ and_swap (has shortest d) (in_all rest d) (in_each bits d)
       ∙ ap (λ b. has shortest d && b) (sym (split.same d)) ∙ sym (has-filter (in_all lists) shortest d))
 
-  pub FindsAll-cut : (c : Conjoined) (t : Standing) → IsConjoinedOver shortest rest c → t.remaining ≡ filter cut (common_of c) → counts_of c + opened ≤ t.openings → ((doc : Option ℕ) → most_at t.bound doc ≡ most_at (bound_of c) doc + opened) → FindsAll shortest lists t
+  pub FindsAll-cut : (c : Conjoined) (t : Standing) → IsConjoinedOver shortest rest c → t.remaining ≡ filter (in_each bits) (common_of c) → counts_of c + opened ≤ t.openings → ((doc : Option ℕ) → most_at t.bound doc ≡ most_at (bound_of c) doc + opened) → FindsAll shortest lists t
   FindsAll-cut c t h remaining openings bound = record {
-    remaining = remaining ∙ ap (filter cut) h.remaining ∙ cut_all;
+    remaining = remaining ∙ ap (filter (in_each bits)) h.remaining ∙ cut_all;
     bound = λ doc.
         let r = reached shortest doc in
         let most : most_at (bound_of c) doc ≡ most_at (bound_over shortest (length rest)) doc = ap (λ (b : Bound). most_at b doc) h.bound in

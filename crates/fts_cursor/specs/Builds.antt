@@ -1,8 +1,8 @@
 -- What a cursor is made of.
-use Rattle.std.specs.Prelude.{◌≡◌, ◌≢◌, ℕ, ◌≤◌, Bool, true, false, List, [], length, slice_get, Option, None, Some}
+use Rattle.std.specs.Prelude.{◌≡◌, ◌≢◌, ℕ, ◌≤◌, Bool, true, false, List, [], length, slice_get, Option, None, Some, is_some}
 use Rattle.fts_model.specs.declared.operation.Term.{Term}
 use Rattle.fts_model.specs.declared.value.FieldValue.TheVariants as values
-use Rattle.fts_model.specs.QueryValues.{QueryValue, term}
+use Rattle.fts_model.specs.QueryValues.{QueryValue, QueryValues, boolean, no_queries, queries, term}
 use Rattle.fts_segment.specs.ListIds.{documents_in}
 use Rattle.fts_segment.specs.Segments.{SegmentValue, positions, postings}
 use Rattle.fts_cursor.specs.declared.phrase.Member.{Member}
@@ -31,13 +31,23 @@ pub record IsMemberFor (segment : SegmentValue) (field : ℕ) (wanted : ℕ × L
 abbrev pub IsCursorOf : Posting → Member → Type 0
 IsCursorOf cursor member = IsOver cursor (documents_in member.list)
 
+-- the term that is the only one of some queries
+abbrev pub only_term_in : QueryValues → Option Term
+only_term_in (queries (term t) no_queries) = Some t
+only_term_in qs = None
+
+-- the term that a query is, alone or as its only should
+abbrev pub term_in : QueryValue → Option Term
+term_in (term t) = Some t
+term_in (boolean no_queries no_queries should) = only_term_in should
+term_in query = None
+
 -- whether a query is a term
 abbrev pub is_term : QueryValue → Bool
-is_term (term t) = true
-is_term query = false
+is_term query = is_some (term_in query)
 
--- what the cursor of a query opens, where it is of one term, or all musts are terms and nothing else is asked: wherever
--- it stands, no more than the blocks of the shortest list, and of each other list one, and one for each document of the
+-- what the cursor of a query opens, if it is of one term, or all musts are terms and nothing else is asked: wherever
+-- it is, no more than the blocks of the shortest list, and of each other list one, and one for each document of the
 -- shortest up to there
 pub record Opens (segment : SegmentValue) (query : QueryValue) (cursor : Standing) : Type 0 where
   pub one_term : (t : Term) → IsOfOneTerm query t →

@@ -3,7 +3,7 @@ use Rattle.std.specs.Prelude.{◌≡◌, ℕ, ◌+◌, ◌*◌, ◌<◌, ◌≤�
 use Rattle.std.specs.Borrow.{Bor}
 use Rattle.std.specs.Int.{bit_at}
 use Rattle.std.specs.List.{list_all, list_any}
-use Rattle.fts_bits.specs.Bits.{number_of}
+use Rattle.fts_pack.specs.bits.Bits.{number_of}
 use Rattle.fts_cursor.specs.Hits.{is_live}
 use Rattle.fts_cursor.specs.declared.dense.Dense.{Dense}
 use Rattle.fts_cursor.specs.declared.dense.Row.{Row}

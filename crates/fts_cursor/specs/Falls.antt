@@ -11,7 +11,7 @@ use Rattle.fts_cursor.specs.declared.tree.Tree.TheDeep.{deep-Node, deep-Source}
 
 node_falls : (node : Node) → max (deep-Node node) 0 ≤ (tree_value node).height
 node_falls (Scan documents opened) = omega arith
-node_falls (Listed documents) = omega arith
+node_falls (Listed documents opened) = omega arith
 node_falls (Postings p) = omega arith
 node_falls (Terms c) = omega arith
 node_falls (Filter s) = omega arith

@@ -6,7 +6,7 @@ use Rattle.fts_postings.specs.Sets.{FirstPasses}
 use Rattle.fts_cursor.specs.Standing.{Standing}
 use Rattle.fts_cursor.specs.Terms.{AreTied}
 
--- what remains of a conjunction, with so many blocks more that were opened before
+-- what remains of a conjunction, with this many blocks more that were opened before
 abbrev pub filtered : Conjoined → ℕ → List ℕ → Standing
 filtered c opened remaining = record {
   remaining = remaining;
@@ -15,7 +15,7 @@ filtered c opened remaining = record {
   whole = false;
 }
 
--- a conjunction that stands at a document that passes, or at its end
+-- a conjunction that is at a document that passes, or at its end
 pub record IsFilter (terms : Conjoined) (test : ℕ → Bool) : Type 0 where
   pub settled : FirstPasses test (common_of terms)
   pub tied : AreTied terms

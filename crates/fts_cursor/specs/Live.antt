@@ -10,7 +10,7 @@ abbrev pub of_live : Option (Bor (List Bool)) → Standing → Standing
 of_live None s = s
 of_live (Some live) s = record s { remaining = filter (is_live live.now) s.remaining }
 
--- the cursor stands at a document whose bit is set, or at its end
+-- the cursor is at a document whose bit is set, or at its end
 abbrev pub IsSettled : Option (Bor (List Bool)) → Standing → Type 0
 IsSettled None s = Unit {0}
 IsSettled (Some live) s = FirstPasses (is_live live.now) s.remaining

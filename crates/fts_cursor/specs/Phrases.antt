@@ -18,11 +18,11 @@ rank documents doc = length (filter (λ d. nat_lt d doc) documents)
 abbrev pub positions_at : Member → ℕ → List ℕ
 positions_at member doc = slice_index_or member.positions (rank (documents_in member.list) doc) []
 
--- a member stands as far behind a position as its offset is behind another one
+-- a member stands as far after a position as its offset is after another one
 abbrev pub is_behind : ℕ → ℕ → ℕ → Member → Bool
 is_behind offset position doc member = list_any (λ q. q + offset == position + member.offset) (positions_at member doc)
 
--- the members stand at their offsets from some one position of a document
+-- the members are at their offsets from some one position of a document
 abbrev pub phrase_at : List Member → ℕ → Bool
 phrase_at [] doc = true
 phrase_at (first ∷ others) doc = list_any (λ p. list_all (is_behind first.offset p doc) others) (positions_at first doc)

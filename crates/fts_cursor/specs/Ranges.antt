@@ -7,7 +7,7 @@ use Rattle.fts_model.specs.declared.value.FieldValue.{FieldValue}
 use Rattle.fts_model.specs.declared.value.FieldValue.TheVariants as values
 use Rattle.fts_model.specs.declared.value.Number.TheVariants as numbers
 use Rattle.fts_model.specs.Documents.{fits_i64}
-use Rattle.fts_bits.specs.Signed.{u64_of}
+use Rattle.fts_pack.specs.bits.Signed.{u64_of}
 use Rattle.fts_segment.specs.Keywords.{before, up_to}
 
 -- a number as a column keeps it; a text is 0

@@ -4,10 +4,10 @@ use Rattle.std.specs.Prelude.{IfSome, List, drop, length, min, take, is_some, sl
 use Rattle.std.specs.Option.{option_map_or}
 use Rattle.fts_model.specs.Documents.{DocumentValue, value_in_field}
 use Rattle.fts_model.specs.declared.operation.Stamped.{Stamped}
-use Rattle.fts_column.specs.Column.{is_within}
+use Rattle.fts_pack.specs.column.Column.{is_within}
 use Rattle.fts_postings.specs.Windows.{passing}
-use Rattle.fts_cursor.specs.declared.kept.Kept.{Kept}
-use Rattle.fts_cursor.specs.declared.kept.Kept.TheVariants.{Every, Within, WithinLive, Valued, Told}
+use Rattle.fts_cursor.specs.declared.rows.Kept.{Kept}
+use Rattle.fts_cursor.specs.declared.rows.Kept.TheVariants.{Every, Within, WithinLive, Valued, Told}
 use Rattle.fts_cursor.specs.Dense.{AreWithin, HoldsRow, is_dense}
 use Rattle.fts_cursor.specs.declared.dense.Row.{Row}
 use Rattle.fts_cursor.specs.Hits.{is_live}
@@ -33,7 +33,7 @@ keeps (WithinLive column low high live) doc = has_within_live low high column.no
 keeps (Valued segment field) doc = has_value segment.now.documents field doc
 keeps (Told dense) doc = is_dense dense doc
 
--- there is a number, or a document, for each of so many
+-- there is a number, or a document, for each of this many
 abbrev pub AreFor : Kept → ℕ → Type 0
 AreFor Every docs = Unit {0}
 AreFor (Within column low high) docs = length column.now ≡ docs
@@ -41,7 +41,7 @@ AreFor (WithinLive column low high live) docs = length column.now ≡ docs
 AreFor (Valued segment field) docs = length segment.now.documents ≡ docs
 AreFor (Told dense) docs = AreWithin dense docs
 
--- those kept of so many documents, from one on
+-- those kept of this many documents, from one on
 abbrev pub kept_from : Kept → ℕ → ℕ → List ℕ
 kept_from kept from docs = passing (keeps kept) from (docs - from)
 
@@ -49,8 +49,8 @@ kept_from kept from docs = passing (keeps kept) from (docs - from)
 abbrev pub kept_in : Kept → ℕ → ℕ → List ℕ
 kept_in kept from docs = passing (keeps kept) from (min 128 (docs - from))
 
--- how the fields stand to one another: those kept in the stretch lie at the front of the array, and if there is a
--- number, so many remain; what was read of words tells of those kept
+-- how the fields stand to one another: those kept in the stretch are at the front of the array, and if there is a
+-- number, this many remain; what was read of words tells of those kept
 pub record IsScan (kept : Kept) (docs : ℕ) (total : Option ℕ) (from at len : ℕ) (numbers : List ℕ) (row : Row)
     : Type 0 where
   pub few : docs ≤ 2 ^ 32

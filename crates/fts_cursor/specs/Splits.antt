@@ -1,4 +1,4 @@
--- Lists of which some have bits.
+-- Lists some of which have bits.
 use Rattle.std.specs.Prelude.{◌≡◌, ℕ, suc, ◌+◌, ◌^◌, ◌≤◌, ◌&&◌, All, Bool, true, List, Option, length}
 use Rattle.std.specs.Borrow.{Bor}
 use Rattle.fts_pack.specs.Documents.{block_count}
@@ -7,7 +7,7 @@ use Rattle.fts_postings.specs.Sets.{common, has, in_all, in_some}
 use Rattle.fts_cursor.specs.Dense.{in_each, in_one}
 use Rattle.fts_cursor.specs.Standing.{Standing}
 
--- the bits of some of the lists, and the others; so many blocks were opened of those with bits, the first of each
+-- the bits of some of the lists, and the others; this many blocks were opened of those with bits, the first of each
 pub record IsSplit (lists : List (List ℕ)) (bits : List (Bor (List Bool))) (rest : List (List ℕ)) (opened : ℕ)
     : Type 0 where
   pub same : (d : ℕ) → in_all lists d ≡ (in_each bits d && in_all rest d)
@@ -15,7 +15,7 @@ pub record IsSplit (lists : List (List ℕ)) (bits : List (Bor (List Bool))) (re
   pub few : opened ≤ length bits
   pub enters : (d : ℕ) → in_all lists d ≡ true → length bits ≤ opened
 
--- the bound of a list that leads so many others
+-- the bound of a list that leads this many others
 abbrev pub bound_over : List ℕ → ℕ → Bound
 bound_over shortest others = record { blocks = block_count (length shortest); lead = shortest; others = others }
 

@@ -6,7 +6,7 @@ use Rattle.fts_postings.specs.Bounds.{most_at}
 use Rattle.fts_postings.specs.Remaining.{at_least}
 use Rattle.fts_cursor.specs.Standing.{Continues, Standing, at_most}
 
--- how it stands, and how deep the cursors in it lie in one another
+-- how it is, and how deep the cursors in it nest
 pub record TreeValue : Type 0 where
   pub standing : Standing
   pub open standing use *
@@ -68,7 +68,7 @@ pub record Narrowed (doc : ℕ) (old new : TreeValue) : Type 0 where
   pub same : at_least doc new.remaining ≡ at_least doc old.remaining
   pub continues : TreeContinues old new
 
--- a tree that left behind what lies below the target
+-- a tree that passed what is below the target
 pub record Left (target : ℕ) (old new : TreeValue) : Type 0 where
   pub remaining : new.remaining ≡ at_least target old.remaining
   pub continues : TreeContinues old new

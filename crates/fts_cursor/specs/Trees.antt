@@ -24,7 +24,7 @@ use Rattle.fts_postings.specs.declared.window.Window.{Window}
 abbrev pub found : Window → List ℕ
 found window = found_in window.base window.from window.last window.marks.items
 
--- each of the lists begins behind the window
+-- each of the lists begins after the window
 abbrev pub AreBeyond : Window → List (List ℕ) → Type 0
 AreBeyond window lists = (d : ℕ) → d ≤ window.last → in_some lists d ≡ false
 
@@ -50,7 +50,12 @@ tree_value (Scan documents opened) = leaf (record {
   bound = at_most opened;
   whole = false;
 })
-tree_value (Listed documents) = leaf (record { remaining = documents; openings = 0; bound = at_most 0; whole = false })
+tree_value (Listed documents opened) = leaf (record {
+  remaining = documents;
+  openings = opened;
+  bound = at_most opened;
+  whole = false;
+})
 tree_value (Postings p) = leaf (record {
   remaining = remaining_of p;
   openings = p.count;
@@ -69,12 +74,12 @@ abbrev pub PassesAt : Option ℕ → (ℕ → Bool) → List ℕ → Type 0
 PassesAt None test lead = Unit {0}
 PassesAt (Some doc) test lead = FirstPasses test lead
 
--- the window has the first document, if there is one, and the parts lie behind it
+-- the window has the first document, if there is one, and the parts come after it
 pub record IsBuffered (doc : Option ℕ) (window : Window) (lists : List (List ℕ)) : Type 0 where
   pub first : doc ≡ slice_get (found window) 0
   pub beyond : AreBeyond window lists
 
--- the parts stand at the node's first document, if there is one
+-- the parts are at the node's first document, if there is one
 abbrev pub PartsStand : Option ℕ → Node → Type 0
 PartsStand doc (And parts) = PassesAt doc (in_all (remains parts.others.items)) parts.lead.value.remaining
 PartsStand doc (Without parts) = PassesAt doc (lacks parts.dropped.value.remaining) parts.kept.value.remaining
@@ -87,14 +92,14 @@ IsTiedNode (Postings p) = IsTied p
 IsTiedNode (Terms c) = AreTied c
 IsTiedNode node = Unit {0}
 
--- the document is the first that remains, and the parts stand there
+-- the document is the first that remains, and the parts are there
 pub record StandsAt (doc : Option ℕ) (node : Node) : Type 0 where
   pub first : doc ≡ slice_get (tree_value node).remaining 0
   pub rises : IsStrictlyIncreasing (tree_value node).remaining
   pub parts : PartsStand doc node
   pub tied : IsTiedNode node
 
--- the node now stands at the document, and this remains
+-- the node is now at the document, and this remains
 pub record IsNow (doc : Option ℕ) (node : Node) (remaining : List ℕ) : Type 0 where
   pub is : (tree_value node).remaining ≡ remaining
   pub stands : StandsAt doc node
@@ -111,12 +116,12 @@ abbrev pub value_of : Source → TreeValue
 value_of Nothing = leaf (record { remaining = []; openings = 0; bound = at_most 0; whole = true })
 value_of (Cursor node) = tree_value node.value
 
--- the cursor, if there is one, stands at the document
+-- the cursor, if there is one, is at the document
 abbrev pub Stands : Option ℕ → Source → Type 0
 Stands doc Nothing = Unit {0}
 Stands doc (Cursor node) = StandsAt doc node.value
 
--- the document is the first that remains, and the cursor stands there
+-- the document is the first that remains, and the cursor is there
 pub record IsTree (doc : Option ℕ) (source : Source) : Type 0 where
   pub first : doc ≡ slice_get (value_of source).remaining 0
   pub rises : IsStrictlyIncreasing (value_of source).remaining

@@ -10,12 +10,12 @@ ghost use Rattle.fts_cursor.specs.Splits.{AreToldBy};
 ghost use Rattle.fts_postings.specs.Sets.{union, without};
 
 use crate::dense::Dense;
-use crate::kept::Kept;
+use crate::rows::Kept;
 use crate::scan::ScanCursor;
 use crate::terms::{are_terms, list_of};
 use crate::tree::Tree;
-use fts_bits::Bits;
 use fts_model::Query;
+use fts_pack::bits::Bits;
 use fts_segment::Segment;
 use std::alloc::{AllocError, Global};
 
@@ -74,7 +74,7 @@ pub(crate) fn apart_by_words<'a>(
     Ok(Some(tree))
 }
 
-// The bits of the lists of terms, where all have some.
+/// The bits of the lists of terms, if all have some.
 fn bits_of<'a>(
     alloc: Global,
     segment: &'a Segment,
@@ -97,7 +97,7 @@ fn bits_of<'a>(
     Ok(Some(all))
 }
 
-// How many documents have a bit in one of these at most.
+/// How many documents have a bit in one of these at most.
 fn longest(list: &[&Bits]) -> usize
     requires { All (λ b. length b.now ≤ 2 ^ 32) list.now }
     ensures longest { All (λ b. length b.now ≤ result) list.now }

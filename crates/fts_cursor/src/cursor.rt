@@ -8,7 +8,7 @@ ghost use Rattle.fts_postings.specs.Remaining.{at_least};
 ghost use Rattle.fts_cursor.specs.Standing.{Continues, Walked};
 
 use crate::tree::Tree;
-use fts_bits::Bits;
+use fts_pack::bits::Bits;
 use fts_postings::DocSet;
 use std::alloc::{AllocError, Global};
 use std::marker::Model;
@@ -63,7 +63,7 @@ impl<'a> Cursor<'a> {
     }
 
     /// How many blocks were opened since the cursor was made, the making included, or the greatest `u64`: at every
-    /// moment no more than the bound at the document where it stands.
+    /// moment no more than the bound at the document where it is.
     pub fn openings(&self) -> u64
         ensures sum { result ≡ min (2 ^ 64 - 1) self.now.openings }
         ensures bound { self.now.openings
@@ -74,9 +74,9 @@ impl<'a> Cursor<'a> {
         self.tree.openings()
     }
 
-    /// How many documents remain, or the greatest `usize`, where they needn't be gone through one after the other for
-    /// that, and leaves them behind then: for what words tell, and, in a segment all of whose documents are live, for a
-    /// list and for a union.
+    /// How many documents remain, or the greatest `usize`, where they needn't be listed for that, and passes them
+    /// then: for what words tell, for a list and for a union, and for every query in a segment some of whose documents
+    /// aren't live.
     pub fn count(&mut self) -> Option<usize>
         ensures counted { MatchOption result (self.new ≡ self.old)
             (λ count. (count ≡ min (2 ^ 64 - 1) (length self.old.remaining)) × (self.new.remaining ≡ [])) }
@@ -84,7 +84,7 @@ impl<'a> Cursor<'a> {
     {
         match self.live {
             None => self.tree.count(),
-            Some(_) => None,
+            Some(live) => Some(self.tree.count_live(live)),
         }
     }
 }
@@ -130,8 +130,8 @@ impl<'a> DocSet for Cursor<'a> {
     }
 }
 
-// Takes the next 128 documents whose bit is set of a tree that stands at one of them: those among the next 128, and as
-// many more by steps as of these aren't live.
+/// Takes the next 128 documents whose bit is set of a tree that is at one of them: those among the next 128, and as
+/// many more by steps as of these aren't live.
 fn fill_live(tree: &mut Tree, live: &Bits, out: &mut [u32; 128]) -> usize
     requires { FirstPasses (is_live live.now) tree.old.remaining }
     ensures count { result ≡ min 128 (length (filter (is_live live.now) tree.old.remaining)) }
@@ -155,7 +155,7 @@ fn fill_live(tree: &mut Tree, live: &Bits, out: &mut [u32; 128]) -> usize
     128
 }
 
-// Keeps those of the first documents whose bit is set, and gives how many they are.
+/// Keeps those of the first documents whose bit is set, and gives how many they are.
 fn keep_live(live: &Bits, count: usize, docs: &mut [u32; 128]) -> usize
     requires { count ≤ 128 }
     ensures kept { take result docs.new ≡ filter (is_live live.now) (take count docs.old) }
@@ -171,7 +171,7 @@ fn keep_live(live: &Bits, count: usize, docs: &mut [u32; 128]) -> usize
     kept
 }
 
-// Whether the document's bit is set. What has no bit isn't live.
+/// Whether the document's bit is set. What has no bit isn't live.
 #[inline]
 fn is_live(live: &Bits, doc: u32) -> bool
     ensures { result ≡ is_live live.now doc }
@@ -180,7 +180,7 @@ fn is_live(live: &Bits, doc: u32) -> bool
     doc < live.len() && live.get(doc)
 }
 
-// Passes over documents whose bit isn't set.
+/// Passes over documents whose bit isn't set.
 fn settle(tree: &mut Tree, live: &Bits)
     ensures remaining { filter (is_live live.now) tree.new.remaining
         ≡ filter (is_live live.now) tree.old.remaining }

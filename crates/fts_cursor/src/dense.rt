@@ -5,7 +5,7 @@ ghost use Rattle.fts_cursor.specs.Dense.{AreWithin, HoldsRow, IsRow, Tells, in_e
 ghost use Rattle.fts_cursor.specs.Hits.{is_live};
 ghost use Rattle.fts_postings.specs.Windows.{passing};
 
-use fts_bits::Bits;
+use fts_pack::bits::Bits;
 
 /// The documents whose bit is set in some of the first, in all of the second, and in none of the last.
 #[derive(Drop)]
@@ -32,7 +32,7 @@ impl Dense<'_> {
         row
     }
 
-    /// How many of the 1,024 documents from `from` on these are, of so many.
+    /// How many of the 1,024 documents from `from` on these are, of this many.
     fn count(&self, docs: usize, from: usize) -> usize
         requires few { docs ≤ 2 ^ 32 }
         requires within { AreWithin self.now docs }
@@ -48,7 +48,7 @@ impl Dense<'_> {
         count
     }
 
-    /// How many documents from one on these are, of so many.
+    /// How many documents from one on these are, of this many.
     pub(crate) fn count_from(&self, docs: usize, from: usize) -> usize
         requires few { docs ≤ 2 ^ 32 }
         requires within { AreWithin self.now docs }
@@ -62,15 +62,6 @@ impl Dense<'_> {
             from += 1024;
         }
         count
-    }
-
-    /// Whether the document is one of these.
-    #[inline]
-    pub(crate) fn has(&self, doc: u32) -> bool
-        ensures { result ≡ is_dense self.now doc }
-    {
-        let doc = doc as usize;
-        (in_one(&self.some, doc) && in_each(&self.all, doc)) && !in_one(&self.none, doc)
     }
 }
 
@@ -95,7 +86,7 @@ impl Row {
         }
     }
 
-    /// Leaves behind what was read.
+    /// Passes what was read.
     pub(crate) fn clear(&mut self)
         ensures read { self.new.read ≡ false }
         ensures from { self.new.from ≡ self.old.from }
@@ -104,7 +95,7 @@ impl Row {
     }
 
     /// Which of the 64 documents from `from` on are some, and which of the next 64. Where they weren't read yet, the words
-    /// behind them are read too.
+    /// after them are read too.
     #[inline]
     pub(crate) fn words(&mut self, dense: &Dense, from: usize) -> (u64, u64)
         requires aligned { from % 64 ≡ 0 }
@@ -120,7 +111,7 @@ impl Row {
         (self.words[place], self.words[place + 1])
     }
 
-    // Reads the words from there on, if those of 128 documents from there on were not read yet.
+    /// Reads the words from there on, if those of 128 documents from there on were not read yet.
     #[inline]
     fn reach(&mut self, dense: &Dense, from: usize)
         requires aligned { from % 64 ≡ 0 }
@@ -140,21 +131,9 @@ impl Row {
     }
 }
 
-// Whether the document's bit is set in one of these.
+/// Whether the document's bit is set in each of these.
 #[inline]
-fn in_one(list: &[&Bits], doc: usize) -> bool
-    ensures { result ≡ in_one list.now doc }
-{
-    let mut found = false;
-    for bits in list {
-        found = found || has_bit(bits, doc);
-    }
-    found
-}
-
-// Whether it is in each of these.
-#[inline]
-fn in_each(list: &[&Bits], doc: usize) -> bool
+pub(crate) fn in_each(list: &[&Bits], doc: usize) -> bool
     ensures { result ≡ in_each list.now doc }
 {
     let mut found = true;
@@ -164,15 +143,15 @@ fn in_each(list: &[&Bits], doc: usize) -> bool
     found
 }
 
-// Whether the document's bit is set. What has no bit isn't there.
+/// Whether the document's bit is set. What has no bit isn't there.
 #[inline]
-fn has_bit(bits: &Bits, doc: usize) -> bool
+pub(crate) fn has_bit(bits: &Bits, doc: usize) -> bool
     ensures { result ≡ is_live bits.now doc }
 {
     doc < bits.len() && bits.get(doc)
 }
 
-// 16 words of several bits, joined by "or".
+/// 16 words of several bits, joined by "or".
 fn row_of_some(list: &[&Bits], index: usize) -> [u64; 16]
     requires { index < 2 ^ 60 }
     ensures { IsRow (in_one list.now) (64 * index) result }
@@ -184,7 +163,7 @@ fn row_of_some(list: &[&Bits], index: usize) -> [u64; 16]
     row
 }
 
-// The same, joined by "and".
+/// The same, joined by "and".
 fn row_of_all(list: &[&Bits], index: usize) -> [u64; 16]
     requires { index < 2 ^ 60 }
     ensures { IsRow (in_each list.now) (64 * index) result }
@@ -196,7 +175,7 @@ fn row_of_all(list: &[&Bits], index: usize) -> [u64; 16]
     row
 }
 
-// Adds the words of bits.
+/// Adds the words of bits.
 #[inline]
 fn add(row: &mut [u64; 16], bits: &Bits, index: usize)
     requires { index < 2 ^ 60 }
@@ -208,7 +187,7 @@ fn add(row: &mut [u64; 16], bits: &Bits, index: usize)
     }
 }
 
-// Keeps what the words of bits have too.
+/// Keeps what the words of bits have too.
 #[inline]
 fn keep(row: &mut [u64; 16], bits: &Bits, index: usize)
     requires { index < 2 ^ 60 }

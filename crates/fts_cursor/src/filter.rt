@@ -4,14 +4,14 @@ ghost use Rattle.fts_postings.specs.Bounds.{most_at};
 ghost use Rattle.fts_postings.specs.Conjoined.{AllFollow, bound_of, common_of, counts_of};
 ghost use Rattle.fts_postings.specs.Remaining.{at_least};
 ghost use Rattle.fts_postings.specs.Sets.{FirstPasses};
-ghost use Rattle.fts_cursor.specs.Dense.{is_dense};
+ghost use Rattle.fts_cursor.specs.Dense.{in_each};
 ghost use Rattle.fts_cursor.specs.Hits.{is_live};
 ghost use Rattle.fts_cursor.specs.Standing.{Continues, Walked};
 ghost use Rattle.fts_cursor.specs.Terms.{AreTied};
 
-use crate::dense::Dense;
-use fts_bits::Bits;
+use crate::dense::{has_bit, in_each};
 use fts_pack::ListSource;
+use fts_pack::bits::Bits;
 use fts_postings::{Conjunction, DocSet};
 use std::alloc::{AllocError, Global};
 use std::marker::Model;
@@ -21,7 +21,8 @@ use std::marker::Model;
 #[derive(Drop)]
 pub(crate) struct FilterCursor<'a> {
     terms: Conjunction<ListSource<'a>>,
-    dense: Dense<'a>,
+    // In each of these the document's bit is set.
+    bits: Vec<&'a Bits>,
     // How many blocks were opened of the lists for which the bits stand.
     opened: u64,
 }
@@ -33,31 +34,31 @@ impl<'a> Model for FilterCursor<'a> {
     ghost Value = { Standing };
 
     ghost use Rattle.fts_postings.specs.Conjoined.{common_of};
-    ghost use Rattle.fts_cursor.specs.Dense.{is_dense};
+    ghost use Rattle.fts_cursor.specs.Dense.{in_each};
     ghost use Rattle.fts_cursor.specs.Filters.{IsFilter, filtered};
 
-    ghost view = { λ c. filtered c.terms c.opened (filter (is_dense c.dense) (common_of c.terms)) };
+    ghost view = { λ c. filtered c.terms c.opened (filter (in_each c.bits.items) (common_of c.terms)) };
 
-    ghost invariant = { λ c. IsFilter c.terms (is_dense c.dense) };
+    ghost invariant = { λ c. IsFilter c.terms (in_each c.bits.items) };
 }
 
 impl<'a> FilterCursor<'a> {
     /// Takes the terms as they were made, and how many blocks were opened of the lists for which the bits stand.
     pub(crate) fn new(
         terms: Conjunction<ListSource<'a>>,
-        dense: Dense<'a>,
+        bits: Vec<&'a Bits>,
         opened: u64,
     ) -> FilterCursor<'a>
         requires tied { AreTied terms }
-        ensures remaining { result.remaining ≡ filter (is_dense dense.entry) (common_of terms.entry) }
+        ensures remaining { result.remaining ≡ filter (in_each bits.entry.items) (common_of terms.entry) }
         ensures openings { counts_of terms.entry + opened ≤ result.openings }
         ensures bound { (doc : Option ℕ) → most_at result.bound doc ≡ most_at (bound_of terms.entry) doc + opened }
     {
         let mut terms = terms;
-        settle(&mut terms, &dense);
+        settle(&mut terms, &bits);
         FilterCursor {
             terms,
-            dense,
+            bits,
             opened,
         }
     }
@@ -68,8 +69,8 @@ impl<'a> FilterCursor<'a> {
         ensures failed { IfErr result (λ _. self.new ≡ self.old) }
         ensures walked { Walked self.old self.new }
     {
-        self.dense.all.push(live)?;
-        settle(&mut self.terms, &self.dense);
+        self.bits.push(live)?;
+        settle(&mut self.terms, &self.bits);
         Ok(())
     }
 
@@ -102,7 +103,7 @@ impl<'a> DocSet for FilterCursor<'a> {
         ensures walked { Walked self.old self.new }
     {
         self.terms.advance();
-        settle(&mut self.terms, &self.dense);
+        settle(&mut self.terms, &self.bits);
     }
 
     fn seek(&mut self, target: u32)
@@ -110,7 +111,7 @@ impl<'a> DocSet for FilterCursor<'a> {
         ensures continues { Continues self.old self.new }
     {
         self.terms.seek(target);
-        settle(&mut self.terms, &self.dense);
+        settle(&mut self.terms, &self.bits);
     }
 
     fn fill(&mut self, out: &mut [u32; 128]) -> usize
@@ -119,18 +120,18 @@ impl<'a> DocSet for FilterCursor<'a> {
         ensures remaining { self.new.remaining ≡ drop 128 self.old.remaining }
         ensures walked { Walked self.old self.new }
     {
-        let filled = fill_kept(&mut self.terms, &self.dense, out);
-        settle(&mut self.terms, &self.dense);
+        let filled = fill_kept(&mut self.terms, &self.bits, out);
+        settle(&mut self.terms, &self.bits);
         filled
     }
 }
 
-// Takes the next 128 documents that bits tell.
-fn fill_kept(terms: &mut Conjunction<ListSource>, dense: &Dense, out: &mut [u32; 128]) -> usize
-    ensures count { result ≡ min 128 (length (filter (is_dense dense.now) (common_of terms.old))) }
-    ensures taken { take result out.new ≡ take 128 (filter (is_dense dense.now) (common_of terms.old)) }
-    ensures remaining { filter (is_dense dense.now) (common_of terms.new)
-        ≡ drop 128 (filter (is_dense dense.now) (common_of terms.old)) }
+/// Takes the next 128 documents that bits tell.
+fn fill_kept(terms: &mut Conjunction<ListSource>, bits: &[&Bits], out: &mut [u32; 128]) -> usize
+    ensures count { result ≡ min 128 (length (filter (in_each bits.now) (common_of terms.old))) }
+    ensures taken { take result out.new ≡ take 128 (filter (in_each bits.now) (common_of terms.old)) }
+    ensures remaining { filter (in_each bits.now) (common_of terms.new)
+        ≡ drop 128 (filter (in_each bits.now) (common_of terms.old)) }
     ensures follows { AllFollow terms.old terms.new }
 {
     let mut filled = 0;
@@ -139,38 +140,56 @@ fn fill_kept(terms: &mut Conjunction<ListSource>, dense: &Dense, out: &mut [u32;
         if count == 0 {
             return filled;
         }
-        filled = keep(dense, filled, count, out);
+        filled = keep(bits, filled, count, out);
     }
     128
 }
 
-// Keeps those of `count` documents that bits tell, behind the first `from`, which they tell too, and gives how many all
-// are.
-fn keep(dense: &Dense, from: usize, count: usize, docs: &mut [u32; 128]) -> usize
+/// Keeps those of `count` documents that bits tell, after the first `from`, which they tell too, and gives how many all
+/// are. One list of bits is looked at after the other, each without a branch.
+fn keep(bits: &[&Bits], from: usize, count: usize, docs: &mut [u32; 128]) -> usize
     requires room { from + count ≤ 128 }
-    requires passed { filter (is_dense dense.now) (take from docs.old) ≡ take from docs.old }
-    ensures kept { take result docs.new ≡ filter (is_dense dense.now) (take (from + count) docs.old) }
-    ensures size { result ≡ length (filter (is_dense dense.now) (take (from + count) docs.old)) }
+    requires passed { filter (in_each bits.now) (take from docs.old) ≡ take from docs.old }
+    ensures kept { take result docs.new ≡ filter (in_each bits.now) (take (from + count) docs.old) }
+    ensures size { result ≡ length (filter (in_each bits.now) (take (from + count) docs.old)) }
     ensures few { result ≤ from + count }
 {
+    let mut end = from + count;
+    for one in bits {
+        end = keep_set(one, from, end, docs);
+    }
+    end
+}
+
+/// Keeps those of the first `end` documents whose bit is set, as it is of the first `from`, and gives how many these are.
+#[inline]
+fn keep_set(bits: &Bits, from: usize, end: usize, docs: &mut [u32; 128]) -> usize
+    requires order { from ≤ end }
+    requires room { end ≤ 128 }
+    requires passed { filter (is_live bits.now) (take from docs.old) ≡ take from docs.old }
+    ensures kept { take result docs.new ≡ filter (is_live bits.now) (take end docs.old) }
+    ensures size { result ≡ length (filter (is_live bits.now) (take end docs.old)) }
+    ensures few { result ≤ end }
+    ensures more { from ≤ result }
+{
     let mut kept = from;
-    for index in from..from + count {
+    for index in from..end {
         let doc = docs[index];
         docs[kept] = doc;
-        kept += usize::from(dense.has(doc));
+        kept += usize::from(has_bit(bits, doc as usize));
     }
     kept
 }
 
-// Passes over documents that bits don't tell.
-fn settle(terms: &mut Conjunction<ListSource>, dense: &Dense)
-    ensures same { filter (is_dense dense.now) (common_of terms.new)
-        ≡ filter (is_dense dense.now) (common_of terms.old) }
-    ensures settled { FirstPasses (is_dense dense.now) (common_of terms.new) }
+/// Passes over documents that bits don't tell.
+fn settle(terms: &mut Conjunction<ListSource>, bits: &[&Bits])
+    ensures same { filter (in_each bits.now) (common_of terms.new)
+        ≡ filter (in_each bits.now) (common_of terms.old) }
+    ensures settled { FirstPasses (in_each bits.now) (common_of terms.new) }
     ensures follows { AllFollow terms.old terms.new }
 {
     while let Some(doc) = terms.doc() {
-        if dense.has(doc) {
+        if in_each(bits, doc as usize) {
             return;
         }
         terms.advance();

@@ -1,7 +1,7 @@
 //! The cursor of a query: the documents of a segment that match it, one after the other, without a list of them.
 //!
 //! [`cursor_of`] makes the [`Cursor`] of a query, over a segment and the bits of its documents. It is a [`DocSet`]: it
-//! stands at a document, steps to the next, goes to the first from a number on, or writes up to 128 at once. Its steps
+//! is at a document, steps to the next, goes to the first from a number on, or writes up to 128 at once. Its steps
 //! take no memory.
 //!
 //! It is a tree of cursors, one for each query within the query. A term is a [`PostingCursor`] over its list, and terms
@@ -23,14 +23,14 @@ mod any;
 mod cursor;
 mod dense;
 mod filter;
-mod kept;
-mod led;
-mod listed;
+mod list_union;
 mod phrase;
 mod position_cursor;
 mod query_tree;
 mod range;
+mod rows;
 mod scan;
+mod term_lists;
 mod terms;
 mod tree;
 mod walk;

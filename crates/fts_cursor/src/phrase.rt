@@ -1,4 +1,4 @@
-// A cursor over the documents in which a phrase stands: positions are read only where all of its terms do.
+// A cursor over the documents in which a phrase stands: positions are read only if all of its terms do.
 ghost use Rattle.std.specs.Prelude.{◌≡◌, ℕ, ◌+◌, ◌-◌, ◌^◌, ◌<◌, ◌≤◌, ◌==◌, Some, true, IfOk};
 ghost use Rattle.std.specs.Prelude.{◌∷◌, [], drop, filter, length, min, slice_get, slice_index_or, take};
 ghost use Rattle.std.specs.List.{list_all, list_any};
@@ -27,7 +27,7 @@ pub(crate) struct Member<'a> {
     pub(crate) offset: u32,
 }
 
-/// A cursor over the documents in which the terms stand at their offsets from some one position.
+/// A cursor over the documents in which the terms are at their offsets from some one position.
 #[derive(Drop)]
 pub(crate) struct PhraseCursor<'a> {
     terms: Conjunction<ListSource<'a>>,
@@ -132,7 +132,7 @@ impl<'a> DocSet for PhraseCursor<'a> {
     }
 }
 
-// Passes over documents in which the phrase doesn't stand.
+/// Passes over documents in which the phrase isn't.
 fn settle(terms: &mut Conjunction<ListSource>, first: &mut Member, others: &mut [Member])
     requires { AreMembersOf terms.old (first.old ∷ others.old) }
     ensures same { filter (phrase_at (first.old ∷ others.old)) (common_of terms.new)
@@ -150,7 +150,7 @@ fn settle(terms: &mut Conjunction<ListSource>, first: &mut Member, others: &mut 
     }
 }
 
-// Whether the phrase stands in the document at which its terms do.
+/// Whether the phrase is in the document at which its terms do.
 fn stands(terms: &Conjunction<ListSource>, first: &mut Member, others: &mut [Member]) -> bool
     requires some { 0 < length (common_of terms.now) }
     requires members { AreMembersOf terms.now (first.old ∷ others.old) }
@@ -168,7 +168,7 @@ fn stands(terms: &Conjunction<ListSource>, first: &mut Member, others: &mut [Mem
     false
 }
 
-// Whether each of the other members stands as far behind a position as its offset is behind the first one's.
+/// Whether each of the other members stands as far after a position as its offset is after the first one's.
 fn all_follow(
     terms: &Conjunction<ListSource>,
     others: &mut [Member],
@@ -189,7 +189,7 @@ fn all_follow(
     true
 }
 
-// Whether a member stands as far behind a position as its offset is behind another one, in the document of a posting.
+/// Whether a member stands as far after a position as its offset is after another one, in the document of a posting.
 fn follows(member: &mut Member, posting: usize, offset: u32, position: u32) -> bool
     ensures follows { result
         ≡ list_any (λ q. q + offset == position + member.old.offset)

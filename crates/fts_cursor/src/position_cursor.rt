@@ -9,7 +9,7 @@ use std::marker::Model;
 
 /// The positions of a term, a list for each of its postings. Contracts see the list of these.
 ///
-/// What lies before the position that was asked for last is left behind, so that those of a posting are gone through
+/// What lies before the position that was asked for last is passed, so that those of a posting are gone through
 /// once where rising ones are asked for.
 #[derive(Drop)]
 pub(crate) struct PositionCursor<'a> {
@@ -52,7 +52,7 @@ impl<'a> PositionCursor<'a> {
         }
     }
 
-    /// The positions in the document of a posting, and none where there is no such posting.
+    /// The positions in the document of a posting, and none if there is no such posting.
     pub(crate) fn get(&mut self, posting: usize) -> Positions<'a>
         ensures positions { positions_left result ≡ slice_index_or self.old posting [] }
         ensures same { self.new ≡ self.old }

@@ -16,17 +16,17 @@ ghost use Rattle.fts_cursor.specs.TreeValues.{TreeValue, remains};
 
 use crate::any::{apart_by_words, by_words};
 use crate::cursor::Cursor;
-use crate::kept::Kept;
-use crate::led::cursor_over;
 use crate::phrase::{Member, PhraseCursor};
 use crate::position_cursor::PositionCursor;
 use crate::range::of_range;
+use crate::rows::Kept;
 use crate::scan::ScanCursor;
+use crate::term_lists::cursor_over;
 use crate::terms::{are_terms, of_terms};
 use crate::tree::Tree;
-use fts_bits::Bits;
 use fts_model::{FieldValue, Query, Refusal, Term, Text};
 use fts_pack::ListSource;
+use fts_pack::bits::Bits;
 use fts_postings::{Conjunction, PostingCursor};
 use fts_segment::{ListId, Segment};
 use std::alloc::{AllocError, Global};
@@ -61,14 +61,14 @@ pub fn cursor_of<'a>(
     }
 }
 
-// Whether all bits are set.
+/// Whether all bits are set.
 fn all_set(live: &Bits) -> bool
     ensures { result ≡ true → count_by (λ bit. bit) live.now ≡ length live.now }
 {
     live.count_ones() == live.len()
 }
 
-// The documents that match a query.
+/// The documents that match a query.
 #[cycle(build)]
 fn tree_of<'a>(alloc: Global, segment: &'a Segment, query: &Query) -> Result<Tree<'a>, AllocError>
     requires fits { query_fits segment.now.schema (query_value query.now) ≡ true }
@@ -112,7 +112,7 @@ fn tree_of<'a>(alloc: Global, segment: &'a Segment, query: &Query) -> Result<Tre
     }
 }
 
-// The documents that match one of these at least. One alone needs no list.
+/// The documents that match one of these at least. One alone needs no list.
 #[cycle(build)]
 fn any_of<'a>(
     alloc: Global,
@@ -137,7 +137,7 @@ fn any_of<'a>(
     }
 }
 
-// The documents that match each of these.
+/// The documents that match each of these.
 #[cycle(build)]
 fn trees_of<'a>(
     alloc: Global,
@@ -161,7 +161,7 @@ fn trees_of<'a>(
     Ok(trees)
 }
 
-// What all have in common. The part of the least cost leads.
+/// What all have in common. The part of the least cost leads.
 fn all<'a>(alloc: Global, parts: Vec<Tree<'a>>) -> Result<Tree<'a>, AllocError>
     requires { 0 < length parts.items }
     ensures { IfOk result (λ t. (first : TreeValue) (rest : List TreeValue) →
@@ -175,7 +175,7 @@ fn all<'a>(alloc: Global, parts: Vec<Tree<'a>>) -> Result<Tree<'a>, AllocError>
     Tree::and(alloc, lead, parts)
 }
 
-// How many documents remain of each part at most, or the greatest `usize`.
+/// How many documents remain of each part at most, or the greatest `usize`.
 fn costs_of(alloc: Global, parts: &[Tree]) -> Result<Vec<usize>, AllocError>
     ensures bounds { IfOk result (λ costs. AllZip
         (λ cost part. min (2 ^ 64 - 1) (length part.remaining) ≤ cost)
@@ -190,7 +190,7 @@ fn costs_of(alloc: Global, parts: &[Tree]) -> Result<Vec<usize>, AllocError>
     Ok(costs)
 }
 
-// The place of the least number.
+/// The place of the least number.
 fn place_of_least(numbers: &[usize]) -> usize
     requires { 0 < length numbers.now }
     ensures inside { result < length numbers.now }
@@ -206,7 +206,7 @@ fn place_of_least(numbers: &[usize]) -> usize
     least
 }
 
-// Every document.
+/// Every document.
 #[inline(never)]
 fn of_all(alloc: Global, segment: &Segment) -> Result<Tree<'_>, AllocError>
     ensures { IfOk result (λ t. t.remaining ≡ segment_hits segment.now every) }
@@ -215,7 +215,7 @@ fn of_all(alloc: Global, segment: &Segment) -> Result<Tree<'_>, AllocError>
     Tree::scan(alloc, ScanCursor::new(Kept::Every, docs, Some(docs)))
 }
 
-// The documents that have a term.
+/// The documents that have a term.
 fn of_term<'a>(alloc: Global, segment: &'a Segment, term: &Term) -> Result<Tree<'a>, AllocError>
     ensures remaining { IfOk result (λ t. t.remaining ≡ postings segment.now term.now) }
     ensures bound { IfOk result
@@ -228,7 +228,7 @@ fn of_term<'a>(alloc: Global, segment: &'a Segment, term: &Term) -> Result<Tree<
     }
 }
 
-// The documents with a phrase.
+/// The documents with a phrase.
 #[inline(never)]
 fn of_phrase<'a>(
     alloc: Global,
@@ -255,7 +255,7 @@ fn of_phrase<'a>(
     Tree::phrase(alloc, PhraseCursor::new(terms, first, others))
 }
 
-// How many documents have the term of each member.
+/// How many documents have the term of each member.
 fn lengths_of<'a>(
     alloc: Global,
     segment: &'a Segment,
@@ -271,7 +271,7 @@ fn lengths_of<'a>(
     Ok(lengths)
 }
 
-// The lists of a phrase's terms, and none where one of them has no documents.
+/// The lists of a phrase's terms, and none where one of them has no documents.
 fn members_of<'a>(
     alloc: Global,
     segment: &'a Segment,
@@ -296,7 +296,7 @@ fn members_of<'a>(
     Ok(Some(members))
 }
 
-// The list of a text as a term.
+/// The list of a text as a term.
 fn find_text<'a>(
     segment: &'a Segment,
     field: usize,
@@ -311,7 +311,7 @@ fn find_text<'a>(
     Ok(segment.find(&Term { field, value }))
 }
 
-// A cursor for each list.
+/// A cursor for each list.
 fn cursors_of<'a>(
     alloc: Global,
     segment: &'a Segment,

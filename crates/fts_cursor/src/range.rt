@@ -15,14 +15,14 @@ ghost use Rattle.fts_cursor.specs.Scans.{has_within};
 ghost use Rattle.fts_postings.specs.Windows.{passing};
 ghost use Rattle.fts_segment.specs.Between.{AreBetween, count_between};
 
-use crate::kept::Kept;
-use crate::listed::ListedCursor;
+use crate::list_union::ListedCursor;
+use crate::rows::Kept;
 use crate::scan::ScanCursor;
 use crate::tree::Tree;
-use fts_bits::i64_to_u64;
-use fts_column::Column;
 use fts_model::{FieldValue, Number};
 use fts_pack::List;
+use fts_pack::bits::i64_to_u64;
+use fts_pack::column::Column;
 use fts_segment::Segment;
 use std::alloc::{AllocError, Global};
 use std::ops::Bound;
@@ -51,7 +51,7 @@ pub(crate) fn of_range<'a>(
     }
 }
 
-// The documents with a number within bounds, of which one is one at least.
+/// The documents with a number within bounds, of which one is one at least.
 fn of_numbers<'a>(
     alloc: Global,
     segment: &'a Segment,
@@ -77,8 +77,8 @@ fn of_numbers<'a>(
     Ok(tree)
 }
 
-// The documents with a text within bounds, of which one is one at least: those with an ordinal among the ordinals of
-// these texts.
+/// The documents with a text within bounds, of which one is one at least: those with an ordinal among the ordinals of
+/// these texts.
 fn of_keywords<'a>(
     alloc: Global,
     segment: &'a Segment,
@@ -104,8 +104,8 @@ fn of_keywords<'a>(
     Ok(tree)
 }
 
-// The documents with a number of a column between two, which lie in these lists, and how many they are: where they are
-// few, the lists are opened, and else the column is read.
+/// The documents with a number of a column between two, which are in these lists, and how many they are: where they are
+/// few, the lists are opened, and else the column is read.
 fn between<'a>(
     alloc: Global,
     column: &'a Column,
@@ -122,13 +122,14 @@ fn between<'a>(
     ensures { IfOk result (λ t. t.remaining ≡ passing (has_within low high column.now) 0 docs) }
 {
     if documents <= docs / 256 {
-        return Tree::listed(alloc, ListedCursor::of_lists(alloc, lists)?);
+        let (listed, opened) = ListedCursor::of_lists(alloc, lists)?;
+        return Tree::listed(alloc, listed, opened);
     }
     let kept = Kept::Within { column, low, high };
     Tree::scan(alloc, ScanCursor::new(kept, docs, Some(documents)))
 }
 
-// The least ordinal that a lower bound of a text admits.
+/// The least ordinal that a lower bound of a text admits.
 fn first_ordinal(segment: &Segment, field: usize, bound: &Bound<FieldValue>) -> u64
     requires { kind_at segment.now.schema field ≡ Some kinds.Keyword }
     ensures { result ≡ ordinal_from (keywords segment.now field) bound.now }
@@ -142,7 +143,7 @@ fn first_ordinal(segment: &Segment, field: usize, bound: &Bound<FieldValue>) -> 
     }
 }
 
-// The greatest ordinal that an upper bound of a text admits.
+/// The greatest ordinal that an upper bound of a text admits.
 fn last_ordinal(segment: &Segment, field: usize, bound: &Bound<FieldValue>) -> Option<u64>
     requires { kind_at segment.now.schema field ≡ Some kinds.Keyword }
     ensures { IsLastOrdinal (keywords segment.now field) bound.now result }
@@ -160,7 +161,7 @@ fn last_ordinal(segment: &Segment, field: usize, bound: &Bound<FieldValue>) -> O
     }
 }
 
-// The greatest number of a column.
+/// The greatest number of a column.
 fn most_of(column: &Column) -> Option<u64>
     ensures { (doc x : ℕ) → slice_index_or column.now doc None ≡ Some x → x < 2 ^ 64 }
 {
@@ -170,14 +171,14 @@ fn most_of(column: &Column) -> Option<u64>
     }
 }
 
-// Whether a bound admits everything.
+/// Whether a bound admits everything.
 fn is_open(bound: &Bound<FieldValue>) -> bool
     ensures { result ≡ not (is_bounded bound.now) }
 {
     matches!(bound, Bound::Unbounded)
 }
 
-// The number as a column keeps it.
+/// The number as a column keeps it.
 fn key(value: &FieldValue) -> u64
     ensures is { result ≡ key_of value.now }
     ensures whole { IsWhole value.now }
@@ -189,7 +190,7 @@ fn key(value: &FieldValue) -> u64
     }
 }
 
-// The least number that a lower bound admits.
+/// The least number that a lower bound admits.
 fn least(bound: &Bound<FieldValue>) -> Option<u64>
     ensures is { IsLeastOf bound.now result }
     ensures whole { IsWholeBound bound.now }
@@ -201,7 +202,7 @@ fn least(bound: &Bound<FieldValue>) -> Option<u64>
     }
 }
 
-// The greatest number that an upper bound admits.
+/// The greatest number that an upper bound admits.
 fn greatest(bound: &Bound<FieldValue>) -> Option<u64>
     ensures is { IsGreatestOf bound.now result }
     ensures whole { IsWholeBound bound.now }

@@ -8,17 +8,17 @@ ghost use Rattle.fts_cursor.specs.Dense.{HoldsRow};
 ghost use Rattle.fts_cursor.specs.Scans.{AreFor, keeps, kept_from, kept_in};
 
 use crate::dense::Row;
-use crate::kept::{self, Kept};
-use fts_bits::Bits;
+use crate::rows::{self, Kept};
+use fts_pack::bits::Bits;
 use fts_postings::DocSet;
 use fts_postings::stretch::{copy_part, place_of};
 use std::alloc::{AllocError, Global};
 use std::marker::Model;
 
-// A stretch that begins behind each document, since these have 32 bits.
+// A stretch that begins after each document, since these have 32 bits.
 const BEHIND_ALL: usize = 8_589_934_592;
 
-/// A cursor over the documents that are kept. Those of the stretch in which it stands lie in the value.
+/// A cursor over the documents that are kept. Those of the stretch in which it is are in the value.
 #[derive(Drop)]
 pub(crate) struct ScanCursor<'a> {
     kept: Kept<'a>,
@@ -44,7 +44,7 @@ impl<'a> Model for ScanCursor<'a> {
 }
 
 impl<'a> ScanCursor<'a> {
-    /// Of so many documents, and how many of them are kept, if that is known.
+    /// Of this many documents, and how many of them are kept, if that is known.
     pub(crate) fn new(kept: Kept<'a>, docs: usize, total: Option<usize>) -> ScanCursor<'a>
         requires few { docs ≤ 2 ^ 32 }
         requires are_for { AreFor kept docs }
@@ -66,7 +66,7 @@ impl<'a> ScanCursor<'a> {
         }
     }
 
-    /// How many documents remain at most: where it isn't known how many, as many as were not looked at.
+    /// How many documents remain at most: if it isn't known how many, as many as were not looked at.
     pub(crate) fn cost(&self) -> usize
         ensures { length self.now ≤ result }
     {
@@ -76,7 +76,7 @@ impl<'a> ScanCursor<'a> {
         }
     }
 
-    /// How many documents remain. Leaves them behind, and lists none of those of later stretches; where their number
+    /// How many documents remain. Passes them, and lists none of those of later stretches; where their number
     /// is known, none is looked at.
     pub(crate) fn count(&mut self) -> usize
         ensures count { result ≡ length self.old }
@@ -90,14 +90,14 @@ impl<'a> ScanCursor<'a> {
         count
     }
 
-    /// Keeps of those that remain only those whose bit is set, where words tell of both and none was left behind yet, and
+    /// Keeps of those that remain only those whose bit is set, where words tell of both and none was passed yet, and
     /// says whether it did.
     pub(crate) fn cut(&mut self, alloc: Global, live: &'a Bits) -> Result<bool, AllocError>
         ensures cut { IfOk result (λ did. did ≡ true → self.new ≡ filter (is_live live.now) self.old) }
         ensures uncut { IfOk result (λ did. did ≡ false → self.new ≡ self.old) }
         ensures failed { IfErr result (λ _. self.new ≡ self.old) }
     {
-        if self.at > 0 || !kept::cut(&mut self.kept, alloc, self.docs, live)? {
+        if self.at > 0 || !rows::cut(&mut self.kept, alloc, self.docs, live)? {
             return Ok(false);
         }
         self.total = None;
@@ -115,7 +115,7 @@ impl<'a> ScanCursor<'a> {
         Ok(true)
     }
 
-    // How many documents remain.
+    /// How many documents remain.
     fn remaining(&self) -> usize
         ensures { result ≡ length self.now }
     {
@@ -128,7 +128,7 @@ impl<'a> ScanCursor<'a> {
         }
     }
 
-    // Copies what fits of the rest of the stretch behind what fills `out` so far, and leaves it behind.
+    /// Copies what fits of the rest of the stretch after what fills `out` so far, and passes it.
     fn take_stretch(&mut self, out: &mut [u32; 128], filled: usize) -> usize
         requires { filled < 128 }
         ensures { IsStretch self.old self.new out.old out.new filled result }
@@ -195,7 +195,7 @@ impl DocSet for ScanCursor<'_> {
         }
     }
 
-    /// Looks in the stretch in which it stands first, and else begins at that of the target.
+    /// Looks in the stretch in which it is first, and else begins at that of the target.
     fn seek(&mut self, target: u32) {
         if self.at >= self.len {
             return;
@@ -232,8 +232,8 @@ impl DocSet for ScanCursor<'_> {
     }
 }
 
-// The first stretch from one on in which a document of the target or more is kept, and how many are kept there: they
-// lie at the front of `numbers`.
+/// The first stretch from one on in which a document of the target or more is kept, and how many are kept there: they
+/// are at the front of `numbers`.
 fn find(
     kept: &Kept,
     docs: usize,
@@ -259,7 +259,7 @@ fn find(
 {
     let mut from = from;
     while from < docs {
-        let len = kept::write(kept, docs, from, numbers, row);
+        let len = rows::write(kept, docs, from, numbers, row);
         if len > 0 && numbers[len - 1] >= target {
             return (from, len);
         }
@@ -268,7 +268,7 @@ fn find(
     (from, 0)
 }
 
-// How many documents from one on are kept.
+/// How many documents from one on are kept.
 fn count_from(kept: &Kept, docs: usize, from: usize) -> usize
     requires few { docs ≤ 2 ^ 32 }
     requires are_for { AreFor kept.now docs }
@@ -281,7 +281,7 @@ fn count_from(kept: &Kept, docs: usize, from: usize) -> usize
     let mut count = 0;
     let mut from = from;
     while from < docs {
-        count += kept::count(kept, docs, from);
+        count += rows::count(kept, docs, from);
         from += 128;
     }
     count

@@ -1,20 +1,20 @@
 // The cursor of queries that are terms and must all match: one conjunction, led by the shortest list.
 ghost use Rattle.std.specs.Prelude.{◌≡◌, ◌≢◌, ℕ, ◌≤◌, ◌<◌, nat_lt, false, true, if◌then◌else◌, IfOk, MatchOption};
-ghost use Rattle.std.specs.Prelude.{Option, [], ◌∷◌, length, map};
+ghost use Rattle.std.specs.Prelude.{None, Option, Some, [], ◌∷◌, length, map};
 ghost use Rattle.std.specs.List.{list_all};
 ghost use Rattle.fts_model.specs.Queries.{matches};
-ghost use Rattle.fts_model.specs.QueryValues.{query_value};
+ghost use Rattle.fts_model.specs.QueryValues.{no_queries, queries, query_list, query_value};
 ghost use Rattle.fts_segment.specs.Segments.{numbers_where};
-ghost use Rattle.fts_cursor.specs.Builds.{is_term};
+ghost use Rattle.fts_cursor.specs.Builds.{is_term, only_term_in, term_in};
 ghost use Rattle.fts_cursor.specs.Hits.{segment_hits};
 ghost use Rattle.fts_cursor.specs.Leading.{IsLed};
 ghost use Rattle.fts_cursor.specs.Openings.{bound_of_all};
 ghost use Rattle.fts_postings.specs.Bounds.{most_at};
 ghost use Rattle.fts_postings.specs.Sets.{in_all};
 
-use crate::led::of_lists;
+use crate::term_lists::of_lists;
 use crate::tree::Tree;
-use fts_model::Query;
+use fts_model::{Query, Term};
 use fts_pack::List;
 use fts_segment::Segment;
 use std::alloc::{AllocError, Global};
@@ -60,7 +60,7 @@ struct Lists<'a> {
     others: Vec<&'a List>,
 }
 
-// The lists of terms, and none where no document has all of them.
+/// The lists of terms, and none where no document has all of them.
 fn lists_of<'a>(
     alloc: Global,
     segment: &'a Segment,
@@ -89,20 +89,74 @@ fn lists_of<'a>(
     Ok(Some(Lists { shortest, others }))
 }
 
-// The list of a term, and none where no document has it.
+/// The list of a term, and none where no document has it.
 pub(crate) fn list_of<'a>(segment: &'a Segment, query: &Query) -> Option<&'a List>
     requires { is_term (query_value query.now) ≡ true }
     ensures { MatchOption result
         (segment_hits segment.now (query_value query.now) ≡ [])
         (λ list. list.now ≡ segment_hits segment.now (query_value query.now)) }
 {
-    let Query::Term(term) = query else {
+    let Some(term) = term_of(query) else {
         unreachable!();
     };
     Some(segment.postings(segment.find(term)?))
 }
 
-// Two lists, the shorter first.
+/// The term that a query is, alone or as its only should: so is a word where one field is default.
+fn term_of(query: &Query) -> Option<&Term>
+    ensures { MatchOption result
+        (term_in (query_value query.now) ≡ None)
+        (λ term. term_in (query_value query.now) ≡ Some term.now) }
+{
+    match query {
+        Query::Term(term) => Some(term),
+        Query::Bool {
+            must,
+            must_not,
+            should,
+        } => {
+            if !must.is_empty() {
+                return None;
+            }
+            if !must_not.is_empty() {
+                return None;
+            }
+            only_term(should)
+        }
+        Query::All | Query::None | Query::Phrase { .. } | Query::Range { .. } => None,
+    }
+}
+
+/// The term that is the only one of some queries.
+#[tactic(auto, using(crate::proofs::TermLemmas::not_one, crate::proofs::TermLemmas::one_alone))]
+fn only_term(queries: &[Query]) -> Option<&Term>
+    ensures { MatchOption result
+        (only_term_in (query_list (map query_value queries.now)) ≡ None)
+        (λ term. only_term_in (query_list (map query_value queries.now)) ≡ Some term.now) }
+{
+    if queries.len() != 1 {
+        return None;
+    }
+    alone(&queries[0])
+}
+
+/// The term that a query itself is.
+fn alone(query: &Query) -> Option<&Term>
+    ensures { MatchOption result
+        (only_term_in (queries (query_value query.now) no_queries) ≡ None)
+        (λ term. only_term_in (queries (query_value query.now) no_queries) ≡ Some term.now) }
+{
+    match query {
+        Query::Term(term) => Some(term),
+        Query::All
+        | Query::None
+        | Query::Phrase { .. }
+        | Query::Range { .. }
+        | Query::Bool { .. } => None,
+    }
+}
+
+/// Two lists, the shorter first.
 fn by_length<'a>(a: &'a List, b: &'a List) -> (&'a List, &'a List)
     ensures shorter { result.0.now
         ≡ (if nat_lt (length b.now) (length a.now) then b.now else a.now) }
@@ -112,16 +166,9 @@ fn by_length<'a>(a: &'a List, b: &'a List) -> (&'a List, &'a List)
     if b.len() < a.len() { (b, a) } else { (a, b) }
 }
 
-// Whether the query is a term.
+/// Whether the query is a term.
 fn is_term(query: &Query) -> bool
     ensures { result ≡ is_term (query_value query.now) }
 {
-    match query {
-        Query::Term(_) => true,
-        Query::All
-        | Query::None
-        | Query::Phrase { .. }
-        | Query::Range { .. }
-        | Query::Bool { .. } => false,
-    }
+    term_of(query).is_some()
 }

@@ -15,14 +15,15 @@ ghost use Rattle.fts_pack.specs.Documents.{block_count};
 mod buffered_union;
 mod exclusion;
 mod intersection;
+mod live;
 
 use crate::filter::FilterCursor;
-use crate::listed::ListedCursor;
+use crate::list_union::ListedCursor;
 use crate::phrase::PhraseCursor;
 use crate::scan::ScanCursor;
 use buffered_union::{BufferedUnion, count_gathered, fill_gathered, gather, refill};
 use exclusion::{Exclusion, settle};
-use fts_bits::Bits;
+use fts_pack::bits::Bits;
 use fts_pack::{List, ListSource};
 use fts_postings::{Conjunction, DocSet, PostingCursor, Window};
 use intersection::{Intersection, align};
@@ -30,7 +31,7 @@ use std::alloc::{AllocError, Global};
 use std::marker::Model;
 
 /// The documents that match a query. A tree is moved often as it is made, so it is small: what it finds them by lies
-/// behind it.
+/// after it.
 #[cycle(tree)]
 #[derive(Drop)]
 pub(crate) struct Tree<'a> {
@@ -51,7 +52,8 @@ enum Source<'a> {
 enum Node<'a> {
     /// Beside it how many blocks were opened of the lists that it stands for.
     Scan(ScanCursor<'a>, u64),
-    Listed(ListedCursor),
+    /// The same.
+    Listed(ListedCursor, u64),
     Postings(PostingCursor<ListSource<'a>>),
     Terms(Conjunction<ListSource<'a>>),
     Filter(FilterCursor<'a>),
@@ -91,7 +93,7 @@ impl<'a> Tree<'a> {
         }
     }
 
-    // Of a node that stands at the document.
+    /// Of a node that is at the document.
     fn of(alloc: Global, doc: Option<u32>, node: Node<'a>) -> Result<Tree<'a>, AllocError>
         requires { StandsAt doc node }
         ensures { IfOk result (λ t. t ≡ tree_value node.entry) }
@@ -109,7 +111,7 @@ impl<'a> Tree<'a> {
         Tree::dense(alloc, scan, 0)
     }
 
-    /// Of documents that bits tell of lists of which so many blocks were opened.
+    /// Of documents that bits tell of lists of which this many blocks were opened.
     pub(crate) fn dense(
         alloc: Global,
         scan: ScanCursor<'a>,
@@ -121,12 +123,16 @@ impl<'a> Tree<'a> {
         Tree::of(alloc, scan.doc(), Node::Scan(scan, opened))
     }
 
-    /// Of documents that lie in memory.
-    pub(crate) fn listed(alloc: Global, listed: ListedCursor) -> Result<Tree<'a>, AllocError>
+    /// Of documents that are in memory, and this many blocks that were opened to read them.
+    pub(crate) fn listed(
+        alloc: Global,
+        listed: ListedCursor,
+        opened: u64,
+    ) -> Result<Tree<'a>, AllocError>
         ensures remaining { IfOk result (λ t. t.remaining ≡ listed) }
-        ensures counts { IfOk result (λ t. (t.openings ≡ 0) × (t.bound ≡ at_most 0)) }
+        ensures counts { IfOk result (λ t. (t.openings ≡ opened) × (t.bound ≡ at_most opened)) }
     {
-        Tree::of(alloc, listed.doc(), Node::Listed(listed))
+        Tree::of(alloc, listed.doc(), Node::Listed(listed, opened))
     }
 
     /// Of a list.
@@ -235,7 +241,7 @@ impl<'a> Tree<'a> {
     }
 
     /// How many blocks were opened since the cursors were made, the making included, or the greatest `u64`: no more
-    /// than the bound where it stands.
+    /// than the bound where it is.
     #[cycle(openings)]
     pub(crate) fn openings(&self) -> u64
         ensures sum { result ≡ min (2 ^ 64 - 1) self.now.openings }
@@ -248,8 +254,7 @@ impl<'a> Tree<'a> {
             return 0;
         };
         match &**node {
-            Node::Scan(_, opened) => *opened,
-            Node::Listed(_) => 0,
+            Node::Scan(_, opened) | Node::Listed(_, opened) => *opened,
             Node::Postings(postings) => postings.openings(),
             Node::Terms(terms) => terms.openings(),
             Node::Filter(filter) => filter.openings(),
@@ -277,7 +282,7 @@ impl<'a> Tree<'a> {
         };
         match &**node {
             Node::Scan(scan, _) => scan.cost(),
-            Node::Listed(listed) => listed.cost(),
+            Node::Listed(listed, _) => listed.cost(),
             Node::Postings(postings) => postings.cost(),
             Node::Terms(terms) => terms.cost(),
             Node::Filter(filter) => filter.cost(),
@@ -300,7 +305,7 @@ impl<'a> Tree<'a> {
         self.doc
     }
 
-    /// Leaves the first document behind.
+    /// Passes the first document.
     #[cycle(tree)]
     pub(crate) fn advance(&mut self)
         ensures remaining { self.new.remaining ≡ drop 1 self.old.remaining }
@@ -315,7 +320,7 @@ impl<'a> Tree<'a> {
         }
     }
 
-    /// Leaves behind what lies before the target.
+    /// Passes what lies before the target.
     #[cycle(tree)]
     pub(crate) fn seek(&mut self, target: u32)
         ensures remaining { self.new.remaining ≡ at_least target self.old.remaining }
@@ -332,7 +337,7 @@ impl<'a> Tree<'a> {
     }
 
     /// How many documents remain, or the greatest `usize`, where they needn't be gone through one after the other for
-    /// that, and leaves them behind then.
+    /// that, and passes them then.
     pub(crate) fn count(&mut self) -> Option<usize>
         ensures counted { MatchOption result (self.new ≡ self.old)
             (λ count. (count ≡ min (2 ^ 64 - 1) (length self.old.remaining)) × (self.new.remaining ≡ [])) }
@@ -368,7 +373,7 @@ impl<'a> Tree<'a> {
     }
 }
 
-// How many blocks all of them opened.
+/// How many blocks all of them opened.
 #[cycle(openings)]
 fn openings_in(parts: &[Tree]) -> u64
     ensures sum { result ≡ min (2 ^ 64 - 1) (all_openings parts.now) }
@@ -381,7 +386,7 @@ fn openings_in(parts: &[Tree]) -> u64
     sum
 }
 
-// How many documents all of them have at most, or the greatest `usize`.
+/// How many documents all of them have at most, or the greatest `usize`.
 #[cycle(cost)]
 fn cost_in(parts: &[Tree]) -> usize
     ensures { min (2 ^ 64 - 1) (length (union (remains parts.now))) ≤ result }
@@ -393,7 +398,7 @@ fn cost_in(parts: &[Tree]) -> usize
     sum
 }
 
-// Leaves the node's first document behind, and gives the next.
+/// Passes the node's first document, and gives the next.
 #[cycle(tree)]
 fn step(node: &mut Node) -> Option<u32>
     requires { (doc : ℕ) × StandsAt (Some doc) node.old }
@@ -406,7 +411,7 @@ fn step(node: &mut Node) -> Option<u32>
             scan.advance();
             scan.doc()
         }
-        Node::Listed(listed) => {
+        Node::Listed(listed, _) => {
             listed.advance();
             listed.doc()
         }
@@ -441,7 +446,7 @@ fn step(node: &mut Node) -> Option<u32>
     }
 }
 
-// Leaves behind what lies before the target, and gives the first document from there on.
+/// Passes what lies before the target, and gives the first document from there on.
 #[cycle(tree)]
 fn skip(node: &mut Node, target: u32) -> Option<u32>
     requires { (doc : ℕ) × StandsAt (Some doc) node.old × (doc < target) }
@@ -453,7 +458,7 @@ fn skip(node: &mut Node, target: u32) -> Option<u32>
             scan.seek(target);
             scan.doc()
         }
-        Node::Listed(listed) => {
+        Node::Listed(listed, _) => {
             listed.seek(target);
             listed.doc()
         }
@@ -485,7 +490,7 @@ fn skip(node: &mut Node, target: u32) -> Option<u32>
     }
 }
 
-// Takes the next 128 of a node that stands at the document, and gives how many they are, and the next.
+/// Takes the next 128 of a node that is at the document, and gives how many they are, and the next.
 fn fill(node: &mut Node, doc: Option<u32>, out: &mut [u32; 128]) -> (usize, Option<u32>)
     requires { StandsAt doc node.old }
     ensures count { result.0 ≡ min 128 (length (tree_value node.old).remaining) }
@@ -498,7 +503,7 @@ fn fill(node: &mut Node, doc: Option<u32>, out: &mut [u32; 128]) -> (usize, Opti
             let count = scan.fill(out);
             (count, scan.doc())
         }
-        Node::Listed(listed) => {
+        Node::Listed(listed, _) => {
             let count = listed.fill(out);
             (count, listed.doc())
         }
@@ -523,7 +528,7 @@ fn fill(node: &mut Node, doc: Option<u32>, out: &mut [u32; 128]) -> (usize, Opti
     }
 }
 
-// The same, a document at a time.
+/// The same, a document at a time.
 fn fill_by_steps(node: &mut Node, doc: Option<u32>, out: &mut [u32; 128]) -> (usize, Option<u32>)
     requires { StandsAt doc node.old }
     ensures count { result.0 ≡ min 128 (length (tree_value node.old).remaining) }

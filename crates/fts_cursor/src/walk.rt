@@ -40,7 +40,7 @@ impl<'a> Walk<'a> {
         Walk { first, later }
     }
 
-    /// Leaves behind what lies before a position, and says whether it is one of these.
+    /// Passes what lies before a position, and says whether it is one of these.
     #[inline(always)]
     pub(crate) fn seek(&mut self, position: u64) -> bool
         ensures has { result ≡ has self.old position }

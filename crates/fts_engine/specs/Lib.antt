@@ -1,3 +1,9 @@
-pub mod SearchThreads
-pub mod UncommittedOperations
-pub mod WriterIndexes
+pub mod Carriers
+pub mod DefaultOptions
+pub mod Histories
+pub mod Indexes
+pub mod Limits
+pub mod ListIndexes
+pub mod Operations
+pub mod Pairs
+pub mod Steps

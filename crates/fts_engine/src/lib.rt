@@ -1,21 +1,18 @@
-//! An index of segments under a script.
+//! What a script needs of an index: one step of the definitions for each call.
 //!
-//! [`IndexEngine`] is an engine of scripts over a writer of segments: it submits to rounds of one lane, commits them
-//! cut as its options say, merges as they say, and searches the last commit through a reader. For every cutting,
-//! merging and number of workers it takes the same steps as a plain list of documents, so no option changes a reply.
-//! Where the segments are small, one thread searches them, whatever the number of workers.
-//!
-//! [`LocalEngine`] of `fts_local`, which is handed on here, takes the same steps in the calling thread alone.
-//!
-//! ```text
-//! run_script::<_, IndexEngine, _, _>(rt, &mut streams, options)?;
-//! ```
+//! An [`Engine`] takes operations, and as an [`EngineOver`] what it is given to work with it commits, rolls back,
+//! merges and searches. [`ListEngine`] keeps a plain list of documents; the engines over segments are in crates
+//! above. [`Options`] say how an engine works, and change nothing that it answers.
 #![tactic(auto)]
 
-mod index_engine;
-mod segments;
-mod threads;
-mod uncommitted;
+mod engine;
+mod fork;
+mod list_engine;
+mod options;
+mod pairs;
 
-pub use fts_local::LocalEngine;
-pub use index_engine::IndexEngine;
+pub use engine::{Engine, EngineOver, MOST_UNCOMMITTED};
+pub use fork::Fork;
+pub use list_engine::ListEngine;
+pub use options::{Cut, Merge, Options};
+pub use pairs::Pairs;

@@ -1,15 +1,13 @@
 -- The answers of the jobs of a commit.
-use Rattle.std.proofs.Common.{◌≡◌, ◌<◌, ◌+◌, ℕ, zero, suc, refl, List, [], ◌∷◌, ◌++◌, length, get_or, take, map, filter, Result, Ok, Err, sym, subst, ◌∙◌, arith}
+use Rattle.std.proofs.Common.{◌≡◌, ◌<◌, ◌+◌, ℕ, zero, suc, refl, List, [], ◌∷◌, ◌++◌, length, get_or, take, map, filter, Result, Ok, Err, sym, subst, arith}
 use Rattle.std.specs.List.{AllZip}
-use Rattle.std.proofs.lemmas.List.{length-map}
 use Rattle.fts_base.specs.declared.refusal.Refusal.{Refusal}
 use Rattle.fts_base.specs.declared.refusal.Refusal.TheVariants.{Memory}
 use Rattle.fts_snapshots.specs.Entries.{EntryValue, has_live}
 use Rattle.fts_snapshots.specs.Jobs.{entry_of, Answers}
 use Rattle.fts_snapshots.specs.declared.commits.jobs.CommitJob.{CommitJob}
 use Rattle.fts_snapshots.proofs.JobLemmas.{kept_in_turn}
-use Rattle.fts_index.specs.CommitJobs.{AreAnswers, AnswersCommit, job_of}
-use Rattle.fts_index.specs.declared.commits.shared.SharedJob.{SharedJob}
+use Rattle.fts_index.specs.CommitJobs.{AreAnswers}
 
 -- the answer of a job is its own
 answer_at : (jobs : List CommitJob) (results : List (Result EntryValue Refusal)) (k : ℕ) (job : CommitJob) (result : Result EntryValue Refusal) → AreAnswers jobs results → k < length results →
@@ -34,22 +32,19 @@ kept_more (job ∷ jobs) results k result entry kept a l e f h =
     let same : entry ≡ entry_of here = (subst (λ r. Answers here r) f (answer_at (job ∷ jobs) results k job result a l e)).0 in
     kept_in_turn (job ∷ jobs) k job here entry kept within refl same h
 
-zip-count : (shared : List SharedJob) (results : List (Result EntryValue Refusal)) → AllZip AnswersCommit shared results → length results ≡ length shared
+zip-count : (jobs : List CommitJob) (results : List (Result EntryValue Refusal)) → AllZip Answers jobs results → length results ≡ length jobs
 zip-count [] [] h = refl
 zip-count [] (result ∷ results) h = absurd h
-zip-count (job ∷ shared) [] h = absurd h
-zip-count (job ∷ shared) (result ∷ results) h = omega (arith, zip-count shared results h.1)
+zip-count (job ∷ jobs) [] h = absurd h
+zip-count (job ∷ jobs) (result ∷ results) h = omega (arith, zip-count jobs results h.1)
 
-zip-each : (shared : List SharedJob) (results : List (Result EntryValue Refusal)) (i : ℕ) (job : CommitJob) (result : Result EntryValue Refusal) →
-    AllZip AnswersCommit shared results → i < length (map job_of shared) → Answers (get_or (map job_of shared) i job) (get_or results i result)
+zip-each : (jobs : List CommitJob) (results : List (Result EntryValue Refusal)) (i : ℕ) (job : CommitJob) (result : Result EntryValue Refusal) →
+    AllZip Answers jobs results → i < length jobs → Answers (get_or jobs i job) (get_or results i result)
 zip-each [] results i job result h within = absurd (omega (arith, within))
-zip-each (first ∷ shared) [] i job result h within = absurd h
-zip-each (first ∷ shared) (answer ∷ results) zero job result h within = h.0
-zip-each (first ∷ shared) (answer ∷ results) (suc i) job result h within = zip-each shared results i job result h.1 (omega (arith, within))
+zip-each (first ∷ jobs) [] i job result h within = absurd h
+zip-each (first ∷ jobs) (answer ∷ results) zero job result h within = h.0
+zip-each (first ∷ jobs) (answer ∷ results) (suc i) job result h within = zip-each jobs results i job result h.1 (omega (arith, within))
 
 -- the answers of a pool
-pub answers_of_all : (jobs : List CommitJob) (shared : List SharedJob) (results : List (Result EntryValue Refusal)) → map job_of shared ≡ jobs → AllZip AnswersCommit shared results → AreAnswers jobs results
-answers_of_all jobs shared results e h = subst (λ js. AreAnswers js results) e (record {
-  count = zip-count shared results h ∙ sym (length-map shared job_of);
-  each = λ i job result within. zip-each shared results i job result h within;
-})
+pub answers_of_all : (jobs : List CommitJob) (results : List (Result EntryValue Refusal)) → AllZip Answers jobs results → AreAnswers jobs results
+answers_of_all jobs results h = record { count = zip-count jobs results h; each = λ i job result within. zip-each jobs results i job result h within }

@@ -1,4 +1,4 @@
--- The steps over the shown front keep the rule: a front of one writer stands in for another.
+-- The steps over the shown front keep the rule: a front of one writer is in for another.
 use Rattle.std.proofs.Common.{◌≡◌, ◌≢◌, ℕ, Result, Ok, Err, OnOk, MatchResult, List, [], ◌∷◌, ◌++◌, set, Some, None, Option, refl, ap, ◌∙◌, subst, ⊎_elim, fold, sym}
 use mathlib.Core.Option.{some}
 use lib.ListN.{get_elem?}

@@ -44,7 +44,7 @@ pub record FrontValue : Type 0 where
   pub snapshot : SnapshotValue
   pub seen : Known
 
--- the same after a snapshot was published at a stamp: the list has one publication more
+-- a writer's front after a snapshot was published at a stamp: its list has one publication more
 abbrev pub published : ℕ → SnapshotValue → FrontValue → FrontValue
 published stamp snapshot f = record {
   stamp = stamp;
@@ -58,7 +58,7 @@ pub record IsFront (f : FrontValue) : Type 0 where
   pub last : newest f.seen.list ≡ publication f.stamp f.snapshot
   pub stamped : IsStamped f.stamp f.snapshot
 
--- both are of one commit: the same stamp and schema, and the same content, however it lies in segments
+-- two fronts are of one commit: the same stamp, schema and content, however it is cut into segments
 pub record IsOneCommit (a b : FrontValue) : Type 0 where
   pub stamp : a.stamp ≡ b.stamp
   pub schema : a.snapshot.schema ≡ b.snapshot.schema

@@ -4,7 +4,7 @@ use Rattle.logbook.specs.Pages.{Cell, Step, View, Book, Named}
 use Rattle.fts_index.specs.Publications.{ArePublications}
 use Rattle.fts_index.specs.declared.publications.publication.Publication.{Publication}
 
--- the one word is the number of publications behind the opening
+-- the one word is the number of publications after the opening
 pub record IsKept (cells : List Cell) (list : List Publication) : Type 0 where
   pub behind : ℕ
   pub words : cells ≡ (behind, true) ∷ []

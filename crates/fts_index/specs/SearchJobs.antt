@@ -6,7 +6,7 @@ use Rattle.fts_base.specs.declared.refusal.Refusal.TheVariants.{Memory}
 use Rattle.fts_model.specs.QueryValues.{QueryValue, query_value}
 use Rattle.fts_collect.specs.Parts.{PartValue}
 use Rattle.fts_snapshots.specs.Entries.{EntryValue}
-use Rattle.fts_searches.specs.Searches.{IsPartOf}
+use Rattle.fts_snapshots.specs.searches.Searches.{IsPartOf}
 use Rattle.fts_index.specs.declared.searches.job.SearchJob.{SearchJob}
 
 -- a query and a request, for a segment
@@ -23,7 +23,7 @@ asks query request entry = record { query = query; request = request; entry = en
 abbrev pub asked_of : SearchJob → Asked
 asked_of job = record { query = query_value job.query.now; request = job.request.now; entry = job.entry.now }
 
--- a result is a part of what was asked, or want of memory
+-- a result is a part of what was asked, or that memory ran out
 abbrev pub Tells : Asked → Result PartValue Refusal → Type 0
 Tells asked result = IfOk result (IsPartOf asked.query asked.request asked.entry) × IsOkUnless result Memory
 

@@ -14,7 +14,7 @@ use Rattle.fts_snapshots.specs.MergedSegments.{MergedSegmentValue, merged_of}
 use Rattle.fts_snapshots.specs.LateMerges.{end_fault, after_end}
 use Rattle.fts_index.specs.Publications.{FrontValue, published}
 
--- a call succeeded where nothing was wrong; else it was refused for that, or for memory
+-- a call succeeded and nothing was wrong; or it was refused for what was wrong, or for memory
 abbrev pub IsRefusedFor : {X : Type 0} → Option Refusal → Result X Refusal → Type 0
 IsRefusedFor fault (Ok x) = fault ≡ None
 IsRefusedFor fault (Err refusal) = (refusal ≡ Memory) ⊎ (fault ≡ Some refusal)
@@ -25,12 +25,12 @@ pub record WriterValue : Type 0 where
   pub rounds : ℕ
   pub round : Option RoundLimits
 
--- the open round begins behind the last commit, and has a number that was given
+-- the open round begins after the last commit, and has a number that was given
 abbrev pub IsOpen : ℕ → ℕ → Option RoundLimits → Type 0
 IsOpen stamp rounds round =
     MatchOption round (Unit {0}) (λ limits. (limits.first ≡ stamp + 1) × (limits.round < rounds))
 
--- what holds of every writer
+-- what holds of every writer: it opened at most 2^62 rounds, and the open one begins after the last commit
 pub record IsWriter (w : WriterValue) : Type 0 where
   pub rounds : w.rounds ≤ 2 ^ 62
   pub round : IsOpen w.front.stamp w.rounds w.round
@@ -47,11 +47,12 @@ with_round lanes cap w = record { front = w.front; rounds = w.rounds + 1; round 
 abbrev pub without_round : WriterValue → WriterValue
 without_round w = record { front = w.front; rounds = w.rounds; round = None }
 
--- why no round can be opened, where `used_up` tells that its stamps or its number can't be given
+-- why no round can be opened, if `used_up` tells that its stamps or its number can't be given
 abbrev pub fault_beside : Option RoundLimits → Bool → Option Refusal
 fault_beside (Some limits) used_up = Some RoundOpen
 fault_beside None used_up = if used_up then Some StampsUsedUp else None
 
+-- why no round can be opened: one is open, or its stamps or its number are used up
 abbrev pub round_fault : ℕ → ℕ → WriterValue → Option Refusal
 round_fault lanes cap w =
     fault_beside w.round (nat_le (2 ^ 62) (w.front.stamp + 1 + lanes * cap) || nat_le (2 ^ 62) w.rounds)
@@ -61,7 +62,7 @@ abbrev pub is_of : Option RoundLimits → Gathered → Bool
 is_of None batch = false
 is_of (Some limits) batch = limits.round == batch.round && limits.first == batch.first
 
--- why a batch can't be committed
+-- why a batch can't be committed: it is stale, of another schema, or numbers are used up
 abbrev pub batch_fault : Cut → Gathered → WriterValue → Option Refusal
 batch_fault cut batch w =
     first_of (if is_of w.round batch then None else Some StaleBatch)
@@ -79,7 +80,7 @@ with_commit cut batch w = record {
   round = None;
 }
 
--- why a merge can't end
+-- why a merge can't end: a source is gone, or numbers are used up
 abbrev pub late_fault : MergedSegmentValue → WriterValue → Option Refusal
 late_fault m w = end_fault w.front.snapshot.next_id m w.front.snapshot.entries
 

@@ -6,31 +6,14 @@ ghost use Rattle.fts_snapshots.specs.Entries.{has_live};
 ghost use Rattle.fts_snapshots.specs.Jobs.{entry_of};
 ghost use Rattle.fts_snapshots.specs.Snapshots.{GivesCommit, IsBehind, content_of};
 ghost use Rattle.fts_snapshots.specs.declared.commits.jobs.CommitJob.{CommitJob};
-ghost use Rattle.fts_index.specs.CommitJobs.{AreAnswers, job_of};
-
-mod shared;
+ghost use Rattle.fts_index.specs.CommitJobs.{AreAnswers};
 
 use fts_model::{Cut, Op, Refusal, Stamped};
 use fts_pool::{Gate, run_all};
 use fts_snapshots::{CommitJob, Entry, Snapshot, push_live};
-use shared::SharedJob;
-use std::alloc::{AllocError, Global};
+use std::alloc::Global;
 use std::sync::Wait;
 use std::thread::Threads;
-
-/// Jobs as threads take them.
-fn shared_jobs<'a>(
-    alloc: Global,
-    jobs: &'a [CommitJob<'a>],
-) -> Result<Vec<SharedJob<'a>>, AllocError>
-    ensures { IfOk result (λ shared. map job_of shared.items ≡ jobs.now) }
-{
-    let mut shared = Vec::with_capacity(alloc, jobs.len())?;
-    for job in jobs {
-        shared.push(SharedJob { job })?;
-    }
-    Ok(shared)
-}
 
 /// The segments that jobs left, without those that have no live document; or the first refusal.
 fn assemble(alloc: Global, answers: Vec<Result<Entry, Refusal>>) -> Result<Vec<Entry>, Refusal>
@@ -48,7 +31,7 @@ fn assemble(alloc: Global, answers: Vec<Result<Entry, Refusal>>) -> Result<Vec<E
     Ok(entries)
 }
 
-/// The segments that jobs leave and that have a live document. The jobs are run by up to so many threads.
+/// The segments that jobs leave and that have a live document. The jobs are run by up to this many threads.
 fn entries_of_jobs<R: Threads + Wait + Sync, G: Gate>(
     rt: &R,
     alloc: Global,
@@ -60,13 +43,12 @@ fn entries_of_jobs<R: Threads + Wait + Sync, G: Gate>(
     ensures ok { IfOk result (λ entries. entries.items ≡ filter has_live (map entry_of jobs.now)) }
     ensures memory { IsOkUnless result Refusal.Memory }
 {
-    let shared = shared_jobs(alloc, jobs)?;
-    let answers = run_all(rt, alloc, &shared, workers, gate)?;
+    let answers = run_all(rt, alloc, jobs, workers, gate)?;
     assemble(alloc, answers)
 }
 
 /// The snapshot after a batch, as `Snapshot::commit_alone` has it. The jobs, one for each segment that was there and
-/// then one for each new one, are run by up to so many threads, 1 to 64.
+/// then one for each new one, are run by up to this many threads, 1 to 64.
 pub(crate) fn commit<R: Threads + Wait + Sync, G: Gate>(
     rt: &R,
     alloc: Global,

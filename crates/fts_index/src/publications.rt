@@ -24,6 +24,7 @@
 //! publisher.close(&rt);
 //! ```
 
+mod cells;
 mod commit;
 mod front;
 mod history;
@@ -33,7 +34,6 @@ mod publication;
 mod publisher;
 mod reader;
 mod searcher;
-mod shown;
 
 pub use publisher::Publisher;
 pub use reader::Reader;

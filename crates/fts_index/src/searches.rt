@@ -4,13 +4,13 @@ ghost use Rattle.std.specs.Prelude.{IfOk, IfErr, IsOkUnless, map, min, sum_by};
 ghost use Rattle.std.specs.List.{AllZip};
 ghost use Rattle.fts_model.specs.Queries.{query_fits, request_fits};
 ghost use Rattle.fts_model.specs.QueryValues.{query_value};
-ghost use Rattle.fts_searches.specs.Searches.{IsPartOf};
+ghost use Rattle.fts_snapshots.specs.searches.Searches.{IsPartOf};
 ghost use Rattle.fts_index.specs.SearchJobs.{asks, asked_of};
 
-mod found;
+mod answer;
 mod job;
 
-pub use found::Found;
+pub use answer::Found;
 use fts_collect::Part;
 use fts_model::{Query, Refusal, Request};
 use fts_pool::{Gate, run_all};

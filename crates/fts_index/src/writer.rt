@@ -107,7 +107,7 @@ impl Writer {
         self.publisher.commit_stamp()
     }
 
-    /// The schema of all documents. The numbers of segments rise, and no stamp stands twice.
+    /// The schema of all documents. The numbers of segments rise, and no stamp occurs twice.
     pub fn schema(&self) -> &Schema
         ensures schema { result.now ≡ self.now.front.snapshot.schema }
         ensures snapshot { IsSnapshot self.now.front.snapshot }
@@ -132,10 +132,10 @@ impl Writer {
         self.publisher.is_last(searcher)
     }
 
-    /// Opens a round of so many lanes, 1 to 64, each of which takes up to `cap` operations, 1 to 1,000,000. Its first
+    /// Opens a round of this many lanes, 1 to 64, each of which takes up to `cap` operations, 1 to 1,000,000. Its first
     /// stamp is the commit stamp plus 1.
     ///
-    /// `RoundOpen` where one is open; `StampsUsedUp` where a stamp of the round, or its number, could be 2^62 or more.
+    /// `RoundOpen` if one is open; `StampsUsedUp` where a stamp of the round, or its number, could be 2^62 or more.
     pub fn open_round(
         &mut self,
         alloc: Global,
@@ -171,8 +171,8 @@ impl Writer {
     }
 
     /// Commits a batch: its adds are cut into new segments, and the documents that it strikes are struck. The work is
-    /// done by up to so many threads, 1 to 64, the calling one among them: one job for each segment that was there, in
-    /// their order, and then one for each new segment, in the order of their first adds. The gate is called around
+    /// done by up to this many threads, 1 to 64, the calling one among them: one job for each segment that was there,
+    /// in their order, and then one for each new segment, in the order of their first adds. The gate is called around
     /// each.
     ///
     /// `StaleBatch` where no round is open, or the batch isn't of the open one; then `OtherSchema` with the stamp of
@@ -246,7 +246,7 @@ impl Writer {
     /// it was.
     ///
     /// `NoSegments` for an empty list; then at the first bad place `UnknownSegment`, or `SegmentTwice` where the number
-    /// stands before; then `TooLarge` for over 1,048,576 live documents, and `StampsUsedUp` where the new segment's
+    /// comes before; then `TooLarge` for over 1,048,576 live documents, and `StampsUsedUp` where the new segment's
     /// number would reach 2^62. A refusal leaves everything as it was.
     pub fn merge<R: Wait>(&mut self, rt: &R, alloc: Global, ids: &[u64]) -> Result<(), Refusal>
         ensures writer { OnOk result (self.new ≡ with_merge ids.now self.old) }
@@ -267,7 +267,7 @@ impl Writer {
     /// here later.
     ///
     /// `NoSegments` for an empty list; then at the first bad place `UnknownSegment`, or `SegmentTwice` where the number
-    /// stands before.
+    /// comes before.
     pub fn begin_merge(&self, alloc: Global, ids: &[u64]) -> Result<MergeJob, Refusal>
         ensures job { IfOk result (λ job.
             job ≡ entries_at self.now.front.snapshot.entries ids.now) }
@@ -312,7 +312,7 @@ impl Writer {
         }
     }
 
-    /// A reader for another thread, which knows all that was published so far. `NoReader` where there are 64.
+    /// A reader for another thread, which knows all that was published so far. `NoReader` if there are 64.
     pub fn reader(&mut self) -> Result<Reader, Refusal>
         ensures same { self.new ≡ self.old }
         ensures reader { IfOk result (λ r. r ≡ self.old.front.seen) }

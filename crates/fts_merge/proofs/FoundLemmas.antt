@@ -19,7 +19,7 @@ use Rattle.fts_model.specs.Documents.{DocumentValue}
 use Rattle.fts_model.specs.Operations.{has}
 use Rattle.fts_segment.specs.Segments.{SegmentValue, numbers_where, postings}
 use Rattle.fts_merge.specs.Strikes.{bits_where}
-use Rattle.fts_merge.specs.declared.found.Found.{Found}
+use Rattle.fts_merge.specs.declared.matches.Found.{Found}
 use Rattle.fts_merge.specs.Internals.Deletes.{strikes_by_term, survives_terms, strikes_found, survives_found, StrikeAlike}
 use Rattle.fts_merge.proofs.BitsLemmas.{not_or, bits_where-again, bits_where-same, bits_where-all}
 use Rattle.fts_segment.proofs.HoldingLemmas.{numbers_where-cons}

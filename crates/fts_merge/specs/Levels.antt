@@ -37,7 +37,7 @@ greatest_first (c ∷ cs) = placed c (greatest_first cs)
 abbrev pub joins : ℕ → ℕ → Bool
 joins first size = nat_le (first ^ 4) (8 * size ^ 4)
 
--- the levels of sizes in order, where some stand in the level that `first` opened
+-- the levels of sizes in order, where some are in the level that `first` opened
 abbrev pub levels_behind : ℕ → List Counted → List Counted → List (List Counted)
 levels_behind first level [] = level ∷ []
 levels_behind first level (c ∷ cs) =
@@ -69,11 +69,11 @@ candidates sizes = together usual sizes
 abbrev pub is_named : List (List ℕ) → ℕ → Bool
 is_named found index = list_any (λ candidate. list_any (λ named. nat_eq named index) candidate) found
 
--- more than so many percent of its documents are dead
+-- more than this many percent of its documents are dead
 abbrev pub is_mostly_dead : ℕ → SegmentSize → Bool
 is_mostly_dead percent segment = nat_lt (percent * segment.docs) (100 * (segment.docs - segment.live))
 
--- what is to be merged by itself: each segment of so many dead documents that no other candidate has
+-- what is to be merged by itself: each segment of this many dead documents that no other candidate has
 abbrev pub alone : ℕ → List (List ℕ) → List SegmentSize → List (List ℕ)
 alone percent found segments =
     map (λ s. s.0 ∷ [])

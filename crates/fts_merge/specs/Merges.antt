@@ -23,7 +23,7 @@ pub record MergedValue : Type 0 where
   pub origins : List Origin
   pub sources : ℕ
 
--- this segment with these origins, of so many sources
+-- this segment with these origins, of this many sources
 abbrev pub made_of : SegmentValue → List Origin → ℕ → MergedValue
 made_of segment origins sources = record { segment = segment; origins = origins; sources = sources }
 

@@ -4,10 +4,10 @@ ghost use Rattle.fts_merge.specs.Strikes.{bits_where, bits_after};
 ghost use Rattle.fts_merge.specs.Internals.Deletes.{bound_by, bound_of, IsFound, strikes_found, survives_found};
 ghost use Rattle.fts_merge.specs.Internals.Deletes.{cleared};
 
-use crate::found::{Found, found_in, is_covered, order};
-use fts_bits::Bits;
+use crate::matches::{Found, found_in, is_covered, order};
 use fts_model::{Op, Refusal, Stamp, Stamped};
 use fts_pack::Blocks;
+use fts_pack::bits::Bits;
 use fts_segment::Segment;
 use std::alloc::Global;
 
@@ -125,7 +125,7 @@ fn strike_found(live: &mut Bits, segment: &Segment, deletes: &[Found<'_>])
 /// strikes it.
 ///
 /// Each delete of a term is looked up, and the latest of each term goes over the documents that have it. All deletes of
-/// all documents together go over the stamps once. Adds strike nothing. The operations may stand in any order, and so
+/// all documents together go over the stamps once. Adds strike nothing. The operations may be in any order, and so
 /// may the documents.
 pub fn strike(
     alloc: Global,

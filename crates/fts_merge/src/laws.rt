@@ -56,7 +56,7 @@ pub fn a_merge_tells_each_origin_once()
     ensures { (sources : List SourceValue) → All HasBits sources → IsMerged (merge_of sources) }
 {}
 
-/// Each live document of a source stands in the merged segment, and its origin at the same place.
+/// Each live document of a source is in the merged segment, and its origin at the same place.
 pub fn each_live_document_is_merged()
     ensures { (sources : List SourceValue) (number : ℕ) (source : SourceValue) (document : ℕ) →
         All HasBits sources → slice_get sources number ≡ Some source →

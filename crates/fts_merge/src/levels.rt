@@ -68,7 +68,7 @@ fn indexes(alloc: Global, level: &[Counted]) -> Result<Vec<usize>, AllocError>
     Ok(indexes)
 }
 
-/// Puts the indexes of a level's sizes behind others, if the level is large enough.
+/// Puts the indexes of a level's sizes after others, if the level is large enough.
 fn push_level(
     alloc: Global,
     members: usize,
@@ -133,7 +133,7 @@ fn is_named(found: &[Vec<usize>], index: usize) -> bool
     found.iter().any(|candidate| candidate.contains(&index))
 }
 
-/// Whether more than so many percent of a segment's documents are dead.
+/// Whether more than this many percent of a segment's documents are dead.
 fn is_mostly_dead(percent: u32, segment: SegmentSize) -> bool
     ensures { result ≡ is_mostly_dead percent segment }
 {
@@ -148,7 +148,7 @@ fn is_alone(percent: u32, found: &[Vec<usize>], index: usize, segment: SegmentSi
     is_mostly_dead(percent, segment) && !is_named(found, index)
 }
 
-/// Puts an index behind others, as a candidate of its own.
+/// Puts an index after others, as a candidate of its own.
 fn push_alone(alloc: Global, alone: &mut Vec<Vec<usize>>, index: usize) -> Result<(), AllocError>
     ensures { OnOk result (map (λ c. c.items) alone.new.items
         ≡ map (λ c. c.items) alone.old.items ++ (index ∷ []) ∷ []) }

@@ -1,8 +1,8 @@
 //! What is done to segments after they are made: documents are struck from them, and several are merged into one.
 //!
-//! A segment never changes. Beside it stand its live bits, one a document, and what it contains are the documents whose
-//! bit is set. So a delete clears bits ([`strike`]), in time that goes with the documents that have its term and not
-//! with all of them. Struck documents are left behind when segments are merged: [`merge`] makes one segment of the live
+//! A segment never changes. Beside it stand its live bits, one per document, and what it contains are the documents
+//! whose bit is set. So a delete clears bits ([`strike`]), in time that goes with the documents that have its term and not
+//! with all of them. Struck documents are passed when segments are merged: [`merge`] makes one segment of the live
 //! documents of several, which keeps for each of them where it came from ([`Merged`]), so that what was struck in the
 //! meantime can be found there. Which segments are worth merging is told from their sizes alone ([`plan`]): those of
 //! one level, that is of about one size, once there are eight of them.
@@ -17,18 +17,18 @@
 #![tactic(auto)]
 
 mod deletes;
-mod found;
 pub mod laws;
 mod levels;
-mod merged;
+mod matches;
 mod merger;
 mod origin;
+mod outcome;
 mod policy;
 
 pub use deletes::strike;
 pub use fts_segment::Source;
 pub use levels::{plan, plan_by};
-pub use merged::Merged;
 pub use merger::merge;
 pub use origin::Origin;
+pub use outcome::Merged;
 pub use policy::{MergePolicy, SegmentSize};

@@ -6,10 +6,10 @@ ghost use Rattle.fts_model.specs.Limits.{most_merged};
 ghost use Rattle.fts_merge.specs.Merges.{merge_of, origins_in, origins_from};
 ghost use Rattle.fts_segment.specs.Sources.{HasBits, live_count, AreOfOneSchema};
 
-use crate::merged::Merged;
 use crate::origin::Origin;
-use fts_bits::Bits;
+use crate::outcome::Merged;
 use fts_model::{MOST_MERGED, Refusal};
+use fts_pack::bits::Bits;
 use fts_segment::{Source, join};
 use std::alloc::{AllocError, Global};
 
@@ -28,7 +28,7 @@ fn is_too_large(sources: &[Source<'_>]) -> bool
     false
 }
 
-/// Puts the origin of a document behind others, if the document is live.
+/// Puts the origin of a document after others, if the document is live.
 fn push_origin(origins: &mut Vec<Origin>, origin: Origin, live: bool) -> Result<(), AllocError>
     ensures { OnOk result
         (origins.new.items ≡ origins.old.items ++ (if live then origin ∷ [] else [])) }
@@ -67,10 +67,10 @@ fn origins_of(alloc: Global, sources: &[Source<'_>]) -> Result<Vec<Origin>, Allo
 }
 
 /// One segment of the live documents of sources, of which there is at least one and all have one schema. The documents
-/// stand in the order of the sources, and those of a source in the order of their numbers. They are handles, and the
+/// are in the order of the sources, and those of a source in the order of their numbers. They are handles, and the
 /// terms in them are joined of those of the sources: no text is copied, and none is read again.
 ///
-/// `TooLarge` where there are over 1,048,576 live documents; they are counted before any is taken.
+/// `TooLarge` if there are over 1,048,576 live documents; they are counted before any is taken.
 pub fn merge(alloc: Global, sources: &[Source<'_>]) -> Result<Merged, Refusal>
     requires some { 0 < length sources.now }
     requires schemas { AreOfOneSchema sources.now }

@@ -6,13 +6,13 @@ ghost use Rattle.fts_merge.specs.Levels.{usual};
 /// itself.
 #[derive(Clone, Copy, Debug, PartialEq, Eq)]
 pub struct MergePolicy {
-    /// A segment with fewer live documents counts as one with so many.
+    /// A segment with fewer live documents counts as one with this many.
     pub floor: u32,
-    /// So many segments of one level are merged.
+    /// This many segments of one level are merged.
     pub members: usize,
     /// A segment with more live documents is in no level.
     pub most: u32,
-    /// A segment with more than so many percent of its documents dead is merged by itself; 100: none is.
+    /// A segment with more than this many percent of its documents dead is merged by itself; 100: none is.
     pub dead: u32,
 }
 

@@ -9,4 +9,5 @@ pub mod OperationsByStamps
 pub mod QueriesBoolean
 pub mod ResultsRefused
 pub mod ShortLemmas
+pub mod StampLemmas
 pub mod TextsLemmas

@@ -96,7 +96,8 @@ is_in_group field v document = option_map_or (λ w. is_eq (group_cmp v w)) (grou
 abbrev pub hits_with : ℕ → GroupValue → List (Stamped DocumentValue) → ℕ
 hits_with field v hits = count_by (λ hit. is_in_group field v hit.value) hits
 
--- the groups: the values rise, and one stands there with a count exactly where so many hits have it, and not none
+-- a list is the groups of hits: its values rise, and a value is there with a count exactly if that many hits have it,
+-- and not none
 pub record IsGroups (field : ℕ) (hits : List (Stamped DocumentValue)) (list : List (GroupValue × ℕ)) : Type 0 where
   pub rising : AllPairs (λ a b. group_cmp a.0 b.0 ≡ Less) list
   pub counted : (v : GroupValue) (count : ℕ) →
@@ -112,16 +113,17 @@ hit_in field hit =
 abbrev pub hits_in : ℕ → List (Stamped DocumentValue) → List Hit
 hits_in field hits = filter_map (hit_in field) hits
 
--- how two numbers stand in a top list
+-- how two numbers are ordered in a top list
 abbrev pub cmp_by : Order → Number → Number → Ordering
 cmp_by Rising n m = number_cmp n m
 cmp_by Falling n m = number_cmp m n
 
--- one hit stands before another in a top list: by their numbers, and where these are equal by the smaller stamp
+-- one hit comes before another in a top list: by their numbers, and where these are equal by the smaller stamp
 abbrev pub comes_before : Order → Hit → Hit → Bool
 comes_before order a b = match_ordering (cmp_by order a.value b.value) true (nat_lt a.stamp b.stamp) false
 
--- the top list: at most `k` of the hits that have a number in the field, each before the next and before those left out
+-- a list is the top list of hits: at most `k` that have a number in the field, each before the next and before all left
+-- out
 pub record IsTop (k : ℕ) (order : Order) (field : ℕ) (hits : List (Stamped DocumentValue))
     (list : List Hit) : Type 0 where
   pub long : length list ≡ min k (length (hits_in field hits))
@@ -140,11 +142,11 @@ put_hit order (other ∷ others) hit =
 abbrev pub sorted_hits : Order → ℕ → List (Stamped DocumentValue) → List Hit
 sorted_hits order field hits = fold (put_hit order) [] (hits_in field hits)
 
--- the first `k` of them
+-- the top list: the first `k` hits in the order of their values and stamps
 abbrev pub top : ℕ → Order → ℕ → List (Stamped DocumentValue) → List Hit
 top k order field hits = take k (sorted_hits order field hits)
 
--- what is told of hits
+-- what is told of hits: the count, and the groups and the top list if they are asked for
 abbrev pub answer_of : Request → List (Stamped DocumentValue) → AnswerValue
 answer_of request hits = record {
   count = length hits;

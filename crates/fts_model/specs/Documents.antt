@@ -24,7 +24,7 @@ use Rattle.fts_model.specs.declared.value.FieldValue.TheVariants as values
 use Rattle.fts_base.specs.Results.{value_if_ok, error_if_err, ok_unless, first_of}
 use Rattle.fts_model.specs.Schemas.{schema_fault, is_named}
 
--- a document: the fields of its schema, and what it has in each
+-- a document: the fields of its schema, and a value or none for each
 pub record DocumentValue : Type 0 where
   pub schema : List Field
   pub values : List (Option FieldValue)
@@ -109,16 +109,16 @@ fault_in_field (Some field) value = error_if_err (value_in field.kind value)
 abbrev pub member_fault : List Field → List ℕ → Data → Option Refusal
 member_fault fields name value = fault_in_field (find (is_named name) fields) value
 
--- the names of members, as they stand
+-- the names of members, in their order
 abbrev pub member_names : Members → List (List ℕ)
 member_names no_members = []
 member_names (member name value members) = name ∷ member_names members
 
--- each name is before those behind it, in the order of their bytes
+-- the names of an object's members are in the order of their bytes
 abbrev pub NamesRise : Members → Type 0
 NamesRise members = AllPairs (λ a b. slice_cmp nat_cmp a b ≡ Less) (member_names members)
 
--- what is wrong with the members of an object: the first fault, as they stand, which is in the order of their names
+-- what is wrong with the members of an object: the first fault, in their order, which is in the order of their names
 abbrev pub members_fault : List Field → Members → Option Refusal
 members_fault fields no_members = None
 members_fault fields (member name value members) =
@@ -185,28 +185,28 @@ is_value_of kinds.I64 value = false
 abbrev pub CanHave : Kind → Option FieldValue → Type 0
 CanHave kind value = IfSome value (λ v. is_value_of kind v ≡ true)
 
--- there are as many of these as fields, and each field can have the one at its place
+-- there is a value or none for each field, and each field can have its value
 abbrev pub AreValuesOf : List Field → List (Option FieldValue) → Type 0
 AreValuesOf fields vs = AllZip (λ field value. CanHave field.kind value) fields vs
 
--- the fields are a schema, and the values are values of them
+-- what holds of every document: its fields are a schema, and each has no value or one that it can have
 abbrev pub IsDocument : DocumentValue → Type 0
 IsDocument document = (schema_fault document.schema ≡ None) × AreValuesOf document.schema document.values
 
--- whether a value of a field may stand in another, if there is one: the names are one and it is of that kind
+-- whether a value of a field may be in another, if there is one: the names are one and it is of that kind
 abbrev pub may_stand : Option Field → Field → Option FieldValue → Bool
 may_stand there field None = true
 may_stand None field (Some v) = false
 may_stand (Some there) field (Some v) = bytes_eq field.name there.name && is_of_kind there.kind v
 
--- whether each field that has a value stands in a schema, at the same number, under the same name and for such a value
+-- whether each field that has a value is in a schema, at the same number, under the same name and for such a value
 abbrev pub fits_fields : List Field → List Field → List (Option FieldValue) → Bool
 fits_fields schema [] vs = true
 fits_fields schema (field ∷ fields) [] = true
 fits_fields schema (field ∷ fields) (v ∷ vs) =
     may_stand (slice_get schema 0) field v && fits_fields (drop 1 schema) fields vs
 
--- whether a document fits a schema
+-- a document fits a schema: each field that has a value is a field of the schema, by number, name and kind of value
 abbrev pub fits : List Field → DocumentValue → Bool
 fits schema document = fits_fields schema document.schema document.values
 

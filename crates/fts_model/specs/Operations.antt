@@ -54,13 +54,17 @@ term_of schema name value =
 abbrev pub term_fits : List Field → Term → Bool
 term_fits schema term = option_map_or (λ kind. is_term_of kind term.value) (kind_at schema term.field) false
 
--- whether an operation fits a schema
+-- the stamps of operations or of documents
+abbrev pub stamps_of : List (Stamped Op) → List ℕ
+stamps_of ops = map (λ s. s.stamp) ops
+
+-- an operation fits a schema: its document fits, or its term's value is of its field's kind
 abbrev pub op_fits : List Field → Op → Bool
 op_fits schema (Add document) = fits schema document
 op_fits schema (Delete term) = term_fits schema term
 op_fits schema DeleteAll = true
 
--- one of these tokens, which stand after their numbers, is this one
+-- one of these tokens, which are after their numbers, is this one
 abbrev pub has_token : List (ℕ × List ℕ) → List ℕ → Bool
 has_token ts token = list_any (λ t. bytes_eq t.1 token) ts
 
@@ -83,11 +87,11 @@ field_has None value term = false
 field_has (Some field) None term = false
 field_has (Some field) (Some value) term = value_has field.kind value term
 
--- a document has a term
+-- a document has a term: its text or one of its list has the token, its keyword is the text, its number is the number
 abbrev pub has : List Field → DocumentValue → Term → Bool
 has schema document term = field_has (slice_get schema term.field) (value_in_field document term.field) term.value
 
--- an operation strikes a document
+-- an operation deletes a document: a delete of a term that it has, or a delete of all
 abbrev pub strikes : List Field → Op → DocumentValue → Bool
 strikes schema (Add added) document = false
 strikes schema (Delete term) document = has schema document term
@@ -104,7 +108,7 @@ left_by schema stamp (Add document) later =
 left_by schema stamp (Delete term) later = []
 left_by schema stamp DeleteAll later = []
 
--- the documents alive after operations in the order of their stamps, each with its own
+-- the documents that operations leave, in the order of their stamps: what is added and not deleted by a later operation
 abbrev pub alive : List Field → List (Stamped Op) → List (Stamped DocumentValue)
 alive schema [] = []
 alive schema (op ∷ ops) = left_by schema op.stamp op.value ops ++ alive schema ops
@@ -113,11 +117,11 @@ alive schema (op ∷ ops) = left_by schema op.stamp op.value ops ++ alive schema
 abbrev pub adds : List (Stamped DocumentValue) → List (Stamped Op)
 adds documents = map (λ d. record { stamp = d.stamp; value = Add d.value }) documents
 
--- no stamp stands twice
+-- no stamp occurs twice
 abbrev pub HasEachStampOnce : {X : Type 0} → List (Stamped X) → Type 0
 HasEachStampOnce stamped = AllPairs (λ x y. x.stamp ≢ y.stamp) stamped
 
--- the stamps rise
+-- each stamp is below those after it
 abbrev pub StampsRise : {X : Type 0} → List (Stamped X) → Type 0
 StampsRise stamped = AllPairs (λ x y. x.stamp < y.stamp) stamped
 
@@ -125,7 +129,7 @@ StampsRise stamped = AllPairs (λ x y. x.stamp < y.stamp) stamped
 abbrev pub strikes_later : List Field → Stamped Op → Stamped DocumentValue → Bool
 strikes_later schema op document = nat_lt document.stamp op.stamp && strikes schema op.value document.value
 
--- no operation of a later stamp strikes a document
+-- no operation of a later stamp deletes a document
 abbrev pub survives : List Field → List (Stamped Op) → Stamped DocumentValue → Bool
 survives schema ops document = not (list_any (λ op. strikes_later schema op document) ops)
 

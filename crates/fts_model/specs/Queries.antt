@@ -29,7 +29,7 @@ use Rattle.fts_model.specs.Operations.{has, kind_at, term_fits}
 use Rattle.fts_model.specs.QueryValues.{QueryValue, every, nothing, term, phrase, range, boolean, QueryValues}
 use Rattle.fts_model.specs.QueryValues.{no_queries, queries}
 
--- where a member of a pattern is a token, another member is one as far behind it as their offsets are apart
+-- where a member of a pattern is a token, another member is one as far after it as their offsets are apart
 abbrev pub stands_with : List (ℕ × List ℕ) → ℕ × List ℕ → ℕ × List ℕ → ℕ × List ℕ → Bool
 stands_with ts member token other = list_any (λ t. (t.0 + member.0 == token.0 + other.0) && bytes_eq t.1 other.1) ts
 
@@ -66,7 +66,7 @@ number_le (U64 n) (U64 m) = nat_le n m
 number_le (I64 n) (I64 m) = not (int_lt m n)
 number_le a b = false
 
--- one text is before another in the order of their bytes, where a beginning is before what it begins; or not behind it
+-- one text is before another in the order of their bytes, where a beginning is before what it begins; or not after it
 abbrev pub text_lt : List ℕ → List ℕ → Bool
 text_lt a b = is_lt (slice_cmp nat_cmp a b)
 
@@ -105,7 +105,7 @@ abbrev pub are_some : QueryValues → Bool
 are_some no_queries = false
 are_some (queries q qs) = true
 
--- a query matches a document; all of some queries do; one of them does
+-- a query matches a document, by recursion on the query
 abbrev mutual
   pub matches : List Field → DocumentValue → QueryValue → Bool
   matches schema document every = true
@@ -173,7 +173,7 @@ is_number_field schema field = option_map_or holds_numbers (kind_at schema field
 abbrev pub is_ordered_field : List Field → ℕ → Bool
 is_ordered_field schema field = option_map_or is_ordered (kind_at schema field) false
 
--- whether a top list may have at most so many members
+-- whether a top list may have at most this many members
 abbrev pub is_limit : ℕ → Bool
 is_limit k = nat_le 1 k && nat_le k 10000
 
@@ -211,7 +211,7 @@ top_of schema (Some (name, k, order)) =
     (λ field. if is_limit k then Ok (Some (record { by = field; k = k; order = order })) else Err BadLimit)
     (number_field_named schema name)
 
--- the request for groups by the field of this name, and for a top list
+-- the request for groups and a top list by the names of fields, or the first refusal
 abbrev pub request_of : List Field → Option (List ℕ) → Option (List ℕ × ℕ × Order) → Result Request Refusal
 request_of schema groups top =
     result_and_then (λ field. result_map (λ list. record { groups = field; top = list }) (top_of schema top))

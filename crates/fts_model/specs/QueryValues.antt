@@ -1,4 +1,4 @@
--- What a query is, without where it lies in memory.
+-- What a query is, without where it is in memory.
 use Rattle.std.specs.Prelude.{ℕ, List, [], ◌∷◌}
 use Rattle.std.specs.declared.ops.Bound.{Bound}
 use Rattle.fts_model.specs.declared.value.FieldValue.{FieldValue}
@@ -35,6 +35,6 @@ value_by_parts (Query-F.Range field lower upper) = range field lower upper
 value_by_parts (Query-F.Bool must must_not should) =
     boolean (query_list must.items) (query_list must_not.items) (query_list should.items)
 
--- a query of the code
+-- a query of the code, without where it is in memory
 abbrev pub query_value : Query → QueryValue
 query_value = fold-Query QueryValue value_by_parts

@@ -50,7 +50,7 @@ is_ordered I64 = true
 abbrev pub is_named : List ℕ → Field → Bool
 is_named name field = bytes_eq field.name name
 
--- what is wrong with a field behind others
+-- what is wrong with a field after others
 abbrev pub field_fault : List Field → Field → Option Refusal
 field_fault before field =
     if not (is_name field.name) then Some BadName
@@ -58,12 +58,12 @@ field_fault before field =
     else if field.default && holds_numbers field.kind then Some BadDefault
     else None
 
--- the first fault of these fields, which stand behind others
+-- the first fault of these fields, which are after others
 abbrev pub first_fault : List Field → List Field → Option Refusal
 first_fault before [] = None
 first_fault before (field ∷ fields) = first_of (field_fault before field) (first_fault (before ++ field ∷ []) fields)
 
--- the first fault of a list of fields
+-- the first thing wrong with a list of fields, if there is one: a schema is a list with none
 abbrev pub schema_fault : List Field → Option Refusal
 schema_fault [] = Some NoFields
 schema_fault (field ∷ fields) =

@@ -3,8 +3,8 @@
 /// How the adds of a commit are cut into segments.
 #[derive(Clone, Copy, Debug, PartialEq, Eq)]
 pub enum Cut {
-    /// So many adds fill a segment, 1 to 65,536, then the next begins.
+    /// This many adds fill a segment, 1 to 65,536, then the next begins.
     Runs(usize),
-    /// So many builders, 1 to 64, take the adds in turn. A builder that holds 65,536 documents begins another segment.
+    /// This many builders, 1 to 64, take the adds in turn. One that holds 65,536 documents begins another segment.
     Deal(usize),
 }

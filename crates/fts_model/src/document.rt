@@ -109,7 +109,7 @@ fn texts_of(alloc: Global, items: &[Value]) -> Result<Texts, AllocError>
     Ok(texts)
 }
 
-/// Puts a JSON string behind other texts.
+/// Puts a JSON string after other texts.
 fn push_text(texts: &mut Texts, json: &Value) -> Result<(), AllocError>
     ensures { OnOk result ((text : List ℕ) → view json.now ≡ string text →
         texts.new ≡ texts.old ++ text ∷ []) }
@@ -309,7 +309,7 @@ impl Document {
         Ok(Value::Object(members))
     }
 
-    /// Whether each field that has a value stands in the schema, at the same number and under the
+    /// Whether each field that has a value is in the schema, at the same number and under the
     /// same name, and is of a kind that holds such a value.
     pub fn fits(&self, schema: &Schema) -> bool
         ensures { result ≡ fits schema.now self.now }
@@ -455,7 +455,7 @@ fn members_among(
     Ok(members)
 }
 
-/// Whether a value of one field may stand in another.
+/// Whether a value of one field may be in another.
 fn may_stand(there: Option<&Field>, field: &Field, value: &Option<FieldValue>) -> bool
     ensures { result ≡ may_stand (option_copied there.entry) field.now value.now }
 {

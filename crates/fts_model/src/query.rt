@@ -64,7 +64,7 @@ pub enum Query {
         lower: Bound<FieldValue>,
         upper: Bound<FieldValue>,
     },
-    /// The documents that match all of `must`, none of `must_not`, and, where `must` is empty, one
+    /// The documents that match all of `must`, none of `must_not`, and, if `must` is empty, one
     /// of `should`.
     Bool {
         must: Vec<Query>,
@@ -176,7 +176,7 @@ fn is_ordered_field(schema: &Schema, field: usize) -> bool
     }
 }
 
-/// Whether a top list may have at most so many members.
+/// Whether a top list may have at most this many members.
 fn is_limit(k: u64) -> bool
     ensures { result ≡ is_limit k }
 {
@@ -237,7 +237,7 @@ impl Request {
     ghost use Rattle.std.specs.Prelude.{◌≡◌, option_map, option_copied};
     ghost use Rattle.fts_model.specs.Queries.{request_of, request_fits};
 
-    /// The request for groups by the field of a name, and for a top list of so many hits by the
+    /// The request for groups by the field of a name, and for a top list of this many hits by the
     /// field of a name.
     ///
     /// It is refused by its groups as `UnknownField` or, for a text field, `NotANumberField`, or else by its top list

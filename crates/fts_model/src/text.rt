@@ -1,4 +1,4 @@
-// A text that contracts see as its bytes, wherever it lies in memory.
+// A text that contracts see as its bytes, wherever it is in memory.
 ghost use Rattle.std.specs.Prelude.{◌≡◌, string_bytes};
 ghost use Rattle.std.specs.Cmp.{partial_equiv_from_equiv};
 ghost use Rattle.std.specs.Cmp.Lexicographic.{nat_list_eq_equiv};

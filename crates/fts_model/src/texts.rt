@@ -1,4 +1,4 @@
-// The texts of a list, one behind the other in one block of memory.
+// The texts of a list, one after the other in one block of memory.
 ghost use Rattle.std.specs.Prelude.{◌≡◌, [], length, slice_index_or};
 ghost use Rattle.std.specs.Cmp.{partial_equiv_from_equiv};
 ghost use Rattle.std.specs.Cmp.Lexicographic.{lists_equiv, nat_list_eq_equiv, pointwise};
@@ -8,7 +8,7 @@ use fts_base::start_of;
 use std::alloc::{AllocError, Global};
 use std::marker::Model;
 
-// The texts, one behind the other.
+// The texts, one after the other.
 #[derive(Debug, Drop)]
 struct Joined {
     bytes: String,
@@ -84,7 +84,7 @@ impl Clone for Joined {
 /// A list of texts. Contracts see the list of their UTF-8 bytes.
 #[derive(Debug, Drop)]
 pub struct Texts {
-    // Behind a handle, so that the value of a field takes no more room where it is one text.
+    // After a handle, so that the value of a field takes no more room if it is one text.
     joined: Box<Joined>,
 }
 
@@ -99,7 +99,7 @@ impl Model for Texts {
 impl Texts {
     ghost use Rattle.std.specs.Prelude.{◌≡◌, ◌++◌, ◌∷◌, [], IfOk, OnErr, OnOk, length, nat_eq, slice_index_or};
 
-    /// No texts yet, with room for so many of so many bytes together.
+    /// No texts yet, with room for this many of this many bytes together.
     pub fn with_capacity(alloc: Global, count: usize, bytes: usize) -> Result<Texts, AllocError>
         ensures { IfOk result (λ texts. texts ≡ []) }
     {
@@ -122,14 +122,14 @@ impl Texts {
         self.len() == 0
     }
 
-    /// The text of this number, and no bytes where there is none.
+    /// The text of this number, and no bytes if there is none.
     pub fn get(&self, number: usize) -> &str
         ensures { result.now ≡ slice_index_or self.now number [] }
     {
         self.joined.get(number)
     }
 
-    /// Puts a text behind the others.
+    /// Puts a text after the others.
     pub fn push(&mut self, text: &str) -> Result<(), AllocError>
         ensures ok { OnOk result (self.new ≡ self.old ++ text.now ∷ []) }
         ensures err { OnErr result (self.new ≡ self.old) }

@@ -1,7 +1,7 @@
 -- What a block keeps, from the numbers that were packed.
 use Rattle.std.proofs.Common.{◌≡◌, ℕ, ◌≤◌, List, length, sym, ap, ◌∙◌}
 use Rattle.fts_pack.specs.Block.{IsBlock, block_numbers}
-use Rattle.fts_bits.specs.Digits.{IsWidthOf}
+use Rattle.fts_pack.specs.bits.Digits.{IsWidthOf}
 use Rattle.fts_pack.specs.Lanes.{words_in_lanes}
 use Rattle.fts_pack.proofs.LaneLemmas.{numbers_in_lanes-words}
 

@@ -1,4 +1,4 @@
--- What stands at a place of the lanes, and that the numbers of a block are those of its words.
+-- What is at a place of the lanes, and that the numbers of a block are those of its words.
 use Rattle.std.proofs.Common.{◌≡◌, ◌≢◌, ◌-◌, bit_and, bit_or, ℕ, suc, ◌+◌, ◌*◌, ◌/◌, ◌%◌, ◌^◌, ◌<◌, ◌≤◌, inl, inr, List, [], ◌∷◌, ◌++◌, All, length, get_or, set, take, refl, sym, ap, ap₂, ◌∙◌, replicate, arith}
 use Rattle.std.proofs.lemmas.List.FromFn.{get_or-map-range_with_len, length-map-range_with_len, map-range_with_len_more}
 use Rattle.std.proofs.lemmas.List.{get_or_past, get_or_default, get_or_append_left, get_or-take, length-take-le, get_or-set_same, get_or-set_other, length-set, take_all}
@@ -7,10 +7,10 @@ use Rattle.std.proofs.lemmas.Simd.{get_or-replicate}
 use Rattle.std.proofs.Math.Nat.{mod-one}
 use Rattle.std.proofs.lemmas.Bool.{cases_lt}
 use Rattle.std.proofs.lemmas.Nat.{pow_pos, div-mul-add, mul-le}
-use Rattle.fts_bits.specs.Digits.{joined, numbers_in, word_count, words_of}
+use Rattle.fts_pack.specs.bits.Digits.{joined, numbers_in, word_count, words_of}
 use Rattle.fts_pack.specs.Lanes.{lane_of, woven, words_in_lanes, numbers_in_lanes}
-use Rattle.fts_bits.proofs.DigitsLemmas.{Below, IsWritten, IsWritten-start, IsWritten-end, read_one, read_two, get_or-digits}
-use Rattle.fts_bits.proofs.PackingLemmas.{Below-from_all, length-words_of, numbers_in-words_of, written_full, written_short}
+use Rattle.fts_pack.proofs.DigitsLemmas.{Below, IsWritten, IsWritten-start, IsWritten-end, read_one, read_two, get_or-digits}
+use Rattle.fts_pack.proofs.PackingLemmas.{Below-from_all, length-words_of, numbers_in-words_of, written_full, written_short}
 
 pub length-lane_of : (count lane : ℕ) (xs : List ℕ) → length (lane_of count lane xs) ≡ count
 unfolding lane_of

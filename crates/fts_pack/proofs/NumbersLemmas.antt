@@ -5,7 +5,7 @@ use Rattle.std.proofs.lemmas.List.FromFn.{length-map-range_with_len, get_or-map-
 use Rattle.std.proofs.lemmas.Bool.{cases_lt}
 use Rattle.std.proofs.Math.Seq.{get_or-append_seam}
 use Rattle.std.proofs.lemmas.Grind.{same_number_lists}
-use Rattle.fts_pack.specs.declared.packed.Packed.{Packed}
+use Rattle.fts_pack.specs.declared.packed_block.Packed.{Packed}
 use Rattle.fts_pack.specs.Documents.{block_count, block_at}
 use Rattle.fts_pack.specs.Lanes.{words_in_lanes}
 use Rattle.fts_pack.specs.Packed.{numbers_at, IsWithin, IsAdded}

@@ -1,7 +1,7 @@
 -- A block of numbers among the words of a list, as it is written and as it is read.
 use Rattle.std.proofs.Common.{◌≡◌, ℕ, ◌+◌, ◌*◌, ◌≤◌, List, ◌++◌, length, take, drop, ap, ap₂, ◌∙◌, refl, arith}
 use Rattle.std.proofs.lemmas.List.{length-append, length-drop, drop_at, drop-append-le}
-use Rattle.fts_pack.specs.declared.packed.Packed.{Packed}
+use Rattle.fts_pack.specs.declared.packed_block.Packed.{Packed}
 use Rattle.fts_pack.specs.Lanes.{numbers_in_lanes, words_in_lanes}
 use Rattle.fts_pack.specs.Packed.{numbers_at, IsWithin, IsAdded}
 use Rattle.fts_pack.proofs.LaneLemmas.{length-words_in_lanes, numbers_in_lanes-append, numbers_in_lanes-words}

@@ -10,7 +10,7 @@ use Rattle.std.proofs.lemmas.List.{get_or-take, get_or-drop, get_or-map, length-
 use Rattle.std.proofs.lemmas.List.Sums.{sum_by-cons, sum_by-append}
 use Rattle.fts_pack.specs.Documents.{documents_at}
 use Rattle.fts_pack.proofs.DocumentsLemmas.{length-documents_at}
-use Rattle.fts_bits.proofs.VectorLemmas.{below_four, four_lanes}
+use Rattle.fts_pack.proofs.VectorLemmas.{below_four, four_lanes}
 
 pub sum-cons : (x : ℕ) (xs : List ℕ) → sum (x ∷ xs) ≡ x + sum xs
 sum-cons x xs = sum_by-cons (λ y. y) x xs

@@ -1,13 +1,13 @@
 -- What a block of packed numbers keeps.
 use Rattle.std.specs.Prelude.{◌≡◌, ℕ, ◌≤◌, List, take}
-use Rattle.fts_bits.specs.Digits.{IsWidthOf}
+use Rattle.fts_pack.specs.bits.Digits.{IsWidthOf}
 use Rattle.fts_pack.specs.Lanes.{numbers_in_lanes, words_in_lanes}
 
--- the first of the 128 numbers that lie in the words
+-- the first of the 128 numbers that are in the words
 abbrev pub block_numbers : ℕ → ℕ → List ℕ → List ℕ
 block_numbers count width words = take count (numbers_in_lanes width words)
 
--- so many numbers lie in these words, at the least width that holds them
+-- this many numbers are in these words, at the least width that holds them
 pub record IsBlock (count width : ℕ) (words : List ℕ) : Type 0 where
   pub count_within : count ≤ 128
   pub width_within : width ≤ 32

@@ -16,7 +16,7 @@ abbrev pub documents_at : ℕ → List ℕ → List ℕ
 documents_at next [] = []
 documents_at next (gap ∷ others) = (next + gap) ∷ documents_at (suc (next + gap)) others
 
--- how many blocks of 128 hold so many documents, the last of 1 to 128
+-- how many blocks of 128 hold this many documents, the last of 1 to 128
 abbrev pub block_count : ℕ → ℕ
 block_count count = (count + 127) / 128
 

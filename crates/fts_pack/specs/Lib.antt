@@ -9,3 +9,5 @@ pub mod Repr
 pub mod SourceLaws
 pub mod Unpacked
 pub mod DenseList
+pub mod bits
+pub mod column

@@ -9,25 +9,25 @@ use Rattle.fts_pack.specs.declared.skip.Skip.{Skip}
 abbrev pub kept_block : List ℕ → ℕ → ℕ → Skip → List ℕ
 kept_block words next count skip = documents_at next (take (min 128 count) (numbers_at words skip.block))
 
--- the documents of all blocks, so many in all
+-- the documents of all blocks, this many in all
 abbrev pub kept_documents : List ℕ → ℕ → ℕ → List Skip → List ℕ
 kept_documents words next count [] = []
 kept_documents words next count (skip ∷ skips) =
     kept_block words next count skip ++ kept_documents words (suc skip.last) (count - 128) skips
 
--- one block lies within the words, and its last document is told
+-- one block is within the words, and its last document is told
 pub record IsKeptBlock (words : List ℕ) (next count : ℕ) (skip : Skip) : Type 0 where
   pub some : 0 < count
   pub within : IsWithin words skip.block
   pub last_is : after next (kept_block words next count skip) ≡ suc skip.last
 
--- each block lies within the words, and its last document is told
+-- each block is within the words, and its last document is told
 abbrev pub AreKept : List ℕ → ℕ → ℕ → List Skip → Type 0
 AreKept words next count [] = count ≡ 0
 AreKept words next count (skip ∷ skips) =
     IsKeptBlock words next count skip × AreKept words (suc skip.last) (count - 128) skips
 
--- the blocks hold so many documents, which rise
+-- the blocks hold this many documents, which rise
 pub record IsLongList (count : ℕ) (skips : List Skip) (words : List ℕ) : Type 0 where
   pub count_fits : count < 2 ^ 64
   pub kept : AreKept words 0 count skips

@@ -2,7 +2,7 @@
 use Rattle.std.specs.Prelude.{◌≡◌, ℕ, ◌<◌, List, slice_index}
 use Rattle.fts_pack.specs.Lanes.{numbers_in_lanes}
 
--- the first numbers of a block are written, so many of them
+-- the first numbers of a block are written, this many of them
 abbrev pub IsUnpacked : ℕ → List ℕ → ℕ → List ℕ → Type 0
 IsUnpacked width words count out =
     (i : ℕ) → i < count → slice_index out i ≡ slice_index (numbers_in_lanes width words) i

@@ -1,12 +1,12 @@
 // Up to 128 numbers, packed at the width of the greatest.
 ghost use Rattle.std.specs.Prelude.{◌≡◌, ◌≤◌, IfOk, IsOkUnless, List, length, take, ℕ};
 ghost use Rattle.fts_pack.specs.Block.{IsBlock, block_numbers};
-ghost use Rattle.fts_bits.specs.Digits.{IsWidthOf};
+ghost use Rattle.fts_pack.specs.bits.Digits.{IsWidthOf};
 ghost use Rattle.fts_pack.specs.Lanes.{words_in_lanes};
 
+use crate::bits::widths;
 use crate::lanes;
 use fts_base::Refusal;
-use fts_bits::packing;
 use std::alloc::{AllocError, Global};
 use std::marker::Model;
 
@@ -43,7 +43,7 @@ impl Block {
         requires { length numbers.now ≤ 128 }
         ensures { IfOk result (λ block. block ≡ numbers.now) }
     {
-        let width = packing::width_of(numbers);
+        let width = widths::width_of(numbers);
         let mut words = Vec::with_capacity(alloc, 4 * width as usize)?;
         lanes::append(&mut words, width, numbers)?;
         Ok(Block {
@@ -53,7 +53,7 @@ impl Block {
         })
     }
 
-    /// Writes the numbers to the front of `out`, and gives how many they are. What is behind them may be anything.
+    /// Writes the numbers to the front of `out`, and gives how many they are. What is after them may be anything.
     pub fn unpack(&self, out: &mut [u32; 128]) -> usize
         ensures count { result ≡ length self.now }
         ensures at_most { result ≤ 128 }

@@ -3,8 +3,8 @@ ghost use Rattle.std.specs.Prelude.{◌≡◌, ℕ, ◌^◌, ◌<◌, ◌≤◌,
 ghost use Rattle.std.specs.List.{list_any};
 ghost use Rattle.std.specs.List.Sorted.{IsStrictlyIncreasing};
 
+use crate::bits::Bits;
 use crate::long_list::LongList;
-use fts_bits::Bits;
 use std::alloc::{AllocError, Global};
 use std::marker::Model;
 

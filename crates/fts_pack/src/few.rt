@@ -4,7 +4,7 @@ ghost use Rattle.fts_pack.specs.Documents.{block_count, last_of};
 
 use std::marker::Model;
 
-/// How many documents lie in a list itself: as many as take no more room than a vector of them.
+/// How many documents are in a list itself: as many as take no more room than a vector of them.
 pub(crate) const FEW: usize = 5;
 
 /// From one to five documents.

@@ -4,7 +4,7 @@ ghost use Rattle.fts_pack.specs.Documents.{gaps, Rises};
 
 use std::alloc::AllocError;
 
-/// Puts behind the numbers how far the first of rising numbers is above `next`, and each further one above the one
+/// Puts after the numbers how far the first of rising numbers is above `next`, and each further one above the one
 /// before, less 1.
 pub fn push_gaps(numbers: &mut Vec<u32>, next: u64, rising: &[u32]) -> Result<(), AllocError>
     requires { Rises next rising.now }

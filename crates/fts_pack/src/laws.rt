@@ -9,7 +9,7 @@ pub fn blocks_join_to_the_documents(documents: &[u32])
     ensures { flat_map (λ block. block) (blocks_of documents.now) ≡ documents.now }
 {}
 
-/// How a block's numbers lie in words, by worked examples: 1, 2 and 3 in three lanes of two bits; zeros in no word; the
+/// How a block's numbers are in words, by worked examples: 1, 2 and 3 in three lanes of two bits; zeros in no word; the
 /// greatest number in whole words; of 0 to 127 word 0 has 0, 4, 8, 12 and the low bits of 16, and word 1 has 1, 5, 9,
 /// 13 and those of 17; 128 times 7.
 pub fn blocks_of_examples()

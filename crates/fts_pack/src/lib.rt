@@ -1,8 +1,15 @@
-//! Numbers packed in blocks: lists of up to 128 numbers, lists of such blocks, and rising lists of documents.
+//! Numbers packed in words: bits, lists of documents, and columns.
+//!
+//! - [`bits`]: [`Bits`] is one bit per document, and the arithmetic of numbers of a few bits that lie end to end.
+//! - [`column`]: a [`Column`] has one value per document, or none.
+//! - A [`Block`] is a list of up to 128 numbers, [`Blocks`] any number of them, and a [`List`] a rising list of documents,
+//!   read by a [`ListSource`].
 #![tactic(auto)]
 
+pub mod bits;
 mod block;
 mod blocks;
+pub mod column;
 mod dense_list;
 mod few;
 mod gaps;
@@ -12,13 +19,15 @@ mod list;
 mod list_source;
 mod long_list;
 mod numbers;
-mod packed;
+mod packed_block;
 mod plain;
 mod skip;
 mod sums;
 
+pub use bits::Bits;
 pub use block::{BLOCK, Block};
 pub use blocks::Blocks;
+pub use column::Column;
 pub use gaps::push_gaps;
 pub use list::List;
 pub use list_source::ListSource;

@@ -1,17 +1,17 @@
-// A strictly rising list of documents: a few lie in the list itself, some are plain numbers, and many lie in blocks.
+// A strictly rising list of documents: a few are in the list itself, some are plain numbers, and many are in blocks.
 ghost use Rattle.std.specs.Prelude.{◌≡◌, ℕ, ◌^◌, ◌<◌, ◌≤◌, ◌==◌, List, IfOk, IfSome, IsOkUnless, false, length};
 ghost use Rattle.std.specs.Prelude.{slice_index_or, take, true};
 ghost use Rattle.std.specs.List.{list_any};
 ghost use Rattle.std.specs.List.Sorted.{IsStrictlyIncreasing};
 ghost use Rattle.fts_pack.specs.Documents.{block_at, block_count, last_of};
 
+use crate::bits::Bits;
 use crate::dense_list::DenseList;
 use crate::few::{FEW, Few};
 use crate::list_source::ListSource;
 use crate::long_list::LongList;
 use crate::plain::{MOST_PLAIN, Plain};
 use fts_base::Refusal;
-use fts_bits::Bits;
 use std::alloc::{AllocError, Global};
 use std::marker::Model;
 
@@ -135,7 +135,7 @@ impl List {
     }
 }
 
-// Whether at least one in 64 of the documents up to the last is in the list.
+/// Whether at least one in 64 of the documents up to the last is in the list.
 fn is_dense(documents: &[u32]) -> bool
     ensures { result ≡ true → 0 < length documents.now }
 {

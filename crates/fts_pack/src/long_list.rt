@@ -6,7 +6,7 @@ ghost use Rattle.fts_pack.specs.LongList.{IsLongList, IsSkipAdded, kept_document
 
 use crate::block::BLOCK;
 use crate::gaps::push_gaps;
-use crate::packed::{Packed, add_block};
+use crate::packed_block::{Packed, add_block};
 use crate::skip::Skip;
 use crate::{lanes, sums};
 use fts_base::release;
@@ -101,7 +101,7 @@ impl LongList {
         (self.count - block * BLOCK).min(BLOCK)
     }
 
-    // The first document that the block may have.
+    /// The first document that the block may have.
     fn first(&self, block: usize) -> u32
         requires { block < block_count (length self.now) }
         ensures { result ≡ after 0 (take (block * 128) self.now) }
@@ -114,7 +114,7 @@ impl LongList {
     }
 }
 
-// Appends a block, whose documents are `next` or later, and tells where it lies. `gaps` is room for their differences.
+/// Appends a block, whose documents are `next` or later, and tells where it lies. `gaps` is room for their differences.
 fn add_skip(
     words: &mut Vec<u32>,
     gaps: &mut Vec<u32>,

@@ -4,7 +4,7 @@ ghost use Rattle.fts_pack.specs.Documents.{block_at, block_count};
 
 use crate::block::BLOCK;
 use crate::lanes;
-use crate::packed::{Packed, add_block};
+use crate::packed_block::{Packed, add_block};
 use fts_base::{Refusal, release};
 use std::alloc::{AllocError, Global};
 use std::marker::Model;
@@ -87,7 +87,7 @@ impl Numbers {
         lanes::read(words, width, index % BLOCK)
     }
 
-    /// Writes the numbers of the block to the front of `out`, and gives how many they are. What is behind them may be
+    /// Writes the numbers of the block to the front of `out`, and gives how many they are. What is after them may be
     /// anything.
     pub fn open(&self, block: usize, out: &mut [u32; 128]) -> usize
         requires { block < block_count (length self.now) }

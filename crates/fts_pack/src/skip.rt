@@ -1,5 +1,5 @@
 // Where a block of a list lies, and which document it ends with.
-use crate::packed::Packed;
+use crate::packed_block::Packed;
 
 /// What a list keeps of each of its blocks.
 #[derive(Clone, Copy)]

@@ -5,7 +5,7 @@ ghost use Rattle.fts_pack.specs.Documents.{documents_at};
 use crate::lanes::load;
 use std::simd::u32x4;
 
-// Each lane becomes the sum of the lanes up to it.
+/// Each lane becomes the sum of the lanes up to it.
 #[inline(always)]
 fn sums_of(gaps: u32x4) -> u32x4
     ensures { (lane : ℕ) → lane < 4
@@ -16,7 +16,7 @@ fn sums_of(gaps: u32x4) -> u32x4
     pairs + zero.shuffle(pairs, [0, 0, 4, 5])
 }
 
-// The documents with four differences, behind the document `last`.
+/// The documents with four differences, after the document `last`.
 #[inline(always)]
 fn documents(last: u32x4, sums: u32x4) -> u32x4
     ensures { (lane : ℕ) → lane < 4
@@ -26,7 +26,7 @@ fn documents(last: u32x4, sums: u32x4) -> u32x4
     last + (sums + u32x4::from_array([1, 2, 3, 4]))
 }
 
-// The last of four documents, in each lane.
+/// The last of four documents, in each lane.
 #[inline(always)]
 fn last_of(documents: u32x4) -> u32x4
     ensures { (lane : ℕ) → lane < 4 → slice_index result lane ≡ slice_index documents 3 }

@@ -1,4 +1,3 @@
-pub mod TotalsLemmas
 pub mod ViewsLemmas
 pub mod StepsLemmas
 pub mod SlotsLemmas

@@ -5,10 +5,10 @@ use Rattle.std.specs.List.{AllZip}
 use Rattle.std.proofs.lemmas.Bool.{cases_eq}
 use Rattle.fts_pool.specs.declared.deque.Known.{Known}
 use Rattle.fts_pool.specs.declared.slots.Done.{Done}
-use Rattle.fts_pool.specs.Totals.{times}
+use Rattle.fts_base.specs.Totals.{times}
 use Rattle.fts_pool.specs.Internals.Deque.{known}
 use Rattle.fts_pool.specs.Internals.Slots.{AreSlots, IsFilled, IsOf, IsReady, numbers_of}
-use Rattle.fts_pool.proofs.TotalsLemmas.{times-append, times_else}
+use Rattle.fts_base.proofs.TotalsLemmas.{times-append, times_else}
 
 either_some : (a b : ℕ) → 0 < a + b → (0 < a) ⊎ (0 < b)
 either_some zero b h = inr (omega arith)

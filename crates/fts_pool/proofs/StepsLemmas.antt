@@ -6,9 +6,9 @@ use lib.ListN.{get_elem?}
 use Rattle.crossbeam_deque.specs.Tasks.{Pushes, Takes, Finds, Forks, Merges}
 use Rattle.crossbeam_deque.proofs.Lists.{at_set}
 use Rattle.fts_pool.specs.declared.deque.Known.{Known}
-use Rattle.fts_pool.specs.Totals.{times}
+use Rattle.fts_base.specs.Totals.{times}
 use Rattle.fts_pool.specs.Internals.Deque.{known, one_less, one_share, joined, spent, once_below, Fits, Holds, Pushed, Took, TookAll}
-use Rattle.fts_pool.proofs.TotalsLemmas.{times-append, times_here, total-set, total-push, total-alone, each_set, each_push}
+use Rattle.fts_base.proofs.TotalsLemmas.{times-append, times_here, total-set, total-push, total-alone, each_set, each_push}
 use Rattle.fts_pool.proofs.ViewsLemmas.{once_none, once_more, below_once, no_share, with_share, with_none, took_none}
 
 -- at the start nothing is pushed

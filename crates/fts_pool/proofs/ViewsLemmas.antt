@@ -4,10 +4,10 @@ use Rattle.std.proofs.lemmas.Bool.Decides.{nat_tests}
 use mathlib.Core.Option.{some}
 use lib.ListN.{get_elem?}
 use Rattle.crossbeam_deque.proofs.Lists.{set_else}
-use Rattle.fts_pool.specs.Totals.{times, total}
+use Rattle.fts_base.specs.Totals.{times, total}
 use Rattle.fts_pool.specs.declared.deque.Known.{Known}
 use Rattle.fts_pool.specs.Internals.Deque.{once_below, spent, Fits}
-use Rattle.fts_pool.proofs.TotalsLemmas.{total-set, one_le}
+use Rattle.fts_base.proofs.TotalsLemmas.{total-set, one_le}
 
 pub once_none : (x : ℕ) → once_below x 0 ≡ 0
 once_none x = grind (arith, nat_tests)

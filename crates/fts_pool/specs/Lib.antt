@@ -1,3 +1,2 @@
 -- The modules that clauses cite.
 pub mod Internals
-pub mod Totals

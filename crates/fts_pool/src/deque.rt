@@ -5,7 +5,7 @@ use crossbeam_deque::{Pass, Stealer, Worker};
 use std::alloc::Global;
 use std::collections::LinkedList;
 
-/// What a thread knows of the deque: for how many of the 64 shares it stands, how many jobs were
+/// What a thread knows of the deque: for how many of the 64 shares it is, how many jobs were
 /// pushed, and which of them it took. No value of it is ever made.
 pub struct Known {
     pub shares: u64,
@@ -13,7 +13,7 @@ pub struct Known {
     pub taken: LinkedList<usize>,
 }
 
-/// Each job that was pushed lies in the deque or was taken by one thread, once.
+/// Each job that was pushed is in the deque or was taken by one thread, once.
 pub struct EachOnce;
 
 impl Protocol<usize, Known> for EachOnce {
@@ -36,7 +36,7 @@ impl Outcome<usize, Known> for Push {
     ghost then = { Pushed };
 }
 
-/// The calling thread takes a job; where it finds none and has all shares, every job was taken.
+/// The calling thread takes a job; if it finds none and has all shares, every job was taken.
 pub struct Pop;
 
 impl Outcome<usize, Known> for Pop {

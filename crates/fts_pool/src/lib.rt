@@ -1,6 +1,6 @@
 //! Jobs run by several threads, with one result a job in the order of the jobs.
 //!
-//! A search is a job a segment, and a commit is a job for each segment that it strikes or builds.
+//! A search is a job per segment, and a commit is a job for each segment that it strikes or builds.
 //! Segments differ in size by orders of magnitude, so jobs aren't dealt out ahead: their numbers lie
 //! in one deque, and each worker takes the next one as soon as it is free.
 //!

@@ -1,4 +1,4 @@
-// `run_all`: the jobs of a list are run, and their results stand in the order of the jobs.
+// `run_all`: the jobs of a list are run, and their results are in the order of the jobs.
 ghost use Rattle.std.specs.Prelude.{◌≡◌, ℕ, ◌<◌, ◌≤◌, IfOk, IsOkUnless};
 ghost use Rattle.std.specs.List.{AllZip};
 ghost use Rattle.fts_pool.specs.Internals.Slots.{AreSlots, IsFilled};
@@ -16,7 +16,7 @@ use std::thread::Threads;
 // For how many numbers the deque has room before it first grows.
 const FIRST_ROOM: usize = 64;
 
-/// Gives the jobs out to so many threads beside the calling one, by a deque, and answers how many of
+/// Gives the jobs out to this many threads beside the calling one, by a deque, and answers how many of
 /// them it gave: the first ones, whose slots are filled. With no other thread it gives none. Once
 /// all threads are joined the calling thread has all shares, so that an empty deque shows that every
 /// job was taken.
@@ -46,7 +46,7 @@ fn give_out<R: Threads + Wait + Sync, J: Job, G: Gate>(
     Ok((pushed, slots))
 }
 
-/// Runs each job by up to so many threads, the calling one among them, and gives one result a job,
+/// Runs each job by up to this many threads, the calling one among them, and gives one result per job,
 /// in the order of the jobs.
 ///
 /// It is refused for memory alone, and then before any job ran.

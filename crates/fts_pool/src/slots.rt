@@ -1,7 +1,7 @@
-// The slots of the results, one a job, filled in whatever order the jobs end.
+// The slots of the results, one per job, filled in whatever order the jobs end.
 ghost use Rattle.std.specs.Prelude.{◌≡◌, ℕ, ◌<◌, ◌≤◌, [], length, map, slice_set, vec_len, IfOk, replicate, Some, None};
 ghost use Rattle.std.specs.Vec.{vec_capacity};
-ghost use Rattle.fts_pool.specs.Totals.{times};
+ghost use Rattle.fts_base.specs.Totals.{times};
 ghost use Rattle.fts_pool.specs.Internals.Slots.{AreOf, AreSlots, IsFilled, IsOf, numbers_of};
 
 use crate::gate::Gate;
@@ -26,7 +26,7 @@ pub(crate) fn run_one<J: Job, G: Gate>(jobs: &[J], number: usize, gate: &G) -> J
     out
 }
 
-/// So many slots, all empty.
+/// This many slots, all empty.
 pub(crate) fn empty_slots<T: Drop>(
     alloc: Global,
     count: usize,

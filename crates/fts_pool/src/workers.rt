@@ -14,7 +14,7 @@ use std::alloc::Global;
 use std::sync::Wait;
 use std::thread::{Threads, join, yield_now};
 
-/// Pushes the numbers of so many jobs in order, until one is refused, and answers how many it
+/// Pushes the numbers of this many jobs in order, until one is refused, and answers how many it
 /// pushed.
 pub(crate) fn push_all(worker: &mut JobWorker, count: usize) -> usize
     requires { worker_view worker.old ≡ known 64 0 [] }
@@ -89,7 +89,7 @@ pub(crate) fn pop_all<R: Wait, J: Job, G: Gate>(
     }
 }
 
-/// Runs jobs in the calling thread, beside so many threads that steal. Each of them has a share,
+/// Runs jobs in the calling thread, beside this many threads that steal. Each of them has a share,
 /// which comes back with what the thread did. A call starts one thread and leaves the others to the
 /// next; a thread that can't be started is run by `join` at the end, and finds nothing.
 #[cycle(work)]

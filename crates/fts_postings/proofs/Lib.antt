@@ -11,4 +11,6 @@ pub mod WindowLemmas
 pub mod MarksLemmas
 pub mod MarkingLemmas
 pub mod TakingLemmas
+pub mod WindowBitsLemmas
+pub mod BitMarksLemmas
 mod PlacesLemmas

@@ -1,8 +1,8 @@
 -- How many blocks are opened at most, by where a cursor stands.
 use Rattle.std.specs.Prelude.{ℕ, ◌+◌, ◌*◌, List, Option, None, Some, filter, length, nat_le}
 
--- so many in any case, and where other lists are sought for the members of one that leads, of each of them one when its
--- cursor is made and one for each member that was reached
+-- this many in any case, and if other lists are sought for the members of one that leads, one of each of them when its
+-- cursor is made, and one for each member that was reached
 pub record Bound : Type 0 where
   pub blocks : ℕ
   pub lead : List ℕ

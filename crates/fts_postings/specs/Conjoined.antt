@@ -49,7 +49,7 @@ pub record MayBeBrought (lead : Posting) (others : List Posting) : Type 0 where
   pub few : AreFew lead others
   pub fewer : 0 < length (remaining_of lead) → All (λ p. p.opened ≤ members_reached lead) others
 
--- cursors stand at a document
+-- cursors are at a document
 abbrev pub StandAt : ℕ → List Posting → Type 0
 StandAt doc cursors = All (λ p. slice_get (remaining_of p) 0 ≡ Some doc) cursors
 

@@ -1,7 +1,7 @@
 -- Documents that are taken a stretch at a time.
 use Rattle.std.specs.Prelude.{◌≡◌, ℕ, ◌+◌, ◌<◌, ◌≤◌, List, ◌++◌, drop, length, take}
 
--- the first so many of what was left, at least one where there was any, lie behind those that filled the front, and are
+-- the first this many of what was left, at least one if there was any, come after those that filled the front, and are
 -- left no more
 pub record IsStretch (left next out written : List ℕ) (filled count : ℕ) : Type 0 where
   pub some : 0 < length left → 0 < count

@@ -3,7 +3,7 @@ use Rattle.std.specs.Prelude.{◌≡◌, ℕ, suc, ◌+◌, ◌^◌, ◌<◌, �
 use Rattle.std.specs.Prelude.{◌&&◌, ◌==◌, nat_lt, if◌then◌else◌}
 use Rattle.std.specs.List.{flat_map}
 
--- A cursor over blocks: the block in which it stands (their number at the end), its place there, how many blocks it
+-- A cursor over blocks: the block in which it is (their number at the end), its place there, how many blocks it
 -- opened since it was made, and the count of its source, which every opening raises.
 pub record Posting : Type 0 where
   pub blocks : List (List ℕ)
@@ -12,7 +12,7 @@ pub record Posting : Type 0 where
   pub opened : ℕ
   pub count : ℕ
 
--- the block in which it stands
+-- the block in which it is
 abbrev pub here : Posting → List ℕ
 here p = slice_index_or p.blocks p.block []
 
@@ -24,7 +24,7 @@ remaining_of p = drop p.at (here p) ++ flat_map (λ block. block) (drop (suc p.b
 abbrev pub members_of : Posting → List ℕ
 members_of p = flat_map (λ block. block) p.blocks
 
--- the blocks up to the one in which it stands: all of them at the end
+-- the blocks up to the one in which it is: all of them at the end
 abbrev pub blocks_reached : Posting → ℕ
 blocks_reached p = min (suc p.block) (length p.blocks)
 
@@ -43,7 +43,7 @@ pub record Walks (old new : Posting) : Type 0 where
   pub follows : Follows old new
   pub each : new.opened + blocks_reached old ≡ old.opened + blocks_reached new
 
--- how the fields stand to one another: the open block lies at the front of the array
+-- how the fields stand to one another: the open block is at the front of the array
 pub record IsPosting (blocks : List (List ℕ)) (block at len opened : ℕ) (numbers : List ℕ) : Type 0 where
   pub fits : length blocks < 2 ^ 64
   pub within : block ≤ length blocks

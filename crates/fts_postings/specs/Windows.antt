@@ -1,9 +1,9 @@
 -- Documents as bits, from a number on.
-use Rattle.std.specs.Prelude.{◌≡◌, ℕ, suc, ◌+◌, ◌-◌, ◌<◌, ◌==◌, nat_lt, Bool, List, filter, slice_index_or}
+use Rattle.std.specs.Prelude.{◌≡◌, ℕ, suc, ◌+◌, ◌-◌, ◌<◌, ◌==◌, ◌&&◌, nat_le, nat_lt, Bool, false, List, filter, slice_index_or}
 use Rattle.std.specs.Int.{bit_at}
 use Rattle.std.specs.List.{range_with_len}
 
--- those of so many documents from one on that pass
+-- those of this many documents from one on that pass
 abbrev pub passing : (ℕ → Bool) → ℕ → ℕ → List ℕ
 passing test from count = filter test (range_with_len from count)
 
@@ -11,11 +11,15 @@ passing test from count = filter test (range_with_len from count)
 abbrev pub is_marked : ℕ → ℕ → ℕ → Bool
 is_marked from marks d = bit_at marks (d - from) == 1
 
+-- whether a document is one of 64 from one on, and its bit is set
+abbrev pub in_word : ℕ → ℕ → ℕ → Bool
+in_word from marks d = nat_le from d && is_marked from marks d
+
 -- the documents of from..=last whose bits are set
 abbrev pub marked : ℕ → ℕ → ℕ → List ℕ
 marked from last marks = passing (is_marked from marks) from (suc last - from)
 
--- whether a document is marked, where each has a number from one document on: 0 where it is not
+-- whether a document is marked, where each has a number from one document on: 0 if it is not
 abbrev pub is_found : ℕ → List ℕ → ℕ → Bool
 is_found base marks d = nat_lt 0 (slice_index_or marks (d - base) 0)
 
@@ -26,3 +30,7 @@ found_in base from last marks = passing (is_found base marks) from (suc last - f
 -- the bits of a word are the marks of 64 documents from one on
 abbrev pub AreMarksFrom : ℕ → ℕ → List ℕ → ℕ → Type 0
 AreMarksFrom start base marks word = (k : ℕ) → k < 64 → (bit_at word k == 1) ≡ is_found base marks (start + k)
+
+-- whether a document's bit is set
+abbrev pub is_set : List Bool → ℕ → Bool
+is_set bits d = slice_index_or bits d false

@@ -78,7 +78,7 @@ impl<B: Blocks + Drop> Conjunction<B> {
 
     /// How many blocks were opened since the cursors were made, or the greatest `u64`.
     ///
-    /// Wherever it stands, they are no more than the blocks of the leading list, and for each other list one when its
+    /// Wherever it is, they are no more than the blocks of the leading list, and for each other list one when its
     /// cursor was made and one for each document of the leading list up to that at which all stand.
     pub fn openings(&self) -> u64
         ensures sum { result ≡ min (2 ^ 64 - 1) (openings_of self.now) }
@@ -92,8 +92,8 @@ impl<B: Blocks + Drop> Conjunction<B> {
         sum
     }
 
-    /// Copies some of the first documents that remain behind what fills `out` so far, at least one where there is any,
-    /// and leaves them behind. Of one list alone it takes what lies open.
+    /// Copies some of the first documents that remain after what fills `out` so far, at least one if there is any,
+    /// and passes them. Of one list alone it takes what lies open.
     pub fn take_stretch(&mut self, out: &mut [u32; 128], filled: usize) -> usize
         requires { filled < 128 }
         ensures taken { IsStretch (common_of self.old) (common_of self.new) out.old out.new filled result }
@@ -157,8 +157,8 @@ impl<B: Blocks + Drop> DocSet for Conjunction<B> {
     }
 }
 
-// Seeks the document with each of the others in turn, and gives the first that all may have: that one, where all stand
-// at it, or a later one. `None` where one of them is at its end.
+/// Seeks the document with each of the others in turn, and gives the first that all may have: that one, where all stand
+/// at it, or a later one. `None` where one of them is at its end.
 fn bring<B: Blocks + Drop>(others: &mut [PostingCursor<B>], doc: u32) -> Option<u32>
     ensures each { Brought doc others.old others.new }
     ensures next { IsAhead doc (each_remaining others.new) result }
@@ -174,7 +174,7 @@ fn bring<B: Blocks + Drop>(others: &mut [PostingCursor<B>], doc: u32) -> Option<
     Some(doc)
 }
 
-// Brings all to the first document that they have in common, or the leading one to its end.
+/// Brings all to the first document that they have in common, or the leading one to its end.
 fn align<B: Blocks + Drop>(lead: &mut PostingCursor<B>, others: &mut [PostingCursor<B>])
     requires few { MayBeBrought lead.old others.old }
     ensures common { common (remaining_of lead.new) (each_remaining others.new)

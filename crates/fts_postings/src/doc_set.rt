@@ -1,4 +1,4 @@
-// What every cursor does: it stands before the first of the documents that remain.
+// What every cursor does: it comes before the first of the documents that remain.
 ghost use Rattle.std.specs.Prelude.{◌≡◌, ℕ, List, drop, length, min, slice_get, take};
 ghost use Rattle.std.specs.List.Sorted.{IsStrictlyIncreasing};
 ghost use Rattle.fts_postings.specs.Remaining.{at_least};
@@ -13,16 +13,16 @@ pub trait DocSet {
         ensures first { result ≡ slice_get (remaining self.now) 0 }
         ensures rises { IsStrictlyIncreasing (remaining self.now) };
 
-    /// Leaves the first document behind.
+    /// Passes the first document.
     fn advance(&mut self)
         ensures remaining { remaining self.new ≡ drop 1 (remaining self.old) };
 
-    /// Leaves behind what lies before the target, whatever it is.
+    /// Passes what lies before the target, whatever it is.
     fn seek(&mut self, target: u32)
         ensures remaining { remaining self.new ≡ at_least target (remaining self.old) };
 
     /// Takes the next 128 documents, or all where fewer remain: writes them to the front of `out`, and gives how many
-    /// they are. What is behind them may be anything.
+    /// they are. What is after them may be anything.
     fn fill(&mut self, out: &mut [u32; 128]) -> usize
         ensures count { result ≡ min 128 (length (remaining self.old)) }
         ensures taken { take result out.new ≡ take 128 (remaining self.old) }

@@ -1,6 +1,6 @@
 //! Cursors over posting lists: the documents of a list, or of several together, one after the other.
 //!
-//! A [`DocSet`] is what every cursor is: it stands at a document ([`DocSet::doc`]), steps to the next
+//! A [`DocSet`] is what every cursor is: it is at a document ([`DocSet::doc`]), steps to the next
 //! ([`DocSet::advance`]), goes to the first from a number on ([`DocSet::seek`]), or writes up to 128 at once
 //! ([`DocSet::fill`]). Contracts see it as the list of documents that remain. Its steps take no memory and don't fail.
 //!
@@ -28,6 +28,7 @@ pub mod marks;
 mod posting;
 pub mod stretch;
 mod window;
+mod window_bits;
 
 pub use conjunction::Conjunction;
 pub use doc_set::DocSet;

@@ -3,7 +3,7 @@ ghost use Rattle.std.specs.Prelude.{◌≡◌, ℕ, ◌+◌, ◌<◌, ◌≤◌,
 ghost use Rattle.std.specs.Int.{bit_at};
 ghost use Rattle.fts_postings.specs.Windows.{marked};
 
-/// Writes the documents from `from` on that are marked behind the first `count` of `out`, and gives how many are there
+/// Writes the documents from `from` on that are marked after the first `count` of `out`, and gives how many are there
 /// then.
 #[inline]
 pub fn write(marks: u64, from: usize, out: &mut [u32; 128], count: usize) -> usize

@@ -16,7 +16,7 @@ use crate::window::Window;
 use fts_pack::Blocks;
 use std::marker::Model;
 
-/// A cursor over the blocks of one list. Its open block lies in the value.
+/// A cursor over the blocks of one list. Its open block is in the value.
 #[derive(Drop)]
 pub struct PostingCursor<B: Blocks> {
     source: B,
@@ -63,7 +63,7 @@ impl<B: Blocks> PostingCursor<B> {
         cursor
     }
 
-    /// The place in its list of the document at which it stands, where all blocks but the last have 128.
+    /// The place in its list of the document at which it is, where all blocks but the last have 128.
     pub fn posting(&self) -> usize
         requires stands { 0 < length (remaining_of self.now) }
         requires few { length self.now.blocks ≤ 2 ^ 32 }
@@ -91,8 +91,8 @@ impl<B: Blocks> PostingCursor<B> {
         (self.source.blocks() - self.block).saturating_mul(128)
     }
 
-    /// Marks the documents of the open block that have a place in the window, of which it stands at one, leaves them
-    /// behind, and gives how many they are.
+    /// Marks the documents of the open block that have a place in the window, of which it is at one, passes them
+    ///, and gives how many they are.
     #[inline]
     pub fn mark_open(&mut self, window: &mut Window) -> usize
         requires some { 0 < length (remaining_of self.old) }
@@ -114,7 +114,7 @@ impl<B: Blocks> PostingCursor<B> {
         count
     }
 
-    /// How many documents remain, or the greatest `usize`. Opens each block that is left, and leaves all behind.
+    /// How many documents remain, or the greatest `usize`. Opens each block that is left, and passes all.
     pub fn count(&mut self) -> usize
         ensures count { result ≡ min (2 ^ 64 - 1) (length (remaining_of self.old)) }
         ensures none { remaining_of self.new ≡ [] }
@@ -129,7 +129,7 @@ impl<B: Blocks> PostingCursor<B> {
         count
     }
 
-    // Leaves everything behind.
+    /// Leaves nothing.
     pub(crate) fn finish(&mut self)
         ensures nothing { remaining_of self.new ≡ [] }
         ensures follows { Follows self.old self.new }
@@ -139,7 +139,7 @@ impl<B: Blocks> PostingCursor<B> {
         self.len = 0;
     }
 
-    // Stands at the beginning of a block, or at the end.
+    /// Stands at the beginning of a block, or at the end.
     fn enter(&mut self, block: usize)
         requires few { self.old.opened ≤ block }
         requires within { block ≤ length self.old.blocks }
@@ -157,7 +157,7 @@ impl<B: Blocks> PostingCursor<B> {
         }
     }
 
-    // Leaves so many documents of the open block behind.
+    /// Passes this many documents of the open block.
     #[inline]
     fn leave(&mut self, count: usize)
         requires some { 0 < count }
@@ -173,7 +173,7 @@ impl<B: Blocks> PostingCursor<B> {
         }
     }
 
-    // Copies what fits of the rest of the open block behind what fills `out` so far, and leaves it behind.
+    /// Copies what fits of the rest of the open block after what fills `out` so far, and passes it.
     pub(crate) fn take_block(&mut self, out: &mut [u32; 128], filled: usize) -> usize
         requires { filled < 128 }
         ensures taken { IsStretch (remaining_of self.old) (remaining_of self.new) out.old out.new
@@ -202,7 +202,7 @@ impl<B: Blocks> DocSet for PostingCursor<B> {
         }
     }
 
-    /// Opens a block exactly where the open one ends here and another follows.
+    /// Opens a block exactly if the open one ends here and another follows.
     #[inline]
     fn advance(&mut self)
         ensures remaining { remaining_of self.new ≡ drop 1 (remaining_of self.old) }
@@ -220,7 +220,7 @@ impl<B: Blocks> DocSet for PostingCursor<B> {
         }
     }
 
-    /// Looks in the open block first, and else opens the one block in which the target lies or would lie, if there is
+    /// Looks in the open block first, and else opens the one block in which the target lies or would be, if there is
     /// one.
     fn seek(&mut self, target: u32)
         ensures remaining { remaining_of self.new ≡ at_least target (remaining_of self.old) }
@@ -256,8 +256,8 @@ impl<B: Blocks> DocSet for PostingCursor<B> {
     }
 }
 
-// The first block from `from` on that ends with the target or more: the number of blocks where there is none. Looks at
-// the next first, then at ever farther ones, and halves what is left between.
+/// The first block from `from` on that ends with the target or more: the number of blocks if there is none. Looks at
+/// the next first, then at ever farther ones, and halves what is left between.
 fn block_of<B: Blocks>(source: &B, from: usize, target: u32) -> usize
     requires { from ≤ length (B.contents source.now) }
     ensures { IsPlaceOf (λ k. last_of (slice_index_or (B.contents source.now) k [])) from
@@ -275,7 +275,7 @@ fn block_of<B: Blocks>(source: &B, from: usize, target: u32) -> usize
     block_between(source, low, to, target)
 }
 
-// The first of the blocks `from..to` that ends with the target or more: `to` where there is none.
+/// The first of the blocks `from..to` that ends with the target or more: `to` if there is none.
 fn block_between<B: Blocks>(source: &B, from: usize, to: usize, target: u32) -> usize
     requires order { from ≤ to }
     requires within { to ≤ length (B.contents source.now) }

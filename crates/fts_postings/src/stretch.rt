@@ -4,7 +4,7 @@ ghost use Rattle.fts_postings.specs.Remaining.{IsPlaceOf};
 
 use std::simd::prelude::*;
 
-/// Copies so many numbers from one place on to another.
+/// Copies this many numbers from one place on to another.
 pub fn copy_part(numbers: &[u32; 128], from: usize, count: usize, out: &mut [u32; 128], to: usize)
     requires read { from + count ≤ 128 }
     requires write { to + count ≤ 128 }
@@ -13,8 +13,8 @@ pub fn copy_part(numbers: &[u32; 128], from: usize, count: usize, out: &mut [u32
     out[to..to + count].copy_from_slice(&numbers[from..from + count]);
 }
 
-/// The first place of those in `from..to` that has the target or more: `to` where there is none. Looks at the nearest
-/// 16 at once, since what is sought is mostly near, and halves what is left behind them.
+/// The first place of those in `from..to` that has the target or more: `to` if there is none. Looks at the nearest
+/// 16 at once, since what is sought is mostly near, and halves what is passed them.
 #[inline]
 pub fn place_of(numbers: &[u32], from: usize, to: usize, target: u32) -> usize
     requires order { from ≤ to }
@@ -32,7 +32,7 @@ pub fn place_of(numbers: &[u32], from: usize, to: usize, target: u32) -> usize
     from + reached.trailing_zeros() as usize
 }
 
-// The same, by halving.
+/// The same, by halving.
 #[inline]
 fn place_between(numbers: &[u32], from: usize, to: usize, target: u32) -> usize
     requires order { from ≤ to }

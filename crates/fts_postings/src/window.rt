@@ -16,13 +16,14 @@ use std::alloc::{AllocError, Global};
 pub struct Window {
     /// The document of the first bit.
     pub base: u32,
-    /// What lies before it was left behind.
+    /// What lies before it was passed.
     pub from: u64,
     /// The last document that has a place.
     pub last: u32,
-    /// A mark for each document from `base` on: 0 where it isn't found. Marks are bytes, since documents of a list
+    /// A mark for each document from `base` on: 0 if it isn't found. Marks are bytes, since documents of a list
     /// mostly lie close together, and bits of one word would be set one after the other.
     pub marks: Vec<u8>,
+    pub ghost aligned: { base % 64 ≡ 0 },
     pub ghost order: { base ≤ from },
     pub ghost few: { last ≤ base + 4095 },
     pub ghost fits: { last < 2 ^ 32 },
@@ -42,18 +43,21 @@ impl Window {
         })
     }
 
-    /// Begins anew with nothing marked, for a document and so many after it.
+    /// Begins anew with nothing marked, for a document and those after it that are no more than this many above the first
+    /// of the 64 in which it lies: so words of bits lie as those of the window do.
     pub fn begin(&mut self, doc: u32, reach: u32)
         requires { reach ≤ 4095 }
         ensures from { self.new.from ≡ doc }
         ensures last { doc ≤ self.new.last }
         ensures nothing { found_in self.new.base self.new.from self.new.last self.new.marks.items ≡ [] }
     {
-        // What lies behind the last place may be anything.
-        bytes::clear(&mut self.marks, (reach as usize / 64 + 1) * 64);
-        self.base = doc;
+        let base = doc / 64 * 64;
+        let last = base.saturating_add(reach).max(doc);
+        // What comes after the last place may be anything.
+        bytes::clear(&mut self.marks, ((last - base) as usize / 64 + 1) * 64);
+        self.base = base;
         self.from = doc as u64;
-        self.last = doc.saturating_add(reach);
+        self.last = last;
     }
 
     /// Whether it has a place for the document, which isn't below its first.
@@ -94,7 +98,7 @@ impl Window {
         count
     }
 
-    // How many of the documents have a place: mostly all of them, and then the last alone is looked at.
+    /// How many of the documents have a place: mostly all of them, and then the last alone is looked at.
     #[inline]
     fn count_covered(&self, docs: &[u32]) -> usize
         requires { IsStrictlyIncreasing docs.now }
@@ -109,7 +113,7 @@ impl Window {
         place_of(docs, 0, count, self.last + 1)
     }
 
-    // Marks the documents, each of which has a place.
+    /// Marks the documents, each of which has a place.
     #[inline]
     fn mark_all(&mut self, docs: &[u32])
         requires low { All (λ d. self.old.from ≤ d) docs.now }
@@ -121,9 +125,9 @@ impl Window {
         bytes::mark_each(&mut self.marks, self.base, docs);
     }
 
-    // The marks of the 64 documents from a place on as bits, the first of them the lowest.
+    /// The marks of the 64 documents from a place on as bits, the first of them the lowest.
     #[inline]
-    fn word(&self, start: u64) -> u64
+    pub(crate) fn word(&self, start: u64) -> u64
         requires low { self.now.base ≤ start }
         requires high { start + 64 ≤ self.now.base + 4096 }
         ensures { AreMarksFrom start self.now.base self.now.marks.items result }
@@ -132,7 +136,7 @@ impl Window {
         bytes::word_of(&self.marks[place..])
     }
 
-    /// The first document that is marked. Places without marks before it are left behind.
+    /// The first document that is marked. Places without marks before it are passed.
     #[inline]
     pub fn first(&mut self) -> Option<u32>
         ensures first { result ≡ slice_get (found_in self.old.base self.old.from self.old.last self.old.marks.items) 0 }
@@ -151,8 +155,8 @@ impl Window {
         None
     }
 
-    // Leaves behind what has no mark before the first mark of the word in which the first place lies, or all of that
-    // word where it has none. Whether it has one.
+    /// Passes what has no mark before the first mark of the word in which the first place lies, or all of that
+    /// word if it has none. Whether it has one.
     #[inline]
     fn pass_word(&mut self) -> bool
         requires { self.old.from ≤ self.old.last }
@@ -173,7 +177,7 @@ impl Window {
         true
     }
 
-    /// Writes the first documents that are marked behind the first `filled` of `out`, leaves them behind, and gives how
+    /// Writes the first documents that are marked after the first `filled` of `out`, passes them, and gives how
     /// many they are: as many as there is room for.
     #[inline]
     pub fn take_some(&mut self, out: &mut [u32; 128], filled: usize) -> usize
@@ -195,7 +199,7 @@ impl Window {
         128 - filled
     }
 
-    // The same for the documents of a whole word where there is room for them, and else for one.
+    /// The same for the documents of a whole word if there is room for them, and else for one.
     #[inline]
     fn take_next(&mut self, out: &mut [u32; 128], filled: usize) -> usize
         requires { filled < 128 }
@@ -222,7 +226,7 @@ impl Window {
         count
     }
 
-    /// How many documents are marked. Leaves all behind.
+    /// How many documents are marked. Passes all.
     pub fn count(&mut self) -> usize
         ensures count { result ≡ length (found_in self.old.base self.old.from self.old.last self.old.marks.items) }
         ensures last { self.new.last ≡ self.old.last }
@@ -236,7 +240,7 @@ impl Window {
         count
     }
 
-    // Leaves behind the documents of the word in which the first place lies, and gives how many of them are marked.
+    /// Passes the documents of the word in which the first place lies, and gives how many of them are marked.
     #[inline]
     fn count_word(&mut self) -> usize
         requires { self.old.from ≤ self.old.last }
@@ -255,7 +259,7 @@ impl Window {
         inside.count_ones() as usize
     }
 
-    // The same for all words from the first place on, with which a word begins, but for one that ends behind the last.
+    /// The same for all words from the first place on, with which a word begins, but for one that ends after the last.
     #[inline]
     fn count_words(&mut self) -> usize
         requires { (self.old.from - self.old.base) % 64 ≡ 0 }
@@ -274,7 +278,7 @@ impl Window {
         count
     }
 
-    /// Leaves the first document behind.
+    /// Passes the first document.
     #[inline]
     pub fn advance(&mut self)
         ensures last { self.new.last ≡ self.old.last }
@@ -286,7 +290,7 @@ impl Window {
         }
     }
 
-    /// Leaves behind what lies before the target.
+    /// Passes what lies before the target.
     #[inline]
     pub fn seek(&mut self, target: u32)
         ensures last { self.new.last ≡ self.old.last }

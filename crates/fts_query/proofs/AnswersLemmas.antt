@@ -8,7 +8,7 @@ use Rattle.fts_base.specs.declared.refusal.Refusal.{Refusal}
 use Rattle.fts_base.specs.declared.refusal.Refusal.TheVariants.{Memory, TooLong, Syntax, TooDeep, UnknownField, BadNumber, RangeOnText, NoDefaultField, AllNegative}
 use Rattle.fts_model.specs.declared.query.Query.{Query}
 use Rattle.std.specs.Prelude.{IfOk, IfErr}
-use Rattle.fts_query.specs.declared.nesting.Quoting.TheVariants.{Outside}
+use Rattle.fts_query.specs.declared.depth.Quoting.TheVariants.{Outside}
 use Rattle.fts_model.specs.QueryValues.{QueryValue, nothing, query_value}
 use Rattle.fts_query.specs.Meanings.{Meaning}
 use Rattle.fts_query.specs.Grammar.{is_space, IsBlank, IsQuery}

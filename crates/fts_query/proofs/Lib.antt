@@ -7,3 +7,4 @@ pub mod MeaningsLemmas
 pub mod MeaningsFit
 pub mod QueryValuesLemmas
 pub mod AnswersLemmas
+pub mod SyntaxLemmas

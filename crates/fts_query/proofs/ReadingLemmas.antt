@@ -1,4 +1,4 @@
--- What stands at the front of a text: white space, words, quoted texts, units.
+-- What is at the front of a text: white space, words, quoted texts, units.
 use Rattle.std.proofs.Common.{take-append-drop, ◌≡◌, ℕ, Bool, true, false, not, ◌||◌, ◌⊎◌, cond, List, [], ◌∷◌, ◌++◌, codes, Option, Some, None, refl, sym, ap, ◌∙◌, arith, inl, inr, zero, suc, ◌+◌, ◌-◌, ◌*◌, ◌≤◌, length, take, drop, subst, length-append, append_assoc, Ok}
 use Rattle.std.specs.Prelude.{◌==◌, take_while}
 use Rattle.std.specs.List.{list_all, prefix_len}

@@ -9,7 +9,7 @@ use Rattle.fts_base.specs.declared.refusal.Refusal.TheVariants.{BadNumber, Range
 use Rattle.fts_model.specs.declared.query.Query.{Query}
 use Rattle.fts_query.specs.declared.error.QueryError.{QueryError}
 use Rattle.fts_query.specs.declared.error.QueryError.TheVariants as errors
-use Rattle.fts_query.specs.declared.nesting.Quoting.TheVariants.{Outside}
+use Rattle.fts_query.specs.declared.depth.Quoting.TheVariants.{Outside}
 use Rattle.fts_model.specs.QueryValues.{QueryValue, nothing, query_value}
 use Rattle.fts_query.specs.Meanings.{Meaning}
 use Rattle.fts_query.specs.Grammar.{is_space}
@@ -36,6 +36,7 @@ answer_from (Some m) = outcome_of m
 abbrev pub answer_fit : List Field → List ℕ → Result QueryValue Refusal
 answer_fit schema text = if list_all is_space text then Ok nothing else answer_from (query_of schema 4096 text)
 
+-- the one outcome that a text reads as, the byte of a syntax error aside
 unfoldable pub answer : List Field → List ℕ → Result QueryValue Refusal
 answer schema text =
     if nat_lt 4096 (length text) then Err TooLong

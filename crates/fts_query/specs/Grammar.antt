@@ -46,7 +46,7 @@ is_bare (c ∷ w) = not (c == plus || c == minus) && not (is_reserved (c ∷ w))
 abbrev pub IsBare : List ℕ → Type 0
 IsBare w = (list_all is_word_char w ≡ true) × (is_bare w ≡ true)
 
--- a character between quotes: `"` and `\` stand after a `\`
+-- a character between quotes: `"` and `\` come after a `\`
 abbrev pub piece : ℕ → List ℕ
 piece c = if c == quote || c == backslash then backslash ∷ c ∷ [] else c ∷ []
 
@@ -82,7 +82,7 @@ abbrev pub begins_equals : List ℕ → Bool
 begins_equals [] = false
 begins_equals (c ∷ w) = c == equals
 
--- what stands after a field and a colon
+-- what comes after a field and a colon
 pub data IsValue : List ℕ → Value → Type 0 where
   word : {w : List ℕ} → IsWord w → IsValue w (literal (encode_utf8_all w))
   quoted : (unquoted : List ℕ) → IsValue (quote ∷ quoted_text unquoted) (literal (encode_utf8_all unquoted))
@@ -106,7 +106,7 @@ pub data IsModifier : List ℕ → Modifier → Type 0 where
   negated : {w : List ℕ} → IsSpace w → IsModifier (codes "NOT" ++ w) Minus
 
 mutual
-  -- a list in parentheses, `*`, a literal, or a field and what stands after it
+  -- a list in parentheses, `*`, a literal, or a field and what comes after it
   pub data IsUnit (schema : List Field) : List ℕ → Meaning → Type 0 where
     group : (v s w : List ℕ) (disjunctions : List (List (List Factor)))
         → IsBlank v → IsList schema s disjunctions → IsBlank w

@@ -67,7 +67,7 @@ boolean_of (q ∷ ms) ns ss = Ok (boolean (query_list (q ∷ ms)) (query_list ns
 unfoldable pub node : List Clause → Meaning
 node cs = result_and_then (λ qs. boolean_of (musts qs) (must_nots qs) (shoulds qs)) (members cs)
 
--- a unit, and what stands before it
+-- a unit, and what comes before it
 abbrev pub Factor : Type 0
 Factor = Modifier × Meaning
 
@@ -189,7 +189,7 @@ bound_in kind Unbounded = Ok Unbounded
 abbrev pub within : ℕ → Result (Bound FieldValue) QueryError → Result (Bound FieldValue) QueryError → Meaning
 within field lower upper = result_and_then (λ low. result_map (range field low) upper) lower
 
--- what may stand after a field: a literal, or bounds
+-- what may be after a field: a literal, or bounds
 pub data Value : Type 0 where
   literal : List ℕ → Value
   between : Bound (List ℕ) → Bound (List ℕ) → Value
@@ -204,6 +204,6 @@ abbrev pub meaning_at : List Field → Value → ℕ → Meaning
 meaning_at schema value field =
     option_map_or (λ kind. meaning_in field kind value) (kind_at schema field) (Err UnknownField)
 
--- a field, by its name, and what stands after it
+-- a field, by its name, and what comes after it
 unfoldable pub field_meaning : List Field → List ℕ → Value → Meaning
 field_meaning schema name value = option_map_or (meaning_at schema value) (field_named name schema) (Err UnknownField)

@@ -1,20 +1,21 @@
 -- What a text reads as: a query, or a refusal.
 use Rattle.std.specs.Prelude.{◌≡◌, ℕ, ◌+◌, ◌-◌, ◌<◌, ◌≤◌, ◌⊎◌, Bool, true, false, ◌==◌, nat_lt, List, [], ◌∷◌, length}
-use Rattle.std.specs.Prelude.{Result, Ok, Err, if◌then◌else◌}
+use Rattle.std.specs.Prelude.{Result, Ok, Err, Option, Some, None, if◌then◌else◌}
 use Rattle.std.specs.Str.{chars}
 use Rattle.fts_model.specs.declared.schema.Field.{Field}
 use Rattle.fts_base.specs.declared.refusal.Refusal.{Refusal}
-use Rattle.fts_base.specs.declared.refusal.Refusal.TheVariants.{TooLong, Syntax, TooDeep, UnknownField, BadNumber}
-use Rattle.fts_base.specs.declared.refusal.Refusal.TheVariants.{RangeOnText, NoDefaultField, AllNegative}
+use Rattle.fts_base.specs.declared.refusal.Refusal.TheVariants.{Memory, TooLong, Syntax, TooDeep, UnknownField}
+use Rattle.fts_base.specs.declared.refusal.Refusal.TheVariants.{BadNumber, RangeOnText, NoDefaultField}
+use Rattle.fts_base.specs.declared.refusal.Refusal.TheVariants.{AllNegative}
 use Rattle.fts_query.specs.declared.error.QueryError.TheVariants as errors
-use Rattle.fts_query.specs.declared.nesting.Quoting.{Quoting}
-use Rattle.fts_query.specs.declared.nesting.Quoting.TheVariants.{Outside, Quoted, Escaped}
+use Rattle.fts_query.specs.declared.depth.Quoting.{Quoting}
+use Rattle.fts_query.specs.declared.depth.Quoting.TheVariants.{Outside, Quoted, Escaped}
 use Rattle.fts_model.specs.QueryValues.{QueryValue, nothing}
 use Rattle.fts_query.specs.Characters.{quote, open_parenthesis, close_parenthesis, backslash}
 use Rattle.fts_query.specs.Meanings.{Meaning}
 use Rattle.fts_query.specs.Grammar.{IsBlank, IsQuery}
 
--- whether the parentheses outside of quotes nest over 32 deep, where so many are open before
+-- whether the parentheses outside of quotes nest over 32 deep, where this many are open before
 unfoldable pub is_too_deep : Quoting → ℕ → List ℕ → Bool
 is_too_deep quoting depth [] = false
 is_too_deep Outside depth (c ∷ cs) =
@@ -28,7 +29,7 @@ is_too_deep Quoted depth (c ∷ cs) =
     else is_too_deep Quoted depth cs)
 is_too_deep Escaped depth (c ∷ cs) = is_too_deep Quoted depth cs
 
--- neither too long nor too deep
+-- a text is neither too long nor too deep
 pub record IsFit (text : List ℕ) : Type 0 where
   pub short : length text ≤ 4096
   pub shallow : is_too_deep Outside 0 (chars text) ≡ false
@@ -37,7 +38,8 @@ pub record IsFit (text : List ℕ) : Type 0 where
 abbrev pub IsNothing : List ℕ → QueryValue → Type 0
 IsNothing text query = IsBlank (chars text) × (query ≡ nothing)
 
--- what the bytes of a text read as under a schema: the checks in their order, then the grammar and what it means
+-- what a text reads as under a schema: a query or a refusal, by the checks in their order, the grammar and what it
+-- means
 abbrev pub Reads : List Field → List ℕ → Result QueryValue Refusal → Type 0
 Reads schema text (Ok query) = IsFit text × (IsNothing text query ⊎ IsQuery schema (chars text) (Ok query))
 Reads schema text (Err TooLong) = 4096 < length text
@@ -56,11 +58,24 @@ abbrev pub byte_of : Refusal → ℕ
 byte_of (Syntax byte) = byte
 byte_of refusal = 0
 
+-- what a refusal tells of a byte: a syntax error has one, any other has none, and of what had no memory nothing is known
+abbrev pub IsByteOf : Refusal → Option ℕ → Type 0
+IsByteOf Memory at = ⊥
+IsByteOf (Syntax byte) at = at ≡ Some byte
+IsByteOf refusal at = at ≡ None
+
 -- a refusal and an outcome, the byte of a syntax error aside
 abbrev pub refusal_without_byte : Refusal → Refusal
 refusal_without_byte (Syntax byte) = Syntax 0
 refusal_without_byte refusal = refusal
 
+-- an outcome without the byte of a syntax error
 abbrev pub without_byte : Result QueryValue Refusal → Result QueryValue Refusal
 without_byte (Ok query) = Ok query
 without_byte (Err refusal) = Err (refusal_without_byte refusal)
+
+-- A text that isn't in the grammar is a syntax error under each schema, and is told with a byte of it, or its end; any
+-- other is told with none.
+abbrev pub TellsSyntax : List ℕ → Option ℕ → Type 0
+TellsSyntax text None = (schema : List Field) (byte : ℕ) → Reads schema text (Err (Syntax byte)) → ⊥
+TellsSyntax text (Some byte) = (byte ≤ length text) × ((schema : List Field) → Reads schema text (Err (Syntax byte)))

@@ -1,4 +1,4 @@
--- Reading from left to right: what stands at the front of a text, and what follows it.
+-- Reading from left to right: what is at the front of a text, and what follows it.
 --
 -- The code finds exactly what is said here, and the proofs tie it to the grammar. No public contract of this crate
 -- names it.
@@ -66,7 +66,7 @@ abbrev pub onto : {A : Type 0} → A → Option (List A × List ℕ) → Option 
 onto x None = None
 onto x (Some y) = Some (x ∷ y.0, y.1)
 
--- what is found behind a separator, or nothing more where there is none
+-- what is found after a separator, or nothing more if there is none
 abbrev pub follow : {A : Type 0} → Option (List ℕ) → List ℕ → Parser (List A) → Option (List A × List ℕ)
 follow None rest next = Some ([], rest)
 follow (Some t) rest next = next t
@@ -77,7 +77,7 @@ seq_by {A} zero sep item s = None
 seq_by {A} (suc n) sep item s =
     option_and_then (λ (x : Read A). onto x.0 (follow (sep x.1) x.1 (λ t. seq_by n sep item t))) (item s)
 
--- `NOT` and white space, behind `NOT`
+-- `NOT` and white space, after `NOT`
 abbrev pub negation_of : Parser Modifier
 negation_of t = if begins_space t then Some (Minus, skip_while is_space t) else None
 
@@ -114,12 +114,12 @@ over h (Some x) = Some (h x.0, x.1)
 unfoldable pub meaning_of : Parser Meaning → Parser Meaning
 meaning_of unit s = over list_meaning (list_of unit s)
 
--- behind a list in parentheses
+-- after a list in parentheses
 abbrev pub close : Meaning → Parser Meaning
 close m [] = None
 close m (c ∷ s) = if c == close_parenthesis then Some (m, s) else None
 
--- behind an opening parenthesis
+-- after an opening parenthesis
 unfoldable pub group_of : Parser Meaning → Parser Meaning
 group_of unit s =
     option_and_then (λ (x : Read Meaning). close x.0 (skip_while is_space x.1))
@@ -129,7 +129,7 @@ abbrev pub char_onto : ℕ → Option (List ℕ × List ℕ) → Option (List �
 char_onto c None = None
 char_onto c (Some x) = Some (c ∷ x.0, x.1)
 
--- behind an opening quote, or behind an escape: the text of the pieces up to the closing quote
+-- after an opening quote, or after an escape: the text of the pieces up to the closing quote
 unfoldable pub unquoted : Bool → List ℕ → Option (List ℕ × List ℕ)
 unquoted escaped [] = None
 unquoted false (c ∷ s) =
@@ -157,7 +157,7 @@ bound_of (c ∷ s) =
     if c == star then Some (None, s)
     else option_and_then (λ (x : Read (List ℕ)). Some (Some x.0, x.1)) (word_of (c ∷ s))
 
--- behind the upper bound of a range
+-- after the upper bound of a range
 unfoldable pub range_end : Bound (List ℕ) → Option (List ℕ) → Parser Value
 range_end low high [] = None
 range_end low high (c ∷ s) =
@@ -173,7 +173,7 @@ range_of i s =
     (operator_at (codes "TO") x.1))
     (bound_of (skip_while is_space s))
 
--- behind a mark: the word behind it, and whether `=` stands between
+-- after a mark: the word after it, and whether `=` stands between
 unfoldable pub compared_of : Parser (Bool × List ℕ)
 compared_of [] = None
 compared_of (c ∷ s) =
@@ -196,7 +196,7 @@ quoted_value_of s = option_and_then (λ (x : Read (List ℕ)). Some (literal x.0
 unfoldable pub plain_of : Parser Value
 plain_of s = option_and_then (λ (x : Read (List ℕ)). Some (literal x.0, x.1)) (word_of s)
 
--- behind a field and a colon
+-- after a field and a colon
 unfoldable pub value_of : Parser Value
 value_of [] = None
 value_of (c ∷ s) =
@@ -207,7 +207,7 @@ value_of (c ∷ s) =
     else (if c == less_than then below_of s
     else plain_of (c ∷ s)))))
 
--- behind a bare word
+-- after a bare word
 unfoldable pub after_bare : List Field → List ℕ → Parser Meaning
 after_bare schema w [] = Some (literal_anywhere schema w, [])
 after_bare schema w (c ∷ s) =
@@ -225,7 +225,7 @@ bare_of schema (c ∷ s) =
     then after_bare schema (word (c ∷ s)) (skip_while is_word_char (c ∷ s))
     else None
 
--- behind an opening quote
+-- after an opening quote
 unfoldable pub quoted_literal_of : List Field → Parser Meaning
 quoted_literal_of schema s =
     option_and_then (λ (x : Read (List ℕ)). Some (literal_anywhere schema x.0, x.1)) (quoted_of s)

@@ -1,4 +1,4 @@
--- What stands after a field, without where it lies in memory.
+-- What comes after a field, without where it is in memory.
 --
 -- Only proofs and contracts within the crate need this file.
 use Rattle.std.specs.Prelude.{ℕ, ◌≤◌, List, length}

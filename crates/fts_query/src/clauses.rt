@@ -9,7 +9,7 @@ use std::alloc::{AllocError, Global};
 /// A query, or the first error in it.
 pub(crate) type Meaning = Result<Query, QueryError>;
 
-/// What stands before a unit.
+/// What comes before a unit.
 #[derive(Clone, Copy, Debug, PartialEq, Eq)]
 pub enum Modifier {
     /// Nothing.
@@ -76,7 +76,7 @@ impl Clauses {
         }
     }
 
-    /// Adds a clause. Behind an error nothing is kept.
+    /// Adds a clause. After an error nothing is kept.
     pub(crate) fn push(&mut self, occur: Occur, meaning: Meaning) -> Result<(), AllocError>
         ensures { OnOk result (gathered_of self.new
             ≡ gather (gathered_of self.old) (occur, result_map query_value meaning)) }
@@ -99,7 +99,7 @@ impl Clauses {
         Ok(())
     }
 
-    /// The node of the clauses, of which there is one or more: `AllNegative` where all are must-nots.
+    /// The node of the clauses, of which there is one or more: `AllNegative` if all are must-nots.
     pub(crate) fn into_node(self) -> Meaning
         ensures { result_map query_value result ≡ gathered_node (gathered_of self) }
     {

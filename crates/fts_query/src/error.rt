@@ -6,7 +6,7 @@ use std::alloc::{AllocError, AllocFailed};
 pub enum ParseError {
     /// A growth was refused.
     Memory,
-    /// The text isn't in the grammar, where so many bytes are left.
+    /// The text isn't in the grammar, where this many bytes are left.
     Syntax(usize),
 }
 

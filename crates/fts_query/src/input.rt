@@ -1,4 +1,4 @@
-// What is left of a text, and what stands at its front: white space, words and operators.
+// What is left of a text, and what is at its front: white space, words and operators.
 ghost use Rattle.std.specs.Prelude.{◌≡◌, ◌≤◌, ◌∷◌, ◌++◌, [], length, MatchOption, IfOk, string_bytes, false};
 ghost use Rattle.std.specs.Char.{encode_utf8};
 ghost use Rattle.std.specs.Str.{chars};
@@ -219,7 +219,7 @@ impl<'a> Input<'a> {
         Ok((unquoted, Input { rest }))
     }
 
-    /// Whether white space stands at the front.
+    /// Whether white space is at the front.
     pub(crate) fn begins_space(&self) -> bool
         ensures { result ≡ begins_space self.now }
     {
@@ -239,7 +239,7 @@ impl<'a> Input<'a> {
         }
     }
 
-    /// What follows the white space at the front, where a list goes on after it.
+    /// What follows the white space at the front, if a list goes on after it.
     #[tactic(auto, unfolding(crate::specs::Reading::space_at))]
     pub(crate) fn after_gap(&self) -> Option<Input<'a>>
         ensures { option_map (λ x. x) result ≡ space_at self.now }

@@ -26,14 +26,16 @@
 #![tactic(auto)]
 
 mod clauses;
+mod depth;
 mod error;
 mod input;
 pub mod laws;
 mod meaning;
-mod nesting;
 mod number;
 mod parser;
 mod reader;
+mod syntax;
 mod value;
 
 pub use parser::parse;
+pub use syntax::syntax_at;

@@ -28,7 +28,7 @@ fn token(alloc: Global, text: &str, place: Token) -> Result<Text, AllocError>
     Ok(Text::new(token))
 }
 
-/// The tokens of a text, each with how far it stands after a position.
+/// The tokens of a text, each with how far it comes after a position.
 fn pattern(alloc: Global, text: &str, from: usize) -> Result<Vec<(u32, Text)>, AllocError>
     requires { length text.now ≤ 4096 }
     ensures { IfOk result (λ p. p.items ≡ map (λ t. (t.0 - from, t.1)) (tokens text.now)) }
@@ -192,7 +192,7 @@ fn range_in(
     Ok(within(field, lower, upper))
 }
 
-/// What stands after a field, in the field of this number and kind.
+/// What comes after a field, in the field of this number and kind.
 fn meaning_in(
     alloc: Global,
     field: usize,
@@ -209,7 +209,7 @@ fn meaning_in(
     }
 }
 
-/// What a field, by its name, and what stands after it mean.
+/// What a field, by its name, and what comes after it mean.
 #[tactic(auto, unfolding(crate::specs::Meanings::field_meaning))]
 pub(crate) fn field_meaning(
     alloc: Global,

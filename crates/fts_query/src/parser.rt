@@ -9,9 +9,9 @@ ghost use Rattle.fts_query.specs.Grammar.{is_space, IsBlank};
 ghost use Rattle.fts_query.specs.Outcomes.{IsFit, Reads, byte_of};
 ghost use Rattle.fts_query.specs.Answers.{refusal_of, answer_fit, IsAnswer};
 
+use crate::depth::is_too_deep;
 use crate::error::{ParseError, QueryError};
 use crate::input::{Input, LONGEST};
-use crate::nesting::is_too_deep;
 use crate::reader::query_at;
 use fts_model::{Query, Refusal, Schema};
 use std::alloc::Global;
@@ -63,7 +63,7 @@ fn outcome_of(alloc: Global, schema: &Schema, text: &str) -> Result<Query, Refus
 /// `NoDefaultField` (a literal without a field, where no field is a default) or `AllNegative` (must-nots alone). A
 /// text of white space alone is the query for no document.
 ///
-/// `Memory` is answered only where a growth was refused; a text that is too long, too deep or white space alone needs
+/// `Memory` is answered only if a growth was refused; a text that is too long, too deep or white space alone needs
 /// none, and has its outcome whatever memory there is.
 pub fn parse(alloc: Global, schema: &Schema, text: &str) -> Result<Query, Refusal>
     ensures reads { IfOk result (λ query. Reads schema.now text.now (Ok (query_value query))) }

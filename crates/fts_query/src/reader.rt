@@ -1,4 +1,4 @@
-// Reading a query from left to right: units, factors, and the sequences that they stand in.
+// Reading a query from left to right: units, factors, and the sequences that they are in.
 ghost use Rattle.std.specs.Prelude.{◌≡◌, ◌≤◌, ◌∷◌, [], ℕ, length, IfOk, OnOk, option_map};
 ghost use Rattle.fts_base.specs.Results.{result_map};
 ghost use Rattle.fts_model.specs.QueryValues.{query_value};
@@ -29,7 +29,7 @@ pub enum Level {
     List,
 }
 
-/// A unit, and what stands before it.
+/// A unit, and what comes before it.
 #[derive(Drop)]
 pub(crate) struct Factor {
     modifier: Modifier,
@@ -88,7 +88,7 @@ fn after_separator<'a>(level: Level, text: &Input<'a>) -> Option<Input<'a>>
     }
 }
 
-/// A bare word that ends, or a field and what stands after it.
+/// A bare word that ends, or a field and what comes after it.
 #[tactic(auto, unfolding(crate::specs::Reading::after_bare))]
 fn after_bare_at<'a>(
     alloc: Global,
@@ -190,7 +190,7 @@ fn modifier_at<'a>(text: Input<'a>) -> Result<(Modifier, Input<'a>), ParseError>
     }
 }
 
-/// A unit of at most so many nestings.
+/// A unit of at most this many nestings.
 #[cycle(reading)]
 fn unit_at<'a>(
     alloc: Global,
@@ -272,7 +272,7 @@ fn item_at<'a>(
     }
 }
 
-/// The node of an item, which stands before the text, and of those that follow it at its level.
+/// The node of an item, which comes before the text, and of those that follow it at its level.
 #[cycle(reading)]
 fn node_at<'a>(
     alloc: Global,

@@ -1,4 +1,4 @@
-// What stands after a field and a colon.
+// What comes after a field and a colon.
 ghost use Rattle.std.specs.Prelude.{◌≡◌, ◌≤◌, length, option_map, IfOk, true, false, codes};
 ghost use Rattle.fts_query.specs.Steps.{Finds};
 ghost use Rattle.fts_query.specs.Values.{value_seen, bound_seen, IsShort};
@@ -11,7 +11,7 @@ use crate::input::{Input, is_word_char};
 use std::alloc::Global;
 use std::ops::Bound;
 
-/// What stands after a field and a colon: a literal, or the bounds of a range.
+/// What comes after a field and a colon: a literal, or the bounds of a range.
 #[derive(Drop)]
 pub(crate) enum Value<'a> {
     Word(&'a str),
@@ -115,7 +115,7 @@ fn range_at<'a>(included: bool, text: Input<'a>) -> Result<(Value<'a>, Input<'a>
     }
 }
 
-/// The word after `>` or `<`, and whether `=` stands before it.
+/// The word after `>` or `<`, and whether `=` comes before it.
 #[tactic(auto, unfolding(crate::specs::Reading::compared_of))]
 fn compared_at<'a>(text: Input<'a>) -> Result<((bool, &'a str), Input<'a>), ParseError>
     ensures { Finds (λ x. ((x.0.0, x.0.1.now), x.1)) result (compared_of text.entry) }
@@ -176,7 +176,7 @@ fn plain_at<'a>(text: Input<'a>) -> Result<(Value<'a>, Input<'a>), ParseError>
     Ok((Value::Word(word), rest))
 }
 
-/// What stands after a field and a colon, and what follows it.
+/// What comes after a field and a colon, and what follows it.
 #[tactic(auto, unfolding(crate::specs::Reading::value_of))]
 pub(crate) fn value_at<'a>(
     alloc: Global,

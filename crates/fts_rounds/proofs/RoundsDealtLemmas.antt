@@ -4,9 +4,9 @@ use Rattle.std.proofs.lemmas.List.FromFn.{get_or-map-range_with_len, length-map-
 use native.Mathlib.Decide.{ℕ_discrete}
 use mathlib.Core.Logic.{dite}
 use Rattle.std.specs.List.{range_with_len}
-use Rattle.fts_pool.specs.Totals.{times}
+use Rattle.fts_base.specs.Totals.{times}
 use Rattle.fts_rounds.specs.Rounds.{Held, IsLaneOf, Opened, SameLane, fresh, lanes_of}
-use Rattle.fts_pool.proofs.TotalsLemmas.{times_here, times_else}
+use Rattle.fts_base.proofs.TotalsLemmas.{times_here, times_else}
 use Rattle.fts_rounds.proofs.RoundsOrderLemmas.{times_low}
 
 run_once : (k a n : ℕ) → times k (range_with_len a n) ≤ 1

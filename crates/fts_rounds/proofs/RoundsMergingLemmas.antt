@@ -8,7 +8,7 @@ use Rattle.fts_model.specs.declared.operation.Stamped.{Stamped}
 use Rattle.fts_rounds.specs.declared.stamps.RoundLimits.{RoundLimits}
 use Rattle.fts_rounds.specs.declared.stamps.Drawn.{Drawn}
 use Rattle.fts_rounds.specs.RoundsDrawn.{AreAll, drawn, joined}
-use Rattle.fts_snapshots.specs.Stamps.{stamps_of}
+use Rattle.fts_model.specs.Operations.{stamps_of}
 use Rattle.fts_rounds.specs.Rounds.{Held, Rises}
 use Rattle.fts_rounds.specs.Shuffles.{submissions}
 

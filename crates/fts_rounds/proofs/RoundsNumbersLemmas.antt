@@ -1,10 +1,10 @@
--- Lists of numbers, how often each stands there, and lists of numbers that rise.
+-- Lists of numbers, how often each is there, and lists of numbers that rise.
 use Rattle.std.proofs.Common.{◌≡◌, ℕ, ◌<◌, ◌≤◌, List, [], ◌∷◌, ◌++◌, length, All, refl, arith}
 use Rattle.std.proofs.lemmas.List.Elements.{All-nil, All-cons}
 use Rattle.fts_model.specs.declared.operation.Op.{Op}
 use Rattle.fts_model.specs.declared.operation.Stamped.{Stamped}
-use Rattle.fts_pool.specs.Totals.{times}
-use Rattle.fts_snapshots.specs.Stamps.{stamps_of}
+use Rattle.fts_base.specs.Totals.{times}
+use Rattle.fts_model.specs.Operations.{stamps_of}
 use Rattle.fts_rounds.specs.Rounds.{AllAbove, AllBelow, Rises}
 
 pub AllBelow-more : (n m : ℕ) (xs : List ℕ) → n ≤ m → AllBelow n xs → AllBelow m xs

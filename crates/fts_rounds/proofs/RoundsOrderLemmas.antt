@@ -1,10 +1,10 @@
--- Lists of numbers in order, which are told by how often each number stands there.
+-- Lists of numbers in order, which are told by how often each number is there.
 use Rattle.std.proofs.Common.{◌≡◌, ℕ, zero, suc, ◌+◌, ◌<◌, ◌≤◌, ◌≢◌, Bool, if◌then◌else◌, nat_lt, ◌==◌, List, [], ◌∷◌, length, sum_by, IsPermutation, sym, refl, ap, ◌∙◌, arith, eq-eqb, ne_eqb}
 use Rattle.std.proofs.lemmas.Bool.Decides.{nat_tests}
 use Rattle.std.proofs.lemmas.List.Sums.{sum_by-cons}
 use Rattle.std.proofs.lemmas.List.Sorted.{sum_by-IsPermutation}
 use Rattle.std.specs.List.{range_with_len}
-use Rattle.fts_pool.specs.Totals.{times}
+use Rattle.fts_base.specs.Totals.{times}
 use Rattle.fts_rounds.specs.Rounds.{AllAbove, AllBelow, Rises}
 
 -- each number is at least n

@@ -8,10 +8,10 @@ use Rattle.atomic_table.proofs.Lists.{at_set, at_snoc, set_again, set_else}
 use Rattle.fts_rounds.specs.declared.stamps.RoundLimits.{RoundLimits}
 use Rattle.fts_rounds.specs.declared.stamps.Drawn.{Drawn}
 use Rattle.std.specs.List.{range_with_len}
-use Rattle.fts_pool.specs.Totals.{times}
+use Rattle.fts_base.specs.Totals.{times}
 use Rattle.fts_rounds.specs.RoundsDrawn.{drawn, begun, one_less, one_lane, joined, spent, lane_count, stamp_count, Fits, Kept, Draws, Looks}
 use Rattle.fts_rounds.proofs.RoundsNumbersLemmas.{AllBelow-more, AllBelow-append, Rises-push, Rises-after_none, times-none}
-use Rattle.fts_pool.proofs.TotalsLemmas.{times-append, total-set, total-push, total-alone}
+use Rattle.fts_base.proofs.TotalsLemmas.{times-append, total-set, total-push, total-alone}
 use Rattle.fts_rounds.proofs.RoundsTotalsLemmas.{count_le}
 use Rattle.fts_model.proofs.Lists.{range_with_len-push}
 

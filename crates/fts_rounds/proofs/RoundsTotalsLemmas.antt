@@ -1,7 +1,7 @@
 -- How many stamps the views of all seats have at most.
 use Rattle.std.proofs.Common.{ℕ, suc, ◌*◌, ◌≤◌, List, [], ◌∷◌, refl, arith}
 use Rattle.std.proofs.Math.Nat.{add-mul}
-use Rattle.fts_pool.proofs.TotalsLemmas.{Each}
+use Rattle.fts_base.proofs.TotalsLemmas.{Each}
 use Rattle.fts_rounds.specs.declared.stamps.RoundLimits.{RoundLimits}
 use Rattle.fts_rounds.specs.declared.stamps.Drawn.{Drawn}
 use Rattle.fts_rounds.specs.RoundsDrawn.{lane_count, stamp_count, Fits}

@@ -9,8 +9,8 @@ use Rattle.fts_model.specs.declared.operation.Op.{Op}
 use Rattle.fts_model.specs.declared.operation.Stamped.{Stamped}
 use Rattle.std.specs.List.{range_with_len}
 use Rattle.std.proofs.Math.Bool.{or-true}
-use Rattle.fts_pool.specs.Totals.{times}
-use Rattle.fts_snapshots.specs.Stamps.{stamps_of}
+use Rattle.fts_base.specs.Totals.{times}
+use Rattle.fts_model.specs.Operations.{stamps_of}
 use Rattle.fts_rounds.specs.Rounds.{AllAbove, Held, Rises}
 use Rattle.fts_rounds.specs.Shuffles.{IsShuffle, has_stamp, submissions}
 use Rattle.fts_rounds.proofs.RoundsOrderLemmas.{AllFrom, Climbs, run_from_times, run-rises, times-permutation}

@@ -23,18 +23,19 @@ pub record Gathered : Type 0 where
   pub first : ℕ
   pub ops : List (Stamped Op)
 
--- a lane of the round, before anything was submitted to it
+-- a lane of a round, before anything was submitted to it
 abbrev pub fresh : Opened → ℕ → Held
 fresh r lane = record { table = r.table; limits = r.limits; lane = lane; ops = [] }
 
--- the lane is the same, whatever was submitted to it
+-- a lane or its end is the same one, whatever was submitted to it
 abbrev pub SameLane : Held → Held → Type 0
 SameLane old new = (new.table ≡ old.table) × (new.limits ≡ old.limits) × (new.lane ≡ old.lane)
 
--- it is one of the round's lanes
+-- a lane, or its end, is of a round
 abbrev pub IsLaneOf : Opened → Held → Type 0
 IsLaneOf r h = (h.table ≡ r.table) × (h.limits ≡ r.limits) × (h.lane < r.limits.lanes)
 
+-- the lanes of ends
 abbrev pub lanes_of : List Held → List ℕ
 lanes_of ends = map (λ h. h.lane) ends
 
@@ -48,7 +49,7 @@ abbrev pub AllAbove : ℕ → List ℕ → Type 0
 AllAbove n [] = Unit {0}
 AllAbove n (x ∷ xs) = (n < x) × AllAbove n xs
 
--- each number is below all behind it
+-- each number is below all after it
 abbrev pub Rises : List ℕ → Type 0
 Rises [] = Unit {0}
 Rises (x ∷ xs) = AllAbove x xs × Rises xs

@@ -6,7 +6,7 @@ use lib.ListN.{get_elem?}
 use Rattle.atomic_table.specs.Table.{State, Me, Step}
 use Rattle.fts_rounds.specs.declared.stamps.RoundLimits.{RoundLimits}
 use Rattle.fts_rounds.specs.declared.stamps.Drawn.{Drawn}
-use Rattle.fts_pool.specs.Totals.{times, total}
+use Rattle.fts_base.specs.Totals.{times, total}
 use Rattle.fts_rounds.specs.Rounds.{AllBelow, Rises}
 
 abbrev pub drawn : RoundLimits → ℕ → List ℕ → Drawn
@@ -36,7 +36,7 @@ lane_count views = total (λ v. v.lanes) views
 abbrev pub stamp_count : List Drawn → ℕ
 stamp_count views = total (λ v. length v.stamps) views
 
--- a view has at most cap stamps a lane, all below the next one, and they rise while it stands for one lane
+-- a view has at most cap stamps per lane, all below the next one, and they rise while it stands for one lane
 pub record Fits (t : RoundLimits) (next : ℕ) (v : Drawn) : Type 0 where
   pub limits : 0 < v.lanes → v.limits ≡ t
   pub most : length v.stamps ≤ v.lanes * t.cap

@@ -3,11 +3,11 @@ use Rattle.std.specs.Prelude.{◌≡◌, ℕ, ◌<◌, Bool, List, ◌==◌, fil
 use Rattle.std.specs.List.{list_any, flat_map, range_with_len}
 use Rattle.fts_model.specs.declared.operation.Op.{Op}
 use Rattle.fts_model.specs.declared.operation.Stamped.{Stamped}
-use Rattle.fts_pool.specs.Totals.{times}
-use Rattle.fts_snapshots.specs.Stamps.{stamps_of}
+use Rattle.fts_base.specs.Totals.{times}
+use Rattle.fts_model.specs.Operations.{stamps_of}
 use Rattle.fts_rounds.specs.Rounds.{Held}
 
--- the least lane that isn't among these
+-- the least lane whose end isn't there
 abbrev pub IsLeastMissing : ℕ → List ℕ → ℕ → Type 0
 IsLeastMissing lanes ends n = (n < lanes) × (times n ends ≡ 0) × ((k : ℕ) → k < n → 0 < times k ends)
 
@@ -19,7 +19,7 @@ submissions lanes = flat_map (λ h. h.ops) lanes
 abbrev pub has_stamp : List (Stamped Op) → Stamped Op → Bool
 has_stamp ops s = list_any (λ x. x.stamp == s.stamp) ops
 
--- The batch's stamps are first, first + 1, .. each once. Its members are what was submitted, each once. And what was
+-- a batch has the stamps first, first + 1, .. each once; its members are what was submitted, each once; what was
 -- submitted to a lane are the members with the lane's stamps, in order
 pub record IsShuffle (first : ℕ) (batch : List (Stamped Op)) (lanes : List Held) : Type 0 where
   pub numbered : stamps_of batch ≡ range_with_len first (length batch)

@@ -1,7 +1,7 @@
 // What a round gathered.
 ghost use Rattle.std.specs.Prelude.{◌≡◌, ◌+◌, ◌^◌, ◌<◌, length};
 ghost use Rattle.std.specs.List.{range_with_len};
-ghost use Rattle.fts_snapshots.specs.Stamps.{stamps_of};
+ghost use Rattle.fts_model.specs.Operations.{stamps_of};
 
 use fts_base::release;
 use fts_model::{Op, Stamp, Stamped};
@@ -19,7 +19,7 @@ pub struct Batch {
 impl Model for Batch {
     ghost use Rattle.std.specs.Prelude.{◌≡◌, ◌+◌, ◌^◌, ◌<◌, length};
     ghost use Rattle.std.specs.List.{range_with_len};
-    ghost use Rattle.fts_snapshots.specs.Stamps.{stamps_of};
+    ghost use Rattle.fts_model.specs.Operations.{stamps_of};
     ghost use Rattle.fts_rounds.specs.Rounds.{Gathered};
 
     ghost Value = { Gathered };

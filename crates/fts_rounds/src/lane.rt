@@ -25,7 +25,7 @@ pub struct Lane {
 impl Model for Lane {
     ghost use Rattle.std.specs.Prelude.{◌≡◌, ◌≤◌, [], length};
     ghost use Rattle.std.specs.Arc.{arc_value};
-    ghost use Rattle.fts_snapshots.specs.Stamps.{stamps_of};
+    ghost use Rattle.fts_model.specs.Operations.{stamps_of};
     ghost use Rattle.fts_rounds.specs.Rounds.{Held, Rises};
     ghost use Rattle.fts_rounds.specs.RoundsDrawn.{drawn};
 

@@ -3,7 +3,7 @@ ghost use Rattle.std.specs.Prelude.{◌≡◌, ℕ, ◌+◌, ◌*◌, ◌^◌, �
 ghost use Rattle.std.specs.Prelude.{vec_len, All, IsTrue, IfOk, IfErr, IsErrAnd, IsOkUnless, MatchOption, MatchResult};
 ghost use Rattle.std.specs.List.{range_with_len};
 ghost use Rattle.std.specs.Vec.{vec_capacity};
-ghost use Rattle.fts_pool.specs.Totals.{times};
+ghost use Rattle.fts_base.specs.Totals.{times};
 ghost use Rattle.fts_rounds.specs.Rounds.{IsLaneOf, fresh, lanes_of};
 ghost use Rattle.fts_rounds.specs.Shuffles.{IsLeastMissing, IsShuffle, submissions};
 
@@ -43,7 +43,7 @@ impl Model for Round {
         × (r.limits.lanes * r.limits.cap < 2 ^ 62) };
 }
 
-/// Opens the round of this number, whose first stamp is `first`, with so many lanes, each of which
+/// Opens the round of this number, whose first stamp is `first`, with this many lanes, each of which
 /// takes up to `cap` operations.
 pub fn open_round(
     alloc: Global,
@@ -224,7 +224,7 @@ impl Round {
         }
     }
 
-    /// Merges the ends of all lanes, by a sort in place: the one growth lies behind, so that
+    /// Merges the ends of all lanes, by a sort in place: the one growth comes after, so that
     /// nothing can be refused after the first end was taken apart.
     fn merge(self, mut ends: Vec<LaneEnd>, mut ops: Vec<Stamped<Op>>) -> Batch
         requires lanes { All (IsLaneOf self) ends.items }

@@ -17,7 +17,7 @@ pub struct RoundLimits {
     pub cap: usize,
 }
 
-/// What a seat knows: the round's limits, for how many lanes it stands, and the stamps that these
+/// What a seat knows: the round's limits, for how many lanes it is, and the stamps that these
 /// drew. No value of it is ever made.
 pub struct Drawn {
     pub limits: RoundLimits,

@@ -1,4 +1,4 @@
--- Numbers stand in one order.
+-- Numbers are in one order.
 use Rattle.std.proofs.Common.{◌≡◌, refl}
 use Rattle.std.specs.Cmp.{IsTotalOrder}
 use Rattle.std.specs.Ordering.{ordering_reverse}

@@ -1,4 +1,4 @@
--- The members of an object that is read stand in the order of their names.
+-- The members of an object that is read are in the order of their names.
 use Rattle.std.proofs.Common.{◌≡◌, ℕ, List, [], ◌∷◌, Option, Some, None, refl, ap, subst, ◌∙◌, option_map, All, Ordering, Less, Equal, Greater, nat_cmp}
 use Rattle.std.specs.Option.{option_and_then}
 use Rattle.std.specs.Ordering.{match_ordering, ordering_reverse}

@@ -1,4 +1,4 @@
--- Values in order: how often one stands in a row is its count.
+-- Values in order: how often one is in a row is its count.
 use Rattle.std.proofs.Common.{◌≡◌, ℕ, ◌+◌, ◌<◌, Bool, true, false, cond, List, [], ◌∷◌, map, fold, refl, sym, ap, subst, ◌∙◌, arith, All, AllPairs, get_or}
 use Rattle.std.specs.List.Sorted.{IsPermutation, IsSorted}
 use Rattle.std.specs.Ordering.{match_ordering, is_eq, is_lt, nat_cmp}

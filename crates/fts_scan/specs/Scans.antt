@@ -25,7 +25,7 @@ is_one_group v w = is_eq (group_cmp v w)
 abbrev pub counts_of_sorted : {V : Type 0} → (V → V → Bool) → List V → List (V × ℕ)
 counts_of_sorted same values = map (λ run. (run.1, run.0)) (dedup_with_count same values)
 
--- how many hits of a list stand before the first that a hit comes before
+-- how many hits of a list come before the first that a hit comes before
 abbrev pub hit_place : Order → List Hit → Hit → ℕ
 hit_place order [] hit = 0
 hit_place order (other ∷ others) hit = if comes_before order hit other then 0 else suc (hit_place order others hit)
@@ -35,11 +35,11 @@ abbrev pub strings : Strings → List (List ℕ)
 strings (One text) = text.now ∷ []
 strings (Many texts) = texts.now
 
--- a number counts the spans of these texts, where the first has the number `first`
+-- a number counts the spans of these texts, the first of which has the number `first`
 abbrev pub HasRoom : ℕ → List (List ℕ) → Type 0
 HasRoom first texts = first + bytes_of texts + length texts + 2 < 2 ^ 63
 
--- something was found among the tokens of a text, or it wasn't, and the text behind it begins at this number
+-- something was found among the tokens of a text, or it wasn't, and the text after it begins at this number
 abbrev pub IsSought : Bool → ℕ → Option ℕ → Type 0
 IsSought found next None = found ≡ true
 IsSought found next (Some n) = (found ≡ false) × (n ≡ next)

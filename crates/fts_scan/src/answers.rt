@@ -76,7 +76,7 @@ fn number_in_field(document: &Document, field: usize) -> Option<Number>
     }
 }
 
-/// Puts the value that a hit has in a field behind others, if it has one.
+/// Puts the value that a hit has in a field after others, if it has one.
 fn push_value(
     values: &mut Vec<GroupValue>,
     field: usize,
@@ -112,7 +112,7 @@ fn values_in(
     Ok(values)
 }
 
-/// The counts of values that stand in order: equal values are counted together.
+/// The counts of values that are in order: equal values are counted together.
 fn counts_of_sorted(
     alloc: Global,
     values: Vec<GroupValue>,
@@ -139,7 +139,7 @@ fn groups(
     counts_of_sorted(alloc, values)
 }
 
-/// Whether one hit stands before another in a top list.
+/// Whether one hit comes before another in a top list.
 fn comes_before(order: Order, a: &Hit, b: &Hit) -> bool
     ensures { result ≡ comes_before order a.now b.now }
 {
@@ -150,7 +150,7 @@ fn comes_before(order: Order, a: &Hit, b: &Hit) -> bool
     }
 }
 
-/// How many hits of a list stand before the first that a hit comes before.
+/// How many hits of a list come before the first that a hit comes before.
 fn hit_place(order: Order, hits: &[Hit], hit: &Hit) -> usize
     ensures { result ≡ hit_place order hits.now hit.now }
 {
@@ -162,7 +162,7 @@ fn hit_place(order: Order, hits: &[Hit], hit: &Hit) -> usize
     hits.len()
 }
 
-/// Puts a hit into a list of at most so many, and drops what is then too many.
+/// Puts a hit into a list of at most this many, and drops what is then too many.
 fn put_hit(order: Order, k: u64, hits: &mut Vec<Hit>, hit: Hit) -> Result<(), AllocError>
     ensures { OnOk result (hits.new.items ≡ take k (put_hit order hits.old.items hit)) }
 {

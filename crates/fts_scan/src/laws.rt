@@ -14,21 +14,21 @@ ghost use Rattle.fts_model.specs.declared.answer.Hit.{Hit};
 ghost use Rattle.fts_model.specs.declared.query.Order.{Order};
 ghost use Rattle.fts_model.specs.declared.value.GroupValue.{GroupValue};
 
-/// The members of an object that a text is read as stand in the order of their names, so the first
+/// The members of an object that a text is read as are in the order of their names, so the first
 /// fault of a document is the first in that order.
 pub fn members_stand_in_the_order_of_their_names()
     ensures { (text : List ℕ) (members : Members) → read text ≡ Some (object members) →
         NamesRise members }
 {}
 
-/// The documents that are alive after some operations stand for these: with more operations behind,
+/// The documents that are alive after some operations stand for these: with more operations after,
 /// that is alive which would be if the documents alone had been added.
 pub fn alive_stands_for_history()
     ensures { (schema : List Field) (before after : List (Stamped Op)) →
         alive schema (before ++ after) ≡ alive schema (adds (alive schema before) ++ after) }
 {}
 
-/// No stamp stands twice among the documents alive, where none does among the operations.
+/// No stamp occurs twice among the documents alive, if none does among the operations.
 pub fn alive_has_each_stamp_once()
     ensures { (schema : List Field) (ops : List (Stamped Op)) → HasEachStampOnce ops →
         HasEachStampOnce (alive schema ops) }
@@ -47,7 +47,7 @@ pub fn alive_is_what_survives()
         alive schema ops ≡ filter (survives schema ops) (added ops) }
 {}
 
-/// Where the stamps rise, a document is alive exactly where an operation adds it and none of a
+/// Where the stamps rise, a document is alive exactly if an operation adds it and none of a
 /// later stamp strikes it.
 pub fn each_document_alive_was_added_and_not_struck()
     ensures { (schema : List Field) (ops : List (Stamped Op)) (document : Stamped DocumentValue) →
@@ -76,14 +76,14 @@ pub fn there_is_one_list_of_groups()
         IsGroups field hits a → IsGroups field hits b → a ≡ b }
 {}
 
-/// The first hits that have a number in a field are the top list, where no stamp stands twice among
+/// The first hits that have a number in a field are the top list, where no stamp occurs twice among
 /// the hits.
 pub fn top_is_a_top_list()
     ensures { (k : ℕ) (order : Order) (field : ℕ) (hits : List (Stamped DocumentValue)) →
         HasEachStampOnce hits → IsTop k order field hits (top k order field hits) }
 {}
 
-/// There is at most one top list, where no stamp stands twice among the hits.
+/// There is at most one top list, where no stamp occurs twice among the hits.
 pub fn there_is_one_top_list()
     ensures { (k : ℕ) (order : Order) (field : ℕ) (hits : List (Stamped DocumentValue))
         (a b : List Hit) → HasEachStampOnce hits →

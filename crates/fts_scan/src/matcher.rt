@@ -42,7 +42,7 @@ fn is_token_at(
 }
 
 /// Looks for a token of a text whose first span has this number, whose position with an offset makes this sum. Where it
-/// isn't there, the text behind begins at the number that comes back.
+/// isn't there, the text after begins at the number that comes back.
 fn seek_token_at(
     text: &str,
     first: usize,
@@ -66,7 +66,7 @@ fn seek_token_at(
     Ok(Some(tokens.following()))
 }
 
-/// Whether another member of a pattern is a token of these texts, as far behind the position of a member as their
+/// Whether another member of a pattern is a token of these texts, as far after the position of a member as their
 /// offsets are apart.
 fn stands_with(
     texts: Strings<'_>,
@@ -147,7 +147,7 @@ fn any_leads(
     Ok(false)
 }
 
-/// Whether a phrase stands in these texts.
+/// Whether a phrase is in these texts.
 fn has_phrase(
     texts: Strings<'_>,
     pattern: &[(u32, Text)],
@@ -208,7 +208,7 @@ fn text_lt(a: &str, b: &str) -> bool
     a < b
 }
 
-/// Whether one text is not behind another in the order of their bytes.
+/// Whether one text is not after another in the order of their bytes.
 fn text_le(a: &str, b: &str) -> bool
     ensures { result ≡ text_le a.now b.now }
 {

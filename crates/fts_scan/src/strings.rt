@@ -22,7 +22,7 @@ impl<'a> Strings<'a> {
         }
     }
 
-    /// The text of this number, and no bytes where there is none.
+    /// The text of this number, and no bytes if there is none.
     pub(crate) fn get(self, number: usize) -> &'a str
         ensures { result.now ≡ slice_index_or (strings self.entry) number [] }
     {

@@ -28,7 +28,7 @@ pub(crate) fn is_token(
     Ok(scratch.as_str() == token)
 }
 
-/// Looks for a token in a text whose first span has this number. Where it isn't there, the text behind begins at the
+/// Looks for a token in a text whose first span has this number. If it isn't there, the text after begins at the
 /// number that comes back.
 fn seek_token(
     text: &str,

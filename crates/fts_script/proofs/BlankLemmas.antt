@@ -6,15 +6,15 @@ use Rattle.std.proofs.lemmas.Bool.Decides.{nat_tests}
 use Rattle.std.proofs.lemmas.List.{length-append, length-drop, take_all}
 use Rattle.std.proofs.lemmas.List.Folds.{list_all-append}
 use Rattle.std.specs.List.{onto_first}
-use Rattle.fts_session.specs.Text.{is_white, is_blank, lines_of, HasNoEnd}
-use Rattle.fts_command.specs.Commands.{longest, command}
-use Rattle.fts_session.specs.Replies.{execute, execute_line, reply_on, carried_over}
+use Rattle.fts_script.specs.session.Text.{is_white, is_blank, lines_of, HasNoEnd}
+use Rattle.fts_script.specs.command.Commands.{longest, command}
+use Rattle.fts_script.specs.session.Replies.{execute, execute_line, reply_on, carried_over}
 use Rattle.fts_base.specs.Results.{result_and_then}
-use Rattle.fts_session.specs.Outputs.{SessionValue, after_line, reply_to}
-use Rattle.fts_steps.specs.Indexes.{Index, indexes}
+use Rattle.fts_script.specs.session.Outputs.{SessionValue, after_line, reply_to}
+use Rattle.fts_engine.specs.Indexes.{Index, indexes}
 use Rattle.fts_script.specs.Stops.{IsWritten}
-use Rattle.fts_session.proofs.LineLemmas.{not_lf}
-use Rattle.fts_session.proofs.WhiteLemmas.{json_in-blank}
+use Rattle.fts_script.proofs.LineLemmas.{not_lf}
+use Rattle.fts_script.proofs.WhiteLemmas.{json_in-blank}
 
 -- ---- white space before a line
 

@@ -5,11 +5,11 @@ use Rattle.std.proofs.lemmas.Bool.Decides.{nat_tests}
 use Rattle.std.proofs.lemmas.List.{length-append, length-drop, nil_from_length, take_all}
 use Rattle.std.proofs.lemmas.List.Folds.{list_all-append, length-prefix_len}
 use Rattle.std.proofs.lemmas.Bool.{and_parts}
-use Rattle.fts_session.specs.Text.{is_white, is_blank}
-use Rattle.fts_command.specs.Commands.{longest}
-use Rattle.fts_session.specs.Replies.{reply_on, carried_over}
-use Rattle.fts_session.specs.Outputs.{SessionValue, after_line, reply_to}
-use Rattle.fts_session.specs.KeptLines.{KeptLine, Short, TooLong, indented, kept_line, kept_in, grown, is_blank_kept, reply_to_kept, after_kept, too_long_in, bytes_in}
+use Rattle.fts_script.specs.session.Text.{is_white, is_blank}
+use Rattle.fts_script.specs.command.Commands.{longest}
+use Rattle.fts_script.specs.session.Replies.{reply_on, carried_over}
+use Rattle.fts_script.specs.session.Outputs.{SessionValue, after_line, reply_to}
+use Rattle.fts_script.specs.session.KeptLines.{KeptLine, Short, TooLong, indented, kept_line, kept_in, grown, is_blank_kept, reply_to_kept, after_kept, too_long_in, bytes_in}
 use Rattle.fts_script.proofs.BlankLemmas.{is_blank-front, reply_to-blank, after_line-blank}
 
 -- one more space, tab or CR

@@ -2,3 +2,10 @@ pub mod BlankLemmas
 pub mod KeptLemmas
 pub mod RunLemmas
 pub mod StreamLemmas
+pub mod AnswerLemmas
+pub mod CarrierLemmas
+pub mod HistoryLemmas
+pub mod LineLemmas
+pub mod ReplaceLemmas
+pub mod ResultLemmas
+pub mod WhiteLemmas

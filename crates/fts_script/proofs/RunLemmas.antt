@@ -2,17 +2,17 @@
 use Rattle.std.proofs.Common.{inl, ltb, lt-ltb, IfOk, Result, Ok, Err, OnErr, OnOk, ◌≡◌, ◌<◌, ◌≤◌, ◌-◌, Bool, true, false, cond, eqb, ◌&&◌, ℕ, ◌+◌, List, [], ◌∷◌, ◌++◌, length, take, drop, refl, ap, sym, ◌∙◌, append_assoc, append-nil, take-append-drop, subst, arith, rules, tests}
 use Rattle.std.proofs.lemmas.List.{length-drop, length-append, length-take-le, take_rest}
 use Rattle.std.proofs.Math.Seq.{take-add}
-use Rattle.fts_session.specs.KeptLines.{KeptLine, kept_line, grown, is_blank_kept, reply_to_kept, after_kept}
+use Rattle.fts_script.specs.session.KeptLines.{KeptLine, kept_line, grown, is_blank_kept, reply_to_kept, after_kept}
 use Rattle.fts_script.proofs.KeptLemmas.{grown-kept_line, is_blank_kept-indented, reply_to_kept-kept_line, after_kept-kept_line, kept_line-nothing}
 use Rattle.fts_script.specs.Streams.{StreamsValue, Wrote}
 use Rattle.fts_script.specs.Runs.{StopsInLastRead}
-use Rattle.fts_session.specs.Text.{lines_of, IsWhole, HasNoEnd}
-use Rattle.fts_session.specs.Outputs.{SessionValue, start, after_line, reply_to, replies, after_lines, output}
+use Rattle.fts_script.specs.session.Text.{lines_of, IsWhole, HasNoEnd}
+use Rattle.fts_script.specs.session.Outputs.{SessionValue, start, after_line, reply_to, replies, after_lines, output}
 use Rattle.fts_script.specs.Stops.{AnswersFirst, AnswersEnded, BeginsOutput, BeginsOutputUnless, BeginsWith, IsWritten, StopsFirst}
 use Rattle.fts_script.specs.Responders.{Answered, Finishes, Advances, AdvancesFirst, AdvancesToStop, RunState}
 use Rattle.fts_script.proofs.BlankLemmas.{IsWritten-front}
 use Rattle.fts_script.proofs.StreamLemmas.{append_more}
-use Rattle.fts_session.proofs.LineLemmas.{lines_of-append, lines_of-ended, lines_of-unended, HasNoEnd-append, HasNoEnd-late, HasNoEnd-shorter, IsWhole-ended}
+use Rattle.fts_script.proofs.LineLemmas.{lines_of-append, lines_of-ended, lines_of-unended, HasNoEnd-append, HasNoEnd-late, HasNoEnd-shorter, IsWhole-ended}
 
 replies-append : (s : SessionValue) (xs ys : List (List ℕ)) → replies s (xs ++ ys) ≡ replies s xs ++ replies (after_lines s xs) ys
 replies-append s [] ys = refl

@@ -1,9 +1,9 @@
 -- How far a script has come: the lines that were answered, and the line in hand.
 use Rattle.std.specs.Prelude.{ℕ, ◌≡◌, List, ◌++◌, length}
-use Rattle.fts_session.specs.Text.{lines_of, IsWhole, HasNoEnd}
-use Rattle.fts_session.specs.Outputs.{SessionValue, start, after_lines, output}
+use Rattle.fts_script.specs.session.Text.{lines_of, IsWhole, HasNoEnd}
+use Rattle.fts_script.specs.session.Outputs.{SessionValue, start, after_lines, output}
 use Rattle.fts_script.specs.Stops.{AnswersFirst, StopsFirst}
-use Rattle.fts_session.specs.KeptLines.{KeptLine, kept_line}
+use Rattle.fts_script.specs.session.KeptLines.{KeptLine, kept_line}
 
 -- After this input the lines that have ended were answered by `out`, and the rest of it is the line in hand.
 pub record Answered (s : SessionValue) (p : KeptLine) (input out : List ℕ) : Type 0 where

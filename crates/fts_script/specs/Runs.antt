@@ -1,7 +1,7 @@
 -- What a run did to its streams: each tells one thing of the streams before it and after it.
 use Rattle.std.specs.Prelude.{ℕ, ◌≡◌, ◌+◌, ◌<◌, ◌^◌, List, ◌++◌, length}
 use Rattle.fts_script.specs.Streams.{StreamsValue, Wrote, LosesGiven, GainsTaken}
-use Rattle.fts_session.specs.Outputs.{output}
+use Rattle.fts_script.specs.session.Outputs.{output}
 use Rattle.fts_script.specs.Stops.{AnswersEnded, AnswersFirst, BeginsOutputUnless, StopsFirst}
 
 -- What the run read, and what it wrote, are so.
@@ -46,15 +46,16 @@ GainsWritten old new = GainsTaken old.taken new.taken old.held new.held
 abbrev pub WritesOutput : StreamsValue → StreamsValue → Type 0
 WritesOutput old new = Moves old new (λ input out. out ≡ output input)
 
--- It is a beginning of the output, however the input goes on, if it goes on.
+-- What was written is a beginning of the output, however the input might have gone on.
 abbrev pub WritesBeginning : StreamsValue → StreamsValue → Type 0
 WritesBeginning old new = Moves old new (BeginsOutputUnless (TellsEnd old new))
 
--- It is the replies to first lines, to all at least that ended before the last read, and the next line isn't blank.
+-- What was written is the replies to the first lines, at least to all that ended before the last read, and the next
+-- line isn't blank.
 abbrev pub StopsInLastRead : StreamsValue → StreamsValue → Type 0
 StopsInLastRead old new = Moves old new (StopsFirst (length new.latest))
 
--- It is the replies to all lines that ended.
+-- What was written is the replies to all lines that ended.
 abbrev pub WritesEnded : StreamsValue → StreamsValue → Type 0
 WritesEnded old new = Moves old new AnswersEnded
 

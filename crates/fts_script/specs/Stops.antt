@@ -1,7 +1,7 @@
 -- What is written where a script stops before its end.
 use Rattle.std.specs.Prelude.{ℕ, ◌≡◌, ◌≢◌, ◌-◌, false, List, [], ◌∷◌, ◌++◌, length, take}
-use Rattle.fts_session.specs.Text.{lines_of, is_blank, IsWhole, HasNoEnd}
-use Rattle.fts_session.specs.Outputs.{output}
+use Rattle.fts_script.specs.session.Text.{lines_of, is_blank, IsWhole, HasNoEnd}
+use Rattle.fts_script.specs.session.Outputs.{output}
 
 -- xs begins with front
 abbrev pub BeginsWith : List ℕ → List ℕ → Type 0

@@ -31,7 +31,7 @@ pub record StreamsValue : Type 0 where
   pub failed_reads : ℕ
   -- the bytes that writes took
   pub taken : List ℕ
-  -- those that the writer holds, where it tells
+  -- those that the writer holds, if it tells
   pub held : Option (List ℕ)
   -- how many writes and flushes failed
   pub failed_writes : ℕ
@@ -40,7 +40,7 @@ pub record StreamsValue : Type 0 where
   -- the bytes that writes had taken when the latest of these flushes did
   pub flushed : List ℕ
 
--- A writer had taken `before` and has now taken `now`: what came behind is so.
+-- A writer had taken `before` and has now taken `now`: what came after is so.
 pub record Wrote (before now : List ℕ) (P : List ℕ → Type 0) : Type 0 where
   pub bytes : List ℕ
   pub taken : now ≡ before ++ bytes

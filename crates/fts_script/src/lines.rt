@@ -1,11 +1,11 @@
 // The line in hand, where a block of the input has cut it.
 ghost use Rattle.std.specs.Prelude.{◌≡◌, ◌≤◌, ◌&&◌, ◌↔◌, false, None, [], length, IsTrue, OnOk, OnErr};
 ghost use Rattle.std.specs.List.{prefix_len};
-ghost use Rattle.fts_session.specs.Text.{is_white, is_blank};
-ghost use Rattle.fts_command.specs.Commands.{longest};
-ghost use Rattle.fts_session.specs.KeptLines.{bytes_in, grown, is_blank_kept, kept_line, too_long_in};
+ghost use Rattle.fts_script.specs.session.Text.{is_white, is_blank};
+ghost use Rattle.fts_script.specs.command.Commands.{longest};
+ghost use Rattle.fts_script.specs.session.KeptLines.{bytes_in, grown, is_blank_kept, kept_line, too_long_in};
 
-use fts_session::{is_blank, is_white};
+use crate::session::{is_blank, is_white};
 use std::alloc::{AllocError, Global};
 use std::marker::Model;
 
@@ -20,7 +20,7 @@ fn count_white(line: &[u8]) -> usize
     line.iter().take_while(|byte| is_white(**byte)).count()
 }
 
-/// Whether a line that was blank so far is blank with a piece behind it.
+/// Whether a line that was blank so far is blank with a piece after it.
 fn stays_blank(blank: bool, piece: &[u8]) -> bool
     ensures { result ≡ (blank && is_blank piece.now) }
 {
@@ -41,9 +41,9 @@ pub struct PartialLine {
 impl Model for PartialLine {
     ghost use Rattle.std.specs.Prelude.{◌≡◌, ◌+◌, ◌≤◌, vec_len};
     ghost use Rattle.std.specs.List.{prefix_len};
-    ghost use Rattle.fts_session.specs.Text.{is_white};
-    ghost use Rattle.fts_command.specs.Commands.{longest};
-    ghost use Rattle.fts_session.specs.KeptLines.{KeptLine, kept_in};
+    ghost use Rattle.fts_script.specs.session.Text.{is_white};
+    ghost use Rattle.fts_script.specs.command.Commands.{longest};
+    ghost use Rattle.fts_script.specs.session.KeptLines.{KeptLine, kept_in};
 
     ghost Value = { KeptLine };
 

@@ -2,18 +2,18 @@
 ghost use Rattle.std.specs.Prelude.{ℕ, ◌≡◌, ◌+◌, ◌^◌, ◌<◌, ◌≤◌, ◌++◌, false, List, [], length, take, string_bytes};
 ghost use Rattle.std.specs.Prelude.{IfOk, OnOk, OnErr, IsErrOf};
 ghost use Rattle.fts_script.specs.Streams.{GainsTaken, Wrote};
-ghost use Rattle.fts_session.specs.Text.{lines_of, HasNoEnd};
-ghost use Rattle.fts_command.specs.Commands.{longest};
-ghost use Rattle.fts_session.specs.KeptLines.{after_kept, grown, is_blank_kept, kept_line, reply_to_kept};
-ghost use Rattle.fts_session.specs.Outputs.{start, output};
+ghost use Rattle.fts_script.specs.session.Text.{lines_of, HasNoEnd};
+ghost use Rattle.fts_script.specs.command.Commands.{longest};
+ghost use Rattle.fts_script.specs.session.KeptLines.{after_kept, grown, is_blank_kept, kept_line, reply_to_kept};
+ghost use Rattle.fts_script.specs.session.Outputs.{start, output};
 ghost use Rattle.fts_script.specs.Stops.{BeginsOutput, BeginsWith, IsWritten, StopsFirst};
 ghost use Rattle.fts_script.specs.Responders.{Finishes, Advances, AdvancesToStop, RunState};
 
 use crate::fault::Fault;
 use crate::lines::PartialLine;
+use crate::session::Session;
 use crate::streams::ScriptOut;
-use fts_session::Session;
-use fts_steps::{Engine, EngineOver, Options};
+use fts_engine::{Engine, EngineOver, Options};
 use memchr::memchr;
 use std::alloc::{AllocError, Global};
 
@@ -120,7 +120,7 @@ impl<E: Engine> Responder<E> {
         self.answer(rt)
     }
 
-    /// Takes the bytes up to the end of a line, or all where none ends, and says how many.
+    /// Takes the bytes up to the end of a line, or all if none ends, and says how many.
     fn take_line<R: AllocGlobal + Sync>(
         &mut self,
         rt: &R,
@@ -218,7 +218,7 @@ impl<E: Engine> Responder<E> {
         let mut at = 0;
         while at < piece.len() {
             let taken = self.take_lines(rt, &piece[at..]);
-            // The replies go out before more is read, and where memory ran out too.
+            // The replies go out before more is read, and if memory ran out too.
             match send(writer, &mut self.replies) {
                 Ok(()) => {}
                 Err(fault) => {

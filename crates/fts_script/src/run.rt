@@ -8,7 +8,7 @@ ghost use Rattle.fts_script.specs.Runs.{WritesOutput};
 use crate::fault::Fault;
 use crate::responder::Responder;
 use crate::streams::{ScriptIn, ScriptOut, Streams};
-use fts_steps::{EngineOver, Options};
+use fts_engine::{EngineOver, Options};
 use std::alloc::{AllocError, Global};
 
 /// How many bytes are read at a time.

@@ -43,7 +43,7 @@ pub trait ScriptIn {
     /// The bytes that the latest call gave.
     ghost latest: { Self → List ℕ };
 
-    /// The bytes that are left to read, where they are known.
+    /// The bytes that are left to read, if they are known.
     ghost remaining: { Self → Option (List ℕ) };
 
     /// How many calls told the end: they had room for a byte, and gave none.
@@ -69,7 +69,7 @@ pub trait ScriptOut {
     /// The bytes that calls took so far.
     ghost taken: { Self → List ℕ };
 
-    /// The bytes that are held now, where they are known.
+    /// The bytes that are held now, if they are known.
     ghost held: { Self → Option (List ℕ) };
 
     /// How many calls failed: with an error, or with bytes given and none taken.

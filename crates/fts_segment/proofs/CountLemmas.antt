@@ -1,4 +1,4 @@
--- How many numbers of a column lie between two, by the lists of its numbers.
+-- How many numbers of a column are between two, by the lists of its numbers.
 use Rattle.std.proofs.Common.{◌≡◌, ◌+◌, ◌-◌, ◌<◌, ◌≤◌, ℕ, zero, suc, Bool, true, false, cond, ◌&&◌, nat_le, List, [], ◌∷◌, Option, Some, None, length, get_or, map, min, take, refl, sym, ap, subst, ◌∙◌, arith, Contains, option_map, inl, inr}
 use Rattle.std.specs.Prelude.{filter, slice_get}
 use Rattle.std.proofs.lemmas.List.{get_or-map, take_all}
@@ -9,7 +9,7 @@ use Rattle.std.proofs.lemmas.List.Sums.{length-filter, count_by-le-length}
 use Rattle.fts_model.specs.declared.schema.Kind.TheVariants as kinds
 use Rattle.fts_model.specs.declared.value.FieldValue.{FieldValue}
 use Rattle.fts_model.specs.declared.value.FieldValue.TheVariants as values
-use Rattle.fts_column.specs.Column.{is_within}
+use Rattle.fts_pack.specs.column.Column.{is_within}
 use Rattle.fts_segment.specs.declared.dictionary.Dictionary.{Dictionary}
 use Rattle.fts_segment.specs.Between.{count_between}
 use Rattle.fts_segment.specs.FieldIndexes.{AreTerms}

@@ -23,7 +23,7 @@ use Rattle.fts_model.specs.declared.operation.Term.{Term}
 use Rattle.fts_model.specs.Schemas.{holds_numbers}
 use Rattle.fts_model.specs.Documents.{DocumentValue, value_in_field, fits_i64}
 use Rattle.fts_model.specs.Operations.{has, field_has}
-use Rattle.fts_bits.specs.Signed.{u64_of}
+use Rattle.fts_pack.specs.bits.Signed.{u64_of}
 use Rattle.fts_segment.specs.declared.field_index.FieldIndex.{FieldIndex}
 use Rattle.fts_segment.specs.declared.field_index.FieldIndex.TheVariants.{Numbers, Terms, Keywords}
 use Rattle.fts_segment.specs.declared.dictionary.Dictionary.{Dictionary}

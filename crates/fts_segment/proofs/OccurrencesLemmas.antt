@@ -1,4 +1,4 @@
--- Loops over the tokens of texts that put each behind the occurrences so far.
+-- Loops over the tokens of texts that put each after the occurrences so far.
 use Rattle.std.proofs.Common.{◌≡◌, ◌<◌, ◌≤◌, ◌^◌, ℕ, suc, ◌+◌, List, [], ◌∷◌, ◌++◌, Option, map, drop, get_or, length, refl, sym, ap, subst, ◌∙◌, All, append_assoc, append-nil, arith, length-append}
 use Rattle.std.specs.Str.{IsUtf8}
 use Rattle.std.proofs.lemmas.List.{drop_all, drop_more, map-append}

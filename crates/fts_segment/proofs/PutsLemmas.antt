@@ -1,4 +1,4 @@
--- Postings that are put behind others, some behind the other.
+-- Postings that are put after others, some after the other.
 use Rattle.std.proofs.Common.{◌≡◌, ◌++◌, ℕ, List, [], append-nil, map, sym, ap, subst, ◌∙◌}
 use Rattle.std.proofs.lemmas.List.{append_assoc, map-append}
 use Rattle.fts_segment.specs.declared.position_lists.PositionListLog.{PositionListLog}

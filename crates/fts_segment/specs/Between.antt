@@ -1,7 +1,7 @@
--- The lists of the numbers of a column that lie between two, and how many these numbers are.
+-- The lists of the numbers of a column that are between two, and how many these numbers are.
 use Rattle.std.specs.Prelude.{◌≡◌, ℕ, ◌<◌, ◌≤◌, List, [], Option, Some, Contains, filter, length, slice_get}
 use Rattle.std.specs.Prelude.{slice_index_or}
-use Rattle.fts_column.specs.Column.{is_within}
+use Rattle.fts_pack.specs.column.Column.{is_within}
 
 -- the numbers of documents in a field
 abbrev pub NumberColumn : Type 0

@@ -1,4 +1,4 @@
--- The different texts of a field in the order of their bytes, and what stands before a text among them.
+-- The different texts of a field in the order of their bytes, and what comes before a text among them.
 use Rattle.std.specs.Prelude.{ℕ, List, [], ◌∷◌, Option, Some, None, length, filter, fold, map, option_map}
 use Rattle.std.specs.Ordering.{nat_cmp, match_ordering}
 use Rattle.std.specs.Cmp.Lexicographic.{slice_cmp}
@@ -18,7 +18,7 @@ with_text (t ∷ ts) text =
 abbrev pub in_order : List (List ℕ) → List (List ℕ)
 in_order texts = fold with_text [] texts
 
--- how many of them are before a text, and how many aren't behind it
+-- how many of them are before a text, and how many aren't after it
 abbrev pub before : List (List ℕ) → List ℕ → ℕ
 before texts text = length (filter (λ t. text_lt t text) texts)
 

@@ -12,7 +12,7 @@ use Rattle.fts_model.specs.declared.operation.Stamped.{Stamped}
 use Rattle.fts_model.specs.Documents.{DocumentValue, bytes_of, value_in_field}
 use Rattle.fts_model.specs.Operations.{value_has}
 
--- a term stands in a document at a position
+-- a term is in a document at a position
 pub record OccurrenceValue : Type 0 where
   pub term : List ℕ
   pub doc : ℕ
@@ -42,7 +42,7 @@ tokens_of kind (Some value) = value_tokens kind value
 abbrev pub HasFewTokens : Kind → Option FieldValue → Type 0
 HasFewTokens kind value = length (tokens_of kind value) < 2 ^ 32
 
--- 32 bits count the spans of these texts, where the first has the number `first`
+-- 32 bits count the spans of these texts, the first of which has the number `first`
 abbrev pub HasRoom : ℕ → List (List ℕ) → Type 0
 HasRoom first texts = first + bytes_of texts + length texts + 2 < 2 ^ 32
 

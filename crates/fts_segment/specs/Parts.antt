@@ -9,7 +9,7 @@ use Rattle.std.specs.Cmp.Lexicographic.{slice_cmp}
 use Rattle.std.specs.declared.cmp.Ordering.TheVariants.{Less}
 use Rattle.fts_model.specs.declared.schema.Kind.{Kind}
 use Rattle.fts_segment.specs.declared.dictionary.Dictionary.{Dictionary}
-use Rattle.fts_segment.specs.declared.unpacked_lists.UnpackedLists.{UnpackedLists}
+use Rattle.fts_segment.specs.declared.decoded_lists.UnpackedLists.{UnpackedLists}
 use Rattle.fts_segment.specs.Occurrences.{OccurrenceValue, occurrences, values_in, docs_with}
 use Rattle.fts_segment.specs.Positions.{position_lists_with}
 use Rattle.fts_segment.specs.Postings.{Posting, postings_of, documents, position_lists}
@@ -87,7 +87,7 @@ found [] postings term = []
 found (name ∷ names) [] term = []
 found (name ∷ names) (here ∷ postings) term = if bytes_eq name term then here else found names postings term
 
--- the postings that parts have for a term, by the new numbers, one part behind the other
+-- the postings that parts have for a term, by the new numbers, one part after the other
 abbrev pub joined : List PartValue → List ℕ → List Posting
 joined [] term = []
 joined (part ∷ parts) term = moved part.numbers (found part.names part.postings term) ++ joined parts term
@@ -96,7 +96,7 @@ joined (part ∷ parts) term = moved part.numbers (found part.names part.posting
 abbrev pub IsBelow : List ℕ → List (List ℕ) → Type 0
 IsBelow name names = AllByRecursion (λ other. slice_cmp nat_cmp name other ≡ Less) names
 
--- each name is before each one behind it
+-- each name is before each one after it
 abbrev pub Ascend : List (List ℕ) → Type 0
 Ascend [] = Unit {0}
 Ascend (name ∷ names) = IsBelow name names × Ascend names
@@ -120,7 +120,7 @@ abbrev pub begins : List ℕ → List (List ℕ) → Bool
 begins term [] = false
 begins term (name ∷ names) = bytes_eq name term
 
--- a part behind a term, where the term is its next one
+-- a part after a term, where the term is its next one
 abbrev pub passed : List ℕ → PartValue → PartValue
 passed term part = if begins term part.names
     then record { names = drop 1 part.names; postings = drop 1 part.postings; numbers = part.numbers } else part

@@ -6,7 +6,7 @@ use Rattle.fts_segment.specs.declared.position_lists.Bounds.{Bounds}
 abbrev pub positions_before : List (List ℕ) → ℕ → ℕ
 positions_before lists number = sum (take number (map length lists))
 
--- each list of the block begins behind the positions of those before it, and so does what follows the last one
+-- each list of the block begins after the positions of those before it, and so does what follows the last one
 abbrev pub AreBoundsOf : List (List ℕ) → ℕ → List ℕ → Type 0
 AreBoundsOf lists block bounds = (index : ℕ) → index ≤ 128 → block * 128 + index ≤ length lists
     → slice_index bounds index ≡ positions_before lists (block * 128 + index)

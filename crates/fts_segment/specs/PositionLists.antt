@@ -9,7 +9,7 @@ pub record IsPositionList (list : List ℕ) : Type 0 where
   pub rises : Rises 0 list
   pub few : length list < 2 ^ 32
 
--- the lists of so many positions each, with these differences
+-- the lists of this many positions each, with these differences
 abbrev pub position_lists_at : List ℕ → List ℕ → List (List ℕ)
 position_lists_at [] gaps = []
 position_lists_at (count ∷ counts) gaps = documents_at 0 (take count gaps) ∷ position_lists_at counts (drop count gaps)

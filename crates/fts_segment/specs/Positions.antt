@@ -7,7 +7,7 @@ use Rattle.fts_model.specs.declared.value.FieldValue.TheVariants as values
 use Rattle.fts_segment.specs.Occurrences.{OccurrenceValue, is_term, tokens_of, holds}
 use Rattle.fts_segment.specs.Segments.{positions_among}
 
--- the positions of places, a list for each document, where `list` are those of the document `doc` before them
+-- the positions of places, a list for each document, if `list` are those of the document `doc` before them
 abbrev pub position_lists_from : ℕ → List ℕ → List Place → List (List ℕ)
 position_lists_from doc list [] = list ∷ []
 position_lists_from doc list (p ∷ ps) = cond (p.doc == doc)

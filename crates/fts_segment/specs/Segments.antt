@@ -13,7 +13,7 @@ use Rattle.fts_model.specs.declared.value.FieldValue.TheVariants as values
 use Rattle.fts_model.specs.declared.value.Number.TheVariants as numbers
 use Rattle.fts_model.specs.Documents.{DocumentValue, IsDocument, fits, value_in_field}
 use Rattle.fts_model.specs.Operations.{has, kind_at}
-use Rattle.fts_bits.specs.Signed.{u64_of}
+use Rattle.fts_pack.specs.bits.Signed.{u64_of}
 use Rattle.fts_segment.specs.Keywords.{ordinals_of, texts_of}
 use Rattle.fts_segment.specs.Occurrences.{tokens_of, is_token, values_in}
 

@@ -6,12 +6,12 @@ use Rattle.fts_model.specs.Documents.{DocumentValue}
 use Rattle.fts_segment.specs.Segments.{SegmentValue}
 use Rattle.fts_segment.specs.Contents.{content_of}
 
--- a segment, and a bit for each of its documents: it is set where the document is live
+-- a segment, and a bit for each of its documents: it is set if the document is live
 pub record SourceValue : Type 0 where
   pub segment : SegmentValue
   pub live : List Bool
 
--- there is one bit a document
+-- there is one bit per document
 abbrev pub HasBits : SourceValue → Type 0
 HasBits source = length source.live ≡ length source.segment.documents
 
@@ -24,7 +24,7 @@ both first first_live second second_live =
 abbrev pub live_count : List SourceValue → ℕ
 live_count sources = sum_by (λ source. count_by (λ bit. bit) source.live) sources
 
--- the live documents of sources, one source behind the other
+-- the live documents of sources, one source after the other
 abbrev pub contents : List SourceValue → List (Stamped DocumentValue)
 contents sources = flat_map (λ source. content_of source.segment source.live) sources
 

@@ -1,4 +1,4 @@
--- How a segment lies in memory.
+-- How a segment is laid out in memory.
 use Rattle.std.specs.Arc.{arc_value}
 use Rattle.fts_segment.specs.declared.segment.Segment.TheInside.{Inside}
 use Rattle.fts_segment.specs.Segments.{SegmentValue, AllFit, AreDocuments}

@@ -15,7 +15,7 @@ occurrence_values names log = map (occurrence_value names) log
 abbrev pub AreNamed : List (List ℕ) → List Occurrence → Type 0
 AreNamed names log = All (λ occurrence. occurrence.term < length names) log
 
--- an occurrence with another number for its term, which stands at the place of the old one
+-- an occurrence with another number for its term, which is at the place of the old one
 abbrev pub by_ordinal : List ℕ → Occurrence → Occurrence
 by_ordinal ordinals occurrence = record {
   term = slice_index ordinals occurrence.term;

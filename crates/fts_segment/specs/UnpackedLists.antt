@@ -1,6 +1,6 @@
 -- Lists of positions as they are moved to a log.
 use Rattle.std.specs.Prelude.{ℕ, List}
-use Rattle.fts_segment.specs.declared.unpacked_lists.UnpackedLists.{UnpackedLists}
+use Rattle.fts_segment.specs.declared.decoded_lists.UnpackedLists.{UnpackedLists}
 use Rattle.fts_segment.specs.PositionLists.{position_lists_at}
 
 -- the lists

@@ -81,7 +81,7 @@ impl Builder {
         self.documents.len()
     }
 
-    /// Takes a document that fits the schema (`Document::fits`), with its stamp. `SegmentFull` where there are 65,536
+    /// Takes a document that fits the schema (`Document::fits`), with its stamp. `SegmentFull` if there are 65,536
     /// already and it serves no merge.
     pub fn add(&mut self, stamp: Stamp, document: &Document) -> Result<(), Refusal>
         requires room { self.old.merging ≡ true → length self.old.segment.documents < most_merged }
@@ -103,7 +103,7 @@ impl Builder {
         Ok(())
     }
 
-    /// The segment of the documents. Where a growth is refused, the builder comes back.
+    /// The segment of the documents. If a growth is refused, the builder comes back.
     pub fn finish(self, alloc: Global) -> Result<Segment, (Builder, Refusal)>
         ensures ok { IfOk result (λ segment. segment ≡ self.segment) }
         ensures err { IfErr result (λ e. e.0 ≡ self) }
@@ -144,7 +144,7 @@ impl Builder {
     }
 }
 
-// The indexes of the fields, in order.
+/// The indexes of the fields, in order.
 fn indexed(
     alloc: Global,
     schema: &Schema,

@@ -52,7 +52,7 @@ impl Dictionary {
         log.dictionary(alloc)
     }
 
-    /// The list of a term, where it is one of the names.
+    /// The list of a term, if it is one of the names.
     pub(crate) fn find(&self, term: &str) -> Option<ListId<'_>>
         requires ascends { Ascends self.now.names }
         requires listed { length self.now.names ≡ length self.now.lists.items }

@@ -18,14 +18,14 @@ ghost use Rattle.fts_model.specs.Schemas.{holds_numbers, is_ordered};
 ghost use Rattle.fts_segment.specs.Sources.{contents, live_count};
 
 use crate::dictionary::Dictionary;
-use crate::joined_terms::joined_terms;
+use crate::joint_terms::joined_terms;
 use crate::keyword_index::KeywordIndex;
 use crate::lookup::equal_range;
 use crate::number_index::{NumberIndex, number_in};
 use crate::segment::ListId;
 use crate::source::Source;
-use fts_column::Column;
 use fts_model::{Document, FieldValue, Kind, Stamped};
+use fts_pack::column::Column;
 use std::alloc::{AllocError, Global};
 
 /// What is looked up in a field.
@@ -155,7 +155,7 @@ impl FieldIndex {
         }
     }
 
-    /// How many texts of a keyword field are before a text, and how many aren't behind it.
+    /// How many texts of a keyword field are before a text, and how many aren't after it.
     pub(crate) fn equal_range(&self, kind: Kind, text: &str) -> (usize, usize)
         requires keyword { kind ≡ kinds.Keyword }
         requires is { (vs : List (Option FieldValue)) × IsFieldIndex kind vs self.now }
@@ -184,7 +184,7 @@ impl FieldIndex {
         }
     }
 
-    /// The list of a term, where a document has it.
+    /// The list of a term, if a document has it.
     pub(crate) fn find(&self, kind: Kind, term: &FieldValue) -> Option<ListId<'_>>
         requires { (vs : List (Option FieldValue)) × IsFieldIndex kind vs self.now }
         ensures none { (vs : List (Option FieldValue)) → IsFieldIndex kind vs self.now
@@ -203,7 +203,7 @@ impl FieldIndex {
     }
 }
 
-// The list of a term of a text or keyword field, where a document has it.
+/// The list of a term of a text or keyword field, if a document has it.
 fn find_text<'a>(dictionary: &'a Dictionary, kind: Kind, term: &FieldValue) -> Option<ListId<'a>>
     requires { (vs : List (Option FieldValue)) × AreTerms kind vs dictionary.now }
     ensures none { (vs : List (Option FieldValue)) → AreTerms kind vs dictionary.entry.now

@@ -7,7 +7,7 @@ use std::alloc::Global;
 use std::hash::{FoldHasher, Hasher};
 use std::mem;
 
-/// In how many slots a name may stand.
+/// In how many slots a name may be.
 const WINDOW: usize = 8;
 
 /// The number of a slot in which no name stands.
@@ -43,7 +43,7 @@ impl Guesses {
         release(self.slots);
     }
 
-    /// The number of a name of this hash, if it stands in one of its slots.
+    /// The number of a name of this hash, if it is in one of its slots.
     pub(crate) fn find(&self, names: &Names, hash: u32, name: &[u8]) -> Option<usize>
         ensures { IfSome result (λ number. slice_get names.now number ≡ Some name.now) }
     {
@@ -59,7 +59,7 @@ impl Guesses {
         None
     }
 
-    /// Puts the number of a name of this hash into one of its slots, if one is free. Where names stand in a quarter of
+    /// Puts the number of a name of this hash into one of its slots, if one is free. Where names are in a quarter of
     /// the slots, it makes more of them first, as far as there is memory.
     pub(crate) fn put(&mut self, alloc: Global, hash: u32, number: usize) {
         let Ok(number) = u32::try_from(number) else {
@@ -103,7 +103,7 @@ impl Guesses {
         }
     }
 
-    /// Where a name of this hash stands at a step.
+    /// Where a name of this hash is at a step.
     fn place(&self, hash: u32, step: usize) -> usize {
         (hash as usize).wrapping_add(step) & self.slots.len().wrapping_sub(1)
     }

@@ -15,9 +15,9 @@ use crate::lookup::find_name;
 use crate::names::Names;
 use crate::sums::sums_of;
 use fts_base::release;
-use fts_column::Column;
 use fts_model::{Document, FieldValue, Kind, Stamped};
 use fts_pack::Blocks;
+use fts_pack::column::Column;
 use std::alloc::{AllocError, Global};
 
 /// The texts of a keyword field.
@@ -113,7 +113,7 @@ impl KeywordIndex {
     }
 }
 
-// A document of a list. No block is opened.
+/// A document of a list. No block is opened.
 fn some_document(list: &fts_pack::List) -> Option<u32>
     ensures { MatchOption result (list.now ≡ []) (Contains list.now) }
 {
@@ -123,7 +123,7 @@ fn some_document(list: &fts_pack::List) -> Option<u32>
     Some(list.source().last(0))
 }
 
-// How many names are before the text of a document, which is among them.
+/// How many names are before the text of a document, which is among them.
 fn ordinal(names: &Names, value: Option<&FieldValue>) -> Option<u64>
     requires ascends { Ascends names.now }
     requires among { IfSome (keyword_of kinds.Keyword (option_copied value)) (Contains names.now) }
@@ -135,7 +135,7 @@ fn ordinal(names: &Names, value: Option<&FieldValue>) -> Option<u64>
     }
 }
 
-// The ordinals of the documents in a keyword field of these texts.
+/// The ordinals of the documents in a keyword field of these texts.
 fn ordinals_of(
     alloc: Global,
     documents: &[Stamped<Document>],

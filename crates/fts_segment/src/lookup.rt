@@ -9,7 +9,7 @@ ghost use Rattle.fts_segment.specs.Between.{IsCut};
 use crate::names::{Names, head_of};
 use std::cmp::Ordering;
 
-/// The number of a name; or, where it isn't there, how many names are before it.
+/// The number of a name; or, if it isn't there, how many names are before it.
 fn place_of_name(names: &Names, name: &[u8]) -> Result<usize, usize>
     requires { Ascends names.now }
     ensures found { IfOk result (λ i. slice_get names.now i ≡ Some name.now) }
@@ -44,7 +44,7 @@ pub(crate) fn find_name(names: &Names, name: &[u8]) -> Option<usize>
     }
 }
 
-/// How many names are before a text, and how many aren't behind it.
+/// How many names are before a text, and how many aren't after it.
 pub(crate) fn equal_range(names: &Names, text: &[u8]) -> (usize, usize)
     requires { Ascends names.now }
     ensures before { result.0 ≡ before names.now text.now }

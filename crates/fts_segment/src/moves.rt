@@ -8,14 +8,14 @@ ghost use Rattle.fts_segment.specs.Puts.{Puts};
 ghost use Rattle.fts_segment.specs.TermPositionLists.{position_lists_in};
 ghost use Rattle.fts_segment.specs.UnpackedLists.{lists_in};
 
+use crate::decoded_lists::UnpackedLists;
 use crate::new_numbers::NewNumbers;
 use crate::position_lists::PositionListLog;
 use crate::term_positions::TermPositionLists;
-use crate::unpacked_lists::UnpackedLists;
 use fts_pack::{BLOCK, Blocks, List};
 use std::alloc::AllocError;
 
-// Puts documents behind others, with a number added to each.
+/// Puts documents after others, with a number added to each.
 fn push_shifted(docs: &mut Vec<u32>, first: u32, block: &[u32]) -> Result<(), AllocError>
     requires { All (λ doc. first + doc < 2 ^ 32) block.now }
     ensures { OnOk result (docs.new.items ≡ docs.old.items ++ map (λ doc. first + doc) block.now) }
@@ -26,7 +26,7 @@ fn push_shifted(docs: &mut Vec<u32>, first: u32, block: &[u32]) -> Result<(), Al
     Ok(())
 }
 
-// Puts the documents of a list behind others, with a number added to each.
+/// Puts the documents of a list after others, with a number added to each.
 fn shift(list: &List, first: u32, docs: &mut Vec<u32>) -> Result<(), AllocError>
     requires { All (λ doc. first + doc < 2 ^ 32) list.now }
     ensures { OnOk result (docs.new.items ≡ docs.old.items ++ map (λ doc. first + doc) list.now) }
@@ -40,7 +40,7 @@ fn shift(list: &List, first: u32, docs: &mut Vec<u32>) -> Result<(), AllocError>
     Ok(())
 }
 
-// Moves a posting whose positions are the list of this number, if its document has a new number.
+/// Moves a posting whose positions are the list of this number, if its document has a new number.
 fn move_posting(
     doc: u32,
     list: usize,
@@ -65,7 +65,7 @@ fn move_posting(
     }
 }
 
-// Moves some postings of which the first has the list of the number `start`.
+/// Moves some postings of which the first has the list of the number `start`.
 fn move_some(
     block: &[u32],
     start: usize,
@@ -86,8 +86,8 @@ fn move_some(
     Ok(())
 }
 
-/// Puts the postings of a term behind others, by the new numbers of their documents: these behind `docs`, and their
-/// positions behind those of a log. Where no document is dead, positions are moved as a whole.
+/// Puts the postings of a term after others, by the new numbers of their documents: these after `docs`, and their
+/// positions after those of a log. Where no document is dead, positions are moved as a whole.
 pub(crate) fn move_postings(
     list: &List,
     positions: TermPositionLists<'_>,

@@ -1,4 +1,4 @@
-// Names, one behind the other in one buffer of bytes.
+// Names, one after the other in one buffer of bytes.
 ghost use Rattle.std.specs.Prelude.{◌≡◌, ◌<◌, ◌++◌, ◌∷◌, [], length, IfOk, OnOk, OnErr, slice_index_or};
 ghost use Rattle.std.specs.Ordering.{nat_cmp};
 ghost use Rattle.std.specs.Cmp.Lexicographic.{slice_cmp};
@@ -65,7 +65,7 @@ impl Names {
         }
     }
 
-    /// No names, with room for so many.
+    /// No names, with room for this many.
     pub(crate) fn with_capacity(alloc: Global, names: usize) -> Result<Names, AllocError>
         ensures { IfOk result (λ names. names ≡ []) }
     {
@@ -83,7 +83,7 @@ impl Names {
         self.ends.len()
     }
 
-    /// The name of this number, and no bytes where there is none.
+    /// The name of this number, and no bytes if there is none.
     pub(crate) fn get(&self, number: usize) -> &[u8]
         ensures { result.now ≡ slice_index_or self.now number [] }
     {
@@ -104,7 +104,7 @@ impl Names {
         }
     }
 
-    /// Puts a name behind the others.
+    /// Puts a name after the others.
     pub(crate) fn push(&mut self, name: &[u8]) -> Result<(), AllocError>
         ensures ok { OnOk result (self.new ≡ self.old ++ name.now ∷ []) }
         ensures err { OnErr result (self.new ≡ self.old) }

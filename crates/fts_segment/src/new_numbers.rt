@@ -4,7 +4,7 @@ ghost use Rattle.std.specs.Prelude.{if◌then◌else◌, slice_get};
 ghost use Rattle.fts_segment.specs.Parts.{AreInARow, number_in, renumbered};
 
 use fts_base::release;
-use fts_bits::Bits;
+use fts_pack::bits::Bits;
 use std::alloc::{AllocError, Global};
 use std::marker::Model;
 
@@ -54,7 +54,7 @@ impl NewNumbers {
         }
     }
 
-    /// The number of the first document, where none is dead.
+    /// The number of the first document, if none is dead.
     pub(crate) fn first(&self) -> Option<u32>
         ensures { IfSome result (AreInARow self.now) }
     {
@@ -62,7 +62,7 @@ impl NewNumbers {
     }
 }
 
-// The first number, where all documents are live.
+/// The first number, where all documents are live.
 fn first_in_a_row(first: u32, live: &Bits) -> Option<u32>
     requires { first + count_by (λ bit. bit) live.now < 2 ^ 32 }
     ensures { IfSome result (AreInARow (renumbered first live.now)) }
@@ -74,7 +74,7 @@ fn first_in_a_row(first: u32, live: &Bits) -> Option<u32>
     }
 }
 
-// The new number of each document, where the first live one gets the number `first`; a dead one has none.
+/// The new number of each document, where the first live one gets the number `first`; a dead one has none.
 fn renumber(alloc: Global, first: u32, live: &Bits) -> Result<Vec<Option<u32>>, AllocError>
     requires { first + count_by (λ bit. bit) live.now < 2 ^ 32 }
     ensures { IfOk result (λ numbers. numbers.items ≡ renumbered first live.now) }
@@ -87,7 +87,7 @@ fn renumber(alloc: Global, first: u32, live: &Bits) -> Result<Vec<Option<u32>>, 
     Ok(numbers)
 }
 
-// Puts the number of one document more behind the others, and gives the next number.
+/// Puts the number of one document more after the others, and gives the next number.
 fn push_number(numbers: &mut Vec<Option<u32>>, next: u32, live: bool) -> Result<u32, AllocError>
     requires { live ≡ true → next + 1 < 2 ^ 32 }
     ensures numbers { OnOk result (numbers.new.items

@@ -19,10 +19,10 @@ use crate::sums::sums_of;
 use crate::term_groups::TermGroups;
 use crate::term_log::Occurrence;
 use fts_base::release;
-use fts_bits::i64_to_u64;
-use fts_column::Column;
 use fts_model::{Document, FieldValue, Kind, Number, Stamped};
 use fts_pack::List;
+use fts_pack::bits::i64_to_u64;
+use fts_pack::column::Column;
 use std::alloc::{AllocError, Global};
 
 /// The numbers of a field.
@@ -88,7 +88,7 @@ impl NumberIndex {
         })
     }
 
-    /// The list of a number, where a document has it.
+    /// The list of a number, if a document has it.
     pub(crate) fn find(&self, number: u64) -> Option<ListId<'_>>
         requires rises { IsStrictlyIncreasing self.now.numbers.items }
         requires listed { length self.now.numbers.items ≡ length self.now.lists.items }
@@ -149,7 +149,7 @@ pub(crate) fn number_in(kind: Kind, value: Option<&FieldValue>) -> Option<u64>
     }
 }
 
-// The numbers of the documents in a field of this kind.
+/// The numbers of the documents in a field of this kind.
 fn numbers_of(
     alloc: Global,
     documents: &[Stamped<Document>],
@@ -167,7 +167,7 @@ fn numbers_of(
     Ok(numbers)
 }
 
-// Puts a number, if there is one, behind the others.
+/// Puts a number, if there is one, after the others.
 fn push_present(numbers: &mut Vec<u64>, value: Option<u64>) -> Result<(), AllocError>
     ensures { OnOk result (numbers.new.items ≡ numbers.old.items ++ present (value ∷ [])) }
 {
@@ -177,7 +177,7 @@ fn push_present(numbers: &mut Vec<u64>, value: Option<u64>) -> Result<(), AllocE
     Ok(())
 }
 
-// The different numbers, rising.
+/// The different numbers, rising.
 fn different(alloc: Global, values: &[Option<u64>]) -> Result<Vec<u64>, AllocError>
     ensures rises { IfOk result (λ v. IsStrictlyIncreasing v.items) }
     ensures occur { IfOk result (λ v. All (λ x. Contains values.now (Some x)) v.items) }
@@ -193,7 +193,7 @@ fn different(alloc: Global, values: &[Option<u64>]) -> Result<Vec<u64>, AllocErr
     Ok(numbers)
 }
 
-// Puts a document's number behind the others, by its index among the different ones.
+/// Puts a document's number after the others, by its index among the different ones.
 fn push_number(
     log: &mut Vec<Occurrence>,
     numbers: &[u64],
@@ -222,7 +222,7 @@ fn push_number(
     Ok(())
 }
 
-// The numbers of documents, each by its index among the different ones.
+/// The numbers of documents, each by its index among the different ones.
 fn logged(
     alloc: Global,
     values: &[Option<u64>],
@@ -244,7 +244,7 @@ fn logged(
     Ok(log)
 }
 
-// The documents of the groups, each once.
+/// The documents of the groups, each once.
 fn lists_of(alloc: Global, groups: &TermGroups, count: usize) -> Result<Vec<List>, AllocError>
     requires count { length groups.now ≡ count }
     requires rise { All (λ places. IsStrictlyIncreasing (docs_in places)) groups.now }

@@ -13,8 +13,8 @@ use fts_model::{Document, FieldValue, Kind, Stamped, Texts};
 use fts_text::{Token, Tokens, fold_into};
 use std::alloc::{AllocError, Global};
 
-// Puts a token of one of a document's texts, whose first span has the number `first`, behind the occurrences so far.
-// `term` is room for it.
+/// Puts a token of one of a document's texts, whose first span has the number `first`, after the occurrences so far.
+/// `term` is room for it.
 fn push_token(
     log: &mut TermLog,
     term: &mut String,
@@ -32,8 +32,8 @@ fn push_token(
     log.push(term.as_str(), doc, token.position as u32)
 }
 
-// Puts the tokens of one of a document's texts, whose first span has the number `first`, behind the occurrences so far,
-// and gives the number of the first span of the text behind it.
+/// Puts the tokens of one of a document's texts, whose first span has the number `first`, after the occurrences so far,
+/// and gives the number of the first span of the text after it.
 fn push_tokens(
     log: &mut TermLog,
     term: &mut String,
@@ -55,7 +55,7 @@ fn push_tokens(
     Ok(tokens.following())
 }
 
-// Puts the tokens of a list of texts of a document behind the occurrences so far.
+/// Puts the tokens of a list of texts of a document after the occurrences so far.
 fn push_texts(
     log: &mut TermLog,
     term: &mut String,
@@ -74,7 +74,7 @@ fn push_texts(
     Ok(())
 }
 
-// Puts the tokens of a document's value behind the occurrences so far.
+/// Puts the tokens of a document's value after the occurrences so far.
 fn push_value(
     log: &mut TermLog,
     term: &mut String,

@@ -4,11 +4,11 @@ ghost use Rattle.fts_segment.specs.Parts.{begins, given, passed, part_from, IsWh
 ghost use Rattle.fts_segment.specs.PositionListLogs.{IsPositionListLog};
 ghost use Rattle.fts_segment.specs.Puts.{Puts};
 
+use crate::decoded_lists::UnpackedLists;
 use crate::dictionary::Dictionary;
 use crate::moves::move_postings;
 use crate::new_numbers::NewNumbers;
 use crate::position_lists::PositionListLog;
-use crate::unpacked_lists::UnpackedLists;
 use std::alloc::AllocError;
 use std::marker::Model;
 
@@ -35,7 +35,7 @@ impl<'a> Model for Part<'a> {
     ghost invariant = { λ p. IsPartOf p.at p.dictionary.now p.numbers (option_map (λ t. t.now) p.term) p.lists };
 }
 
-// The term of this number, if there is one.
+/// The term of this number, if there is one.
 fn term_at(dictionary: &Dictionary, at: usize) -> Option<&[u8]>
     ensures { option_map (λ t. t.now) result ≡ slice_get (drop at dictionary.now.names) 0 }
 {
@@ -68,7 +68,7 @@ impl<'a> Part<'a> {
         self.term
     }
 
-    // Whether a term is the next one.
+    /// Whether a term is the next one.
     fn is_next(&self, term: &[u8]) -> bool
         ensures { result ≡ begins term.now self.now.names }
     {
@@ -78,8 +78,8 @@ impl<'a> Part<'a> {
         }
     }
 
-    /// Passes a term, where it is the next one, and puts its postings behind others: their documents behind `docs`, and
-    /// their positions behind those of a log.
+    /// Passes a term, if it is the next one, and puts its postings after others: their documents after `docs`, and
+    /// their positions after those of a log.
     pub(crate) fn pass(
         &mut self,
         term: &[u8],

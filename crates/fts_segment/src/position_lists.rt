@@ -8,8 +8,8 @@ ghost use Rattle.fts_segment.specs.PositionListLogs.{IsPositionListLog, logged_p
 ghost use Rattle.fts_segment.specs.PositionsLeft.{positions_left};
 ghost use Rattle.fts_segment.specs.UnpackedLists.{lists_in};
 
+use crate::decoded_lists::UnpackedLists;
 use crate::positions::Positions;
-use crate::unpacked_lists::UnpackedLists;
 use fts_base::release;
 use fts_pack::{BLOCK, Numbers, push_gaps};
 use std::alloc::{AllocError, Global};
@@ -74,7 +74,7 @@ impl PositionLists {
         UnpackedLists::new(&self.counts, &self.gaps)
     }
 
-    /// The list of this number, and no positions where there is none.
+    /// The list of this number, and no positions if there is none.
     #[inline(always)]
     pub(crate) fn get(&self, number: usize, bounds: &mut Bounds) -> Positions<'_>
         requires bounds { AreBounds self.now bounds.old }
@@ -89,7 +89,7 @@ impl PositionLists {
         Positions::between(&self.gaps, bounds.at[index], bounds.at[index + 1])
     }
 
-    // Looks where the lists of a block begin and end, unless that is the block that was looked at last.
+    /// Looks where the lists of a block begin and end, unless that is the block that was looked at last.
     fn enter(&self, block: usize, bounds: &mut Bounds)
         requires within { block < block_count (length self.now) }
         requires bounds { AreBounds self.now bounds.old }
@@ -106,7 +106,7 @@ impl PositionLists {
     }
 }
 
-// Packs numbers, and lets the buffer go that had them.
+/// Packs numbers, and lets the buffer go that had them.
 fn packed(alloc: Global, numbers: Vec<u32>) -> Result<Numbers, AllocError>
     ensures { IfOk result (λ packed. packed ≡ numbers.items) }
 {
@@ -117,7 +117,7 @@ fn packed(alloc: Global, numbers: Vec<u32>) -> Result<Numbers, AllocError>
     Ok(packed)
 }
 
-// Writes a number, and behind it its sums with the first count, with the first two, and so on.
+/// Writes a number, and after it its sums with the first count, with the first two, and so on.
 fn add_up(start: usize, counts: &[u32], out: &mut [usize; 129])
     requires few { length counts.now ≤ 128 }
     requires fits { start + sum counts.now < 2 ^ 64 }
@@ -132,12 +132,12 @@ fn add_up(start: usize, counts: &[u32], out: &mut [usize; 129])
     }
 }
 
-/// Where the lists of a block begin and end among the differences, where one was looked at.
+/// Where the lists of a block begin and end among the differences, if one was looked at.
 #[derive(Drop)]
 pub(crate) struct Bounds {
     /// Which block it is.
     pub(crate) block: Option<usize>,
-    /// Where each list of the block begins, and behind these where the last one ends.
+    /// Where each list of the block begins, and after these where the last one ends.
     pub(crate) at: [usize; 129],
 }
 
@@ -168,7 +168,7 @@ pub(crate) fn total(counts: &[u32]) -> usize
     total
 }
 
-// Where the positions of the first of each 128 lists begin.
+/// Where the positions of the first of each 128 lists begin.
 fn starts_of(alloc: Global, counts: &[u32]) -> Result<Vec<usize>, AllocError>
     requires { sum counts.now < 2 ^ 64 }
     ensures many { IfOk result (λ starts. length starts.items ≡ block_count (length counts.now)) }
@@ -210,7 +210,7 @@ impl PositionListLog {
         }
     }
 
-    /// No lists, with room for so many positions.
+    /// No lists, with room for this many positions.
     pub(crate) fn with_capacity(
         alloc: Global,
         positions: usize,
@@ -231,7 +231,7 @@ impl PositionListLog {
         self.counts.len()
     }
 
-    /// Puts a list behind the others.
+    /// Puts a list after the others.
     pub(crate) fn push(&mut self, list: &[u32]) -> Result<(), AllocError>
         requires is { IsPositionListLog self.old }
         requires list { IsPositionList list.now }

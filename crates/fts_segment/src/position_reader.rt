@@ -42,7 +42,7 @@ impl<'a> PositionReader<'a> {
         }
     }
 
-    /// The positions in the document of a posting, and none where there is no such posting.
+    /// The positions in the document of a posting, and none if there is no such posting.
     #[inline(always)]
     pub fn get(&mut self, posting: usize) -> Positions<'a>
         ensures positions { positions_left result ≡ slice_index_or self.old posting [] }

@@ -21,7 +21,7 @@ pub(crate) struct PostingsWriter {
     pub(crate) positions: PositionLog,
 }
 
-// Makes `docs` the documents of places, each once.
+/// Makes `docs` the documents of places, each once.
 pub(crate) fn set_docs(docs: &mut Vec<u32>, places: &[Place]) -> Result<(), AllocError>
     ensures { OnOk result (docs.new.items ≡ docs_in places.now) }
 {
@@ -58,7 +58,7 @@ impl PostingsWriter {
         }
     }
 
-    /// No term, with room for so many terms and so many positions in all.
+    /// No term, with room for this many terms and this many positions in all.
     fn with_capacity(
         alloc: Global,
         terms: usize,
@@ -76,7 +76,7 @@ impl PostingsWriter {
         })
     }
 
-    /// Puts a term behind the others, with the documents of its places. `room` is for the numbers of one of them.
+    /// Puts a term after the others, with the documents of its places. `room` is for the numbers of one of them.
     fn push(
         &mut self,
         alloc: Global,
@@ -103,7 +103,7 @@ impl PostingsWriter {
         self.positions.push(room, places)
     }
 
-    /// Puts a term behind the others, that has these documents and whose positions were put behind those of the others.
+    /// Puts a term after the others, that has these documents and whose positions were put after those of the others.
     pub(crate) fn end_term(
         &mut self,
         alloc: Global,
@@ -153,7 +153,7 @@ impl PostingsWriter {
     }
 }
 
-/// Puts a term behind the others, if it has a place.
+/// Puts a term after the others, if it has a place.
 pub(crate) fn put(
     writer: &mut PostingsWriter,
     alloc: Global,

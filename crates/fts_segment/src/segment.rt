@@ -20,9 +20,9 @@ use crate::field_index::FieldIndex;
 use crate::position_reader::PositionReader;
 use crate::term_positions::TermPositionLists;
 use fts_base::release;
-use fts_column::Column;
 use fts_model::{Document, FieldValue, Schema, Stamp, Stamped, Term};
 use fts_pack::List;
+use fts_pack::column::Column;
 use std::alloc::AllocError;
 use std::marker::Model;
 use std::sync::Arc;
@@ -161,7 +161,7 @@ impl Segment {
     }
 
     /// The lists of the documents with a number between two, these included, in the column of a number or keyword
-    /// field: one for each different number that documents have there, none of them empty, so a document stands in one
+    /// field: one for each different number that documents have there, none of them empty, so a document is in one
     /// at most.
     pub fn lists_between(&self, field: usize, low: u64, high: u64) -> &[List]
         requires { is_ordered_field self.now.schema field ≡ true }
@@ -197,8 +197,8 @@ impl Segment {
         stored.indexes[field].dictionary(stored.schema.kind(field))
     }
 
-    /// The keyword of this ordinal in a keyword field: the one before which so many different ones of the segment
-    /// stand. None where there are not so many. Nothing is copied.
+    /// The keyword of this ordinal in a keyword field: the one before which this many different ones of the segment
+    /// stand. None if there are not this many. Nothing is copied.
     pub fn keyword(&self, field: usize, ordinal: u64) -> Option<&str>
         requires { kind_at self.now.schema field ≡ Some kinds.Keyword }
         ensures { option_copied result ≡ slice_get (keywords self.now field) ordinal }
@@ -210,7 +210,7 @@ impl Segment {
     }
 
     /// Between which ordinals of a keyword field a text stands: how many of the segment's different texts of the field
-    /// are before it, and how many aren't behind it. The two are equal where no document has the text.
+    /// are before it, and how many aren't after it. The two are equal where no document has the text.
     pub fn equal_range(&self, field: usize, text: &str) -> (u64, u64)
         requires { kind_at self.now.schema field ≡ Some kinds.Keyword }
         ensures before { result.0 ≡ before (keywords self.now field) text.now }
@@ -232,7 +232,7 @@ impl Clone for Segment {
     }
 }
 
-// The text that a value is, if it is one.
+/// The text that a value is, if it is one.
 fn text_of(value: &FieldValue) -> Option<&str>
     ensures { option_copied result ≡ text_in_value value.now }
 {

@@ -3,10 +3,10 @@ ghost use Rattle.std.specs.Prelude.{◌≡◌, length};
 ghost use Rattle.fts_segment.specs.Sources.{HasBits};
 
 use crate::segment::Segment;
-use fts_bits::Bits;
+use fts_pack::bits::Bits;
 use std::marker::Model;
 
-/// A segment with a bit for each of its documents, which is set where the document is live.
+/// A segment with a bit for each of its documents, which is set if the document is live.
 #[derive(Drop)]
 pub struct Source<'a> {
     segment: &'a Segment,
@@ -25,7 +25,7 @@ impl<'a> Model for Source<'a> {
 }
 
 impl<'a> Source<'a> {
-    /// The segment with these bits, of which there is one a document.
+    /// The segment with these bits, of which there is one per document.
     pub fn new(segment: &'a Segment, live: &'a Bits) -> Source<'a>
         requires { length live.now ≡ length segment.now.documents }
         ensures { result ≡ record { segment = segment.now; live = live.now } }

@@ -1,4 +1,4 @@
-// Joins dictionaries: the terms of all in order, each with its postings, one dictionary behind the other.
+// Joins dictionaries: the terms of all in order, each with its postings, one dictionary after the other.
 ghost use Rattle.std.specs.Prelude.{◌≡◌, ◌++◌, ℕ, List, [], None, IfOk, OnOk, map, flat_map, option_map};
 ghost use Rattle.std.specs.List.{AllByRecursion};
 ghost use Rattle.std.specs.List.Sorted.{IsStrictlyIncreasing};
@@ -17,7 +17,7 @@ use crate::postings_writer::PostingsWriter;
 use fts_base::release;
 use std::alloc::{AllocError, Global};
 
-// The first of two terms in order.
+/// The first of two terms in order.
 fn first_of<'a>(least: Option<&'a [u8]>, term: Option<&'a [u8]>) -> Option<&'a [u8]>
     ensures { option_map (λ t. t.now) result
         ≡ lesser (option_map (λ t. t.now) least.entry) (option_map (λ t. t.now) term.entry) }
@@ -35,7 +35,7 @@ fn first_of<'a>(least: Option<&'a [u8]>, term: Option<&'a [u8]>) -> Option<&'a [
     }
 }
 
-// The first of the next terms of parts.
+/// The first of the next terms of parts.
 fn least<'a>(parts: &[Part<'a>]) -> Option<&'a [u8]>
     ensures { option_map (λ t. t.now) result ≡ least_of None parts.now }
 {
@@ -46,7 +46,7 @@ fn least<'a>(parts: &[Part<'a>]) -> Option<&'a [u8]>
     least
 }
 
-// Passes a term in each part, and puts their postings behind others.
+/// Passes a term in each part, and puts their postings after others.
 fn pass_all(
     parts: &mut [Part<'_>],
     term: &[u8],
@@ -64,8 +64,8 @@ fn pass_all(
     Ok(())
 }
 
-// Puts the next term of parts behind those of a writer, unless no posting of it is left. `docs` is room for its
-// documents.
+/// Puts the next term of parts after those of a writer, unless no posting of it is left. `docs` is room for its
+/// documents.
 fn join_term(
     writer: &mut PostingsWriter,
     alloc: Global,

@@ -3,7 +3,7 @@ ghost use Rattle.std.specs.Prelude.{◌≡◌, ◌<◌, length, map, All};
 ghost use Rattle.fts_segment.specs.TermLogs.{by_ordinal};
 
 use crate::dictionary::Dictionary;
-use crate::numbering::Numbering;
+use crate::doc_map::Numbering;
 use crate::postings_writer::write_terms;
 use crate::term_groups::TermGroups;
 use crate::term_order::{SortedNames, sorted};
@@ -11,7 +11,7 @@ use fts_base::release;
 use std::alloc::{AllocError, Global};
 use std::marker::Model;
 
-/// A term, by its number, stands in a document at a position.
+/// A term, by its number, is in a document at a position.
 #[derive(Clone, Copy)]
 pub(crate) struct Occurrence {
     pub(crate) term: u32,
@@ -58,7 +58,7 @@ impl TermLog {
         }
     }
 
-    /// Puts an occurrence behind the others.
+    /// Puts an occurrence after the others.
     pub(crate) fn push(&mut self, term: &str, doc: u32, position: u32) -> Result<(), AllocError>
         ensures { OnOk result (self.new
             ≡ self.old ++ record { term = term.now; doc = doc; position = position } ∷ []) }
@@ -100,7 +100,7 @@ impl TermLog {
     }
 }
 
-// Numbers the terms of occurrences by their order.
+/// Numbers the terms of occurrences by their order.
 fn put_in_order(log: &mut [Occurrence], ordinals: &[u32])
     requires { All (λ occurrence. occurrence.term < length ordinals.now) log.old }
     ensures { log.new ≡ map (by_ordinal ordinals.now) log.old }

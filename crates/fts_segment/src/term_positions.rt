@@ -68,7 +68,7 @@ impl<'a> TermPositionLists<'a> {
     ghost use Rattle.fts_segment.specs.TermPositionLists.{position_lists_in};
     ghost use Rattle.fts_segment.specs.PositionsLeft.{positions_left};
 
-    /// The positions in the document of a posting, and none where there is no such posting.
+    /// The positions in the document of a posting, and none if there is no such posting.
     #[inline(always)]
     pub(crate) fn get(self, posting: usize, bounds: &mut Bounds) -> Positions<'a>
         requires bounds { AreBounds self.lists.now bounds.old }
@@ -108,7 +108,7 @@ impl PositionLog {
         }
     }
 
-    /// Of no term, with room for so many terms and so many positions in all.
+    /// Of no term, with room for this many terms and this many positions in all.
     pub(crate) fn with_capacity(
         alloc: Global,
         terms: usize,
@@ -123,7 +123,7 @@ impl PositionLog {
         })
     }
 
-    /// Puts the positions of a term behind those of the others. `list` is room for those of a posting.
+    /// Puts the positions of a term after those of the others. `list` is room for those of a posting.
     pub(crate) fn push(&mut self, list: &mut Vec<u32>, places: &[Place]) -> Result<(), AllocError>
         requires is { IsPositionLog self.old }
         requires positions { All IsPositionList (position_lists_of places.now) }
@@ -136,7 +136,7 @@ impl PositionLog {
         Ok(())
     }
 
-    /// Ends a term, whose positions are the lists that were put behind those of the terms before.
+    /// Ends a term, whose positions are the lists that were put after those of the terms before.
     pub(crate) fn end_term(&mut self) -> Result<(), AllocError>
         requires { IsPositionListLog self.old.lists }
         ensures { (before more : List (List ℕ)) → AreEnds 0 self.old.ends.items (length before)
@@ -148,8 +148,8 @@ impl PositionLog {
     }
 }
 
-// Puts the position of a place behind those of the document `doc`, which `list` has. Where the place is of another
-// document, the list is put behind the others first.
+/// Puts the position of a place after those of the document `doc`, which `list` has. Where the place is of another
+/// document, the list is put after the others first.
 fn push_place(
     lists: &mut PositionListLog,
     list: &mut Vec<u32>,
@@ -172,7 +172,7 @@ fn push_place(
     Ok(())
 }
 
-// Puts the positions of places behind the lists so far, a list for each document.
+/// Puts the positions of places after the lists so far, a list for each document.
 fn push_position_lists(
     lists: &mut PositionListLog,
     list: &mut Vec<u32>,

@@ -1,4 +1,4 @@
--- How many segments and numbers commits and merges take, and where they can't be refused but for memory.
+-- How many segments and numbers commits and merges take, and if they can't be refused but for memory.
 use Rattle.std.proofs.Common.{◌≡◌, ◌+◌, ◌*◌, ◌^◌, ◌<◌, ◌≤◌, ◌≢◌, ◌==◌, ◌||◌, ◌⊎◌, inl, inr, ℕ, zero, suc, Bool, true, false, cond, not, Option, None, Some, Err, List, [], ◌∷◌, ◌++◌, length, map, filter, sum_by, nat_lt, refl, sym, ap, subst, ◌∙◌, arith}
 use Rattle.std.specs.List.{AllByRecursion, flat_map}
 use Rattle.std.proofs.lemmas.Bool.Decides.{nat_tests}
@@ -23,7 +23,7 @@ use Rattle.fts_snapshots.specs.LateMerges.{after_merge, ended}
 use Rattle.fts_snapshots.specs.MergedSegments.{merged_of}
 use Rattle.fts_snapshots.specs.Merges.{is_among, is_there, entry_at, entries_at, without, fault_behind, names_fault, size_fault}
 use Rattle.fts_snapshots.specs.Snapshots.{SnapshotValue, IsSnapshot, after_commit, commit_fault, content_of, merge_fault, segments_and_numbers}
-use Rattle.fts_snapshots.proofs.BeginLemmas.{length-live_in, ids_named}
+use Rattle.fts_snapshots.proofs.LateBeginLemmas.{length-live_in, ids_named}
 use Rattle.fts_snapshots.proofs.EntryLemmas.{length-added}
 use Rattle.fts_snapshots.proofs.MergeLemmas.{AreDifferent, names_given}
 use Rattle.fts_snapshots.proofs.OrderLemmas.{Rises, rises_from_pairs, permutation_in_order}

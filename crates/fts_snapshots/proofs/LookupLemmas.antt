@@ -1,4 +1,4 @@
--- The places of segments, and what stands there.
+-- The places of segments, and what is there.
 use Rattle.std.proofs.Common.{◌≡◌, ◌≢◌, ◌<◌, ◌≤◌, ◌==◌, ◌||◌, inl, inr, ℕ, zero, suc, true, false, cond, Option, Some, None, Result, Ok, Err, List, [], ◌∷◌, length, get_or, slice_get, subst, refl, sym, ap, ◌∙◌, arith}
 use Rattle.std.specs.Prelude.{MatchResult, MatchOption}
 use Rattle.std.specs.Slice.{IsItemAt}

@@ -19,10 +19,10 @@ use Rattle.fts_snapshots.specs.LateMerges.{after_merge, ended, is_live_at}
 use Rattle.fts_snapshots.specs.MergedSegments.{MergedSegmentValue, merged_of, origins_of}
 use Rattle.fts_snapshots.specs.Merges.{is_there, entry_at, entries_at, names_fault, size_fault, without}
 use Rattle.fts_snapshots.specs.Snapshots.{SnapshotValue, IsSnapshot, merge_fault}
-use Rattle.fts_snapshots.proofs.BeginLemmas.{fits_begun, here_begun, ids_named, job_begun, length-live_in, length-merged, merged_by_job}
+use Rattle.fts_snapshots.proofs.LateBeginLemmas.{fits_begun, here_begun, ids_named, job_begun, length-live_in, length-merged, merged_by_job}
 use Rattle.fts_snapshots.proofs.CountLemmas.{but, without-more}
-use Rattle.fts_snapshots.proofs.EndLemmas.{content-ended, snapshot_after_end}
-use Rattle.fts_snapshots.proofs.EndedLemmas.{schema_ended}
+use Rattle.fts_snapshots.proofs.LateContentLemmas.{content-ended, snapshot_after_end}
+use Rattle.fts_snapshots.proofs.LateSchemaLemmas.{schema_ended}
 use Rattle.fts_snapshots.proofs.MergeLemmas.{AreDifferent, names_given}
 use Rattle.fts_snapshots.proofs.OrderLemmas.{permutation_in_order}
 use Rattle.fts_snapshots.proofs.SnapshotLemmas.{all_entries_at, some_sources}

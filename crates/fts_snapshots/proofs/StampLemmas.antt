@@ -1,35 +1,19 @@
 -- The stamps of operations, and of what their commit leaves.
-use Rattle.std.proofs.Common.{◌≡◌, ◌<◌, ◌≤◌, ◌+◌, ◌^◌, ℕ, zero, suc, true, false, cond, List, [], ◌∷◌, ◌++◌, length, refl, subst, sym, ap, ◌∙◌, arith, All}
+use Rattle.std.proofs.Common.{◌≡◌, ◌<◌, ◌≤◌, ◌+◌, ◌^◌, ℕ, zero, suc, true, false, cond, List, [], ◌∷◌, ◌++◌, length, refl, subst, sym, ap, arith, All}
 use Rattle.std.specs.List.{AllByRecursion, range_with_len}
-use Rattle.std.proofs.lemmas.List.{length-append, map-append}
 use Rattle.std.proofs.lemmas.List.Elements.{All-from_recursion, recursion_from_All}
 use Rattle.fts_model.specs.declared.schema.Field.{Field}
 use Rattle.fts_model.specs.declared.operation.Op.{Op}
 use Rattle.fts_model.specs.declared.operation.Op.TheVariants.{Add, Delete, DeleteAll}
 use Rattle.fts_model.specs.declared.operation.Stamped.{Stamped}
 use Rattle.fts_model.specs.Documents.{DocumentValue}
-use Rattle.fts_model.specs.Operations.{alive, adds, is_struck, left_by, StampsRise}
+use Rattle.fts_model.specs.Operations.{alive, adds, is_struck, left_by, stamps_of, StampsRise}
 use Rattle.fts_model.proofs.OperationsAlive.{alive-pairs}
 use Rattle.fts_snapshots.specs.Snapshots.{SnapshotValue, IsBehind, content_of}
-use Rattle.fts_snapshots.specs.Stamps.{IsStamped, stamps_of}
+use Rattle.fts_snapshots.specs.Stamps.{IsStamped}
 use Rattle.fts_snapshots.proofs.OrderLemmas.{Rises, All-weaker_by, All-joined}
 use Rattle.fts_snapshots.proofs.CommitLemmas.{by_stamp, stamps_rise}
 use Rattle.fts_snapshots.proofs.SnapshotLemmas.{all_adds, rise_behind}
-use Rattle.fts_model.proofs.Lists.{range_with_len-push}
-
-pub stamps_of-push : (xs ys : List (Stamped Op)) (x : Stamped Op) → ys ≡ xs ++ x ∷ [] → stamps_of ys ≡ stamps_of xs ++ x.stamp ∷ []
-stamps_of-push xs ys x e = ap stamps_of e ∙ map-append (λ (s : Stamped Op). s.stamp) xs (x ∷ [])
-
--- one operation more has the next stamp
-pub numbered-push : (first : ℕ) (ops : List (Stamped Op)) (op : Stamped Op) → stamps_of ops ≡ range_with_len first (length ops) → op.stamp ≡ first + length ops →
-    stamps_of (ops ++ op ∷ []) ≡ range_with_len first (length (ops ++ op ∷ []))
-numbered-push first ops op run at =
-    let more : suc (length ops) ≡ length (ops ++ op ∷ []) = omega (arith, length-append ops (op ∷ [])) in
-    stamps_of-push ops (ops ++ op ∷ []) op refl
-    ∙ ap (λ (ns : List ℕ). ns ++ op.stamp ∷ []) run
-    ∙ ap (λ (n : ℕ). range_with_len first (length ops) ++ n ∷ []) at
-    ∙ sym (range_with_len-push first (length ops))
-    ∙ ap (λ (n : ℕ). range_with_len first n) more
 
 -- numbers one after the other
 run_from : (k a n : ℕ) → k ≤ a → AllByRecursion (λ x. k ≤ x) (range_with_len a n)

@@ -52,6 +52,6 @@ committed cut schema batch id entries = filter has_live (all_after cut schema ba
 abbrev pub new_segments : Cut → List (Stamped Op) → ℕ
 new_segments cut batch = length (groups_of cut (added batch))
 
--- why numbers can't be given, where the one behind them is `next`: the last of them would be 2^62 or more
+-- why numbers can't be given, where the one after them is `next`: the last of them would be 2^62 or more
 abbrev pub numbers_fault : ℕ → Option Refusal
 numbers_fault next = if nat_lt (2 ^ 62) next then Some StampsUsedUp else None

@@ -4,7 +4,7 @@ use Rattle.fts_model.specs.Limits.{most_built}
 use Rattle.fts_model.specs.declared.cut.Cut.{Cut}
 use Rattle.fts_model.specs.declared.cut.Cut.TheVariants.{Runs, Deal}
 
--- the limits of a cut
+-- the limits of a cut: 1 to 65,536 adds in a row, or 1 to 64 segments in turn
 abbrev pub IsCut : Cut → Type 0
 IsCut (Runs n) = (1 ≤ n) × (n ≤ most_built)
 IsCut (Deal m) = (1 ≤ m) × (m ≤ 64)
@@ -24,7 +24,7 @@ capacity (Deal m) = most_built
 abbrev pub place_of : Cut → ℕ → ℕ
 place_of cut j = j / (builders cut * capacity cut) * builders cut + j % builders cut
 
--- groups with a member put into the group of this number, or into another behind the last
+-- groups with a member put into the group of this number, or into another after the last
 abbrev pub put_into : {X : Type 0} → ℕ → X → List (List X) → List (List X)
 put_into k x [] = (x ∷ []) ∷ []
 put_into zero x (group ∷ groups) = (group ++ x ∷ []) ∷ groups

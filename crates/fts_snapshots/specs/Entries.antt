@@ -8,13 +8,13 @@ use Rattle.fts_segment.specs.Segments.{SegmentValue}
 use Rattle.fts_segment.specs.Contents.{content_of}
 use Rattle.fts_snapshots.specs.Order.{in_stamp_order}
 
--- a segment of this number, and a bit for each of its documents: it is set where the document is live
+-- a segment with its number and its live bits
 pub record EntryValue : Type 0 where
   pub id : ℕ
   pub segment : SegmentValue
   pub live : List Bool
 
--- what holds of every segment of a snapshot: it has a bit a document, and not too many documents
+-- what holds of every segment of a snapshot: it has one bit per document, and `most_merged` documents at most
 pub record IsEntry (entry : EntryValue) : Type 0 where
   pub bits : length entry.live ≡ length entry.segment.documents
   pub few : length entry.segment.documents ≤ most_merged

@@ -1,7 +1,9 @@
 -- How large the segments of a snapshot are, and which are worth merging.
 use Rattle.std.specs.Prelude.{ℕ, List, [], ◌∷◌, ◌++◌, length, map, slice_get, sum_by}
 use Rattle.std.specs.Option.{option_map_or}
-use Rattle.fts_merge.specs.Levels.{candidates}
+use Rattle.fts_merge.specs.Levels.{candidates, candidates_by}
+use Rattle.fts_merge.specs.declared.policy.MergePolicy.{MergePolicy}
+use Rattle.fts_merge.specs.declared.policy.SegmentSize.{SegmentSize}
 use Rattle.fts_snapshots.specs.Entries.{EntryValue, live_count}
 use Rattle.fts_snapshots.specs.Merges.{entries_at, without}
 use Rattle.fts_snapshots.specs.Snapshots.{SnapshotValue}
@@ -25,3 +27,11 @@ id_at entries index = option_map_or (λ entry. entry.id) (slice_get entries inde
 -- the candidates for merges, by the numbers of segments: a size is a number of live documents
 abbrev pub candidate_ids : List EntryValue → List (List ℕ)
 candidate_ids entries = map (λ indexes. map (id_at entries) indexes) (candidates (map live_count entries))
+
+-- how large a segment is for a merge policy
+abbrev pub size_of : EntryValue → SegmentSize
+size_of entry = record { docs = length entry.segment.documents; live = live_count entry }
+
+-- the candidates of a policy, by the numbers of segments
+abbrev pub candidate_ids_by : MergePolicy → List EntryValue → List (List ℕ)
+candidate_ids_by policy entries = map (λ indexes. map (id_at entries) indexes) (candidates_by policy (map size_of entries))

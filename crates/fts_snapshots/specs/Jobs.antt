@@ -15,10 +15,10 @@ abbrev pub entry_of_task : List (Stamped Op) → Task → EntryValue
 entry_of_task ops (Strike entry) = struck ops entry.now
 entry_of_task ops (Build segment) = fresh segment.schema.now ops segment.id segment.group.now
 
--- the segment that a job leaves
+-- the segment that a job of a commit leaves
 abbrev pub entry_of : CommitJob → EntryValue
 entry_of job = entry_of_task job.ops.now job.task
 
--- a job answers the segment that it leaves, or want of memory
+-- a job answers the segment that it leaves, or that memory ran out
 abbrev pub Answers : CommitJob → Result EntryValue Refusal → Type 0
 Answers job result = IfOk result (λ entry. entry ≡ entry_of job) × IsOkUnless result Memory

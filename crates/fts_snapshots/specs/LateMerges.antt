@@ -32,7 +32,7 @@ ended id m entries = record {
 abbrev pub replaced : ℕ → MergedSegmentValue → List EntryValue → List EntryValue
 replaced id m entries = without entries m.ids ++ filter has_live (ended id m entries ∷ [])
 
--- the snapshot when a merge has ended
+-- the snapshot when a merge has ended, with the live bits that its sources have by then
 abbrev pub after_end : MergedSegmentValue → SnapshotValue → SnapshotValue
 after_end m s = record {
   schema = s.schema;
@@ -67,6 +67,6 @@ is_gone m entries = not (list_any (is_there entries) m.ids) || is_some_live entr
 abbrev pub gone_fault : MergedSegmentValue → List EntryValue → Option Refusal
 gone_fault m entries = if is_gone m entries then option_map SourceGone (first_gone entries m.ids) else None
 
--- why a merge can't end
+-- why a merge can't end: a source is gone, or numbers are used up
 abbrev pub end_fault : ℕ → MergedSegmentValue → List EntryValue → Option Refusal
 end_fault next m entries = first_of (gone_fault m entries) (numbers_fault (next + 1))

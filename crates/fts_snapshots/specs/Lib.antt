@@ -14,3 +14,4 @@ pub mod MergedSegments
 pub mod Successors
 pub mod Lookups
 pub mod LateMerges
+pub mod searches

@@ -9,7 +9,7 @@ use Rattle.fts_snapshots.specs.Sources.{source_of}
 abbrev pub ids_of : List EntryValue → List ℕ
 ids_of entries = map (λ entry. entry.id) entries
 
--- what holds of the segments of a job: there is one, all have one schema, and no number stands twice
+-- what holds of the segments of a job: there is one, all have one schema, and no number occurs twice
 pub record IsJob (entries : List EntryValue) : Type 0 where
   pub some : 0 < length entries
   pub each : All IsEntry entries

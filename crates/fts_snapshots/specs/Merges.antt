@@ -28,7 +28,7 @@ entries_at entries ids = flat_map (entry_at entries) ids
 abbrev pub without : List EntryValue → List ℕ → List EntryValue
 without entries ids = filter (λ entry. not (is_among ids entry.id)) entries
 
--- what is wrong with these numbers, where others stand before them: the first that no segment has, or that stands
+-- what is wrong with these numbers, where others come before them: the first that no segment has, or that stands
 -- before it
 abbrev pub fault_behind : List EntryValue → List ℕ → List ℕ → Option Refusal
 fault_behind entries before [] = None
@@ -37,11 +37,11 @@ fault_behind entries before (id ∷ ids) =
     then (if is_among before id then Some (SegmentTwice id) else fault_behind entries (before ++ id ∷ []) ids)
     else Some (UnknownSegment id)
 
--- what is wrong with a list of segments to merge
+-- what is wrong with a list of segments to merge: none, one that isn't there, one twice
 abbrev pub names_fault : List EntryValue → List ℕ → Option Refusal
 names_fault entries [] = Some NoSegments
 names_fault entries (id ∷ ids) = fault_behind entries [] (id ∷ ids)
 
--- why segments can't become one that have so many live documents together
+-- segments to merge have over 1,048,576 live documents together
 abbrev pub size_fault : ℕ → Option Refusal
 size_fault live = if nat_lt most_merged live then Some TooLarge else None

@@ -14,6 +14,7 @@ pub record PreparedValue : Type 0 where
   pub batch : List (Stamped Op)
   pub snapshot : SnapshotValue
 
+-- the prepared commit of a batch, cut in some way, on a snapshot
 abbrev pub prepared : Cut → List (Stamped Op) → SnapshotValue → PreparedValue
 prepared cut batch snapshot = record { cut = cut; batch = batch; snapshot = snapshot }
 
@@ -25,10 +26,10 @@ pub record IsPrepared (p : PreparedValue) : Type 0 where
   pub room : p.snapshot.next_id + new_segments p.cut p.batch ≤ 2 ^ 62
   pub snapshot : IsSnapshot p.snapshot
 
--- the segments that its jobs leave, one a job
+-- the segments that its jobs leave, one per job
 abbrev pub entries_left : PreparedValue → List EntryValue
 entries_left p = all_after p.cut p.snapshot.schema p.batch p.snapshot.next_id p.snapshot.entries
 
--- those of them that stay
+-- of the segments that a commit's jobs leave, those that stay
 abbrev pub entries_kept : PreparedValue → List EntryValue
 entries_kept p = committed p.cut p.snapshot.schema p.batch p.snapshot.next_id p.snapshot.entries

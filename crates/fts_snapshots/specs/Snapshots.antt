@@ -31,7 +31,8 @@ segments_and_numbers s = s.next_id + length s.entries
 abbrev pub IdsRise : List EntryValue → Type 0
 IdsRise entries = AllPairs (λ a b. a.id < b.id) entries
 
--- what holds of every snapshot
+-- what holds of every snapshot: its segments' numbers rise below 2^62, each segment has a live document, no stamp
+-- occurs twice
 pub record IsSnapshot (s : SnapshotValue) : Type 0 where
   pub ids : IdsRise s.entries
   pub below : All (λ entry. entry.id < s.next_id) s.entries
@@ -41,14 +42,14 @@ pub record IsSnapshot (s : SnapshotValue) : Type 0 where
   pub live : All (λ entry. has_live entry ≡ true) s.entries
   pub stamps : StampsRise (content s.entries)
 
--- operations come behind documents: their stamps rise, from one that is above those of the documents
+-- operations come after documents: their stamps rise, above those of the documents
 pub record IsBehind (documents : List (Stamped DocumentValue)) (ops : List (Stamped Op)) : Type 0 where
   pub first : ℕ
   pub rising : StampsRise ops
   pub before : All (λ document. document.stamp < first) documents
   pub behind : All (λ op. first ≤ op.stamp) ops
 
--- the snapshot that a commit leaves
+-- the snapshot that a commit of a batch leaves
 abbrev pub after_commit : Cut → List (Stamped Op) → SnapshotValue → SnapshotValue
 after_commit cut batch s = record {
   schema = s.schema;
@@ -56,7 +57,7 @@ after_commit cut batch s = record {
   next_id = s.next_id + new_segments cut batch;
 }
 
--- why a batch can't be committed
+-- why a batch can't be committed: numbers of segments are used up
 abbrev pub commit_fault : Cut → List (Stamped Op) → SnapshotValue → Option Refusal
 commit_fault cut batch s = numbers_fault (s.next_id + new_segments cut batch)
 

@@ -15,15 +15,15 @@ pub record IsLater (before after : EntryValue) : Type 0 where
   pub segment : after.segment ≡ before.segment
   pub live : (n : ℕ) → is_set after.live n ≡ true → is_set before.live n ≡ true
 
--- a snapshot follows another: the next number doesn't fall, and each segment whose number is below the old one's is one
--- of the old ones, later on
+-- a snapshot follows another: the next number doesn't fall, and of the old segments those that are left have no
+-- document live that wasn't
 pub record Follows (old new : SnapshotValue) : Type 0 where
   pub next : old.next_id ≤ new.next_id
   pub segments : (entry : EntryValue) → Contains new.entries entry → entry.id < old.next_id →
       (before : EntryValue) × Contains old.entries before × IsLater before entry
 
 -- a merged segment can take the place of its sources in a snapshot: their numbers were given already, and of each
--- source that is there it has the schema and each live document, whose origin stands at the same place
+-- source that is there it has the schema and each live document, whose origin is at the same place
 pub record Fits (m : MergedSegmentValue) (s : SnapshotValue) : Type 0 where
   pub below : (id : ℕ) → Contains m.ids id → id < s.next_id
   pub schema : (entry : EntryValue) → Contains s.entries entry → Contains m.ids entry.id →

@@ -5,9 +5,9 @@ mod cut;
 mod group;
 mod jobs;
 mod new_segment;
-mod prepared;
+mod prepared_commit;
 
 pub(crate) use commit::entries_in_turn;
 pub use commit::push_live;
 pub use jobs::CommitJob;
-pub use prepared::PreparedCommit;
+pub use prepared_commit::PreparedCommit;

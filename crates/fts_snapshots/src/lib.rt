@@ -8,9 +8,11 @@
 //!   [`PreparedCommit`] may be run in any threads.
 //! - A merge can end later: [`Snapshot::begin_merge`] gives a [`MergeJob`], which any thread may run, and
 //!   [`Snapshot::end_merge`] puts the [`MergedSegment`] in place of its sources, with the live bits that these have in
-//!   the snapshot where it ends. It may end in every snapshot that follows the one where it began ([`laws`]).
+//!   the snapshot if it ends. It may end in every snapshot that follows the one where it began ([`laws`]).
 //!
-//! It starts no thread and waits for none, and it searches and publishes nothing: that is for the crates above.
+//! - [`searches`] answers a search over a snapshot, in one thread or a part for each segment.
+//!
+//! It starts no thread, waits for none and publishes nothing: that is for the crates above.
 //!
 //! ```text
 //! let next = snapshot.commit_alone(alloc, batch, Cut::Runs(65_536))?;
@@ -25,10 +27,13 @@ mod commits;
 mod entries;
 pub mod laws;
 mod merges;
+pub mod searches;
 mod snapshot;
 
 pub use commits::{CommitJob, PreparedCommit, push_live};
 pub use entries::{Entry, SegmentInfo, ids_of, live_in};
+pub use fts_merge::MergePolicy;
 pub use fts_model::Cut;
 pub use merges::{MergeJob, MergedSegment};
+pub use searches::{part_of, search_alone};
 pub use snapshot::Snapshot;

@@ -9,5 +9,5 @@ mod sources;
 pub(crate) use end::end_entries;
 pub use job::MergeJob;
 pub use merged_segment::MergedSegment;
-pub(crate) use plan::candidates;
+pub(crate) use plan::{candidates, candidates_by};
 pub(crate) use sources::named_entries;

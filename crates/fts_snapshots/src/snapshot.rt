@@ -1,8 +1,9 @@
 // What is seen of an index at one time, and what commits and merges make of it.
-ghost use Rattle.std.specs.Prelude.{◌≡◌, ◌^◌, [], None, map, IfOk, IsOkUnless};
+ghost use Rattle.std.specs.Prelude.{◌≡◌, ◌≤◌, ◌^◌, [], None, map, IfOk, IsOkUnless};
+ghost use Rattle.fts_model.specs.Limits.{most_merged};
 ghost use Rattle.fts_base.specs.Results.{Gives, ok_unless};
 ghost use Rattle.fts_snapshots.specs.Entries.{content};
-ghost use Rattle.fts_snapshots.specs.Infos.{info_of, infos_after_merge, candidate_ids};
+ghost use Rattle.fts_snapshots.specs.Infos.{info_of, infos_after_merge, candidate_ids, candidate_ids_by};
 ghost use Rattle.fts_snapshots.specs.Cuts.{IsCut};
 ghost use Rattle.fts_snapshots.specs.Commits.{misfit};
 ghost use Rattle.fts_snapshots.specs.Merges.{entries_at, names_fault};
@@ -14,7 +15,10 @@ ghost use Rattle.fts_snapshots.specs.Snapshots.{IsBehind, IsSnapshot, GivesCommi
 
 use crate::commits::{PreparedCommit, entries_in_turn};
 use crate::entries::{Entry, SegmentInfo};
-use crate::merges::{MergeJob, MergedSegment, candidates, end_entries, named_entries};
+use crate::merges::{
+    MergeJob, MergedSegment, candidates, candidates_by, end_entries, named_entries,
+};
+use fts_merge::MergePolicy;
 use fts_model::{Cut, Op, Refusal, Schema, Stamped};
 use std::alloc::{AllocError, Global};
 use std::marker::Model;
@@ -87,7 +91,7 @@ impl Snapshot {
         self.next_id
     }
 
-    /// Begins a commit of a batch that fits the schema and comes behind the documents that are there: its adds are cut
+    /// Begins a commit of a batch that fits the schema and comes after the documents that are there: its adds are cut
     /// into new segments. The jobs that it is made of may be run in any threads.
     ///
     /// `StampsUsedUp` where the number of a new segment would be 2^62 or more.
@@ -106,7 +110,7 @@ impl Snapshot {
         PreparedCommit::new(alloc, cut, batch, self)
     }
 
-    /// The snapshot after a batch that fits the schema and comes behind the documents that are there. Its adds are cut
+    /// The snapshot after a batch that fits the schema and comes after the documents that are there. Its adds are cut
     /// into new segments; one without a live document is gone. The calling thread does all of it.
     ///
     /// `StampsUsedUp` where the number of a new segment would be 2^62 or more.
@@ -156,7 +160,7 @@ impl Snapshot {
     }
 
     /// The snapshot with a merged segment in place of its sources, under the next number. Its live bits are those that
-    /// its sources have here, and where none is left the segment isn't there.
+    /// its sources have here, and if none is left the segment isn't there.
     ///
     /// `SourceGone` for want of a source; then `StampsUsedUp` where the number would be 2^62.
     pub fn end_merge(&self, alloc: Global, merged: &MergedSegment) -> Result<Snapshot, Refusal>
@@ -191,6 +195,17 @@ impl Snapshot {
         ensures memory { IsOkUnless result Refusal.Memory }
     {
         candidates(alloc, &self.entries)
+    }
+
+    /// The segments that are worth merging by a policy, by their numbers: each list is one merge.
+    pub fn plan_by(&self, alloc: Global, policy: &MergePolicy) -> Result<Vec<Vec<u64>>, Refusal>
+        requires floor { policy.now.floor ≤ most_merged }
+        requires most { policy.now.most ≤ most_merged }
+        ensures candidates { IfOk result (λ found.
+            map (λ c. c.items) found.items ≡ candidate_ids_by policy.now self.now.entries) }
+        ensures memory { IsOkUnless result Refusal.Memory }
+    {
+        candidates_by(alloc, policy, &self.entries)
     }
 }
 

@@ -23,14 +23,14 @@ places_from first text = map place_of (kept first (spans 0 (chars text)))
 abbrev pub places : List ℕ → List Token
 places text = places_from 0 text
 
--- the place stands in the text: it has a byte or more, and begins and ends between characters
+-- a place is in a text: it has a byte or more, and begins and ends between characters
 pub record IsPlaceIn (text : List ℕ) (token : Token) : Type 0 where
   pub nonempty : token.start < token.end
   pub within : token.end ≤ length text
   pub begins : IsCharBoundary text token.start
   pub ends : IsCharBoundary text token.end
 
--- so does this one, and it begins no earlier than its number says, where the first span has the number `first`
+-- a place is in a text, and begins no earlier than its number says, where the first span has the number `first`
 pub record IsPlaceFrom (first : ℕ) (text : List ℕ) (token : Token) : Type 0 where
   pub place : IsPlaceIn text token
   pub numbered : token.position ≤ first + token.start
@@ -43,11 +43,11 @@ token_at text token = (token.position, folded (slice_range text token.start toke
 abbrev pub spans_left : Tokens → List Span
 spans_left s = spans s.at (chars s.rest.now)
 
--- the places that are still to come
+-- the places of the tokens that an iterator has left
 unfoldable pub places_left : Tokens → List Token
 places_left s = map place_of (kept s.next_position (spans_left s))
 
--- the number of the first span of the text behind this one, when all spans have come
+-- the number of the first span of the text after the one that an iterator goes over
 unfoldable pub following_left : Tokens → ℕ
 following_left s = behind_spans s.first (s.next_position + length (spans_left s))
 

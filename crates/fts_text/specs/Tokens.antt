@@ -10,7 +10,7 @@ use Rattle.fts_text.specs.Characters.{is_alphanumeric, fold_chars}
 abbrev pub Span : Type 0
 Span = List (ℕ × ℕ)
 
--- the characters, where the first begins at byte `at`
+-- the characters, the first of which begins at byte `at`
 abbrev pub char_indices : ℕ → List ℕ → Span
 char_indices at [] = []
 char_indices at (c ∷ cs) = (at, c) ∷ char_indices (at + len_utf8 c) cs
@@ -39,12 +39,13 @@ tokens_from first text = map (λ r. (r.0, fold_chars (chars_of r.1))) (kept firs
 abbrev pub tokens : List ℕ → List (ℕ × List ℕ)
 tokens text = tokens_from 0 text
 
--- the number of the first span behind spans of which the last has the number before `next`: two above it, and the same
--- where there are none
+-- the number of the first span after spans of which the last has the number before `next`: two above it, and the same
+-- if there are none
 abbrev pub behind_spans : ℕ → ℕ → ℕ
 behind_spans first next = if nat_eq next first then first else next + 1
 
--- the number of the first span of the text behind this one
+-- the number of the first span of the next text: two above the last span of this one, or this one's first number if it
+-- has no span
 unfoldable pub following : ℕ → List ℕ → ℕ
 following first text = behind_spans first (first + length (spans 0 (chars text)))
 

@@ -3,8 +3,8 @@ ghost use Rattle.std.specs.Prelude.{◌≡◌, ◌≤◌, ◌+◌, All, length, 
 ghost use Rattle.fts_text.specs.Tokens.{following, tokens_from};
 ghost use Rattle.fts_text.specs.Places.{places_from, token_at, IsPlaceFrom};
 
-/// The tokens of a text whose spans are numbered from `first` on are the foldings of what stands at its places. Each
-/// place stands in the text, and there are no more of them than bytes. The text behind it begins at most one number
+/// The tokens of a text whose spans are numbered from `first` on are the foldings of what is at its places. Each
+/// place is in the text, and there are no more of them than bytes. The text after it begins at most one number
 /// above what its bytes come to.
 pub fn places_have_tokens(text: &str, first: usize)
     ensures tokens { map (token_at text.now) (places_from first text.now) ≡ tokens_from first text.now }

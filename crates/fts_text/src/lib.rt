@@ -17,11 +17,11 @@
 //! ```
 #![tactic(auto)]
 
+mod case_fold;
 mod characters;
-mod folding;
 pub mod laws;
 mod tokenizer;
 
+pub use case_fold::fold_into;
 pub use characters::is_alphanumeric;
-pub use folding::fold_into;
 pub use tokenizer::{Token, Tokens};

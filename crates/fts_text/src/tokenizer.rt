@@ -69,7 +69,7 @@ impl<'a> Tokens<'a> {
         Tokens::over(text, first)
     }
 
-    // The tokens of a text whose first span has this number.
+    /// The tokens of a text whose first span has this number.
     fn over(text: &'a str, first: usize) -> Tokens<'a>
         requires { first + length text.now < 2 ^ 64 }
         ensures tokens { places_left result ≡ places_from first text.now }
@@ -83,8 +83,8 @@ impl<'a> Tokens<'a> {
         }
     }
 
-    /// The number of the first span of the text behind this one: two above that of the last span, long ones among them,
-    /// or the text's own first number where it has no span. What is left of the text is gone over. Takes no memory.
+    /// The number of the first span of the text after this one: two above that of the last span, long ones among them,
+    /// or the text's own first number if it has no span. What is left of the text is gone over. Takes no memory.
     pub fn following(mut self) -> usize
         requires { following_left self < 2 ^ 64 }
         ensures { result ≡ following_left self.entry }
@@ -112,7 +112,7 @@ impl<'a> Tokens<'a> {
         None
     }
 
-    // The next span, of any length.
+    /// The next span, of any length.
     fn next_span(&mut self) -> Option<Token>
         ensures { YieldsSpan self.old result self.new }
     {
@@ -150,7 +150,7 @@ impl Iterator for Tokens<'_> {
     }
 }
 
-// How many bytes the characters at the front of a text take that are alphanumeric, or that are not.
+/// How many bytes the characters at the front of a text take that are alphanumeric, or that are not.
 fn front_len(text: &str, alphanumeric: bool) -> usize
     ensures len { result ≡ front_len alphanumeric (chars text.now) }
     ensures utf8 { IsUtf8 text.now }

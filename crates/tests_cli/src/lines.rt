@@ -1,7 +1,6 @@
 // Command lines, each a text whose words stand one space apart, with what the program makes of them.
-use fts_cli::args::{ArgFault, Asked, args};
-use fts_cli::status::{arg_status, status};
-use fts_script::{Cut, Fault, Merge};
+use dilforec::Cut;
+use dilforec::script::{ArgFault, Asked, Fault, Merge, arg_status, args, status};
 use std::alloc::Global;
 use std::test::Fail;
 
@@ -101,7 +100,7 @@ fn asked(alloc: Global, line: &str) -> Result<Result<Asked, ArgFault>, Fail> {
     Ok(args(alloc, words))
 }
 
-/// Whether a line asks for a run with so many workers, this cut and these merges.
+/// Whether a line asks for a run with this many workers, this cut and these merges.
 fn runs_with(alloc: Global, line: &str, wanted: (usize, Cut, Merge)) -> Result<bool, Fail> {
     match asked(alloc, line)? {
         Ok(Asked::Run(options)) => Ok((options.workers, options.cut, options.merge) == wanted),

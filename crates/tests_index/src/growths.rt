@@ -1,18 +1,18 @@
 // Whichever growth is refused to a commit, a reader, a query or a search, all is as before, and the second try
 // succeeds: what is expected of it ends by "again".
 ghost use Rattle.std.specs.Prelude.{◌≡◌, true};
-ghost use Rattle.fts_model.specs.Queries.{query_fits};
-ghost use Rattle.fts_model.specs.QueryValues.{query_value};
+ghost use Rattle.dilforec.specs.Queries.{query_fits};
+ghost use Rattle.dilforec.specs.QueryValues.{query_value};
 
-use fts_index::{Batch, CommitSeen, Cut, Reader, Searcher, Writer};
-use fts_model::{Query, Refusal, Request, Schema, Stamp};
-use fts_pool::Open;
-use fts_query::parse;
+use dilforec::{
+    Batch, CommitSeen, Cut, Open, Reader, Refusal, Request, Schema, Searcher, Stamp, Writer, parse,
+};
+use fts_model::Query;
 use std::alloc::Global;
 use std::process::Abort;
 use std::sync::Wait;
 use std::thread::Threads;
-use test_writers::{batch, seen, writer};
+use testing_writers::{batch, seen, writer};
 
 /// The query of a text.
 fn parsed(rt: &impl Abort, alloc: Global, schema: &Schema, text: &str) -> Query
@@ -42,7 +42,7 @@ fn count<R: Threads + Wait + Sync + Abort>(rt: &R, alloc: Global, searcher: &Sea
     }
 }
 
-/// Whether this is seen of a writer, and so many documents are found.
+/// Whether this is seen of a writer, and this many documents are found.
 fn shows<R: Threads + Wait + Sync + Abort>(
     rt: &R,
     alloc: Global,
@@ -55,7 +55,7 @@ fn shows<R: Threads + Wait + Sync + Abort>(
     assert_eq!(rt; (seen.as_str(), found), wanted);
 }
 
-/// Commits a batch in segments of one add, behind a commit of two documents.
+/// Commits a batch in segments of one add, after a commit of two documents.
 fn commit_again<R: Threads + Wait + Sync + Abort>(
     rt: &R,
     alloc: Global,

@@ -2,15 +2,13 @@
 // its own, and has stamp 2c.
 ghost use Rattle.std.specs.Prelude.{◌≡◌};
 
-use fts_index::{CommitSeen, Cut, Reader, Writer};
-use fts_model::{Refusal, Stamp};
-use fts_pool::{Gate, Open};
+use dilforec::{CommitSeen, Cut, Gate, Open, Reader, Refusal, Stamp, Writer};
 use std::alloc::Global;
 use std::process::Abort;
 use std::sync::Wait;
 use std::sync::atomic::{AtomicU64, Ordering};
 use std::thread::{Threads, for_each_mut, join, yield_now};
-use test_writers::{batch, count, writer};
+use testing_writers::{batch, count, writer};
 
 fn commit<R: Threads + Wait + Sync + Abort, G: Gate>(
     rt: &R,
@@ -26,7 +24,7 @@ fn commit<R: Threads + Wait + Sync + Abort, G: Gate>(
     committed.expect(rt, "a commit").seen
 }
 
-// The stamp of a searcher, if it is that of a commit with so many documents.
+/// The stamp of a searcher, if it is that of a commit with this many documents.
 fn stamp_found<R: Threads + Wait + Sync + Abort>(
     rt: &R,
     alloc: Global,
@@ -40,7 +38,7 @@ fn stamp_found<R: Threads + Wait + Sync + Abort>(
     (stamp % 2 == 0 && stamp / 2 == found).then_some(stamp)
 }
 
-// Whether a reader finds this stamp.
+/// Whether a reader finds this stamp.
 fn finds<R: Threads + Wait + Sync + Abort>(rt: &R, alloc: Global, reader: &mut Reader, stamp: Stamp)
     ensures { reader.new.of ≡ reader.old.of }
 {
@@ -55,7 +53,7 @@ struct UntilFound {
     released: AtomicU64,
 }
 
-// True once the number isn't 0, within so many turns.
+/// True once the number isn't 0, within this many turns.
 fn becomes_set(number: &AtomicU64) -> bool {
     for _ in 0..1_000_000_000u64 {
         if number.load(Ordering::SeqCst) > 0 {
@@ -79,7 +77,7 @@ impl Gate for UntilFound {
     fn after(&self, _job: usize) {}
 }
 
-// What a reader finds while a commit is held.
+/// What a reader finds while a commit is held.
 fn find_beside<R: Threads + Wait + Sync + Abort>(
     rt: &R,
     alloc: Global,
@@ -92,7 +90,7 @@ fn find_beside<R: Threads + Wait + Sync + Abort>(
     if began { stamp } else { None }
 }
 
-// Commits in one thread, and finds in another.
+/// Commits in one thread, and finds in another.
 fn commit_and_find<R: Threads + Wait + Sync + Abort>(
     rt: &R,
     alloc: Global,
@@ -108,7 +106,7 @@ fn commit_and_find<R: Threads + Wait + Sync + Abort>(
     stamp
 }
 
-// A reader finds the commit before, beside a commit that is held, and this one after it.
+/// A reader finds the commit before, beside a commit that is held, and this one after it.
 fn held_commit<R: Threads + Wait + Sync + Abort>(
     rt: &R,
     alloc: Global,
@@ -135,7 +133,7 @@ fn a_reader_finds_the_commit_before_while_one_is_made(rt: HostRuntime) {
     assert_eq!(rt; gate.released.load(Ordering::SeqCst), 1);
 }
 
-// Whether a reader that is told of a commit finds this.
+/// Whether a reader that is told of a commit finds this.
 fn finds_told<R: Threads + Wait + Sync + Abort>(
     rt: &R,
     alloc: Global,
@@ -150,8 +148,8 @@ fn finds_told<R: Threads + Wait + Sync + Abort>(
     finds(rt, alloc, reader, stamp);
 }
 
-// A commit of which one reader is told before a merge of all segments, and another one behind it, which finds it
-// untold.
+/// A commit of which one reader is told before a merge of all segments, and another one after it, which finds it
+/// untold.
 fn first_told<R: Threads + Wait + Sync + Abort>(
     rt: &R,
     alloc: Global,
@@ -176,7 +174,7 @@ fn first_told<R: Threads + Wait + Sync + Abort>(
     first
 }
 
-// A second commit: a reader that is told of it, and then of the first one, finds it.
+/// A second commit: a reader that is told of it, and then of the first one, finds it.
 fn second_told<R: Threads + Wait + Sync + Abort>(
     rt: &R,
     alloc: Global,
@@ -194,7 +192,7 @@ fn second_told<R: Threads + Wait + Sync + Abort>(
     second
 }
 
-// A reader that was told of both commits, each time after the other reader.
+/// A reader that was told of both commits, each time after the other reader.
 fn told<R: Threads + Wait + Sync + Abort>(rt: &R, alloc: Global, writer: &mut Writer) -> Reader {
     let mut reader = writer.reader().expect(rt, "a reader");
     let mut other = writer.reader().expect(rt, "a reader");
@@ -204,7 +202,7 @@ fn told<R: Threads + Wait + Sync + Abort>(rt: &R, alloc: Global, writer: &mut Wr
     other
 }
 
-// Also once the writer was closed.
+/// Also once the writer was closed.
 #[test]
 fn what_was_told_stays_known(rt: HostRuntime) {
     let mut writer = writer(&rt, rt.alloc()).expect(&rt, "a writer");
@@ -213,7 +211,7 @@ fn what_was_told_stays_known(rt: HostRuntime) {
     finds(&rt, rt.alloc(), &mut reader, 4);
 }
 
-// How many readers there are at the first refusal, and that refusal.
+/// How many readers there are at the first refusal, and that refusal.
 fn crowd(writer: &mut Writer, readers: &mut Vec<Reader>) -> (usize, Option<Refusal>) {
     for _ in 0..100 {
         match writer.reader() {
@@ -228,7 +226,7 @@ fn crowd(writer: &mut Writer, readers: &mut Vec<Reader>) -> (usize, Option<Refus
     (readers.len(), None)
 }
 
-// Each reader finds this stamp, in a thread of its own.
+/// Each reader finds this stamp, in a thread of its own.
 fn all_find<R: Threads + Wait + Sync + Abort>(
     rt: &R,
     alloc: Global,
@@ -243,7 +241,7 @@ fn all_find<R: Threads + Wait + Sync + Abort>(
     );
 }
 
-// A reader that is dropped makes room for another.
+/// A reader that is dropped makes room for another.
 #[test]
 fn there_are_64_places(rt: HostRuntime) {
     let mut writer = writer(&rt, rt.alloc()).expect(&rt, "a writer");

@@ -1,13 +1,13 @@
 // Where one of two jobs of a commit or of a search is held back, another worker runs the other, and each is run once.
 // The writer may be closed by then.
-use fts_index::{Cut, Searcher, Writer};
-use fts_model::{Query, Refusal, Request};
+use dilforec::{Cut, Refusal, Request, Searcher, Writer};
+use fts_model::Query;
 use std::alloc::Global;
 use std::process::Abort;
 use std::sync::Wait;
 use std::thread::Threads;
-use test_gates::Holder;
-use test_writers::{batch, writer};
+use testing_gates::Holder;
+use testing_writers::{batch, writer};
 
 /// Commits two documents in segments of their own.
 fn committed<R: Threads + Wait + Sync>(

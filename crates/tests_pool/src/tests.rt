@@ -1,11 +1,11 @@
-// fts_pool: each job is run once, between the gate's two calls, and its result stands in its place, whatever the
+// fts_pool: each job is run once, between the gate's two calls, and its result is in its place, whatever the
 // workers do.
 use fts_pool::{Job, Open, run_all};
 use std::process::Abort;
 use std::sync::Wait;
 use std::sync::atomic::{AtomicU64, Ordering};
 use std::thread::Threads;
-use test_gates::Holder;
+use testing_gates::Holder;
 
 /// A number to be squared, and how often that was done.
 #[derive(Drop)]
@@ -34,7 +34,7 @@ impl Job for Square {
     }
 }
 
-/// Each job was run so often.
+/// Each job was run as often.
 fn each_ran(rt: &impl Abort, jobs: &[Square], times: u64) {
     for job in jobs {
         assert_eq!(rt; job.runs.load(Ordering::SeqCst), times);
@@ -89,7 +89,7 @@ fn no_job(rt: HostRuntime) {
     assert!(rt; nothing.is_empty());
 }
 
-/// The squares of jobs. Where a growth was refused, that was before a job ran, and a second try has them all.
+/// The squares of jobs. If a growth was refused, that was before a job ran, and a second try has them all.
 fn squares<R: AllocGlobal + Threads + Wait + Sync + Abort>(rt: &R, jobs: &[Square]) -> Vec<u64> {
     match run_all(rt, rt.alloc(), jobs, 3, &Open) {
         Ok(squares) => squares,

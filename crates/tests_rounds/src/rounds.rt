@@ -2,7 +2,7 @@
 // stamps.
 ghost use Rattle.std.specs.Prelude.{◌≡◌, ◌≤◌, ℕ, ◌<◌, length, map, slice_index_or, All};
 ghost use Rattle.std.specs.List.{range_with_len};
-ghost use Rattle.fts_pool.specs.Totals.{times};
+ghost use Rattle.fts_base.specs.Totals.{times};
 ghost use Rattle.fts_rounds.specs.Rounds.{IsLaneOf, SameLane, fresh, lanes_of};
 
 mod abandonment;
@@ -15,7 +15,7 @@ use std::fmt::Write;
 use std::process::Abort;
 use std::sync::Wait;
 use std::thread::{Threads, map_vec};
-use test_writers::{add, count, delete, document, schema, seen, tag_of, text_of, writer};
+use testing_writers::{add, count, delete, document, schema, seen, tag_of, text_of, writer};
 
 /// A delete of the documents with this price.
 fn delete_price(price: u64) -> Op {
@@ -36,7 +36,7 @@ fn deleted_price(op: &Op) -> Option<u64> {
     }
 }
 
-/// Submits an operation, again where a growth was refused: no stamp where that is refused too.
+/// Submits an operation, again if a growth was refused: no stamp where that is refused too.
 fn submit(lane: &mut Lane, op: Op) -> Option<Stamp>
     ensures { SameLane lane.old lane.new }
 {
@@ -62,7 +62,7 @@ fn price_of(op: &Op) -> Option<u64> {
     }
 }
 
-/// Submits so many documents, the price of each of which is the stamp of the lane's last one, and ends the lane.
+/// Submits this many documents, the price of each of which is the stamp of the lane's last one, and ends the lane.
 fn filled(alloc: Global, schema: &Schema, lane: Lane, count: usize) -> LaneEnd
     ensures { SameLane lane result }
 {
@@ -101,7 +101,7 @@ fn all_filled<R: Threads + Sync + Abort>(
     .expect(rt, "memory")
 }
 
-/// Gathers the ends, again where a growth was refused.
+/// Gathers the ends, again if a growth was refused.
 fn gather(rt: &impl Abort, alloc: Global, round: Round, ends: Vec<LaneEnd>) -> Batch
     requires lanes { All (IsLaneOf round) ends.items }
     requires each_once { (n : ℕ) → times n (lanes_of ends.items) ≤ 1 }
@@ -255,7 +255,7 @@ fn four_lanes(rt: &impl Abort, alloc: Global, writer: &mut Writer) -> Batch {
     gather(rt, alloc, round, ends.expect(rt, "ends"))
 }
 
-/// An operation as it is printed: its stamp, and the tag behind `+` or `-`.
+/// An operation as it is printed: its stamp, and the tag after `+` or `-`.
 fn list_op(list: &mut String, op: &Stamped<Op>) -> Result<(), AllocError> {
     match &op.value {
         Op::Add(document) => write!(list, " {}+{}", op.stamp, tag_of(document)),

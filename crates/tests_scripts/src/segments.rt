@@ -1,9 +1,8 @@
-// What no reply shows: the segments behind a commit, and whether there is a reader.
+// What no reply shows: the segments after a commit, and whether there is a reader.
 ghost use Rattle.std.specs.Prelude.{◌≡◌, ◌+◌, ◌≤◌};
 
-use fts_engine::IndexEngine;
-use fts_model::{Document, Field, Kind, Op, Refusal, Schema, Text};
-use fts_script::{Cut, Engine, EngineOver, Merge, Options};
+use dilforec::script::{Engine, EngineOver, IndexEngine, Merge, Options};
+use dilforec::{Cut, Document, Field, Kind, Op, Refusal, Schema, Text};
 use serde_json::{Map, Value};
 use std::alloc::Global;
 use std::process::Abort;

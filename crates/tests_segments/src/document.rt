@@ -1,11 +1,11 @@
-// A document that is made, copied and printed again where a growth was refused.
+// A document that is made, copied and printed again if a growth was refused.
 use crate::fixtures::schema;
 use fts_model::{Document, Refusal, Schema};
 use serde_json::Value;
 use std::alloc::{AllocError, Global};
 use std::process::Abort;
 
-/// The document of a value. Where a growth was refused, the second try succeeds.
+/// The document of a value. If a growth was refused, the second try succeeds.
 fn made(rt: &impl Abort, alloc: Global, schema: &Schema, json: &Value) -> Document {
     match Document::from_json(alloc, schema, json) {
         Ok(document) => document,
@@ -16,7 +16,7 @@ fn made(rt: &impl Abort, alloc: Global, schema: &Schema, json: &Value) -> Docume
     }
 }
 
-/// A copy of a document. Where a growth was refused, the second try succeeds.
+/// A copy of a document. If a growth was refused, the second try succeeds.
 fn copied(rt: &impl Abort, document: &Document) -> Document {
     match document.clone() {
         Ok(copy) => copy,
@@ -24,7 +24,7 @@ fn copied(rt: &impl Abort, document: &Document) -> Document {
     }
 }
 
-/// The value of a document. Where a growth was refused, the second try succeeds.
+/// The value of a document. If a growth was refused, the second try succeeds.
 fn printed(rt: &impl Abort, alloc: Global, document: &Document) -> Value {
     match document.to_json(alloc) {
         Ok(printed) => printed,

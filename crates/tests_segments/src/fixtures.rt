@@ -43,7 +43,7 @@ pub(crate) fn document(rt: &impl Abort, alloc: Global, schema: &Schema, json: &s
     Document::from_json(alloc, schema, &json).expect(rt, "a document")
 }
 
-/// Adds a document, if it fits. Where a growth was refused, the builder is as before, and the second try succeeds.
+/// Adds a document, if it fits. If a growth was refused, the builder is as before, and the second try succeeds.
 pub(crate) fn add(
     rt: &impl Abort,
     builder: &mut Builder,
@@ -64,7 +64,7 @@ pub(crate) fn add(
     }
 }
 
-/// The segment of the documents. Where a growth was refused, the builder comes back, and the second try succeeds.
+/// The segment of the documents. If a growth was refused, the builder comes back, and the second try succeeds.
 pub(crate) fn finished(rt: &impl Abort, alloc: Global, builder: Builder) -> Segment
     ensures { result.schema ≡ builder.segment.schema }
 {

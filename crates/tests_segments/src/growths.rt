@@ -1,17 +1,17 @@
 // Calls of segments, cursors, collectors and merges of which a growth was refused: nothing has changed, and the second
 // try succeeds.
 use crate::fixtures::example;
-use fts_bits::Bits;
 use fts_collect::{Part, collect};
 use fts_cursor::{DocSet, cursor_of};
 use fts_merge::{Merged, Source, merge, strike};
 use fts_model::{Answer, FieldValue, Op, Order, Query, Refusal, Request, Stamped, Term, Text};
+use fts_pack::bits::Bits;
 use fts_query::parse;
 use fts_segment::Segment;
 use std::alloc::{AllocError, Global};
 use std::process::Abort;
 
-/// A copy of a segment. Where a growth was refused, the second try succeeds.
+/// A copy of a segment. If a growth was refused, the second try succeeds.
 fn copied(rt: &impl Abort, segment: &Segment) -> Segment {
     match segment.clone() {
         Ok(copy) => copy,
@@ -92,7 +92,7 @@ fn part_of(
     }
 }
 
-/// What two parts tell together. Where a growth was refused, they come back, and the second try succeeds.
+/// What two parts tell together. If a growth was refused, they come back, and the second try succeeds.
 fn joined(rt: &impl Abort, alloc: Global, parts: Vec<Part>, request: &Request) -> Answer {
     match Part::join(alloc, parts, request) {
         Ok(answer) => answer,

@@ -1,14 +1,14 @@
 // fts_pack: what was packed is read, at every width and every number of numbers.
 ghost use Rattle.std.specs.Prelude.{◌≡◌, ◌+◌, ◌^◌, ◌<◌, ◌≤◌, length};
 
-use fts_bits::Bits;
-use fts_column::Column;
 use fts_model::Refusal;
+use fts_pack::bits::Bits;
+use fts_pack::column::Column;
 use fts_pack::{BLOCK, Block, Blocks, List, Numbers};
 use std::alloc::{AllocError, Global};
 use std::process::Abort;
 
-// Numbers of at most so many bits, the greatest of them first.
+/// Numbers of at most this many bits, the greatest of them first.
 fn numbers_of(width: u32) -> [u32; 128] {
     let greatest = u32::MAX
         .checked_shr(32u32.saturating_sub(width))
@@ -33,7 +33,7 @@ fn every_width_and_count_comes_back(rt: HostRuntime) {
     }
 }
 
-// `unpack` asks for no memory, so that it serves where no growth is granted.
+/// `unpack` asks for no memory, so that it serves where no growth is granted.
 #[test]
 fn a_refused_block_can_be_packed_again(rt: HostRuntime) {
     let numbers = [3, 1, 2];
@@ -49,7 +49,7 @@ fn a_refused_block_can_be_packed_again(rt: HostRuntime) {
     assert_eq!(rt; &out[..3], numbers.as_slice());
 }
 
-// Each number by itself, and the blocks of them.
+/// Each number by itself, and the blocks of them.
 fn check_numbers(rt: &impl Abort, packed: &Numbers, numbers: &[u32]) {
     assert_eq!(rt; packed.len(), numbers.len());
     for index in 0..packed.len() {
@@ -64,7 +64,7 @@ fn check_numbers(rt: &impl Abort, packed: &Numbers, numbers: &[u32]) {
     }
 }
 
-// Two blocks of a width with one of zeros between, and one of three numbers.
+/// Two blocks of a width with one of zeros between, and one of three numbers.
 fn blocks_of(alloc: Global, width: u32) -> Result<Vec<u32>, AllocError> {
     let block = numbers_of(width);
     let mut numbers = Vec::new(alloc);
@@ -83,7 +83,7 @@ fn numbers_of_every_width_come_back(rt: HostRuntime) {
     }
 }
 
-// Opens the first block of any blocks; exactly one opening is counted.
+/// Opens the first block of any blocks; exactly one opening is counted.
 fn open_first<B: Blocks>(source: &mut B, out: &mut [u32; 128]) -> usize
     requires { 0 < length (B.contents source.old) }
     ensures { B.openings source.new ≡ B.openings source.old + 1 }
@@ -91,7 +91,7 @@ fn open_first<B: Blocks>(source: &mut B, out: &mut [u32; 128]) -> usize
     source.open(0, out)
 }
 
-// What may go to another thread.
+/// What may go to another thread.
 fn carried<T: Send>(value: T) -> T
     ensures { result ≡ value }
 {
@@ -159,7 +159,7 @@ fn a_refused_list_can_be_built_again(rt: HostRuntime) {
     assert_eq!(rt; &out[..4], documents.as_slice());
 }
 
-// 131 values of at most so many bits, of which each fifth is missing.
+/// 131 values of at most this many bits, of which each fifth is missing.
 fn values_of(width: u32) -> [Option<u64>; 131] {
     let greatest = u64::MAX
         .checked_shr(64u32.saturating_sub(width))
@@ -173,7 +173,7 @@ fn values_of(width: u32) -> [Option<u64>; 131] {
     values
 }
 
-// Each value by itself, and the blocks of them.
+/// Each value by itself, and the blocks of them.
 fn check_values(rt: &impl Abort, column: &Column, values: &[Option<u64>; 131])
     requires { length column.now ≡ 131 }
 {
@@ -199,7 +199,7 @@ fn every_width_of_values_comes_back(rt: HostRuntime) {
     }
 }
 
-// A column of these values. Where a growth was refused, the second try succeeds.
+/// A column of these values. If a growth was refused, the second try succeeds.
 fn built(rt: &impl Abort, alloc: Global, values: &[Option<u64>]) -> Column
     requires { length values.now ≤ 2 ^ 32 }
 {
@@ -219,7 +219,7 @@ fn a_refused_column_can_be_built_again(rt: HostRuntime) {
     assert_eq!(rt; [column.get(0), column.get(1), column.get(2)], values);
 }
 
-// Bits, all of them set.
+/// Bits, all of them set.
 fn all_set(rt: &impl Abort, alloc: Global, len: usize) -> Bits {
     Bits::all_set(alloc, len).expect(rt, "bits")
 }
@@ -235,7 +235,7 @@ fn a_copy_is_equal_and_apart(rt: HostRuntime) {
     assert!(rt; all_set(&rt, rt.alloc(), 0).is_empty());
 }
 
-// A copy of bits. Where a growth was refused, the second try succeeds.
+/// A copy of bits. If a growth was refused, the second try succeeds.
 fn copied(rt: &impl Abort, alloc: Global, bits: &Bits) -> Bits {
     match bits.copied(alloc) {
         Ok(copy) => copy,

@@ -11,7 +11,7 @@ fn two_fields(alloc: Global) -> Result<Vec<Field>, AllocError> {
     Ok(vec![in alloc; title, price]?)
 }
 
-/// The schema of two fields, which come back where a growth was refused.
+/// The schema of two fields, which come back if a growth was refused.
 fn made(rt: &impl Abort, alloc: Global, fields: Vec<Field>) -> Schema {
     match Schema::new(alloc, fields) {
         Ok(schema) => schema,
@@ -28,7 +28,7 @@ fn made(rt: &impl Abort, alloc: Global, fields: Vec<Field>) -> Schema {
     }
 }
 
-/// A copy of a schema. Where a growth was refused, the second try succeeds.
+/// A copy of a schema. If a growth was refused, the second try succeeds.
 fn copied(rt: &impl Abort, schema: &Schema) -> Schema {
     match schema.clone() {
         Ok(copy) => copy,

@@ -34,7 +34,7 @@ GroupsRise groups = AllPairs (λ a b. group_cmp a.0 b.0 ≡ Less) groups
 abbrev pub AreGroupsOf : ℕ → List (List (Stamped DocumentValue)) → List PartValue → Type 0
 AreGroupsOf field lists parts = map (λ part. part.answer.groups) parts ≡ map (λ hits. Some (groups field hits)) lists
 
--- how two hits stand in a top list
+-- how two hits compare in a top list
 abbrev pub rank : Order → Hit → Hit → Ordering
 rank order a b = ordering_then (cmp_by order a.value b.value) (nat_cmp a.stamp b.stamp)
 

@@ -14,7 +14,7 @@ use Rattle.fts_collect.specs.declared.top_k.Key.{Key}
 use Rattle.fts_collect.specs.Internals.Tallies.{number_at}
 use Rattle.fts_collect.specs.Internals.Keys.{TopKValue, put_key}
 
--- where a number stands among those of 64 bits in an order, and the number that stands there
+-- where a number stands among those of 64 bits in an order, and the number that is there
 abbrev pub rank_in : Order → ℕ → ℕ
 rank_in Rising x = x
 rank_in Falling x = 2 ^ 64 - 1 - x

@@ -10,8 +10,8 @@ use Rattle.fts_model.specs.declared.value.Number.TheVariants.{U64, I64}
 use Rattle.fts_model.specs.Answers.{count_one}
 use Rattle.fts_collect.specs.declared.tally.Tally.{Tally}
 use Rattle.fts_collect.specs.declared.tally.Tally.TheVariants.{Counts, Numbers}
-use Rattle.fts_bits.specs.Signed.{i64_of}
-use Rattle.fts_column.specs.Counts.{AreWithin}
+use Rattle.fts_pack.specs.bits.Signed.{i64_of}
+use Rattle.fts_pack.specs.column.Counts.{AreWithin}
 
 -- the number that a column of this kind keeps as this one
 abbrev pub number_at : Kind → ℕ → Number
@@ -43,7 +43,7 @@ abbrev pub IsTally : List ℕ → Tally → Type 0
 IsTally numbers (Counts least counts) = AreCounts numbers least counts.items
 IsTally numbers (Numbers held) = held.items ≡ numbers
 
--- there is a place for each number of a column, where there are places
+-- there is a place for each number of a column, if there are places
 abbrev pub IsTallyFor : List (Option ℕ) → Tally → Type 0
 IsTallyFor column (Counts least counts) =
     AreWithin column least (length counts.items) × (least + length counts.items ≤ 2 ^ 64)

@@ -1,10 +1,10 @@
--- Hits that are told by bits, and those of them whose numbers lie between two.
+-- Hits that are told by bits, and those of them whose numbers are between two.
 use Rattle.std.specs.Prelude.{◌≡◌, ℕ, ◌<◌, Bool, true, List, [], ◌++◌, Contains, Option, Some, None, filter, slice_index_or}
 use Rattle.fts_model.specs.declared.query.Order.{Order}
 use Rattle.fts_model.specs.declared.query.Order.TheVariants.{Rising, Falling}
 use Rattle.fts_model.specs.declared.query.Top.{Top}
 use Rattle.fts_model.specs.QueryValues.{every}
-use Rattle.fts_column.specs.Column.{is_within}
+use Rattle.fts_pack.specs.column.Column.{is_within}
 use Rattle.fts_segment.specs.Segments.{SegmentValue, column}
 use Rattle.fts_cursor.specs.Hits.{is_live, live_hits}
 use Rattle.fts_collect.specs.Internals.Keys.{TopKValue}
@@ -14,7 +14,7 @@ use Rattle.fts_collect.specs.Internals.Collected.{HasRanked}
 abbrev pub set_in : SegmentValue → List Bool → List ℕ
 set_in segment bits = live_hits segment bits every
 
--- whether the number of a document lies between two
+-- whether the number of a document is between two
 abbrev pub has_between : List (Option ℕ) → ℕ → ℕ → ℕ → Bool
 has_between numbers low high doc = is_within low high (slice_index_or numbers doc None)
 
@@ -22,7 +22,7 @@ has_between numbers low high doc = is_within low high (slice_index_or numbers do
 abbrev pub IsBetween : List (Option ℕ) → List Bool → ℕ → ℕ → ℕ → Type 0
 IsBetween numbers bits low high doc = (is_live bits doc ≡ true) × (has_between numbers low high doc ≡ true)
 
--- the documents whose bits are set and whose numbers in a field lie between two
+-- the documents whose bits are set and whose numbers in a field are between two
 abbrev pub hits_between : SegmentValue → ℕ → List Bool → ℕ → ℕ → List ℕ
 hits_between segment field bits low high = filter (has_between (column segment field) low high) (set_in segment bits)
 

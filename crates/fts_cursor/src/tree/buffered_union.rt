@@ -13,7 +13,7 @@ use crate::tree::{Node, Source, Tree};
 use fts_pack::ListSource;
 use fts_postings::{DocSet, PostingCursor, Window};
 
-// What one of the parts has. The first documents are found already, and all parts stand behind the window of these.
+// What one of the parts has. The first documents are found already, and all parts come after the window of these.
 #[cycle(tree)]
 #[derive(Drop)]
 pub(crate) struct BufferedUnion<'a> {
@@ -21,7 +21,7 @@ pub(crate) struct BufferedUnion<'a> {
     pub(crate) window: Window,
 }
 
-// Leaves behind what lies before the target, and gives the first document from there on.
+/// Passes what lies before the target, and gives the first document from there on.
 #[cycle(tree)]
 #[inline]
 pub(crate) fn gather(buffered: &mut BufferedUnion, target: u32) -> Option<u32>
@@ -37,7 +37,7 @@ pub(crate) fn gather(buffered: &mut BufferedUnion, target: u32) -> Option<u32>
     refill(buffered, target)
 }
 
-/// Takes the next 128 of what stands at the document, and gives how many they are, and the next.
+/// Takes the next 128 of what is at the document, and gives how many they are, and the next.
 pub(crate) fn fill_gathered(
     buffered: &mut BufferedUnion,
     doc: Option<u32>,
@@ -63,7 +63,7 @@ pub(crate) fn fill_gathered(
     (128, next)
 }
 
-/// How many documents remain of what stands at the document, or the greatest `usize`. Leaves all behind.
+/// How many documents remain of what is at the document, or the greatest `usize`. Passes all.
 pub(crate) fn count_gathered(buffered: &mut BufferedUnion, doc: Option<u32>) -> usize
     requires { StandsAt doc (Node.Or buffered.old) }
     ensures count { result ≡ min (2 ^ 64 - 1) (length (gathered buffered.old)) }
@@ -81,7 +81,7 @@ pub(crate) fn count_gathered(buffered: &mut BufferedUnion, doc: Option<u32>) -> 
     count
 }
 
-// Moves a window that has nothing left to the first document from the target on, and fills it.
+/// Moves a window that has nothing left to the first document from the target on, and fills it.
 #[cycle(tree)]
 pub(crate) fn refill(buffered: &mut BufferedUnion, target: u32) -> Option<u32>
     requires { found buffered.old.window ≡ [] }
@@ -97,7 +97,7 @@ pub(crate) fn refill(buffered: &mut BufferedUnion, target: u32) -> Option<u32>
     Some(least)
 }
 
-// Leaves behind what lies before the target in each, and gives the first document of all.
+/// Passes what lies before the target in each, and gives the first document of all.
 #[cycle(tree)]
 fn seek_each(parts: &mut [Tree], target: u32) -> Option<u32>
     ensures each { AllZip (Left target) parts.old parts.new }
@@ -113,7 +113,7 @@ fn seek_each(parts: &mut [Tree], target: u32) -> Option<u32>
     least
 }
 
-// The lesser of two documents, if there is one.
+/// The lesser of two documents, if there is one.
 fn lesser(a: Option<u32>, b: u32) -> Option<u32>
     ensures { result ≡ lesser_of a b }
 {
@@ -123,7 +123,7 @@ fn lesser(a: Option<u32>, b: u32) -> Option<u32>
     }
 }
 
-// Marks the documents of each part that lie in the window, and leaves them behind.
+/// Marks the documents of each part that are in the window, and passes them.
 #[cycle(tree)]
 fn mark_each(parts: &mut [Tree], window: &mut Window)
     requires { All (λ part. part.remaining ≡ at_least window.old.from part.remaining) parts.old }
@@ -136,7 +136,7 @@ fn mark_each(parts: &mut [Tree], window: &mut Window)
     }
 }
 
-// Marks the documents of a part that lie in the window, and leaves them behind.
+/// Marks the documents of a part that are in the window, and passes them.
 #[cycle(tree)]
 fn mark_part(part: &mut Tree, window: &mut Window)
     requires { part.old.remaining ≡ at_least window.old.from part.old.remaining }
@@ -153,7 +153,7 @@ fn mark_part(part: &mut Tree, window: &mut Window)
     }
 }
 
-// The same, document by document.
+/// The same, document by document.
 #[cycle(tree)]
 fn mark_any(part: &mut Tree, window: &mut Window)
     requires { part.old.remaining ≡ at_least window.old.from part.old.remaining }
@@ -170,7 +170,7 @@ fn mark_any(part: &mut Tree, window: &mut Window)
     }
 }
 
-// The same for a list, a block at a time. Gives the first document behind the window.
+/// The same for a list, a block at a time. Gives the first document after the window.
 fn mark_postings(postings: &mut PostingCursor<ListSource>, window: &mut Window) -> Option<u32>
     requires { remaining_of postings.old ≡ at_least window.old.from (remaining_of postings.old) }
     ensures remaining { remaining_of postings.new

@@ -14,7 +14,7 @@ pub(crate) struct Exclusion<'a> {
     pub(crate) dropped: Box<Tree<'a>>,
 }
 
-// Brings the first to the first of its documents that the second doesn't have, and gives it.
+/// Brings the first to the first of its documents that the second doesn't have, and gives it.
 #[cycle(tree)]
 pub(crate) fn settle(parts: &mut Exclusion) -> Option<u32>
     ensures met { Met result (differ parts.old) (lacks parts.new.dropped.value.remaining)
@@ -33,7 +33,7 @@ pub(crate) fn settle(parts: &mut Exclusion) -> Option<u32>
     None
 }
 
-// Whether it is that document.
+/// Whether it is that document.
 fn is_at(found: Option<u32>, doc: u32) -> bool
     ensures { MatchBool result (found ≡ Some doc) (found ≢ Some doc) }
 {

@@ -21,7 +21,7 @@ use std::alloc::{AllocError, Global};
 use std::marker::Model;
 use std::sync::Arc;
 
-/// The list has no bytes, but for the number of its publications behind the opening.
+/// The list has no bytes, but for the number of its publications after the opening.
 #[derive(Drop)]
 pub struct Front {
     commit: Arc<Commit>,

@@ -1,5 +1,5 @@
 // The book that holds the list of publications. It exists in proofs alone but for one word, the number of publications
-// behind the opening, which only the publisher has.
+// after the opening, which only the publisher has.
 ghost use Rattle.std.specs.Prelude.{◌≡◌};
 
 use crate::publications::commit::Commit;
@@ -67,7 +67,7 @@ impl Plain<Commit, Publication, u64> for Append {
     ghost state = { λ commit. None };
 }
 
-/// The word, which is the number of publications behind the opening.
+/// The word, which is the number of publications after the opening.
 pub type Head = Word<Publication, u64, History>;
 
 /// A beginning of the list that was seen. It has no bytes.

@@ -23,7 +23,7 @@ pub fn equal_stamps_are_one_commit()
         a.stamp ≡ b.stamp → IsOneCommit a b }
 {}
 
-/// One commit answers each search in one way, however it lies in segments.
+/// One commit answers each search in one way, however it is in segments.
 pub fn one_commit_answers_alike()
     ensures { (a b : FrontValue) (query : QueryValue) (request : Request) → IsOneCommit a b →
         answer a.snapshot.schema query request (content_of a.snapshot)

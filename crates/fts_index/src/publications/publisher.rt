@@ -8,12 +8,12 @@ ghost use Rattle.fts_index.specs.Publications.{opening, newest, publication, pub
 ghost use Rattle.fts_index.specs.Publications.{Follows, IsFront, IsOneCommit};
 ghost use Rattle.fts_index.specs.PublicationsShown.{name_of, told_name};
 
+use crate::publications::cells::{Copies, Desk, Names};
 use crate::publications::commit::Commit;
 use crate::publications::front::Front;
 use crate::publications::history::Head;
 use crate::publications::reader::Reader;
 use crate::publications::searcher::{CommitSeen, Searcher};
-use crate::publications::shown::{Copies, Desk, Names};
 use core::mem::replace_with;
 use fts_model::{Refusal, Stamp};
 use fts_snapshots::Snapshot;
@@ -135,7 +135,7 @@ impl Publisher {
         searcher.front.is_of_commit(&self.front)
     }
 
-    /// A reader that knows all publications so far. `NoReader` where there are 64 already; one that is dropped makes
+    /// A reader that knows all publications so far. `NoReader` if there are 64 already; one that is dropped makes
     /// room for another.
     pub fn reader(&mut self) -> Result<Reader, Refusal>
         ensures same { self.new ≡ self.old }

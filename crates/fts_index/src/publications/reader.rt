@@ -4,9 +4,9 @@ ghost use mathlib.Core.List.{IsPrefix};
 ghost use Rattle.fts_index.specs.Publications.{schema_of, IsFront};
 ghost use Rattle.fts_index.specs.PublicationsShown.{name_of, told_name, Finds};
 
+use crate::publications::cells::{Names, ReadHandle};
 use crate::publications::front::Front;
 use crate::publications::searcher::{CommitSeen, Searcher};
-use crate::publications::shown::{Names, ReadHandle};
 use core::mem::replace_with;
 use fts_model::Refusal;
 use std::alloc::AllocError;

@@ -5,7 +5,7 @@ ghost use Rattle.fts_model.specs.Queries.{query_fits, request_fits};
 ghost use Rattle.fts_model.specs.QueryValues.{query_value};
 ghost use Rattle.fts_model.specs.Answers.{answer};
 ghost use Rattle.fts_snapshots.specs.Snapshots.{content_of};
-ghost use Rattle.fts_searches.specs.Searches.{OpensInAll};
+ghost use Rattle.fts_snapshots.specs.searches.Searches.{OpensInAll};
 ghost use Rattle.fts_index.specs.declared.publications.publication.Publication.{Publication};
 ghost use Rattle.fts_index.specs.Publications.{IsFront, IsOneCommit};
 
@@ -62,11 +62,11 @@ impl Searcher {
         self.front.is_of_commit(&other.front)
     }
 
-    /// What a query finds among all documents of the commit. The segments are searched by up to so many threads, 1 to
+    /// What a query finds among all documents of the commit. The segments are searched by up to this many threads, 1 to
     /// 64, the calling one among them: one job for each segment, in their order. The gate is called around each.
     ///
     /// It also tells how many blocks of lists of documents were opened: each one once, of each segment, for a query of
-    /// one term, and no more than the bound of a conjunction for one of several terms that all must stand. The only
+    /// one term, and no more than the bound of a conjunction for one of several terms that all must be. The only
     /// refusal is `Memory`.
     pub fn search<R: Threads + Wait + Sync, G: Gate>(
         &self,

@@ -6,8 +6,8 @@ ghost use Rattle.fts_model.specs.QueryValues.{query_value};
 use fts_collect::Part;
 use fts_model::{Query, Refusal, Request};
 use fts_pool::Job;
-use fts_searches::part_of;
 use fts_snapshots::Entry;
+use fts_snapshots::searches::part_of;
 use std::alloc::Global;
 
 /// A query and a request, for the live documents of one segment.

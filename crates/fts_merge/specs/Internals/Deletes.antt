@@ -10,7 +10,7 @@ use Rattle.fts_model.specs.declared.operation.Stamped.{Stamped}
 use Rattle.fts_model.specs.Documents.{DocumentValue}
 use Rattle.fts_model.specs.Operations.{has}
 use Rattle.fts_segment.specs.Segments.{SegmentValue, postings}
-use Rattle.fts_merge.specs.declared.found.Found.{Found}
+use Rattle.fts_merge.specs.declared.matches.Found.{Found}
 
 -- an operation strikes every document of a smaller stamp than this
 abbrev pub bound_by : ℕ → Op → ℕ

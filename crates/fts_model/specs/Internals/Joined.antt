@@ -1,4 +1,4 @@
--- Texts that lie one behind the other.
+-- Texts that come one after the other.
 use Rattle.std.specs.Prelude.{ℕ, List, length, All}
 use Rattle.std.specs.Str.{IsCharBoundary}
 use Rattle.fts_base.specs.Pieces.{AreEnds}

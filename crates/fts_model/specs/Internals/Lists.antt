@@ -2,7 +2,7 @@
 use Rattle.std.specs.Prelude.{ℕ, ◌+◌, ◌-◌, ◌^◌, min, length, Option, Some, None}
 use Rattle.serde_json.specs.Data.{string, Items, no_items, item}
 
--- the bytes of texts behind so many others, which stay at the greatest number of 64 bits, if each item is a text
+-- the bytes of texts after this many others, which stay at the greatest number of 64 bits, if each item is a text
 abbrev pub bytes_behind : ℕ → Items → Option ℕ
 bytes_behind n no_items = Some n
 bytes_behind n (item (string text) items) = bytes_behind (min (n + length text) (2 ^ 64 - 1)) items

@@ -1,4 +1,4 @@
--- How a document lies in memory.
+-- How a document is laid out in memory.
 use Rattle.std.specs.Arc.{arc_value}
 use Rattle.fts_model.specs.declared.document.Document.TheInside.{Inside}
 use Rattle.fts_model.specs.Documents.{DocumentValue, IsDocument}

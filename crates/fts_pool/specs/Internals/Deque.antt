@@ -2,7 +2,7 @@
 use Rattle.std.specs.Prelude.{◌≡◌, ℕ, ◌+◌, ◌-◌, ◌<◌, List, [], ◌++◌, nat_lt, if◌then◌else◌, All}
 use mathlib.Core.Option.{some}
 use lib.ListN.{get_elem?}
-use Rattle.fts_pool.specs.Totals.{times, total}
+use Rattle.fts_base.specs.Totals.{times, total}
 use Rattle.fts_pool.specs.declared.deque.Known.{Known}
 
 abbrev pub known : ℕ → ℕ → List ℕ → Known
@@ -29,7 +29,7 @@ pub record Fits (pushed : ℕ) (v : Known) : Type 0 where
   pub told : 0 < v.shares → v.pushed ≡ pushed
   pub idle : v.shares ≡ 0 → v.taken ≡ []
 
--- each job that was pushed lies in the deque or was taken, once
+-- each job that was pushed is in the deque or was taken, once
 pub record Kept (pushed : ℕ) (items : List ℕ) (views : List Known) : Type 0 where
   pub shares : total (λ v. v.shares) views ≡ 64
   pub each_once : (x : ℕ) → total (λ v. times x v.taken) views + times x items ≡ once_below x pushed

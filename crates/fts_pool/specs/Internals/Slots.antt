@@ -4,7 +4,7 @@ use Rattle.std.specs.Prelude.{Option, None, IsSome, IfSome, slice_index_or}
 use Rattle.std.specs.List.{AllZip, HoldsAt}
 use Rattle.fts_pool.specs.declared.deque.Known.{Known}
 use Rattle.fts_pool.specs.declared.slots.Done.{Done}
-use Rattle.fts_pool.specs.Totals.{times}
+use Rattle.fts_base.specs.Totals.{times}
 
 abbrev pub numbers_of : {O : Type 0} → List (Done O) → List ℕ
 numbers_of done = map (λ d. d.number) done
@@ -13,7 +13,7 @@ numbers_of done = map (λ d. d.number) done
 abbrev pub IsFilled : {O : Type 0} → List (Option O) → ℕ → Type 0
 IsFilled slots n = IsSome (slice_index_or slots n None)
 
--- a thread that took nothing yet, with a share of at most so many jobs
+-- a thread that took nothing yet, with a share of at most this many jobs
 abbrev pub IsFresh : ℕ → Known → Type 0
 IsFresh count v = (v.shares ≡ 1) × (v.taken ≡ []) × (v.pushed ≤ count)
 
@@ -25,7 +25,7 @@ module _ {J O : Type 0} (gives : J → O → Type 0) where
   abbrev pub AreOf : List J → List (Done O) → Type 0
   AreOf jobs done = All (λ d. (d.number < length jobs) × IsOf jobs d.number d.out) done
 
-  -- there is a slot a job, and what stands in it is a result of the job
+  -- there is a slot per job, and what is in it is a result of the job
   abbrev pub AreSlots : List J → List (Option O) → Type 0
   AreSlots jobs slots = AllZip (λ job slot. IfSome slot (gives job)) jobs slots
 

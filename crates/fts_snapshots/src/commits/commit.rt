@@ -14,9 +14,10 @@ use crate::commits::group::Group;
 use crate::commits::jobs::{CommitJob, commit_jobs};
 use crate::entries::Entry;
 use fts_model::{Op, Refusal, Schema, Stamped};
+use fts_pool::Job;
 use std::alloc::{AllocError, Global};
 
-/// A batch without the adds behind its last delete: these strike nothing.
+/// A batch without the adds after its last delete: these strike nothing.
 fn strikers(batch: &[Stamped<Op>]) -> &[Stamped<Op>]
     ensures { (schema : List Field) (document : Stamped DocumentValue) →
         survives schema result.now document ≡ survives schema batch.now document }
@@ -30,7 +31,7 @@ fn strikers(batch: &[Stamped<Op>]) -> &[Stamped<Op>]
     &batch[..end]
 }
 
-/// Puts a segment behind others, if it has a live document.
+/// Puts a segment after others, if it has a live document.
 pub fn push_live(entries: &mut Vec<Entry>, entry: Entry) -> Result<(), AllocError>
     ensures { OnOk result (entries.new.items ≡ entries.old.items ++ filter has_live (entry ∷ [])) }
 {
@@ -40,7 +41,7 @@ pub fn push_live(entries: &mut Vec<Entry>, entry: Entry) -> Result<(), AllocErro
     Ok(())
 }
 
-/// The jobs of a batch, whose adds stand in these groups: one for each old segment, and then one for each group, whose
+/// The jobs of a batch, whose adds are in these groups: one for each old segment, and then one for each group, whose
 /// segments are numbered from `next` on.
 pub(crate) fn jobs_of_batch<'a>(
     alloc: Global,

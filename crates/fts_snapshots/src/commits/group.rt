@@ -62,7 +62,7 @@ impl Group {
     }
 }
 
-/// Puts a document into the group of this number, or into another behind the last.
+/// Puts a document into the group of this number, or into another after the last.
 fn put(
     alloc: Global,
     groups: &mut Vec<Group>,
@@ -79,7 +79,7 @@ fn put(
     Ok(())
 }
 
-/// Puts the document that an operation adds into its group, where so many were added before. Answers how many were
+/// Puts the document that an operation adds into its group, where this many were added before. Answers how many were
 /// added.
 fn put_added(
     alloc: Global,

@@ -4,14 +4,15 @@ ghost use Rattle.fts_model.specs.Operations.{survives};
 ghost use Rattle.fts_segment.specs.Segments.{AllFit};
 ghost use Rattle.fts_model.specs.Limits.{most_built};
 ghost use Rattle.fts_snapshots.specs.Commits.{struck, fresh, fresh_from};
-ghost use Rattle.fts_snapshots.specs.Jobs.{entry_of, Answers};
+ghost use Rattle.fts_snapshots.specs.Jobs.{entry_of};
 
 use crate::commits::group::Group;
 use crate::commits::new_segment::NewSegment;
 use crate::entries::Entry;
-use fts_bits::Bits;
 use fts_merge::strike;
 use fts_model::{Document, Op, Refusal, Schema, Stamped};
+use fts_pack::bits::Bits;
+use fts_pool::Job;
 use fts_segment::{Builder, Segment};
 use std::alloc::{AllocError, Global};
 
@@ -32,11 +33,15 @@ pub struct CommitJob<'a> {
     task: Task<'a>,
 }
 
-impl CommitJob<'_> {
-    /// Runs the job. It answers the segment that it leaves, and the only refusal is `Memory`.
-    pub fn run(&self) -> Result<Entry, Refusal>
-        ensures { Answers self.now result }
-    {
+impl Job for CommitJob<'_> {
+    ghost use Rattle.fts_snapshots.specs.Jobs.{Answers};
+
+    type Out = Result<Entry, Refusal>;
+
+    ghost gives = { Answers };
+
+    /// Answers the segment that it leaves, and the only refusal is `Memory`.
+    fn run(&self) -> Result<Entry, Refusal> {
         match &self.task {
             Task::Strike(entry) => struck(self.alloc, self.ops, entry),
             Task::Build(segment) => fresh(self.alloc, self.ops, segment),
@@ -44,7 +49,7 @@ impl CommitJob<'_> {
     }
 }
 
-/// A segment after operations. Its bits are shared where there are none.
+/// A segment after operations. Its bits are shared if there are none.
 fn struck(alloc: Global, ops: &[Stamped<Op>], entry: &Entry) -> Result<Entry, Refusal>
     ensures ok { IfOk result (λ new. new ≡ struck ops.now entry.now) }
     ensures memory { IsOkUnless result Refusal.Memory }
@@ -111,7 +116,7 @@ pub(crate) fn commit_jobs<'a>(
     Ok(jobs)
 }
 
-/// Puts the jobs of new segments behind others.
+/// Puts the jobs of new segments after others.
 fn push_builds<'a>(
     jobs: &mut Vec<CommitJob<'a>>,
     alloc: Global,

@@ -1,13 +1,14 @@
 // A segment of a snapshot.
 ghost use Rattle.std.specs.Prelude.{◌≡◌};
 
-use fts_bits::Bits;
+use fts_merge::SegmentSize;
+use fts_pack::bits::Bits;
 use fts_segment::Segment;
 use std::alloc::{AllocError, Global};
 use std::marker::Model;
 use std::sync::Arc;
 
-/// A segment with its number and a bit for each of its documents, which is set where the document is live. A copy is
+/// A segment with its number and a bit for each of its documents, which is set if the document is live. A copy is
 /// one handle more on all of it.
 #[derive(Drop)]
 pub struct Entry {
@@ -56,7 +57,7 @@ impl Entry {
     ghost use Rattle.std.specs.Prelude.{◌≡◌, ◌≤◌, IfOk};
     ghost use Rattle.fts_snapshots.specs.Entries.{IsEntry, live_count, has_live};
     ghost use Rattle.fts_model.specs.Limits.{most_merged};
-    ghost use Rattle.fts_snapshots.specs.Infos.{info_of};
+    ghost use Rattle.fts_snapshots.specs.Infos.{info_of, size_of};
     ghost use Rattle.fts_snapshots.specs.Successors.{is_set};
 
     /// The segment of this number with these bits.
@@ -128,6 +129,16 @@ impl Entry {
             id: self.id(),
             docs: self.segment().docs(),
             live: self.live_count(),
+        }
+    }
+
+    /// How large the segment is for a merge policy.
+    pub(crate) fn size(&self) -> SegmentSize
+        ensures { result ≡ size_of self.now }
+    {
+        SegmentSize {
+            docs: self.segment().docs() as u32,
+            live: self.live_count() as u32,
         }
     }
 }

@@ -4,7 +4,7 @@ ghost use Rattle.std.specs.Prelude.{◌≡◌, ◌≤◌, ◌+◌, ◌^◌, nat_
 /// Segment numbers stay below this.
 const NUMBERS: u64 = 1 << 62;
 
-/// Whether one of the next so many numbers would be past the end.
+/// Whether one of the next this many numbers would be past the end.
 pub(crate) fn are_used_up(next: u64, count: usize) -> bool
     requires { next ≤ 2 ^ 62 }
     ensures { result ≡ nat_lt (2 ^ 62) (next + count) }

@@ -15,8 +15,8 @@ ghost use Rattle.fts_snapshots.specs.LateMerges.{is_gone, gone_fault, end_fault}
 use crate::commits::push_live;
 use crate::entries::{Entry, Lookup, are_used_up, places};
 use crate::merges::merged_segment::MergedSegment;
-use fts_bits::Bits;
 use fts_model::Refusal;
+use fts_pack::bits::Bits;
 use std::alloc::{AllocError, Global};
 use std::collections::HashSet;
 
@@ -39,7 +39,7 @@ fn is_any_there(lookup: &Lookup<'_>, ids: &[u64]) -> bool
     ids.iter().any(|id| lookup.is_there(*id))
 }
 
-/// The stamps of the documents whose source is gone, where the sources stand at these places.
+/// The stamps of the documents whose source is gone, where the sources are at these places.
 fn stamps_left(
     alloc: Global,
     lookup: &Lookup<'_>,
@@ -114,7 +114,7 @@ fn gone(
     Ok(None)
 }
 
-/// The live bits that the sources have now, where they stand at these places.
+/// The live bits that the sources have now, where they are at these places.
 fn live_bits(
     alloc: Global,
     lookup: &Lookup<'_>,

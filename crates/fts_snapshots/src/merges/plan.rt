@@ -1,10 +1,11 @@
 // Which segments of a snapshot are worth merging.
-ghost use Rattle.std.specs.Prelude.{◌≡◌, ◌<◌, All, map, length, IfOk, IsOkUnless};
+ghost use Rattle.std.specs.Prelude.{◌≡◌, ◌<◌, ◌≤◌, All, map, length, IfOk, IsOkUnless};
+ghost use Rattle.fts_model.specs.Limits.{most_merged};
 ghost use Rattle.fts_snapshots.specs.Entries.{live_count};
-ghost use Rattle.fts_snapshots.specs.Infos.{id_at, candidate_ids};
+ghost use Rattle.fts_snapshots.specs.Infos.{id_at, candidate_ids, candidate_ids_by, size_of};
 
 use crate::entries::Entry;
-use fts_merge::plan;
+use fts_merge::{MergePolicy, SegmentSize, plan, plan_by};
 use fts_model::Refusal;
 use std::alloc::{AllocError, Global};
 
@@ -55,5 +56,33 @@ pub(crate) fn candidates(alloc: Global, entries: &[Entry]) -> Result<Vec<Vec<u64
 {
     let sizes = sizes(alloc, entries)?;
     let found = plan(alloc, &sizes)?;
+    Ok(all_ids_at(alloc, entries, &found)?)
+}
+
+/// How large each segment is.
+fn segment_sizes(alloc: Global, entries: &[Entry]) -> Result<Vec<SegmentSize>, AllocError>
+    ensures { IfOk result (λ sizes. sizes.items ≡ map size_of entries.now) }
+{
+    let mut sizes = Vec::with_capacity(alloc, entries.len())?;
+    for entry in entries {
+        sizes.push(entry.size())?;
+    }
+    Ok(sizes)
+}
+
+/// The candidates of a policy, by the numbers of segments.
+pub(crate) fn candidates_by(
+    alloc: Global,
+    policy: &MergePolicy,
+    entries: &[Entry],
+) -> Result<Vec<Vec<u64>>, Refusal>
+    requires floor { policy.now.floor ≤ most_merged }
+    requires most { policy.now.most ≤ most_merged }
+    ensures candidates { IfOk result (λ found.
+        map (λ ids. ids.items) found.items ≡ candidate_ids_by policy.now entries.now) }
+    ensures memory { IsOkUnless result Refusal.Memory }
+{
+    let sizes = segment_sizes(alloc, entries)?;
+    let found = plan_by(alloc, policy, &sizes)?;
     Ok(all_ids_at(alloc, entries, &found)?)
 }

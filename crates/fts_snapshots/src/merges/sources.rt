@@ -32,7 +32,7 @@ fn named(lookup: &Lookup<'_>, names: &mut HashSet<u64>, id: u64) -> Result<Entry
 }
 
 /// The segments of these numbers, in the order of the numbers; or what is wrong with the numbers: there is none, or the
-/// first that no segment has or that stands before.
+/// first that no segment has or that comes before.
 pub(crate) fn named_entries(
     alloc: Global,
     entries: &[Entry],

@@ -8,7 +8,7 @@ use std::alloc::Global;
 use std::process::Abort;
 use std::sync::Wait;
 use std::thread::Threads;
-use test_writers::writer;
+use testing_writers::writer;
 
 /// A round of one full lane, beside which no other round is opened.
 fn full_round(rt: &impl Abort, alloc: Global, writer: &mut Writer) -> Batch {

@@ -1,4 +1,4 @@
--- The tree stands at the first of its documents that are live.
+-- The tree is at the first of its documents that are live.
 use Rattle.std.proofs.Common.{take, ap, ◌∙◌, arith}
 use Rattle.std.specs.List.{filter}
 use Rattle.fts_cursor.specs.Hits.{is_live}

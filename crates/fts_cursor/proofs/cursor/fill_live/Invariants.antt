@@ -1,4 +1,4 @@
--- The documents so far lie at the front.
+-- The documents so far are at the front.
 use Rattle.std.proofs.Common.{◌≤◌}
 use Rattle.std.specs.List.{filter}
 use Rattle.fts_cursor.specs.Hits.{is_live}

@@ -1,4 +1,4 @@
--- Those of the documents so far that are live lie at the front.
+-- Those of the documents so far that are live are at the front.
 use Rattle.std.proofs.lemmas.List.Filters.{FiltersInPlace}
 use Rattle.fts_cursor.specs.Hits.{is_live}
 use Rattle.fts_cursor.proofs.cursor.keep_live.Given as goal

@@ -1,7 +1,7 @@
 -- 16 words more are joined.
 use Rattle.std.proofs.Common.{◌≡◌, ◌+◌, ◌-◌, ◌*◌, ◌^◌, ap, drop, get_or, subst, sym, take, arith}
 use Rattle.std.proofs.lemmas.List.{get_or-replicate}
-use Rattle.fts_bits.specs.Bits.{number_of}
+use Rattle.fts_pack.specs.bits.Bits.{number_of}
 use Rattle.fts_cursor.specs.Dense.{Tells, in_each, word_of}
 use Rattle.fts_cursor.proofs.DenseLemmas.{Tells-and, Tells-every}
 use Rattle.fts_cursor.proofs.dense.row_of_all.Goals as goal

@@ -1,6 +1,6 @@
 -- 16 words more are joined.
 use Rattle.std.proofs.Common.{◌≡◌, ◌+◌, ◌*◌, ap, drop, get_or, subst, sym, take, arith}
-use Rattle.fts_bits.specs.Bits.{number_of}
+use Rattle.fts_pack.specs.bits.Bits.{number_of}
 use Rattle.fts_cursor.specs.Dense.{Tells, in_one, word_of}
 use Rattle.fts_cursor.proofs.DenseLemmas.{Tells-or}
 use Rattle.fts_cursor.proofs.dense.row_of_some.Goals as goal

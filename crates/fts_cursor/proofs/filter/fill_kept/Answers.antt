@@ -4,7 +4,7 @@ use Rattle.std.proofs.lemmas.List.{length-drop}
 use Rattle.fts_postings.specs.Conjoined.{common_of}
 use Rattle.fts_postings.proofs.ConjoinedLemmas.{AllFollow-same, AllFollow-trans}
 use Rattle.fts_postings.proofs.FillLemmas.{Taken-front, Taken-left, Taken-count, Taken-none, full-front, full-left}
-use Rattle.fts_cursor.specs.Dense.{is_dense}
+use Rattle.fts_cursor.specs.Dense.{in_each}
 use Rattle.fts_cursor.proofs.FilterLemmas.{Taken-ended, Taken-kept, Taken-still, ended}
 use Rattle.fts_cursor.proofs.filter.fill_kept.Goals as goal
 
@@ -14,12 +14,12 @@ loop-filled-init c = record { taken = Taken-none _ c.args.out.now; follows = All
 pub keep-filled-requires : goal.keep-filled-requires
 keep-filled-requires c = record {
   room = c.take_stretch-count.ensures.taken.room;
-  passed = Taken-still (is_dense c.args.dense.now) (common_of c.args.terms.now) (common_of c.loop-filled.terms) c.loop-filled.out c.loop-filled.filled c.loop-filled.invariant.taken (common_of c.take_stretch-count.new.self) c.take_stretch-count.new.out c.take_stretch-count.result c.take_stretch-count.ensures.taken;
+  passed = Taken-still (in_each c.args.bits.now) (common_of c.args.terms.now) (common_of c.loop-filled.terms) c.loop-filled.out c.loop-filled.filled c.loop-filled.invariant.taken (common_of c.take_stretch-count.new.self) c.take_stretch-count.new.out c.take_stretch-count.result c.take_stretch-count.ensures.taken;
 }
 
 pub loop-filled-preserved : goal.loop-filled-preserved
 loop-filled-preserved c = record {
-  taken = Taken-kept (is_dense c.args.dense.now) (common_of c.args.terms.now) (common_of c.loop-filled.terms) c.loop-filled.out c.loop-filled.filled c.loop-filled.invariant.taken (common_of c.take_stretch-count.new.self) c.take_stretch-count.new.out c.keep-filled.new.docs c.take_stretch-count.result c.keep-filled.result c.take_stretch-count.ensures.taken c.keep-filled.ensures.kept c.keep-filled.ensures.size;
+  taken = Taken-kept (in_each c.args.bits.now) (common_of c.args.terms.now) (common_of c.loop-filled.terms) c.loop-filled.out c.loop-filled.filled c.loop-filled.invariant.taken (common_of c.take_stretch-count.new.self) c.take_stretch-count.new.out c.keep-filled.new.docs c.take_stretch-count.result c.keep-filled.result c.take_stretch-count.ensures.taken c.keep-filled.ensures.kept c.keep-filled.ensures.size;
   follows = AllFollow-trans c.args.terms.now c.loop-filled.terms c.take_stretch-count.new.self c.loop-filled.invariant.follows c.take_stretch-count.ensures.follows;
   room = omega (arith, c.keep-filled.ensures.few, c.take_stretch-count.ensures.taken.room);
 }
@@ -32,7 +32,7 @@ loop-filled-smaller c =
 
 pub returns-then-count-eq0-clause-taken : goal.returns-then-count-eq0-clause-taken
 returns-then-count-eq0-clause-taken c =
-    let p = is_dense c.args.dense.now in
+    let p = in_each c.args.bits.now in
     let before = common_of c.args.terms.now in
     let left = common_of c.loop-filled.terms in
     let next = common_of c.take_stretch-count.new.self in
@@ -44,7 +44,7 @@ returns-then-count-eq0-clause-taken c =
 
 pub returns-then-count-eq0-clause-count : goal.returns-then-count-eq0-clause-count
 returns-then-count-eq0-clause-count c =
-    let p = is_dense c.args.dense.now in
+    let p = in_each c.args.bits.now in
     let before = common_of c.args.terms.now in
     let left = common_of c.loop-filled.terms in
     let next = common_of c.take_stretch-count.new.self in
@@ -56,7 +56,7 @@ returns-then-count-eq0-clause-count c =
 
 pub returns-then-count-eq0-clause-remaining : goal.returns-then-count-eq0-clause-remaining
 returns-then-count-eq0-clause-remaining c =
-    let p = is_dense c.args.dense.now in
+    let p = in_each c.args.bits.now in
     let before = common_of c.args.terms.now in
     let left = common_of c.loop-filled.terms in
     let next = common_of c.take_stretch-count.new.self in

@@ -1,14 +1,14 @@
--- The documents so far lie at the front.
+-- The documents so far are at the front.
 use Rattle.std.proofs.Common.{◌≤◌, length}
 use Rattle.std.specs.List.{filter}
 use Rattle.fts_postings.specs.Conjoined.{AllFollow, common_of}
 use Rattle.fts_postings.proofs.FillLemmas.{Taken}
-use Rattle.fts_cursor.specs.Dense.{is_dense}
+use Rattle.fts_cursor.specs.Dense.{in_each}
 use Rattle.fts_cursor.proofs.filter.fill_kept.Given as goal
 
 abbrev pub invariant-loop-filled : goal.invariant-loop-filled
 invariant-loop-filled l = record {
-  taken : Taken (filter (is_dense l.dense) (common_of l.initial.terms)) (filter (is_dense l.dense) (common_of l.terms)) l.out l.filled;
+  taken : Taken (filter (in_each l.bits) (common_of l.initial.terms)) (filter (in_each l.bits) (common_of l.terms)) l.out l.filled;
   follows : AllFollow l.initial.terms l.terms;
   room : l.filled ≤ 128;
 }

@@ -1,4 +1,4 @@
--- A document in which the phrase doesn't stand is passed over.
+-- A document in which the phrase isn't is passed over.
 use Rattle.std.proofs.Common.{◌≡◌, ◌∷◌, List, Some, false, refl, sym, ap, ap₂, ◌∙◌}
 use Rattle.std.specs.List.{slice_get}
 use Rattle.fts_cursor.specs.declared.phrase.Member.{Member}

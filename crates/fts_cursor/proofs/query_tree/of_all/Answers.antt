@@ -5,7 +5,7 @@ use Rattle.fts_cursor.specs.Hits.{segment_hits}
 use Rattle.fts_cursor.specs.Scans.{keeps}
 use Rattle.fts_postings.specs.Windows.{passing}
 use Rattle.fts_cursor.specs.TreeValues.{TreeValue}
-use Rattle.fts_cursor.specs.declared.kept.Kept.TheVariants.{Every}
+use Rattle.fts_cursor.specs.declared.rows.Kept.TheVariants.{Every}
 use Rattle.fts_cursor.proofs.HitsLemmas.{at_true, passing_are}
 use Rattle.fts_cursor.proofs.ScanLemmas.{length-every}
 use Rattle.fts_cursor.proofs.query_tree.of_all.Goals as goal

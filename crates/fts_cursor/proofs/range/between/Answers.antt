@@ -9,8 +9,8 @@ use Rattle.fts_cursor.proofs.range.between.Goals as goal
 
 pub returns-then-documents-docs : goal.returns-then-documents-docs
 returns-then-documents-docs c =
-    let listed = c.in_ok-of_lists.ensures in
-    IfOk-weaker c.listed.result _ _ (λ t is. is ∙ lists_within c.args.column.now c.args.low c.args.high c.args.lists.now c.requires.lists c.in_ok-of_lists.field-0 listed.rises listed.sound listed.whole
+    let listed = c.in_ok-listed.ensures in
+    IfOk-weaker c.listed.result _ _ (λ t is. is ∙ lists_within c.args.column.now c.args.low c.args.high c.args.lists.now c.requires.lists c.in_ok-listed.listed listed.rises listed.sound listed.whole
     ∙ ap (passing (has_within c.args.low c.args.high c.args.column.now) 0) c.requires.size) c.listed.ensures.remaining
 
 pub new-requires-clause-total : goal.new-requires-clause-total

@@ -1,4 +1,4 @@
--- A range goes over its column, or over the documents where it has no bounds.
+-- A range goes over its column, or over the documents if it has no bounds.
 use Rattle.std.proofs.Common.{◌≡◌, ◌-◌, length, ap, sym, ◌∙◌, arith}
 use Rattle.std.proofs.lemmas.Result.{IfOk-weaker}
 use Rattle.std.proofs.lemmas.Bool.{not-true}

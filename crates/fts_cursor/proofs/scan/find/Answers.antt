@@ -1,4 +1,4 @@
--- A stretch is passed over where none is kept in it, or the last is below the target.
+-- A stretch is passed over if none is kept in it, or the last is below the target.
 use Rattle.std.proofs.Common.{◌-◌, ◌<◌, get_or, ◌∙◌, arith}
 use Rattle.fts_cursor.specs.Scans.{keeps}
 use Rattle.fts_cursor.proofs.ScanLemmas.{stretch_below}

@@ -1,4 +1,4 @@
--- The documents so far lie at the front, and the node stands at the next.
+-- The documents so far are at the front, and the node is at the next.
 use Rattle.fts_cursor.specs.Standing.{Walked}
 use Rattle.fts_cursor.specs.Trees.{StandsAt, tree_value}
 use Rattle.fts_postings.proofs.FillLemmas.{Taken}

@@ -3,7 +3,7 @@ use Rattle.std.proofs.lemmas.List.Sorted.{All-permutation}
 use Rattle.fts_model.specs.declared.operation.Stamped.{Stamped}
 use Rattle.fts_model.specs.Documents.{DocumentValue}
 use Rattle.fts_merge.specs.Strikes.{bits_where}
-use Rattle.fts_merge.specs.declared.found.Found.{Found}
+use Rattle.fts_merge.specs.declared.matches.Found.{Found}
 use Rattle.fts_merge.specs.Internals.Deletes.{IsFound, survives_terms, survives_found}
 use Rattle.fts_merge.proofs.BitsLemmas.{length-bits_where}
 use Rattle.fts_merge.proofs.DeletesLemmas.{bits_after-steps}

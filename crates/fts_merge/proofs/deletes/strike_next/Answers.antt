@@ -3,7 +3,7 @@ use Rattle.std.proofs.lemmas.List.Elements.{All-get_or}
 use Rattle.fts_model.specs.declared.operation.Stamped.{Stamped}
 use Rattle.fts_model.specs.Documents.{DocumentValue}
 use Rattle.fts_merge.specs.Strikes.{bits_where}
-use Rattle.fts_merge.specs.declared.found.Found.{Found}
+use Rattle.fts_merge.specs.declared.matches.Found.{Found}
 use Rattle.fts_merge.specs.Internals.Deletes.{IsFound, strikes_found, survives_found}
 use Rattle.fts_merge.proofs.BitsLemmas.{length-bits_where, bits_where-same}
 use Rattle.fts_merge.proofs.FoundLemmas.{survives_found-more}

@@ -1,4 +1,4 @@
-use Rattle.fts_bits.proofs.VectorLemmas.{across_lanes}
+use Rattle.fts_pack.proofs.VectorLemmas.{across_lanes}
 use Rattle.fts_pack.proofs.lanes.across.Goals as goal
 
 pub returns : goal.returns

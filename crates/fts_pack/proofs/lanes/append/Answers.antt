@@ -1,5 +1,5 @@
 use Rattle.std.proofs.Common.{◌≡◌, ◌*◌, ◌++◌, ◌∙◌, take, ap, arith}
-use Rattle.fts_bits.specs.Digits.{words_of}
+use Rattle.fts_pack.specs.bits.Digits.{words_of}
 use Rattle.fts_pack.specs.Lanes.{lane_of, words_in_lanes}
 use Rattle.fts_pack.proofs.LaneLemmas.{lanes_kept, lanes_whole}
 use Rattle.fts_pack.proofs.lanes.append.Goals as goal

@@ -1,5 +1,5 @@
 use Rattle.std.proofs.Common.{◌≡◌, ℕ, ◌<◌, length}
-use Rattle.fts_bits.specs.Digits.{words_of}
+use Rattle.fts_pack.specs.bits.Digits.{words_of}
 use Rattle.fts_pack.specs.Lanes.{lane_of}
 use Rattle.fts_pack.proofs.lanes.append.Given as goal
 

@@ -1,6 +1,6 @@
 use Rattle.std.proofs.Common.{◌≡◌, ◌+◌, ◌*◌, ◌/◌, ◌%◌, ◌<◌, get_or, take, rules, sym, ap, ◌∙◌, arith}
 use Rattle.std.proofs.Math.Facts.{Fits-lt-pow}
-use Rattle.fts_bits.proofs.PackingLemmas.{read_pair}
+use Rattle.fts_pack.proofs.PackingLemmas.{read_pair}
 use Rattle.fts_pack.specs.Lanes.{lane_of, numbers_in_lanes}
 use Rattle.fts_pack.proofs.LaneLemmas.{Below-lane_of, lane_get, number_at}
 use Rattle.fts_pack.proofs.lanes.read.Goals as goal

@@ -1,5 +1,5 @@
 use Rattle.std.proofs.Common.{◌*◌, arith}
-use Rattle.fts_bits.proofs.VectorLemmas.{placed}
+use Rattle.fts_pack.proofs.VectorLemmas.{placed}
 use Rattle.fts_pack.specs.Lanes.{numbers_in_lanes}
 use Rattle.fts_pack.proofs.lanes.step.Goals as goal
 

@@ -1,4 +1,4 @@
-use Rattle.fts_bits.proofs.VectorLemmas.{within_lanes}
+use Rattle.fts_pack.proofs.VectorLemmas.{within_lanes}
 use Rattle.fts_pack.proofs.lanes.within.Goals as goal
 
 pub returns : goal.returns

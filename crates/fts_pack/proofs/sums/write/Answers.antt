@@ -1,5 +1,5 @@
 use Rattle.std.proofs.Common.{◌*◌, arith}
-use Rattle.fts_bits.proofs.VectorLemmas.{placed_there, placed_after}
+use Rattle.fts_pack.proofs.VectorLemmas.{placed_there, placed_after}
 use Rattle.fts_pack.proofs.sums.write.Goals as goal
 
 pub returns-clause-there : goal.returns-clause-there

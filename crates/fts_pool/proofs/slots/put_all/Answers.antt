@@ -1,9 +1,9 @@
--- One result more stands in its slot.
+-- One result more is in its slot.
 use Rattle.std.proofs.Common.{ℕ, ◌<◌, ◌⊎◌, length, sym, subst, arith}
 use Rattle.std.proofs.lemmas.List.Elements.{All-head, All-same, All-rest}
 use Rattle.std.specs.Vec.Iter.{into_iter_items}
 use Rattle.fts_pool.specs.declared.slots.Done.{Done}
-use Rattle.fts_pool.specs.Totals.{times}
+use Rattle.fts_base.specs.Totals.{times}
 use Rattle.fts_pool.specs.Internals.Slots.{AreSlots, IsFilled, IsOf, numbers_of}
 use Rattle.fts_pool.proofs.SlotsLemmas.{filled_still, placed, slots_len, slots_put}
 use Rattle.fts_pool.proofs.slots.put_all.Goals as goal

@@ -1,7 +1,7 @@
 -- A job that was done has its slot filled, or its result is left.
 use Rattle.std.proofs.Common.{◌<◌, ◌⊎◌, ℕ}
 use Rattle.std.specs.Vec.Iter.{into_iter_items}
-use Rattle.fts_pool.specs.Totals.{times}
+use Rattle.fts_base.specs.Totals.{times}
 use Rattle.fts_pool.specs.Internals.Slots.{AreOf, AreSlots, IsFilled, numbers_of}
 use Rattle.fts_pool.proofs.slots.put_all.Given as goal
 

@@ -1,4 +1,4 @@
--- A popped job is one of those pushed, and where none is left each was taken.
+-- A popped job is one of those pushed, and if none is left each was taken.
 use Rattle.std.proofs.Common.{rules, ◌<◌, [], ◌∷◌, ap, sym, subst, ◌∙◌, arith}
 use Rattle.std.proofs.lemmas.List.Elements.{All-get_or}
 use Rattle.crossbeam_deque.specs.Handles.{worker_view}

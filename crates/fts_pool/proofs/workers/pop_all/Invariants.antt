@@ -1,4 +1,4 @@
--- What was popped so far stands in its slots.
+-- What was popped so far is in its slots.
 use Rattle.std.proofs.Common.{◌≡◌}
 use Rattle.crossbeam_deque.specs.Handles.{worker_deque, worker_flavor, worker_view}
 use Rattle.fts_pool.specs.Internals.Slots.{IsReady}

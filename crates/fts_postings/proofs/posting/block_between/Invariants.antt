@@ -1,4 +1,4 @@
--- What lies before `low` is below the target, and what lies at `high` isn't.
+-- What lies before `low` is below the target, and what is at `high` isn't.
 use Rattle.std.proofs.Common.{◌-◌, ◌<◌, ◌≤◌, [], get_or}
 use Rattle.fts_pack.specs.Documents.{last_of}
 use Rattle.fts_postings.proofs.posting.block_between.Given as goal

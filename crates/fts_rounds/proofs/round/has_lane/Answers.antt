@@ -1,9 +1,9 @@
 -- One end more was looked at.
 use Rattle.std.proofs.Common.{rules, ◌≡◌, ◌≢◌, ℕ, ◌+◌, ◌<◌, List, [], ◌∷◌, ◌++◌, take, drop, get_or, length, ap, sym, ◌∙◌, arith}
 use Rattle.std.proofs.lemmas.List.{map-append, take_more, take-append-drop}
-use Rattle.fts_pool.specs.Totals.{times}
+use Rattle.fts_base.specs.Totals.{times}
 use Rattle.fts_rounds.specs.Rounds.{Held, lanes_of}
-use Rattle.fts_pool.proofs.TotalsLemmas.{times-append, times_here, times_else}
+use Rattle.fts_base.proofs.TotalsLemmas.{times-append, times_here, times_else}
 use Rattle.fts_rounds.proofs.round.has_lane.Goals as goal
 
 numbers_more : (n : ℕ) (ends : List Held) (i : ℕ) (end : Held) → i < length ends → end ≡ get_or ends i end → times n (lanes_of (take (i + 1) ends)) ≡ times n (lanes_of (take i ends)) + times n (end.lane ∷ [])

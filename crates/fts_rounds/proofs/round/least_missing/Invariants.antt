@@ -1,6 +1,6 @@
 -- Each lower number is among the ends.
 use Rattle.std.proofs.Common.{ℕ, ◌<◌}
-use Rattle.fts_pool.specs.Totals.{times}
+use Rattle.fts_base.specs.Totals.{times}
 use Rattle.fts_rounds.specs.Rounds.{lanes_of}
 use Rattle.fts_rounds.proofs.round.least_missing.Given as goal
 

@@ -1,7 +1,7 @@
 use Rattle.std.proofs.Common.{◌≡◌, true, subst}
 use Rattle.std.specs.Prelude.{IfOk}
-use Rattle.fts_model.specs.Documents.{fits}
-use Rattle.fts_steps.proofs.FitLemmas.{document_fits, if_given}
+use Rattle.dilforec.specs.Documents.{fits}
+use Rattle.dilforec.proofs.FitLemmas.{document_fits, if_given}
 use Rattle.tests_scripts.proofs.segments.add.Goals as goal
 
 pub submit-requires-clause-fits : goal.submit-requires-clause-fits

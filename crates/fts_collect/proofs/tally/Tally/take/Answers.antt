@@ -1,6 +1,6 @@
 use Rattle.std.proofs.Common.{◌≡◌, ◌∙◌, ◌++◌, ap, drop, length, subst, sym, take}
 use Rattle.std.proofs.lemmas.List.{take_at}
-use Rattle.fts_column.specs.Counts.{AreWithin}
+use Rattle.fts_pack.specs.column.Counts.{AreWithin}
 use Rattle.fts_collect.specs.declared.tally.Tally.TheVariants.{Counts}
 use Rattle.fts_collect.specs.Internals.Tallies.{AreCounts, IsTally, IsTallyFor, present_at}
 use Rattle.fts_collect.proofs.TallyLemmas.{AreCounts-docs}

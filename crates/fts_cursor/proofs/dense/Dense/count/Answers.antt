@@ -1,4 +1,4 @@
--- Each word has as many as are set in it, and behind the last document there are none.
+-- Each word has as many as are set in it, and after the last document there are none.
 use Rattle.std.proofs.Common.{◌≡◌, ◌+◌, ◌*◌, ◌∙◌, get_or, arith}
 use Rattle.fts_cursor.specs.Dense.{is_dense}
 use Rattle.fts_postings.proofs.CostLemmas.{scan_cost}

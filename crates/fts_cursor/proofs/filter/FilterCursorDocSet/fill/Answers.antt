@@ -1,7 +1,10 @@
 -- The terms are those they were, later on.
-use Rattle.std.proofs.Common.{ap, drop, ◌∙◌}
+use Rattle.std.proofs.Common.{subst, ◌≡◌, ap, drop, ◌∙◌}
+use Rattle.std.specs.List.{filter}
 use Rattle.fts_postings.proofs.ConjoinedLemmas.{AllFollow-trans}
-use Rattle.fts_cursor.specs.Dense.{is_dense}
+use Rattle.fts_postings.specs.Conjoined.{common_of}
+use Rattle.fts_postings.specs.Sets.{FirstPasses}
+use Rattle.fts_cursor.specs.Dense.{in_each}
 use Rattle.fts_cursor.proofs.FilterLemmas.{filter-continues}
 use Rattle.fts_cursor.proofs.TermsLemmas.{terms-continue}
 use Rattle.fts_cursor.proofs.filter.FilterCursorDocSet.fill.Goals as goal
@@ -10,7 +13,8 @@ pub invariant_of-self : goal.invariant_of-self
 invariant_of-self c =
     let s = c.self.inside in
     let follows = AllFollow-trans s.terms c.fill_kept-filled.new.terms c.settle.new.terms c.fill_kept-filled.ensures.follows c.settle.ensures.follows in
-    record { settled = c.settle.ensures.settled; tied = (terms-continue s.terms c.settle.new.terms follows c.self.invariant.tied).1 }
+    let settled = subst (λ bits. FirstPasses (in_each bits) (common_of c.settle.new.terms)) c.deref-2.ensures.value c.settle.ensures.settled in
+    record { settled = settled; tied = (terms-continue s.terms c.settle.new.terms follows c.self.invariant.tied).1 }
 
 pub returns-clause-walked : goal.returns-clause-walked
 returns-clause-walked c =
@@ -21,5 +25,6 @@ returns-clause-walked c =
 pub returns-clause-remaining : goal.returns-clause-remaining
 returns-clause-remaining c =
     let s = c.self.inside in
-    let test = is_dense s.dense in
-    c.settle.ensures.same ∙ c.fill_kept-filled.ensures.remaining ∙ ap (λ s. drop 128 s.remaining) c.self.view_is
+    let same = subst (λ bits. filter (in_each bits) (common_of c.settle.new.terms) ≡ filter (in_each bits) (common_of c.fill_kept-filled.new.terms)) c.deref-2.ensures.value c.settle.ensures.same in
+    let left = subst (λ bits. filter (in_each bits) (common_of c.fill_kept-filled.new.terms) ≡ drop 128 (filter (in_each bits) (common_of s.terms))) c.deref.ensures.value c.fill_kept-filled.ensures.remaining in
+    same ∙ left ∙ ap (λ s. drop 128 s.remaining) c.self.view_is

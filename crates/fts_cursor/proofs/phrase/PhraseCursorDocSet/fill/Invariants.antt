@@ -1,4 +1,4 @@
--- The documents so far lie at the front.
+-- The documents so far are at the front.
 use Rattle.fts_cursor.specs.Standing.{Walked}
 use Rattle.fts_postings.proofs.FillLemmas.{Taken}
 use Rattle.fts_cursor.proofs.phrase.PhraseCursorDocSet.fill.Given as goal

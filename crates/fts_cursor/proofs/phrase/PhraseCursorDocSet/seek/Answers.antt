@@ -1,4 +1,4 @@
--- Where the phrase stands of what is left is what is left of where it stands.
+-- Where the phrase stands of what is left is what is left of where it is.
 use Rattle.std.proofs.Common.{◌≡◌, ◌∷◌, List, refl, ap, ◌∙◌, arith}
 use Rattle.std.specs.List.{filter}
 use Rattle.std.proofs.lemmas.List.{with_items_is}

@@ -1,4 +1,4 @@
--- No position was left behind.
+-- No position was passed.
 use Rattle.std.proofs.Common.{[], get_or, ap, sym, ◌∙◌}
 use Rattle.fts_cursor.proofs.WalkLemmas.{at_least_zero}
 use Rattle.fts_cursor.proofs.position_cursor.PositionCursor.new.Goals as goal

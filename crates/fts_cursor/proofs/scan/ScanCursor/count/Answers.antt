@@ -1,4 +1,4 @@
--- Behind all documents nothing is left.
+-- After all documents nothing is left.
 use Rattle.std.proofs.Common.{◌≤◌, length, refl, ap, sym, arith}
 use Rattle.fts_cursor.specs.Scans.{keeps}
 use Rattle.fts_cursor.proofs.ScanLemmas.{none_behind, none_in_stretch}

@@ -1,4 +1,4 @@
--- The first that is left lies at its place in the array.
+-- The first that is left is at its place in the array.
 use Rattle.std.proofs.Common.{◌-◌, min, ap, subst, ◌∙◌, arith}
 use Rattle.fts_postings.proofs.CostLemmas.{scan_cost}
 use Rattle.std.specs.List.{slice_get}

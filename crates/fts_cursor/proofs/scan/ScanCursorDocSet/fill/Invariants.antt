@@ -1,4 +1,4 @@
--- The documents so far lie at the front.
+-- The documents so far are at the front.
 use Rattle.std.proofs.Common.{◌-◌, ◌≤◌}
 use Rattle.fts_postings.proofs.FillLemmas.{Taken}
 use Rattle.fts_cursor.proofs.scan.ScanCursorDocSet.fill.Given as goal

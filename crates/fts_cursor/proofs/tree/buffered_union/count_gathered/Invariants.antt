@@ -1,4 +1,4 @@
--- Those counted so far and those that remain are all, and the window stands at the next.
+-- Those counted so far and those that remain are all, and the window is at the next.
 use Rattle.std.proofs.Common.{◌≡◌, ◌+◌, ◌-◌, ◌^◌, ◌≤◌, length, min}
 use Rattle.fts_cursor.specs.Standing.{Walked}
 use Rattle.fts_cursor.specs.Trees.{StandsAt, gathered, tree_value}

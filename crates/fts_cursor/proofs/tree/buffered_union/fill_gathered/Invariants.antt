@@ -1,4 +1,4 @@
--- The documents so far lie at the front, and the window stands at the next.
+-- The documents so far are at the front, and the window is at the next.
 use Rattle.std.proofs.Common.{◌-◌, ◌≤◌}
 use Rattle.fts_cursor.specs.Standing.{Walked}
 use Rattle.fts_cursor.specs.Trees.{StandsAt, gathered, tree_value}

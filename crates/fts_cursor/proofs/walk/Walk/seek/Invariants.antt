@@ -1,4 +1,4 @@
--- Only what lies before the position was left behind.
+-- Only what lies before the position was passed.
 use Rattle.std.proofs.Common.{length}
 use Rattle.fts_segment.specs.PositionsLeft.{positions_left}
 use Rattle.fts_cursor.specs.Walks.{left_from}

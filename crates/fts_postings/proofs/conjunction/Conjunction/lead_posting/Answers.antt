@@ -1,4 +1,4 @@
--- The leading cursor stands at the first in common.
+-- The leading cursor is at the first in common.
 use Rattle.std.proofs.Common.{ap, ◌∙◌}
 use Rattle.std.specs.List.{slice_get}
 use Rattle.fts_postings.specs.Conjoined.{each_remaining}

@@ -1,4 +1,4 @@
--- Each of the others stands at the first in common.
+-- Each of the others is at the first in common.
 use Rattle.std.proofs.Common.{◌≡◌, ◌<◌, get_or, length, ap, sym, subst, ◌∙◌}
 use Rattle.std.specs.List.{slice_get}
 use Rattle.std.proofs.lemmas.List.{get_or_default}

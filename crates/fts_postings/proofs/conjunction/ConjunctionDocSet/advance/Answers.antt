@@ -1,4 +1,4 @@
--- The leading cursor stands at a document of all: the step over it is that over what is in common.
+-- The leading cursor is at a document of all: the step over it is that over what is in common.
 use Rattle.std.proofs.Common.{ap, ap₂, ◌∙◌, arith, drop}
 use Rattle.std.proofs.lemmas.List.{with_items_is}
 use Rattle.fts_postings.specs.Posting.{remaining_of}

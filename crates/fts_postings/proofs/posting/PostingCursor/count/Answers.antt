@@ -1,4 +1,4 @@
--- Each turn leaves the rest of the open block behind.
+-- Each turn passes the rest of the open block.
 use Rattle.std.proofs.Common.{◌≡◌, ℕ, ◌-◌, ◌<◌, ◌≤◌, List, [], ◌∷◌, length, suc, get_or, drop, refl, ap, sym, ◌∙◌, arith}
 use Rattle.std.proofs.lemmas.List.{length-append, length-drop}
 use Rattle.std.specs.List.{flat_map}

@@ -1,4 +1,4 @@
--- The place in the block, behind the blocks before it.
+-- The place in the block, after the blocks before it.
 use Rattle.std.proofs.Common.{◌<◌, ◌≤◌, [], length, subst, sym, arith}
 use Rattle.fts_postings.specs.Posting.{Posting, remaining_of}
 use Rattle.fts_postings.proofs.PostingLemmas.{posting_place, stands_within}

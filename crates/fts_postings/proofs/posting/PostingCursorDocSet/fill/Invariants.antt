@@ -1,4 +1,4 @@
--- The documents so far lie at the front, and each block that was reached was opened.
+-- The documents so far are at the front, and each block that was reached was opened.
 use Rattle.std.proofs.Common.{◌-◌, ◌≤◌}
 use Rattle.fts_postings.specs.Posting.{Walks, remaining_of}
 use Rattle.fts_postings.proofs.FillLemmas.{Taken}

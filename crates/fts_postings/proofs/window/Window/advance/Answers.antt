@@ -1,4 +1,4 @@
--- The first place is the one behind the first document.
+-- The first place is the one after the first document.
 use Rattle.std.proofs.Common.{ap, sym, ◌∙◌, drop}
 use Rattle.fts_postings.proofs.WindowLemmas.{found}
 use Rattle.fts_postings.proofs.RemainingLemmas.{nothing_first}

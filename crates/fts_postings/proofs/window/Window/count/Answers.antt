@@ -1,4 +1,4 @@
--- Each turn counts a word, and the whole ones behind it.
+-- Each turn counts a word, and the whole ones after it.
 use Rattle.std.proofs.Common.{suc, ◌-◌, length, ap, arith}
 use Rattle.fts_postings.specs.Windows.{is_found}
 use Rattle.fts_postings.proofs.CostLemmas.{scan_cost}

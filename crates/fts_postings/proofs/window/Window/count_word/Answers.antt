@@ -1,4 +1,4 @@
--- The bits of a word before the first place and behind the last don't count.
+-- The bits of a word before the first place and after the last don't count.
 use Rattle.std.proofs.Common.{◌+◌, ◌-◌, ◌*◌, ◌/◌, ◌%◌, ◌^◌, ap, ◌∙◌, arith}
 use Rattle.std.specs.Int.RustNames.{bit_and}
 use Rattle.std.proofs.lemmas.Nat.Bits.{ones_shl, ones_shr}

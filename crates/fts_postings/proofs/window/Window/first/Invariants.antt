@@ -1,4 +1,4 @@
--- What was left behind has no mark.
+-- What was passed has no mark.
 use Rattle.std.proofs.Common.{◌≡◌, suc, ◌-◌}
 use Rattle.fts_postings.proofs.WindowLemmas.{found}
 use Rattle.fts_postings.proofs.window.Window.first.Given as goal

@@ -1,4 +1,4 @@
--- What was taken so far lies behind what filled the front.
+-- What was taken so far comes after what filled the front.
 use Rattle.std.proofs.Common.{◌≡◌, ◌-◌}
 use Rattle.fts_postings.proofs.FillLemmas.{IsTakenBehind}
 use Rattle.fts_postings.proofs.WindowLemmas.{found}

@@ -2,9 +2,9 @@
 use Rattle.std.proofs.Common.{rules, ◌≡◌, ℕ, [], ◌∷◌, ◌++◌, length, ap, sym, subst, ◌∙◌, arith, length-append}
 use Rattle.std.proofs.lemmas.List.{length-map}
 use Rattle.fts_rounds.specs.RoundsDrawn.{drawn}
-use Rattle.fts_snapshots.specs.Stamps.{stamps_of}
+use Rattle.fts_model.specs.Operations.{stamps_of}
 use Rattle.fts_rounds.specs.Rounds.{AllBelow, Rises}
-use Rattle.fts_snapshots.proofs.StampLemmas.{stamps_of-push}
+use Rattle.fts_model.proofs.StampLemmas.{stamps_of-push}
 use Rattle.fts_rounds.proofs.RoundsNumbersLemmas.{Rises-push, All-from_below}
 use Rattle.fts_rounds.proofs.RoundsStepsLemmas.{draws}
 use Rattle.fts_rounds.proofs.lane.Lane.submit.Goals as goal

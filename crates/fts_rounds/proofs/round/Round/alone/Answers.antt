@@ -4,7 +4,7 @@ use Rattle.std.proofs.lemmas.List.{length-map}
 use Rattle.std.specs.List.{range_with_len}
 use Rattle.fts_rounds.specs.declared.stamps.RoundLimits.{RoundLimits}
 use Rattle.fts_rounds.specs.RoundsDrawn.{drawn}
-use Rattle.fts_snapshots.specs.Stamps.{stamps_of}
+use Rattle.fts_model.specs.Operations.{stamps_of}
 use Rattle.fts_rounds.specs.Rounds.{Held}
 use Rattle.fts_rounds.specs.Shuffles.{IsShuffle}
 use Rattle.fts_rounds.proofs.RoundsStepsLemmas.{collects, looks}

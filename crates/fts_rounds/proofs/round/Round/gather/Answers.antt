@@ -1,7 +1,7 @@
 -- Where no lane is missing there are as many ends as lanes.
 use Rattle.std.proofs.Common.{◌≡◌, ℕ, ◌<◌, List, [], ◌∷◌, length, All, ap, sym, subst, arith}
 use Rattle.std.proofs.lemmas.List.Elements.{All-head}
-use Rattle.fts_pool.specs.Totals.{times}
+use Rattle.fts_base.specs.Totals.{times}
 use Rattle.fts_rounds.specs.Rounds.{Held, IsLaneOf, lanes_of}
 use Rattle.fts_rounds.proofs.EndsLemmas.{as_many}
 use Rattle.fts_rounds.proofs.round.Round.gather.Goals as goal

@@ -10,7 +10,7 @@ use Rattle.fts_model.specs.declared.operation.Stamped.{Stamped}
 use Rattle.fts_rounds.specs.declared.stamps.RoundLimits.{RoundLimits}
 use Rattle.fts_rounds.specs.RoundsDrawn.{drawn}
 use Rattle.std.specs.List.{range_with_len}
-use Rattle.fts_snapshots.specs.Stamps.{stamps_of}
+use Rattle.fts_model.specs.Operations.{stamps_of}
 use Rattle.fts_rounds.specs.Rounds.{Held, IsLaneOf, Rises}
 use Rattle.fts_rounds.specs.Shuffles.{IsShuffle, submissions}
 use Rattle.fts_rounds.proofs.RoundsStepsLemmas.{collects, looks}

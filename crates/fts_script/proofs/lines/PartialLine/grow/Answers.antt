@@ -1,8 +1,8 @@
 use Rattle.std.proofs.Common.{◌≡◌, ◌<◌, ◌-◌, ◌∙◌, ap, sym, arith, drop, take, length, vec_len}
 use Rattle.std.specs.List.{prefix_len}
 use Rattle.std.proofs.lemmas.List.{length-drop}
-use Rattle.fts_session.specs.Text.{is_white}
-use Rattle.fts_session.specs.KeptLines.{grown, is_blank_kept}
+use Rattle.fts_script.specs.session.Text.{is_white}
+use Rattle.fts_script.specs.session.KeptLines.{grown, is_blank_kept}
 use Rattle.fts_script.proofs.BlankLemmas.{not_blank-before, not_blank-behind, not_blank-some}
 use Rattle.fts_script.proofs.KeptLemmas.{grown-behind, not_blank-grown, not_blank-unindented, rest_is, unindented-drop}
 use Rattle.fts_script.proofs.RunLemmas.{on_err}

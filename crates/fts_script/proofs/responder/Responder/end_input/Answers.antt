@@ -1,7 +1,7 @@
 use Rattle.std.proofs.Common.{◌++◌, ◌∙◌, ap}
 use Rattle.std.proofs.lemmas.Bool.{false≢true}
 use Rattle.std.proofs.lemmas.Result.{on_ok_weaker}
-use Rattle.fts_session.specs.KeptLines.{reply_to_kept}
+use Rattle.fts_script.specs.session.KeptLines.{reply_to_kept}
 use Rattle.fts_script.proofs.RunLemmas.{Finishes-line}
 use Rattle.fts_script.proofs.responder.Responder.end_input.Goals as goal
 

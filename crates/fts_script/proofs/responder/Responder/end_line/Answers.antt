@@ -1,6 +1,6 @@
 use Rattle.std.proofs.Common.{◌++◌, ◌∙◌, ap, sym, string_bytes}
 use Rattle.std.proofs.lemmas.Result.{on_err_weaker, on_ok_weaker}
-use Rattle.fts_session.specs.KeptLines.{after_kept, is_blank_kept, reply_to_kept}
+use Rattle.fts_script.specs.session.KeptLines.{after_kept, is_blank_kept, reply_to_kept}
 use Rattle.fts_script.proofs.KeptLemmas.{after_kept-whole, not_blank-whole, reply_to_kept-whole}
 use Rattle.fts_script.proofs.responder.Responder.end_line.Goals as goal
 

@@ -1,11 +1,11 @@
 use Rattle.std.proofs.Common.{[], ◌++◌, ◌∙◌, ap, append_assoc, append-nil, drop, take, take-append-drop, length, subst, sym, arith, string_bytes}
 use Rattle.std.proofs.lemmas.List.{take_all}
-use Rattle.fts_session.specs.Text.{lines_of}
+use Rattle.fts_script.specs.session.Text.{lines_of}
 use Rattle.fts_script.specs.Stops.{IsWritten}
 use Rattle.fts_script.specs.Responders.{Advances}
 use Rattle.fts_script.proofs.BlankLemmas.{IsWritten-front}
 use Rattle.fts_script.proofs.KeptLemmas.{not_blank-kept}
-use Rattle.fts_session.proofs.LineLemmas.{HasNoEnd-append, HasNoEnd-before, HasNoEnd-none, take-ended}
+use Rattle.fts_script.proofs.LineLemmas.{HasNoEnd-append, HasNoEnd-before, HasNoEnd-none, take-ended}
 use Rattle.fts_script.proofs.RunLemmas.{Advances-ended, Advances-unended, on_err}
 use Rattle.fts_script.proofs.responder.Responder.take_line.Goals as goal
 

@@ -1,6 +1,6 @@
 use Rattle.std.proofs.Common.{[], ◌++◌, take, drop, subst, sym, arith, string_bytes, take-append-drop}
 use Rattle.std.proofs.lemmas.List.{take_rest}
-use Rattle.fts_session.specs.Text.{lines_of}
+use Rattle.fts_script.specs.session.Text.{lines_of}
 use Rattle.fts_script.specs.Stops.{IsWritten}
 use Rattle.fts_script.specs.Responders.{Advances, AdvancesToStop}
 use Rattle.fts_script.proofs.RunLemmas.{Advances-then, AdvancesToStop-leads, on_err, sent_more, within_more}

@@ -1,4 +1,4 @@
--- The sums before the first ordinal and behind the last.
+-- The sums before the first ordinal and after the last.
 use Rattle.std.proofs.Common.{◌≤◌, length, min, ap, arith}
 use Rattle.fts_model.specs.declared.schema.Kind.TheVariants as kinds
 use Rattle.fts_segment.specs.Keywords.{ordinals_of}

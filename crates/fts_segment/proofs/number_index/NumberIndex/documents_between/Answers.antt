@@ -1,4 +1,4 @@
--- The sums before the first number that isn't below and behind the last that isn't above.
+-- The sums before the first number that isn't below and after the last that isn't above.
 use Rattle.std.proofs.Common.{◌≤◌, ◌<◌, ℕ, List, length, get_or, sym, subst, ap, arith}
 use Rattle.std.specs.List.Sorted.{IsStrictlyIncreasing}
 use Rattle.fts_segment.specs.Between.{IsCut}

@@ -1,4 +1,4 @@
--- A list lies between its bounds.
+-- A list is between its bounds.
 use Rattle.std.proofs.Common.{[], ◌+◌, ◌%◌, length, get_or, ap, sym, ◌∙◌, arith}
 use Rattle.std.proofs.lemmas.List.{get_or_past}
 use Rattle.fts_segment.proofs.PackedLemmas.{LiesBetween, lies_between, length-position_lists_at}

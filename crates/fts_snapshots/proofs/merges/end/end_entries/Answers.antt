@@ -5,7 +5,7 @@ use Rattle.fts_snapshots.specs.Entries.{EntryValue, has_live}
 use Rattle.fts_snapshots.specs.Merges.{without}
 use Rattle.fts_snapshots.specs.LateMerges.{ended, replaced, end_fault}
 use Rattle.fts_snapshots.proofs.SourceLemmas.{unless_ok}
-use Rattle.fts_snapshots.proofs.EndingLemmas.{unless_err}
+use Rattle.fts_snapshots.proofs.LateBitLemmas.{unless_err}
 use Rattle.fts_snapshots.proofs.merges.end.end_entries.Goals as goal
 
 pub returns-in-Err-clause-entries : goal.returns-in-Err-clause-entries

@@ -4,7 +4,7 @@ use Rattle.std.specs.HashSet.{contains}
 use Rattle.fts_model.specs.declared.operation.Stamped.{Stamped}
 use Rattle.fts_model.specs.Documents.{DocumentValue}
 use Rattle.fts_segment.specs.Segments.{SegmentValue}
-use Rattle.fts_snapshots.proofs.EndingLemmas.{any_here, any_next, any_end, stamp_at, document_at}
+use Rattle.fts_snapshots.proofs.LateBitLemmas.{any_here, any_next, any_end, stamp_at, document_at}
 use Rattle.fts_snapshots.proofs.merges.end.has_one.Goals as goal
 use Rattle.fts_snapshots.proofs.merges.end.has_one.Goals.{else-get-via-then-get+else-contains, else-get-via-else-get}
 

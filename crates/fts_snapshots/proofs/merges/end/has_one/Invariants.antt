@@ -1,7 +1,7 @@
 -- What stays true in the loop of `merges::end::has_one`.
 use Rattle.std.proofs.Common.{◌≡◌, nat_eq}
 use Rattle.std.specs.HashSet.{contains}
-use Rattle.fts_snapshots.proofs.EndingLemmas.{any_from}
+use Rattle.fts_snapshots.proofs.LateBitLemmas.{any_from}
 use Rattle.fts_snapshots.proofs.merges.end.has_one.Given as goal
 
 abbrev pub invariant-loop-document : goal.invariant-loop-document

@@ -2,7 +2,7 @@
 use Rattle.std.proofs.Common.{◌≡◌, ◌<◌, ◌∙◌, None, Option, ℕ, true, false, get_or, replicate, length, refl, sym, ap, List, arith}
 use Rattle.fts_merge.specs.declared.origin.Origin.{Origin}
 use Rattle.fts_merge.specs.Merges.{MergedValue}
-use Rattle.fts_snapshots.proofs.EndingLemmas.{marked-none, marked-all, length-marked, bit_of, bits_mapped, no_origin, origin_at, bits_step}
+use Rattle.fts_snapshots.proofs.LateBitLemmas.{marked-none, marked-all, length-marked, bit_of, bits_mapped, no_origin, origin_at, bits_step}
 use Rattle.fts_snapshots.proofs.merges.end.live_bits.Goals as goal
 use Rattle.fts_snapshots.proofs.merges.end.live_bits.Goals.{then-is_live, else-is_live}
 

@@ -1,6 +1,6 @@
 -- What stays true in the loop of `merges::end::live_bits`.
 use Rattle.std.proofs.Common.{◌≡◌}
-use Rattle.fts_snapshots.proofs.EndingLemmas.{marked, bit_of}
+use Rattle.fts_snapshots.proofs.LateBitLemmas.{marked, bit_of}
 use Rattle.fts_snapshots.proofs.merges.end.live_bits.Given as goal
 
 abbrev pub invariant-loop-document : goal.invariant-loop-document

@@ -6,8 +6,8 @@ use Rattle.fts_segment.specs.Segments.{SegmentValue}
 use Rattle.fts_merge.specs.Merges.{MergedValue}
 use Rattle.fts_snapshots.specs.Merges.{is_among, is_there}
 use Rattle.fts_snapshots.specs.MergedSegments.{origins_of}
-use Rattle.fts_snapshots.proofs.EndLemmas.{named_by}
-use Rattle.fts_snapshots.proofs.EndingLemmas.{stamps_skipped, stamps_added, stamps_all, gone_bits, no_origin, origin_at, gone_step, stamp_at, document_at}
+use Rattle.fts_snapshots.proofs.LateContentLemmas.{named_by}
+use Rattle.fts_snapshots.proofs.LateBitLemmas.{stamps_skipped, stamps_added, stamps_all, gone_bits, no_origin, origin_at, gone_step, stamp_at, document_at}
 use Rattle.fts_snapshots.proofs.merges.end.stamps_left.Goals as goal
 use Rattle.fts_snapshots.proofs.merges.end.stamps_left.Goals.{then-is_none+in_ok-insert, else-is_none}
 

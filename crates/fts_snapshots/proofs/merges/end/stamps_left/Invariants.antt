@@ -2,7 +2,7 @@
 use Rattle.std.proofs.Common.{◌≡◌, ℕ, nat_eq}
 use Rattle.std.specs.HashSet.{contains}
 use Rattle.fts_snapshots.specs.Merges.{is_among}
-use Rattle.fts_snapshots.proofs.EndingLemmas.{stamps_to, gone_bits}
+use Rattle.fts_snapshots.proofs.LateBitLemmas.{stamps_to, gone_bits}
 use Rattle.fts_snapshots.proofs.merges.end.stamps_left.Given as goal
 
 abbrev pub invariant-loop-document : goal.invariant-loop-document

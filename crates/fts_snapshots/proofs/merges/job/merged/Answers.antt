@@ -11,7 +11,7 @@ use Rattle.fts_snapshots.specs.Entries.{live_count}
 use Rattle.fts_snapshots.specs.Merges.{size_fault}
 use Rattle.fts_snapshots.specs.MergedSegments.{IsMergedSegment, segment_of, merged_of}
 use Rattle.fts_snapshots.specs.Sources.{source_of}
-use Rattle.fts_snapshots.proofs.BeginLemmas.{merged_by_job}
+use Rattle.fts_snapshots.proofs.LateBeginLemmas.{merged_by_job}
 use Rattle.fts_snapshots.proofs.SourceLemmas.{live_count-sources, not_large, size_none}
 use Rattle.fts_snapshots.proofs.merges.job.merged.Goals as goal
 

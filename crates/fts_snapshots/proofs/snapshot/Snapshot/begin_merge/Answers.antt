@@ -6,7 +6,7 @@ use Rattle.fts_snapshots.specs.Merges.{entries_at, names_fault}
 use Rattle.fts_snapshots.specs.MergedSegments.{IsJob, merged_of}
 use Rattle.fts_snapshots.specs.Snapshots.{SnapshotValue, IdsRise}
 use Rattle.fts_snapshots.specs.Successors.{Fits}
-use Rattle.fts_snapshots.proofs.BeginLemmas.{job_begun, fits_begun}
+use Rattle.fts_snapshots.proofs.LateBeginLemmas.{job_begun, fits_begun}
 use Rattle.fts_snapshots.proofs.SnapshotLemmas.{snapshot_with}
 use Rattle.fts_snapshots.proofs.SourceLemmas.{unless_ok}
 use Rattle.fts_snapshots.proofs.snapshot.Snapshot.begin_merge.Goals as goal

@@ -6,9 +6,9 @@ use Rattle.fts_snapshots.specs.Commits.{numbers_fault}
 use Rattle.fts_snapshots.specs.Snapshots.{SnapshotValue, IsSnapshot, IdsRise}
 use Rattle.fts_snapshots.specs.Successors.{Fits}
 use Rattle.fts_snapshots.specs.LateMerges.{gone_fault, end_fault, replaced, after_end}
-use Rattle.fts_snapshots.proofs.EndLemmas.{content-ended, snapshot_after_end}
-use Rattle.fts_snapshots.proofs.EndingLemmas.{unless_err}
-use Rattle.fts_snapshots.proofs.EndedLemmas.{schema_ended}
+use Rattle.fts_snapshots.proofs.LateContentLemmas.{content-ended, snapshot_after_end}
+use Rattle.fts_snapshots.proofs.LateBitLemmas.{unless_err}
+use Rattle.fts_snapshots.proofs.LateSchemaLemmas.{schema_ended}
 use Rattle.fts_snapshots.proofs.SnapshotLemmas.{snapshot_with, same_snapshot}
 use Rattle.fts_snapshots.proofs.SourceLemmas.{unless_ok, first_none, numbers_room}
 use Rattle.fts_snapshots.proofs.snapshot.Snapshot.end_merge.Goals as goal

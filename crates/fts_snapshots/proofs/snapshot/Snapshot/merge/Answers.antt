@@ -4,7 +4,7 @@ use Rattle.fts_base.specs.Results.{Gives}
 use Rattle.fts_snapshots.specs.Entries.{EntryValue, live_count}
 use Rattle.fts_snapshots.specs.Merges.{entries_at, names_fault, size_fault}
 use Rattle.fts_snapshots.specs.MergedSegments.{merged_of}
-use Rattle.fts_snapshots.proofs.BeginLemmas.{merge_here}
+use Rattle.fts_snapshots.proofs.LateBeginLemmas.{merge_here}
 use Rattle.fts_snapshots.proofs.MergedInfoLemmas.{infos_given}
 use Rattle.fts_snapshots.proofs.SourceLemmas.{unless_ok}
 use Rattle.fts_snapshots.proofs.snapshot.Snapshot.merge.Goals as goal

@@ -1,0 +1,2 @@
+-- The definitions that contracts of parts cite.
+pub use Rattle.fts_collect.specs.Parts

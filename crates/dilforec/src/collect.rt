@@ -1,0 +1,3 @@
+//! What a search answers from one segment, and how such parts are joined.
+
+pub use fts_collect::{Part, collect};

@@ -1,0 +1,3 @@
+//! Numbers packed in words: bits, blocks, lists of documents, and columns.
+
+pub use fts_pack::{BLOCK, Bits, Block, Blocks, Column, List, ListSource};

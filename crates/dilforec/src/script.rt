@@ -1,0 +1,9 @@
+//! Scripts: lines of JSON in, lines of replies out, over any engine that keeps an index, and the program's command line.
+
+pub use fts_base::{GhostBytes, GhostCount};
+pub use fts_cli::args::{ArgFault, Asked, args};
+pub use fts_cli::status::{arg_status, status};
+pub use fts_engine::{Engine, EngineOver, ListEngine, Merge, Options};
+pub use fts_engine_index::{IndexEngine, LocalEngine};
+pub use fts_model::Cut;
+pub use fts_script::{Fault, Plain, ScriptIn, ScriptOut, StreamError, Streams, run_script};

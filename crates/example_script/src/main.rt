@@ -1,0 +1,39 @@
+// A script whose reader and writer are its caller's own, by the crate dilforec alone.
+#![tactic(auto)]
+
+ghost use Rattle.std.specs.Prelude.{◌≡◌, IfOk};
+ghost use Rattle.dilforec.specs.script.Outputs.{output};
+
+mod memory;
+
+use dilforec::script::{EngineOver, Fault, ListEngine, Options, Streams, run_script};
+use memory::{Lines, Replies};
+use std::process::ExitCode;
+
+/// Runs a script that is a text, and gives its replies.
+fn replies_to<R: AllocGlobal + Sync, E: EngineOver<R>>(rt: &R, text: &str) -> Result<Vec<u8>, Fault>
+    ensures { IfOk result (λ replies. replies.items ≡ output text.now) }
+{
+    let mut streams = Streams {
+        reader: Lines::over(text.as_bytes()),
+        writer: Replies::new(rt.alloc()),
+    };
+    run_script::<_, E, _, _>(rt, &mut streams, Options::default())?;
+    Ok(streams.writer.into_bytes())
+}
+
+const SCRIPT: &str =
+    "{\"schema\":[{\"name\":\"title\",\"kind\":\"text\",\"default\":true}]}\n{\"add\":{\"title\":\"Programming Pearls\"}}\n{\"commit\":true}\n{\"search\":{\"query\":\"pearls\"}}\n";
+
+fn main(rt: HostRuntime) -> ExitCode {
+    match replies_to::<_, ListEngine>(&rt, SCRIPT) {
+        Ok(bytes) => match std::str::from_utf8(&bytes) {
+            Ok(text) => match print!(rt; "{text}") {
+                Ok(()) => ExitCode::SUCCESS,
+                Err(_) => ExitCode::FAILURE,
+            },
+            Err(_) => ExitCode::FAILURE,
+        },
+        Err(_) => ExitCode::FAILURE,
+    }
+}

@@ -1,0 +1,114 @@
+// Streams in memory: what is read is a text, and what is written is kept.
+ghost use Rattle.std.specs.Prelude.{◌≡◌, [], Some};
+
+use dilforec::script::{GhostBytes, GhostCount, ScriptIn, ScriptOut, StreamError};
+use std::alloc::Global;
+
+/// A text that is read.
+#[derive(Drop)]
+pub struct Lines<'a> {
+    rest: &'a [u8],
+    given: GhostBytes,
+    latest: GhostBytes,
+    ends: GhostCount,
+}
+
+impl<'a> Lines<'a> {
+    /// Nothing was read yet.
+    pub fn over(text: &'a [u8]) -> Lines<'a>
+        ensures rest { result.rest.now ≡ text.now }
+        ensures given { result.given.bytes ≡ [] }
+        ensures ends { result.ends ≡ 0 }
+    {
+        Lines {
+            rest: text,
+            given: GhostBytes::none(),
+            latest: GhostBytes::none(),
+            ends: GhostCount::zero(),
+        }
+    }
+}
+
+impl<'a> ScriptIn for Lines<'a> {
+    ghost given = { λ l. l.given.bytes };
+
+    ghost latest = { λ l. l.latest.bytes };
+
+    ghost remaining = { λ l. Some l.rest.now };
+
+    ghost ends = { λ l. l.ends };
+
+    ghost failed = { λ _. 0 };
+
+    fn read(&mut self, buffer: &mut [u8]) -> Result<usize, StreamError> {
+        let n = self.rest.len().min(buffer.len());
+        let (front, rest) = self.rest.split_at(n);
+        buffer[..n].copy_from_slice(front);
+        self.rest = rest;
+        self.latest = GhostBytes::none().and(front);
+        self.given = self.given.and(front);
+        if n == 0 && !buffer.is_empty() {
+            self.ends = self.ends.and_one();
+        }
+        Ok(n)
+    }
+}
+
+/// What was written.
+#[derive(Drop)]
+pub struct Replies {
+    bytes: Vec<u8>,
+    failed: GhostCount,
+    flushes: GhostCount,
+    flushed: GhostBytes,
+}
+
+impl Replies {
+    /// Nothing was written yet.
+    pub fn new(alloc: Global) -> Replies
+        ensures bytes { result.bytes.items ≡ [] }
+        ensures failed { result.failed ≡ 0 }
+    {
+        Replies {
+            bytes: Vec::new(alloc),
+            failed: GhostCount::zero(),
+            flushes: GhostCount::zero(),
+            flushed: GhostBytes::none(),
+        }
+    }
+
+    /// The bytes that were written.
+    pub fn into_bytes(self) -> Vec<u8>
+        ensures { result ≡ self.bytes }
+    {
+        self.bytes
+    }
+}
+
+impl ScriptOut for Replies {
+    ghost taken = { λ r. r.bytes.items };
+
+    ghost held = { λ r. Some r.bytes.items };
+
+    ghost failed = { λ r. r.failed };
+
+    ghost flushes = { λ r. r.flushes };
+
+    ghost flushed = { λ r. r.flushed.bytes };
+
+    fn write(&mut self, bytes: &[u8]) -> Result<usize, StreamError> {
+        match self.bytes.extend_from_slice(bytes) {
+            Ok(()) => Ok(bytes.len()),
+            Err(_) => {
+                self.failed = self.failed.and_one();
+                Err(StreamError)
+            }
+        }
+    }
+
+    fn flush(&mut self) -> Result<(), StreamError> {
+        self.flushes = self.flushes.and_one();
+        self.flushed = GhostBytes::none().and(&self.bytes);
+        Ok(())
+    }
+}

@@ -1,4 +1,0 @@
-pub mod BitsLemmas
-pub mod DigitsLemmas
-pub mod PackingLemmas
-pub mod VectorLemmas

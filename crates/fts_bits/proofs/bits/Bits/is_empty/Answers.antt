@@ -1,6 +1,0 @@
-use Rattle.std.proofs.Common.{◌==◌, length, ap, sym, ◌∙◌}
-use Rattle.fts_bits.proofs.BitsLemmas.{length-flags}
-use Rattle.fts_bits.proofs.bits.Bits.is_empty.Goals as goal
-
-pub returns : goal.returns
-returns c = ap (λ n. n == 0) (sym (ap length (sym c.self.view_is) ∙ length-flags _ _))

@@ -1,6 +1,0 @@
-use Rattle.std.proofs.Common.{take}
-use Rattle.fts_bits.proofs.PackingLemmas.{HasBitsOf}
-use Rattle.fts_bits.proofs.packing.width_of.Given as goal
-
-abbrev pub invariant-loop-number : goal.invariant-loop-number
-invariant-loop-number l = HasBitsOf (take l.number-index l.numbers) l.bits

@@ -1,5 +1,0 @@
-pub mod BlocksLemmas
-pub mod ColumnLemmas
-pub mod CountsLemmas
-mod IntervalLemmas
-mod LanesLemmas

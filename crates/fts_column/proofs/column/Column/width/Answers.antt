@@ -1,9 +1,0 @@
-use Rattle.std.proofs.Common.{subst}
-use Rattle.fts_column.specs.Column.{IsColumn}
-use Rattle.fts_column.specs.Lanes.{in_lanes}
-use Rattle.fts_column.proofs.ColumnLemmas.{column_width}
-use Rattle.fts_column.proofs.column.Column.width.Goals as goal
-
-pub returns : goal.returns
-returns c =
-    column_width c.args.self.now c.self.inside.range c.self.inside.width c.self.inside.words.items (in_lanes c.self.inside.lanes) (subst (λ v. IsColumn v c.self.inside.range c.self.inside.width c.self.inside.words.items (in_lanes c.self.inside.lanes)) c.self.view_is c.self.invariant.0)

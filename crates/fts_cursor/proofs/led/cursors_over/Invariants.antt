@@ -1,8 +1,0 @@
--- A cursor for each list so far.
-use Rattle.std.proofs.Common.{take}
-use Rattle.std.specs.List.{AllZip}
-use Rattle.fts_cursor.specs.Leading.{IsOver}
-use Rattle.fts_cursor.proofs.led.cursors_over.Given as goal
-
-abbrev pub invariant-loop-list : goal.invariant-loop-list
-invariant-loop-list l = AllZip (λ p documents. IsOver p documents.now) l.cursors.items (take l.list-index l.lists)

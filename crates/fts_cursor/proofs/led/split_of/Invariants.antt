@@ -1,8 +1,0 @@
--- The lists so far, by whether they have bits.
-use Rattle.std.proofs.Common.{take}
-use Rattle.fts_cursor.proofs.LeadingLemmas.{lists_of}
-use Rattle.fts_cursor.specs.Splits.{IsSplit}
-use Rattle.fts_cursor.proofs.led.split_of.Given as goal
-
-abbrev pub invariant-loop-list : goal.invariant-loop-list
-invariant-loop-list l = IsSplit (lists_of (take l.list-index l.lists)) l.bits.items (lists_of l.rest.items) l.opened

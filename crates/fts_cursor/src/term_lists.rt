@@ -1,0 +1,143 @@
+// The cursor of a list that leads others: by words if all have bits, and cut by the bits of those that have some.
+ghost use Rattle.std.specs.Prelude.{◌≡◌, ℕ, ◌^◌, ◌<◌, ◌≤◌, IfOk, [], length, map};
+ghost use Rattle.std.specs.List.{AllZip};
+ghost use Rattle.fts_pack.specs.Documents.{Rises};
+ghost use Rattle.fts_postings.specs.Sets.{has};
+ghost use Rattle.fts_cursor.specs.Hits.{is_live};
+ghost use Rattle.fts_cursor.specs.Leading.{IsOver};
+ghost use Rattle.fts_cursor.specs.Splits.{FindsAll, FindsSplit, IsSplit};
+
+use crate::dense::Dense;
+use crate::filter::FilterCursor;
+use crate::rows::Kept;
+use crate::scan::ScanCursor;
+use crate::tree::Tree;
+use fts_pack::bits::Bits;
+use fts_pack::{List, ListSource};
+use fts_postings::{Conjunction, PostingCursor};
+use std::alloc::{AllocError, Global};
+
+/// The documents that a list, which leads, and others have in common.
+pub(crate) fn of_lists<'a>(
+    alloc: Global,
+    shortest: &'a List,
+    others: &[&'a List],
+) -> Result<Tree<'a>, AllocError>
+    requires { Rises 0 shortest.now }
+    ensures { IfOk result (λ t. FindsAll shortest.now (map (λ l. l.now) others.now) t.standing) }
+{
+    let Split { bits, rest, opened } = split_of(alloc, others)?;
+    if bits.is_empty() {
+        return untold(alloc, shortest, others);
+    }
+    if rest.is_empty() {
+        if let Some(first) = shortest.bits() {
+            return all_told(alloc, shortest, first, bits, opened);
+        }
+    }
+    some_told(alloc, shortest, &rest, bits, opened)
+}
+
+// Lists by whether they have bits, and how many blocks were opened of those that do: the first of each.
+#[derive(Drop)]
+struct Split<'a> {
+    bits: Vec<&'a Bits>,
+    rest: Vec<&'a List>,
+    opened: u64,
+}
+
+fn split_of<'a>(alloc: Global, lists: &[&'a List]) -> Result<Split<'a>, AllocError>
+    ensures { IfOk result (λ split. IsSplit (map (λ l. l.now) lists.now) split.bits.items
+        (map (λ l. l.now) split.rest.items) split.opened) }
+{
+    let mut bits = Vec::new(alloc);
+    let mut rest = Vec::new(alloc);
+    let mut opened = 0;
+    for list in lists {
+        match list.bits() {
+            Some(told) => {
+                bits.push(told)?;
+                opened += cursor_over(list).openings();
+            }
+            None => rest.push(*list)?,
+        }
+    }
+    Ok(Split { bits, rest, opened })
+}
+
+/// Where none of the others has bits.
+fn untold<'a>(
+    alloc: Global,
+    shortest: &'a List,
+    others: &[&'a List],
+) -> Result<Tree<'a>, AllocError>
+    ensures { IfOk result (λ t. FindsAll shortest.now (map (λ l. l.now) others.now) t.standing) }
+{
+    let lead = cursor_over(shortest);
+    let others = cursors_over(alloc, others)?;
+    Tree::terms(alloc, Conjunction::new(lead, others))
+}
+
+/// Where all have bits.
+fn all_told<'a>(
+    alloc: Global,
+    shortest: &'a List,
+    first: &'a Bits,
+    bits: Vec<&'a Bits>,
+    opened: u64,
+) -> Result<Tree<'a>, AllocError>
+    requires rises { Rises 0 shortest.now }
+    requires few { length first.now ≤ 2 ^ 32 }
+    requires tells { (d : ℕ) → is_live first.now d ≡ has shortest.now d }
+    ensures { IfOk result (λ t. FindsSplit shortest.now bits.entry.items [] opened t.standing) }
+{
+    let opened = opened.saturating_add(cursor_over(shortest).openings());
+    let docs = first.len();
+    let mut some = Vec::with_capacity(alloc, 1)?;
+    some.push(first)?;
+    let dense = Dense {
+        some,
+        all: bits,
+        none: Vec::new(alloc),
+    };
+    let scan = ScanCursor::new(Kept::Told(dense), docs, None);
+    Tree::dense(alloc, scan, opened)
+}
+
+/// Where some of the others have bits.
+fn some_told<'a>(
+    alloc: Global,
+    shortest: &'a List,
+    rest: &[&'a List],
+    bits: Vec<&'a Bits>,
+    opened: u64,
+) -> Result<Tree<'a>, AllocError>
+    requires { Rises 0 shortest.now }
+    ensures { IfOk result (λ t. FindsSplit shortest.now bits.entry.items (map (λ l. l.now) rest.now) opened t.standing) }
+{
+    let lead = cursor_over(shortest);
+    let others = cursors_over(alloc, rest)?;
+    let filter = FilterCursor::new(Conjunction::new(lead, others), bits, opened);
+    Tree::filter(alloc, filter)
+}
+
+/// A cursor over a list.
+pub(crate) fn cursor_over(list: &List) -> PostingCursor<ListSource<'_>>
+    ensures { IsOver result list.now }
+{
+    PostingCursor::new(list.source())
+}
+
+/// A cursor over each list.
+fn cursors_over<'a>(
+    alloc: Global,
+    lists: &[&'a List],
+) -> Result<Vec<PostingCursor<ListSource<'a>>>, AllocError>
+    ensures { IfOk result (λ cursors. AllZip (λ p l. IsOver p l.now) cursors.items lists.now) }
+{
+    let mut cursors = Vec::with_capacity(alloc, lists.len())?;
+    for list in lists {
+        cursors.push(cursor_over(list))?;
+    }
+    Ok(cursors)
+}

@@ -1,0 +1,68 @@
+// How a run works; none of it changes what it writes.
+ghost use Rattle.std.specs.Prelude.{◌≡◌, ◌≤◌, IsTrue, IsNone, IfSome};
+ghost use Rattle.fts_engine.specs.Limits.{is_cut};
+
+pub use fts_model::Cut;
+use fts_model::MOST_BUILT;
+
+/// How many workers build segments, and when segments end and merge.
+#[derive(Clone, Copy, Debug, Drop, PartialEq, Eq)]
+pub struct Options {
+    /// How many threads commit and search, 1 to 64.
+    pub workers: usize,
+    /// How the documents of a commit are cut into segments.
+    pub cut: Cut,
+    /// When segments are merged.
+    pub merge: Merge,
+    ghost a_worker: { 1 ≤ workers },
+    ghost few_workers: { workers ≤ 64 },
+    ghost cut_in_range: { IsTrue (is_cut cut) },
+}
+
+/// When segments are merged.
+#[derive(Clone, Copy, Debug, Drop, PartialEq, Eq)]
+pub enum Merge {
+    /// Never.
+    Off,
+    /// As the merge policy says.
+    Policy,
+}
+
+impl Options {
+    /// The options of these parts, if there are 1 to 64 workers, and a segment takes 1 to 65,536
+    /// documents in a row or 1 to 64 segments take documents in turn.
+    pub fn new(workers: usize, cut: Cut, merge: Merge) -> Option<Options>
+        ensures some { IfSome result (λ options.
+            (options.workers ≡ workers) × (options.cut ≡ cut) × (options.merge ≡ merge)) }
+        ensures none { IsNone result → IsTrue (is_cut cut) → 1 ≤ workers → workers ≤ 64 → ⊥ }
+    {
+        let cut_in_range = match cut {
+            Cut::Runs(documents) => 1 <= documents && documents <= MOST_BUILT,
+            Cut::Deal(segments) => 1 <= segments && segments <= 64,
+        };
+        if cut_in_range && 1 <= workers && workers <= 64 {
+            Some(Options {
+                workers,
+                cut,
+                merge,
+            })
+        } else {
+            None
+        }
+    }
+}
+
+impl Default for Options {
+    ghost use Rattle.fts_engine.specs.DefaultOptions.{AreDefault};
+
+    ghost is_default = { AreDefault };
+
+    /// One worker, segments of up to 65,536 documents, and no merges.
+    fn default() -> Self {
+        Options {
+            workers: 1,
+            cut: Cut::Runs(MOST_BUILT),
+            merge: Merge::Off,
+        }
+    }
+}

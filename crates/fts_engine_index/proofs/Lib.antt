@@ -1,0 +1,3 @@
+pub mod CommitLemmas
+pub mod EngineLemmas
+pub mod MergeLemmas

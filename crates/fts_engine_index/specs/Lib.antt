@@ -1,0 +1,3 @@
+pub mod SearchThreads
+pub mod UncommittedOperations
+pub mod WriterIndexes

@@ -1,0 +1,205 @@
+// An index over a writer of segments.
+ghost use Rattle.std.specs.Prelude.{◌≡◌, IfOk, IsOkUnless};
+ghost use Rattle.fts_index.specs.Publications.{IsOneCommit};
+ghost use Rattle.fts_engine_index.specs.WriterIndexes.{IsReaderOf};
+
+use crate::segments::{merge_all, merge_behind};
+use crate::threads::threads_for;
+use crate::uncommitted;
+use crate::uncommitted::Uncommitted;
+use fts_engine::{Engine, EngineOver, Options};
+use fts_index::{CommitSeen, Reader, Searcher, SegmentInfo, Writer};
+use fts_model::{Answer, Op, Query, Refusal, Request, Schema, Stamp};
+use fts_pool::Open;
+use std::alloc::Global;
+use std::marker::Model;
+use std::sync::Wait;
+use std::thread::Threads;
+
+/// A reader of a writer. There is none where the writer has no memory for it.
+fn reader_of(writer: &mut Writer) -> Option<Reader>
+    ensures same { writer.new ≡ writer.old }
+    ensures reader { IsReaderOf writer.new.front.seen result }
+{
+    match writer.reader() {
+        Ok(reader) => Some(reader),
+        Err(_) => None,
+    }
+}
+
+/// Tells a reader, if there is one, of a commit. One that can't be told finds it by looking.
+fn tell(reader: &mut Option<Reader>, seen: &CommitSeen)
+    requires { IsReaderOf seen.now reader.old }
+    ensures { IsReaderOf seen.now reader.new }
+{
+    if let Some(reader) = reader {
+        let _ = reader.told(seen);
+    }
+}
+
+/// The last commit, to search: as a reader finds it, or else as the writer has it.
+fn last_commit(writer: &Writer, reader: &mut Option<Reader>) -> Result<Searcher, Refusal>
+    requires { IsReaderOf writer.now.front.seen reader.old }
+    ensures reader { IsReaderOf writer.now.front.seen reader.new }
+    ensures last { IfOk result (λ searcher. IsOneCommit searcher writer.now.front) }
+    ensures memory { IsOkUnless result Refusal.Memory }
+{
+    if let Some(reader) = reader {
+        let searcher = reader.searcher()?;
+        if writer.is_last(&searcher) {
+            return Ok(searcher);
+        }
+    }
+    writer.searcher()
+}
+
+/// Has a reader, if there is one, look at what is shown, so that it holds no segment from before a merge.
+fn look(writer: &Writer, reader: &mut Option<Reader>)
+    requires { IsReaderOf writer.now.front.seen reader.old }
+    ensures { IsReaderOf writer.now.front.seen reader.new }
+{
+    let _ = last_commit(writer, reader);
+}
+
+/// A writer of segments, the operations since its last commit, and a reader that is told of each commit.
+pub struct IndexEngine {
+    alloc: Global,
+    options: Options,
+    writer: Writer,
+    /// Finds the commit that is searched.
+    reader: Option<Reader>,
+    uncommitted: Uncommitted,
+    /// How many operations are uncommitted.
+    count: u64,
+    /// How many calls changed something.
+    calls: u64,
+}
+
+impl Model for IndexEngine {
+    ghost use Rattle.std.specs.Prelude.{is_some, map};
+    ghost use Rattle.fts_snapshots.specs.Infos.{info_of};
+    ghost use Rattle.fts_engine_index.specs.WriterIndexes.{EngineValue, IsIndexEngine, index_of};
+
+    ghost Value = { EngineValue };
+
+    ghost view = { λ e. record {
+      index = index_of e.writer e.uncommitted;
+      calls = e.calls;
+      segments = map info_of e.writer.front.snapshot.entries;
+      has_reader = is_some e.reader;
+    } };
+
+    ghost invariant = { λ e. IsIndexEngine e.writer e.reader e.uncommitted e.count e.calls };
+}
+
+impl IndexEngine {
+    /// How large the segments of the last commit are, by rising numbers. No reply shows them.
+    pub fn segments(&self, alloc: Global) -> Result<Vec<SegmentInfo>, Refusal>
+        ensures segments { IfOk result (λ infos. infos.items ≡ self.now.segments) }
+        ensures memory { IsOkUnless result Refusal.Memory }
+    {
+        self.writer.segments(alloc)
+    }
+
+    /// Whether the last commit is searched through a reader. There is none where the writer had no memory for it.
+    pub fn has_reader(&self) -> bool
+        ensures { result ≡ self.now.has_reader }
+    {
+        self.reader.is_some()
+    }
+}
+
+impl Engine for IndexEngine {
+    ghost index = { λ e. e.index };
+
+    ghost changes = { λ e. e.calls };
+
+    fn schema(&self) -> &Schema {
+        self.writer.schema()
+    }
+
+    fn commit_stamp(&self) -> Stamp {
+        self.writer.commit_stamp()
+    }
+
+    fn next_stamp(&self) -> Stamp {
+        self.writer.commit_stamp() + self.count + 1
+    }
+
+    fn submit(&mut self, op: Op) -> Result<Stamp, Refusal> {
+        self.calls += 1;
+        let stamp = uncommitted::submit(self.alloc, &mut self.writer, &mut self.uncommitted, op)?;
+        self.count += 1;
+        Ok(stamp)
+    }
+}
+
+impl<R: AllocGlobal + Threads + Wait + Sync> EngineOver<R> for IndexEngine {
+    fn open(rt: &R, options: Options, schema: Schema) -> Result<Self, Refusal> {
+        let alloc = rt.alloc();
+        let mut writer = Writer::new(rt, alloc, &schema)?;
+        let reader = reader_of(&mut writer);
+        Ok(IndexEngine {
+            alloc,
+            options,
+            writer,
+            reader,
+            uncommitted: Uncommitted::Nothing,
+            count: 0,
+            calls: 0,
+        })
+    }
+
+    fn commit(&mut self, rt: &R) -> Result<Stamp, Refusal> {
+        self.calls += 1;
+        let alloc = self.alloc;
+        let options = self.options;
+        let committed = uncommitted::commit(
+            rt,
+            alloc,
+            &mut self.writer,
+            &mut self.uncommitted,
+            options,
+        )?;
+        self.count = 0;
+        merge_behind(rt, alloc, &mut self.writer, options.merge);
+        tell(&mut self.reader, &committed.seen);
+        look(&self.writer, &mut self.reader);
+        Ok(committed.stamp)
+    }
+
+    fn rollback(&mut self, _rt: &R) -> Result<Stamp, Refusal> {
+        self.calls += 1;
+        self.uncommitted = Uncommitted::Nothing;
+        self.count = 0;
+        Ok(self.writer.abandon())
+    }
+
+    fn merge(&mut self, rt: &R) -> Result<u64, Refusal> {
+        self.calls += 1;
+        let live = merge_all(rt, self.alloc, &mut self.writer)?;
+        look(&self.writer, &mut self.reader);
+        Ok(live)
+    }
+
+    fn search(&mut self, rt: &R, query: &Query, request: &Request) -> Result<Answer, Refusal> {
+        let searcher = last_commit(&self.writer, &mut self.reader)?;
+        let workers = threads_for(self.options.workers, searcher.snapshot().entries());
+        let found = searcher.search(rt, rt.alloc(), query, request, workers, &Open)?;
+        Ok(found.answer)
+    }
+
+    fn close(self, rt: &R) {
+        let IndexEngine {
+            alloc: _,
+            options: _,
+            writer,
+            reader,
+            uncommitted: _,
+            count: _,
+            calls: _,
+        } = self;
+        drop(reader);
+        writer.close(rt);
+    }
+}

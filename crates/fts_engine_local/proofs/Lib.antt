@@ -1,0 +1,3 @@
+-- The lemmas.
+pub mod LocalLemmas
+pub mod StatsLemmas

@@ -1,0 +1,6 @@
+use Rattle.std.proofs.Common.{◌==◌, length, ap, sym, ◌∙◌}
+use Rattle.fts_pack.proofs.BitsLemmas.{length-flags}
+use Rattle.fts_pack.proofs.bits.bits.Bits.is_empty.Goals as goal
+
+pub returns : goal.returns
+returns c = ap (λ n. n == 0) (sym (ap length (sym c.self.view_is) ∙ length-flags _ _))

@@ -1,0 +1,62 @@
+-- A column of values, one for each document, some of which are missing.
+use Rattle.std.specs.Prelude.{◌≡◌, ℕ, ◌+◌, ◌-◌, ◌^◌, ◌<◌, ◌≤◌, ◌&&◌, nat_le, false, Bool, List, [], ◌∷◌, Option, Some}
+use Rattle.std.specs.Prelude.{None, All, Contains}
+use Rattle.std.specs.Prelude.{IfSome, length, map, max, min, if◌then◌else◌}
+use Rattle.std.specs.Option.{option_map_or}
+use Rattle.fts_pack.specs.bits.Digits.{IsWidthOf, words_of}
+use Rattle.fts_pack.specs.column.Lanes.{AreLanesOf}
+
+-- the least and the greatest value, if there is one
+abbrev pub IsRangeOf : List (Option ℕ) → Option (ℕ × ℕ) → Type 0
+IsRangeOf values None = All (λ v. v ≡ None) values
+IsRangeOf values (Some range) =
+    Contains values (Some range.0) × Contains values (Some range.1)
+    × All (λ v. IfSome v (λ x. (range.0 ≤ x) × (x ≤ range.1))) values
+
+-- the range that holds one value more
+abbrev pub range_with : Option (ℕ × ℕ) → ℕ → ℕ × ℕ
+range_with None x = (x, x)
+range_with (Some range) x = (min range.0 x, max range.1 x)
+
+-- the least value, or 0 if there is none
+abbrev pub least_of : Option (ℕ × ℕ) → ℕ
+least_of None = 0
+least_of (Some range) = range.0
+
+-- how far apart the least and the greatest value are
+abbrev pub spread_of : Option (ℕ × ℕ) → ℕ
+spread_of None = 0
+spread_of (Some range) = range.1 - range.0
+
+-- how far each value is above the least, and 0 for a missing one
+abbrev pub offsets : ℕ → List (Option ℕ) → List ℕ
+offsets least values = map (λ v. option_map_or (λ x. x - least) v 0) values
+
+-- values, one for each of 2^32 documents at most, whose offsets from the least have this many bits at most
+pub record HaveOffsets (least width : ℕ) (values : List (Option ℕ)) : Type 0 where
+  pub few : length values ≤ 2 ^ 32
+  pub above : All (λ v. IfSome v (λ x. least ≤ x)) values
+  pub fits : All (λ x. x < 2 ^ width) (offsets least values)
+
+-- the values at these offsets, if they are present
+abbrev pub values_at : ℕ → List Bool → List ℕ → List (Option ℕ)
+values_at least (bit ∷ present) (x ∷ numbers) =
+    (if bit then Some (least + x) else None) ∷ values_at least present numbers
+values_at least (bit ∷ present) [] = []
+values_at least [] numbers = []
+
+-- whether there is a value, within these
+abbrev pub is_within : ℕ → ℕ → Option ℕ → Bool
+is_within low high None = false
+is_within low high (Some x) = nat_le low x && nat_le x high
+
+-- these fields hold these values
+pub record IsColumn
+    (values : List (Option ℕ)) (range : Option (ℕ × ℕ)) (width : ℕ) (words lanes : List ℕ) : Type 0 where
+  pub few : length values ≤ 2 ^ 32
+  pub range_is : IsRangeOf values range
+  pub range_fits : IfSome range (λ r. r.1 < 2 ^ 64)
+  pub width_within : width ≤ 64
+  pub width_is : IsWidthOf (spread_of range ∷ []) width
+  pub words_are : words ≡ words_of 64 width (offsets (least_of range) values)
+  pub lanes_are : AreLanesOf (offsets (least_of range) values) lanes

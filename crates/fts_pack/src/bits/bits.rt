@@ -1,0 +1,215 @@
+// One bit per document: bit `i % 64` of word `i / 64` is document `i`'s, and the bits past the last document are 0.
+ghost use Rattle.std.specs.Prelude.{◌≡◌, ℕ, ◌<◌, ◌*◌, List, Bool, true, false, IfOk, IsOkUnless, count_by, ◌==◌, drop};
+ghost use Rattle.std.specs.Prelude.{All, ◌||◌, length, map, replicate, slice_get, slice_index_or, slice_set, take};
+ghost use Rattle.std.specs.List.{list_any};
+ghost use Rattle.std.specs.Cmp.{bool_eq_equiv, partial_equiv_from_equiv};
+ghost use Rattle.std.specs.Cmp.Lexicographic.{pointwise, lists_per};
+ghost use Rattle.std.proofs.lemmas.Cmp.{lists_equiv};
+ghost use Rattle.std.proofs.Math.Bool.{beq};
+ghost use Rattle.fts_pack.specs.bits.Digits.{numbers_in, words_of};
+ghost use Rattle.fts_pack.specs.bits.Bits.{AreCounted, flags, marks, number_of};
+
+use crate::bits::widths;
+use fts_base::{Refusal, release};
+use std::alloc::{AllocError, Global};
+use std::marker::Model;
+
+/// One bit for each of a number of documents.
+pub struct Bits {
+    len: usize,
+    // How many are set.
+    ones: usize,
+    words: Vec<u64>,
+}
+
+impl Model for Bits {
+    ghost Value = { List Bool };
+
+    ghost view = { λ b. flags (numbers_in 64 1 b.len b.words.items) };
+
+    ghost invariant = { λ b. AreCounted b.len b.ones b.words.items };
+}
+
+impl Drop for Bits {
+    fn drop(self) {
+        let Bits {
+            len: _,
+            ones: _,
+            words,
+        } = self;
+        release(words);
+    }
+}
+
+impl Bits {
+    /// Bits for this many documents, all set.
+    pub fn all_set(alloc: Global, len: usize) -> Result<Bits, Refusal>
+        ensures ok { IfOk result (λ bits. bits ≡ replicate len true) }
+        ensures memory { IsOkUnless result Refusal.Memory }
+    {
+        Self::filled(alloc, len).map_err(|_| Refusal::Memory)
+    }
+
+    fn filled(alloc: Global, len: usize) -> Result<Bits, AllocError>
+        ensures { IfOk result (λ bits. bits ≡ replicate len true) }
+    {
+        let mut words = vec![in alloc; u64::MAX; widths::word_count_64(len)]?;
+        let rest = len % 64;
+        if rest > 0 {
+            words[len / 64] = (1 << rest) - 1;
+        }
+        Ok(Bits {
+            len,
+            ones: len,
+            words,
+        })
+    }
+
+    /// Bits for this many documents, all clear.
+    pub fn all_clear(alloc: Global, len: usize) -> Result<Bits, Refusal>
+        ensures ok { IfOk result (λ bits. bits ≡ replicate len false) }
+        ensures memory { IsOkUnless result Refusal.Memory }
+    {
+        Self::zeroed(alloc, len).map_err(|_| Refusal::Memory)
+    }
+
+    /// The same, for a caller with an error of its own.
+    pub fn zeroed(alloc: Global, len: usize) -> Result<Bits, AllocError>
+        ensures { IfOk result (λ bits. bits ≡ replicate len false) }
+    {
+        let words = vec![in alloc; 0u64; widths::word_count_64(len)]?;
+        Ok(Bits {
+            len,
+            ones: 0,
+            words,
+        })
+    }
+
+    /// A copy on the allocator.
+    pub fn copied(&self, alloc: Global) -> Result<Bits, Refusal>
+        ensures ok { IfOk result (λ bits. bits ≡ self.now) }
+        ensures memory { IsOkUnless result Refusal.Memory }
+    {
+        let words = Vec::from_slice(alloc, &self.words).map_err(|_| Refusal::Memory)?;
+        Ok(Bits {
+            len: self.len,
+            ones: self.ones,
+            words,
+        })
+    }
+
+    /// How many documents there are.
+    pub fn len(&self) -> usize
+        ensures { result ≡ length self.now }
+    {
+        self.len
+    }
+
+    /// Whether there is no document.
+    pub fn is_empty(&self) -> bool
+        ensures { result ≡ (length self.now == 0) }
+    {
+        self.len == 0
+    }
+
+    /// Whether the document's bit is set.
+    #[inline]
+    pub fn get(&self, doc: usize) -> bool
+        requires { doc < length self.now }
+        ensures { slice_get self.now doc ≡ Some result }
+    {
+        (self.words[doc / 64] >> (doc % 64)) & 1 == 1
+    }
+
+    /// Sets the document's bit.
+    pub fn set(&mut self, doc: usize)
+        requires { doc < length self.old }
+        ensures { self.new ≡ slice_set self.old doc true }
+    {
+        self.put(doc, true);
+    }
+
+    /// Sets the bits of documents.
+    pub fn set_all(&mut self, docs: &[u32])
+        requires { All (λ d. d < length self.old) docs.now }
+        ensures len { length self.new ≡ length self.old }
+        ensures set { (d : ℕ) → slice_index_or self.new d false
+            ≡ (slice_index_or self.old d false || list_any (λ x. x == d) docs.now) }
+    {
+        for doc in docs {
+            self.put(*doc as usize, true);
+        }
+    }
+
+    /// Bits for this many documents, of which these are set.
+    pub fn of_documents(alloc: Global, len: usize, docs: &[u32]) -> Result<Bits, AllocError>
+        requires { All (λ d. d < len) docs.now }
+        ensures len { IfOk result (λ bits. length bits ≡ len) }
+        ensures set { IfOk result (λ bits. (d : ℕ) → slice_index_or bits d false
+            ≡ list_any (λ x. x == d) docs.now) }
+    {
+        let mut bits = Self::zeroed(alloc, len)?;
+        bits.set_all(docs);
+        Ok(bits)
+    }
+
+    /// Clears the document's bit.
+    pub fn clear(&mut self, doc: usize)
+        requires { doc < length self.old }
+        ensures { self.new ≡ slice_set self.old doc false }
+    {
+        self.put(doc, false);
+    }
+
+    #[inline]
+    fn put(&mut self, doc: usize, bit: bool)
+        requires { doc < length self.old }
+        ensures { self.new ≡ slice_set self.old doc bit }
+    {
+        let was = self.get(doc);
+        self.ones = self.ones - usize::from(was) + usize::from(bit);
+        if bit {
+            self.words[doc / 64] |= 1 << (doc % 64);
+        } else {
+            self.words[doc / 64] &= !(1 << (doc % 64));
+        }
+    }
+
+    /// The bits of documents `64 * index` to `64 * index + 63`, the first of them the lowest; after the last document
+    /// they are 0.
+    #[inline]
+    pub fn word(&self, index: usize) -> u64
+        ensures { result ≡ number_of (take 64 (drop (64 * index) self.now)) }
+    {
+        self.words.get(index).copied().unwrap_or(0)
+    }
+
+    /// How many bits are set. It is kept, so nothing is counted.
+    #[inline]
+    pub fn count_ones(&self) -> usize
+        ensures { result ≡ count_by (λ bit. bit) self.now }
+    {
+        self.ones
+    }
+
+    /// The words in which the bits lie.
+    pub fn words(&self) -> &[u64]
+        ensures { result.now ≡ words_of 64 1 (marks self.now) }
+    {
+        &self.words
+    }
+}
+
+impl PartialEq for Bits {
+    ghost eq = { pointwise beq };
+
+    ghost laws = { lists_per (partial_equiv_from_equiv bool_eq_equiv) };
+
+    fn eq(&self, other: &Bits) -> bool {
+        self.len == other.len && self.words == other.words
+    }
+}
+
+impl Eq for Bits {
+    ghost laws = { lists_equiv bool_eq_equiv };
+}

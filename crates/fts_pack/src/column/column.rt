@@ -1,0 +1,339 @@
+// One value a document, or none: how far it is above the least, in as few bits as the greatest needs, and a bit for
+// presence. The same again in lanes, from which values are read.
+ghost use Rattle.std.specs.Prelude.{◌≡◌, ◌≤◌, ◌<◌, ◌+◌, ◌-◌, ◌*◌, ◌%◌, ◌^◌, ◌==◌, ℕ, List, [], ◌∷◌, Option, None};
+ghost use Rattle.std.specs.Prelude.{true, false, All, IfOk, IfSome, IsOkUnless, drop, is_some, length, map, min};
+ghost use Rattle.std.specs.Prelude.{slice_index, slice_index_or, take};
+ghost use Rattle.fts_pack.specs.bits.Bits.{number_of};
+ghost use Rattle.fts_pack.specs.bits.Digits.{IsWidthOf, numbers_in, words_of};
+ghost use Rattle.std.specs.Option.{option_map_or};
+ghost use Rattle.std.specs.Int.{bit_at};
+ghost use Rattle.fts_pack.specs.column.Blocks.{AreEndsOf, block_of, in_blocks};
+ghost use Rattle.fts_pack.specs.column.Column.{HaveOffsets, IsColumn, IsRangeOf, is_within, least_of, offsets, range_with};
+ghost use Rattle.fts_pack.specs.column.Column.{spread_of, values_at};
+ghost use Rattle.fts_pack.specs.column.Counts.{AreWithin, having};
+ghost use Rattle.fts_pack.specs.column.Lanes.{in_lanes};
+
+use crate::bits::{Bits, widths};
+use crate::column::blocks::Blocks;
+use crate::column::lanes::Lanes;
+use fts_base::{Refusal, release};
+use std::alloc::{AllocError, Global};
+use std::marker::Model;
+
+/// One value for each of a number of documents, some of which may be missing.
+pub struct Column {
+    range: Option<(u64, u64)>,
+    width: u32,
+    present: Bits,
+    words: Vec<u64>,
+    lanes: Lanes,
+    blocks: Blocks,
+}
+
+impl Drop for Column {
+    fn drop(self) {
+        let Column {
+            range: _,
+            width: _,
+            present: _,
+            words,
+            lanes: _,
+            blocks: _,
+        } = self;
+        release(words);
+    }
+}
+
+/// The documents of a column from one on, at most 128 of them.
+#[derive(Clone, Copy, Debug, PartialEq, Eq)]
+pub struct Stretch {
+    /// How many documents there are.
+    pub len: usize,
+    /// A bit for each of them, the first the lowest: it is set if the document has a value.
+    pub present: u128,
+}
+
+impl Model for Column {
+    ghost Value = { List (Option ℕ) };
+
+    ghost view = { λ c. values_at (least_of c.range) c.present
+        (numbers_in 64 c.width (length c.present) c.words.items) };
+
+    ghost invariant = { λ c. IsColumn
+        (values_at (least_of c.range) c.present (numbers_in 64 c.width (length c.present) c.words.items))
+        c.range c.width c.words.items (in_lanes c.lanes)
+        × AreEndsOf (least_of c.range)
+        (values_at (least_of c.range) c.present (numbers_in 64 c.width (length c.present) c.words.items))
+        (in_blocks c.blocks) };
+}
+
+impl Column {
+    /// Packs the values, one per document. Document numbers have 32 bits.
+    pub fn build(alloc: Global, values: &[Option<u64>]) -> Result<Column, Refusal>
+        requires { length values.now ≤ 2 ^ 32 }
+        ensures ok { IfOk result (λ column. column ≡ values.now) }
+        ensures memory { IsOkUnless result Refusal.Memory }
+    {
+        Self::packed(alloc, values).map_err(|_| Refusal::Memory)
+    }
+
+    fn packed(alloc: Global, values: &[Option<u64>]) -> Result<Column, AllocError>
+        requires { length values.now ≤ 2 ^ 32 }
+        ensures { IfOk result (λ column. column ≡ values.now) }
+    {
+        let range = range_of(values);
+        let (least, greatest) = range.unwrap_or((0, 0));
+        let width = widths::bit_length(greatest - least);
+        let present = presence(alloc, values)?;
+        let words = packed_offsets(alloc, width, least, values)?;
+        let lanes = Lanes::of_offsets(alloc, width, least, values)?;
+        let blocks = Blocks::of_values(alloc, width, least, values)?;
+        Ok(Column {
+            range,
+            width,
+            present,
+            words,
+            lanes,
+            blocks,
+        })
+    }
+
+    /// How many documents there are.
+    pub fn len(&self) -> usize
+        ensures { result ≡ length self.now }
+    {
+        self.present.len()
+    }
+
+    /// Whether there is no document.
+    pub fn is_empty(&self) -> bool
+        ensures { result ≡ (length self.now == 0) }
+    {
+        self.present.is_empty()
+    }
+
+    /// The document's value, and `None` if it has none or there is no such document.
+    #[inline(always)]
+    pub fn get(&self, doc: usize) -> Option<u64>
+        ensures { result ≡ slice_index_or self.now doc None }
+    {
+        let (least, _) = self.range?;
+        if doc < self.present.len() && self.present.get(doc) {
+            Some(least + self.lanes.at(doc))
+        } else {
+            None
+        }
+    }
+
+    /// The least and the greatest value of a block: the 128 documents from `128 * block` on, or as many as there are.
+    /// It is `None` where none of them has a value, or there is no such block. The values themselves are not read.
+    #[inline]
+    pub fn block_range(&self, block: usize) -> Option<(u64, u64)>
+        ensures { IsRangeOf (block_of block self.now) result }
+    {
+        let (least, _) = self.range?;
+        let (first, last) = self.blocks.at(block);
+        if first <= last {
+            Some((least + first, least + last))
+        } else {
+            None
+        }
+    }
+
+    /// Writes the values of the 128 documents from `from` on, a multiple of 64, and tells which of them have one. The
+    /// place of a document that has none, or that isn't there, may hold anything.
+    pub fn values(&self, from: usize, out: &mut [u64; 128]) -> Stretch
+        requires inside { from ≤ length self.now }
+        requires aligned { from % 64 ≡ 0 }
+        ensures len { result.len ≡ min 128 (length self.now - from) }
+        ensures present { result.present ≡ number_of (map is_some (take 128 (drop from self.now))) }
+        ensures values { (i x : ℕ) → i < 128 → slice_index_or self.now (from + i) None ≡ Some x
+            → slice_index out.new i ≡ x }
+    {
+        let len = (self.present.len() - from).min(128);
+        self.write_values(from, &mut out[..64]);
+        self.write_values(from + 64, &mut out[64..]);
+        let low = u128::from(self.present.word(from / 64));
+        let high = u128::from(self.present.word(from / 64 + 1));
+        Stretch {
+            len,
+            present: low | high << 64,
+        }
+    }
+
+    /// Writes the values of up to 64 documents.
+    fn write_values(&self, from: usize, out: &mut [u64])
+        requires aligned { from % 64 ≡ 0 }
+        requires long { length out.old ≡ 64 }
+        ensures values { (i x : ℕ) → i < 64 → slice_index_or self.now (from + i) None ≡ Some x
+            → slice_index out.new i ≡ x }
+        ensures long { length out.new ≡ 64 }
+    {
+        if from >= self.present.len() {
+            return;
+        }
+        let (least, _) = self.range.unwrap_or((0, 0));
+        self.lanes.write(from, least, out);
+    }
+
+    /// Marks those of the 64 documents from `from` on, a multiple of 64, whose value is `low` or more and `high` or
+    /// less. The first of them is the lowest bit; a document that has no value, or that isn't there, is not marked.
+    #[inline]
+    pub fn marks_within(&self, from: usize, low: u64, high: u64) -> u64
+        requires { from % 64 ≡ 0 }
+        ensures { (k : ℕ) → k < 64 →
+            (bit_at result k == 1) ≡ is_within low high (slice_index_or self.now (from + k) None) }
+    {
+        let (least, _) = self.range.unwrap_or((0, 0));
+        if from >= self.present.len() {
+            return 0;
+        }
+        if high < least {
+            return 0;
+        }
+        let above = low.saturating_sub(least);
+        let marks = self.lanes.marked(from, above, high - least);
+        marks & self.present.word(from / 64)
+    }
+
+    /// Counts documents by their values. There is a place for each value from `least` on, and a document counts one
+    /// more at the place of its own, modulo 2^64. One that has no value, or that isn't there, counts nowhere.
+    pub fn count_values(&self, docs: &[u32], least: u64, counts: &mut [u64])
+        requires { AreWithin self.now least (length counts.old) }
+        ensures counted { (place : ℕ) → place < length counts.old → slice_index counts.new place
+            ≡ (slice_index counts.old place + having self.now docs.now (least + place)) % 2 ^ 64 }
+        ensures long { length counts.new ≡ length counts.old }
+    {
+        if let Some((first, _)) = self.range {
+            let places = &mut counts[(first - least) as usize..];
+            self.lanes.count(&self.present, docs, places);
+        }
+    }
+
+    /// The place of the last of the documents whose value is `low` or more and `high` or less. A document that has no
+    /// value, or that isn't there, is passed over.
+    pub fn last_within(&self, docs: &[u32], low: u64, high: u64) -> Option<usize>
+        ensures some { IfSome result (λ place. (place < length docs.now)
+            × (is_within low high (slice_index_or self.now (slice_index docs.now place) None) ≡ true)) }
+        ensures behind { IfSome result (λ place.
+            All (λ doc. is_within low high (slice_index_or self.now doc None) ≡ false) (drop (place + 1) docs.now)) }
+        ensures none { result ≡ None →
+            All (λ doc. is_within low high (slice_index_or self.now doc None) ≡ false) docs.now }
+    {
+        let (least, _) = self.range?;
+        if high < least {
+            return None;
+        }
+        let above = low.saturating_sub(least);
+        self.lanes
+            .last_within(&self.present, docs, above, high - least)
+    }
+
+    /// The least and the greatest value, if there is one.
+    pub fn range(&self) -> Option<(u64, u64)>
+        ensures { IsRangeOf self.now result }
+    {
+        self.range
+    }
+
+    /// The bits of the documents that have a value.
+    pub fn present(&self) -> &Bits
+        ensures { result.now ≡ map is_some self.now }
+    {
+        &self.present
+    }
+
+    /// How many bits each value takes.
+    pub fn width(&self) -> u32
+        ensures { (range : Option (ℕ × ℕ)) → IsRangeOf self.now range → IsWidthOf (spread_of range ∷ []) result }
+    {
+        self.width
+    }
+
+    /// The words in which the values lie.
+    pub fn words(&self) -> &[u64]
+        ensures { (range : Option (ℕ × ℕ)) (width : ℕ) → IsRangeOf self.now range
+            → IsWidthOf (spread_of range ∷ []) width
+            → result.now ≡ words_of 64 width (offsets (least_of range) self.now) }
+    {
+        &self.words
+    }
+}
+
+/// The least and the greatest value, if there is one.
+pub(crate) fn range_of(values: &[Option<u64>]) -> Option<(u64, u64)>
+    ensures range { IsRangeOf values.now result }
+    ensures fits { IfSome result (λ r. r.1 < 2 ^ 64) }
+{
+    let mut range = None;
+    for value in values {
+        if let Some(value) = *value {
+            range = Some(widened(range, value));
+        }
+    }
+    range
+}
+
+/// The range, made to hold the value.
+fn widened(range: Option<(u64, u64)>, value: u64) -> (u64, u64)
+    ensures { result ≡ range_with range value }
+{
+    match range {
+        None => (value, value),
+        Some((least, greatest)) => (least.min(value), greatest.max(value)),
+    }
+}
+
+/// A bit per document, set if its value is present.
+fn presence(alloc: Global, values: &[Option<u64>]) -> Result<Bits, AllocError>
+    ensures { IfOk result (λ bits. bits ≡ map is_some values.now) }
+{
+    let mut present = Bits::zeroed(alloc, values.len())?;
+    for (doc, value) in values.iter().enumerate() {
+        if value.is_some() {
+            present.set(doc);
+        }
+    }
+    Ok(present)
+}
+
+/// The words of how far each value is above the least.
+fn packed_offsets(
+    alloc: Global,
+    width: u32,
+    least: u64,
+    values: &[Option<u64>],
+) -> Result<Vec<u64>, AllocError>
+    requires narrow { width ≤ 64 }
+    requires offsets { HaveOffsets least width values.now }
+    ensures { IfOk result (λ words. words.items ≡ words_of 64 width (offsets least values.now)) }
+{
+    let count = widths::word_count_64(values.len() * width as usize);
+    let mut words = Vec::with_capacity(alloc, count)?;
+    let mut pending = 0u128;
+    let mut filled = 0u32;
+    for value in values {
+        pending |= u128::from(offset(least, *value)) << filled;
+        filled += width;
+        if filled >= 64 {
+            words.push((pending & u128::from(u64::MAX)) as u64)?;
+            pending >>= 64;
+            filled -= 64;
+        }
+    }
+    if filled > 0 {
+        words.push(pending as u64)?;
+    }
+    Ok(words)
+}
+
+/// How far the value is above the least, and 0 for a missing one.
+pub(crate) fn offset(least: u64, value: Option<u64>) -> u64
+    requires { IfSome value (λ x. least ≤ x) }
+    ensures { result ≡ option_map_or (λ x. x - least) value 0 }
+{
+    match value {
+        None => 0,
+        Some(value) => value - least,
+    }
+}

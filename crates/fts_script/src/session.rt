@@ -1,0 +1,15 @@
+//! A script line by line: what it has come to, and its replies.
+//!
+//! A [`Session`] reads each line as a command, executes it over an `Engine` of `fts_engine`, and puts the reply after
+//! those before it. It knows no block and no stream.
+
+mod commands;
+mod cut_search;
+pub mod laws;
+mod replace;
+mod reply;
+mod session;
+mod text;
+
+pub use session::Session;
+pub use text::{first_line, is_blank, is_white};

@@ -1,0 +1,421 @@
+// Commands over an engine, with their replies.
+ghost use Rattle.std.specs.Prelude.{◌≡◌, ◌+◌, ◌^◌, ◌<◌, ◌≤◌, ◌++◌, ℕ, Option, Some, None, Ok, Err, true};
+ghost use Rattle.std.specs.Prelude.{IfOk, OnOk, OnErr, length, string_bytes, string_capacity, string_len, option_map};
+ghost use Rattle.std.specs.Prelude.{codes, is_ok, Result};
+ghost use Rattle.serde_json.specs.View.{view};
+ghost use Rattle.std.specs.Option.{ok_or};
+ghost use Rattle.fts_base.specs.Results.{Gives};
+ghost use Rattle.std.specs.Option.{option_copied};
+ghost use Rattle.fts_model.specs.Documents.{document_of, fits};
+ghost use Rattle.fts_model.specs.Operations.{op_fits, term_fits, term_of};
+ghost use Rattle.fts_model.specs.Queries.{query_fits, request_fits, request_of};
+ghost use Rattle.fts_model.specs.QueryValues.{query_value};
+ghost use Rattle.fts_query.specs.Outcomes.{refusal_without_byte};
+ghost use Rattle.fts_query.specs.Answers.{answer};
+ghost use Rattle.fts_script.specs.command.Commands.{longest, Add, Delete, Commit, Rollback, Merge, json_in};
+ghost use Rattle.fts_script.specs.command.CommandViews.{command_value, search_value};
+ghost use Rattle.fts_engine.specs.Indexes.{Index, indexes};
+ghost use Rattle.fts_engine.specs.Steps.{submit};
+ghost use Rattle.fts_script.specs.session.Replies.{replied, answer_search, execute, execute_line, number_reply};
+ghost use Rattle.fts_script.specs.session.Replies.{Outcome, text_of, index_after};
+ghost use Rattle.fts_script.specs.session.Finds.{find, find_line};
+ghost use Rattle.fts_script.specs.session.Sessions.{Executes, ChangesAtMost, ChangesOnce};
+
+use crate::command::{Command, Search, answer_value, command_of};
+use crate::session::reply::Reply;
+use fts_engine::{Engine, EngineOver, Options};
+use fts_model::{Document, Field, Op, Order, Query, Refusal, Request, Schema, Term};
+use fts_query::parse;
+use serde_json::Value;
+use std::alloc::{AllocError, Global};
+
+/// Takes a schema: a new index, and the reply.
+fn open<R: AllocGlobal + Sync, E: EngineOver<R>>(
+    rt: &R,
+    options: Options,
+    index: &mut Option<E>,
+    fields: Vec<Field>,
+    out: &mut String,
+) -> Result<Reply, Refusal>
+    requires { option_map E.index index.old ≡ None }
+    ensures executes { Executes (execute indexes None (command_value (Command.Schema fields))) None
+        (option_map E.index index.new) result }
+    ensures out { string_bytes out.new ≡ string_bytes out.old }
+    ensures room { IfOk result (λ reply. string_len out.new + string_len reply.line ≤ string_capacity out.new) }
+    ensures changes { ChangesAtMost E.changes 0 index.new }
+{
+    let reply = Reply::of_number(rt.alloc(), "fields", fields.len() as u64, out)?;
+    let schema = match Schema::new(rt.alloc(), fields) {
+        Ok(schema) => schema,
+        Err((_, refusal)) => return Err(refusal),
+    };
+    let engine = E::open(rt, options, schema)?;
+    if let Some(before) = index.replace(engine) {
+        before.close(rt);
+    }
+    Ok(reply)
+}
+
+/// Takes an operation.
+fn submit<E: Engine>(
+    alloc: Global,
+    engine: &mut E,
+    op: Op,
+    out: &mut String,
+) -> Result<Reply, Refusal>
+    requires changes { E.changes engine.old ≤ 2 ^ 61 }
+    requires fits { op_fits (E.index engine.old).schema op ≡ true }
+    ensures executes { Executes
+        (replied (number_reply (codes "stamp")) (submit indexes op (E.index engine.old)))
+        (Some (E.index engine.old)) (Some (E.index engine.new)) result }
+    ensures out { string_bytes out.new ≡ string_bytes out.old }
+    ensures room { IfOk result (λ reply. string_len out.new + string_len reply.line ≤ string_capacity out.new) }
+    ensures changes { E.changes engine.new ≤ E.changes engine.old + 1 }
+{
+    let reply = Reply::of_number(alloc, "stamp", engine.next_stamp(), out)?;
+    engine.submit(op)?;
+    Ok(reply)
+}
+
+/// The document that a value is.
+pub(crate) fn document_in<E: Engine>(
+    alloc: Global,
+    engine: &E,
+    json: &Value,
+) -> Result<Document, Refusal>
+    ensures document { Gives (λ document. document) result
+        (document_of (E.index engine.now).schema (view json.now)) }
+    ensures fits { IfOk result (λ document. fits (E.index engine.now).schema document ≡ true) }
+{
+    Document::from_json(alloc, engine.schema(), json)
+}
+
+/// Adds a document.
+fn add<E: Engine>(
+    alloc: Global,
+    engine: &mut E,
+    json: &Value,
+    out: &mut String,
+) -> Result<Reply, Refusal>
+    requires { E.changes engine.old ≤ 2 ^ 61 }
+    ensures executes { Executes (execute indexes (Some (E.index engine.old)) (Add (view json.now)))
+        (Some (E.index engine.old)) (Some (E.index engine.new)) result }
+    ensures out { string_bytes out.new ≡ string_bytes out.old }
+    ensures room { IfOk result (λ reply. string_len out.new + string_len reply.line ≤ string_capacity out.new) }
+    ensures changes { E.changes engine.new ≤ E.changes engine.old + 1 }
+{
+    let document = document_in(alloc, engine, json)?;
+    submit(alloc, engine, Op::Add(document), out)
+}
+
+/// The term that a value is in the field of a name.
+pub(crate) fn term_in<E: Engine>(
+    alloc: Global,
+    engine: &E,
+    name: &str,
+    json: &Value,
+) -> Result<Term, Refusal>
+    ensures term { Gives (λ term. term) result
+        (term_of (E.index engine.now).schema name.now (view json.now)) }
+    ensures fits { IfOk result (λ term. term_fits (E.index engine.now).schema term ≡ true) }
+{
+    Term::new(alloc, engine.schema(), name, json)
+}
+
+/// Deletes the documents with a term.
+fn delete<E: Engine>(
+    alloc: Global,
+    engine: &mut E,
+    name: &str,
+    json: &Value,
+    out: &mut String,
+) -> Result<Reply, Refusal>
+    requires { E.changes engine.old ≤ 2 ^ 61 }
+    ensures executes { Executes
+        (execute indexes (Some (E.index engine.old)) (Delete name.now (view json.now)))
+        (Some (E.index engine.old)) (Some (E.index engine.new)) result }
+    ensures out { string_bytes out.new ≡ string_bytes out.old }
+    ensures room { IfOk result (λ reply. string_len out.new + string_len reply.line ≤ string_capacity out.new) }
+    ensures changes { E.changes engine.new ≤ E.changes engine.old + 1 }
+{
+    let term = term_in(alloc, engine, name, json)?;
+    submit(alloc, engine, Op::Delete(term), out)
+}
+
+/// A refusal without the byte of a fault of syntax, which no reply shows.
+fn without_byte(refusal: Refusal) -> Refusal
+    ensures { result ≡ refusal_without_byte refusal }
+{
+    match refusal {
+        Refusal::Syntax(_) => Refusal::Syntax(0),
+        refusal => refusal,
+    }
+}
+
+/// The query that a text is.
+pub(crate) fn query_of(alloc: Global, schema: &Schema, text: &str) -> Result<Query, Refusal>
+    ensures query { Gives query_value result (answer schema.now text.now) }
+    ensures fits { IfOk result (λ query. query_fits schema.now (query_value query) ≡ true) }
+{
+    match parse(alloc, schema, text) {
+        Ok(query) => Ok(query),
+        Err(refusal) => Err(without_byte(refusal)),
+    }
+}
+
+/// The request for these groups and this top list.
+pub(crate) fn request_of(
+    schema: &Schema,
+    groups: Option<&str>,
+    top: Option<(&str, u64, Order)>,
+) -> Result<Request, Refusal>
+    ensures request { result ≡ request_of schema.now (option_copied groups.entry)
+        (option_map (λ t. (t.0.now, t.1, t.2)) top.entry) }
+    ensures fits { IfOk result (λ request. request_fits schema.now request ≡ true) }
+{
+    Request::new(schema, groups, top)
+}
+
+/// Answers a search.
+fn search<R: AllocGlobal + Sync, E: EngineOver<R>>(
+    rt: &R,
+    engine: &mut E,
+    asked: Search<'_>,
+    out: &mut String,
+) -> Result<Reply, Refusal>
+    ensures executes { Executes
+        (answer_search indexes (search_value asked.entry) (E.index engine.old))
+        (Some (E.index engine.old)) (Some (E.index engine.new)) result }
+    ensures out { string_bytes out.new ≡ string_bytes out.old }
+    ensures room { IfOk result (λ reply. string_len out.new + string_len reply.line ≤ string_capacity out.new) }
+    ensures same { E.index engine.new ≡ E.index engine.old }
+    ensures changes { E.changes engine.new ≤ E.changes engine.old }
+{
+    let query = query_of(rt.alloc(), engine.schema(), asked.query)?;
+    let request = request_of(engine.schema(), asked.groups, asked.top)?;
+    let answer = engine.search(rt, &query, &request)?;
+    let value = answer_value(rt.alloc(), &answer, None)?;
+    Ok(Reply::new(rt.alloc(), &value, out)?)
+}
+
+/// Executes a command that comes after the schema.
+fn execute_open<R: AllocGlobal + Sync, E: EngineOver<R>>(
+    rt: &R,
+    engine: &mut E,
+    command: Command<'_>,
+    out: &mut String,
+) -> Result<Reply, Refusal>
+    requires { E.changes engine.old ≤ 2 ^ 61 }
+    ensures executes { Executes
+        (execute indexes (Some (E.index engine.old)) (command_value command.entry))
+        (Some (E.index engine.old)) (Some (E.index engine.new)) result }
+    ensures out { string_bytes out.new ≡ string_bytes out.old }
+    ensures room { IfOk result (λ reply. string_len out.new + string_len reply.line ≤ string_capacity out.new) }
+    ensures changes { E.changes engine.new ≤ E.changes engine.old + 1 }
+{
+    let alloc = rt.alloc();
+    match command {
+        Command::Schema(_) => Err(Refusal::SchemaTwice),
+        Command::Add(json) => add(alloc, engine, json, out),
+        Command::Delete(name, json) => delete(alloc, engine, name, json, out),
+        Command::DeleteAll => submit(alloc, engine, Op::DeleteAll, out),
+        Command::Commit => {
+            let reply = Reply::of_number(alloc, "commit", engine.next_stamp(), out)?;
+            engine.commit(rt)?;
+            Ok(reply)
+        }
+        Command::Rollback => {
+            let reply = Reply::of_number(alloc, "rollback", engine.commit_stamp(), out)?;
+            engine.rollback(rt)?;
+            Ok(reply)
+        }
+        Command::Merge => {
+            let count = engine.merge(rt)?;
+            Ok(Reply::of_number(alloc, "merged", count, out)?)
+        }
+        Command::Search(asked) => search(rt, engine, asked, out),
+    }
+}
+
+/// Executes a command.
+fn execute<R: AllocGlobal + Sync, E: EngineOver<R>>(
+    rt: &R,
+    options: Options,
+    index: &mut Option<E>,
+    command: Command<'_>,
+    out: &mut String,
+) -> Result<Reply, Refusal>
+    requires { ChangesAtMost E.changes (2 ^ 61) index.old }
+    ensures executes { Executes
+        (execute indexes (option_map E.index index.old) (command_value command.entry))
+        (option_map E.index index.old) (option_map E.index index.new) result }
+    ensures out { string_bytes out.new ≡ string_bytes out.old }
+    ensures room { IfOk result (λ reply. string_len out.new + string_len reply.line ≤ string_capacity out.new) }
+    ensures changes { ChangesOnce E.changes index.old index.new }
+{
+    if let Some(engine) = index {
+        return execute_open(rt, engine, command, out);
+    }
+    match command {
+        Command::Schema(fields) => open(rt, options, index, fields, out),
+        _ => Err(Refusal::NoSchema),
+    }
+}
+
+/// The JSON value that a line is: `BadJson` if it isn't one.
+pub(crate) fn json_of(alloc: Global, line: &[u8]) -> Result<Value, Refusal>
+    ensures { Gives (λ value. view value) result (ok_or (json_in line.now) Refusal.BadJson) }
+{
+    match Value::from_slice(alloc, line) {
+        Ok(value) => Ok(value),
+        Err(error) => {
+            if error.is_memory() {
+                Err(Refusal::Memory)
+            } else {
+                Err(Refusal::BadJson)
+            }
+        }
+    }
+}
+
+/// The outcome of a line that isn't blank and isn't too long.
+fn execute_whole<R: AllocGlobal + Sync, E: EngineOver<R>>(
+    rt: &R,
+    options: Options,
+    index: &mut Option<E>,
+    line: &[u8],
+    out: &mut String,
+) -> Result<Reply, Refusal>
+    requires changes { ChangesAtMost E.changes (2 ^ 61) index.old }
+    requires fits_line { length line.now ≤ longest }
+    ensures executes { Executes (execute_line indexes (option_map E.index index.old) line.now)
+        (option_map E.index index.old) (option_map E.index index.new) result }
+    ensures out { string_bytes out.new ≡ string_bytes out.old }
+    ensures room { IfOk result (λ reply. string_len out.new + string_len reply.line ≤ string_capacity out.new) }
+    ensures changes { ChangesOnce E.changes index.old index.new }
+{
+    let json = json_of(rt.alloc(), line)?;
+    match command_of(rt.alloc(), &json)? {
+        Some(command) => execute(rt, options, index, command, out),
+        None => Err(Refusal::BadCommand),
+    }
+}
+
+/// The reply to the line of this number, of what it came to, and whether it was done: a refusal is a reply too, unless
+/// memory ran out.
+pub(crate) fn replied_line(
+    alloc: Global,
+    number: u64,
+    done: Result<Reply, Refusal>,
+    out: &mut String,
+) -> Result<(Reply, bool), AllocError>
+    requires room { IfOk done (λ reply. string_len out.old + string_len reply.line ≤ string_capacity out.old) }
+    ensures text { IfOk result (λ r. (wanted : Result (Outcome Index) Refusal) (old new : Option Index) →
+        Executes wanted old new done → string_bytes r.0.line ≡ text_of number wanted) }
+    ensures done { IfOk result (λ r. (wanted : Result (Outcome Index) Refusal) (old new : Option Index) →
+        Executes wanted old new done → r.1 ≡ is_ok wanted) }
+    ensures index { OnOk result ((wanted : Result (Outcome Index) Refusal) (old new : Option Index) →
+        Executes wanted old new done → new ≡ index_after old wanted) }
+    ensures kept { OnErr result ((wanted : Result (Outcome Index) Refusal) (old new : Option Index) →
+        Executes wanted old new done → new ≡ old) }
+    ensures out { string_bytes out.new ≡ string_bytes out.old }
+    ensures room { IfOk result (λ r. string_len out.new + string_len r.0.line ≤ string_capacity out.new) }
+{
+    match done {
+        Ok(reply) => Ok((reply, true)),
+        Err(Refusal::Memory) => Err(AllocError),
+        Err(refusal) => Ok((Reply::of_refusal(alloc, refusal, number, out)?, false)),
+    }
+}
+
+/// Replies to a line that isn't blank and isn't too long.
+pub(crate) fn answer_whole<R: AllocGlobal + Sync, E: EngineOver<R>>(
+    rt: &R,
+    options: Options,
+    index: &mut Option<E>,
+    number: u64,
+    line: &[u8],
+    out: &mut String,
+) -> Result<(), AllocError>
+    requires changes { ChangesAtMost E.changes (2 ^ 61) index.old }
+    requires fits_line { length line.now ≤ longest }
+    ensures reply { OnOk result (string_bytes out.new
+        ≡ string_bytes out.old ++ text_of number (execute_line indexes (option_map E.index index.old) line.now)) }
+    ensures index { OnOk result (option_map E.index index.new
+        ≡ index_after (option_map E.index index.old) (execute_line indexes (option_map E.index index.old) line.now)) }
+    ensures err { OnErr result (string_bytes out.new ≡ string_bytes out.old) }
+    ensures kept { OnErr result (option_map E.index index.new ≡ option_map E.index index.old) }
+    ensures changes { ChangesOnce E.changes index.old index.new }
+{
+    let done = execute_whole(rt, options, index, line, out);
+    let (reply, _) = replied_line(rt.alloc(), number, done, out)?;
+    reply.push(out);
+    Ok(())
+}
+
+/// Executes a search. Another command is refused as `BadCommand`.
+fn find<R: AllocGlobal + Sync, E: EngineOver<R>>(
+    rt: &R,
+    index: &mut Option<E>,
+    command: Command<'_>,
+    out: &mut String,
+) -> Result<Reply, Refusal>
+    ensures executes { Executes
+        (find indexes (option_map E.index index.old) (command_value command.entry))
+        (option_map E.index index.old) (option_map E.index index.new) result }
+    ensures same { option_map E.index index.new ≡ option_map E.index index.old }
+    ensures out { string_bytes out.new ≡ string_bytes out.old }
+    ensures room { IfOk result (λ reply. string_len out.new + string_len reply.line ≤ string_capacity out.new) }
+    ensures changes { (n : ℕ) → ChangesAtMost E.changes n index.old → ChangesAtMost E.changes n index.new }
+{
+    match command {
+        Command::Search(asked) => match index {
+            Some(engine) => search(rt, engine, asked, out),
+            None => Err(Refusal::NoSchema),
+        },
+        _ => Err(Refusal::BadCommand),
+    }
+}
+
+/// The outcome of a search in a line that isn't too long.
+fn find_whole<R: AllocGlobal + Sync, E: EngineOver<R>>(
+    rt: &R,
+    index: &mut Option<E>,
+    line: &[u8],
+    out: &mut String,
+) -> Result<Reply, Refusal>
+    requires fits_line { length line.now ≤ longest }
+    ensures executes { Executes (find_line indexes (option_map E.index index.old) line.now)
+        (option_map E.index index.old) (option_map E.index index.new) result }
+    ensures same { option_map E.index index.new ≡ option_map E.index index.old }
+    ensures out { string_bytes out.new ≡ string_bytes out.old }
+    ensures room { IfOk result (λ reply. string_len out.new + string_len reply.line ≤ string_capacity out.new) }
+    ensures changes { (n : ℕ) → ChangesAtMost E.changes n index.old → ChangesAtMost E.changes n index.new }
+{
+    let json = json_of(rt.alloc(), line)?;
+    match command_of(rt.alloc(), &json)? {
+        Some(command) => find(rt, index, command, out),
+        None => Err(Refusal::BadCommand),
+    }
+}
+
+/// Replies to a search in the line of this number, which isn't too long.
+pub(crate) fn answer_find<R: AllocGlobal + Sync, E: EngineOver<R>>(
+    rt: &R,
+    index: &mut Option<E>,
+    number: u64,
+    line: &[u8],
+    out: &mut String,
+) -> Result<(), AllocError>
+    requires fits_line { length line.now ≤ longest }
+    ensures reply { OnOk result (string_bytes out.new
+        ≡ string_bytes out.old ++ text_of number (find_line indexes (option_map E.index index.old) line.now)) }
+    ensures same { option_map E.index index.new ≡ option_map E.index index.old }
+    ensures err { OnErr result (string_bytes out.new ≡ string_bytes out.old) }
+    ensures changes { (n : ℕ) → ChangesAtMost E.changes n index.old → ChangesAtMost E.changes n index.new }
+{
+    let found = find_whole(rt, index, line, out);
+    let (reply, _) = replied_line(rt.alloc(), number, found, out)?;
+    reply.push(out);
+    Ok(())
+}

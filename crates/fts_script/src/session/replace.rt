@@ -1,0 +1,165 @@
+// A deletion and the addition after it, both or neither.
+ghost use Rattle.std.specs.Prelude.{◌≡◌, ◌+◌, ◌-◌, ◌^◌, ◌<◌, ◌≤◌, ◌++◌, ℕ, Option, Some, None, Ok, Err, true};
+ghost use Rattle.std.specs.Prelude.{IfOk, OnOk, OnErr, length, string_bytes, string_capacity, string_len, option_map};
+ghost use Rattle.std.specs.Prelude.{codes, not, nat_lt, if◌then◌else◌};
+ghost use Rattle.serde_json.specs.View.{view};
+ghost use Rattle.std.specs.Option.{ok_or};
+ghost use Rattle.fts_base.specs.Results.{Gives, result_and_then};
+ghost use Rattle.fts_model.specs.Operations.{op_fits, term_fits};
+ghost use Rattle.fts_model.specs.Documents.{fits};
+ghost use Rattle.fts_script.specs.command.Commands.{longest, Add, Delete, command_in};
+ghost use Rattle.fts_engine.specs.Indexes.{indexes};
+ghost use Rattle.fts_engine.specs.Pairs.{submit_two};
+ghost use Rattle.fts_engine.specs.Steps.{most_uncommitted};
+ghost use Rattle.fts_script.specs.session.Replaces.{addition, deletion, execute_two, lines_done, replace};
+ghost use Rattle.fts_script.specs.session.Replies.{replied, number_reply, text_of, index_after};
+ghost use Rattle.fts_script.specs.session.Sessions.{Executes, ChangesAtMost};
+
+use crate::command::{Command, command_of};
+use crate::session::commands::{document_in, json_of, replied_line, term_in};
+use crate::session::reply::Reply;
+use fts_engine::{Engine, EngineOver, MOST_UNCOMMITTED, Pairs};
+use fts_model::{Document, Op, Refusal, Term};
+use serde_json::Value;
+use std::alloc::{AllocError, Global};
+
+/// The field's name and the value of a deletion.
+fn deletion_in(alloc: Global, json: &Value) -> Result<(&str, &Value), Refusal>
+    ensures { Gives (λ d. Delete d.0.now (view d.1.now)) result
+        (result_and_then deletion (ok_or (command_in (view json.entry.now)) Refusal.BadCommand)) }
+{
+    match command_of(alloc, json)? {
+        Some(Command::Delete(name, value)) => Ok((name, value)),
+        _ => Err(Refusal::BadCommand),
+    }
+}
+
+/// The document of an addition.
+fn addition_in(alloc: Global, json: &Value) -> Result<&Value, Refusal>
+    ensures { Gives (λ document. Add (view document.now)) result
+        (result_and_then addition (ok_or (command_in (view json.entry.now)) Refusal.BadCommand)) }
+{
+    match command_of(alloc, json)? {
+        Some(Command::Add(document)) => Ok(document),
+        _ => Err(Refusal::BadCommand),
+    }
+}
+
+/// Whether no operation is taken before the next commit.
+fn is_full<E: Engine>(engine: &E) -> bool
+    requires { E.changes engine.now ≤ 2 ^ 61 }
+    ensures { result ≡ not (nat_lt (length (E.index engine.now).uncommitted) most_uncommitted) }
+{
+    engine.next_stamp() - engine.commit_stamp() > MOST_UNCOMMITTED as u64
+}
+
+/// Takes two operations.
+fn submit_two<E: Pairs>(
+    alloc: Global,
+    engine: &mut E,
+    first: Op,
+    second: Op,
+    out: &mut String,
+) -> Result<Reply, Refusal>
+    requires changes { E.changes engine.old < 2 ^ 61 }
+    requires fits_first { op_fits (E.index engine.old).schema first ≡ true }
+    requires fits_second { op_fits (E.index engine.old).schema second ≡ true }
+    ensures executes { Executes
+        (replied (number_reply (codes "stamp")) (submit_two indexes first second (E.index engine.old)))
+        (Some (E.index engine.old)) (Some (E.index engine.new)) result }
+    ensures out { string_bytes out.new ≡ string_bytes out.old }
+    ensures room { IfOk result (λ reply. string_len out.new + string_len reply.line ≤ string_capacity out.new) }
+    ensures changes { E.changes engine.new ≤ E.changes engine.old + 2 }
+{
+    let reply = Reply::of_number(alloc, "stamp", engine.second_stamp(), out)?;
+    engine.submit_two(first, second)?;
+    Ok(reply)
+}
+
+/// Deletes the documents with a term, and adds one: the document is read before anything is taken.
+fn replace<E: Pairs>(
+    alloc: Global,
+    engine: &mut E,
+    name: &str,
+    json: &Value,
+    document: &Value,
+    out: &mut String,
+) -> Result<Reply, Refusal>
+    requires { E.changes engine.old < 2 ^ 61 }
+    ensures executes { Executes
+        (execute_two indexes (Some (E.index engine.old)) (Delete name.now (view json.now)) (Add (view document.now)))
+        (Some (E.index engine.old)) (Some (E.index engine.new)) result }
+    ensures out { string_bytes out.new ≡ string_bytes out.old }
+    ensures room { IfOk result (λ reply. string_len out.new + string_len reply.line ≤ string_capacity out.new) }
+    ensures changes { E.changes engine.new ≤ E.changes engine.old + 2 }
+{
+    let term = term_in(alloc, engine, name, json)?;
+    if is_full(engine) {
+        return Err(Refusal::LaneFull);
+    }
+    let document = document_in(alloc, engine, document)?;
+    submit_two(alloc, engine, Op::Delete(term), Op::Add(document), out)
+}
+
+/// The outcome of a line that deletes and a line that adds.
+fn replace_whole<E: Pairs>(
+    alloc: Global,
+    index: &mut Option<E>,
+    delete: &[u8],
+    add: &[u8],
+    out: &mut String,
+) -> Result<Reply, Refusal>
+    requires changes { ChangesAtMost E.changes (2 ^ 61 - 1) index.old }
+    requires fits_delete { length delete.now ≤ longest }
+    requires fits_add { length add.now ≤ longest }
+    ensures executes { Executes (replace indexes (option_map E.index index.old) delete.now add.now)
+        (option_map E.index index.old) (option_map E.index index.new) result }
+    ensures out { string_bytes out.new ≡ string_bytes out.old }
+    ensures room { IfOk result (λ reply. string_len out.new + string_len reply.line ≤ string_capacity out.new) }
+    ensures changes { (n : ℕ) → ChangesAtMost E.changes n index.old → ChangesAtMost E.changes (n + 2) index.new }
+{
+    let first = json_of(alloc, delete)?;
+    let (name, value) = deletion_in(alloc, &first)?;
+    let second = json_of(alloc, add)?;
+    let document = addition_in(alloc, &second)?;
+    match index {
+        Some(engine) => replace(alloc, engine, name, value, document, out),
+        None => Err(Refusal::NoSchema),
+    }
+}
+
+/// How many lines two are that were done as one, or weren't.
+fn lines_of(done: bool) -> u64
+    ensures { result ≡ (if done then 2 else 0) }
+{
+    if done { 2 } else { 0 }
+}
+
+/// Replies to a line that deletes and a line that adds, as one, and says how many lines were done: 2 or 0.
+pub(crate) fn answer_replace<R: AllocGlobal + Sync, E: EngineOver<R> + Pairs>(
+    rt: &R,
+    index: &mut Option<E>,
+    number: u64,
+    delete: &[u8],
+    add: &[u8],
+    out: &mut String,
+) -> Result<u64, AllocError>
+    requires changes { ChangesAtMost E.changes (2 ^ 61 - 1) index.old }
+    requires fits_delete { length delete.now ≤ longest }
+    requires fits_add { length add.now ≤ longest }
+    ensures done { IfOk result (λ done. done
+        ≡ lines_done (replace indexes (option_map E.index index.old) delete.now add.now)) }
+    ensures few { IfOk result (λ done. done ≤ 2) }
+    ensures reply { OnOk result (string_bytes out.new
+        ≡ string_bytes out.old ++ text_of number (replace indexes (option_map E.index index.old) delete.now add.now)) }
+    ensures index { OnOk result (option_map E.index index.new ≡ index_after (option_map E.index index.old)
+        (replace indexes (option_map E.index index.old) delete.now add.now)) }
+    ensures err { OnErr result (string_bytes out.new ≡ string_bytes out.old) }
+    ensures kept { OnErr result (option_map E.index index.new ≡ option_map E.index index.old) }
+    ensures changes { (n : ℕ) → ChangesAtMost E.changes n index.old → ChangesAtMost E.changes (n + 2) index.new }
+{
+    let replaced = replace_whole(rt.alloc(), index, delete, add, out);
+    let (reply, done) = replied_line(rt.alloc(), number, replaced, out)?;
+    reply.push(out);
+    Ok(lines_of(done))
+}

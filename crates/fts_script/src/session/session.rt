@@ -1,0 +1,233 @@
+// A script line by line: what it has come to, and its replies.
+ghost use Rattle.std.specs.Prelude.{◌≡◌, ◌+◌, ◌^◌, ◌<◌, ◌≤◌, false, length, IfOk, OnOk, OnErr, option_map, string_bytes};
+ghost use Rattle.fts_script.specs.session.Text.{is_blank};
+ghost use Rattle.fts_script.specs.session.Finds.{at_commit, reply_to_search};
+ghost use Rattle.fts_script.specs.session.Outputs.{start, after_line, reply_to};
+ghost use Rattle.fts_script.specs.command.Commands.{longest};
+ghost use Rattle.fts_script.specs.session.CutSearches.{reply_to_cut_search};
+ghost use Rattle.fts_script.specs.session.Replaces.{after_replace, reply_to_replace};
+ghost use Rattle.fts_script.specs.session.KeptLines.{TooLong, after_kept, reply_to_kept};
+ghost use Rattle.fts_script.specs.session.Sessions.{Appends, ChangesAtMost, IsAnswerable};
+
+use crate::session::commands::{answer_find, answer_whole};
+use crate::session::cut_search::answer_find_cut;
+use crate::session::replace::answer_replace;
+use crate::session::reply::Reply;
+use crate::session::text::is_blank;
+use fts_engine::{Engine, EngineOver, Fork, Options, Pairs};
+use fts_model::Refusal;
+use std::alloc::{AllocError, Global};
+use std::marker::Model;
+
+/// How many lines that aren't blank are tried, each as often as it comes: more than a run has bytes.
+const MOST_TRIES: u64 = 1 << 61;
+
+/// What is carried from line to line. It is ended by `close`, or let go where its engine may be.
+#[derive(Drop)]
+pub struct Session<E: Engine> {
+    options: Options,
+    /// How many lines there were.
+    number: u64,
+    /// How many lines that aren't blank were tried, with those that were refused for memory: what an engine counts
+    /// goes on at these too.
+    tries: u64,
+    /// The index, once a schema was taken.
+    index: Option<E>,
+}
+
+impl<E: Engine> Model for Session<E> {
+    ghost use Rattle.std.specs.Prelude.{option_map};
+    ghost use Rattle.fts_script.specs.session.Outputs.{SessionValue};
+    ghost use Rattle.fts_script.specs.session.Sessions.{ChangesAtMost};
+
+    ghost Value = { SessionValue };
+
+    ghost view = { λ s. record { number = s.number; index = option_map E.index s.index } };
+
+    ghost invariant = { λ s. ChangesAtMost E.changes s.tries s.index };
+}
+
+impl<E: Engine> Session<E> {
+    /// Before the first line, without a schema.
+    pub fn new(options: Options) -> Self
+        ensures { result ≡ start }
+    {
+        Session {
+            options,
+            number: 0,
+            tries: 0,
+            index: None,
+        }
+    }
+
+    /// Replies to a line. At an `Err` the replies and the script are as they were, so that the line may come again. It
+    /// is if memory runs out, or where 2^61 lines were tried.
+    #[tactic(auto, unfolding(crate::specs::session::Replies::reply_on, crate::specs::session::Replies::carried_over))]
+    pub fn answer<R: AllocGlobal + Sync>(
+        &mut self,
+        rt: &R,
+        line: &[u8],
+        out: &mut String,
+    ) -> Result<(), AllocError>
+    where
+        E: EngineOver<R>,
+        requires { IsAnswerable self.old line.now }
+        ensures reply { Appends result (string_bytes out.old) (string_bytes out.new) (reply_to self.old line.now) }
+        ensures script { OnOk result (self.new ≡ after_line self.old line.now) }
+        ensures kept { OnErr result (self.new ≡ self.old) }
+        ensures not_blank { OnErr result (is_blank line.now ≡ false) }
+        ensures lines_counted { self.new.number ≤ self.old.number + 1 }
+    {
+        let number = self.number + 1;
+        if !is_blank(line) {
+            if self.tries >= MOST_TRIES {
+                return Err(AllocError);
+            }
+            self.tries += 1;
+            answer_whole(rt, self.options, &mut self.index, number, line, out)?;
+        }
+        self.number = number;
+        Ok(())
+    }
+
+    /// Replies to a line that is longer than a line may be, of which it is known whether it is blank.
+    pub fn answer_too_long(
+        &mut self,
+        alloc: Global,
+        blank: bool,
+        out: &mut String,
+    ) -> Result<(), AllocError>
+        requires line_number_fits { self.old.number ≤ 2 ^ 61 }
+        ensures reply { Appends result (string_bytes out.old) (string_bytes out.new)
+            (reply_to_kept self.old (TooLong blank)) }
+        ensures script { OnOk result (self.new ≡ after_kept self.old (TooLong blank)) }
+        ensures kept { OnErr result (self.new ≡ self.old) }
+        ensures not_blank { OnErr result (blank ≡ false) }
+        ensures lines_counted { self.new.number ≤ self.old.number + 1 }
+    {
+        let number = self.number + 1;
+        if !blank {
+            let reply = Reply::of_refusal(alloc, Refusal::LineTooLong, number, out)?;
+            reply.push(out);
+        }
+        self.number = number;
+        Ok(())
+    }
+
+    /// Replies to a search, and goes on as if it hadn't come. Another command is refused as `BadCommand`.
+    pub fn find<R: AllocGlobal + Sync>(
+        &mut self,
+        rt: &R,
+        line: &[u8],
+        out: &mut String,
+    ) -> Result<(), AllocError>
+    where
+        E: EngineOver<R>,
+        requires { IsAnswerable self.old line.now }
+        ensures same { self.new ≡ self.old }
+        ensures reply { Appends result (string_bytes out.old) (string_bytes out.new)
+            (reply_to_search self.old line.now) }
+    {
+        answer_find(rt, &mut self.index, self.number + 1, line, out)
+    }
+
+    /// Replies to a line that deletes and a line that adds, as one: both are done, or neither. At a refusal, and at an
+    /// `Err`, the script is as it was. An `Err` is if memory runs out, or where 2^61 lines were tried.
+    pub fn replace<R: AllocGlobal + Sync>(
+        &mut self,
+        rt: &R,
+        delete: &[u8],
+        add: &[u8],
+        out: &mut String,
+    ) -> Result<(), AllocError>
+    where
+        E: EngineOver<R> + Pairs,
+        requires line_number_fits { self.old.number < 2 ^ 61 }
+        requires fits_delete { length delete.now ≤ longest }
+        requires fits_add { length add.now ≤ longest }
+        ensures reply { Appends result (string_bytes out.old) (string_bytes out.new)
+            (reply_to_replace self.old delete.now add.now) }
+        ensures script { OnOk result (self.new ≡ after_replace self.old delete.now add.now) }
+        ensures kept { OnErr result (self.new ≡ self.old) }
+        ensures lines_counted { self.new.number ≤ self.old.number + 2 }
+    {
+        if self.tries >= MOST_TRIES - 1 {
+            return Err(AllocError);
+        }
+        self.tries += 2;
+        let number = self.number + 1;
+        let done = answer_replace(rt, &mut self.index, number, delete, add, out)?;
+        self.number += done;
+        Ok(())
+    }
+
+    /// Replies to a search, as `find` does, with the documents of its hits cut to the fields that another line lists. An
+    /// unknown name is refused as `UnknownField`.
+    pub fn find_fields<R: AllocGlobal + Sync>(
+        &mut self,
+        rt: &R,
+        line: &[u8],
+        names: &[u8],
+        out: &mut String,
+    ) -> Result<(), AllocError>
+    where
+        E: EngineOver<R>,
+        requires { IsAnswerable self.old line.now }
+        ensures same { self.new ≡ self.old }
+        ensures reply { Appends result (string_bytes out.old) (string_bytes out.new)
+            (reply_to_cut_search self.old line.now names.now) }
+    {
+        answer_find_cut(rt, &mut self.index, self.number + 1, line, names, out)
+    }
+
+    /// A session before its first line, over a fork of the index at its last commit.
+    pub fn fork(&self) -> Result<Session<E>, AllocError>
+    where
+        E: Fork,
+        ensures { IfOk result (λ fork. fork ≡ at_commit self.now) }
+    {
+        let index = match &self.index {
+            Some(engine) => Some(engine.fork()?),
+            None => None,
+        };
+        Ok(Session {
+            options: self.options,
+            number: 0,
+            tries: self.tries,
+            index,
+        })
+    }
+
+    /// How many lines there were.
+    pub fn lines(&self) -> u64
+        ensures { result ≡ self.now.number }
+    {
+        self.number
+    }
+
+    /// The index, if there is one.
+    pub fn index(&self) -> Option<&E>
+        ensures { option_map (λ engine. E.index engine.now) result ≡ self.now.index }
+    {
+        match &self.index {
+            Some(engine) => Some(engine),
+            None => None,
+        }
+    }
+
+    /// Ends the index, if there is one.
+    pub fn close<R: AllocGlobal + Sync>(self, rt: &R)
+    where
+        E: EngineOver<R>,
+    {
+        let Session {
+            options: _,
+            number: _,
+            tries: _,
+            index,
+        } = self;
+        if let Some(index) = index {
+            index.close(rt);
+        }
+    }
+}

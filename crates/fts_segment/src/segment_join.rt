@@ -1,0 +1,191 @@
+// Makes one segment of the live documents of several, by joining what these have.
+ghost use Rattle.std.specs.Prelude.{◌≡◌, ◌<◌, ◌≤◌, ◌^◌, ◌++◌, ◌∷◌, [], Bool, All, Some, IfErr, IfOk};
+ghost use Rattle.std.specs.Prelude.{OnOk, length, slice_get, if◌then◌else◌};
+ghost use Rattle.fts_base.specs.declared.refusal.Refusal.TheVariants.{Memory};
+ghost use Rattle.fts_model.specs.Documents.{DocumentValue};
+ghost use Rattle.fts_model.specs.Limits.{most_merged};
+ghost use Rattle.fts_model.specs.declared.operation.Stamped.{Stamped};
+ghost use Rattle.fts_segment.specs.Contents.{content_of};
+ghost use Rattle.fts_segment.specs.FieldIndexes.{AreIndexes};
+ghost use Rattle.fts_segment.specs.Segments.{AllFit, AreDocuments};
+ghost use Rattle.fts_segment.specs.Sources.{AreOfOneSchema, both, contents, joined_segment, live_count, schema_of};
+
+use crate::field_index::FieldIndex;
+use crate::segment::{Segment, Stored};
+use crate::source::Source;
+use fts_model::{Document, Refusal, Schema, Stamped};
+use fts_pack::bits::Bits;
+use std::alloc::{AllocError, Global};
+use std::sync::Arc;
+
+/// Takes a document if it is live.
+fn take_document(
+    documents: &mut Vec<Stamped<Document>>,
+    segment: &Segment,
+    live: &Bits,
+    document: usize,
+) -> Result<(), AllocError>
+    requires within { document < length segment.now.documents }
+    requires bits { length live.now ≡ length segment.now.documents }
+    ensures { (d : Stamped DocumentValue) (bit : Bool) → slice_get segment.now.documents document ≡ Some d
+        → slice_get live.now document ≡ Some bit
+        → OnOk result (documents.new.items ≡ documents.old.items ++ (if bit then d ∷ [] else [])) }
+{
+    if live.get(document) {
+        let value = segment.document(document).clone()?;
+        documents.push(Stamped {
+            stamp: segment.stamp(document),
+            value,
+        })?;
+    }
+    Ok(())
+}
+
+/// Takes the live documents of a source.
+fn take_live(documents: &mut Vec<Stamped<Document>>, source: &Source<'_>) -> Result<(), AllocError>
+    ensures documents { OnOk result (documents.new.items
+        ≡ documents.old.items ++ content_of source.now.segment source.now.live) }
+    ensures fit { AllFit source.now.segment.schema source.now.segment.documents }
+    ensures are { AreDocuments source.now.segment.documents }
+{
+    let segment = source.segment();
+    let live = source.live();
+    for document in 0..segment.docs() {
+        take_document(documents, segment, live, document)?;
+    }
+    Ok(())
+}
+
+/// The live documents of sources.
+fn documents_of(alloc: Global, sources: &[Source<'_>]) -> Result<Vec<Stamped<Document>>, AllocError>
+    requires { AreOfOneSchema sources.now }
+    ensures documents { IfOk result (λ documents. documents.items ≡ contents sources.now) }
+    ensures fit { OnOk result (AllFit (schema_of sources.now) (contents sources.now)) }
+    ensures are { OnOk result (AreDocuments (contents sources.now)) }
+    ensures few { length (contents sources.now) ≤ live_count sources.now }
+{
+    let mut documents = Vec::new(alloc);
+    for source in sources {
+        take_live(&mut documents, source)?;
+    }
+    documents.shrink_to_fit();
+    Ok(documents)
+}
+
+/// The indexes of the fields of sources, in order.
+fn indexes_of(
+    alloc: Global,
+    schema: &Schema,
+    sources: &[Source<'_>],
+    documents: &[Stamped<Document>],
+) -> Result<Vec<FieldIndex>, AllocError>
+    requires schemas { All (λ source. source.segment.schema ≡ schema.now) sources.now }
+    requires few { live_count sources.now ≤ most_merged }
+    requires documents { documents.now ≡ contents sources.now }
+    requires fit { length documents.now < 2 ^ 32 }
+    ensures { IfOk result (λ indexes. AreIndexes schema.now documents.now indexes.items) }
+{
+    let mut indexes = Vec::new(alloc);
+    for field in 0..schema.fields().len() {
+        let kind = schema.kind(field);
+        indexes.push(FieldIndex::joined(alloc, sources, documents, field, kind)?)?;
+    }
+    Ok(indexes)
+}
+
+fn joined(alloc: Global, sources: &[Source<'_>]) -> Result<Segment, AllocError>
+    requires some { 0 < length sources.now }
+    requires schemas { AreOfOneSchema sources.now }
+    requires few { live_count sources.now ≤ most_merged }
+    ensures { IfOk result (λ segment. segment ≡ joined_segment sources.now) }
+{
+    let schema = sources[0].segment().schema().clone()?;
+    let documents = documents_of(alloc, sources)?;
+    let indexes = indexes_of(alloc, &schema, sources, &documents)?;
+    let stored = Stored {
+        schema,
+        documents,
+        indexes,
+    };
+    match Arc::new(alloc, stored) {
+        Ok(stored) => Ok(Segment { stored }),
+        Err(_) => Err(AllocError),
+    }
+}
+
+/// Whether sources have this many documents at most.
+fn are_few(sources: &[Source<'_>], most: usize) -> bool {
+    let mut room = most;
+    for source in sources {
+        let docs = source.segment().docs();
+        if docs > room {
+            return false;
+        }
+        room -= docs;
+    }
+    true
+}
+
+/// One segment of the live documents of two.
+fn joined_both(
+    alloc: Global,
+    first: &Segment,
+    first_live: &Bits,
+    second: &Segment,
+    second_live: &Bits,
+) -> Result<Segment, AllocError>
+    requires first_bits { length first_live.now ≡ length first.now.documents }
+    requires second_bits { length second_live.now ≡ length second.now.documents }
+    requires schemas { AreOfOneSchema (both first.now first_live.now second.now second_live.now) }
+    requires few { live_count (both first.now first_live.now second.now second_live.now) ≤ most_merged }
+    ensures { IfOk result (λ segment. segment
+        ≡ joined_segment (both first.now first_live.now second.now second_live.now)) }
+{
+    let sources = [
+        Source::new(first, first_live),
+        Source::new(second, second_live),
+    ];
+    let segment = joined(alloc, &sources)?;
+    Ok(segment)
+}
+
+/// One segment of the live documents of a source and of others after it, where the others are joined before.
+fn joined_in_turn(
+    alloc: Global,
+    first: &Source<'_>,
+    others: &[Source<'_>],
+) -> Result<Segment, AllocError>
+    requires some { 0 < length others.now }
+    requires schemas { AreOfOneSchema (first.now ∷ others.now) }
+    requires few { live_count (first.now ∷ others.now) ≤ most_merged }
+    ensures { IfOk result (λ segment. segment ≡ joined_segment (first.now ∷ others.now)) }
+{
+    let second = joined(alloc, others)?;
+    let Ok(live) = Bits::all_set(alloc, second.docs()) else {
+        return Err(AllocError);
+    };
+    let segment = joined_both(alloc, first.segment(), first.live(), &second, &live)?;
+    Ok(segment)
+}
+
+/// One segment of the live documents of sources, of which there is at least one and all have one schema. The documents
+/// are in the order of the sources, and those of a source in the order of their numbers. They are handles, and the
+/// terms in them are joined of those of the sources: no text is read again.
+pub fn join(alloc: Global, sources: &[Source<'_>]) -> Result<Segment, Refusal>
+    requires some { 0 < length sources.now }
+    requires schemas { AreOfOneSchema sources.now }
+    requires few { live_count sources.now ≤ most_merged }
+    ensures ok { IfOk result (λ segment. segment ≡ joined_segment sources.now) }
+    ensures memory { IfErr result (λ e. e ≡ Memory) }
+{
+    // The terms of a large segment are compared with those of one more, and not with those of each small one.
+    if let [first, others @ ..] = sources
+        && others.len() > 1
+        && are_few(others, first.segment().docs() / 8)
+    {
+        let segment = joined_in_turn(alloc, first, others)?;
+        return Ok(segment);
+    }
+    let segment = joined(alloc, sources)?;
+    Ok(segment)
+}

@@ -1,5 +1,0 @@
-use Rattle.fts_session.proofs.ReplaceLemmas.{replace-done, replace-none}
-use Rattle.fts_session.proofs.laws.a_replacement_is_two_lines.Goals as goal
-
-pub returns : goal.returns
-returns c = record { done = replace-done; none = replace-none }

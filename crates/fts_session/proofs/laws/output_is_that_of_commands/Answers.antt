@@ -1,8 +1,0 @@
-use Rattle.fts_steps.specs.Indexes.{indexes}
-use Rattle.fts_steps.specs.Histories.{histories}
-use Rattle.fts_session.proofs.CarrierLemmas.{output_same}
-use Rattle.fts_session.proofs.HistoryLemmas.{index_of, histories-indexes}
-use Rattle.fts_session.proofs.laws.output_is_that_of_commands.Goals as goal
-
-pub returns : goal.returns
-returns c = output_same histories indexes index_of histories-indexes

@@ -1,0 +1,80 @@
+//! What a query finds in a snapshot.
+//!
+//! Each segment tells what it has of the hits, and the hits of all segments are those of the content in another order:
+//! so what the parts tell together is the answer over the content, whatever the segments. [`search_alone`] asks one
+//! segment after the other in the calling thread; a crate above asks them by jobs, of which each is a [`part_of`] its
+//! segment.
+
+ghost use Rattle.std.specs.Prelude.{◌≡◌, ◌<◌, ◌^◌, true, IfOk, IsOkUnless, All, length};
+ghost use Rattle.std.specs.List.{AllZip};
+ghost use Rattle.fts_model.specs.Answers.{answer};
+ghost use Rattle.fts_model.specs.Queries.{query_fits, request_fits};
+ghost use Rattle.fts_model.specs.QueryValues.{query_value};
+ghost use Rattle.fts_snapshots.specs.Snapshots.{content_of};
+ghost use Rattle.fts_snapshots.specs.searches.Searches.{IsPartOf};
+
+use crate::{Entry, Snapshot};
+use fts_collect::{Part, collect};
+use fts_model::{Answer, Query, Refusal, Request};
+use std::alloc::Global;
+
+/// What a segment tells of its live hits. The only refusal is `Memory`.
+pub fn part_of(
+    alloc: Global,
+    entry: &Entry,
+    query: &Query,
+    request: &Request,
+) -> Result<Part, Refusal>
+    requires query { query_fits entry.now.segment.schema (query_value query.now) ≡ true }
+    requires request { request_fits entry.now.segment.schema request.now ≡ true }
+    ensures part { IfOk result (IsPartOf (query_value query.now) request.now entry.now) }
+    ensures memory { IsOkUnless result Refusal.Memory }
+{
+    collect(alloc, entry.segment(), entry.live(), query, request)
+}
+
+/// What each segment tells of its live hits, in the order of the segments.
+fn parts_in_turn(
+    alloc: Global,
+    entries: &[Entry],
+    query: &Query,
+    request: &Request,
+) -> Result<Vec<Part>, Refusal>
+    requires query { All (λ entry.
+        query_fits entry.segment.schema (query_value query.now) ≡ true) entries.now }
+    requires request { All (λ entry.
+        request_fits entry.segment.schema request.now ≡ true) entries.now }
+    ensures parts { IfOk result (λ parts.
+        AllZip (IsPartOf (query_value query.now) request.now) entries.now parts.items) }
+    ensures memory { IsOkUnless result Refusal.Memory }
+{
+    let mut parts = Vec::with_capacity(alloc, entries.len())?;
+    for entry in entries {
+        let part = part_of(alloc, entry, query, request)?;
+        parts.push(part)?;
+    }
+    Ok(parts)
+}
+
+/// What a query finds among all documents of a snapshot: one segment after the other, by the calling thread. The only
+/// refusal is `Memory`.
+pub fn search_alone(
+    alloc: Global,
+    snapshot: &Snapshot,
+    query: &Query,
+    request: &Request,
+) -> Result<Answer, Refusal>
+    requires query { query_fits snapshot.now.schema (query_value query.now) ≡ true }
+    requires request { request_fits snapshot.now.schema request.now ≡ true }
+    requires few { length (content_of snapshot.now) < 2 ^ 64 }
+    ensures answer { IfOk result (λ found. found ≡ answer snapshot.now.schema
+        (query_value query.now) request.now (content_of snapshot.now)) }
+    ensures memory { IsOkUnless result Refusal.Memory }
+{
+    let entries = snapshot.entries();
+    let parts = parts_in_turn(alloc, entries, query, request)?;
+    match Part::join(alloc, parts, request) {
+        Ok(answer) => Ok(answer),
+        Err((_, refusal)) => Err(refusal),
+    }
+}
