@@ -52,6 +52,7 @@ enum {
 
 #define DILFOREC_LONGEST_LINE 4194304
 #define DILFOREC_NO_REPLY SIZE_MAX
+#define DILFOREC_NO_BYTE SIZE_MAX
 
 /* An index. It forgets everything when it is closed. */
 typedef struct {
@@ -92,6 +93,22 @@ int32_t dilforec_execute_fields(dilforec_t *index, const uint8_t *line, size_t l
  * for a closed handle. The reply to a line other than a search has at most 128 bytes. */
 size_t dilforec_reply(dilforec_t *index, uint8_t *out, size_t room);
 
+/* How large an index is at its last commit. Each segment has a live document; one that isn't live was deleted, and goes
+ * when its segment is merged. */
+typedef struct {
+    uint64_t segments;
+    uint64_t documents;
+    uint64_t live;
+} dilforec_stats_t;
+
+/* Fills in how large an index is: all 0 without a schema. DILFOREC_OK or DILFOREC_CLOSED. */
+int32_t dilforec_stats(dilforec_t *index, dilforec_stats_t *stats);
+
+/* Tells the byte from which on a query can't be read, if a search refuses it as Syntax: its length, if more has to
+ * follow. For any other query it is DILFOREC_NO_BYTE, also for bytes that aren't UTF-8. The schema doesn't matter, and
+ * so there is no handle. DILFOREC_OK or DILFOREC_MEMORY. */
+int32_t dilforec_syntax_at(const uint8_t *query, size_t length, size_t *at);
+
 /* Closes an index. DILFOREC_OK, or DILFOREC_CLOSED if it was closed before. */
 int32_t dilforec_close(dilforec_t *index);
 
@@ -118,6 +135,9 @@ int32_t dilforec_search_fields(dilforec_searcher_t *searcher, const uint8_t *lin
 
 /* The reply to the last search, as by dilforec_reply. */
 size_t dilforec_searcher_reply(dilforec_searcher_t *searcher, uint8_t *out, size_t room);
+
+/* Fills in how large a searcher's commit is, as dilforec_stats does. */
+int32_t dilforec_searcher_stats(dilforec_searcher_t *searcher, dilforec_stats_t *stats);
 
 /* Closes a searcher. DILFOREC_OK, or DILFOREC_CLOSED if it was closed before. */
 int32_t dilforec_searcher_close(dilforec_searcher_t *searcher);

@@ -179,7 +179,37 @@ static void chosen(void) {
     dilforec_close(&index);
 }
 
+static int syntax(const char *query, size_t wanted) {
+    int32_t code;
+    size_t at = 7777;
+    AGAIN(code, dilforec_syntax_at(bytes(query), strlen(query), &at));
+    if (code == DILFOREC_OK && at == wanted) return 1;
+    printf("calls: %s can't be read from %zu on, not %zu\n", query, at, wanted);
+    return 0;
+}
+
+/* The byte of a query that isn't in the grammar. */
+static void syntaxes(void) {
+    static char deep[64], open_quote[4096];
+    size_t at = 7;
+    const char *none[] = {"", " ", "rust", "titel:a", "-rust", "title:[a TO b]", "\xff", "rust \xff OR", deep};
+    memset(deep, '(', 33);
+    for (size_t i = 0; i < sizeof none / sizeof *none; i++)
+        expect(syntax(none[i], DILFOREC_NO_BYTE), "a query in the grammar, and what isn't refused as Syntax, has no byte");
+    const struct { const char *query; size_t at; } some[] = {
+        {"rust OR", 5}, {"(rust", 5}, {"rust )", 5}, {"--a", 1}, {"\xd1\x8f\xd1\x8f \"a", 7}, {"title:", 6},
+        {"year:[1 TO", 7}, {"year:[1 TO 2", 12}, {"a NOT(b)", 5}, {" AND", 1},
+    };
+    for (size_t i = 0; i < sizeof some / sizeof *some; i++)
+        expect(syntax(some[i].query, some[i].at), "a query that isn't has the byte from which on it can't be read");
+    memset(open_quote, 'a', sizeof open_quote);
+    open_quote[0] = '"';
+    expect(dilforec_syntax_at(bytes(open_quote), sizeof open_quote, &at) == DILFOREC_OK && at == sizeof open_quote,
+           "which may be the end of the longest query");
+}
+
 int main(void) {
+    syntaxes();
     blocks();
     pairs();
     chosen();

@@ -36,16 +36,22 @@ static dilforec_t opened(void) {
     return index;
 }
 
+static int are(dilforec_stats_t stats, uint64_t segments, uint64_t documents, uint64_t live) {
+    return stats.segments == segments && stats.documents == documents && stats.live == live;
+}
+
 static void closed(void) {
     dilforec_t index = {0};
     uint8_t byte = 7;
     size_t done = 7;
+    dilforec_stats_t stats = {7, 7, 7};
     expect(execute(&index, ADD) == DILFOREC_CLOSED, "a closed index takes no line");
     expect(dilforec_execute_lines(&index, bytes(ADD), strlen(ADD), &done) == DILFOREC_CLOSED && done == 0,
            "nor a block");
     expect(dilforec_replace(&index, bytes(ADD), strlen(ADD), bytes(ADD), strlen(ADD)) == DILFOREC_CLOSED, "nor two");
     expect(dilforec_execute_fields(&index, bytes(ADD), strlen(ADD), bytes("[]"), 2) == DILFOREC_CLOSED, "nor a search");
     expect(dilforec_reply(&index, &byte, 1) == DILFOREC_NO_REPLY && byte == 7, "a closed index has no reply");
+    expect(dilforec_stats(&index, &stats) == DILFOREC_CLOSED && are(stats, 7, 7, 7), "nor a size");
     expect(dilforec_close(&index) == DILFOREC_CLOSED && !index.at, "a closed index isn't closed again");
     index = opened();
     expect(dilforec_close(&index) == DILFOREC_OK && !index.at, "a close leaves the handle closed");
@@ -69,6 +75,7 @@ static void searchers(void) {
     static const char *FIND = "{\"search\":{\"query\":\"rust\"}}";
     dilforec_searcher_t searcher = {0}, again = {0};
     dilforec_t index = {0};
+    dilforec_stats_t stats = {7, 7, 7};
     uint8_t byte = 7;
     expect(dilforec_searcher(&index, &searcher) == DILFOREC_CLOSED && !searcher.at, "a closed index has no searcher");
     expect(dilforec_searcher_again(&searcher, &again) == DILFOREC_CLOSED && !again.at, "nor has a closed searcher");
@@ -76,6 +83,7 @@ static void searchers(void) {
     expect(dilforec_search_fields(&searcher, bytes(FIND), strlen(FIND), bytes("[]"), 2) == DILFOREC_CLOSED,
            "nor one with chosen fields");
     expect(dilforec_searcher_reply(&searcher, &byte, 1) == DILFOREC_NO_REPLY && byte == 7, "and has no reply");
+    expect(dilforec_searcher_stats(&searcher, &stats) == DILFOREC_CLOSED && are(stats, 7, 7, 7), "and no size");
     expect(dilforec_searcher_close(&searcher) == DILFOREC_CLOSED, "a closed searcher isn't closed again");
     index = opened();
     execute(&index, ADD);
@@ -143,8 +151,38 @@ static void any_bytes(void) {
     dilforec_close(&index);
 }
 
+/* How many segments and documents a commit has, what is uncommitted left out. */
+static void sizes(void) {
+    dilforec_searcher_t searcher = {0};
+    dilforec_stats_t stats = {7, 7, 7};
+    dilforec_t index = {0};
+    expect(dilforec_open(&index) == DILFOREC_OK && dilforec_stats(&index, &stats) == DILFOREC_OK && are(stats, 0, 0, 0),
+           "an index without a schema has no segment");
+    execute(&index, SCHEMA);
+    for (int i = 0; i < 4; i++) execute(&index, ADD);
+    execute(&index, "{\"add\":{\"title\":\"other\"}}");
+    expect(dilforec_stats(&index, &stats) == DILFOREC_OK && are(stats, 0, 0, 0), "nor has one without a commit");
+    execute(&index, "{\"commit\":true}");
+    dilforec_searcher(&index, &searcher);
+    expect(dilforec_stats(&index, &stats) == DILFOREC_OK && are(stats, 1, 5, 5), "a commit has its documents");
+    execute(&index, "{\"delete\":{\"title\":\"other\"}}");
+    execute(&index, ADD);
+    execute(&index, "{\"commit\":true}");
+    expect(dilforec_stats(&index, &stats) == DILFOREC_OK && are(stats, 2, 6, 5), "a deleted one isn't live");
+    expect(replies(&index, "{\"commit\":9}\n"), "and the last reply stays");
+    execute(&index, "{\"merge\":true}");
+    expect(dilforec_stats(&index, &stats) == DILFOREC_OK && are(stats, 1, 5, 5), "and is gone after a merge");
+    expect(dilforec_searcher_stats(&searcher, &stats) == DILFOREC_OK && are(stats, 1, 5, 5), "a searcher tells its commit's");
+    execute(&index, "{\"delete_all\":true}");
+    execute(&index, "{\"commit\":true}");
+    expect(dilforec_stats(&index, &stats) == DILFOREC_OK && are(stats, 0, 0, 0), "a segment without a live document is gone");
+    dilforec_searcher_close(&searcher);
+    dilforec_close(&index);
+}
+
 int main(void) {
     closed();
+    sizes();
     small_buffers();
     long_lines();
     any_bytes();

@@ -24,7 +24,7 @@ from dilforec.refusals import (
     SchemaTwice, SomeRefused, Syntax, TextTooLong, TooDeep, TooLarge, TooLong, TooManyFields, TooManyTexts,
     Unfinished, UnknownField, WrongKind,
 )
-from dilforec.values import Answer, Field, Hit, Top, i64, keyword, quoted, text, u64
+from dilforec.values import Answer, Field, Hit, Stats, Top, i64, keyword, quoted, text, u64
 
 __version__ = "0.1.0"
 
@@ -36,7 +36,7 @@ __all__ = [
     "AllNegative", "Answer", "BadCommand", "BadDefault", "BadJson", "BadLimit", "BadName", "BadNumber", "Busy",
     "Closed", "Field", "Hit", "Index", "KeywordTooLong", "LaneFull", "LineTooLong", "NameTwice", "NoDefaultField",
     "NoFields", "NoSchema", "NotANumberField", "NotAnObject", "RangeOnText", "Refused", "SchemaTwice", "Searcher",
-    "SomeRefused", "Syntax", "TextTooLong", "TooDeep", "TooLarge", "TooLong", "TooManyFields", "TooManyTexts", "Top",
+    "SomeRefused", "Stats", "Syntax", "TextTooLong", "TooDeep", "TooLarge", "TooLong", "TooManyFields", "TooManyTexts", "Top",
     "Unfinished", "UnknownField", "UsedUp", "WrongKind", "__version__", "i64", "keyword", "quoted", "text", "u64",
 ]
 

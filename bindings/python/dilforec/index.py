@@ -8,16 +8,25 @@ from collections.abc import Iterable, Iterator, Mapping, Sequence
 from typing import Any, Callable, Optional, TypeVar, Union, cast, overload
 
 from dilforec import sentences
-from dilforec.library import LINE_TOO_LONG, MEMORY, OK, Asking, Channel, Closed, fault
-from dilforec.refusals import LineTooLong, Refused, SomeRefused, TooDeep, TooLong, Unfinished, refused
-from dilforec.values import Answer, Field, Groups, Hit, Order, Top, as_json
+from dilforec.library import LINE_TOO_LONG, MEMORY, OK, Asking, Channel, Closed, fault, syntax_at
+from dilforec.refusals import LineTooLong, Refused, SomeRefused, Syntax, TooDeep, TooLong, Unfinished, refused
+from dilforec.values import Answer, Field, Groups, Hit, Order, Stats, Top, as_json
 
 S = TypeVar("S", bound="Searching")
 
-# What isn't ASCII goes as UTF-8: the escapes of JSON would be up to six times as long.
-ENCODE: Callable[[Any], str] = json.JSONEncoder(
-    ensure_ascii=False, check_circular=False, separators=(",", ":")
-).encode
+
+def _encoder() -> Callable[[Any], str]:
+    """What makes JSON of a value. What isn't ASCII stays as it is: its escapes would be up to six times as long."""
+    plain = json.JSONEncoder(ensure_ascii=False, check_circular=False, separators=(",", ":"))
+    module: Any = json.encoder
+    if module.c_make_encoder is None:
+        return plain.encode
+    # The encoder in C, which `plain.encode` would make anew for each value.
+    chunks = module.c_make_encoder(None, plain.default, module.encode_basestring, None, ":", ",", False, False, True)
+    return lambda value: "".join(chunks(value, 0))
+
+
+ENCODE = _encoder()
 
 LONGEST_LINE = 4_194_304
 LONGEST_QUERY = 4096
@@ -114,6 +123,9 @@ class Searching:
 
     def _refused_search(self, name: str, line: int, query: str, groups: Sequence[str], top: Optional[Top],
                         fields: Sequence[str]) -> Refused:
+        if name == "Syntax":
+            at = syntax_at(query)
+            return Syntax(name, line, sentences.of_syntax(query, at), at)
         return refused(name, line, sentences.of_search(name, self._schema, query, groups, top, fields))
 
     def hits(self, query: str, by: str, *, order: Order = "rising", page: int = 10_000,
@@ -153,6 +165,10 @@ class Searching:
                 raise ValueError(f"{top.k} documents or more have {found[-1].value} in {top.by}")
             last = found[-1]
             told = {(hit.source, hit.stamp) for hit in found if hit.value == last.value}
+
+    def stats(self) -> Stats:
+        """How many segments the last commit has, how many documents are in them, and how many of these are live."""
+        return self._channel.stats()
 
     def searcher(self) -> Searcher:
         """A searcher of the last commit, or another one of a searcher's."""
@@ -300,7 +316,9 @@ class Searcher(Searching):
     """
 
     def __init__(self, channel: Asking, schema: tuple[Field, ...] = ()) -> None:
-        _expect(channel, Asking, "a searcher is opened by index.searcher()")
+        if not isinstance(channel, Channel):
+            # That takes as long as a search.
+            _expect(channel, Asking, "a searcher is opened by index.searcher()")
         self._channel = channel
         self._schema = schema
 

@@ -11,11 +11,12 @@ from collections.abc import Callable, Sequence
 from typing import Any, Optional, Protocol, runtime_checkable
 
 from dilforec.refusals import LineTooLong
+from dilforec.values import Stats
 
 SHARED = pathlib.Path(__file__).resolve().parent / "libdilforec.so"
 
 OK, MEMORY, LINE_TOO_LONG, USED_UP, CLOSED = range(5)
-NO_REPLY = ctypes.c_size_t(-1).value
+NO_REPLY = NO_BYTE = ctypes.c_size_t(-1).value
 
 # A longer reply has a buffer of its own, which isn't kept.
 KEPT_ROOM = 1 << 20
@@ -42,6 +43,12 @@ class Handle(ctypes.Structure):
     _fields_ = [("at", ctypes.c_void_p)]
 
 
+class Measured(ctypes.Structure):
+    """How large an index is."""
+
+    _fields_ = [(name, ctypes.c_uint64) for name in Stats._fields]
+
+
 def load() -> ctypes.CDLL:
     """The shared object, with the types of its functions. While one of them runs, other threads of Python do too."""
     if not SHARED.is_file():
@@ -56,12 +63,15 @@ def load() -> ctypes.CDLL:
         "dilforec_execute_fields": ([at, text, size, text, size], code),
         "dilforec_replace": ([at, text, size, text, size], code),
         "dilforec_reply": ([at, at, size], size),
+        "dilforec_stats": ([at, at], code),
+        "dilforec_syntax_at": ([text, size, at], code),
         "dilforec_close": ([at], code),
         "dilforec_searcher": ([at, at], code),
         "dilforec_searcher_again": ([at, at], code),
         "dilforec_search": ([at, text, size], code),
         "dilforec_search_fields": ([at, text, size, text, size], code),
         "dilforec_searcher_reply": ([at, at, size], size),
+        "dilforec_searcher_stats": ([at, at], code),
         "dilforec_searcher_close": ([at], code),
     }
     for name, (given, told) in types.items():
@@ -86,6 +96,15 @@ def fault(code: int) -> Exception:
     return RuntimeError(f"code {code} of the library")
 
 
+def syntax_at(query: str) -> Optional[int]:
+    """How many characters of a query could be read, if it isn't in the grammar. None also if memory is short."""
+    text, at = query.encode(), ctypes.c_size_t()
+    code = LIBRARY.dilforec_syntax_at(text, len(text), ctypes.addressof(at))
+    if code or at.value == NO_BYTE:
+        return None
+    return len(text[:at.value].decode())
+
+
 @runtime_checkable
 class Asking(Protocol):
     """What an index, a searcher and a cluster have in common: lines of searches in, and replies out."""
@@ -99,6 +118,8 @@ class Asking(Protocol):
 
     def searcher(self) -> Asking: ...
 
+    def stats(self) -> Stats: ...
+
     def close(self) -> None: ...
 
 
@@ -109,9 +130,9 @@ class Channel:
     itself; `_busy` says that a call is on its way.
     """
 
-    _ask, _ask_fields, _reply, _fork, _close = (
+    _ask, _ask_fields, _reply, _fork, _measure, _close = (
         LIBRARY.dilforec_execute, LIBRARY.dilforec_execute_fields, LIBRARY.dilforec_reply, LIBRARY.dilforec_searcher,
-        LIBRARY.dilforec_close,
+        LIBRARY.dilforec_stats, LIBRARY.dilforec_close,
     )
 
     def __init__(self, opened: Callable[[int], int] = LIBRARY.dilforec_open) -> None:
@@ -126,7 +147,8 @@ class Channel:
         OPEN[id(self)] = weakref.ref(self)
 
     def _make_room(self, size: int) -> None:
-        self._room = ctypes.create_string_buffer(size)
+        # A part of it is bytes, which its type doesn't know.
+        self._room: Any = ctypes.create_string_buffer(size)
         self._room_at = ctypes.addressof(self._room)
         self._room_size = size
         self._view = memoryview(self._room).cast("B")
@@ -138,7 +160,8 @@ class Channel:
     def ask(self, line: bytes) -> bytes:
         """The reply to a line; none to a blank one."""
         with self.lock:
-            self._check()
+            if self._busy:
+                self._check()
             try:
                 self._busy = True
                 code = self._ask(self._at, line, len(line))
@@ -204,7 +227,8 @@ class Channel:
     def _read(self) -> bytes:
         length = self._reply(self._at, self._room_at, self._room_size)
         if length <= self._room_size:
-            return self._view[:length].tobytes()
+            told: bytes = self._room[:length]
+            return told
         # This long is a reply to a search alone, which may be asked again.
         if length <= KEPT_ROOM:
             self._make_room(length)
@@ -221,6 +245,20 @@ class Channel:
             try:
                 self._busy = True
                 return Searches(lambda slot: int(self._fork(self._at, slot)))
+            finally:
+                self._busy = False
+
+    def stats(self) -> Stats:
+        """How large the last commit is."""
+        with self.lock:
+            self._check()
+            try:
+                self._busy = True
+                told = Measured()
+                code = self._measure(self._at, ctypes.addressof(told))
+                if code:
+                    raise fault(code)
+                return Stats(told.segments, told.documents, told.live)
             finally:
                 self._busy = False
 
@@ -253,9 +291,9 @@ class Channel:
 class Searches(Channel):
     """Searches in and replies out, over one commit. Each of them counts as the first line of a script."""
 
-    _ask, _ask_fields, _reply, _fork, _close = (
+    _ask, _ask_fields, _reply, _fork, _measure, _close = (
         LIBRARY.dilforec_search, LIBRARY.dilforec_search_fields, LIBRARY.dilforec_searcher_reply,
-        LIBRARY.dilforec_searcher_again, LIBRARY.dilforec_searcher_close,
+        LIBRARY.dilforec_searcher_again, LIBRARY.dilforec_searcher_stats, LIBRARY.dilforec_searcher_close,
     )
 
 

@@ -102,7 +102,16 @@ class TooDeep(Refused):
 
 
 class Syntax(Refused):
-    """The query isn't in the grammar."""
+    """The query isn't in the grammar.
+
+    `at` says how far it could be read, in characters: `query[at:]` is what doesn't fit, nothing if more has to follow.
+    None if it isn't known.
+    """
+
+    def __init__(self, name: str, line: Optional[int] = None, detail: str = "", at: Optional[int] = None) -> None:
+        super().__init__(name, line, detail)
+        self.args = name, line, detail, at
+        self.at = at
 
 
 class RangeOnText(Refused):

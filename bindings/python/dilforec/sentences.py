@@ -75,6 +75,13 @@ def of_search(name: str, schema: Schema, query: str, groups: Sequence[str], top:
     return ""
 
 
+def of_syntax(query: str, at: Optional[int]) -> str:
+    """Where a query couldn't be read any further."""
+    if at is None:
+        return ""
+    return f"the query can't be read from {reprlib.repr(query[at:])} on" if query[at:] else "the query ends too early"
+
+
 def names_in(query: str) -> list[str]:
     """The names before a colon in a query, outside of quoted texts."""
     bare = re.sub(r'"(?:[^"\\]|\\.)*"', '""', query)

@@ -2,7 +2,7 @@
 from __future__ import annotations
 
 from collections.abc import Iterator
-from dataclasses import asdict, dataclass
+from dataclasses import dataclass
 from typing import Any, Dict, Generic, Literal, NamedTuple, Optional, TypeVar, Union, get_args
 
 Kind = Literal["text", "keyword", "u64", "i64"]
@@ -63,6 +63,17 @@ class Hit(NamedTuple):
     source: Optional[str] = None
 
 
+class Stats(NamedTuple):
+    """How large an index is: its segments, the documents in them, and how many of these are live.
+
+    The others were deleted or replaced, and go when their segments are merged.
+    """
+
+    segments: int
+    documents: int
+    live: int
+
+
 @dataclass(frozen=True)
 class Answer(Generic[G]):
     """What a search found: how many documents, how many of each group in the order of the values, and the top list.
@@ -107,4 +118,4 @@ def quoted(text: str) -> str:
 
 def as_json(value: Union[Field, Top]) -> dict[str, Any]:
     """A field or a top list as the commands of a script have it."""
-    return asdict(value)
+    return dict(vars(value))

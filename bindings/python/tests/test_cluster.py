@@ -256,6 +256,8 @@ class Sources(unittest.TestCase):
             every = [(hit.value, hit.source, hit.stamp) for hit in many.hits("x", "price", page=5)]
             self.assertEqual(every, [(value, name, 2 * value + n) for value in (0, 1) for name in "ba" for n in (1, 2)])
             self.assertEqual(len(many), 8)
+            with many.searcher() as searcher:
+                self.assertEqual((many.stats(), searcher.stats()), ((2, 8, 8), (2, 8, 8)))
 
     def test_errors(self):
         """Each refusal of a search is the exception that an index raises."""
@@ -272,6 +274,7 @@ class Sources(unittest.TestCase):
             self.assertRaises(KeyError, many.drop_source, "b")
             self.assertEqual(many.search("*").count, 0)
         self.assertRaises(dilforec.Closed, many.search, "*")
+        self.assertRaises(dilforec.Closed, many.stats)
         self.assertRaises(ValueError, cluster, [Documents("a", list), Documents("a", list)])
         with cluster([]) as none:
             self.assertRaises(ValueError, none.search, "*")

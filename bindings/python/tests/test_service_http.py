@@ -75,9 +75,12 @@ class Answers(Served):
         self.assertEqual(ask("GET", "/search?q=%C3%A9")[1]["count"], 1)
         status = ask("GET", "/status")[1]
         self.assertEqual((status["documents"], status["commit"], status["schema"][0]), (4, 6, SCHEMA[0]))
+        self.assertGreaterEqual(status["segments"], 1)
         told, text = ask("GET", "/metrics")
         self.assertEqual(told, 200)
         self.assertIn("\ndilforec_documents 4\n", text)
+        self.assertIn(f"\ndilforec_segments {status['segments']}\n", text)
+        self.assertRegex(text, r"\ndilforec_deleted_documents [0-9]+\n")
         self.assertIn("\ndilforec_searches_total 3\n", text)
         self.assertEqual(ask("POST", "/compact")[0], 200)
         self.assertEqual(ask("POST", "/transaction", [{"delete_all": True}]), (201, {"ids": [], "commit": 7}))
@@ -139,7 +142,9 @@ class Answers(Served):
                 self.assertEqual((got, told["error"], told.get("at")), (status, name, at), told)
                 self.assertRegex(told["message"], "[a-z]")
         self.assertEqual(server.ask("POST", "/documents", b"[" + b" " * 200_000 + b"]")[0], 413)
-        self.assertEqual(server.ask("GET", "/search?q=rust+OR")[1]["error"], "Syntax")
+        for query, at in ("rust+OR", 5), ("(rust", 5), ("%D1%8F+AND", 3), ("a+NOT(b)", 5):
+            told = server.ask("GET", f"/search?q={query}")
+            self.assertEqual((told[0], told[1]["error"], told[1]["at"]), (400, "Syntax", at))
         self.assertEqual(server.ask("GET", "/documents"), (200, {"documents": [{"id": 1, "title": "kept"}]}))
         self.assertNotIn("Traceback", server.said())
 

@@ -1,4 +1,6 @@
 """Journals: disks that fail, files that are cut and damaged, compactions that are killed."""
+import json
+import os
 import pathlib
 import signal
 import subprocess
@@ -12,7 +14,8 @@ import dilforec
 from dilforec.service import BadJournal, BadSchema, Busy, NotWritten, OutcomeUnknown, Stopped, Store
 from service_tools import FIELDS, Failing, Stored, child
 
-PROGRAM = pathlib.Path(__file__).resolve().parents[3] / "crates/fts/out/fts"
+BUILT = pathlib.Path(__file__).resolve().parents[3] / "crates/fts/out/fts"
+PROGRAM = pathlib.Path(os.environ.get("DILFOREC_PROGRAM", BUILT))
 
 
 class Disks(Stored):
@@ -171,16 +174,23 @@ class Journals(Stored):
             self.assertEqual(self.journal.read_bytes(), other)
 
     def test_script(self):
-        """The journal is a script: an index that executes its lines answers as the store does."""
-        whole, _, there = self.filled()
+        """The journal is a script: an index and `fts run` that execute its lines answer as the store does."""
+        self.filled()
         with Store(FIELDS, self.journal) as store:
             store.compact()
             store.add({"title": "last", "year": 1})
             expected = store.search("*", groups=["shelf", "year"], top=dilforec.Top("year", 100))
         if PROGRAM.exists():
-            with self.journal.open("rb") as script:
-                done = subprocess.run([PROGRAM, "run"], stdin=script, capture_output=True)
+            top = {"by": "year", "k": 100, "order": "rising"}
+            asked = [{"search": {"query": "*", "groups": field, "top": top}} for field in ("shelf", "year")]
+            script = self.journal.read_bytes() + b"".join(json.dumps(line).encode() + b"\n" for line in asked)
+            done = subprocess.run([PROGRAM, "run"], input=script, capture_output=True)
             self.assertEqual((done.returncode, b"error" in done.stdout), (0, False))
+            told = [json.loads(line) for line in done.stdout.splitlines()[-len(asked):]]
+            self.assertEqual([reply["count"] for reply in told], [expected.count] * 2)
+            self.assertEqual([dict(reply["groups"]) for reply in told], list(expected.groups.values()))
+            for reply in told:
+                self.assertEqual([hit["doc"] for hit in reply["top"]], [hit.document for hit in expected.hits])
         lines = self.journal.read_bytes().splitlines(keepends=True)
         with dilforec.Index() as index:
             replies = [index.execute(line[:-1]) for line in lines]

@@ -42,7 +42,8 @@ class Sentences(unittest.TestCase):
                 ("a top list has 1 to 10,000 hits, not 0", lambda: index.search("a", top=dilforec.Top("year", 0))),
                 ("'title' is a text field, and groups are by", lambda: index.search("a", groups="title")),
                 ("'shelf' is a keyword field, and a top list", lambda: index.search("a", top=dilforec.Top("shelf", 1))),
-                ("the query isn't in the grammar", lambda: index.search("rust OR")),
+                ("the query can't be read from 'OR' on", lambda: index.search("rust OR")),
+                ("the query ends too early", lambda: index.search("(rust")),
                 ("parentheses of a query nest more than 32 deep", lambda: index.search("(" * 33)),
             ]:
                 with self.subTest(sentence), self.assertRaises(dilforec.Refused) as raised:
@@ -78,6 +79,8 @@ class Sentences(unittest.TestCase):
         """A refusal of each name can be pickled and copied, and stays what it was."""
         for name, kind in refusals.BY_NAME.items():
             error = refusals.refused(name, 7, "the sentence" if name == "Syntax" else "")
+            if isinstance(error, dilforec.Syntax):
+                error = dilforec.Syntax(name, 7, "the sentence", 5)
             for other in pickle.loads(pickle.dumps(error)), copy.copy(error), copy.deepcopy(error):
                 self.assertIs(type(other), kind)
                 self.assertEqual((vars(other), str(other), other.args), (vars(error), str(error), error.args))
@@ -86,6 +89,49 @@ class Sentences(unittest.TestCase):
         for other in pickle.loads(pickle.dumps(some)), copy.copy(some):
             self.assertEqual((str(other), other.stamps), (str(some), [1, None]))
         self.assertEqual(len(refusals.BY_NAME), 27)
+
+
+class Syntax(unittest.TestCase):
+    def test_at(self):
+        """A query that isn't in the grammar tells how far it can be read, in characters, to an index and a searcher."""
+        with opened() as index, index.searcher() as searcher:
+            for query, rest in [("rust OR", "OR"), ("(rust", ""), ("rust )", ")"), ("яя AND", "AND"), ('я "я', ""),
+                                ("\U0001f600:[1 TO", " TO"), ("--a", "-a"), ("a NOT(b)", "(b)")]:
+                for each in index, searcher:
+                    for call in (lambda: each.search(query), lambda: each.search(query, groups=["shelf", "year"]),  # noqa: B023
+                                 lambda: each.search(query, fields=["title"])):  # noqa: B023
+                        with self.subTest(query), self.assertRaises(dilforec.Syntax) as raised:
+                            call()
+                        at = raised.exception.at
+                        self.assertEqual(query[at:], rest)
+            for query in "", "rust", "-rust", "titel:a", "year:late", "(" * 33, "a" * 5000:
+                self.assertIsNone(dilforec.library.syntax_at(query), query)
+
+    def test_unknown(self):
+        """What is refused in a line of a script has no query that the package knows."""
+        self.assertIsNone(refusals.refused("Syntax", 1).at)
+
+
+class Stats(unittest.TestCase):
+    def test_stats(self):
+        """Segments and documents of the last commit; a searcher tells those of its own."""
+        with dilforec.Index() as index:
+            self.assertEqual(index.stats(), (0, 0, 0))
+        with opened(*({"title": "rust", "year": year} for year in range(4))) as index, index.searcher() as searcher:
+            self.assertEqual(index.stats(), dilforec.Stats(segments=1, documents=4, live=4))
+            index.delete("year", 1)
+            index.add({"title": "rust"})
+            self.assertEqual(index.stats(), (1, 4, 4))
+            index.commit()
+            self.assertEqual(index.stats(), (2, 5, 4))
+            self.assertEqual(index.stats().live, len(index))
+            index.merge()
+            self.assertEqual((index.stats(), searcher.stats()), ((1, 4, 4), (1, 4, 4)))
+            index.delete_all()
+            index.commit()
+            self.assertEqual((index.stats(), searcher.stats()), ((0, 0, 0), (1, 4, 4)))
+        for each in index, searcher:
+            self.assertRaises(dilforec.library.Closed, each.stats)
 
 
 class Utf8(unittest.TestCase):

@@ -1,4 +1,5 @@
 //! Why a call failed.
+use crate::sys;
 use std::fmt;
 
 /// Why a call failed. Whatever it was, the index is as it was before.
@@ -28,7 +29,32 @@ pub struct Refusal {
     pub name: &'static str,
     /// The number of the line, from 1.
     pub line: u64,
+    /// The byte of the query from which on it can't be read, if a search is refused as `Syntax`; its length, if more
+    /// has to follow.
+    pub at: Option<usize>,
 }
+
+/// What came of the documents of [`Index::add_many`](crate::Index::add_many), if not all of them were added.
+#[derive(Clone, Debug, PartialEq, Eq)]
+pub struct NotAll {
+    /// The stamp of each document, in their order, or why it was refused. The documents after these weren't added.
+    pub told: Vec<Result<u64, Error>>,
+    /// Why there are documents after these; none, if there aren't.
+    pub stopped: Option<Error>,
+}
+
+impl fmt::Display for NotAll {
+    fn fmt(&self, out: &mut fmt::Formatter<'_>) -> fmt::Result {
+        let refused = self.told.iter().filter(|told| told.is_err()).count();
+        write!(out, "{refused} of {} documents were refused", self.told.len())?;
+        match &self.stopped {
+            Some(error) => write!(out, ", and then: {error}"),
+            None => Ok(()),
+        }
+    }
+}
+
+impl std::error::Error for NotAll {}
 
 /// The names of all refusals.
 const NAMES: [&str; 28] = [
@@ -82,7 +108,17 @@ impl Error {
             return Ok(reply);
         };
         let name = NAMES.iter().find(|known| **known == name).ok_or(Error::Reply)?;
-        Err(Error::Refused(Refusal { name, line: line.parse().unwrap_or(0) }))
+        Err(Error::Refused(Refusal { name, line: line.parse().unwrap_or(0), at: None }))
+    }
+
+    /// The error of a search, with the byte of a `Syntax`.
+    pub(crate) fn of_query(self, query: &str) -> Error {
+        match self {
+            Error::Refused(refusal) if refusal.name == "Syntax" => {
+                Error::Refused(Refusal { at: sys::syntax_at(query), ..refusal })
+            }
+            other => other,
+        }
     }
 }
 
@@ -92,7 +128,8 @@ impl fmt::Display for Error {
             Error::Memory => write!(out, "there was no memory"),
             Error::LineTooLong => write!(out, "the line has more than 4,194,304 bytes"),
             Error::UsedUp => write!(out, "the index took 2^61 lines"),
-            Error::Refused(refusal) => write!(out, "{} in line {}", refusal.name, refusal.line),
+            Error::Refused(Refusal { name, line, at: None }) => write!(out, "{name} in line {line}"),
+            Error::Refused(Refusal { name, line, at: Some(at) }) => write!(out, "{name} in line {line}, byte {at}"),
             Error::OtherKey => write!(out, "the document has another value in the field, or none"),
             Error::Reply => write!(out, "the library's reply can't be read"),
             Error::Unknown(code) => write!(out, "code {code} of the library"),

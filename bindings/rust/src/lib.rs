@@ -22,9 +22,9 @@ mod json;
 mod sys;
 mod values;
 
-pub use error::{Error, Refusal};
+pub use error::{Error, NotAll, Refusal};
 pub use index::{Index, Searcher};
-pub use values::{quoted, Answer, Document, Field, Hit, Kind, Order, Search, Value};
+pub use values::{quoted, Answer, Document, Field, Hit, Kind, Order, Search, Stats, Value};
 
 /// One version for the program, the header and the packages.
 pub const VERSION: &str = env!("CARGO_PKG_VERSION");

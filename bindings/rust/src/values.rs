@@ -203,6 +203,18 @@ pub fn quoted(text: &str) -> String {
     format!("\"{}\"", text.replace('\\', r"\\").replace('"', "\\\""))
 }
 
+/// How large an index is.
+#[derive(Clone, Copy, Debug, PartialEq, Eq)]
+#[repr(C)]
+pub struct Stats {
+    /// How many segments it has.
+    pub segments: u64,
+    /// How many documents are in them. Those that aren't live go when their segments are merged.
+    pub documents: u64,
+    /// How many of them are live.
+    pub live: u64,
+}
+
 /// What a search found.
 #[derive(Clone, Debug, PartialEq, Eq)]
 pub struct Answer {

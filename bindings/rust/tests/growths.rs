@@ -1,6 +1,6 @@
 //! Each growth is refused in turn, of the library and of this crate: a call that finds no memory changes nothing, so
 //! each document is there once. The refusals are those of bindings/refuse.c, if LD_PRELOAD names it, as it is built.
-use dilforec::{Document, Error, Field, Index, Order, Search};
+use dilforec::{Document, Error, Field, Index, NotAll, Order, Search};
 use std::ffi::{c_char, c_long, c_void, CStr};
 
 const DOCUMENTS: u64 = 200;
@@ -55,7 +55,35 @@ fn each_document_is_there_once() -> Result<(), Error> {
     let mut searcher = again(refuse, &mut refusals, || index.searcher())?;
     assert_eq!(again(refuse, &mut refusals, || searcher.search(search.clone()))?, answer);
     assert_eq!(index.search("*")?.count, DOCUMENTS);
+    refusals += many_are_there_once(refuse)?;
     assert!(refusals > 1000);
     println!("{refusals} refusals");
     Ok(())
+}
+
+/// Each growth of a block is refused in turn; what was done is told, and the call goes on after it. Tells the refusals.
+fn many_are_there_once(refuse: Refuse) -> Result<u64, Error> {
+    let book = |year| Document::new().with("title", "rust").with("year", year);
+    let books: Vec<Document> = (0..DOCUMENTS).map(book).collect();
+    let mut index = Index::with_schema(&[Field::text("title").default(), Field::u64("year")])?;
+    let (mut stamps, mut refusals, mut growth) = (Vec::with_capacity(books.len()), 0, 1);
+    while stamps.len() < books.len() {
+        refuse(growth, std::ptr::null());
+        let told = index.add_many(&books[stamps.len()..]);
+        refuse(0, std::ptr::null());
+        let done = match told {
+            Ok(done) => done,
+            Err(NotAll { told, stopped }) => {
+                assert_eq!(stopped, Some(Error::Memory));
+                refusals += 1;
+                told.into_iter().collect::<Result<_, _>>()?
+            }
+        };
+        growth = if done.is_empty() { growth + 1 } else { 1 };
+        stamps.extend(done);
+    }
+    assert!(stamps.into_iter().eq(1..=DOCUMENTS));
+    index.commit()?;
+    assert_eq!(index.search("*")?.count, DOCUMENTS);
+    Ok(refusals)
 }

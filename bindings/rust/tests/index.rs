@@ -1,5 +1,5 @@
 //! The crate over the worked scripts, in threads, and at its edges.
-use dilforec::{quoted, Document, Error, Field, Index, Order, Refusal, Search, Searcher, Value};
+use dilforec::{quoted, Document, Error, Field, Index, NotAll, Order, Refusal, Search, Searcher, Stats, Value};
 use std::fs;
 use std::path::Path;
 use std::thread;
@@ -12,6 +12,10 @@ fn book(title: &str) -> Document<'_> {
     Document::new().with("title", title)
 }
 
+fn syntax(line: u64, at: usize) -> Error {
+    Error::Refused(Refusal { name: "Syntax", line, at: Some(at) })
+}
+
 fn commit(index: &mut Index) -> Result<(), Error> {
     index.add(&book("rust"))?;
     index.commit()?;
@@ -19,7 +23,7 @@ fn commit(index: &mut Index) -> Result<(), Error> {
 }
 
 fn refused(name: &'static str, line: u64) -> Error {
-    Error::Refused(Refusal { name, line })
+    Error::Refused(Refusal { name, line, at: None })
 }
 
 #[test]
@@ -146,9 +150,65 @@ fn a_searcher_is_one_commit_and_refuses_as_line_1() -> Result<(), Error> {
     index.execute(r#"{"delete_all":true}"#)?;
     index.commit()?;
     assert_eq!(searcher.search("rust")?.count, 1);
-    assert_eq!(searcher.search("rust OR"), Err(refused("Syntax", 1)));
+    assert_eq!(searcher.search("rust OR"), Err(syntax(1, 5)));
     assert_eq!(index.search("rust")?.count, 0);
     assert_eq!(Index::open()?.searcher()?.search("rust"), Err(refused("NoSchema", 1)));
+    Ok(())
+}
+
+#[test]
+fn a_syntax_tells_its_byte() -> Result<(), Error> {
+    let mut index = Index::with_schema(&fields())?;
+    for (query, at) in [("", None), ("rust", None), ("titel:a", None), ("(rust", Some(5)), ("rust )", Some(5)),
+                        ("яя \"a", Some(7)), ("year:[1 TO", Some(7)), ("title:>\"", Some(7)), ("--a", Some(1))] {
+        let told = match index.search(query) {
+            Err(Error::Refused(refusal)) => refusal.at,
+            _ => None,
+        };
+        assert_eq!(told, at, "{query}");
+    }
+    let line = r#"{"search":{"query":"rust OR"}}"#;
+    assert_eq!(index.execute(line), Err(refused("Syntax", 11)));
+    assert_eq!(index.search("rust OR").map_err(|error| error.to_string()), Err("Syntax in line 12, byte 5".to_owned()));
+    Ok(())
+}
+
+#[test]
+fn many_are_added() -> Result<(), Error> {
+    let mut index = Index::with_schema(&fields())?;
+    let long = "a".repeat(1_048_576);
+    let three = [book("one"), book("two"), book("three")];
+    assert_eq!(index.add_many(&[]), Ok(vec![]));
+    assert_eq!(index.add_many(&three), Ok(vec![1, 2, 3]));
+    let mut some = vec![book("four"), Document::new().with("year", "late"), book("five")];
+    some.push((0..5).fold(Document::new(), |document, _| document.with("title", long.as_str())));
+    some.push(book("six"));
+    let told = vec![Ok(4), Err(refused("WrongKind", 6)), Ok(5), Err(Error::LineTooLong), Ok(6)];
+    assert_eq!(index.add_many(&some), Err(NotAll { told, stopped: None }));
+    let many: Vec<Document> = (0..2500u64).map(|year| book("rust").with("year", year)).collect();
+    assert_eq!(index.add_many(&many), Ok((7..2507).collect()));
+    index.commit()?;
+    assert_eq!((index.search("*")?.count, index.search("rust")?.count, index.search("six")?.count), (2506, 2500, 1));
+    Ok(())
+}
+
+#[test]
+fn stats_count_segments_and_documents() -> Result<(), Error> {
+    let stats = |segments, documents, live| Stats { segments, documents, live };
+    assert_eq!(Index::open()?.stats(), Ok(stats(0, 0, 0)));
+    let mut index = Index::with_schema(&fields())?;
+    assert_eq!(index.stats(), Ok(stats(0, 0, 0)));
+    index.add_many(&(1..=4u64).map(|year| book("rust").with("year", year)).collect::<Vec<_>>()).expect("four books");
+    assert_eq!(index.stats(), Ok(stats(0, 0, 0)));
+    index.commit()?;
+    let mut searcher = index.searcher()?;
+    index.delete("year", 1)?;
+    index.add(&book("rust"))?;
+    index.commit()?;
+    assert_eq!(index.stats(), Ok(stats(2, 5, 4)));
+    assert_eq!(searcher.stats(), Ok(stats(1, 4, 4)));
+    index.execute(r#"{"merge":true}"#)?;
+    assert_eq!(index.stats(), Ok(stats(1, 4, 4)));
     Ok(())
 }
 

@@ -16,7 +16,7 @@ from dask.sizeof import sizeof
 from dilforec.cluster._sources import Source
 from dilforec.index import Index
 from dilforec.library import MEMORY, fault
-from dilforec.values import Field
+from dilforec.values import Field, Stats
 
 # Documents of a commit: as many as one segment takes. A source's file of script lines has its own commits.
 COMMIT = 65_536
@@ -184,12 +184,22 @@ def tell(partition: Partition) -> Told:
 
 def ask(partition: Partition, lines: Sequence[bytes], names: Optional[bytes]) -> tuple[bytes, list[bytes]]:
     """The task that searches a partition: the digest of its lines, and a reply to each search."""
+    held = _made(partition)
+    with held.index.searcher() as searcher:
+        return held.told.digest, searcher._channel.ask_each(lines, names)
+
+
+def measure(partition: Partition) -> tuple[bytes, Stats]:
+    """The task that tells how large a partition is, beside the digest of its lines."""
+    held = _made(partition)
+    return held.told.digest, held.index.stats()
+
+
+def _made(partition: Partition) -> Held:
+    """The index of a partition that was made before, maybe on another worker."""
     try:
-        held = partition.held()
+        return partition.held()
     except MemoryError:
         raise
     except Exception as error:
-        # It was made before, on another worker.
         raise SourceChanged(partition.source.name) from error
-    with held.index.searcher() as searcher:
-        return held.told.digest, searcher._channel.ask_each(lines, names)

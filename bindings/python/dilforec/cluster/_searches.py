@@ -4,14 +4,15 @@
 from __future__ import annotations
 
 import json
-from collections.abc import Mapping, Sequence
+from collections.abc import Callable, Mapping, Sequence
 from typing import Any, NamedTuple, Optional
 
 import distributed
 
 from dilforec import joins
-from dilforec.cluster._partitions import SourceChanged, Told, ask
+from dilforec.cluster._partitions import SourceChanged, Told, ask, measure
 from dilforec.library import Closed
+from dilforec.values import Stats
 
 
 class Part(NamedTuple):
@@ -44,32 +45,35 @@ class Joined:
 
     def ask_each(self, lines: Sequence[bytes], names: Optional[bytes]) -> list[bytes]:
         """The joined replies to some searches; `names`, a JSON list, says which fields the first one's hits have."""
+        told = self._told(ask, lines=lines, names=names)
+        marks = [{"source": name} for name in told]
+        replies = list(told.values())
+        return [_joined(line, [each[place] for each in replies], marks) for place, line in enumerate(lines)]
+
+    def stats(self) -> Stats:
+        """How large the partitions are together."""
+        return Stats(*map(sum, zip(*self._told(measure).values())))
+
+    def _told(self, task: Callable[..., tuple[bytes, Any]], **given: Any) -> dict[str, Any]:
+        """What a task tells of each partition, by its source. All of it is of the lines that the sources had at first."""
         if not self.is_open:
             raise Closed("closed")
         parts = dict(self.parts)
-        told = self._told(list(parts), list(parts.values()), lines, names)
-        marks = [{"source": name} for name in parts]
-        return [_joined(line, [replies[place] for replies in told], marks) for place, line in enumerate(lines)]
-
-    def _told(
-        self, sources: Sequence[str], parts: Sequence[Part], lines: Sequence[bytes], names: Optional[bytes],
-    ) -> list[list[bytes]]:
-        """The replies of each partition. All of them are of the lines that their sources had at first."""
         if not parts:
             raise ValueError("the cluster has no source")
         # A search goes before partitions that wait to be made.
-        futures = [part.future for part in parts]
-        asked = self.client.map(ask, futures, lines=lines, names=names, pure=False, priority=1)
+        futures = [part.future for part in parts.values()]
+        asked = self.client.map(task, futures, **given, pure=False, priority=1)
         try:
             told = self.client.gather(asked)
         except Exception:
-            for source, future in zip(sources, futures):
+            for source, future in zip(parts, futures):
                 _raise_change(source, future)
             raise
-        for source, part, (digest, _) in zip(sources, parts, told):
+        for (source, part), (digest, _) in zip(parts.items(), told):
             if digest != part.told.digest:
                 raise SourceChanged(source)
-        return [replies for _, replies in told]
+        return {source: each for source, (_, each) in zip(parts, told)}
 
 
 def _raise_change(source: str, future: Any) -> None:

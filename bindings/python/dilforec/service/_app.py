@@ -5,7 +5,7 @@ import logging
 import re
 from collections.abc import Callable, Iterable
 from http import HTTPStatus
-from typing import TYPE_CHECKING, Any, Optional
+from typing import TYPE_CHECKING, Any
 
 from dilforec.refusals import Refused, Syntax
 from dilforec.service._errors import Busy, NoSuchDocument, TransactionRefused, Unavailable
@@ -108,9 +108,8 @@ class Application:
             with self._metrics.timed("searches"), self._store.snapshot() as snapshot:
                 found = snapshot.search(query, groups=groups, top=top, fields=fields)
         except Syntax as error:
-            # The package tells it in characters, if it can.
-            read: Optional[int] = getattr(error, "at", None)
-            raise bad("Syntax", str(error), None if read is None else len(query[:read].encode())) from None
+            # The package tells it in characters.
+            raise bad("Syntax", str(error), None if error.at is None else len(query[:error.at].encode())) from None
         return answer({
             "count": found.count,
             "groups": {field: list(groups.items()) for field, groups in found.groups.items()},
@@ -137,17 +136,22 @@ class Application:
         request.parameters()
         store = self._store
         with store.snapshot() as snapshot:
+            stats = snapshot.stats()
             return answer({
-                "documents": len(snapshot), "commit": snapshot.commit, "writable": store.writable,
-                "journal_bytes": store.journal_bytes, "resident_bytes": resident_bytes(),
+                "documents": stats.live, "segments": stats.segments, "commit": snapshot.commit,
+                "writable": store.writable, "journal_bytes": store.journal_bytes, "resident_bytes": resident_bytes(),
                 "schema": [as_json(field) for field in store.fields],
             })
 
     def _told_metrics(self, request: Request) -> Response:
         request.parameters()
         store = self._store
+        with store.snapshot() as snapshot:
+            stats = snapshot.stats()
         text = self._metrics.text({
-            "documents": ("Documents of the last commit.", len(store)),
+            "documents": ("Documents of the last commit.", stats.live),
+            "deleted_documents": ("Documents that were deleted, and aren't merged away yet.", stats.documents - stats.live),
+            "segments": ("Segments of the last commit.", stats.segments),
             "commits": ("The number of the last commit.", store.commits),
             "journal_bytes": ("The size of the journal.", store.journal_bytes),
             "resident_bytes": ("The memory of the process.", resident_bytes()),

@@ -6,7 +6,8 @@ from dataclasses import dataclass
 from typing import Any, NamedTuple, Optional
 
 from dilforec.index import Searcher
-from dilforec.values import Groups, Top
+from dilforec.values import Groups, Stats, Top
+
 
 class Hit(NamedTuple):
     """A document that was found: its number, the value that it was ordered by, and its fields that have a value."""
@@ -78,6 +79,10 @@ class Snapshot:
             found.count, dict(found.groups),
             tuple(_hit(hit.value, hit.document, fields) for hit in found.hits), self.commit,
         )
+
+    def stats(self) -> Stats:
+        """How many segments there are, how many documents are in them, and how many of these are live."""
+        return self._searcher.stats()
 
     def get(self, id: int) -> "Optional[dict[str, Any]]":
         """The document of a number, its `id` in it; None if there is none."""
