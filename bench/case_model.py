@@ -4,6 +4,8 @@ import os
 import re
 
 HERE = os.path.join(os.path.dirname(os.path.abspath(__file__)), "..", "crates", "cases_segments", "data")
+# Where the cases are written.
+folder = HERE
 GREATEST = 2**64 - 1
 
 
@@ -22,9 +24,8 @@ class Subject:
         self.lines.append(line)
 
     def write(self):
-        with open(os.path.join(HERE, self.name + ".jsonl"), "w") as out:
+        with open(os.path.join(folder, self.name + ".jsonl"), "w") as out:
             out.write("".join(line + "\n" for line in self.lines))
-        print(self.name, len(self.lines))
 
 
 def tokens(value):

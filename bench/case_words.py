@@ -48,6 +48,11 @@ QUERIES = [
     ("bits alone", "close", CLOSE),
     ("bits within bits", "+(half third) +close -(+half +third)",
      lambda d: (HALF(d) or THIRD(d)) and CLOSE(d) and not (HALF(d) and THIRD(d))),
+    ("bits in parentheses", "+(half) +(third)", lambda d: HALF(d) and THIRD(d)),
+    ("bits in parentheses without others", "(half) -(third)", lambda d: HALF(d) and not THIRD(d)),
+    ("bits in parentheses or others", "(half) (third)", lambda d: HALF(d) or THIRD(d)),
+    ("bits without a thin word in parentheses and others", "(half -thin) -(third)", lambda d: HALF(d) and not THIN(d) and not THIRD(d)),
+    ("a thin word in parentheses and bits of two", "+(thin) +half +third", lambda d: THIN(d) and HALF(d) and THIRD(d)),
     ("every document", "*", lambda d: True),
 ]
 

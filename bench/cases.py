@@ -1,8 +1,14 @@
 """Writes the cases of crates/cases_segments. What a case says comes from worked examples and from the model in
-bench/case_model.py, which shares nothing with the index."""
+bench/case_model.py, which shares nothing with the index.
+
+With --check it writes them elsewhere, compares them with those that are there, and says 'N passed, M failed'."""
+import filecmp
 import json
 import os
+import sys
+import tempfile
 
+import case_model
 from case_model import GREATEST, HERE, Subject, answer, error, named, tokens
 from case_queries import LONG, t, write_cursors, write_phrases, write_queries
 from case_random import write_cuttings, write_generated, write_joins, write_walks
@@ -392,6 +398,13 @@ def write_collectors():
     for docs, blocks in [(128, 1), (129, 2), (1000, 8)]:
         s.case(f"{docs} common titles are made", "make", docs, repeated=[{"times": docs, "of": [{"title": "common"}]}])
         s.case(f"Each block of {docs} documents is opened once", "answer_openings", blocks, query="title:common")
+    s.case("1000 common titles with prices from 0 on are made", "make", 1000,
+           documents=[{"title": "common", "price": n} for n in range(1000)])
+    for sentence, query, openings in [
+            ("A range of three prices opens the list of each", "price:[5 TO 7]", 3),
+            ("A word that all have is sought in its first block alone", "+title:common +price:[5 TO 7]", 4),
+            ("A range of four prices of 1000 is read from the column", "price:[5 TO 8]", 0)]:
+        s.case(sentence, "answer_openings", openings, query=query)
     s.write()
 
 
@@ -441,6 +454,24 @@ def write_merges():
             ("Two levels are two merges, each with its greatest first", two,
              [[2, 0, 4, 6, 8, 10, 12, 14], [1, 3, 5, 7, 9, 11, 13, 15]])]:
         s.case(sentence, "plan", plan, sizes=sizes)
+    usual, small = (10_000, 8, 1_000_000, 100), (1, 2, 1_000_000, 50)
+    for sentence, policy, docs, live, plan in [
+            ("By the usual numbers dead documents are no reason", usual, [100] * 7, [1] * 7, []),
+            ("By the usual numbers eight are a level, whatever is dead", usual, [100] * 8, [1] * 8, whole),
+            ("With a floor of 1 and two members 3 joins 5, and 1 stands alone", small, [1, 5, 3], [1, 5, 3], [[1, 2]]),
+            ("With a floor of 5 all three are of one size, and the first comes first", (5, 2, 1_000_000, 50), [1, 5, 3], [1, 5, 3], [[0, 1, 2]]),
+            ("Equal sizes are one level by their places", small, [7, 7, 7], [7, 7, 7], [[0, 1, 2]]),
+            ("One segment is no level, and half of it dead is not too much", small, [10], [5], []),
+            ("With one more dead it is merged by itself", small, [11], [5], [[0]]),
+            ("A segment of dead documents alone is merged by itself", small, [10, 4], [10, 0], [[1]]),
+            ("Two that are all dead count as the floor, and are one level", small, [10, 4], [0, 0], [[0, 1]]),
+            ("A level comes first, and none of it once more by itself", small, [10, 10, 100], [4, 4, 40], [[0, 1], [2]]),
+            ("A segment over the most is in no level, and merged for its dead", (1, 2, 20, 50), [20, 20, 60, 60], [20, 20, 21, 40],
+             [[0, 1], [2]]),
+            ("At 100 per cent none is merged for its dead", (1, 2, 1_000_000, 100), [10], [0], []),
+            ("No segment is no merge by any numbers", small, [], [], [])]:
+        floor, members, most, dead = policy
+        s.case(sentence, "plan_by", plan, docs=docs, live=live, floor=floor, members=members, most=most, dead=dead)
     s.write()
 
 
@@ -529,10 +560,28 @@ def write_wrong():
     s.write()
 
 
+WRITERS = [write_tokens, write_schemas, write_documents, write_scan, write_queries, write_segments,
+           write_cursors, write_phrases, write_collectors,
+           write_merges, write_packing, write_generated, write_walks, write_cuttings, write_joins, write_lists,
+           write_words, write_wrong]
+
+
+def check():
+    """Whether the stored cases are those that are written now."""
+    with tempfile.TemporaryDirectory() as case_model.folder:
+        for write in WRITERS:
+            write()
+        names = sorted({*os.listdir(case_model.folder), *os.listdir(HERE)})
+        same, other, missing = filecmp.cmpfiles(case_model.folder, HERE, names, shallow=False)
+    for name in other + missing:
+        print(f"{name} isn't what bench/cases.py writes.")
+    print(f"{len(same)} passed, {len(other + missing)} failed")
+    return 1 if other + missing else 0
+
+
 if __name__ == "__main__":
+    if sys.argv[1:] == ["--check"]:
+        sys.exit(check())
     os.makedirs(HERE, exist_ok=True)
-    for write in [write_tokens, write_schemas, write_documents, write_scan, write_queries, write_segments,
-                  write_cursors, write_phrases, write_collectors,
-                  write_merges, write_packing, write_generated, write_walks, write_cuttings, write_joins, write_lists,
-                  write_words, write_wrong]:
+    for write in WRITERS:
         write()

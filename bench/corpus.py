@@ -8,7 +8,7 @@ from __future__ import annotations
 import itertools
 import json
 import random
-from typing import Iterable, Iterator, NamedTuple
+from typing import Any, Iterable, Iterator, NamedTuple
 
 WORDS_EACH = 30
 VOCABULARY = 50_000
@@ -22,7 +22,7 @@ DESCRIPTION = (
     f"from {LEAST_TEMP} to {LEAST_TEMP + TEMPS - 1}. All are drawn independently."
 )
 
-SCHEMA = {"schema": [
+SCHEMA: dict[str, list[dict[str, Any]]] = {"schema": [
     {"name": "body", "kind": "text", "default": True}, {"name": "tag", "kind": "keyword"},
     {"name": "price", "kind": "u64"}, {"name": "temp", "kind": "i64"},
 ]}
@@ -59,11 +59,11 @@ def words(chance: random.Random, count: int) -> list[str]:
     return chance.choices(WORDS, cum_weights=WEIGHTS, k=count)
 
 
-def documents(count: int, seed: int = 1) -> Iterator[Document]:
+def documents(count: int, seed: int = 1, words_each: int = WORDS_EACH) -> Iterator[Document]:
     """The first `count` documents."""
     chance = random.Random(seed)
     for _ in range(count):
-        body = " ".join(words(chance, WORDS_EACH))
+        body = " ".join(words(chance, words_each))
         yield Document(body, tag(chance.randrange(TAGS)), chance.randrange(PRICES), chance.randrange(LEAST_TEMP, LEAST_TEMP + TEMPS))
 
 

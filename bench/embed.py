@@ -27,7 +27,6 @@ import tempfile
 import time
 
 ROOT = pathlib.Path(__file__).resolve().parent.parent
-PROGRAM = [str(ROOT / "crates/fts/out/fts"), "run", "--merge", "policy"]
 COUNTS, PACKAGE = sys.argv[1:2] == ["instructions"], sys.argv[1:2] == ["package"]
 GIVEN = [int(word) for word in sys.argv[1 + (COUNTS or PACKAGE):]]
 USUAL = [20_000, 0] if PACKAGE else [3_000, 500] if COUNTS else [100_000, 1_000]
@@ -37,6 +36,9 @@ sys.path[:0] = [str(ROOT / "bindings/python")]
 
 import link  # noqa: E402
 import corpus  # noqa: E402
+import programs  # noqa: E402
+
+PROGRAM = [str(programs.PROGRAM), "run", "--merge", "policy"]
 
 CHANCE = random.Random(1)
 

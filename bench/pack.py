@@ -1,5 +1,5 @@
 #!/usr/bin/env python3
-"""Times the layer of packed numbers (`fts_pack`, `fts_column`, `fts_bits`) beside the same loops in C++ over the same numbers.
+"""Times the layer of packed numbers (`fts_pack`) beside the same loops in C++ over the same numbers.
 
     python3 bench/pack.py
 
@@ -30,7 +30,7 @@ def measure() -> list[dict[str, Any]]:
         run("g++", "-O3", "-march=x86-64-v2", "-std=c++17", "-o", f"{folder}/pack", ROOT / "bench/pack.cpp")
         theirs = told(run(f"{folder}/pack").splitlines())
     rows = []
-    for (loop, width), (ours, total) in told(outputs("pack", "fts_pack fts_column fts_bits fts_model", [], words=["go"])).items():
+    for (loop, width), (ours, total) in told(outputs("pack", "fts_pack fts_model", [], words=["go"])).items():
         kernel, plain, same = theirs[loop, width]
         if total != same:
             raise RuntimeError(f"{loop} {width} read other numbers: {total}, {same}")

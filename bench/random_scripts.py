@@ -99,6 +99,23 @@ def script(seed):
     return "\n".join(lines).encode()
 
 
+def updates(seed):
+    """A script of many small commits of updates by a keyword, so that segments of several sizes and with many dead documents are merged."""
+    chance = random.Random(f"updates {seed}")
+    keys, each = chance.choice([3, 20, 60]), chance.choice([1, 1, 3, 10])
+    lines = [json.dumps(SCHEMA)]
+    for _ in range(chance.randint(20, 120)):
+        for _ in range(chance.randint(1, each)):
+            key = f"k{chance.randrange(keys)}"
+            lines += [json.dumps({"delete": {"tag": key}}), json.dumps({"add": {**document(chance), "tag": key}})]
+        lines.append(json.dumps(chance.choices([{"commit": True}, {"rollback": True}, {"delete_all": True}, {"merge": True}], [90, 5, 1, 4])[0]))
+        if chance.random() < 0.2:
+            lines.append(json.dumps({"search": {"query": f"tag:k{chance.randrange(keys)}", "groups": "price"}}))
+    lines.append(json.dumps({"commit": True}))
+    lines += [json.dumps(search(chance)) for _ in range(8)]
+    return "\n".join(lines).encode()
+
+
 def strange(chance):
     """A character of any class: letters of many scripts, numbers, marks, signs, spaces, controls, and beyond the first plane."""
     first, last = chance.choice(RANGES)

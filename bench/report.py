@@ -1,11 +1,11 @@
 #!/usr/bin/env python3
 """Writes docs/MEASURED.md whole from what was measured.
 
-    python3 bench/report.py [--only PART[,PART..]] [--written]
+    python3 bench/report.py [--only PART[,PART..]] [--note TEXT] [--written]
 
 Without arguments it measures every part anew; with --only, those parts, and the others keep what they were measured with, and their own commit.
 With --written nothing is measured: the page is written again from what bench/measured holds. A part's raw results are kept there, in PART.json,
-with the commit, the date, the machine, the kit and the load when its measuring began.
+with the commit, the date, the machine, the kit and the load when its measuring began, and with what --note says of how it was measured.
 
 A part is a line of `PARTS`. It names a module of bench/ that has `measure()`, which gives raw results that JSON can hold, and `shown(raw)`, which
 gives them as Markdown; or, by `printed`, a program of bench/ whose output is shown as it is.
@@ -53,7 +53,7 @@ def module(name: str, title: str, of: str, picture: str = "", asks_program: bool
                 picture, (lambda raw, path: importlib.import_module(of).draw(raw, path)) if picture else None, asks_program)
 
 
-def printed(name: str, title: str, *command: str) -> Part:
+def printed(name: str, title: str, *command: str, asks_program: bool = True) -> Part:
     """A part whose raw result is what a program prints, a table in Markdown or lines of text."""
     def measure() -> Any:
         return run(sys.executable, ROOT / command[0], *command[1:])
@@ -62,7 +62,7 @@ def printed(name: str, title: str, *command: str) -> Part:
         text = str(raw).strip()
         return text if text.startswith("|") else f"```\n{text}\n```"
 
-    return Part(name, title, measure, shown)
+    return Part(name, title, measure, shown, asks_program=asks_program)
 
 
 LOOPS = ("fts", "plain arrays", "packed lists", "CRoaring")
@@ -72,13 +72,15 @@ PARTS = (
     module("instructions", "Instructions of a search", "floor_instructions"),
     module("scripts", "Scripts, by the clock", "script"),
     module("commits", "Commits of one add, and merges", "commits"),
+    module("updates", "Updates by a key", "updates", picture="updates.svg"),
     module("segments", "The building of a segment, and its bytes", "segment", asks_program=False),
     module("collecting", "Searches without a script", "search", asks_program=False),
     module("workers", "An index of several segments", "index", asks_program=False),
     module("packing", "Packed numbers", "pack", asks_program=False),
     printed("embedding", "Inside another program", "bench/embed.py"),
+    printed("package", "Calls of the Python package", "bench/embed.py", "package", asks_program=False),
     module("scale", "Partitions", "scale", asks_program=False),
-    printed("service", "The service", "bench/service.py"),
+    printed("service", "The service", "bench/service.py", asks_program=False),
     printed("hostile", "Scripts that were made to be slow", "bench/hostile.py"),
 )
 
@@ -110,12 +112,12 @@ def program() -> str:
     return begins + (" (named in $FTS)" if "FTS" in os.environ else "")
 
 
-def measured(part: Part) -> dict[str, Any]:
+def measured(part: Part, note: str) -> dict[str, Any]:
     """What is kept of a part: the conditions, as they were before it was measured, and its raw results."""
     now = datetime.datetime.now(datetime.timezone.utc)
     conditions: dict[str, Any] = {
         "commit": commit(), "date": f"{now:%Y-%m-%d %H:%M} UTC", "machine": machine(), "kit": kit(),
-        "program": program() if part.asks_program else None, "load": [round(load, 2) for load in os.getloadavg()],
+        "program": program() if part.asks_program else None, "load": [round(load, 2) for load in os.getloadavg()], "note": note,
     }
     began = time.monotonic()
     raw = part.measure()
@@ -126,10 +128,10 @@ def place(part: Part) -> pathlib.Path:
     return KEPT / f"{part.name}.json"
 
 
-def kept_anew(part: Part) -> bool:
+def kept_anew(part: Part, note: str) -> bool:
     """Measures a part and keeps its results; if that fails, says so, and what was kept stays."""
     try:
-        told = json.dumps(measured(part), indent=1)
+        told = json.dumps(measured(part, note), indent=1)
     except Exception as error:
         print(f"{part.name}: {error}", file=sys.stderr)
         return False
@@ -151,8 +153,9 @@ def section(part: Part) -> str:
     conditions = (
         f"Commit {told['commit']}, {told['date']}, in {told['seconds']} s, on {told['machine']}; kit {told['kit']};{program} load when it began "
         f"{', '.join(f'{load:.1f}' for load in told['load'])}.")
+    note = [told["note"]] if told.get("note") else []
     picture = [f"![{part.title}]({part.picture})"] if part.picture else []
-    return "\n\n".join([f"## {part.title}", f"    python3 bench/report.py --only {part.name}", conditions, part.shown(told["raw"]), *picture])
+    return "\n\n".join([f"## {part.title}", f"    python3 bench/report.py --only {part.name}", conditions, *note, part.shown(told["raw"]), *picture])
 
 
 INTRODUCTION = f"""# What was measured
@@ -199,6 +202,7 @@ def main() -> None:
     names = [part.name for part in PARTS]
     arguments = argparse.ArgumentParser(description="Writes docs/MEASURED.md from what was measured.")
     arguments.add_argument("--only", help="parts with commas between: " + ", ".join(names))
+    arguments.add_argument("--note", default="", help="a sentence on how these parts were measured")
     arguments.add_argument("--written", action="store_true", help="measure nothing, write the page again")
     given = arguments.parse_args()
     chosen = [] if given.written else given.only.split(",") if given.only else names
@@ -208,7 +212,7 @@ def main() -> None:
     if not PROGRAM.exists() and any(part.asks_program for part in PARTS if part.name in chosen):
         arguments.error(f"{PROGRAM} isn't there: build the program first (README.md), or name it in $FTS")
     KEPT.mkdir(exist_ok=True)
-    failed = [part.name for part in PARTS if part.name in chosen and not kept_anew(part)]
+    failed = [part.name for part in PARTS if part.name in chosen and not kept_anew(part, given.note)]
     draw()
     PAGE.write_text(page())
     sys.exit(f"not measured: {', '.join(failed)}" if failed else 0)

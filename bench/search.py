@@ -12,7 +12,7 @@ from typing import Any
 from crates import outputs, searched
 from floor_table import number, table
 
-CRATES = "fts_collect fts_query fts_segment fts_bits fts_model serde_json anyhow"
+CRATES = "fts_collect fts_query fts_segment fts_pack fts_model serde_json anyhow"
 KINDS = ("term", "`+a +b`", "`a b`", "phrase", "range", "groups", "top 10")
 RUNS = 3
 

@@ -3,9 +3,9 @@
 
     python3 bench/ways.py [SCRIPTS]
 
-1,000 random scripts, or so many, and those of examples/, each 36 ways: segments of runs of 1, 3 and 65,536 adds and dealt over
-1, 2 and 7, merged never and by the policy, with 1, 3 and 4 workers. Build both programs first: fts (README.md), and fts_list, which
-runs a script over a plain list of documents, by `rt run` in crates/fts_list.
+1,000 random scripts, or so many, a tenth as many of updates by a keyword, and those of examples/, each 36 ways: segments of runs of 1, 3
+and 65,536 adds and dealt over 1, 2 and 7, merged never and by the policy, with 1, 3 and 4 workers. Build both programs first: fts
+(README.md), and fts_list, which runs a script over a plain list of documents, by `rt run` in crates/fts_list.
 """
 import collections
 import concurrent.futures
@@ -45,6 +45,7 @@ def compare(name, text):
 
 def main():
     scripts = [(f"script {seed}", random_scripts.script(seed)) for seed in range(SCRIPTS)]
+    scripts += [(f"updates {seed}", random_scripts.updates(seed)) for seed in range(-(-SCRIPTS // 10))]
     scripts += [(path.name, path.read_bytes()) for path in sorted((ROOT / "examples").glob("*.jsonl")) if ".replies" not in path.name]
     with concurrent.futures.ThreadPoolExecutor(4) as pool:
         told = sum(pool.map(lambda named: compare(*named), scripts), collections.Counter())
