@@ -50,7 +50,8 @@ module _ {V : Type 0} where
   each_push P (x ∷ xs) w each here (suc j) u at = each_push P xs w (λ k v a. each (suc k) v a) here j u at
 
   -- where a view without a share has nothing, and no view has one, there is nothing to add up
-  none_left : (P : V → Type 0) (share f : V → ℕ) (idle : (v : V) → P v → share v ≡ 0 → f v ≡ 0) (views : List V) → Each P views → total share views ≡ 0 → total f views ≡ 0
+  none_left : (P : V → Type 0) (share f : V → ℕ) (idle : (v : V) → P v → share v ≡ 0 → f v ≡ 0) (views : List V) → Each P views → total share views ≡ 0 →
+      total f views ≡ 0
   none_left P share f idle [] each none = refl
   none_left P share f idle (x ∷ xs) each none =
       let here = idle x (each 0 x refl) (omega arith) in
@@ -58,7 +59,8 @@ module _ {V : Type 0} where
       omega arith
 
   -- a view that has all shares has everything
-  pub total-alone : (P : V → Type 0) (share f : V → ℕ) (idle : (v : V) → P v → share v ≡ 0 → f v ≡ 0) (spent : V) (blank : P spent) (shareless : share spent ≡ 0)
+  pub total-alone : (P : V → Type 0) (share f : V → ℕ) (idle : (v : V) → P v → share v ≡ 0 → f v ≡ 0) (spent : V) (blank : P spent)
+      (shareless : share spent ≡ 0)
       (views : List V) (id : ℕ) (v : V) → Each P views → get_elem? views id ≡ some v → total share views ≡ share v → total f views ≡ f v
   total-alone P share f idle spent blank shareless views id v each at all =
       let shares = total-set share views id v spent at in

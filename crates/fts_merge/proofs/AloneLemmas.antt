@@ -1,5 +1,6 @@
 -- Segments that are merged by themselves.
-use Rattle.std.proofs.Common.{◌≡◌, ◌≢◌, ◌+◌, ◌<◌, ◌≤◌, ◌==◌, ◌&&◌, ◌||◌, ℕ, zero, suc, Bool, true, false, cond, not, List, [], ◌∷◌, ◌++◌, None, Some, All, AllPairs, map, filter, length, drop, get_or, slice_get, nat_eq, refl, sym, ap, subst, ◌∙◌, arith}
+use Rattle.std.proofs.Common.{◌≡◌, ◌≢◌, ◌+◌, ◌<◌, ◌≤◌, ◌==◌, ◌&&◌, ◌||◌, ℕ, zero, suc, Bool, true, false, cond, not, List, [], ◌∷◌, ◌++◌, None, Some, All}
+use Rattle.std.proofs.Common.{AllPairs, map, filter, length, drop, get_or, slice_get, nat_eq, refl, sym, ap, subst, ◌∙◌, arith}
 use Rattle.std.specs.List.{enumerate_from, list_any, sum_by}
 use Rattle.std.proofs.lemmas.Bool.Decides.{nat_tests}
 use Rattle.std.proofs.lemmas.Grind.{flat_map-append}
@@ -22,26 +23,32 @@ abbrev pub alone_from : ℕ → List (List ℕ) → ℕ → List SegmentSize →
 alone_from percent found n segments = map (λ s. s.0 ∷ []) (filter (is_alone percent found) (enumerate_from n segments))
 
 pub alone-cons : (percent : ℕ) (found : List (List ℕ)) (n : ℕ) (s : SegmentSize) (ss : List SegmentSize) →
-    alone_from percent found n (s ∷ ss) ≡ cond (is_alone percent found (n, s)) ((n ∷ []) ∷ alone_from percent found (n + 1) ss) (alone_from percent found (n + 1) ss)
+    alone_from percent found n (s ∷ ss) ≡ cond (is_alone percent found (n, s)) ((n ∷ []) ∷ alone_from percent found (n + 1) ss)
+    (alone_from percent found (n + 1) ss)
 alone-cons percent found n s ss =
     let rest = filter (is_alone percent found) (enumerate_from (n + 1) ss) in
     let one : ℕ × SegmentSize → List ℕ = λ s. s.0 ∷ [] in
-    elim (is_alone percent found (n, s)) as (λ b. map one (cond b ((n, s) ∷ rest) rest) ≡ cond b ((n ∷ []) ∷ map one rest) (map one rest)) [ true ↦ refl | false ↦ refl ]
+    elim (is_alone percent found (n, s)) as (λ b. map one (cond b ((n, s) ∷ rest) rest) ≡ cond b ((n ∷ []) ∷ map one rest) (map one rest))
+    [ true ↦ refl | false ↦ refl ]
 
 -- a segment is among them
-pub alone-more : (percent : ℕ) (found done all : List (List ℕ)) (ss : List SegmentSize) (i : ℕ) (s : SegmentSize) → i < length ss → s ≡ get_or ss i s → is_alone percent found (i, s) ≡ true →
+pub alone-more : (percent : ℕ) (found done all : List (List ℕ)) (ss : List SegmentSize) (i : ℕ) (s : SegmentSize) → i < length ss → s ≡ get_or ss i s →
+    is_alone percent found (i, s) ≡ true →
     done ++ alone_from percent found i (drop i ss) ≡ all → (done ++ (i ∷ []) ∷ []) ++ alone_from percent found (i + 1) (drop (i + 1) ss) ≡ all
 alone-more percent found done all ss i s h e is old =
     let rest = alone_from percent found (i + 1) (drop (i + 1) ss) in
     append_assoc done ((i ∷ []) ∷ []) rest
-    ∙ ap (λ cs. done ++ cs) (sym (ap (alone_from percent found i) (dropped ss i s h e) ∙ alone-cons percent found i s (drop (i + 1) ss) ∙ ap (λ b. cond b ((i ∷ []) ∷ rest) rest) is)) ∙ old
+    ∙ ap (λ cs. done ++ cs) (sym (ap (alone_from percent found i) (dropped ss i s h e) ∙ alone-cons percent found i s (drop (i + 1) ss)
+    ∙ ap (λ b. cond b ((i ∷ []) ∷ rest) rest) is)) ∙ old
 
 -- a segment isn't
-pub alone-less : (percent : ℕ) (found done all : List (List ℕ)) (ss : List SegmentSize) (i : ℕ) (s : SegmentSize) → i < length ss → s ≡ get_or ss i s → is_alone percent found (i, s) ≡ false →
+pub alone-less : (percent : ℕ) (found done all : List (List ℕ)) (ss : List SegmentSize) (i : ℕ) (s : SegmentSize) → i < length ss → s ≡ get_or ss i s →
+    is_alone percent found (i, s) ≡ false →
     done ++ alone_from percent found i (drop i ss) ≡ all → done ++ alone_from percent found (i + 1) (drop (i + 1) ss) ≡ all
 alone-less percent found done all ss i s h e is old =
     let rest = alone_from percent found (i + 1) (drop (i + 1) ss) in
-    ap (λ cs. done ++ cs) (sym (ap (alone_from percent found i) (dropped ss i s h e) ∙ alone-cons percent found i s (drop (i + 1) ss) ∙ ap (λ b. cond b ((i ∷ []) ∷ rest) rest) is)) ∙ old
+    ap (λ cs. done ++ cs) (sym (ap (alone_from percent found i) (dropped ss i s h e) ∙ alone-cons percent found i s (drop (i + 1) ss)
+    ∙ ap (λ b. cond b ((i ∷ []) ∷ rest) rest) is)) ∙ old
 
 -- what is looked for in lists
 pub named_in : {X : Type 0} (items : X → List ℕ) (p : List ℕ → Bool) (xs : List X) → list_any (λ x. p (items x)) xs ≡ list_any p (map items xs)
@@ -67,7 +74,8 @@ and_not true true h = absurd (let no : false ≡ true = h in cc)
 and_not false true h = absurd (let no : false ≡ true = h in cc)
 
 -- their indexes are among those of the segments
-alone_within : (percent : ℕ) (found : List (List ℕ)) (n end : ℕ) (ss : List SegmentSize) → n + length ss ≤ end → All (λ i. i < end) (named (alone_from percent found n ss))
+alone_within : (percent : ℕ) (found : List (List ℕ)) (n end : ℕ) (ss : List SegmentSize) → n + length ss ≤ end →
+    All (λ i. i < end) (named (alone_from percent found n ss))
 alone_within percent found n end [] e = All-nil (λ (i : ℕ). i < end)
 alone_within percent found n end (s ∷ ss) e =
     let P : ℕ → Type 0 = λ i. i < end in
@@ -96,7 +104,8 @@ abbrev room_left : Bool → ℕ
 room_left taken = cond taken 0 1
 
 -- an index is there once at most, and not if another candidate has it
-alone_sum : (percent : ℕ) (found : List (List ℕ)) (i n : ℕ) (ss : List SegmentSize) → sum_by (once i) (named (alone_from percent found n ss)) ≤ room_left (is_named found i)
+alone_sum : (percent : ℕ) (found : List (List ℕ)) (i n : ℕ) (ss : List SegmentSize) → sum_by (once i) (named (alone_from percent found n ss))
+    ≤ room_left (is_named found i)
 alone_sum percent found i n [] = omega arith
 alone_sum percent found i n (s ∷ ss) =
     let rest = alone_from percent found (n + 1) ss in
@@ -156,7 +165,8 @@ candidates_by-within p ss =
     (All-append P (named found) (named more) first (alone_within p.dead found 0 (length ss) ss (omega arith)))
 
 -- a segment of too many dead documents that no other candidate has is among them
-alone_has : (percent : ℕ) (found : List (List ℕ)) (n k : ℕ) (s : SegmentSize) (ss : List SegmentSize) → slice_get ss k ≡ Some s → is_alone percent found (n + k, s) ≡ true →
+alone_has : (percent : ℕ) (found : List (List ℕ)) (n k : ℕ) (s : SegmentSize) (ss : List SegmentSize) → slice_get ss k ≡ Some s →
+    is_alone percent found (n + k, s) ≡ true →
     is_named (alone_from percent found n ss) (n + k) ≡ true
 alone_has percent found n k s [] e is = absurd (let no : None ≡ Some s = e in cc)
 alone_has percent found n zero s (t ∷ ss) e is =
@@ -171,14 +181,16 @@ alone_has percent found n zero s (t ∷ ss) e is =
 alone_has percent found n (suc k) s (t ∷ ss) e is =
     let rest = alone_from percent found (n + 1) ss in
     let at : (n + 1) + k ≡ n + suc k = omega arith in
-    let behind : is_named rest (n + suc k) ≡ true = ap (is_named rest) (sym at) ∙ alone_has percent found (n + 1) k s ss e (ap (λ m. is_alone percent found (m, s)) at ∙ is) in
+    let behind : is_named rest (n + suc k) ≡ true =
+    ap (is_named rest) (sym at) ∙ alone_has percent found (n + 1) k s ss e (ap (λ m. is_alone percent found (m, s)) at ∙ is) in
     ap (λ found. is_named found (n + suc k)) (alone-cons percent found n t ss)
     ∙ (elim (is_alone percent found (n, t)) as (λ b. is_named (cond b ((n ∷ []) ∷ rest) rest) (n + suc k) ≡ true) [
       | true ↦ or_second (nat_eq n (n + suc k) || false) (is_named rest (n + suc k)) behind
       | false ↦ behind
     ])
 
-pub candidates_by-dead : (p : MergePolicy) (ss : List SegmentSize) (index : ℕ) (s : SegmentSize) → slice_get ss index ≡ Some s → is_mostly_dead p.dead s ≡ true → is_named (candidates_by p ss) index ≡ true
+pub candidates_by-dead : (p : MergePolicy) (ss : List SegmentSize) (index : ℕ) (s : SegmentSize) → slice_get ss index ≡ Some s →
+    is_mostly_dead p.dead s ≡ true → is_named (candidates_by p ss) index ≡ true
 candidates_by-dead p ss index s e dead =
     let found = together p (live_sizes ss) in
     let more = alone p.dead found ss in

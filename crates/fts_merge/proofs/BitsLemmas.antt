@@ -16,7 +16,8 @@ pub and_moved : (a b c : Bool) → ((a && b) && c) ≡ (a && (b && c))
 and_moved true b c = refl
 and_moved false b c = refl
 
-pub bits_where-again : {X : Type 0} (p q : X → Bool) (xs : List X) (bits : List Bool) → bits_where q xs (bits_where p xs bits) ≡ bits_where (λ x. p x && q x) xs bits
+pub bits_where-again : {X : Type 0} (p q : X → Bool) (xs : List X) (bits : List Bool) →
+    bits_where q xs (bits_where p xs bits) ≡ bits_where (λ x. p x && q x) xs bits
 bits_where-again p q [] bits = refl
 bits_where-again p q (x ∷ xs) [] = refl
 bits_where-again p q (x ∷ xs) (bit ∷ bits) = ap₂ (λ b bs. b ∷ bs) (and_moved bit (p x) (q x)) (bits_where-again p q xs bits)
@@ -28,11 +29,13 @@ bits_where-same p q same (x ∷ xs) [] = refl
 bits_where-same p q same (x ∷ xs) (bit ∷ bits) = ap₂ (λ b bs. (bit && b) ∷ bs) (same x) (bits_where-same p q same xs bits)
 
 -- a test that all pass leaves each bit
-pub bits_where-all : {X : Type 0} (p : X → Bool) → ((x : X) → p x ≡ true) → (xs : List X) (bits : List Bool) → length bits ≡ length xs → bits_where p xs bits ≡ bits
+pub bits_where-all : {X : Type 0} (p : X → Bool) → ((x : X) → p x ≡ true) → (xs : List X) (bits : List Bool) → length bits ≡ length xs →
+    bits_where p xs bits ≡ bits
 bits_where-all p all [] [] e = refl
 bits_where-all p all [] (bit ∷ bits) e = absurd (omega (arith, e))
 bits_where-all p all (x ∷ xs) [] e = absurd (omega (arith, e))
-bits_where-all p all (x ∷ xs) (bit ∷ bits) e = ap₂ (λ b bs. b ∷ bs) (ap (λ b. bit && b) (all x) ∙ and-true bit) (bits_where-all p all xs bits (omega (arith, e)))
+bits_where-all p all (x ∷ xs) (bit ∷ bits) e =
+    ap₂ (λ b bs. b ∷ bs) (ap (λ b. bit && b) (all x) ∙ and-true bit) (bits_where-all p all xs bits (omega (arith, e)))
 
 pub length-bits_where : {X : Type 0} (p : X → Bool) (xs : List X) (bits : List Bool) → length bits ≡ length xs → length (bits_where p xs bits) ≡ length xs
 length-bits_where p [] bits e = refl
@@ -47,7 +50,8 @@ pub not_or : (a b : Bool) → not (a || b) ≡ (not a && not b)
 not_or true b = refl
 not_or false b = refl
 
-survives-append : (schema : List Field) (ops more : List (Stamped Op)) (d : Stamped DocumentValue) → survives schema (ops ++ more) d ≡ (survives schema ops d && survives schema more d)
+survives-append : (schema : List Field) (ops more : List (Stamped Op)) (d : Stamped DocumentValue) →
+    survives schema (ops ++ more) d ≡ (survives schema ops d && survives schema more d)
 survives-append schema ops more d =
     ap not (list_any-append (λ op. strikes_later schema op d) ops more)
     ∙ not_or (list_any (λ op. strikes_later schema op d) ops) (list_any (λ op. strikes_later schema op d) more)
@@ -63,7 +67,8 @@ kept_and_left : {X : Type 0} (b c : Bool) (x : X) (xs : List X) → cond (b && c
 kept_and_left true c x xs = refl
 kept_and_left false c x xs = refl
 
-chosen_later : {X : Type 0} (b : Bool) (p : X → Bool) (x : X) (xs : List X) → cond b (cond (p x) (x ∷ filter p xs) (filter p xs)) (filter p xs) ≡ filter p (cond b (x ∷ xs) xs)
+chosen_later : {X : Type 0} (b : Bool) (p : X → Bool) (x : X) (xs : List X) → cond b (cond (p x) (x ∷ filter p xs) (filter p xs)) (filter p xs)
+    ≡ filter p (cond b (x ∷ xs) xs)
 chosen_later true p x xs = refl
 chosen_later false p x xs = refl
 

@@ -1,5 +1,6 @@
 -- Each size is in one level.
-use Rattle.std.proofs.Common.{◌≡◌, ◌≢◌, ◌+◌, ◌<◌, ◌≤◌, ◌==◌, ℕ, Bool, true, false, cond, nat_le, List, [], ◌∷◌, ◌++◌, map, filter, length, refl, sym, ap, ◌∙◌, subst, arith, All, AllPairs}
+use Rattle.std.proofs.Common.{◌≡◌, ◌≢◌, ◌+◌, ◌<◌, ◌≤◌, ◌==◌, ℕ, Bool, true, false, cond, nat_le, List, [], ◌∷◌, ◌++◌, map, filter, length, refl, sym, ap, ◌∙◌}
+use Rattle.std.proofs.Common.{subst, arith, All, AllPairs}
 use Rattle.std.specs.List.{flat_map, sum_by}
 use Rattle.std.proofs.lemmas.Bool.{leb-true}
 use Rattle.std.proofs.lemmas.Bool.Decides.{nat_tests}
@@ -72,10 +73,12 @@ considered_once p i n (size ∷ sizes) =
         | true ↦ λ is.
             let same : n ≡ i = grind (arith, nat_tests) in
             let one : once_of i (as_counted p.floor (n, size)) ≡ 1 = ap (λ b. cond b 1 0) is in
-            let none = absent i others (All-weaker (λ (c : Counted). n + 1 ≤ c.index) (λ (c : Counted). i < c.index) (λ c h. omega (arith, h, same)) others (from_first p (n + 1) sizes)) in
+            let none = absent i others (All-weaker (λ (c : Counted). n + 1 ≤ c.index) (λ (c : Counted). i < c.index) (λ c h. omega (arith, h, same)) others
+            (from_first p (n + 1) sizes)) in
             omega (arith, one, none, sum_by-cons (once_of i) (as_counted p.floor (n, size)) others)
         | false ↦ λ is.
-            let no : once_of i (as_counted p.floor (n, size)) ≡ 0 = ap (λ b. cond b 1 0) is in omega (arith, no, rest, sum_by-cons (once_of i) (as_counted p.floor (n, size)) others)
+            let no : once_of i (as_counted p.floor (n, size)) ≡ 0 = ap (λ b. cond b 1 0) is in
+            omega (arith, no, rest, sum_by-cons (once_of i) (as_counted p.floor (n, size)) others)
       ] refl
       | false ↦ rest
     ])
@@ -89,10 +92,12 @@ sum-indexes i [] = refl
 sum-indexes i (c ∷ cs) = omega (arith, sum-indexes i cs, sum_by-cons (once i) c.index (indexes cs), sum_by-cons (once_of i) c cs)
 
 -- a level that is large enough, or isn't
-one_level : (m : ℕ) (level : List Counted) (more : List (List Counted)) → large_enough m (level ∷ more) ≡ cond (nat_le m (length level)) (indexes level ∷ large_enough m more) (large_enough m more)
+one_level : (m : ℕ) (level : List Counted) (more : List (List Counted)) →
+    large_enough m (level ∷ more) ≡ cond (nat_le m (length level)) (indexes level ∷ large_enough m more) (large_enough m more)
 one_level m level more =
     let is_large : List Counted → Bool = λ level. nat_le m (length level) in
-    elim (nat_le m (length level)) as (λ b. map indexes (cond b (level ∷ filter is_large more) (filter is_large more)) ≡ cond b (indexes level ∷ large_enough m more) (large_enough m more)) [ true ↦ refl | false ↦ refl ]
+    elim (nat_le m (length level)) as (λ b. map indexes (cond b (level ∷ filter is_large more) (filter is_large more))
+    ≡ cond b (indexes level ∷ large_enough m more) (large_enough m more)) [ true ↦ refl | false ↦ refl ]
 
 -- no more are named than stand in levels
 named-fewer : (m i : ℕ) (ls : List (List Counted)) → sum_by (once i) (named (large_enough m ls)) ≤ sum_by (once_of i) (joined ls)
@@ -101,7 +106,8 @@ named-fewer m i (level ∷ ls) =
     let rest = named-fewer m i ls in
     let all = sum_by-append (once_of i) level (joined ls) in
     subst (λ (found : List (List ℕ)). sum_by (once i) (named found) ≤ sum_by (once_of i) (level ++ joined ls)) (sym (one_level m level ls))
-    (elim (nat_le m (length level)) as (λ b. sum_by (once i) (named (cond b (indexes level ∷ large_enough m ls) (large_enough m ls))) ≤ sum_by (once_of i) (level ++ joined ls)) [
+    (elim (nat_le m (length level)) as (λ b. sum_by (once i) (named (cond b (indexes level ∷ large_enough m ls) (large_enough m ls))) ≤ sum_by (once_of i)
+    (level ++ joined ls)) [
       | true ↦ omega (arith, rest, all, sum-indexes i level, sum_by-append (once i) (indexes level) (named (large_enough m ls)))
       | false ↦ omega (arith, rest, all)
     ])
@@ -132,13 +138,15 @@ apart : (n : ℕ) (ns : List ℕ) → sum_by (once n) ns ≤ 0 → All (λ m. n 
 apart n [] h = All-nil (λ (m : ℕ). n ≢ m)
 apart n (m ∷ ns) h =
     let none : once n m ≡ 0 = omega (arith, h, sum_by-cons (once n) m ns) in
-    All-cons (λ (m : ℕ). n ≢ m) m ns (λ e. let one : once n m ≡ 1 = grind (arith, nat_tests) in omega (arith, none, one)) (apart n ns (omega (arith, h, sum_by-cons (once n) m ns)))
+    All-cons (λ (m : ℕ). n ≢ m) m ns (λ e. let one : once n m ≡ 1 = grind (arith, nat_tests) in omega (arith, none, one))
+    (apart n ns (omega (arith, h, sum_by-cons (once n) m ns)))
 
 pub pairs_apart : (ns : List ℕ) → ((i : ℕ) → sum_by (once i) ns ≤ 1) → AllPairs (λ i j. i ≢ j) ns
 pairs_apart [] h = λ i j d lt within. absurd (omega (arith, within))
 pairs_apart (n ∷ ns) h =
     let one : once n n ≡ 1 = grind (arith, nat_tests) in
-    AllPairs-cons (λ (i j : ℕ). i ≢ j) n ns (apart n ns (omega (arith, h n, one, sum_by-cons (once n) n ns))) (pairs_apart ns (λ i. omega (arith, h i, sum_by-cons (once i) n ns)))
+    AllPairs-cons (λ (i j : ℕ). i ≢ j) n ns (apart n ns (omega (arith, h n, one, sum_by-cons (once n) n ns)))
+    (pairs_apart ns (λ i. omega (arith, h i, sum_by-cons (once i) n ns)))
 
 pub together-many : (p : MergePolicy) (sizes : List ℕ) → All (λ candidate. p.members ≤ length candidate) (together p sizes)
 together-many p sizes =
@@ -169,7 +177,14 @@ together-within p sizes =
 pub together-sum : (p : MergePolicy) (sizes : List ℕ) (i : ℕ) → sum_by (once i) (named (together p sizes)) ≤ 1
 together-sum p sizes i =
     let cs = considered p sizes in
-    omega (arith, named-fewer p.members i (levels p sizes), ap (sum_by (once_of i)) (joined-levels_of (greatest_first cs)), sum_by-IsPermutation (once_of i) cs (greatest_first cs) (IsPermutation-greatest_first cs), considered_once p i 0 sizes)
+    omega (
+      arith,
+      named-fewer p.members i (levels p sizes),
+      ap (sum_by (once_of i)) (joined-levels_of (greatest_first cs)),
+      sum_by-IsPermutation (once_of i) cs
+          (greatest_first cs) (IsPermutation-greatest_first cs),
+      considered_once p i 0 sizes,
+    )
 
 pub candidates-many : (sizes : List ℕ) → All (λ candidate. 8 ≤ length candidate) (candidates sizes)
 candidates-many sizes = together-many usual sizes

@@ -1,5 +1,6 @@
 -- The steps of a strike, together.
-use Rattle.std.proofs.Common.{◌≡◌, ◌+◌, ◌<◌, ◌≤◌, ℕ, max, Bool, true, false, cond, not, ◌&&◌, ◌||◌, nat_lt, List, [], ◌∷◌, ◌++◌, length, refl, sym, ap, ap₂, ◌∙◌, arith, All, subst, add-one}
+use Rattle.std.proofs.Common.{◌≡◌, ◌+◌, ◌<◌, ◌≤◌, ℕ, max, Bool, true, false, cond, not, ◌&&◌, ◌||◌, nat_lt, List, [], ◌∷◌, ◌++◌, length, refl, sym, ap, ap₂}
+use Rattle.std.proofs.Common.{◌∙◌, arith, All, subst, add-one}
 use Rattle.std.specs.Prelude.{slice_set, fold}
 use Rattle.std.specs.List.{list_any, range_with_len}
 use Rattle.std.specs.Option.{option_map_or}
@@ -69,16 +70,21 @@ bound_of-push [] op = refl
 bound_of-push (o ∷ ops) op = ap (max (bound_by o.stamp o.value)) (bound_of-push ops op) ∙ omega arith
 
 -- the bit of the document behind others is cleared
-cleared_here : (stamp : ℕ) (before : List (Stamped DocumentValue)) (d : Stamped DocumentValue) (ds : List (Stamped DocumentValue)) (kept : List Bool) (bit : Bool) (bits : List Bool) → length kept ≡ length before →
+cleared_here : (stamp : ℕ) (before : List (Stamped DocumentValue)) (d : Stamped DocumentValue) (ds : List (Stamped DocumentValue)) (kept : List Bool)
+    (bit : Bool) (bits : List Bool) → length kept ≡ length before →
     cleared (before ++ d ∷ ds) stamp (kept ++ bit ∷ bits) (length before) ≡ kept ++ (bit && not (nat_lt d.stamp stamp)) ∷ bits
 cleared_here stamp before d ds kept bit bits e =
-    ap (λ o. cond (option_map_or (λ (d : Stamped DocumentValue). nat_lt d.stamp stamp) o false) (slice_set (kept ++ bit ∷ bits) (length before) false) (kept ++ bit ∷ bits)) (get_behind before d ds)
+    ap (λ o. cond (option_map_or (λ (d : Stamped DocumentValue). nat_lt d.stamp stamp) o false) (slice_set (kept ++ bit ∷ bits) (length before) false)
+    (kept ++ bit ∷ bits)) (get_behind before d ds)
     ∙ ap (λ bs. cond (nat_lt d.stamp stamp) bs (kept ++ bit ∷ bits)) (set_at kept bit bits false (length before) e)
-    ∙ elim (nat_lt d.stamp stamp) as (λ b. cond b (kept ++ false ∷ bits) (kept ++ bit ∷ bits) ≡ kept ++ (bit && not b) ∷ bits) [ true ↦ ap (λ b. kept ++ b ∷ bits) (sym (and-false bit)) | false ↦ ap (λ b. kept ++ b ∷ bits) (sym (and-true bit)) ]
+    ∙ elim (nat_lt d.stamp stamp) as (λ b. cond b (kept ++ false ∷ bits) (kept ++ bit ∷ bits) ≡ kept ++ (bit && not b) ∷ bits)
+    [ true ↦ ap (λ b. kept ++ b ∷ bits) (sym (and-false bit)) | false ↦ ap (λ b. kept ++ b ∷ bits) (sym (and-true bit)) ]
 
 -- the bits of the documents behind others whose number is among those of the members that pass
-cleared_behind : (stamp : ℕ) (p : Stamped DocumentValue → Bool) (before ds : List (Stamped DocumentValue)) (kept bits : List Bool) → length kept ≡ length before → length bits ≡ length ds →
-    fold (cleared (before ++ ds) stamp) (kept ++ bits) (numbers_where p (length before) ds) ≡ kept ++ bits_where (λ d. not (nat_lt d.stamp stamp && p d)) ds bits
+cleared_behind : (stamp : ℕ) (p : Stamped DocumentValue → Bool) (before ds : List (Stamped DocumentValue)) (kept bits : List Bool) →
+    length kept ≡ length before → length bits ≡ length ds →
+    fold (cleared (before ++ ds) stamp) (kept ++ bits) (numbers_where p (length before) ds) ≡ kept ++ bits_where (λ d. not (nat_lt d.stamp stamp && p d)) ds
+    bits
 cleared_behind stamp p before [] kept bits e f = ap (λ bs. kept ++ bs) (nil_from_length bits f)
 cleared_behind stamp p before (d ∷ ds) kept [] e f = absurd (omega (arith, f))
 cleared_behind stamp p before (d ∷ ds) kept (bit ∷ bits) e f =
@@ -88,14 +94,19 @@ cleared_behind stamp p before (d ∷ ds) kept (bit ∷ bits) e f =
     let rest = numbers_where p (n + 1) ds in
     let step : fold (cleared all stamp) (kept ++ bit ∷ bits) (numbers_where p n (d ∷ ds)) ≡ fold (cleared all stamp) (kept ++ (bit && q d) ∷ bits) rest =
     ap (fold (cleared all stamp) (kept ++ bit ∷ bits)) (numbers_where-cons p n d ds)
-    ∙ elim (p d) as (λ b. fold (cleared all stamp) (kept ++ bit ∷ bits) (cond b (n ∷ rest) rest) ≡ fold (cleared all stamp) (kept ++ (bit && not (nat_lt d.stamp stamp && b)) ∷ bits) rest) [
-      | true ↦ ap (λ bs. fold (cleared all stamp) bs rest) (cleared_here stamp before d ds kept bit bits e ∙ ap (λ b. kept ++ (bit && not b) ∷ bits) (sym (and-true (nat_lt d.stamp stamp))))
-      | false ↦ ap (λ b. fold (cleared all stamp) (kept ++ b ∷ bits) rest) (sym (and-true bit) ∙ ap (λ b. bit && not b) (sym (and-false (nat_lt d.stamp stamp))))
+    ∙ elim (p d) as (λ b. fold (cleared all stamp) (kept ++ bit ∷ bits) (cond b (n ∷ rest) rest) ≡ fold (cleared all stamp)
+    (kept ++ (bit && not (nat_lt d.stamp stamp && b)) ∷ bits) rest) [
+      | true ↦ ap (λ bs. fold (cleared all stamp) bs rest) (cleared_here stamp before d ds kept bit bits e ∙ ap (λ b. kept ++ (bit && not b) ∷ bits)
+          (sym (and-true (nat_lt d.stamp stamp))))
+      | false ↦ ap (λ b. fold (cleared all stamp) (kept ++ b ∷ bits) rest)
+          (sym (and-true bit) ∙ ap (λ b. bit && not b) (sym (and-false (nat_lt d.stamp stamp))))
     ] in
-    let next = cleared_behind stamp p (before ++ d ∷ []) ds (kept ++ (bit && q d) ∷ []) bits (omega (arith, e, length_push before d, length_push kept (bit && q d))) (omega (arith, f)) in
+    let next = cleared_behind stamp p (before ++ d ∷ []) ds (kept ++ (bit && q d) ∷ []) bits
+    (omega (arith, e, length_push before d, length_push kept (bit && q d))) (omega (arith, f)) in
     step
     ∙ ap (λ ns. fold (cleared all stamp) (kept ++ (bit && q d) ∷ bits) (numbers_where p ns ds)) (sym (length_push before d))
-    ∙ ap₂ (λ ds' bs. fold (cleared ds' stamp) bs (numbers_where p (length (before ++ d ∷ [])) ds)) (sym (append_assoc before (d ∷ []) ds)) (sym (append_assoc kept ((bit && q d) ∷ []) bits))
+    ∙ ap₂ (λ ds' bs. fold (cleared ds' stamp) bs (numbers_where p (length (before ++ d ∷ [])) ds)) (sym (append_assoc before (d ∷ []) ds))
+    (sym (append_assoc kept ((bit && q d) ∷ []) bits))
     ∙ next
     ∙ append_assoc kept ((bit && q d) ∷ []) (bits_where q ds bits)
 
@@ -121,9 +132,11 @@ pub range_more : (n : ℕ) → range_with_len 0 (n + 1) ≡ range_with_len 0 n +
 range_more n = ap (range_with_len 0) (add-one n) ∙ range_with_len-push 0 n ∙ ap (λ k. range_with_len 0 n ++ k ∷ []) (omega arith)
 
 pub length-cleared : (ds : List (Stamped DocumentValue)) (stamp : ℕ) (bits : List Bool) (n : ℕ) → length (cleared ds stamp bits n) ≡ length bits
-length-cleared ds stamp bits n = elim (is_before ds stamp n) as (λ b. length (cond b (slice_set bits n false) bits) ≡ length bits) [ true ↦ length-set bits n false | false ↦ refl ]
+length-cleared ds stamp bits n = elim (is_before ds stamp n) as (λ b. length (cond b (slice_set bits n false) bits) ≡ length bits)
+    [ true ↦ length-set bits n false | false ↦ refl ]
 
-pub length-cleared_all : (ds : List (Stamped DocumentValue)) (stamp : ℕ) (bits : List Bool) (ns : List ℕ) → length (fold (cleared ds stamp) bits ns) ≡ length bits
+pub length-cleared_all : (ds : List (Stamped DocumentValue)) (stamp : ℕ) (bits : List Bool) (ns : List ℕ) →
+    length (fold (cleared ds stamp) bits ns) ≡ length bits
 length-cleared_all ds stamp bits [] = refl
 length-cleared_all ds stamp bits (n ∷ ns) = length-cleared_all ds stamp (cleared ds stamp bits n) ns ∙ length-cleared ds stamp bits n
 
@@ -132,10 +145,12 @@ numbers_where-within : {X : Type 0} (p : X → Bool) (n m : ℕ) (xs : List X) �
 numbers_where-within p n m [] e = All-nil (λ (k : ℕ). k < m)
 numbers_where-within p n m (x ∷ xs) e =
     let rest = numbers_where-within p (n + 1) m xs (omega (arith, e)) in
-    subst (All (λ (k : ℕ). k < m)) (sym (numbers_where-cons p n x xs)) (elim (p x) as (λ b. All (λ (k : ℕ). k < m) (cond b (n ∷ numbers_where p (n + 1) xs) (numbers_where p (n + 1) xs))) [
+    subst (All (λ (k : ℕ). k < m)) (sym (numbers_where-cons p n x xs))
+    (elim (p x) as (λ b. All (λ (k : ℕ). k < m) (cond b (n ∷ numbers_where p (n + 1) xs) (numbers_where p (n + 1) xs))) [
       | true ↦ All-cons (λ (k : ℕ). k < m) n (numbers_where p (n + 1) xs) (omega (arith, e)) rest
       | false ↦ rest
     ])
 
 pub postings-within : (segment : SegmentValue) (term : Term) → All (λ k. k < length segment.documents) (postings segment term)
-postings-within segment term = numbers_where-within (λ (d : Stamped DocumentValue). has segment.schema d.value term) 0 (length segment.documents) segment.documents (omega arith)
+postings-within segment term = numbers_where-within (λ (d : Stamped DocumentValue). has segment.schema d.value term) 0 (length segment.documents)
+    segment.documents (omega arith)

@@ -1,5 +1,6 @@
 -- Deletes that were looked up.
-use Rattle.std.proofs.Common.{◌≡◌, ◌+◌, ◌-◌, ◌<◌, ◌≤◌, ℕ, Bool, true, false, cond, not, ◌&&◌, ◌||◌, nat_lt, List, [], ◌∷◌, ◌++◌, length, refl, sym, ap, ap₂, ◌∙◌, arith, All, get_or, take}
+use Rattle.std.proofs.Common.{◌≡◌, ◌+◌, ◌-◌, ◌<◌, ◌≤◌, ℕ, Bool, true, false, cond, not, ◌&&◌, ◌||◌, nat_lt, List, [], ◌∷◌, ◌++◌, length, refl, sym, ap, ap₂}
+use Rattle.std.proofs.Common.{◌∙◌, arith, All, get_or, take}
 use Rattle.std.specs.Prelude.{Option, Some, None, IfNone}
 use Rattle.std.specs.List.{list_any}
 use Rattle.std.specs.List.Sorted.{IsPermutation}
@@ -43,7 +44,8 @@ numbers_where-none p n (x ∷ xs) none =
     All-cons (λ y. p y ≡ false) x xs both.0 (numbers_where-none p (n + 1) xs both.1)
 
 -- a term that no document has strikes none
-pub struck-none : (segment : SegmentValue) (stamp : ℕ) (term : Term) → postings segment term ≡ [] → All (λ d. strikes_by_term segment.schema stamp (Delete term) d ≡ false) segment.documents
+pub struck-none : (segment : SegmentValue) (stamp : ℕ) (term : Term) → postings segment term ≡ [] →
+    All (λ d. strikes_by_term segment.schema stamp (Delete term) d ≡ false) segment.documents
 struck-none segment stamp term none =
     let p : Stamped DocumentValue → Bool = λ d. has segment.schema d.value term in
     let lacks : All (λ d. p d ≡ false) segment.documents = numbers_where-none p 0 segment.documents none in
@@ -73,7 +75,8 @@ alike-none schema ds deletes ops op none alike = λ k x lt.
     ∙ sym (list_any-append t ops (op ∷ []))
 
 -- in any order, deletes that strike alike leave the same bits
-pub bits_where-alike : (schema : List Field) (ds : List (Stamped DocumentValue)) (bits : List Bool) (deletes sorted : List Found) (ops : List (Stamped Op)) → IsPermutation deletes sorted → StrikeAlike schema deletes ops ds →
+pub bits_where-alike : (schema : List Field) (ds : List (Stamped DocumentValue)) (bits : List Bool) (deletes sorted : List Found) (ops : List (Stamped Op)) →
+    IsPermutation deletes sorted → StrikeAlike schema deletes ops ds →
     bits_where (survives_found schema sorted) ds bits ≡ bits_where (survives_terms schema ops) ds bits
 bits_where-alike schema ds bits deletes sorted ops moved alike =
     bits_where-agree (survives_found schema sorted) (survives_terms schema ops) ds bits
@@ -81,12 +84,15 @@ bits_where-alike schema ds bits deletes sorted ops moved alike =
     ap not (sym (list_any-IsPermutation f deletes sorted moved) ∙ alike k x lt))
 
 -- no delete leaves all bits
-pub survives_found-none : (schema : List Field) (ds : List (Stamped DocumentValue)) (bits : List Bool) → length bits ≡ length ds → bits_where (survives_found schema []) ds bits ≡ bits
+pub survives_found-none : (schema : List Field) (ds : List (Stamped DocumentValue)) (bits : List Bool) → length bits ≡ length ds →
+    bits_where (survives_found schema []) ds bits ≡ bits
 survives_found-none schema ds bits e = bits_where-all (survives_found schema []) (λ d. refl) ds bits e
 
 -- one more delete
-pub survives_found-more : (schema : List Field) (ds : List (Stamped DocumentValue)) (bits : List Bool) (deletes : List Found) (i : ℕ) (delete : Found) → i < length deletes → delete ≡ get_or deletes i delete →
-    bits_where (λ d. not (strikes_found schema delete d)) ds (bits_where (survives_found schema (take i deletes)) ds bits) ≡ bits_where (survives_found schema (take (i + 1) deletes)) ds bits
+pub survives_found-more : (schema : List Field) (ds : List (Stamped DocumentValue)) (bits : List Bool) (deletes : List Found) (i : ℕ) (delete : Found) →
+    i < length deletes → delete ≡ get_or deletes i delete →
+    bits_where (λ d. not (strikes_found schema delete d)) ds (bits_where (survives_found schema (take i deletes)) ds bits)
+    ≡ bits_where (survives_found schema (take (i + 1) deletes)) ds bits
 survives_found-more schema ds bits deletes i delete h e =
     let p : Stamped DocumentValue → Bool = survives_found schema (take i deletes) in
     let q : Stamped DocumentValue → Bool = λ d. not (strikes_found schema delete d) in
@@ -103,7 +109,8 @@ absorbed false true h = sym (h refl)
 absorbed false false h = refl
 
 -- one more delete, which strikes nothing that the one before it doesn't strike
-pub survives_found-covered : (schema : List Field) (d : Stamped DocumentValue) (deletes : List Found) (i : ℕ) (before delete : Found) → 0 < i → i < length deletes →
+pub survives_found-covered : (schema : List Field) (d : Stamped DocumentValue) (deletes : List Found) (i : ℕ) (before delete : Found) → 0 < i →
+    i < length deletes →
     before ≡ get_or deletes (i - 1) before → delete ≡ get_or deletes i delete →
     (strikes_found schema delete d ≡ true → strikes_found schema before d ≡ true) →
     survives_found schema (take i deletes) d ≡ survives_found schema (take (i + 1) deletes) d
@@ -111,7 +118,8 @@ survives_found-covered schema d deletes i before delete positive h b e covers =
     let f : Found → Bool = λ found. strikes_found schema found d in
     let taken : before ≡ get_or (take i deletes) (i - 1) before = b ∙ sym (get_or-take i deletes (i - 1) before (omega (arith, positive))) in
     let within : i - 1 < length (take i deletes) = omega (arith, positive, h, length-take-le i deletes (omega (arith, h))) in
-    ap not (sym (absorbed (list_any f (take i deletes)) (f delete) (λ struck. list_any_at f (take i deletes) (i - 1) before within (ap f (sym taken) ∙ covers struck)))
+    ap not (sym (absorbed (list_any f (take i deletes)) (f delete) (λ struck. list_any_at f (take i deletes) (i - 1) before within
+    (ap f (sym taken) ∙ covers struck)))
     ∙ ap (λ c. list_any f (take i deletes) || c) (ap f e)
     ∙ sym (list_any_more f deletes i delete h))
 

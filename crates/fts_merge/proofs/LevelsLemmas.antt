@@ -1,5 +1,6 @@
 -- Sizes as they count, and their levels.
-use Rattle.std.proofs.Common.{◌≡◌, ◌+◌, ◌-◌, ◌^◌, ◌<◌, ◌≤◌, ℕ, Bool, true, false, cond, nat_le, List, [], ◌∷◌, ◌++◌, map, filter, length, drop, take, get_or, slice_range, refl, sym, ap, ap₂, ◌∙◌, subst, arith, All}
+use Rattle.std.proofs.Common.{◌≡◌, ◌+◌, ◌-◌, ◌^◌, ◌<◌, ◌≤◌, ℕ, Bool, true, false, cond, nat_le, List, [], ◌∷◌, ◌++◌, map, filter, length, drop, take, get_or}
+use Rattle.std.proofs.Common.{slice_range, refl, sym, ap, ap₂, ◌∙◌, subst, arith, All}
 use Rattle.std.specs.List.{enumerate_from}
 use Rattle.std.proofs.Math.Nat.{pow-le-pow_left}
 use Rattle.std.proofs.lemmas.Bool.Decides.{nat_tests}
@@ -15,36 +16,45 @@ use Rattle.fts_segment.proofs.SourceLemmas.{dropped}
 abbrev pub considered_from : MergePolicy → ℕ → List ℕ → List Counted
 considered_from p n sizes = map (as_counted p.floor) (filter (λ s. nat_le s.1 p.most) (enumerate_from n sizes))
 
-pub considered-cons : (p : MergePolicy) (n size : ℕ) (sizes : List ℕ) → considered_from p n (size ∷ sizes) ≡ cond (nat_le size p.most) (as_counted p.floor (n, size) ∷ considered_from p (n + 1) sizes) (considered_from p (n + 1) sizes)
+pub considered-cons : (p : MergePolicy) (n size : ℕ) (sizes : List ℕ) →
+    considered_from p n (size ∷ sizes) ≡ cond (nat_le size p.most) (as_counted p.floor (n, size) ∷ considered_from p (n + 1) sizes)
+    (considered_from p (n + 1) sizes)
 considered-cons p n size sizes =
     let rest = filter (λ (s : ℕ × ℕ). nat_le s.1 p.most) (enumerate_from (n + 1) sizes) in
-    elim (nat_le size p.most) as (λ b. map (as_counted p.floor) (cond b ((n, size) ∷ rest) rest) ≡ cond b (as_counted p.floor (n, size) ∷ considered_from p (n + 1) sizes) (considered_from p (n + 1) sizes)) [ true ↦ refl | false ↦ refl ]
+    elim (nat_le size p.most) as (λ b. map (as_counted p.floor) (cond b ((n, size) ∷ rest) rest)
+    ≡ cond b (as_counted p.floor (n, size) ∷ considered_from p (n + 1) sizes) (considered_from p (n + 1) sizes)) [ true ↦ refl | false ↦ refl ]
 
 -- a size is considered
-pub considered-more : (p : MergePolicy) (done all : List Counted) (sizes : List ℕ) (i size : ℕ) → i < length sizes → size ≡ get_or sizes i size → size ≤ p.most →
+pub considered-more : (p : MergePolicy) (done all : List Counted) (sizes : List ℕ) (i size : ℕ) → i < length sizes → size ≡ get_or sizes i size →
+    size ≤ p.most →
     done ++ considered_from p i (drop i sizes) ≡ all → (done ++ as_counted p.floor (i, size) ∷ []) ++ considered_from p (i + 1) (drop (i + 1) sizes) ≡ all
 considered-more p done all sizes i size h e small old =
     let is : nat_le size p.most ≡ true = grind (arith, nat_tests) in
     let rest = considered_from p (i + 1) (drop (i + 1) sizes) in
     append_assoc done (as_counted p.floor (i, size) ∷ []) rest
-    ∙ ap (λ cs. done ++ cs) (sym (ap (considered_from p i) (dropped sizes i size h e) ∙ considered-cons p i size (drop (i + 1) sizes) ∙ ap (λ b. cond b (as_counted p.floor (i, size) ∷ rest) rest) is)) ∙ old
+    ∙ ap (λ cs. done ++ cs) (sym (ap (considered_from p i) (dropped sizes i size h e) ∙ considered-cons p i size (drop (i + 1) sizes)
+    ∙ ap (λ b. cond b (as_counted p.floor (i, size) ∷ rest) rest) is)) ∙ old
 
 -- a size is too great
-pub considered-less : (p : MergePolicy) (done all : List Counted) (sizes : List ℕ) (i size : ℕ) → i < length sizes → size ≡ get_or sizes i size → p.most < size →
+pub considered-less : (p : MergePolicy) (done all : List Counted) (sizes : List ℕ) (i size : ℕ) → i < length sizes → size ≡ get_or sizes i size →
+    p.most < size →
     done ++ considered_from p i (drop i sizes) ≡ all → done ++ considered_from p (i + 1) (drop (i + 1) sizes) ≡ all
 considered-less p done all sizes i size h e great old =
     let is : nat_le size p.most ≡ false = grind (arith, nat_tests) in
     let rest = considered_from p (i + 1) (drop (i + 1) sizes) in
-    ap (λ cs. done ++ cs) (sym (ap (considered_from p i) (dropped sizes i size h e) ∙ considered-cons p i size (drop (i + 1) sizes) ∙ ap (λ b. cond b (as_counted p.floor (i, size) ∷ rest) rest) is)) ∙ old
+    ap (λ cs. done ++ cs) (sym (ap (considered_from p i) (dropped sizes i size h e) ∙ considered-cons p i size (drop (i + 1) sizes)
+    ∙ ap (λ b. cond b (as_counted p.floor (i, size) ∷ rest) rest) is)) ∙ old
 
 -- sizes as they count are within the greatest
-pub considered-within : (p : MergePolicy) (n : ℕ) (sizes : List ℕ) → p.floor ≤ most_merged → p.most ≤ most_merged → All (λ c. c.size ≤ most_merged) (considered_from p n sizes)
+pub considered-within : (p : MergePolicy) (n : ℕ) (sizes : List ℕ) → p.floor ≤ most_merged → p.most ≤ most_merged →
+    All (λ c. c.size ≤ most_merged) (considered_from p n sizes)
 considered-within p n [] f m = All-nil (λ (c : Counted). c.size ≤ most_merged)
 considered-within p n (size ∷ sizes) f m =
     let P : Counted → Type 0 = λ c. c.size ≤ most_merged in
     let rest = considered-within p (n + 1) sizes f m in
     subst (All P) (sym (considered-cons p n size sizes))
-    (elim (nat_le size p.most) as (λ b. nat_le size p.most ≡ b → All P (cond b (as_counted p.floor (n, size) ∷ considered_from p (n + 1) sizes) (considered_from p (n + 1) sizes))) [
+    (elim (nat_le size p.most) as (λ b. nat_le size p.most ≡ b → All P (cond b (as_counted p.floor (n, size) ∷ considered_from p (n + 1) sizes)
+    (considered_from p (n + 1) sizes))) [
       | true ↦ λ is. All-cons P (as_counted p.floor (n, size)) (considered_from p (n + 1) sizes) (grind (arith, nat_tests)) rest
       | false ↦ λ is. rest
     ] refl)
@@ -54,20 +64,24 @@ pub fourth_power-bound : (size : ℕ) → size ≤ most_merged → size ^ 4 ≤ 
 fourth_power-bound size h = pow-le-pow_left h 4
 
 -- levels that are large enough, the first apart
-pub large_enough-cons : (m : ℕ) (level : List Counted) (more : List (List Counted)) → large_enough m (level ∷ more) ≡ large_enough m (level ∷ []) ++ large_enough m more
+pub large_enough-cons : (m : ℕ) (level : List Counted) (more : List (List Counted)) → large_enough m (level ∷ more) ≡ large_enough m (level ∷ [])
+    ++ large_enough m more
 large_enough-cons m level more =
     let is_large : List Counted → Bool = λ level. nat_le m (length level) in
     let told : List (List Counted) → List (List ℕ) = map (λ level. map (λ c. c.index) level) in
-    elim (nat_le m (length level)) as (λ b. told (cond b (level ∷ filter is_large more) (filter is_large more)) ≡ told (cond b (level ∷ []) []) ++ large_enough m more) [ true ↦ refl | false ↦ refl ]
+    elim (nat_le m (length level)) as (λ b. told (cond b (level ∷ filter is_large more) (filter is_large more)) ≡ told (cond b (level ∷ []) []) ++ large_enough
+    m more) [ true ↦ refl | false ↦ refl ]
 
 -- a stretch with one member more
-stretch_more : (cs : List Counted) (start place : ℕ) (c : Counted) → start < place → place < length cs → c ≡ get_or cs place c → slice_range cs start (place + 1) ≡ slice_range cs start place ++ c ∷ []
+stretch_more : (cs : List Counted) (start place : ℕ) (c : Counted) → start < place → place < length cs → c ≡ get_or cs place c →
+    slice_range cs start (place + 1) ≡ slice_range cs start place ++ c ∷ []
 stretch_more cs start place c begun within is =
     let n = place - start in
     let there : start + n ≡ place = omega arith in
     let at : get_or (drop start cs) n c ≡ c = get_or-drop start cs n c ∙ ap (λ k. get_or cs k c) there ∙ sym is in
     let longer : place + 1 - start ≡ n + 1 = omega arith in
-    ap (λ k. take k (drop start cs)) longer ∙ take_more (drop start cs) n c (omega (arith, length-drop start cs)) ∙ ap (λ d. take n (drop start cs) ++ d ∷ []) at
+    ap (λ k. take k (drop start cs)) longer ∙ take_more (drop start cs) n c (omega (arith, length-drop start cs))
+    ∙ ap (λ d. take n (drop start cs) ++ d ∷ []) at
 
 -- a stretch of one member
 stretch_of_one : (cs : List Counted) (place : ℕ) (c : Counted) → place < length cs → c ≡ get_or cs place c → slice_range cs place (place + 1) ≡ c ∷ []
@@ -76,8 +90,10 @@ stretch_of_one cs place c within is =
     ap (λ k. take k (drop place cs)) one ∙ ap (take 1) (dropped cs place c within is)
 
 -- a size joins the level
-pub level_joined : (m : ℕ) (found all : List (List ℕ)) (cs : List Counted) (start place first : ℕ) (c : Counted) → start < place → place < length cs → c ≡ get_or cs place c → joins first c.size ≡ true →
-    found ++ large_enough m (levels_behind first (slice_range cs start place) (drop place cs)) ≡ all → found ++ large_enough m (levels_behind first (slice_range cs start (place + 1)) (drop (place + 1) cs)) ≡ all
+pub level_joined : (m : ℕ) (found all : List (List ℕ)) (cs : List Counted) (start place first : ℕ) (c : Counted) → start < place → place < length cs →
+    c ≡ get_or cs place c → joins first c.size ≡ true →
+    found ++ large_enough m (levels_behind first (slice_range cs start place) (drop place cs)) ≡ all →
+    found ++ large_enough m (levels_behind first (slice_range cs start (place + 1)) (drop (place + 1) cs)) ≡ all
 level_joined m found all cs start place first c begun within is joined old =
     let level = slice_range cs start place in
     let rest = drop (place + 1) cs in
@@ -88,9 +104,11 @@ level_joined m found all cs start place first c begun within is joined old =
     ap (λ ls. found ++ large_enough m ls) (sym step) ∙ old
 
 -- a size opens another level
-pub level_opened : (m : ℕ) (found more all : List (List ℕ)) (cs : List Counted) (start place first : ℕ) (c : Counted) → place < length cs → c ≡ get_or cs place c → joins first c.size ≡ false →
+pub level_opened : (m : ℕ) (found more all : List (List ℕ)) (cs : List Counted) (start place first : ℕ) (c : Counted) → place < length cs →
+    c ≡ get_or cs place c → joins first c.size ≡ false →
     more ≡ found ++ large_enough m (slice_range cs start place ∷ []) →
-    found ++ large_enough m (levels_behind first (slice_range cs start place) (drop place cs)) ≡ all → more ++ large_enough m (levels_behind c.size (slice_range cs place (place + 1)) (drop (place + 1) cs)) ≡ all
+    found ++ large_enough m (levels_behind first (slice_range cs start place) (drop place cs)) ≡ all →
+    more ++ large_enough m (levels_behind c.size (slice_range cs place (place + 1)) (drop (place + 1) cs)) ≡ all
 level_opened m found more all cs start place first c within is apart new old =
     let level = slice_range cs start place in
     let rest = drop (place + 1) cs in

@@ -1,5 +1,6 @@
 -- Where the live documents of sources come from, one at a time.
-use Rattle.std.proofs.Common.{◌≡◌, ◌+◌, ◌<◌, ◌≤◌, ℕ, Bool, true, false, cond, List, [], ◌∷◌, ◌++◌, Some, map, length, count_by, drop, get_or, refl, sym, ap, ap₂, ◌∙◌}
+use Rattle.std.proofs.Common.{◌≡◌, ◌+◌, ◌<◌, ◌≤◌, ℕ, Bool, true, false, cond, List, [], ◌∷◌, ◌++◌, Some, map, length, count_by, drop, get_or, refl, sym, ap}
+use Rattle.std.proofs.Common.{ap₂, ◌∙◌}
 use Rattle.std.specs.Prelude.{slice_get}
 use Rattle.std.proofs.lemmas.List.{append_assoc, drop_all}
 use Rattle.std.proofs.lemmas.List.Sums.{sum_by-cons}
@@ -15,7 +16,8 @@ use Rattle.fts_segment.proofs.HoldingLemmas.{numbers_where-cons}
 abbrev pub count_of : SourceValue → ℕ
 count_of source = count_by (λ bit. bit) source.live
 
-pub live_count-dropped : (ss : List SourceValue) (i : ℕ) (s : SourceValue) → i < length ss → s ≡ get_or ss i s → live_count (drop i ss) ≡ count_of s + live_count (drop (i + 1) ss)
+pub live_count-dropped : (ss : List SourceValue) (i : ℕ) (s : SourceValue) → i < length ss → s ≡ get_or ss i s →
+    live_count (drop i ss) ≡ count_of s + live_count (drop (i + 1) ss)
 live_count-dropped ss i s h e = ap live_count (dropped ss i s h e) ∙ sum_by-cons count_of s (drop (i + 1) ss)
 
 pub live_count-end : (ss : List SourceValue) (i : ℕ) → length ss ≤ i → live_count (drop i ss) ≡ 0
@@ -25,13 +27,16 @@ live_count-end ss i h = ap live_count (drop_all i ss h)
 abbrev pub origins_behind : ℕ → ℕ → List Bool → List Origin
 origins_behind source n bits = map (λ document. record { source = source; document = document }) (numbers_where (λ bit. bit) n bits)
 
-pub origins-cons : (source n : ℕ) (bit : Bool) (bits : List Bool) → origins_behind source n (bit ∷ bits) ≡ cond bit (record { source = source; document = n } ∷ origins_behind source (n + 1) bits) (origins_behind source (n + 1) bits)
+pub origins-cons : (source n : ℕ) (bit : Bool) (bits : List Bool) →
+    origins_behind source n (bit ∷ bits) ≡ cond bit (record { source = source; document = n } ∷ origins_behind source (n + 1) bits)
+    (origins_behind source (n + 1) bits)
 origins-cons source n true bits = ap (map (λ document. record { source = source; document = document })) (numbers_where-cons (λ bit. bit) n true bits)
 origins-cons source n false bits = ap (map (λ document. record { source = source; document = document })) (numbers_where-cons (λ bit. bit) n false bits)
 
 -- one document more is told, if it is live
 pub origins-told : (origins new : List Origin) (number n : ℕ) (bit : Bool) (live : List Bool) (all : List Origin) → slice_get live n ≡ Some bit →
-    new ≡ origins ++ cond bit (record { source = number; document = n } ∷ []) [] → origins ++ origins_behind number n (drop n live) ≡ all → new ++ origins_behind number (n + 1) (drop (n + 1) live) ≡ all
+    new ≡ origins ++ cond bit (record { source = number; document = n } ∷ []) [] → origins ++ origins_behind number n (drop n live) ≡ all →
+    new ++ origins_behind number (n + 1) (drop (n + 1) live) ≡ all
 origins-told origins new number n bit live all is told h =
     let rest = origins_behind number (n + 1) (drop (n + 1) live) in
     let one : Origin = record { source = number; document = n } in
@@ -47,5 +52,6 @@ origins-taken origins before ss i s all h e new old =
     ∙ ap (λ xs. before ++ origins_from i xs) (sym (dropped ss i s h e)) ∙ old
 
 -- a segment and origins are those of the merge where each is
-pub merged_is : (segment : SegmentValue) (origins : List Origin) (ss : List SourceValue) → segment ≡ joined_segment ss → origins ≡ origins_from 0 ss → made_of segment origins (length ss) ≡ merge_of ss
+pub merged_is : (segment : SegmentValue) (origins : List Origin) (ss : List SourceValue) → segment ≡ joined_segment ss → origins ≡ origins_from 0 ss →
+    made_of segment origins (length ss) ≡ merge_of ss
 merged_is segment origins ss same told = ap₂ (λ s os. made_of s os (length ss)) same told

@@ -1,5 +1,6 @@
 -- The order of sizes: lists in it that have the same members are one.
-use Rattle.std.proofs.Common.{◌≡◌, ◌+◌, ◌<◌, ◌≤◌, ◌&&◌, ◌||◌, ◌==◌, ℕ, suc, Bool, true, false, cond, nat_lt, nat_cmp, is_lt, List, [], ◌∷◌, length, get_or, refl, sym, ap, ap₂, subst, ◌∙◌, arith, All}
+use Rattle.std.proofs.Common.{◌≡◌, ◌+◌, ◌<◌, ◌≤◌, ◌&&◌, ◌||◌, ◌==◌, ℕ, suc, Bool, true, false, cond, nat_lt, nat_cmp, is_lt, List, [], ◌∷◌, length, get_or}
+use Rattle.std.proofs.Common.{refl, sym, ap, ap₂, subst, ◌∙◌, arith, All}
 use Rattle.std.specs.Ordering.{ordering_then}
 use Rattle.std.specs.List.{sum_by}
 use Rattle.std.specs.List.Sorted.{IsPermutation}
@@ -57,7 +58,8 @@ IsOrdered-placed : (c : Counted) (ds : List Counted) → IsOrdered ds → IsOrde
 IsOrdered-placed c [] o = (All-nil (NotAfter c), tt)
 IsOrdered-placed c (d ∷ ds) o =
     elim (comes_first c d) as (λ b. comes_first c d ≡ b → IsOrdered (cond b (c ∷ d ∷ ds) (d ∷ placed c ds))) [
-      | true ↦ λ is. let first : NotAfter c d = comes_one_way c.size c.index d.size d.index is in (All-cons (NotAfter c) d ds first (chained c d ds first o.0), o)
+      | true ↦ λ is. let first : NotAfter c d = comes_one_way c.size c.index d.size d.index is in
+          (All-cons (NotAfter c) d ds first (chained c d ds first o.0), o)
       | false ↦ λ is. (All-placed (NotAfter d) c ds is o.0, IsOrdered-placed c ds o.1)
     ] refl
 
@@ -70,14 +72,16 @@ IsPermutation-placed c [] = IsPermutation-refl (c ∷ [])
 IsPermutation-placed c (d ∷ ds) =
     elim (comes_first c d) as (λ b. IsPermutation (c ∷ d ∷ ds) (cond b (c ∷ d ∷ ds) (d ∷ placed c ds))) [
       | true ↦ IsPermutation-refl (c ∷ d ∷ ds)
-      | false ↦ IsPermutation-trans (c ∷ d ∷ ds) (d ∷ c ∷ ds) (d ∷ placed c ds) (IsPermutation-middle (c ∷ []) d ds) (IsPermutation-cons d (c ∷ ds) (placed c ds) (IsPermutation-placed c ds))
+      | false ↦ IsPermutation-trans (c ∷ d ∷ ds) (d ∷ c ∷ ds) (d ∷ placed c ds) (IsPermutation-middle (c ∷ []) d ds)
+          (IsPermutation-cons d (c ∷ ds) (placed c ds) (IsPermutation-placed c ds))
     ]
 
 -- the order moves sizes only
 pub IsPermutation-greatest_first : (cs : List Counted) → IsPermutation cs (greatest_first cs)
 IsPermutation-greatest_first [] = IsPermutation-refl []
 IsPermutation-greatest_first (c ∷ cs) =
-    IsPermutation-trans (c ∷ cs) (c ∷ greatest_first cs) (placed c (greatest_first cs)) (IsPermutation-cons c cs (greatest_first cs) (IsPermutation-greatest_first cs)) (IsPermutation-placed c (greatest_first cs))
+    IsPermutation-trans (c ∷ cs) (c ∷ greatest_first cs) (placed c (greatest_first cs))
+    (IsPermutation-cons c cs (greatest_first cs) (IsPermutation-greatest_first cs)) (IsPermutation-placed c (greatest_first cs))
 
 -- two are the same
 abbrev is_same : Counted → Counted → Bool
@@ -102,7 +106,8 @@ occurs P c [] ps more = absurd (omega (arith, more))
 occurs P c (d ∷ ds) ps more =
     elim (is_same c d) as (λ b. is_same c d ≡ b → P c) [
       | true ↦ λ is. subst P (sym (same_is c d is)) (All-head P d ds ps)
-      | false ↦ λ is. let none : once c d ≡ 0 = ap (λ b. cond b 1 0) is in occurs P c ds (All-tail P d ds ps) (omega (arith, more, none, sum_by-cons (once c) d ds))
+      | false ↦ λ is. let none : once c d ≡ 0 = ap (λ b. cond b 1 0) is in
+          occurs P c ds (All-tail P d ds ps) (omega (arith, more, none, sum_by-cons (once c) d ds))
     ] refl
 
 -- lists in order that have the same members as often are one
@@ -117,8 +122,10 @@ one_order (c ∷ cs) [] o p same =
 one_order (c ∷ cs) (d ∷ ds) o p same =
     let one : once c c ≡ 1 = ap (λ b. cond b 1 0) (same_itself c) in
     let one' : once d d ≡ 1 = ap (λ b. cond b 1 0) (same_itself d) in
-    let down : NotAfter d c = occurs (NotAfter d) c (d ∷ ds) (All-cons (NotAfter d) d ds (comes_not_itself d.size d.index) p.0) (omega (arith, same c, one, sum_by-cons (once c) c cs)) in
-    let up : NotAfter c d = occurs (NotAfter c) d (c ∷ cs) (All-cons (NotAfter c) c cs (comes_not_itself c.size c.index) o.0) (omega (arith, same d, one', sum_by-cons (once d) d ds)) in
+    let down : NotAfter d c = occurs (NotAfter d) c (d ∷ ds) (All-cons (NotAfter d) d ds (comes_not_itself d.size d.index) p.0)
+    (omega (arith, same c, one, sum_by-cons (once c) c cs)) in
+    let up : NotAfter c d = occurs (NotAfter c) d (c ∷ cs) (All-cons (NotAfter c) c cs (comes_not_itself c.size c.index) o.0)
+    (omega (arith, same d, one', sum_by-cons (once d) d ds)) in
     let is : c ≡ d = same_from c d (comes_tied_size c.size c.index d.size d.index down up) (comes_tied_index c.size c.index d.size d.index down up) in
     let rest = one_order cs ds o.1 p.1 (λ e. omega (arith, same e, ap (once e) is, sum_by-cons (once e) c cs, sum_by-cons (once e) d ds)) in
     ap₂ (λ x xs. x ∷ xs) is rest
@@ -136,7 +143,8 @@ ordered_from (c ∷ d ∷ cs) h =
     (All-cons (NotAfter c) d cs first (chained c d cs first rest.0), rest)
 
 -- a list of the same sizes whose neighbours are in order is their order
-pub greatest_first-is : (cs ds : List Counted) → IsPermutation cs ds → ((k : ℕ) (d : Counted) → k + 1 < length ds → comes_first (get_or ds (k + 1) d) (get_or ds k d) ≡ false) → ds ≡ greatest_first cs
+pub greatest_first-is : (cs ds : List Counted) → IsPermutation cs ds →
+    ((k : ℕ) (d : Counted) → k + 1 < length ds → comes_first (get_or ds (k + 1) d) (get_or ds k d) ≡ false) → ds ≡ greatest_first cs
 greatest_first-is cs ds moved sorted =
     one_order ds (greatest_first cs) (ordered_from ds sorted) (IsOrdered-greatest_first cs)
     (λ e. sum_by-IsPermutation (once e) cs ds moved ∙ sym (sum_by-IsPermutation (once e) cs (greatest_first cs) (IsPermutation-greatest_first cs)))

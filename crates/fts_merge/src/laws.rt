@@ -10,7 +10,8 @@ ghost use Rattle.fts_segment.specs.Contents.{content};
 ghost use Rattle.fts_merge.specs.Strikes.{bits_after};
 ghost use Rattle.fts_merge.specs.declared.policy.MergePolicy.{MergePolicy};
 ghost use Rattle.fts_merge.specs.declared.policy.SegmentSize.{SegmentSize};
-ghost use Rattle.fts_merge.specs.Levels.{candidates, candidates_by, is_mostly_dead, is_named, live_sizes, together, usual};
+ghost use Rattle.fts_merge.specs.Levels.{candidates, candidates_by, is_mostly_dead, is_named, live_sizes, together};
+ghost use Rattle.fts_merge.specs.Levels.{usual};
 ghost use Rattle.fts_merge.specs.Merges.{SourceValue, HasBits, IsMerged, contents, live_count, merge_of, origins_from};
 ghost use Rattle.fts_merge.specs.declared.origin.Origin.{Origin};
 
@@ -86,8 +87,8 @@ pub fn candidates_name_each_size_once()
 {}
 
 /// The candidates of a policy name all segments among those given, and none twice. Each of a level has as many members
-/// as the policy wants, and no segment of too many dead documents is left out. By the usual policy they are those of the
-/// live sizes alone.
+/// as the policy wants, and no segment of too many dead documents is left out. By the usual policy they are those of
+/// the live sizes alone.
 pub fn a_policy_names_each_segment_once()
     ensures many { (policy : MergePolicy) (segments : List SegmentSize) →
         All (λ candidate. policy.members ≤ length candidate) (together policy (live_sizes segments)) }

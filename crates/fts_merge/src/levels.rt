@@ -1,9 +1,11 @@
 // Tells from the sizes of segments which of them are worth merging: a size is a number of live documents.
-ghost use Rattle.std.specs.Prelude.{◌≡◌, ◌≤◌, ◌&&◌, ◌^◌, [], ◌∷◌, ◌++◌, All, IfOk, IsOk, IsOkUnless, OnOk, cond, map, nat_eq};
+ghost use Rattle.std.specs.Prelude.{◌≡◌, ◌≤◌, ◌&&◌, ◌^◌, [], ◌∷◌, ◌++◌, All, IfOk, IsOk, IsOkUnless, OnOk, cond, map};
+ghost use Rattle.std.specs.Prelude.{nat_eq};
 ghost use Rattle.std.specs.Prelude.{not};
 ghost use Rattle.std.specs.List.{list_any};
 ghost use Rattle.fts_model.specs.Limits.{most_merged};
-ghost use Rattle.fts_merge.specs.Levels.{considered, greatest_first, joins, levels_of, large_enough, candidates, together};
+ghost use Rattle.fts_merge.specs.Levels.{considered, greatest_first, joins, levels_of, large_enough, candidates};
+ghost use Rattle.fts_merge.specs.Levels.{together};
 ghost use Rattle.fts_merge.specs.Levels.{alone, candidates_by, is_mostly_dead, is_named, live_sizes};
 
 use crate::policy::{MergePolicy, SegmentSize};

@@ -1,5 +1,6 @@
 -- A document as JSON is the document again, under the schema that it was made under.
-use Rattle.std.proofs.Common.{◌≡◌, ℕ, suc, zero, true, false, true≢false, pos, negsuc, cond, List, [], ◌∷◌, ◌++◌, map, Ok, Err, Option, Some, None, refl, sym, ap, ◌∙◌, option_map, Ordering, Less, Equal, Greater, nat_cmp, bytes_eq}
+use Rattle.std.proofs.Common.{◌≡◌, ℕ, suc, zero, true, false, true≢false, pos, negsuc, cond, List, [], ◌∷◌, ◌++◌, map, Ok, Err, Option, Some, None, refl, sym}
+use Rattle.std.proofs.Common.{ap, ◌∙◌, option_map, Ordering, Less, Equal, Greater, nat_cmp, bytes_eq}
 use Rattle.std.proofs.lemmas.Bool.{false_from_ne_true, or_parts, or_from}
 use Rattle.std.proofs.lemmas.Slice.Eq.{bytes_eq-Decides}
 use Rattle.std.proofs.lemmas.Map.Lookups.{exact_bytes}
@@ -22,7 +23,8 @@ use Rattle.fts_model.specs.declared.value.FieldValue.{FieldValue}
 use Rattle.fts_model.specs.declared.value.FieldValue.TheVariants as values
 use Rattle.fts_base.specs.Results.{value_if_ok, error_if_err, first_of}
 use Rattle.fts_model.specs.Schemas.{is_named, field_fault, first_fault}
-use Rattle.fts_model.specs.Documents.{DocumentValue, bytes_of, list_in, strings_in, texts_in, value_in, fault_in_field, member_fault, members_fault, value_at, document_of, data_of, with_value, with_values, json_of, is_value_of, CanHave, AreValuesOf, IsDocument}
+use Rattle.fts_model.specs.Documents.{DocumentValue, bytes_of, list_in, strings_in, texts_in, value_in, fault_in_field, member_fault, members_fault, value_at}
+use Rattle.fts_model.specs.Documents.{document_of, data_of, with_value, with_values, json_of, is_value_of, CanHave, AreValuesOf, IsDocument}
 use Rattle.fts_model.proofs.DocumentsFields.{none_of_two, not_taken, none_of_more, others_before, no_field_fault, find_by_name}
 
 -- texts are read from their JSON
@@ -35,7 +37,8 @@ list_back : (text : List ℕ) (texts : List (List ℕ)) → (not (nat_lt 1024 (l
     texts_in (text ∷ texts) ≡ Ok (Some (values.Texts (text ∷ texts)))
 list_back text texts h =
     elim (nat_lt 1024 (length (text ∷ texts))) as (λ b. (not b && nat_le (bytes_of (text ∷ texts)) 1048576) ≡ true →
-    cond b (Err TooManyTexts) (cond (nat_le (bytes_of (text ∷ texts)) 1048576) (Ok (Some (values.Texts (text ∷ texts)))) (Err TextTooLong)) ≡ Ok (Some (values.Texts (text ∷ texts)))) [
+    cond b (Err TooManyTexts) (cond (nat_le (bytes_of (text ∷ texts)) 1048576) (Ok (Some (values.Texts (text ∷ texts)))) (Err TextTooLong))
+    ≡ Ok (Some (values.Texts (text ∷ texts)))) [
       | true ↦ λ g. cc
       | false ↦ λ g. ap (λ b. cond b (Ok (Some (values.Texts (text ∷ texts)))) (Err TextTooLong)) g
     ] h

@@ -1,5 +1,6 @@
 -- Members of lists.
-use Rattle.std.proofs.Common.{◌≡◌, zero, suc, Bool, true, false, cond, ◌⊎◌, inl, inr, ⊎_elim, List, [], ◌∷◌, filter, refl, sym, ap, subst, ◌∙◌, arith, All, AllPairs, Contains, ℕ, ◌+◌, ◌<◌, ◌++◌, take}
+use Rattle.std.proofs.Common.{◌≡◌, zero, suc, Bool, true, false, cond, ◌⊎◌, inl, inr, ⊎_elim, List, [], ◌∷◌, filter, refl, sym, ap, subst, ◌∙◌, arith, All}
+use Rattle.std.proofs.Common.{AllPairs, Contains, ℕ, ◌+◌, ◌<◌, ◌++◌, take}
 use Rattle.std.proofs.Common.{length, get_or}
 use Rattle.std.proofs.lemmas.List.{take_more}
 use Rattle.std.specs.List.{range_with_len}

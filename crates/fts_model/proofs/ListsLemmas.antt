@@ -1,5 +1,6 @@
 -- JSON arrays that are lists of texts.
-use Rattle.std.proofs.Common.{◌≡◌, ℕ, suc, ◌+◌, ◌-◌, ◌^◌, ◌<◌, ◌≤◌, min, List, [], ◌∷◌, ◌++◌, length, Option, Some, None, refl, sym, ap, subst, ◌∙◌, arith, option_map, append_assoc}
+use Rattle.std.proofs.Common.{◌≡◌, ℕ, suc, ◌+◌, ◌-◌, ◌^◌, ◌<◌, ◌≤◌, min, List, [], ◌∷◌, ◌++◌, length, Option, Some, None, refl, sym, ap, subst, ◌∙◌, arith}
+use Rattle.std.proofs.Common.{option_map, append_assoc}
 use Rattle.std.proofs.lemmas.List.Sums.{sum_by-cons}
 use Rattle.serde_json.specs.Data.{Data, null, boolean, number, string, array, object, Items, no_items, item}
 use Rattle.serde_json.specs.View.{items_view, view}
@@ -30,7 +31,8 @@ bytes_behind-is n (item (string text) items) h =
     ])
 
 -- a list has as many texts as the array has members
-strings_count-at : (d : Data) (items : Items) (n : ℕ) (ts : List (List ℕ)) → ((us : List (List ℕ)) → strings_in items ≡ Some us → length us ≡ n) → strings_in (item d items) ≡ Some ts → length ts ≡ suc n
+strings_count-at : (d : Data) (items : Items) (n : ℕ) (ts : List (List ℕ)) → ((us : List (List ℕ)) → strings_in items ≡ Some us → length us ≡ n) →
+    strings_in (item d items) ≡ Some ts → length ts ≡ suc n
 strings_count-at null items n ts rest h = cc
 strings_count-at (boolean b) items n ts rest h = cc
 strings_count-at (number m) items n ts rest h = cc
@@ -47,7 +49,8 @@ strings_count [] ts h = let none : [] ≡ ts = cc in ap length (sym none)
 strings_count (v ∷ vs) ts h = strings_count-at (view v) (items_view vs) (length vs) ts (strings_count vs) h
 
 -- one text more was read
-pub texts_step : (old new : List (List ℕ)) (d : Data) (items : Items) (ts : List (List ℕ)) → option_map (λ rest. old ++ rest) (strings_in (item d items)) ≡ Some ts →
+pub texts_step : (old new : List (List ℕ)) (d : Data) (items : Items) (ts : List (List ℕ)) → option_map (λ rest. old ++ rest) (strings_in (item d items))
+    ≡ Some ts →
     ((text : List ℕ) → d ≡ string text → new ≡ old ++ text ∷ []) → option_map (λ rest. new ++ rest) (strings_in items) ≡ Some ts
 texts_step old new null items ts h is = cc
 texts_step old new (boolean b) items ts h is = cc
@@ -61,12 +64,14 @@ texts_step old new (string text) items ts h is =
     ] h
 
 -- what is wrong with an array of a text field: a member that is no text
-pub list_none : (o : Option (List (List ℕ))) → None ≡ option_map (λ ts. min (0 + bytes_of ts) (2 ^ 64 - 1)) o → Some WrongKind ≡ error_if_err (list_in kinds.Text o)
+pub list_none : (o : Option (List (List ℕ))) → None ≡ option_map (λ ts. min (0 + bytes_of ts) (2 ^ 64 - 1)) o →
+    Some WrongKind ≡ error_if_err (list_in kinds.Text o)
 list_none None h = refl
 list_none (Some ts) h = cc
 
 -- too many
-pub list_many : (o : Option (List (List ℕ))) (bytes count : ℕ) → Some bytes ≡ option_map (λ ts. min (0 + bytes_of ts) (2 ^ 64 - 1)) o → ((ts : List (List ℕ)) → o ≡ Some ts → length ts ≡ count) →
+pub list_many : (o : Option (List (List ℕ))) (bytes count : ℕ) → Some bytes ≡ option_map (λ ts. min (0 + bytes_of ts) (2 ^ 64 - 1)) o →
+    ((ts : List (List ℕ)) → o ≡ Some ts → length ts ≡ count) →
     1024 < count → Some TooManyTexts ≡ error_if_err (list_in kinds.Text o)
 list_many None bytes count h long many = cc
 list_many (Some ts) bytes count h long many =
@@ -74,17 +79,20 @@ list_many (Some ts) bytes count h long many =
     ap (λ b. error_if_err (cond b (Err TooManyTexts) (cond (nat_le (bytes_of ts) 1048576) (Ok (some_texts ts)) (Err TextTooLong)))) (sym most)
 
 -- too many bytes
-pub list_long : (o : Option (List (List ℕ))) (bytes count : ℕ) → Some bytes ≡ option_map (λ ts. min (0 + bytes_of ts) (2 ^ 64 - 1)) o → ((ts : List (List ℕ)) → o ≡ Some ts → length ts ≡ count) →
+pub list_long : (o : Option (List (List ℕ))) (bytes count : ℕ) → Some bytes ≡ option_map (λ ts. min (0 + bytes_of ts) (2 ^ 64 - 1)) o →
+    ((ts : List (List ℕ)) → o ≡ Some ts → length ts ≡ count) →
     count ≤ 1024 → 1048576 < bytes → Some TextTooLong ≡ error_if_err (list_in kinds.Text o)
 list_long None bytes count h counted few long = cc
 list_long (Some ts) bytes count h counted few long =
     let same : bytes ≡ min (0 + bytes_of ts) (2 ^ 64 - 1) = cc in
     let most : nat_lt 1024 (length ts) ≡ false = le-ltb 1024 (length ts) (omega (arith, counted ts refl, few)) in
     let over : nat_le (bytes_of ts) 1048576 ≡ false = lt-leb (bytes_of ts) 1048576 (omega (arith, same, long)) in
-    sym (ap (λ b. error_if_err (cond b (Err TooManyTexts) (cond (nat_le (bytes_of ts) 1048576) (Ok (some_texts ts)) (Err TextTooLong)))) most ∙ ap (λ b. error_if_err (cond b (Ok (some_texts ts)) (Err TextTooLong))) over)
+    sym (ap (λ b. error_if_err (cond b (Err TooManyTexts) (cond (nat_le (bytes_of ts) 1048576) (Ok (some_texts ts)) (Err TextTooLong)))) most
+    ∙ ap (λ b. error_if_err (cond b (Ok (some_texts ts)) (Err TextTooLong))) over)
 
 -- or nothing
-pub list_fine : (o : Option (List (List ℕ))) (bytes count : ℕ) → Some bytes ≡ option_map (λ ts. min (0 + bytes_of ts) (2 ^ 64 - 1)) o → ((ts : List (List ℕ)) → o ≡ Some ts → length ts ≡ count) →
+pub list_fine : (o : Option (List (List ℕ))) (bytes count : ℕ) → Some bytes ≡ option_map (λ ts. min (0 + bytes_of ts) (2 ^ 64 - 1)) o →
+    ((ts : List (List ℕ)) → o ≡ Some ts → length ts ≡ count) →
     count ≤ 1024 → bytes ≤ 1048576 → None ≡ error_if_err (list_in kinds.Text o)
 list_fine None bytes count h counted few short = cc
 list_fine (Some ts) bytes count h counted few short =
@@ -106,10 +114,13 @@ value_at text ts false true e f h = (
   ap (λ b. not b && nat_le (bytes_of (text ∷ ts)) 1048576) e ∙ f,
 )
 
-pub list_value : (o : Option (List (List ℕ))) (count : ℕ) (texts : List (List ℕ)) → error_if_err (list_in kinds.Text o) ≡ None → ((ts : List (List ℕ)) → o ≡ Some ts → length ts ≡ count) → 0 < count →
-    ((ts : List (List ℕ)) → o ≡ Some ts → texts ≡ ts) → (list_in kinds.Text o ≡ Ok (Some (values.Texts texts))) × (is_value_of kinds.Text (values.Texts texts) ≡ true)
+pub list_value : (o : Option (List (List ℕ))) (count : ℕ) (texts : List (List ℕ)) → error_if_err (list_in kinds.Text o) ≡ None →
+    ((ts : List (List ℕ)) → o ≡ Some ts → length ts ≡ count) → 0 < count →
+    ((ts : List (List ℕ)) → o ≡ Some ts → texts ≡ ts) → (list_in kinds.Text o ≡ Ok (Some (values.Texts texts)))
+    × (is_value_of kinds.Text (values.Texts texts) ≡ true)
 list_value None count texts h counted some is = cc
 list_value (Some []) count texts h counted some is = absurd (omega (arith, counted [] refl, some))
 list_value (Some (text ∷ ts)) count texts h counted some is =
-    let P : List (List ℕ) → Type 0 = λ us. (list_in kinds.Text (Some (text ∷ ts)) ≡ Ok (Some (values.Texts us))) × (is_value_of kinds.Text (values.Texts us) ≡ true) in
+    let P : List (List ℕ) → Type 0 = λ us. (list_in kinds.Text (Some (text ∷ ts)) ≡ Ok (Some (values.Texts us)))
+    × (is_value_of kinds.Text (values.Texts us) ≡ true) in
     subst P (sym (is (text ∷ ts) refl)) (value_at text ts (nat_lt 1024 (length (text ∷ ts))) (nat_le (bytes_of (text ∷ ts)) 1048576) refl refl h)

@@ -28,18 +28,21 @@ left_by-append : (schema : List Field) (stamp : ℕ) (op : Op) (ops later : List
     left_by schema stamp op (ops ++ later) ≡ spared schema later (left_by schema stamp op ops)
 left_by-append schema stamp (Add document) ops later =
     ap (λ b. cond b [] (record { stamp = stamp; value = document } ∷ [])) (list_any-append (λ op. strikes schema op.value document) ops later)
-    ∙ one_spared (is_struck schema ops document) (is_struck schema later document) (record { stamp = stamp; value = document }) (λ d. not (is_struck schema later d.value)) refl
+    ∙ one_spared (is_struck schema ops document) (is_struck schema later document) (record { stamp = stamp; value = document })
+    (λ d. not (is_struck schema later d.value)) refl
 left_by-append schema stamp (Delete term) ops later = refl
 left_by-append schema stamp DeleteAll ops later = refl
 
 -- what is alive after more operations: what they spare of what was, and what they leave themselves
-pub alive-append : (schema : List Field) (ops later : List (Stamped Op)) → alive schema (ops ++ later) ≡ spared schema later (alive schema ops) ++ alive schema later
+pub alive-append : (schema : List Field) (ops later : List (Stamped Op)) → alive schema (ops ++ later) ≡ spared schema later (alive schema ops)
+    ++ alive schema later
 alive-append schema [] later = refl
 alive-append schema (op ∷ ops) later =
     ap (λ xs. left_by schema op.stamp op.value (ops ++ later) ++ xs) (alive-append schema ops later)
     ∙ ap (λ xs. xs ++ (spared schema later (alive schema ops) ++ alive schema later)) (left_by-append schema op.stamp op.value ops later)
     ∙ sym (append_assoc (spared schema later (left_by schema op.stamp op.value ops)) (spared schema later (alive schema ops)) (alive schema later))
-    ∙ ap (λ xs. xs ++ alive schema later) (sym (filter-append (λ d. not (is_struck schema later d.value)) (left_by schema op.stamp op.value ops) (alive schema ops)))
+    ∙ ap (λ xs. xs ++ alive schema later)
+    (sym (filter-append (λ d. not (is_struck schema later d.value)) (left_by schema op.stamp op.value ops) (alive schema ops)))
 
 -- adds strike nothing
 adds_spare : (schema : List Field) (documents : List (Stamped DocumentValue)) (document : DocumentValue) → is_struck schema (adds documents) document ≡ false
@@ -53,7 +56,8 @@ alive-adds schema (d ∷ ds) =
     ap (λ b. cond b [] (d ∷ []) ++ alive schema (adds ds)) (adds_spare schema ds d.value) ∙ ap (λ xs. d ∷ xs) (alive-adds schema ds)
 
 -- what is alive stands for the operations before
-pub alive-history : (schema : List Field) (before later : List (Stamped Op)) → alive schema (before ++ later) ≡ alive schema (adds (alive schema before) ++ later)
+pub alive-history : (schema : List Field) (before later : List (Stamped Op)) →
+    alive schema (before ++ later) ≡ alive schema (adds (alive schema before) ++ later)
 alive-history schema before later =
     alive-append schema before later
     ∙ ap (λ xs. spared schema later xs ++ alive schema later) (sym (alive-adds schema (alive schema before)))
@@ -72,7 +76,8 @@ All-alive P schema (op ∷ ops) h =
     let front : P op.stamp = All-head (λ op. P op.stamp) op ops h in
     let behind = All-alive P schema ops (All-tail (λ op. P op.stamp) op ops h) in
     elim op.value as (λ value. All (λ (d : Stamped DocumentValue). P d.stamp) (left_by schema op.stamp value ops ++ alive schema ops)) [
-      | Add document ↦ All-if_kept (is_struck schema ops document) (λ d. P d.stamp) (record { stamp = op.stamp; value = document }) (alive schema ops) front behind
+      | Add document ↦ All-if_kept (is_struck schema ops document) (λ d. P d.stamp) (record { stamp = op.stamp; value = document }) (alive schema ops) front
+          behind
       | Delete term ↦ behind
       | DeleteAll ↦ behind
     ]
@@ -84,7 +89,8 @@ pairs_if_kept R true d ds others pairs = pairs
 pairs_if_kept R false d ds others pairs = AllPairs-cons (λ x y. R x.stamp y.stamp) d ds others pairs
 
 -- how the stamps of the operations stand to each other, so do those of what is alive
-pub alive-pairs : (R : ℕ → ℕ → Type 0) (schema : List Field) (ops : List (Stamped Op)) → AllPairs (λ x y. R x.stamp y.stamp) ops → AllPairs (λ x y. R x.stamp y.stamp) (alive schema ops)
+pub alive-pairs : (R : ℕ → ℕ → Type 0) (schema : List Field) (ops : List (Stamped Op)) → AllPairs (λ x y. R x.stamp y.stamp) ops →
+    AllPairs (λ x y. R x.stamp y.stamp) (alive schema ops)
 alive-pairs R schema [] h = pairs_none (λ x y. R x.stamp y.stamp)
 alive-pairs R schema (op ∷ ops) h =
     let others = All-alive (R op.stamp) schema ops (pairs_front (λ x y. R x.stamp y.stamp) op ops h) in
@@ -116,11 +122,13 @@ pub alive-one : (schema : List Field) (ops : List (Stamped Op)) (op : Stamped Op
 alive-one schema ops op =
     alive-append schema ops (op ∷ [])
     ∙ ap (λ xs. xs ++ alive schema (op ∷ []))
-    (filter_agree (λ (d : Stamped DocumentValue). not (is_struck schema (op ∷ []) d.value)) (λ d. not (strikes schema op.value d.value)) (λ d. or_nothing (strikes schema op.value d.value)) (alive schema ops))
+    (filter_agree (λ (d : Stamped DocumentValue). not (is_struck schema (op ∷ []) d.value)) (λ d. not (strikes schema op.value d.value))
+    (λ d. or_nothing (strikes schema op.value d.value)) (alive schema ops))
 
 -- what is alive after one more add
 pub alive-add : (schema : List Field) (op : Stamped Op) (document : DocumentValue) (documents : List (Stamped DocumentValue)) → op.value ≡ Add document →
-    filter (λ (d : Stamped DocumentValue). not (strikes schema op.value d.value)) documents ++ alive schema (op ∷ []) ≡ documents ++ record { stamp = op.stamp; value = document } ∷ []
+    filter (λ (d : Stamped DocumentValue). not (strikes schema op.value d.value)) documents ++ alive schema (op ∷ []) ≡ documents
+    ++ record { stamp = op.stamp; value = document } ∷ []
 alive-add schema op document documents e =
     ap (λ value. filter (λ (d : Stamped DocumentValue). not (strikes schema value d.value)) documents ++ (left_by schema op.stamp value [] ++ [])) e
     ∙ ap (λ xs. xs ++ record { stamp = op.stamp; value = document } ∷ []) (filter-whole documents)

@@ -1,5 +1,6 @@
 -- What is alive after operations whose stamps rise: what they add and none of a later stamp strikes.
-use Rattle.std.proofs.Common.{◌≡◌, ◌↔◌, ℕ, ◌<◌, ◌&&◌, ◌||◌, nat_lt, Bool, true, false, cond, not, List, [], ◌∷◌, ◌++◌, filter, refl, sym, ap, subst, ◌∙◌, ⊎_elim, arith, All, Contains, append_assoc}
+use Rattle.std.proofs.Common.{◌≡◌, ◌↔◌, ℕ, ◌<◌, ◌&&◌, ◌||◌, nat_lt, Bool, true, false, cond, not, List, [], ◌∷◌, ◌++◌, filter, refl, sym, ap, subst, ◌∙◌}
+use Rattle.std.proofs.Common.{⊎_elim, arith, All, Contains, append_assoc}
 use Rattle.std.specs.List.{list_any}
 use Rattle.std.proofs.lemmas.Bool.{cases_Bool, or_parts, not-true}
 use Rattle.std.proofs.lemmas.Bool.Decides.{nat_tests}
@@ -11,7 +12,8 @@ use Rattle.fts_model.specs.declared.operation.Op.TheVariants.{Add, Delete, Delet
 use Rattle.fts_model.specs.declared.operation.Stamped.{Stamped}
 use Rattle.fts_model.specs.Documents.{DocumentValue}
 use Rattle.fts_model.specs.Operations.{strikes, is_struck, left_by, alive, StampsRise, strikes_later, survives, added_by, added, adds}
-use Rattle.fts_model.proofs.Lists.{pairs_behind, pairs_front, Contains-cases, Contains-first, Contains-behind, Contains-none, Contains-filter, Contains-from_filter}
+use Rattle.fts_model.proofs.Lists.{pairs_behind, pairs_front, Contains-cases, Contains-first, Contains-behind, Contains-none, Contains-filter}
+use Rattle.fts_model.proofs.Lists.{Contains-from_filter}
 
 -- two tests that agree on a list's members keep the same
 filter_agree_on : {X : Type 0} (p q : X → Bool) (xs : List X) → All (λ x. p x ≡ q x) xs → filter p xs ≡ filter q xs
@@ -36,7 +38,8 @@ survives-earlier : (schema : List Field) (op : Stamped Op) (ops : List (Stamped 
 survives-earlier schema op ops d e = ap (λ b. not ((b && strikes schema op.value d.value) || list_any (λ op. strikes_later schema op d) ops)) e
 
 -- what holds of the stamps of an operation and of documents holds with what it adds in front
-All-added_by : (P : ℕ → Type 0) (stamp : ℕ) (op : Op) (ds : List (Stamped DocumentValue)) → P stamp → All (λ d. P d.stamp) ds → All (λ d. P d.stamp) (added_by stamp op ++ ds)
+All-added_by : (P : ℕ → Type 0) (stamp : ℕ) (op : Op) (ds : List (Stamped DocumentValue)) → P stamp → All (λ d. P d.stamp) ds →
+    All (λ d. P d.stamp) (added_by stamp op ++ ds)
 All-added_by P stamp (Add document) ds p ps = All-cons (λ d. P d.stamp) (record { stamp = stamp; value = document }) ds p ps
 All-added_by P stamp (Delete term) ds p ps = ps
 All-added_by P stamp DeleteAll ds p ps = ps
@@ -73,7 +76,8 @@ alive-survives schema (op ∷ ops) rise =
     (λ d above. survives-earlier schema op ops d (grind (arith, nat_tests))) (added ops) (All-added (λ stamp. op.stamp < stamp) ops later) in
     ap (λ ds. left_by schema op.stamp op.value ops ++ ds) (alive-survives schema ops (pairs_behind (λ x y. x.stamp < y.stamp) op ops rise))
     ∙ ap (λ ds. ds ++ filter (survives schema ops) (added ops)) (left_by-survives schema op op.value ops later)
-    ∙ ap (λ ds. filter (survives schema (op ∷ ops)) (added_by op.stamp op.value) ++ ds) (sym (filter_agree_on (survives schema (op ∷ ops)) (survives schema ops) (added ops) same))
+    ∙ ap (λ ds. filter (survives schema (op ∷ ops)) (added_by op.stamp op.value) ++ ds)
+    (sym (filter_agree_on (survives schema (op ∷ ops)) (survives schema ops) (added ops) same))
     ∙ sym (filter-append (survives schema (op ∷ ops)) (added_by op.stamp op.value) (added ops))
 
 -- the operation that adds a document
@@ -131,7 +135,8 @@ abbrev IsSpared : List Field → List (Stamped Op) → Stamped DocumentValue →
 IsSpared schema ops d = All (λ op. d.stamp < op.stamp → strikes schema op.value d.value ≡ false) ops
 
 -- where none strikes by the test, each of a later stamp doesn't
-none_strikes : (schema : List Field) (ops : List (Stamped Op)) (d : Stamped DocumentValue) → list_any (λ op. strikes_later schema op d) ops ≡ false → IsSpared schema ops d
+none_strikes : (schema : List Field) (ops : List (Stamped Op)) (d : Stamped DocumentValue) → list_any (λ op. strikes_later schema op d) ops ≡ false →
+    IsSpared schema ops d
 none_strikes schema [] d h = All-nil (λ op. d.stamp < op.stamp → strikes schema op.value d.value ≡ false)
 none_strikes schema (op ∷ ops) d h =
     let both = or_parts (strikes_later schema op d) (list_any (λ op. strikes_later schema op d) ops) h in
@@ -140,7 +145,8 @@ none_strikes schema (op ∷ ops) d h =
     (none_strikes schema ops d both.1)
 
 -- an operation that doesn't strike if it is later passes the test
-spared_now : (schema : List Field) (op : Stamped Op) (d : Stamped DocumentValue) → (d.stamp < op.stamp → strikes schema op.value d.value ≡ false) → strikes_later schema op d ≡ false
+spared_now : (schema : List Field) (op : Stamped Op) (d : Stamped DocumentValue) → (d.stamp < op.stamp → strikes schema op.value d.value ≡ false) →
+    strikes_later schema op d ≡ false
 spared_now schema op d h =
     ⊎_elim
     (λ (later : nat_lt d.stamp op.stamp ≡ true). ap (λ b. b && strikes schema op.value d.value) later ∙ h (grind (arith, nat_tests)))
@@ -148,14 +154,16 @@ spared_now schema op d h =
     (cases_Bool (nat_lt d.stamp op.stamp))
 
 -- where each of a later stamp doesn't strike, none does by the test
-all_spare : (schema : List Field) (ops : List (Stamped Op)) (d : Stamped DocumentValue) → IsSpared schema ops d → list_any (λ op. strikes_later schema op d) ops ≡ false
+all_spare : (schema : List Field) (ops : List (Stamped Op)) (d : Stamped DocumentValue) → IsSpared schema ops d →
+    list_any (λ op. strikes_later schema op d) ops ≡ false
 all_spare schema [] d h = refl
 all_spare schema (op ∷ ops) d h =
     let P : Stamped Op → Type 0 = λ op. d.stamp < op.stamp → strikes schema op.value d.value ≡ false in
     ap (λ b. b || list_any (λ op. strikes_later schema op d) ops) (spared_now schema op d (All-head P op ops h)) ∙ all_spare schema ops d (All-tail P op ops h)
 
 -- a document is alive where an operation adds it and none of a later stamp strikes it
-pub Contains-alive : (schema : List Field) (ops : List (Stamped Op)) (d : Stamped DocumentValue) → StampsRise ops → Contains (alive schema ops) d ↔ (Contains ops (add_of d) × IsSpared schema ops d)
+pub Contains-alive : (schema : List Field) (ops : List (Stamped Op)) (d : Stamped DocumentValue) → StampsRise ops →
+    Contains (alive schema ops) d ↔ (Contains ops (add_of d) × IsSpared schema ops d)
 Contains-alive schema ops d rise =
     let e = alive-survives schema ops rise in
     let P : List (Stamped DocumentValue) → Type 0 = λ ds. Contains ds d in (

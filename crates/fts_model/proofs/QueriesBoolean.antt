@@ -55,7 +55,8 @@ all_three p q r = cc
 
 -- a Boolean query fits where each query in it does
 pub query_fits_at_bool : (schema : List Field) (must must_not should : _) →
-    fits_in schema (views.Bool must must_not should) ≡ (list_all (fits_in schema) must.items && list_all (fits_in schema) must_not.items && list_all (fits_in schema) should.items)
+    fits_in schema (views.Bool must must_not should)
+    ≡ (list_all (fits_in schema) must.items && list_all (fits_in schema) must_not.items && list_all (fits_in schema) should.items)
 query_fits_at_bool schema must must_not should =
     ap (query_fits schema) (value_at_bool must must_not should)
     ∙ all_three (all_fit-list schema must.items) (all_fit-list schema must_not.items) (all_fit-list schema should.items)
@@ -79,7 +80,8 @@ all_of_parts p q r s = cc
 -- a Boolean query matches where all of its musts, none of its must-nots and, with no must, one of its shoulds match
 pub matches_at_bool : (schema : List Field) (document : DocumentValue) (must must_not should : _) →
     matches_in schema document (views.Bool must must_not should)
-    ≡ (list_all (matches_in schema document) must.items && not (list_any (matches_in schema document) must_not.items) && (is_nonempty must.items || list_any (matches_in schema document) should.items))
+    ≡ (list_all (matches_in schema document) must.items && not (list_any (matches_in schema document) must_not.items) &&
+    (is_nonempty must.items || list_any (matches_in schema document) should.items))
 matches_at_bool schema document must must_not should =
     ap (matches schema document) (value_at_bool must must_not should)
     ∙ all_of_parts (all_match-list schema document must.items) (any_matches-list schema document must_not.items)

@@ -11,7 +11,8 @@ pub stamps_of-push : (xs ys : List (Stamped Op)) (x : Stamped Op) → ys ≡ xs 
 stamps_of-push xs ys x e = ap stamps_of e ∙ map-append (λ (s : Stamped Op). s.stamp) xs (x ∷ [])
 
 -- one operation more has the next stamp
-pub numbered-push : (first : ℕ) (ops : List (Stamped Op)) (op : Stamped Op) → stamps_of ops ≡ range_with_len first (length ops) → op.stamp ≡ first + length ops →
+pub numbered-push : (first : ℕ) (ops : List (Stamped Op)) (op : Stamped Op) → stamps_of ops ≡ range_with_len first (length ops) →
+    op.stamp ≡ first + length ops →
     stamps_of (ops ++ op ∷ []) ≡ range_with_len first (length (ops ++ op ∷ []))
 numbered-push first ops op run at =
     let more : suc (length ops) ≡ length (ops ++ op ∷ []) = omega (arith, length-append ops (op ∷ [])) in

@@ -1,5 +1,6 @@
 -- Texts that come one after the other, each between two characters.
-use Rattle.std.proofs.Common.{◌≡◌, ℕ, suc, ◌+◌, ◌<◌, ◌≤◌, ◌&&◌, true, false, List, [], ◌∷◌, ◌++◌, length, get_or, drop, refl, sym, ap, subst, ◌∙◌, ⊎_elim, arith, length-append}
+use Rattle.std.proofs.Common.{◌≡◌, ℕ, suc, ◌+◌, ◌<◌, ◌≤◌, ◌&&◌, true, false, List, [], ◌∷◌, ◌++◌, length, get_or, drop, refl, sym, ap, subst, ◌∙◌, ⊎_elim}
+use Rattle.std.proofs.Common.{arith, length-append}
 use Rattle.std.specs.Prelude.{slice_index}
 use Rattle.std.specs.Cmp.Lexicographic.{pointwise}
 use Rattle.std.specs.Str.{IsCharBoundary, IsUtf8, bytes_eq}
@@ -25,7 +26,8 @@ boundary-append bytes more i utf8 h =
     (cases_lt i (length bytes))
 
 -- one more text
-pub AreTextEnds-push : (bytes text : List ℕ) (ends : List ℕ) (end : ℕ) → end ≡ length (bytes ++ text) → IsUtf8 text → AreTextEnds bytes ends → AreTextEnds (bytes ++ text) (ends ++ end ∷ [])
+pub AreTextEnds-push : (bytes text : List ℕ) (ends : List ℕ) (end : ℕ) → end ≡ length (bytes ++ text) → IsUtf8 text → AreTextEnds bytes ends →
+    AreTextEnds (bytes ++ text) (ends ++ end ∷ [])
 AreTextEnds-push bytes text ends end is utf8 h =
     let P : ℕ → Type 0 = λ n. AreEnds 0 (ends ++ n ∷ []) n in
     let Q : ℕ → Type 0 = λ n. AreEnds 0 (ends ++ n ∷ []) (length (bytes ++ text)) in
@@ -39,7 +41,8 @@ AreTextEnds-push bytes text ends end is utf8 h =
 -- two lists from a place on are the same where the texts there are, and those behind them
 pub pointwise-step : (xs ys : List (List ℕ)) (n : ℕ) → n < length xs → n < length ys →
     pointwise bytes_eq (drop n xs) (drop n ys) ≡ bytes_eq (get_or xs n []) (get_or ys n []) && pointwise bytes_eq (drop (n + 1) xs) (drop (n + 1) ys)
-pointwise-step xs ys n h l = ap (λ us. pointwise bytes_eq us (drop n ys)) (drop_more xs n [] h) ∙ ap (pointwise bytes_eq (get_or xs n [] ∷ drop (n + 1) xs)) (drop_more ys n [] l)
+pointwise-step xs ys n h l = ap (λ us. pointwise bytes_eq us (drop n ys)) (drop_more xs n [] h) ∙ ap (pointwise bytes_eq (get_or xs n [] ∷ drop (n + 1) xs))
+    (drop_more ys n [] l)
 
 -- lists of other lengths are not
 pub pointwise-lengths : (xs ys : List (List ℕ)) → (length xs ≡ length ys → ⊥) → false ≡ pointwise bytes_eq xs ys

@@ -299,8 +299,8 @@ impl Document {
         Ok(Value::Object(members_of(alloc, fields, &self.stored.values)?))
     }
 
-    /// The fields of these names that have a value, as a JSON object with the names in the order of their bytes. No other
-    /// field is copied.
+    /// The fields of these names that have a value, as a JSON object with the names in the order of their bytes. No
+    /// other field is copied.
     pub fn to_json_of(&self, alloc: Global, names: &[Text]) -> Result<Value, AllocError>
         ensures { IfOk result (λ json. view json ≡ json_of (restrict names.now self.now)) }
     {

@@ -1,12 +1,17 @@
 -- Single bits in words, and what a write of one changes.
-use Rattle.std.proofs.Common.{◌≡◌, ◌||◌, ℕ, zero, suc, ◌+◌, ◌-◌, ◌*◌, ◌/◌, ◌%◌, ◌^◌, ◌<◌, ◌≤◌, ◌≢◌, inl, inr, List, [], ◌∷◌, ◌++◌, Bool, true, false, ◌==◌, replicate, slice_get, Some, length, get_or, take, drop, set, bit_and, bit_or, count_by, refl, sym, ap, ap₂, ◌∙◌, subst, arith, mul-one, mod-eq_of_lt, suc-mul, lit<, cond, lt_of_le_of_lt, Decides}
+use Rattle.std.proofs.Common.{◌≡◌, ◌||◌, ℕ, zero, suc, ◌+◌, ◌-◌, ◌*◌, ◌/◌, ◌%◌, ◌^◌, ◌<◌, ◌≤◌, ◌≢◌, inl, inr, List, [], ◌∷◌, ◌++◌, Bool, true, false, ◌==◌}
+use Rattle.std.proofs.Common.{replicate, slice_get, Some, length, get_or, take, drop, set, bit_and, bit_or, count_by, refl, sym, ap, ap₂, ◌∙◌, subst, arith}
+use Rattle.std.proofs.Common.{mul-one, mod-eq_of_lt, suc-mul, lit<, cond, lt_of_le_of_lt, Decides}
 use Rattle.std.proofs.lemmas.List.Folds.{sum_by-replicate}
 use Rattle.std.proofs.lemmas.List.Sums.{count_by-le-length, sum_by-set}
 use Rattle.std.specs.Int.{bit_at, w64}
-use Rattle.std.proofs.lemmas.Nat.{pow_pos, mod_below, shr_split, div-add-mod', pow-add, one_shl, pow_below, or_lt, and_le_l, mod_low, mod-pow-add, shr-shr, shl_whole, or_comm, or_shifted}
+use Rattle.std.proofs.lemmas.Nat.{pow_pos, mod_below, shr_split, div-add-mod', pow-add, one_shl, pow_below, or_lt, and_le_l, mod_low, mod-pow-add, shr-shr}
+use Rattle.std.proofs.lemmas.Nat.{shl_whole, or_comm, or_shifted}
 use mir.Val.{bool_byte}
-use Rattle.std.proofs.lemmas.Nat.Bits.{same_from_bits, bit_at_above, bit_at_cat_low, bit_at_ones, bit_at-zero, bit_at_set_same, bit_at_set_other, bit_at_clear_same, bit_at_clear_other, shr_and_one, bit_at_lowest, bit_at-suc}
-use Rattle.std.proofs.lemmas.List.{take_all, get_or-take, get_or-drop, get_or-map, ext_get_or, length-set, length-map, get_or-set_same, get_or-set_other, get_or-replicate, length-replicate, replicate_more, set_at, length_push}
+use Rattle.std.proofs.lemmas.Nat.Bits.{same_from_bits, bit_at_above, bit_at_cat_low, bit_at_ones, bit_at-zero, bit_at_set_same, bit_at_set_other}
+use Rattle.std.proofs.lemmas.Nat.Bits.{bit_at_clear_same, bit_at_clear_other, shr_and_one, bit_at_lowest, bit_at-suc}
+use Rattle.std.proofs.lemmas.List.{take_all, get_or-take, get_or-drop, get_or-map, ext_get_or, length-set, length-map, get_or-set_same, get_or-set_other}
+use Rattle.std.proofs.lemmas.List.{get_or-replicate, length-replicate, replicate_more, set_at, length_push}
 use Rattle.std.proofs.lemmas.Option.{get_or_from_slice_get, slice_get-get_or}
 use Rattle.std.proofs.lemmas.Bool.{cases_lt, cases_eq, eq-eqb, ne_eqb}
 use Rattle.std.specs.List.{list_any}
@@ -18,7 +23,8 @@ use Rattle.std.specs.Cmp.Lexicographic.{pointwise}
 use Rattle.std.proofs.Math.Bool.{beq}
 use Rattle.fts_pack.specs.bits.Digits.{joined, digits, word_count, words_of, numbers_in}
 use Rattle.fts_pack.specs.bits.Bits.{IsBits, flags, marks, number_of}
-use Rattle.fts_pack.proofs.DigitsLemmas.{Below, Below-push, read_one, get_or-digits, length-digits, joined-append, joined-digits, digits-joined, joined-drop, joined-drop_split, joined-take}
+use Rattle.fts_pack.proofs.DigitsLemmas.{Below, Below-push, read_one, get_or-digits, length-digits, joined-append, joined-digits, digits-joined, joined-drop}
+use Rattle.fts_pack.proofs.DigitsLemmas.{joined-drop_split, joined-take}
 use Rattle.fts_pack.proofs.PackingLemmas.{Below-drop, length-numbers_in}
 
 -- the greatest number of 64 bits
@@ -36,15 +42,18 @@ pub flag_at : (len i : ℕ) (words : List ℕ) (d : Bool) → i < len → get_or
 unfolding numbers_in
 flag_at len i words d inside =
     let n = joined 64 words in
-    get_or-map (λ x. x == 1) (digits 1 len n) i 0 d (rw (length-digits 1 len n) inside) ∙ ap (λ x. x == 1) (get_or-digits 1 len n i 0 inside ∙ ap (λ p. n / 2 ^ p % 2) (mul-one i))
+    get_or-map (λ x. x == 1) (digits 1 len n) i 0 d (rw (length-digits 1 len n) inside)
+    ∙ ap (λ x. x == 1) (get_or-digits 1 len n i 0 inside ∙ ap (λ p. n / 2 ^ p % 2) (mul-one i))
 
 pub length-flags : (len : ℕ) (words : List ℕ) → length (flags (numbers_in 64 1 len words)) ≡ len
 length-flags len words =
     length-map (numbers_in 64 1 len words) (λ d. d == 1) ∙ length-numbers_in 64 1 len words
 
-pub flag_read : (len i : ℕ) (words : List ℕ) → i < len → Below 64 words → slice_get (flags (numbers_in 64 1 len words)) i ≡ Some (bit_and (get_or words (i / 64) 0 / 2 ^ (i % 64)) 1 == 1)
+pub flag_read : (len i : ℕ) (words : List ℕ) → i < len → Below 64 words →
+    slice_get (flags (numbers_in 64 1 len words)) i ≡ Some (bit_and (get_or words (i / 64) 0 / 2 ^ (i % 64)) 1 == 1)
 flag_read len i words inside below =
-    slice_get-get_or (flags (numbers_in 64 1 len words)) i false (rw (length-flags len words) inside) ∙ ap Some (flag_at len i words false inside ∙ ap (λ b. b == 1) (bit_in_word words i below ∙ sym (shr_and_one (get_or words (i / 64) 0) (i % 64))))
+    slice_get-get_or (flags (numbers_in 64 1 len words)) i false (rw (length-flags len words) inside)
+    ∙ ap Some (flag_at len i words false inside ∙ ap (λ b. b == 1) (bit_in_word words i below ∙ sym (shr_and_one (get_or words (i / 64) 0) (i % 64))))
 
 -- the word of a bit is there
 pub word_inside : (len i : ℕ) → i < len → i / 64 < word_count 64 len
@@ -69,7 +78,8 @@ pub record IsBitWritten (words after : List ℕ) (place bit : ℕ) : Type 0 wher
   pub same : bit_at (joined 64 after) place ≡ bit
   pub others : (i : ℕ) → i ≢ place → bit_at (joined 64 after) i ≡ bit_at (joined 64 words) i
 
-pub bit_written : (words : List ℕ) (place word bit : ℕ) → Below 64 words → place / 64 < length words → word < 2 ^ 64 → bit_at word (place % 64) ≡ bit → ((i : ℕ) → i < 64 → i ≢ place % 64 → bit_at word i ≡ bit_at (get_or words (place / 64) 0) i) → IsBitWritten words (set words (place / 64) word) place bit
+pub bit_written : (words : List ℕ) (place word bit : ℕ) → Below 64 words → place / 64 < length words → word < 2 ^ 64 → bit_at word (place % 64) ≡ bit →
+    ((i : ℕ) → i < 64 → i ≢ place % 64 → bit_at word i ≡ bit_at (get_or words (place / 64) 0) i) → IsBitWritten words (set words (place / 64) word) place bit
 bit_written words place word bit below inside small same others =
     let after = set words (place / 64) word in
     let fits : Below 64 after = λ i. elim (cases_eq i (place / 64)) [ inl e ↦ (rw (e, get_or-set_same) small) | inr ne ↦ (rw get_or-set_other (below i)) ] in
@@ -78,7 +88,8 @@ bit_written words place word bit below inside small same others =
       fits = fits;
       same = bit_in_word after place fits ∙ (rw get_or-set_same same);
       others = λ i ne. bit_in_word after i fits ∙ (elim (cases_eq (i / 64) (place / 64)) [
-        | inl e ↦ (let apart : i % 64 ≢ place % 64 = λ r. ne (omega (arith, e, r)) in rw (e, get_or-set_same) (others (i % 64) (mod_below i 64 (omega arith)) apart))
+        | inl e ↦ (let apart : i % 64 ≢ place % 64 = λ r. ne (omega (arith, e, r)) in rw (e, get_or-set_same)
+            (others (i % 64) (mod_below i 64 (omega arith)) apart))
         | inr away ↦ (rw get_or-set_other refl)
       ]) ∙ sym (bit_in_word words i below);
     }
@@ -89,10 +100,12 @@ IsBits-written len place bit words after h inside w = record {
   len_fits = h.len_fits;
   count = w.count ∙ h.count;
   fits = w.fits;
-  unused = small_from_bits (joined 64 after) len (λ i above. let ne : i ≢ place = omega arith in w.others i ne ∙ bit_at_above (joined 64 words) len i h.unused above);
+  unused = small_from_bits (joined 64 after) len (λ i above. let ne : i ≢ place = omega arith in w.others i ne ∙ bit_at_above (joined 64 words) len i h.unused
+      above);
 }
 
-pub flags-written : (len place bit : ℕ) (words after : List ℕ) → place < len → IsBitWritten words after place bit → flags (numbers_in 64 1 len after) ≡ set (flags (numbers_in 64 1 len words)) place (bit == 1)
+pub flags-written : (len place bit : ℕ) (words after : List ℕ) → place < len → IsBitWritten words after place bit →
+    flags (numbers_in 64 1 len after) ≡ set (flags (numbers_in 64 1 len words)) place (bit == 1)
 flags-written len place bit words after inside w =
     let before = flags (numbers_in 64 1 len words) in
     ext_get_or false (flags (numbers_in 64 1 len after)) (set before place (bit == 1))
@@ -138,20 +151,24 @@ AreFull-whole len whole =
       number = joined-replicate_ones (word_count 64 len) ∙ ap (λ b. 2 ^ b) count;
     }
 
-pub AreFull-rest : (len : ℕ) → 0 < len % 64 → AreFull len (set (replicate (word_count 64 len) all_ones) (len / 64) (1 * 2 ^ (len % 64) % 18446744073709551616 - 1))
+pub AreFull-rest : (len : ℕ) → 0 < len % 64 →
+    AreFull len (set (replicate (word_count 64 len) all_ones) (len / 64) (1 * 2 ^ (len % 64) % 18446744073709551616 - 1))
 unfolding word_count joined
 AreFull-rest len some =
     let whole = replicate (len / 64) all_ones in
     let last = 1 * 2 ^ (len % 64) % 18446744073709551616 - 1 in
     let last_is : last ≡ 2 ^ (len % 64) - 1 = ap (λ n. n - 1) (one_shl (len % 64) 64 (mod_below len 64 (omega arith))) in
     let count : word_count 64 len ≡ len / 64 + 1 = omega arith in
-    let words : replicate (word_count 64 len) all_ones ≡ whole ++ all_ones ∷ [] = ap (λ n. replicate n all_ones) count ∙ sym (replicate_more (len / 64) all_ones) in
-    let after : set (replicate (word_count 64 len) all_ones) (len / 64) last ≡ whole ++ last ∷ [] = ap (λ xs. set xs (len / 64) last) words ∙ set_at whole all_ones [] last (len / 64) (length-replicate (len / 64) all_ones) in
+    let words : replicate (word_count 64 len) all_ones ≡ whole ++ all_ones ∷ [] =
+    ap (λ n. replicate n all_ones) count ∙ sym (replicate_more (len / 64) all_ones) in
+    let after : set (replicate (word_count 64 len) all_ones) (len / 64) last ≡ whole ++ last ∷ [] =
+    ap (λ xs. set xs (len / 64) last) words ∙ set_at whole all_ones [] last (len / 64) (length-replicate (len / 64) all_ones) in
     let pow : 2 ^ len ≡ 2 ^ (len % 64) * 2 ^ (len / 64 * 64) = ap (λ b. 2 ^ b) (omega arith) ∙ pow-add 2 (len % 64) (len / 64 * 64) in
     let size : length whole ≡ len / 64 = length-replicate (len / 64) all_ones in
     let small : last < 2 ^ 64 = rw last_is (omega (arith, pow_below (len % 64) 64 (mod_below len 64 (omega arith)))) in
     let top : last + 1 ≡ 2 ^ (len % 64) = omega (arith, last_is, pow_pos (len % 64)) in
-    let joined_is : joined 64 (whole ++ last ∷ []) ≡ (0 * 2 ^ 64 + last) * 2 ^ (len / 64 * 64) + joined 64 whole = joined-append 64 whole (last ∷ []) ∙ ap (λ k. (0 * 2 ^ 64 + last) * 2 ^ (k * 64) + joined 64 whole) size in
+    let joined_is : joined 64 (whole ++ last ∷ []) ≡ (0 * 2 ^ 64 + last) * 2 ^ (len / 64 * 64) + joined 64 whole =
+    joined-append 64 whole (last ∷ []) ∙ ap (λ k. (0 * 2 ^ 64 + last) * 2 ^ (k * 64) + joined 64 whole) size in
     record {
       count = rw after (length_push whole last ∙ omega (arith, size, count));
       fits = rw after (Below-push 64 last whole (Below-replicate (len / 64) all_ones (lit< tt)) small);
@@ -167,7 +184,8 @@ flags-full len words h =
     ext_get_or false (flags (numbers_in 64 1 len words)) (replicate len true)
     (length-flags len words ∙ sym (length-replicate len true))
     (λ i lt. let inside : i < len = omega (arith, length-flags len words) in
-    flag_at len i words false inside ∙ ap (λ n. bit_at n i == 1) number ∙ ap (λ b. b == 1) (bit_at_ones len i inside) ∙ sym (get_or-replicate len i true false inside))
+    flag_at len i words false inside ∙ ap (λ n. bit_at n i == 1) number ∙ ap (λ b. b == 1) (bit_at_ones len i inside)
+    ∙ sym (get_or-replicate len i true false inside))
 
 pub IsBits-empty : (len : ℕ) → len < 2 ^ 64 → IsBits len (replicate (word_count 64 len) 0)
 IsBits-empty len len_fits = record {
@@ -183,7 +201,8 @@ flags-empty len =
     ext_get_or false (flags (numbers_in 64 1 len words)) (replicate len false)
     (length-flags len words ∙ sym (length-replicate len false))
     (λ i lt. let inside : i < len = omega (arith, length-flags len words) in
-    flag_at len i words false inside ∙ ap (λ n. bit_at n i == 1) (joined-replicate_zero (word_count 64 len)) ∙ ap (λ b. b == 1) (bit_at-zero i) ∙ sym (get_or-replicate len i false false inside))
+    flag_at len i words false inside ∙ ap (λ n. bit_at n i == 1) (joined-replicate_zero (word_count 64 len)) ∙ ap (λ b. b == 1) (bit_at-zero i)
+    ∙ sym (get_or-replicate len i false false inside))
 
 -- a digit is 1 where its boolean is true
 flag_counts : (n : ℕ) → cond (n % 2 == 1) 1 0 ≡ n % 2
@@ -210,9 +229,11 @@ pub words-from_flags : (len : ℕ) (words : List ℕ) → IsBits len words → w
 unfolding words_of numbers_in
 words-from_flags len words h =
     let n = joined 64 words in
-    let size : length (marks (flags (digits 1 len n))) * 1 ≡ len = ap (λ xs. length xs * 1) (marks-flags len n) ∙ ap (λ k. k * 1) (length-digits 1 len n) ∙ mul-one len in
+    let size : length (marks (flags (digits 1 len n))) * 1 ≡ len = ap (λ xs. length xs * 1) (marks-flags len n) ∙ ap (λ k. k * 1) (length-digits 1 len n)
+    ∙ mul-one len in
     let bits : 2 ^ (len * 1) ≡ 2 ^ len = ap (λ b. 2 ^ b) (mul-one len) in
-    let number : joined 1 (marks (flags (digits 1 len n))) ≡ n = ap (joined 1) (marks-flags len n) ∙ joined-digits 1 len n ∙ ap (λ p. n % p) bits ∙ mod-eq_of_lt h.unused in
+    let number : joined 1 (marks (flags (digits 1 len n))) ≡ n = ap (joined 1) (marks-flags len n) ∙ joined-digits 1 len n ∙ ap (λ p. n % p) bits
+    ∙ mod-eq_of_lt h.unused in
     sym (ap₂ (λ b m. digits 64 (word_count 64 b) m) size number ∙ ap (λ c. digits 64 c n) (sym h.count) ∙ digits-joined 64 words h.fits)
 
 -- booleans as a number are their words as one
@@ -241,7 +262,8 @@ number_of-part bits start count =
     ∙ ap₂ (λ n b. n % 2 ^ b) (sym (joined-drop 1 start all (Below-marks bits)) ∙ ap (λ b. joined 1 all / 2 ^ b) (mul-one start)) (mul-one count)
 
 -- one of the words
-pub word_read : (len index : ℕ) (words : List ℕ) → IsBits len words → get_or words index 0 ≡ number_of (take 64 (drop (64 * index) (flags (numbers_in 64 1 len words))))
+pub word_read : (len index : ℕ) (words : List ℕ) → IsBits len words →
+    get_or words index 0 ≡ number_of (take 64 (drop (64 * index) (flags (numbers_in 64 1 len words))))
 word_read len index words h =
     let rest = joined 64 (drop (suc index) words) in
     let at : joined 64 words / 2 ^ (index * 64) ≡ rest * 2 ^ 64 + get_or words index 0 = joined-drop 64 index words h.fits ∙ joined-drop_split 64 index words in
@@ -252,7 +274,8 @@ word_read len index words h =
     ∙ mod_low rest 64 (get_or words index 0) (h.fits index))
 
 -- two words side by side
-pub words_side_by_side : (bits : List Bool) (start low high : ℕ) → low ≡ number_of (take 64 (drop start bits)) → high ≡ number_of (take 64 (drop (start + 64) bits)) → bit_or low (high * 2 ^ 64 % 2 ^ 128) ≡ number_of (take 128 (drop start bits))
+pub words_side_by_side : (bits : List Bool) (start low high : ℕ) → low ≡ number_of (take 64 (drop start bits)) →
+    high ≡ number_of (take 64 (drop (start + 64) bits)) → bit_or low (high * 2 ^ 64 % 2 ^ 128) ≡ number_of (take 128 (drop start bits))
 words_side_by_side bits start low high low_is high_is =
     let n = number_of bits in
     let low' : low ≡ n / 2 ^ start % 2 ^ 64 = low_is ∙ number_of-part bits start 64 in
@@ -267,50 +290,66 @@ words_side_by_side bits start low high low_is high_is =
     ∙ sym (number_of-part bits start 128)
 
 -- booleans that are the same lie in the same words
-pub words-unique : (len : ℕ) (words others : List ℕ) → IsBits len words → IsBits len others → flags (numbers_in 64 1 len words) ≡ flags (numbers_in 64 1 len others) → words ≡ others
+pub words-unique : (len : ℕ) (words others : List ℕ) → IsBits len words → IsBits len others →
+    flags (numbers_in 64 1 len words) ≡ flags (numbers_in 64 1 len others) → words ≡ others
 words-unique len words others h g same =
     words-from_flags len words h ∙ ap (λ bits. words_of 64 1 (marks bits)) same ∙ sym (words-from_flags len others g)
 
 -- a bit set, or cleared
-pub bit_put : (bit : Bool) (words : List ℕ) (place n : ℕ) → Below 64 words → place / 64 < length words → n ≡ get_or words (place / 64) 0 → IsBitWritten words (set words (place / 64) (cond bit (bit_or n (1 * 2 ^ (place % 64) % 2 ^ 64)) (bit_and n (all_ones - 1 * 2 ^ (place % 64) % 2 ^ 64)))) place (cond bit 1 0)
+pub bit_put : (bit : Bool) (words : List ℕ) (place n : ℕ) → Below 64 words → place / 64 < length words → n ≡ get_or words (place / 64) 0 →
+    IsBitWritten words (set words (place / 64) (cond bit (bit_or n (1 * 2 ^ (place % 64) % 2 ^ 64)) (bit_and n (all_ones - 1 * 2 ^ (place % 64) % 2 ^ 64))))
+    place (cond bit 1 0)
 bit_put true words place n below inside n_is =
     let start : place % 64 < 64 = mod_below place 64 (omega arith) in
     let small : n < 2 ^ 64 = rw n_is (below (place / 64)) in
-    bit_written words place (bit_or n (1 * 2 ^ (place % 64) % 2 ^ 64)) 1 below inside (or_lt 64 n (1 * 2 ^ (place % 64) % 2 ^ 64) small (mod_below (1 * 2 ^ (place % 64)) (2 ^ 64) (pow_pos 64))) (bit_at_set_same w64 n (place % 64) start) (λ i lt ne. bit_at_set_other w64 n (place % 64) start i ne ∙ ap (λ m. bit_at m i) n_is)
+    bit_written words place (bit_or n (1 * 2 ^ (place % 64) % 2 ^ 64)) 1 below inside
+    (or_lt 64 n (1 * 2 ^ (place % 64) % 2 ^ 64) small (mod_below (1 * 2 ^ (place % 64)) (2 ^ 64) (pow_pos 64))) (bit_at_set_same w64 n (place % 64) start)
+    (λ i lt ne. bit_at_set_other w64 n (place % 64) start i ne ∙ ap (λ m. bit_at m i) n_is)
 bit_put false words place n below inside n_is =
     let start : place % 64 < 64 = mod_below place 64 (omega arith) in
     let small : n < 2 ^ 64 = rw n_is (below (place / 64)) in
     let mask = all_ones - 1 * 2 ^ (place % 64) % 2 ^ 64 in
-    bit_written words place (bit_and n mask) 0 below inside (lt_of_le_of_lt (and_le_l n mask) small) (bit_at_clear_same w64 n (place % 64) start) (λ i lt ne. bit_at_clear_other w64 n (place % 64) start i lt ne ∙ ap (λ m. bit_at m i) n_is)
+    bit_written words place (bit_and n mask) 0 below inside (lt_of_le_of_lt (and_le_l n mask) small) (bit_at_clear_same w64 n (place % 64) start)
+    (λ i lt ne. bit_at_clear_other w64 n (place % 64) start i lt ne ∙ ap (λ m. bit_at m i) n_is)
 
 -- a document's bit, and the word that it is in, are there
-pub doc_inside : (len doc : ℕ) (words : List ℕ) (value : List Bool) → flags (numbers_in 64 1 len words) ≡ value → IsBits len words → doc < length value → (doc < len) × (doc / 64 < length words)
+pub doc_inside : (len doc : ℕ) (words : List ℕ) (value : List Bool) → flags (numbers_in 64 1 len words) ≡ value → IsBits len words → doc < length value →
+    (doc < len) × (doc / 64 < length words)
 doc_inside len doc words value view h inside =
     let within : doc < len = omega (arith, ap length view, length-flags len words) in
     (within, rw h.count (word_inside len doc within))
 
 -- bits with one of them put: the words are those of bits, and tell the others as before
-pub bits-put : (bit : Bool) (len doc n : ℕ) (words : List ℕ) (value : List Bool) → flags (numbers_in 64 1 len words) ≡ value → IsBits len words → doc < length value → n ≡ get_or words (doc / 64) 0 → let after = set words (doc / 64) (cond bit (bit_or n (1 * 2 ^ (doc % 64) % 2 ^ 64)) (bit_and n (all_ones - 1 * 2 ^ (doc % 64) % 2 ^ 64))) in IsBits len after × (flags (numbers_in 64 1 len after) ≡ set value doc bit)
+pub bits-put : (bit : Bool) (len doc n : ℕ) (words : List ℕ) (value : List Bool) → flags (numbers_in 64 1 len words) ≡ value → IsBits len words →
+    doc < length value → n ≡ get_or words (doc / 64) 0 → let after =
+    set words (doc / 64) (cond bit (bit_or n (1 * 2 ^ (doc % 64) % 2 ^ 64)) (bit_and n (all_ones - 1 * 2 ^ (doc % 64) % 2 ^ 64))) in
+    IsBits len after × (flags (numbers_in 64 1 len after) ≡ set value doc bit)
 bits-put bit len doc n words value view h inside n_is =
     let place = doc_inside len doc words value view h inside in
     let written = bit_put bit words doc n h.fits place.1 n_is in
-    let same : (b : Bool) → (cond b 1 0 == 1) ≡ b = elim [ true ↦ refl | false ↦ refl ] in
-    (IsBits-written len doc (cond bit 1 0) words _ h place.0 written, flags-written len doc (cond bit 1 0) words _ place.0 written ∙ ap (set (flags (numbers_in 64 1 len words)) doc) (same bit) ∙ ap (λ v. set v doc bit) view)
+    let same : (b : Bool) → (cond b 1 0 == 1) ≡ b = elim [ true ↦ refl | false ↦ refl ] in (
+      IsBits-written len doc (cond bit 1 0) words _ h place.0 written,
+      flags-written len doc (cond bit 1 0) words _ place.0 written
+          ∙ ap (set (flags (numbers_in 64 1 len words)) doc) (same bit) ∙ ap (λ v. set v doc bit) view,
+    )
 
 pub rest_inside : (len : ℕ) → 0 < len % 64 → len / 64 < word_count 64 len
 unfolding word_count
 rest_inside len some = omega arith
 
 -- what `==` answers of two values of `Bits`
-pub eq_same_len : (len other : ℕ) (words others : List ℕ) (v w : List Bool) (r : Bool) → flags (numbers_in 64 1 len words) ≡ v → flags (numbers_in 64 1 other others) ≡ w → IsBits len words → IsBits other others → len ≡ other → Decides r (words ≡ others) → r ≡ pointwise beq v w
+pub eq_same_len : (len other : ℕ) (words others : List ℕ) (v w : List Bool) (r : Bool) → flags (numbers_in 64 1 len words) ≡ v →
+    flags (numbers_in 64 1 other others) ≡ w → IsBits len words → IsBits other others → len ≡ other → Decides r (words ≡ others) → r ≡ pointwise beq v w
 eq_same_len len other words others v w r v_is w_is h g same d =
     let by_words : Decides r (v ≡ w) = (
       λ e. sym v_is ∙ ap₂ (λ n xs. flags (numbers_in 64 1 n xs)) same (d.0 e) ∙ w_is,
-      λ e. d.1 (words-unique len words others h (subst (λ n. IsBits n others) (sym same) g) (v_is ∙ e ∙ sym w_is ∙ ap (λ n. flags (numbers_in 64 1 n others)) (sym same))),
+      λ e. d.1 (words-unique len words others h (subst (λ n. IsBits n others) (sym same) g) (v_is ∙ e ∙ sym w_is ∙ ap (λ n. flags (numbers_in 64 1 n others))
+          (sym same))),
     ) in
     same_from_decides r (pointwise beq v w) by_words (slice_eq-Decides booleans_Decides v w (pointwise beq v w) refl)
 
-pub eq_other_len : (len other : ℕ) (words others : List ℕ) (v w : List Bool) → flags (numbers_in 64 1 len words) ≡ v → flags (numbers_in 64 1 other others) ≡ w → len ≢ other → (len == other) ≡ pointwise beq v w
+pub eq_other_len : (len other : ℕ) (words others : List ℕ) (v w : List Bool) → flags (numbers_in 64 1 len words) ≡ v →
+    flags (numbers_in 64 1 other others) ≡ w → len ≢ other → (len == other) ≡ pointwise beq v w
 eq_other_len len other words others v w v_is w_is differ =
     let by_len : Decides (len == other) (v ≡ w) = (
       λ e. absurd (differ ((Decides-eqb len other).0 e)),
@@ -333,9 +372,11 @@ module _ (bits : List Bool) (doc : ℕ) (was : Bool) (inside : doc < length bits
   pub ones_above : one_if was ≤ count_by (λ bit. bit) bits
   ones_above = omega (arith, sum_by-set one_if bits doc false false inside, digit_there)
 
-  pub ones_put : (bit : Bool) (after : List Bool) (ones x y : ℕ) → ones ≡ count_by (λ b. b) bits → x ≡ one_if was → y ≡ one_if bit → after ≡ set bits doc bit → ones - x + y ≡ count_by (λ b. b) after
+  pub ones_put : (bit : Bool) (after : List Bool) (ones x y : ℕ) → ones ≡ count_by (λ b. b) bits → x ≡ one_if was → y ≡ one_if bit → after ≡ set bits doc bit →
+      ones - x + y ≡ count_by (λ b. b) after
   ones_put bit after ones x y is x_is y_is put =
-      let sum : ones - x + y ≡ count_by (λ b. b) (set bits doc bit) = omega (arith, ones_above, sum_by-set one_if bits doc bit false inside, digit_there, is, x_is, y_is) in
+      let sum : ones - x + y ≡ count_by (λ b. b) (set bits doc bit) =
+      omega (arith, ones_above, sum_by-set one_if bits doc bit false inside, digit_there, is, x_is, y_is) in
       sum ∙ ap (count_by (λ b. b)) (sym put)
 
   -- there are no more than bits
@@ -361,7 +402,8 @@ bit_at-number_of (false ∷ bits) (suc k) =
     bit_at-suc (number_of (false ∷ bits)) k ∙ ap (λ n. bit_at n k) half ∙ bit_at-number_of bits k
 
 -- a bit of a word is the boolean of its document
-pub word_bit : (bits : List Bool) (start word k : ℕ) → word ≡ number_of (take 64 (drop start bits)) → k < 64 → (bit_at word k == 1) ≡ get_or bits (start + k) false
+pub word_bit : (bits : List Bool) (start word k : ℕ) → word ≡ number_of (take 64 (drop start bits)) → k < 64 →
+    (bit_at word k == 1) ≡ get_or bits (start + k) false
 word_bit bits start word k is inside =
     let one : (b : Bool) → (cond b 1 0 == 1) ≡ b = elim [ true ↦ refl | false ↦ refl ] in
     let part = take 64 (drop start bits) in
@@ -390,20 +432,24 @@ or_false true b = refl
 or_false false true = refl
 or_false false false = refl
 
-pub AreSet-more : (old new after : List Bool) (docs : List ℕ) (i doc : ℕ) → AreSet old new (take i docs) → i < length docs → doc ≡ get_or docs i 0 → doc < length old → after ≡ set new doc true → AreSet old after (take (i + 1) docs)
+pub AreSet-more : (old new after : List Bool) (docs : List ℕ) (i doc : ℕ) → AreSet old new (take i docs) → i < length docs → doc ≡ get_or docs i 0 →
+    doc < length old → after ≡ set new doc true → AreSet old after (take (i + 1) docs)
 AreSet-more old new after docs i doc h inside is there put = record {
   len = ap length put ∙ length-set new doc true ∙ h.len;
   set_are = λ d.
       let room : doc < length new = omega (arith, there, h.len) in
-      let more : list_any (λ x. x == d) (take (i + 1) docs) ≡ (list_any (λ x. x == d) (take i docs) || (doc == d)) = list_any_more (λ x. x == d) docs i 0 inside ∙ ap (λ x. list_any (λ x. x == d) (take i docs) || (x == d)) (sym is) in
+      let more : list_any (λ x. x == d) (take (i + 1) docs) ≡ (list_any (λ x. x == d) (take i docs) || (doc == d)) =
+      list_any_more (λ x. x == d) docs i 0 inside ∙ ap (λ x. list_any (λ x. x == d) (take i docs) || (x == d)) (sym is) in
       ap (λ v. get_or v d false) put ∙ (elim (cases_eq d doc) [
         | inl e ↦ (
             let same : (doc == d) ≡ true = rw e (eq-eqb doc doc refl) in
-            (rw (e, get_or-set_same) refl) ∙ sym (or_same (get_or old d false) (list_any (λ x. x == d) (take i docs))) ∙ ap (λ b. get_or old d false || (list_any (λ x. x == d) (take i docs) || b)) (sym same) ∙ ap (λ b. get_or old d false || b) (sym more)
+            (rw (e, get_or-set_same) refl) ∙ sym (or_same (get_or old d false) (list_any (λ x. x == d) (take i docs)))
+            ∙ ap (λ b. get_or old d false || (list_any (λ x. x == d) (take i docs) || b)) (sym same) ∙ ap (λ b. get_or old d false || b) (sym more)
             )
         | inr ne ↦ (
             let other : (doc == d) ≡ false = ne_eqb doc d (λ e. ne (sym e)) in
-            (rw get_or-set_other (h.set_are d)) ∙ sym (or_false (get_or old d false) (list_any (λ x. x == d) (take i docs))) ∙ ap (λ b. get_or old d false || (list_any (λ x. x == d) (take i docs) || b)) (sym other) ∙ ap (λ b. get_or old d false || b) (sym more)
+            (rw get_or-set_other (h.set_are d)) ∙ sym (or_false (get_or old d false) (list_any (λ x. x == d) (take i docs)))
+            ∙ ap (λ b. get_or old d false || (list_any (λ x. x == d) (take i docs) || b)) (sym other) ∙ ap (λ b. get_or old d false || b) (sym more)
             )
       ]);
 }

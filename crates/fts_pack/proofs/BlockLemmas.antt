@@ -6,11 +6,13 @@ use Rattle.fts_pack.specs.Lanes.{words_in_lanes}
 use Rattle.fts_pack.proofs.LaneLemmas.{numbers_in_lanes-words}
 
 -- the words of numbers hold these numbers
-pub block_again : (numbers words : List ℕ) (width : ℕ) → length numbers ≤ 128 → IsWidthOf numbers width → words ≡ words_in_lanes width numbers → block_numbers (length numbers) width words ≡ numbers
+pub block_again : (numbers words : List ℕ) (width : ℕ) → length numbers ≤ 128 → IsWidthOf numbers width → words ≡ words_in_lanes width numbers →
+    block_numbers (length numbers) width words ≡ numbers
 block_again numbers words width few fits words_are =
     rw words_are (numbers_in_lanes-words width numbers few fits.holds)
 
-pub IsBlock-packed : (numbers words : List ℕ) (width : ℕ) → length numbers ≤ 128 → width ≤ 32 → IsWidthOf numbers width → words ≡ words_in_lanes width numbers → IsBlock (length numbers) width words
+pub IsBlock-packed : (numbers words : List ℕ) (width : ℕ) → length numbers ≤ 128 → width ≤ 32 → IsWidthOf numbers width → words ≡ words_in_lanes width numbers →
+    IsBlock (length numbers) width words
 IsBlock-packed numbers words width few narrow fits words_are =
     let again = block_again numbers words width few fits words_are in
     record {

@@ -1,8 +1,10 @@
 -- The ends of blocks: what they tell of each document, and that they fit.
-use Rattle.std.proofs.Common.{◌≡◌, ℕ, ◌+◌, ◌-◌, ◌*◌, ◌/◌, ◌%◌, ◌^◌, ◌<◌, ◌≤◌, inl, inr, List, [], ◌∷◌, ◌++◌, true, false, Option, Some, None, IfSome, All, length, get_or, take, drop, min, nat_le, cond, sym, ap, ◌∙◌, subst, arith}
+use Rattle.std.proofs.Common.{◌≡◌, ℕ, ◌+◌, ◌-◌, ◌*◌, ◌/◌, ◌%◌, ◌^◌, ◌<◌, ◌≤◌, inl, inr, List, [], ◌∷◌, ◌++◌, true, false, Option, Some, None, IfSome, All}
+use Rattle.std.proofs.Common.{length, get_or, take, drop, min, nat_le, cond, sym, ap, ◌∙◌, subst, arith}
 use Rattle.std.specs.Option.{option_map_or}
 use Rattle.std.proofs.lemmas.Bool.{cases_lt}
-use Rattle.std.proofs.lemmas.List.{get_or-drop, get_or-take, get_or_default, get_or_past, length-append, length-drop, length-take, get_or_append_left, get_or-append_right, take_all}
+use Rattle.std.proofs.lemmas.List.{get_or-drop, get_or-take, get_or_default, get_or_past, length-append, length-drop, length-take, get_or_append_left}
+use Rattle.std.proofs.lemmas.List.{get_or-append_right, take_all}
 use Rattle.std.proofs.Math.Pow.{pow_mono}
 use Rattle.fts_pack.specs.column.Blocks.{AreEnds, AreEndsOf, block_of, no_ends, range_above}
 use Rattle.fts_pack.specs.column.Column.{HaveOffsets, IsRangeOf, offsets}
@@ -25,7 +27,8 @@ pub block_none : (values : List (Option ℕ)) (block doc : ℕ) → IsRangeOf (b
 block_none values block doc h here = sym (doc_place values block doc here) ∙ none_in (block_of block values) (doc % 128) h
 
 -- the value of a document of a block is within its range
-pub block_within : (values : List (Option ℕ)) (block doc : ℕ) (range : ℕ × ℕ) → IsRangeOf (block_of block values) (Some range) → doc / 128 ≡ block → IfSome (get_or values doc None) (λ x. (range.0 ≤ x) × (x ≤ range.1))
+pub block_within : (values : List (Option ℕ)) (block doc : ℕ) (range : ℕ × ℕ) → IsRangeOf (block_of block values) (Some range) → doc / 128 ≡ block →
+    IfSome (get_or values doc None) (λ x. (range.0 ≤ x) × (x ≤ range.1))
 block_within values block doc range h here =
     let P : Option ℕ → Type 0 = λ v. IfSome v (λ x. (range.0 ≤ x) × (x ≤ range.1)) in
     let k = doc % 128 in
@@ -46,22 +49,26 @@ pub block_past : (values : List (Option ℕ)) (block : ℕ) → length values �
 block_past values block past = λ k d inside. absurd (omega (arith, length-block values block))
 
 -- the end of a block's range is the value of a document
-end_at : (values : List (Option ℕ)) (block k x : ℕ) → k < length (block_of block values) → get_or (block_of block values) k (Some x) ≡ Some x → (128 * block + k < length values) × (get_or values (128 * block + k) None ≡ Some x)
+end_at : (values : List (Option ℕ)) (block k x : ℕ) → k < length (block_of block values) → get_or (block_of block values) k (Some x) ≡ Some x →
+    (128 * block + k < length values) × (get_or values (128 * block + k) None ≡ Some x)
 end_at values block k x inside at =
     let small : k < 128 = omega (arith, length-block values block) in
     let there : 128 * block + k < length values = omega (arith, length-block values block) in
     (there, get_or_default values (128 * block + k) None (Some x) there ∙ sym (in_block values block k (Some x) small) ∙ at)
 
 -- how far an end is above the least takes as many bits as an offset
-end_fits : (values : List (Option ℕ)) (least width block k far : ℕ) → HaveOffsets least width values → k < length (block_of block values) → get_or (block_of block values) k (Some (least + far)) ≡ Some (least + far) → far < 2 ^ width
+end_fits : (values : List (Option ℕ)) (least width block k far : ℕ) → HaveOffsets least width values → k < length (block_of block values) →
+    get_or (block_of block values) k (Some (least + far)) ≡ Some (least + far) → far < 2 ^ width
 end_fits values least width block k far h inside at =
     let there = end_at values block k (least + far) inside at in
     let i = 128 * block + k in
-    let offset : get_or (offsets least values) i 0 ≡ far = offset_at least i 0 values there.0 ∙ ap (λ v. option_map_or (λ x. x - least) v 0) there.1 ∙ (let e : (least + far) - least ≡ far = omega arith in e) in
+    let offset : get_or (offsets least values) i 0 ≡ far = offset_at least i 0 values there.0 ∙ ap (λ v. option_map_or (λ x. x - least) v 0) there.1
+    ∙ (let e : (least + far) - least ≡ far = omega arith in e) in
     omega (arith, offset, h.fits i 0 (omega (arith, there.0, length-offsets least values)))
 
 -- the range that ends tell where the first is not above the second
-pub told_range : (least : ℕ) (values : List (Option ℕ)) (ends : ℕ × ℕ) → IsRangeOf values (range_above least ends) → ends.0 ≤ ends.1 → IsRangeOf values (Some (least + ends.0, least + ends.1))
+pub told_range : (least : ℕ) (values : List (Option ℕ)) (ends : ℕ × ℕ) → IsRangeOf values (range_above least ends) → ends.0 ≤ ends.1 →
+    IsRangeOf values (Some (least + ends.0, least + ends.1))
 told_range least values ends is order =
     let yes : nat_le ends.0 ends.1 ≡ true = grind arith in
     subst (λ b. IsRangeOf values (cond b (Some (least + ends.0, least + ends.1)) None)) yes is
@@ -72,7 +79,8 @@ told_none least values ends is order =
     subst (λ b. IsRangeOf values (cond b (Some (least + ends.0, least + ends.1)) None)) no is
 
 -- ends fit the lanes
-pub ends_fit : (values : List (Option ℕ)) (least width bits block : ℕ) (ends : ℕ × ℕ) → HaveOffsets least width values → AreEnds least (block_of block values) ends → width ≤ bits → 1 ≤ bits → (ends.0 < 2 ^ bits) × (ends.1 < 2 ^ bits)
+pub ends_fit : (values : List (Option ℕ)) (least width bits block : ℕ) (ends : ℕ × ℕ) → HaveOffsets least width values →
+    AreEnds least (block_of block values) ends → width ≤ bits → 1 ≤ bits → (ends.0 < 2 ^ bits) × (ends.1 < 2 ^ bits)
 ends_fit values least width bits block ends h is narrow some =
     let power : 2 ^ width ≤ 2 ^ bits = pow_mono narrow in
     let two : 2 ^ 1 ≤ 2 ^ bits = pow_mono some in
@@ -88,7 +96,8 @@ ends_fit values least width bits block ends h is narrow some =
     ]
 
 -- the values from a block's first to its last are those of the block
-pub block_taken : (values : List (Option ℕ)) (block end : ℕ) → end ≡ min (block * 128 + 128) (length values) → take (end - block * 128) (drop (block * 128) values) ≡ block_of block values
+pub block_taken : (values : List (Option ℕ)) (block end : ℕ) → end ≡ min (block * 128 + 128) (length values) →
+    take (end - block * 128) (drop (block * 128) values) ≡ block_of block values
 block_taken values block end is =
     let from : block * 128 ≡ 128 * block = omega arith in
     let rest = drop (128 * block) values in
@@ -99,7 +108,8 @@ block_taken values block end is =
     ]
 
 -- values above the least are so in a block
-pub block_above : (values : List (Option ℕ)) (least block : ℕ) → All (λ v. IfSome v (λ x. least ≤ x)) values → All (λ v. IfSome v (λ x. least ≤ x)) (block_of block values)
+pub block_above : (values : List (Option ℕ)) (least block : ℕ) → All (λ v. IfSome v (λ x. least ≤ x)) values →
+    All (λ v. IfSome v (λ x. least ≤ x)) (block_of block values)
 block_above values least block h = λ k d inside.
     let P : Option ℕ → Type 0 = λ v. IfSome v (λ x. least ≤ x) in
     subst P (sym (in_block values block k d (omega (arith, length-block values block)))) (h (128 * block + k) d (omega (arith, length-block values block)))
@@ -109,7 +119,8 @@ pub record AreFirstEnds (least : ℕ) (values : List (Option ℕ)) (count : ℕ)
   pub count_is : length ends ≡ count
   pub range_is : (block : ℕ) → block < count → IsRangeOf (block_of block values) (range_above least (get_or ends block no_ends))
 
-pub first_more : (least : ℕ) (values : List (Option ℕ)) (count : ℕ) (list : List (ℕ × ℕ)) (ends : ℕ × ℕ) → AreFirstEnds least values count list → IsRangeOf (block_of count values) (range_above least ends) → AreFirstEnds least values (count + 1) (list ++ ends ∷ [])
+pub first_more : (least : ℕ) (values : List (Option ℕ)) (count : ℕ) (list : List (ℕ × ℕ)) (ends : ℕ × ℕ) → AreFirstEnds least values count list →
+    IsRangeOf (block_of count values) (range_above least ends) → AreFirstEnds least values (count + 1) (list ++ ends ∷ [])
 first_more least values count list ends h is =
     let P : ℕ → ℕ × ℕ → Type 0 = λ block x. IsRangeOf (block_of block values) (range_above least x) in
     record {
@@ -119,11 +130,13 @@ first_more least values count list ends h is =
         | inr after ↦ (
             let here : block ≡ count = omega (arith, after, lt) in
             subst (λ b. P b (get_or (list ++ ends ∷ []) b no_ends)) (sym here)
-            (subst (P count) (sym (get_or-append_right list (ends ∷ []) count count no_ends h.count_is (omega arith) ∙ ap (λ n. get_or (ends ∷ []) n no_ends) (let e : count - count ≡ 0 = omega arith in e))) is))
+            (subst (P count) (sym (get_or-append_right list (ends ∷ []) count count no_ends h.count_is (omega arith) ∙ ap (λ n. get_or (ends ∷ []) n no_ends)
+            (let e : count - count ≡ 0 = omega arith in e))) is))
       ];
     }
 
-pub first_all : (least : ℕ) (values : List (Option ℕ)) (count : ℕ) (list : List (ℕ × ℕ)) → AreFirstEnds least values count list → length values ≤ 128 * count → AreEndsOf least values list
+pub first_all : (least : ℕ) (values : List (Option ℕ)) (count : ℕ) (list : List (ℕ × ℕ)) → AreFirstEnds least values count list → length values ≤ 128 * count →
+    AreEndsOf least values list
 first_all least values count list h all = record {
   range_is = λ block. elim (cases_lt block count) [
     | inl before ↦ h.range_is block before
@@ -134,12 +147,15 @@ first_all least values count list h all = record {
 }
 
 -- what the ends of a block tell, above the least of all
-pub block_told : (values : List (Option ℕ)) (whole least : ℕ) (list : List (ℕ × ℕ)) (block : ℕ) (ends : ℕ × ℕ) → AreEndsOf whole values list → whole ≡ least → ends ≡ get_or list block no_ends → IsRangeOf (block_of block values) (range_above least ends)
+pub block_told : (values : List (Option ℕ)) (whole least : ℕ) (list : List (ℕ × ℕ)) (block : ℕ) (ends : ℕ × ℕ) → AreEndsOf whole values list → whole ≡ least →
+    ends ≡ get_or list block no_ends → IsRangeOf (block_of block values) (range_above least ends)
 block_told values whole least list block ends h same at =
-    subst (λ n. IsRangeOf (block_of block values) (range_above n ends)) same (subst (λ x. IsRangeOf (block_of block values) (range_above whole x)) (sym at) (h.range_is block))
+    subst (λ n. IsRangeOf (block_of block values) (range_above n ends)) same (subst (λ x. IsRangeOf (block_of block values) (range_above whole x)) (sym at)
+    (h.range_is block))
 
 -- the ends of a block's range have 64 bits
-pub block_fits : (values : List (Option ℕ)) (range : Option (ℕ × ℕ)) (least greatest block : ℕ) (ends : ℕ × ℕ) → IsRangeOf values range → IfSome range (λ r. r.1 < 2 ^ 64) → range ≡ Some (least, greatest) → IsRangeOf (block_of block values) (Some ends) → (ends.0 < 2 ^ 64) × (ends.1 < 2 ^ 64)
+pub block_fits : (values : List (Option ℕ)) (range : Option (ℕ × ℕ)) (least greatest block : ℕ) (ends : ℕ × ℕ) → IsRangeOf values range →
+    IfSome range (λ r. r.1 < 2 ^ 64) → range ≡ Some (least, greatest) → IsRangeOf (block_of block values) (Some ends) → (ends.0 < 2 ^ 64) × (ends.1 < 2 ^ 64)
 block_fits values range least greatest block ends h fits known is =
     let first = end_at values block is.0.0 ends.0 is.0.1 is.0.2 in
     let last = end_at values block is.1.0 ends.1 is.1.1 is.1.2 in

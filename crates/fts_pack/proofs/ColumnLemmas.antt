@@ -1,7 +1,10 @@
 -- The range of a column, the offsets from its least value, and the values that they give back.
-use Rattle.std.proofs.Common.{◌≡◌, ℕ, zero, suc, ◌+◌, ◌-◌, ◌%◌, ◌^◌, ◌<◌, ◌≤◌, inl, inr, List, [], ◌∷◌, ◌++◌, Bool, true, false, Option, Some, None, slice_get, is_some, IfSome, All, Contains, map, replicate, length, get_or, take, drop, set, min, max, cond, refl, sym, ap, ap₂, ◌∙◌, subst, arith, unwrap_or, lit<, mod-eq_of_lt}
+use Rattle.std.proofs.Common.{◌≡◌, ℕ, zero, suc, ◌+◌, ◌-◌, ◌%◌, ◌^◌, ◌<◌, ◌≤◌, inl, inr, List, [], ◌∷◌, ◌++◌, Bool, true, false, Option, Some, None, slice_get}
+use Rattle.std.proofs.Common.{is_some, IfSome, All, Contains, map, replicate, length, get_or, take, drop, set, min, max, cond, refl, sym, ap, ap₂, ◌∙◌, subst}
+use Rattle.std.proofs.Common.{arith, unwrap_or, lit<, mod-eq_of_lt}
 use Rattle.std.specs.Option.{option_map_or}
-use Rattle.std.proofs.lemmas.List.{length-map, get_or-map, set_at, append_assoc, take_more, map_push, length-take-le, get_or_past, get_or_append_left, get_or-append_right, get_or-take, length-append}
+use Rattle.std.proofs.lemmas.List.{length-map, get_or-map, set_at, append_assoc, take_more, map_push, length-take-le, get_or_past, get_or_append_left}
+use Rattle.std.proofs.lemmas.List.{get_or-append_right, get_or-take, length-append}
 use Rattle.std.proofs.lemmas.List.Elements.{All-push, Contains-append_left, Contains-push}
 use Rattle.std.proofs.lemmas.Option.{get_or_from_slice_get}
 use Rattle.std.proofs.lemmas.Nat.{pow_pos}
@@ -43,7 +46,8 @@ none_within : (v : Option ℕ) (x : ℕ) → v ≡ None → IfSome v (λ y. (x �
 none_within None x e = tt
 none_within (Some y) x e = absurd (cc)
 
-pub IsRangeOf-present : (values : List (Option ℕ)) (range : Option (ℕ × ℕ)) (x : ℕ) → IsRangeOf values range → IsRangeOf (values ++ Some x ∷ []) (Some (range_with range x))
+pub IsRangeOf-present : (values : List (Option ℕ)) (range : Option (ℕ × ℕ)) (x : ℕ) → IsRangeOf values range →
+    IsRangeOf (values ++ Some x ∷ []) (Some (range_with range x))
 IsRangeOf-present values None x h = (
   Contains-push values (Some x),
   Contains-push values (Some x),
@@ -54,7 +58,8 @@ IsRangeOf-present values (Some range) x h =
     let high : range.1 ≤ max range.1 x = omega arith in (
       min_case (λ y. Contains (values ++ Some x ∷ []) (Some y)) range.0 x (Contains-append_left values _ _ h.0) (Contains-push values (Some x)),
       max_case (λ y. Contains (values ++ Some x ∷ []) (Some y)) range.1 x (Contains-append_left values _ _ h.1) (Contains-push values (Some x)),
-      All-push (λ v. IfSome v (λ y. (min range.0 x ≤ y) × (y ≤ max range.1 x))) values (Some x) (λ k d inside. wider (get_or values k d) range.0 range.1 (min range.0 x) (max range.1 x) low high (h.2 k d inside)) (omega arith, omega arith),
+      All-push (λ v. IfSome v (λ y. (min range.0 x ≤ y) × (y ≤ max range.1 x))) values (Some x) (λ k d inside. wider (get_or values k d) range.0 range.1
+          (min range.0 x) (max range.1 x) low high (h.2 k d inside)) (omega arith, omega arith),
     )
 
 pub range_with-fits : (range : Option (ℕ × ℕ)) (x : ℕ) → IfSome range (λ r. r.1 < 2 ^ 64) → x < 2 ^ 64 → (range_with range x).1 < 2 ^ 64
@@ -84,13 +89,15 @@ offset_none : (v : Option ℕ) → v ≡ None → option_map_or (λ x. x - 0) v 
 offset_none None e = refl
 offset_none (Some x) e = absurd (cc)
 
-pub offset_at : (least k d : ℕ) (values : List (Option ℕ)) → k < length values → get_or (offsets least values) k d ≡ option_map_or (λ x. x - least) (get_or values k None) 0
+pub offset_at : (least k d : ℕ) (values : List (Option ℕ)) → k < length values →
+    get_or (offsets least values) k d ≡ option_map_or (λ x. x - least) (get_or values k None) 0
 offset_at least k d values inside = get_or-map (λ v. option_map_or (λ x. x - least) v 0) values k None d inside
 
 pub length-offsets : (least : ℕ) (values : List (Option ℕ)) → length (offsets least values) ≡ length values
 length-offsets least values = length-map values (λ v. option_map_or (λ x. x - least) v 0)
 
-pub offsets_fit : (values : List (Option ℕ)) (range : Option (ℕ × ℕ)) (width : ℕ) → IsRangeOf values range → spread_of range < 2 ^ width → All (λ x. x < 2 ^ width) (offsets (least_of range) values)
+pub offsets_fit : (values : List (Option ℕ)) (range : Option (ℕ × ℕ)) (width : ℕ) → IsRangeOf values range → spread_of range < 2 ^ width →
+    All (λ x. x < 2 ^ width) (offsets (least_of range) values)
 offsets_fit values None width h small =
     λ k d inside. let within : k < length values = omega (arith, length-map values (λ v. option_map_or (λ x. x - 0) v 0)) in
     rw (offset_at 0 k d values within, offset_none (get_or values k None) (h k None within)) small
@@ -106,7 +113,8 @@ value_again (Some x) least h = ap Some (omega (arith, h))
 All-tail : (P : Option ℕ → Type 0) (v : Option ℕ) (values : List (Option ℕ)) → All P (v ∷ values) → All P values
 All-tail P v values h = λ k d inside. h (suc k) d (omega (arith, inside))
 
-pub values_at-offsets : (least : ℕ) (values : List (Option ℕ)) → All (λ v. IfSome v (λ x. least ≤ x)) values → values_at least (map is_some values) (offsets least values) ≡ values
+pub values_at-offsets : (least : ℕ) (values : List (Option ℕ)) → All (λ v. IfSome v (λ x. least ≤ x)) values →
+    values_at least (map is_some values) (offsets least values) ≡ values
 values_at-offsets least [] h = refl
 values_at-offsets least (v ∷ values) h =
     ap₂ (λ x xs. x ∷ xs) (value_again v least (h 0 None (omega arith))) (values_at-offsets least values (All-tail (λ w. IfSome w (λ x. least ≤ x)) v values h))
@@ -121,7 +129,8 @@ unwrap_spread None = refl
 unwrap_spread (Some range) = refl
 
 -- the values of a range, of which both ends are known, have offsets of as many bits as its spread
-pub HaveOffsets-range : (values : List (Option ℕ)) (range : Option (ℕ × ℕ)) (width : ℕ) (ends : ℕ × ℕ) → length values ≤ 2 ^ 32 → IsRangeOf values range → ends ≡ unwrap_or range (0, 0) → ends.1 - ends.0 < 2 ^ width → HaveOffsets ends.0 width values
+pub HaveOffsets-range : (values : List (Option ℕ)) (range : Option (ℕ × ℕ)) (width : ℕ) (ends : ℕ × ℕ) → length values ≤ 2 ^ 32 → IsRangeOf values range →
+    ends ≡ unwrap_or range (0, 0) → ends.1 - ends.0 < 2 ^ width → HaveOffsets ends.0 width values
 HaveOffsets-range values range width ends few is known small =
     let least : ends.0 ≡ least_of range = ap (λ r. r.0) known ∙ unwrap_least range in
     let spread : ends.1 - ends.0 ≡ spread_of range = ap (λ r. r.1 - r.0) known ∙ unwrap_spread range in
@@ -141,49 +150,69 @@ least_first values (Some range) h =
     at.1
 
 -- the values of the fields are those that were packed
-pub column_values : (values : List (Option ℕ)) (range : Option (ℕ × ℕ)) (present : List Bool) (width : ℕ) (words : List ℕ) → IsRangeOf values range → present ≡ map is_some values → spread_of range < 2 ^ width → words ≡ words_of 64 width (offsets (least_of range) values) → values_at (least_of range) present (numbers_in 64 width (length present) words) ≡ values
+pub column_values : (values : List (Option ℕ)) (range : Option (ℕ × ℕ)) (present : List Bool) (width : ℕ) (words : List ℕ) → IsRangeOf values range →
+    present ≡ map is_some values → spread_of range < 2 ^ width → words ≡ words_of 64 width (offsets (least_of range) values) →
+    values_at (least_of range) present (numbers_in 64 width (length present) words) ≡ values
 column_values values range present width words r present_is small words_are =
     let least = least_of range in
     let numbers = offsets least values in
-    let count : length present ≡ length numbers = ap length present_is ∙ length-map values is_some ∙ sym (length-map values (λ v. option_map_or (λ x. x - least) v 0)) in
-    let again : numbers_in 64 width (length present) words ≡ numbers = ap₂ (λ n ws. numbers_in 64 width n ws) count words_are ∙ numbers_in-words_of 64 width numbers (omega arith) (Below-from_all width numbers (offsets_fit values range width r small)) in
+    let count : length present ≡ length numbers = ap length present_is ∙ length-map values is_some
+    ∙ sym (length-map values (λ v. option_map_or (λ x. x - least) v 0)) in
+    let again : numbers_in 64 width (length present) words ≡ numbers = ap₂ (λ n ws. numbers_in 64 width n ws) count words_are
+    ∙ numbers_in-words_of 64 width numbers (omega arith) (Below-from_all width numbers (offsets_fit values range width r small)) in
     ap₂ (λ bits xs. values_at least bits xs) present_is again ∙ values_at-offsets least values (above_least values range r)
 
-pub length-values_at : (least : ℕ) (present : List Bool) (numbers : List ℕ) → length numbers ≡ length present → length (values_at least present numbers) ≡ length present
+pub length-values_at : (least : ℕ) (present : List Bool) (numbers : List ℕ) → length numbers ≡ length present →
+    length (values_at least present numbers) ≡ length present
 length-values_at least [] numbers h = refl
 length-values_at least (bit ∷ present) [] h = absurd (omega (arith, h))
 length-values_at least (bit ∷ present) (x ∷ numbers) h = ap suc (length-values_at least present numbers (omega (arith, h)))
 
-pub get_or-values_at : (least : ℕ) (present : List Bool) (numbers : List ℕ) (i : ℕ) → length numbers ≡ length present → i < length present → get_or (values_at least present numbers) i None ≡ cond (get_or present i false) (Some (least + get_or numbers i 0)) None
+pub get_or-values_at : (least : ℕ) (present : List Bool) (numbers : List ℕ) (i : ℕ) → length numbers ≡ length present → i < length present →
+    get_or (values_at least present numbers) i None ≡ cond (get_or present i false) (Some (least + get_or numbers i 0)) None
 get_or-values_at least [] numbers i h inside = absurd (omega arith)
 get_or-values_at least (bit ∷ present) [] i h inside = absurd (omega (arith, h))
 get_or-values_at least (bit ∷ present) (x ∷ numbers) zero h inside = refl
 get_or-values_at least (bit ∷ present) (x ∷ numbers) (suc i) h inside = get_or-values_at least present numbers i (omega (arith, h)) (omega (arith, inside))
 
 -- one document more is present, or missing
-pub presence_more : (values : List (Option ℕ)) (doc : ℕ) → doc < length values → map is_some (take (doc + 1) values) ++ replicate (length values - (doc + 1)) false ≡ map is_some (take doc values) ++ is_some (get_or values doc None) ∷ replicate (length values - (doc + 1)) false
+pub presence_more : (values : List (Option ℕ)) (doc : ℕ) → doc < length values →
+    map is_some (take (doc + 1) values) ++ replicate (length values - (doc + 1)) false ≡ map is_some (take doc values)
+    ++ is_some (get_or values doc None) ∷ replicate (length values - (doc + 1)) false
 presence_more values doc inside =
-    ap (λ xs. map is_some xs ++ replicate (length values - (doc + 1)) false) (take_more values doc None inside) ∙ ap (λ xs. xs ++ replicate (length values - (doc + 1)) false) (map_push is_some (take doc values) (get_or values doc None)) ∙ append_assoc (map is_some (take doc values)) (is_some (get_or values doc None) ∷ []) (replicate (length values - (doc + 1)) false)
+    ap (λ xs. map is_some xs ++ replicate (length values - (doc + 1)) false) (take_more values doc None inside)
+    ∙ ap (λ xs. xs ++ replicate (length values - (doc + 1)) false) (map_push is_some (take doc values) (get_or values doc None))
+    ∙ append_assoc (map is_some (take doc values)) (is_some (get_or values doc None) ∷ []) (replicate (length values - (doc + 1)) false)
 
-presence_before : (values : List (Option ℕ)) (doc : ℕ) → doc < length values → replicate (length values - doc) false ≡ false ∷ replicate (length values - (doc + 1)) false
+presence_before : (values : List (Option ℕ)) (doc : ℕ) → doc < length values →
+    replicate (length values - doc) false ≡ false ∷ replicate (length values - (doc + 1)) false
 presence_before values doc inside =
     ap (λ n. replicate n false) (let e : length values - doc ≡ suc (length values - (doc + 1)) = omega arith in e)
 
-pub presence_missing : (values : List (Option ℕ)) (present : List Bool) (doc : ℕ) → doc < length values → present ≡ map is_some (take doc values) ++ replicate (length values - doc) false → is_some (get_or values doc None) ≡ false → present ≡ map is_some (take (doc + 1) values) ++ replicate (length values - (doc + 1)) false
+pub presence_missing : (values : List (Option ℕ)) (present : List Bool) (doc : ℕ) → doc < length values →
+    present ≡ map is_some (take doc values) ++ replicate (length values - doc) false → is_some (get_or values doc None) ≡ false →
+    present ≡ map is_some (take (doc + 1) values) ++ replicate (length values - (doc + 1)) false
 presence_missing values present doc inside h missing =
-    h ∙ ap (λ xs. map is_some (take doc values) ++ xs) (presence_before values doc inside ∙ ap (λ b. b ∷ replicate (length values - (doc + 1)) false) (sym missing)) ∙ sym (presence_more values doc inside)
+    h ∙ ap (λ xs. map is_some (take doc values) ++ xs) (presence_before values doc inside ∙ ap (λ b. b ∷ replicate (length values - (doc + 1)) false)
+    (sym missing)) ∙ sym (presence_more values doc inside)
 
-pub presence_set : (values : List (Option ℕ)) (present : List Bool) (doc : ℕ) → doc < length values → present ≡ map is_some (take doc values) ++ replicate (length values - doc) false → is_some (get_or values doc None) ≡ true → set present doc true ≡ map is_some (take (doc + 1) values) ++ replicate (length values - (doc + 1)) false
+pub presence_set : (values : List (Option ℕ)) (present : List Bool) (doc : ℕ) → doc < length values →
+    present ≡ map is_some (take doc values) ++ replicate (length values - doc) false → is_some (get_or values doc None) ≡ true →
+    set present doc true ≡ map is_some (take (doc + 1) values) ++ replicate (length values - (doc + 1)) false
 presence_set values present doc inside h there =
     let front : length (map is_some (take doc values)) ≡ doc = length-map (take doc values) is_some ∙ length-take-le doc values (omega arith) in
-    ap (λ xs. set xs doc true) (h ∙ ap (λ xs. map is_some (take doc values) ++ xs) (presence_before values doc inside)) ∙ set_at (map is_some (take doc values)) false (replicate (length values - (doc + 1)) false) true doc front ∙ ap (λ b. map is_some (take doc values) ++ b ∷ replicate (length values - (doc + 1)) false) (sym there) ∙ sym (presence_more values doc inside)
+    ap (λ xs. set xs doc true) (h ∙ ap (λ xs. map is_some (take doc values) ++ xs) (presence_before values doc inside))
+    ∙ set_at (map is_some (take doc values)) false (replicate (length values - (doc + 1)) false) true doc front
+    ∙ ap (λ b. map is_some (take doc values) ++ b ∷ replicate (length values - (doc + 1)) false) (sym there) ∙ sym (presence_more values doc inside)
 
-pub column_length : (values : List (Option ℕ)) (least : ℕ) (present : List Bool) (width : ℕ) (words : List ℕ) → values_at least present (numbers_in 64 width (length present) words) ≡ values → length values ≡ length present
+pub column_length : (values : List (Option ℕ)) (least : ℕ) (present : List Bool) (width : ℕ) (words : List ℕ) →
+    values_at least present (numbers_in 64 width (length present) words) ≡ values → length values ≡ length present
 column_length values least present width words view =
     ap length (sym view) ∙ length-values_at least present (numbers_in 64 width (length present) words) (length-numbers_in 64 width (length present) words)
 
 -- a value that is there lies within the range
-pub within_range : (values : List (Option ℕ)) (range : ℕ × ℕ) (i x : ℕ) → IsRangeOf values (Some range) → i < length values → get_or values i None ≡ Some x → x ≤ range.1
+pub within_range : (values : List (Option ℕ)) (range : ℕ × ℕ) (i x : ℕ) → IsRangeOf values (Some range) → i < length values → get_or values i None ≡ Some x →
+    x ≤ range.1
 within_range values range i x h inside at =
     let bounds : IfSome (Some x) (λ y. (range.0 ≤ y) × (y ≤ range.1)) = subst (λ v. IfSome v (λ y. (range.0 ≤ y) × (y ≤ range.1))) at (h.2 i None inside) in
     bounds.1
@@ -195,7 +224,9 @@ only_one : (x width k d : ℕ) → x < 2 ^ width → k < length (x ∷ []) → g
 only_one x width zero d small inside = small
 only_one x width (suc k) d small inside = absurd (omega arith)
 
-pub IsColumn-built : (values : List (Option ℕ)) (range : Option (ℕ × ℕ)) (width : ℕ) (words lanes : List ℕ) → length values ≤ 2 ^ 32 → IsRangeOf values range → IfSome range (λ r. r.1 < 2 ^ 64) → spread_of range < 2 ^ width → ((other : ℕ) → spread_of range < 2 ^ other → width ≤ other) → words ≡ words_of 64 width (offsets (least_of range) values) → AreLanesOf (offsets (least_of range) values) lanes → IsColumn values range width words lanes
+pub IsColumn-built : (values : List (Option ℕ)) (range : Option (ℕ × ℕ)) (width : ℕ) (words lanes : List ℕ) → length values ≤ 2 ^ 32 → IsRangeOf values range →
+    IfSome range (λ r. r.1 < 2 ^ 64) → spread_of range < 2 ^ width → ((other : ℕ) → spread_of range < 2 ^ other → width ≤ other) →
+    words ≡ words_of 64 width (offsets (least_of range) values) → AreLanesOf (offsets (least_of range) values) lanes → IsColumn values range width words lanes
 IsColumn-built values range width words lanes few range_is fits holds least words_are lanes_are = record {
   few = few;
   range_is = range_is;
@@ -210,40 +241,49 @@ IsColumn-built values range width words lanes few range_is fits holds least word
 }
 
 -- a value that is there fits
-pub value_fits : (values : List (Option ℕ)) (range : Option (ℕ × ℕ)) (i least greatest x : ℕ) → IsRangeOf values range → IfSome range (λ r. r.1 < 2 ^ 64) → range ≡ Some (least, greatest) → i < length values → get_or values i None ≡ Some x → x < 2 ^ 64
+pub value_fits : (values : List (Option ℕ)) (range : Option (ℕ × ℕ)) (i least greatest x : ℕ) → IsRangeOf values range → IfSome range (λ r. r.1 < 2 ^ 64) →
+    range ≡ Some (least, greatest) → i < length values → get_or values i None ≡ Some x → x < 2 ^ 64
 value_fits values None i least greatest x h fits e inside at = absurd (cc)
 value_fits values (Some range) i least greatest x h fits e inside at =
     omega (arith, within_range values range i x h inside at, fits)
 
 -- what a value that is there has in its lane
-lane_is : (v : Option ℕ) (least lane : ℕ) → IfSome v (λ x. least ≤ x) → lane ≡ option_map_or (λ x. x - least) v 0 → IfSome v (λ x. (least ≤ x) × (least + lane ≡ x))
+lane_is : (v : Option ℕ) (least lane : ℕ) → IfSome v (λ x. least ≤ x) → lane ≡ option_map_or (λ x. x - least) v 0 →
+    IfSome v (λ x. (least ≤ x) × (least + lane ≡ x))
 lane_is None least lane above e = tt
 lane_is (Some x) least lane above e = (above, omega (arith, above, e))
 
-pub lane_at : (values : List (Option ℕ)) (range : Option (ℕ × ℕ)) (width : ℕ) (words lanes : List ℕ) → IsColumn values range width words lanes → (i : ℕ) → i < length values → get_or lanes i 0 ≡ option_map_or (λ x. x - least_of range) (get_or values i None) 0
+pub lane_at : (values : List (Option ℕ)) (range : Option (ℕ × ℕ)) (width : ℕ) (words lanes : List ℕ) → IsColumn values range width words lanes → (i : ℕ) →
+    i < length values → get_or lanes i 0 ≡ option_map_or (λ x. x - least_of range) (get_or values i None) 0
 lane_at values range width words lanes h i inside =
     let least = least_of range in
     let numbers = offsets least values in
     let near : i < length numbers = omega (arith, inside, length-offsets least values) in
     sym (get_or-take (length numbers) lanes i 0 near) ∙ ap (λ xs. get_or xs i 0) h.lanes_are.first ∙ offset_at least i 0 values inside
 
-pub lane_there : (values : List (Option ℕ)) (range : Option (ℕ × ℕ)) (width : ℕ) (words lanes : List ℕ) → IsColumn values range width words lanes → (i : ℕ) → IfSome (get_or values i None) (λ x. (least_of range ≤ x) × (least_of range + get_or lanes i 0 ≡ x))
+pub lane_there : (values : List (Option ℕ)) (range : Option (ℕ × ℕ)) (width : ℕ) (words lanes : List ℕ) → IsColumn values range width words lanes → (i : ℕ) →
+    IfSome (get_or values i None) (λ x. (least_of range ≤ x) × (least_of range + get_or lanes i 0 ≡ x))
 lane_there values range width words lanes h i = elim (cases_lt i (length values)) [
   | inr past ↦ (rw (get_or_past values i None past) tt)
-  | inl inside ↦ lane_is (get_or values i None) (least_of range) (get_or lanes i 0) (above_least values range h.range_is i None inside) (lane_at values range width words lanes h i inside)
+  | inl inside ↦ lane_is (get_or values i None) (least_of range) (get_or lanes i 0) (above_least values range h.range_is i None inside)
+      (lane_at values range width words lanes h i inside)
 ]
 
 -- a lane for each document, and for those up to the end of a stretch
-pub lane_inside : (values : List (Option ℕ)) (range : Option (ℕ × ℕ)) (width : ℕ) (words lanes : List ℕ) → IsColumn values range width words lanes → (i : ℕ) → i < length values → i < length lanes
+pub lane_inside : (values : List (Option ℕ)) (range : Option (ℕ × ℕ)) (width : ℕ) (words lanes : List ℕ) → IsColumn values range width words lanes → (i : ℕ) →
+    i < length values → i < length lanes
 lane_inside values range width words lanes h i inside = omega (arith, inside, h.lanes_are.enough, length-offsets (least_of range) values)
 
-pub lane_each : (range : Option (ℕ × ℕ)) (width : ℕ) (words lanes : List ℕ) (present : List Bool) → IsColumn (values_at (least_of range) present (numbers_in 64 width (length present) words)) range width words lanes → length present ≤ length lanes
+pub lane_each : (range : Option (ℕ × ℕ)) (width : ℕ) (words lanes : List ℕ) (present : List Bool) →
+    IsColumn (values_at (least_of range) present (numbers_in 64 width (length present) words)) range width words lanes → length present ≤ length lanes
 lane_each range width words lanes present h =
     let values = values_at (least_of range) present (numbers_in 64 width (length present) words) in
     omega (arith, h.lanes_are.enough, length-offsets (least_of range) values, column_length values (least_of range) present width words refl)
 
-pub stretch_inside : (values : List (Option ℕ)) (range : Option (ℕ × ℕ)) (width : ℕ) (words lanes : List ℕ) → IsColumn values range width words lanes → (from : ℕ) → from % 64 ≡ 0 → from < length values → from + 64 ≤ length lanes
-stretch_inside values range width words lanes h from aligned inside = omega (arith, aligned, h.lanes_are.whole, lane_inside values range width words lanes h from inside)
+pub stretch_inside : (values : List (Option ℕ)) (range : Option (ℕ × ℕ)) (width : ℕ) (words lanes : List ℕ) → IsColumn values range width words lanes →
+    (from : ℕ) → from % 64 ≡ 0 → from < length values → from + 64 ≤ length lanes
+stretch_inside values range width words lanes h from aligned inside =
+    omega (arith, aligned, h.lanes_are.whole, lane_inside values range width words lanes h from inside)
 
 -- the bit of presence tells whether there is a value
 pub presence-at : (values : List (Option ℕ)) (i : ℕ) → get_or (map is_some values) i false ≡ is_some (get_or values i None)
@@ -259,20 +299,26 @@ none_of : (v : Option ℕ) → is_some v ≡ false → v ≡ None
 none_of None missing = refl
 none_of (Some x) missing = absurd (cc)
 
-pub value_there : (values : List (Option ℕ)) (range : Option (ℕ × ℕ)) (width : ℕ) (words lanes : List ℕ) (present : List Bool) (least i : ℕ) → IsColumn values range width words lanes → map is_some values ≡ present → least_of range ≡ least → slice_get present i ≡ Some true → get_or values i None ≡ Some (least + get_or lanes i 0)
+pub value_there : (values : List (Option ℕ)) (range : Option (ℕ × ℕ)) (width : ℕ) (words lanes : List ℕ) (present : List Bool) (least i : ℕ) →
+    IsColumn values range width words lanes → map is_some values ≡ present → least_of range ≡ least → slice_get present i ≡ Some true →
+    get_or values i None ≡ Some (least + get_or lanes i 0)
 value_there values range width words lanes present least i h present_is least_is there =
-    some_of (get_or values i None) least (get_or lanes i 0) (subst (λ n. IfSome (get_or values i None) (λ x. (n ≤ x) × (n + get_or lanes i 0 ≡ x))) least_is (lane_there values range width words lanes h i))
+    some_of (get_or values i None) least (get_or lanes i 0) (subst (λ n. IfSome (get_or values i None) (λ x. (n ≤ x) × (n + get_or lanes i 0 ≡ x))) least_is
+    (lane_there values range width words lanes h i))
     (sym (presence-at values i) ∙ ap (λ bits. get_or bits i false) present_is ∙ get_or_from_slice_get present i true false there)
 
-pub value_missing : (values : List (Option ℕ)) (present : List Bool) (i : ℕ) → map is_some values ≡ present → slice_get present i ≡ Some false → get_or values i None ≡ None
+pub value_missing : (values : List (Option ℕ)) (present : List Bool) (i : ℕ) → map is_some values ≡ present → slice_get present i ≡ Some false →
+    get_or values i None ≡ None
 value_missing values present i present_is missing =
-    none_of (get_or values i None) (sym (presence-at values i) ∙ ap (λ bits. get_or bits i false) present_is ∙ get_or_from_slice_get present i false false missing)
+    none_of (get_or values i None) (sym (presence-at values i) ∙ ap (λ bits. get_or bits i false) present_is ∙ get_or_from_slice_get present i false false
+    missing)
 
 -- a column has one range, and one width
 none_is_some : (v : Option ℕ) (x : ℕ) → v ≡ None → v ≡ Some x → ⊥
 none_is_some v x none some = absurd (cc)
 
-bounds_at : (values : List (Option ℕ)) (low high x : ℕ) → Contains values (Some x) → All (λ v. IfSome v (λ y. (low ≤ y) × (y ≤ high))) values → (low ≤ x) × (x ≤ high)
+bounds_at : (values : List (Option ℕ)) (low high x : ℕ) → Contains values (Some x) → All (λ v. IfSome v (λ y. (low ≤ y) × (y ≤ high))) values →
+    (low ≤ x) × (x ≤ high)
 bounds_at values low high x h all =
     let here : IfSome (get_or values h.0 (Some x)) (λ y. (low ≤ y) × (y ≤ high)) = all h.0 (Some x) h.1 in
     subst (λ v. IfSome v (λ y. (low ≤ y) × (y ≤ high))) h.2 here
@@ -289,23 +335,29 @@ range_unique values (Some a) (Some b) h g =
 pub width_unique : (numbers : List ℕ) (a b : ℕ) → IsWidthOf numbers a → IsWidthOf numbers b → a ≡ b
 width_unique numbers a b h g = omega (arith, h.least b g.holds, g.least a h.holds)
 
-pub presence-values_at : (least : ℕ) (present : List Bool) (numbers : List ℕ) → length numbers ≡ length present → map is_some (values_at least present numbers) ≡ present
+pub presence-values_at : (least : ℕ) (present : List Bool) (numbers : List ℕ) → length numbers ≡ length present →
+    map is_some (values_at least present numbers) ≡ present
 presence-values_at least [] numbers h = refl
 presence-values_at least (bit ∷ present) [] h = absurd (omega (arith, h))
 presence-values_at least (true ∷ present) (x ∷ numbers) h = ap (λ bits. true ∷ bits) (presence-values_at least present numbers (omega (arith, h)))
 presence-values_at least (false ∷ present) (x ∷ numbers) h = ap (λ bits. false ∷ bits) (presence-values_at least present numbers (omega (arith, h)))
 
 -- the layout of a column, from its values alone
-pub column_width : (values : List (Option ℕ)) (kept : Option (ℕ × ℕ)) (width : ℕ) (words lanes : List ℕ) → IsColumn values kept width words lanes → (range : Option (ℕ × ℕ)) → IsRangeOf values range → IsWidthOf (spread_of range ∷ []) width
-column_width values kept width words lanes h range is = subst (λ r. IsWidthOf (spread_of r ∷ []) width) (range_unique values kept range h.range_is is) h.width_is
+pub column_width : (values : List (Option ℕ)) (kept : Option (ℕ × ℕ)) (width : ℕ) (words lanes : List ℕ) → IsColumn values kept width words lanes →
+    (range : Option (ℕ × ℕ)) → IsRangeOf values range → IsWidthOf (spread_of range ∷ []) width
+column_width values kept width words lanes h range is =
+    subst (λ r. IsWidthOf (spread_of r ∷ []) width) (range_unique values kept range h.range_is is) h.width_is
 
-pub column_words : (values : List (Option ℕ)) (kept : Option (ℕ × ℕ)) (width : ℕ) (words lanes : List ℕ) → IsColumn values kept width words lanes → (range : Option (ℕ × ℕ)) (other : ℕ) → IsRangeOf values range → IsWidthOf (spread_of range ∷ []) other → words ≡ words_of 64 other (offsets (least_of range) values)
+pub column_words : (values : List (Option ℕ)) (kept : Option (ℕ × ℕ)) (width : ℕ) (words lanes : List ℕ) → IsColumn values kept width words lanes →
+    (range : Option (ℕ × ℕ)) (other : ℕ) → IsRangeOf values range → IsWidthOf (spread_of range ∷ []) other →
+    words ≡ words_of 64 other (offsets (least_of range) values)
 column_words values kept width words lanes h range other is wide =
     let same = range_unique values kept range h.range_is is in
     let one = width_unique (spread_of range ∷ []) width other (column_width values kept width words lanes h range is) wide in
     h.words_are ∙ ap₂ (λ w r. words_of 64 w (offsets (least_of r) values)) one same
 
-pub there_fits : (values : List (Option ℕ)) (range : Option (ℕ × ℕ)) (i x : ℕ) → IsRangeOf values range → IfSome range (λ r. r.1 < 2 ^ 64) → i < length values → get_or values i None ≡ Some x → x < 2 ^ 64
+pub there_fits : (values : List (Option ℕ)) (range : Option (ℕ × ℕ)) (i x : ℕ) → IsRangeOf values range → IfSome range (λ r. r.1 < 2 ^ 64) → i < length values →
+    get_or values i None ≡ Some x → x < 2 ^ 64
 there_fits values None i x h fits inside at = absurd (none_is_some (get_or values i None) x (h i None inside) at)
 there_fits values (Some range) i x h fits inside at =
     omega (arith, within_range values range i x h inside at, fits)
@@ -334,15 +386,18 @@ half_high a b out i long long' above small =
     get_or-append_right (take 64 (a ++ out)) _ 64 i 0 size above ∙ get_or_append_left b _ 0 (i - 64) (omega arith)
 
 -- the number in a lane, above the least, is the value that is there
-lane_value : (v : Option ℕ) (least lane number x : ℕ) → IfSome v (λ y. (least ≤ y) × (least + lane ≡ y)) → v ≡ Some x → x < 2 ^ 64 → number ≡ (least + lane) % 2 ^ 64 → number ≡ x
+lane_value : (v : Option ℕ) (least lane number x : ℕ) → IfSome v (λ y. (least ≤ y) × (least + lane ≡ y)) → v ≡ Some x → x < 2 ^ 64 →
+    number ≡ (least + lane) % 2 ^ 64 → number ≡ x
 lane_value None least lane number x h e fits is = absurd (cc)
 lane_value (Some y) least lane number x h e fits is =
     let same : y ≡ x = cc in
     is ∙ ap (λ n. n % 2 ^ 64) (h.1 ∙ same) ∙ mod-eq_of_lt fits
 
-pub lane_read : (values : List (Option ℕ)) (range : Option (ℕ × ℕ)) (width : ℕ) (words lanes : List ℕ) → IsColumn values range width words lanes → (least i number x : ℕ) → least ≡ least_of range → number ≡ (least + get_or lanes i 0) % 2 ^ 64 → get_or values i None ≡ Some x → number ≡ x
+pub lane_read : (values : List (Option ℕ)) (range : Option (ℕ × ℕ)) (width : ℕ) (words lanes : List ℕ) → IsColumn values range width words lanes →
+    (least i number x : ℕ) → least ≡ least_of range → number ≡ (least + get_or lanes i 0) % 2 ^ 64 → get_or values i None ≡ Some x → number ≡ x
 lane_read values range width words lanes h least i number x least_is is e = elim (cases_lt i (length values)) [
-  | inl inside ↦ lane_value (get_or values i None) (least_of range) (get_or lanes i 0) number x (lane_there values range width words lanes h i) e (there_fits values range i x h.range_is h.range_fits inside e) (is ∙ ap (λ n. (n + get_or lanes i 0) % 2 ^ 64) least_is)
+  | inl inside ↦ lane_value (get_or values i None) (least_of range) (get_or lanes i 0) number x (lane_there values range width words lanes h i) e
+      (there_fits values range i x h.range_is h.range_fits inside e) (is ∙ ap (λ n. (n + get_or lanes i 0) % 2 ^ 64) least_is)
   | inr past ↦ absurd (none_is_some (get_or values i None) x (get_or_past values i None past) e)
 ]
 

@@ -1,8 +1,11 @@
 -- Documents counted one by one.
-use Rattle.std.proofs.Common.{◌≡◌, ℕ, zero, suc, ◌+◌, ◌-◌, ◌*◌, ◌/◌, ◌%◌, ◌^◌, ◌<◌, ◌≤◌, Bool, true, false, cond, slice_get, Option, Some, None, IfSome, Contains, is_some, map, drop, List, [], ◌∷◌, length, take, set, get_or, count_by, refl, sym, ap, ap₂, ◌∙◌, subst, inl, inr, arith, mod-eq_of_lt}
+use Rattle.std.proofs.Common.{◌≡◌, ℕ, zero, suc, ◌+◌, ◌-◌, ◌*◌, ◌/◌, ◌%◌, ◌^◌, ◌<◌, ◌≤◌, Bool, true, false, cond, slice_get, Option, Some, None, IfSome}
+use Rattle.std.proofs.Common.{Contains, is_some, map, drop, List, [], ◌∷◌, length, take, set, get_or, count_by, refl, sym, ap, ap₂, ◌∙◌, subst, inl, inr, arith}
+use Rattle.std.proofs.Common.{mod-eq_of_lt}
 use Rattle.std.proofs.Math.Nat.{add-mul-mod_self_left, mod-add-div}
 use Rattle.std.proofs.lemmas.Bool.{cases_Bool, cases_eq, cases_lt, eq-eqb, ne_eqb}
-use Rattle.std.proofs.lemmas.List.{get_or-append_right, get_or-drop, get_or-map, get_or-set_other, get_or-set_same, get_or-take, get_or_append_left, get_or_past, length-drop, length-map, length-set, length-take-le, take-map, take_rest}
+use Rattle.std.proofs.lemmas.List.{get_or-append_right, get_or-drop, get_or-map, get_or-set_other, get_or-set_same, get_or-take, get_or_append_left}
+use Rattle.std.proofs.lemmas.List.{get_or_past, length-drop, length-map, length-set, length-take-le, take-map, take_rest}
 use Rattle.std.proofs.lemmas.Option.{get_or_from_slice_get, slice_get-get_or, slice_get_past}
 use Rattle.std.proofs.lemmas.List.Sums.{count_by-le-length, count_by_more_no, count_by_more_yes, sum_by-cons}
 use borrow.Rule.Slice.PartMut.{put_mid}
@@ -21,14 +24,17 @@ mod-add a b m =
     sym (add-mul-mod_self_left (a % m + b) m (a / m)) ∙ ap (λ n. n % m) whole
 
 -- a document that has no number counts nothing
-pub AreCounted-missing : (number : ℕ → Option ℕ) (docs old now : List ℕ) (i : ℕ) → i < length docs → number (get_or docs i 0) ≡ None → AreCounted number (take i docs) old now → AreCounted number (take (i + 1) docs) old now
+pub AreCounted-missing : (number : ℕ → Option ℕ) (docs old now : List ℕ) (i : ℕ) → i < length docs → number (get_or docs i 0) ≡ None →
+    AreCounted number (take i docs) old now → AreCounted number (take (i + 1) docs) old now
 AreCounted-missing number docs old now i inside missing h = record {
-  counted = λ place lt. h.counted place lt ∙ ap (λ n. (get_or old place 0 + n) % 2 ^ 64) (sym (count_by_more_no (λ doc. is_value place (number doc)) docs i 0 inside (ap (is_value place) missing)));
+  counted = λ place lt. h.counted place lt
+      ∙ ap (λ n. (get_or old place 0 + n) % 2 ^ 64) (sym (count_by_more_no (λ doc. is_value place (number doc)) docs i 0 inside (ap (is_value place) missing)));
   long = h.long;
 }
 
 -- a number counts one more at its place
-pub AreCounted-more : (number : ℕ → Option ℕ) (docs old now : List ℕ) (i x : ℕ) → i < length docs → x < length now → number (get_or docs i 0) ≡ Some x → AreCounted number (take i docs) old now → AreCounted number (take (i + 1) docs) old (set now x ((get_or now x 0 + 1) % 2 ^ 64))
+pub AreCounted-more : (number : ℕ → Option ℕ) (docs old now : List ℕ) (i x : ℕ) → i < length docs → x < length now → number (get_or docs i 0) ≡ Some x →
+    AreCounted number (take i docs) old now → AreCounted number (take (i + 1) docs) old (set now x ((get_or now x 0 + 1) % 2 ^ 64))
 AreCounted-more number docs old now i x inside room is h = record {
   counted = λ place lt.
       let test = λ (doc : ℕ). is_value place (number doc) in
@@ -39,7 +45,8 @@ AreCounted-more number docs old now i x inside room is h = record {
             ∙ get_or-set_same now x ((get_or now x 0 + 1) % 2 ^ 64) 0 room
             ∙ ap (λ n. (n + 1) % 2 ^ 64) (ap (λ k. get_or now k 0) here ∙ h.counted place lt)
             ∙ mod-add (get_or old place 0 + count_by test (take i docs)) 1 (2 ^ 64)
-            ∙ ap (λ n. n % 2 ^ 64) (let e : get_or old place 0 + count_by test (take i docs) + 1 ≡ get_or old place 0 + count_by test (take (i + 1) docs) = omega (arith, count_by_more_yes test docs i 0 inside yes) in e))
+            ∙ ap (λ n. n % 2 ^ 64) (let e : get_or old place 0 + count_by test (take i docs) + 1 ≡ get_or old place 0 + count_by test (take (i + 1) docs) =
+            omega (arith, count_by_more_yes test docs i 0 inside yes) in e))
         | inr other ↦ (
             let no : test (get_or docs i 0) ≡ false = ap (is_value place) is ∙ ne_eqb x place other in
             get_or-set_other now x place ((get_or now x 0 + 1) % 2 ^ 64) 0 (λ e. other (sym e))
@@ -58,14 +65,18 @@ count_by-same p q (doc ∷ docs) same =
     ∙ ap (λ b. cond b 1 0 + count_by q docs) (same doc)
     ∙ sym (sum_by-cons (λ x. cond (q x) 1 0) doc docs)
 
-pub AreCounted-same : (number other : ℕ → Option ℕ) (docs old new : List ℕ) → ((doc : ℕ) → number doc ≡ other doc) → AreCounted number docs old new → AreCounted other docs old new
+pub AreCounted-same : (number other : ℕ → Option ℕ) (docs old new : List ℕ) → ((doc : ℕ) → number doc ≡ other doc) → AreCounted number docs old new →
+    AreCounted other docs old new
 AreCounted-same number other docs old new same h = record {
-  counted = λ place lt. h.counted place lt ∙ ap (λ n. (get_or old place 0 + n) % 2 ^ 64) (count_by-same (λ doc. is_value place (number doc)) (λ doc. is_value place (other doc)) docs (λ doc. ap (is_value place) (same doc)));
+  counted = λ place lt. h.counted place lt
+      ∙ ap (λ n. (get_or old place 0 + n) % 2 ^ 64) (count_by-same (λ doc. is_value place (number doc)) (λ doc. is_value place (other doc)) docs
+      (λ doc. ap (is_value place) (same doc)));
   long = h.long;
 }
 
 -- a document whose bit is set has the number in its lane, and any other has none
-pub number_at-set : (present : List Bool) (lanes : List ℕ) (doc : ℕ) → slice_get present doc ≡ Some true → number_at present lanes doc ≡ Some (get_or lanes doc 0)
+pub number_at-set : (present : List Bool) (lanes : List ℕ) (doc : ℕ) → slice_get present doc ≡ Some true →
+    number_at present lanes doc ≡ Some (get_or lanes doc 0)
 number_at-set present lanes doc bit =
     ap (λ b. cond b (Some (get_or lanes doc 0)) None) (get_or_from_slice_get present doc true false bit)
 
@@ -87,7 +98,8 @@ each_set (true ∷ bits) (suc i) all inside =
     each_set bits i (omega (arith, all, sum_by-cons (λ bit. cond bit 1 0) true bits)) (omega (arith, inside))
 
 -- and then each document has the number in its lane
-pub every_number : {A : Type 0} (value : A → ℕ) (present : List Bool) (lanes : List A) (len doc : ℕ) → len ≡ length present → count_by (λ bit. bit) present ≡ len → len ≤ length lanes → slice_get (map value (take len lanes)) doc ≡ number_at present (map value lanes) doc
+pub every_number : {A : Type 0} (value : A → ℕ) (present : List Bool) (lanes : List A) (len doc : ℕ) → len ≡ length present →
+    count_by (λ bit. bit) present ≡ len → len ≤ length lanes → slice_get (map value (take len lanes)) doc ≡ number_at present (map value lanes) doc
 every_number value present lanes len doc long all room =
     let numbers = map value lanes in
     let size : length (take len numbers) ≡ len = length-take-le len numbers (omega (arith, room, length-map lanes value)) in
@@ -101,29 +113,37 @@ every_number value present lanes len doc long all room =
     ]
 
 -- the number of a lane, which is a place
-pub number_of_lane : {A : Type 0} (value : A → ℕ) (lanes : List A) (doc x : ℕ) (lane : A) → doc < length lanes → lane ≡ get_or lanes doc lane → x ≡ value lane → x ≡ get_or (map value lanes) doc 0
+pub number_of_lane : {A : Type 0} (value : A → ℕ) (lanes : List A) (doc x : ℕ) (lane : A) → doc < length lanes → lane ≡ get_or lanes doc lane → x ≡ value lane →
+    x ≡ get_or (map value lanes) doc 0
 number_of_lane value lanes doc x lane inside there is = is ∙ ap value there ∙ sym (get_or-map value lanes doc lane 0 inside)
 
 -- the least value of a column is one of those that it has places for
-pub first_within : (values : List (Option ℕ)) (least count first : ℕ) → AreWithin values least count → Contains values (Some first) → (least ≤ first) × (first < least + count)
+pub first_within : (values : List (Option ℕ)) (least count first : ℕ) → AreWithin values least count → Contains values (Some first) →
+    (least ≤ first) × (first < least + count)
 first_within values least count first within there =
     let P : Option ℕ → Type 0 = λ v. IfSome v (λ x. (least ≤ x) × (x < least + count)) in
     subst P there.2 (within there.0 (Some first) there.1)
 
 -- the place of a lane, for a value that is there and for one that is not
-place_in : (v : Option ℕ) (least count first lane : ℕ) → (least ≤ first) × (first < least + count) → IfSome v (λ x. (least ≤ x) × (x < least + count)) → IfSome v (λ x. first ≤ x) → lane ≡ option_map_or (λ x. x - first) v 0 → lane < count - (first - least)
+place_in : (v : Option ℕ) (least count first lane : ℕ) → (least ≤ first) × (first < least + count) → IfSome v (λ x. (least ≤ x) × (x < least + count)) →
+    IfSome v (λ x. first ≤ x) → lane ≡ option_map_or (λ x. x - first) v 0 → lane < count - (first - least)
 place_in None least count first lane here within above is = omega (arith, here.0, here.1, is)
 place_in (Some x) least count first lane here within above is = omega (arith, here.0, here.1, within.0, within.1, above, is)
 
 -- a lane tells a place, whether its document has a value or not
-pub lane_within : (values : List (Option ℕ)) (range : Option (ℕ × ℕ)) (width : ℕ) (words lanes : List ℕ) → IsColumn values range width words lanes → (least count first doc : ℕ) → least_of range ≡ first → (least ≤ first) × (first < least + count) → AreWithin values least count → doc < length values → get_or lanes doc 0 < count - (first - least)
+pub lane_within : (values : List (Option ℕ)) (range : Option (ℕ × ℕ)) (width : ℕ) (words lanes : List ℕ) → IsColumn values range width words lanes →
+    (least count first doc : ℕ) → least_of range ≡ first → (least ≤ first) × (first < least + count) → AreWithin values least count → doc < length values →
+    get_or lanes doc 0 < count - (first - least)
 lane_within values range width words lanes h least count first doc first_is here within inside =
     place_in (get_or values doc None) least count first (get_or lanes doc 0) here (within doc None inside)
     (subst (λ n. IfSome (get_or values doc None) (λ x. n ≤ x)) first_is (above_least values range h.range_is doc None inside))
     (lane_at values range width words lanes h doc inside ∙ ap (λ n. option_map_or (λ x. x - n) (get_or values doc None) 0) first_is)
 
 -- the value of a document is the number in its lane above the least
-pub value_of_number : (values : List (Option ℕ)) (range : Option (ℕ × ℕ)) (width : ℕ) (words lanes : List ℕ) (present : List Bool) (first doc : ℕ) → values_at (least_of range) present (numbers_in 64 width (length present) words) ≡ values → IsColumn (values_at (least_of range) present (numbers_in 64 width (length present) words)) range width words lanes → least_of range ≡ first → get_or values doc None ≡ option_map (λ n. first + n) (number_at present lanes doc)
+pub value_of_number : (values : List (Option ℕ)) (range : Option (ℕ × ℕ)) (width : ℕ) (words lanes : List ℕ) (present : List Bool) (first doc : ℕ) →
+    values_at (least_of range) present (numbers_in 64 width (length present) words) ≡ values →
+    IsColumn (values_at (least_of range) present (numbers_in 64 width (length present) words)) range width words lanes → least_of range ≡ first →
+    get_or values doc None ≡ option_map (λ n. first + n) (number_at present lanes doc)
 value_of_number values range width words lanes present first doc view column first_is =
     let h : IsColumn values range width words lanes = subst (λ v. IsColumn v range width words lanes) view column in
     let there : map is_some values ≡ present = ap (map is_some) (sym view) ∙ presence-values_at _ _ _ (length-numbers_in 64 width _ words) in
@@ -135,7 +155,8 @@ value_of_number values range width words lanes present first doc view column fir
           elim (cases_Bool (get_or present doc false)) [
             | inl set ↦ (
                 let yes : slice_get present doc ≡ Some true = bit ∙ ap Some set in
-                value_there values range width words lanes present first doc h there first_is yes ∙ sym (ap (option_map (λ n. first + n)) (number_at-set present lanes doc yes)))
+                value_there values range width words lanes present first doc h there first_is yes
+                ∙ sym (ap (option_map (λ n. first + n)) (number_at-set present lanes doc yes)))
             | inr clear ↦ (
                 let no : slice_get present doc ≡ Some false = bit ∙ ap Some clear in
                 value_missing values present doc there no ∙ sym (ap (option_map (λ n. first + n)) (number_at-clear present lanes doc no)))
@@ -143,7 +164,8 @@ value_of_number values range width words lanes present first doc view column fir
     ]
 
 -- a value is at its place, counted from the first or from the least on
-is_value-moved : (least skip first place : ℕ) (v : Option ℕ) → least + skip ≡ first → skip ≤ place → is_value (place - skip) v ≡ is_value (least + place) (option_map (λ n. first + n) v)
+is_value-moved : (least skip first place : ℕ) (v : Option ℕ) → least + skip ≡ first → skip ≤ place →
+    is_value (place - skip) v ≡ is_value (least + place) (option_map (λ n. first + n) v)
 is_value-moved least skip first place None start above = refl
 is_value-moved least skip first place (Some x) start above =
     elim (cases_eq x (place - skip)) [
@@ -152,7 +174,8 @@ is_value-moved least skip first place (Some x) start above =
     ]
 
 -- no value is before the first
-is_value-before : (least skip first place : ℕ) (v : Option ℕ) → least + skip ≡ first → place < skip → is_value (least + place) (option_map (λ n. first + n) v) ≡ false
+is_value-before : (least skip first place : ℕ) (v : Option ℕ) → least + skip ≡ first → place < skip → is_value (least + place) (option_map (λ n. first + n) v)
+    ≡ false
 is_value-before least skip first place None start below = refl
 is_value-before least skip first place (Some x) start below = ne_eqb (first + x) (least + place) (λ e. omega (arith, e, start, below))
 
@@ -162,16 +185,20 @@ count_by-none [] = refl
 count_by-none (doc ∷ docs) = omega (arith, sum_by-cons (λ (x : ℕ). 0) doc docs, count_by-none docs)
 
 -- where no document has a value, its place stays as it is
-pub stays : (values : List (Option ℕ)) (docs : List ℕ) (x count : ℕ) → count < 2 ^ 64 → ((doc : ℕ) → is_value x (get_or values doc None) ≡ false) → count ≡ (count + having values docs x) % 2 ^ 64
+pub stays : (values : List (Option ℕ)) (docs : List ℕ) (x count : ℕ) → count < 2 ^ 64 → ((doc : ℕ) → is_value x (get_or values doc None) ≡ false) →
+    count ≡ (count + having values docs x) % 2 ^ 64
 stays values docs x count small none =
-    let no_more : count + having values docs x ≡ count = omega (arith, count_by-same (λ doc. is_value x (get_or values doc None)) (λ doc. false) docs none, count_by-none docs) in
+    let no_more : count + having values docs x ≡ count =
+    omega (arith, count_by-same (λ doc. is_value x (get_or values doc None)) (λ doc. false) docs none, count_by-none docs) in
     sym (ap (λ n. n % 2 ^ 64) no_more ∙ mod-eq_of_lt small)
 
 -- what the places from the first on have counted, all have
 pub counted_from_first : (values : List (Option ℕ)) (present : List Bool) (lanes docs counts part : List ℕ) (least skip first : ℕ) →
-    ((doc : ℕ) → get_or values doc None ≡ option_map (λ n. first + n) (number_at present lanes doc)) → least + skip ≡ first → skip ≤ length counts → ((k : ℕ) → get_or (put_mid skip (length counts - skip) counts part) k 0 < 2 ^ 64)
+    ((doc : ℕ) → get_or values doc None ≡ option_map (λ n. first + n) (number_at present lanes doc)) → least + skip ≡ first → skip ≤ length counts →
+    ((k : ℕ) → get_or (put_mid skip (length counts - skip) counts part) k 0 < 2 ^ 64)
     → AreCounted (number_at present lanes) docs (take (length counts - skip) (drop skip counts)) part
-    → (place : ℕ) → place < length counts → get_or (put_mid skip (length counts - skip) counts part) place 0 ≡ (get_or counts place 0 + having values docs (least + place)) % 2 ^ 64
+    → (place : ℕ) → place < length counts → get_or (put_mid skip (length counts - skip) counts part) place 0
+    ≡ (get_or counts place 0 + having values docs (least + place)) % 2 ^ 64
 counted_from_first values present lanes docs counts part least skip first value start room small h place inside =
     let number = number_at present lanes in
     let front : length (take skip counts) ≡ skip = length-take-le skip counts room in
@@ -179,11 +206,17 @@ counted_from_first values present lanes docs counts part least skip first value 
     let size : length part ≡ length counts - skip = h.long ∙ ap length rest ∙ length-drop skip counts in
     elim (cases_lt place skip) [
       | inl below ↦ (
-          let kept : get_or (put_mid skip (length counts - skip) counts part) place 0 ≡ get_or counts place 0 = get_or_append_left (take skip counts) _ 0 place (omega (arith, below, front)) ∙ get_or-take skip counts place 0 below in
-          kept ∙ stays values docs (least + place) (get_or counts place 0) (subst (λ n. n < 2 ^ 64) kept (small place)) (λ doc. ap (is_value (least + place)) (value doc) ∙ is_value-before least skip first place (number doc) start below))
+          let kept : get_or (put_mid skip (length counts - skip) counts part) place 0 ≡ get_or counts place 0 =
+          get_or_append_left (take skip counts) _ 0 place (omega (arith, below, front)) ∙ get_or-take skip counts place 0 below in
+          kept ∙ stays values docs (least + place) (get_or counts place 0) (subst (λ n. n < 2 ^ 64) kept (small place))
+          (λ doc. ap (is_value (least + place)) (value doc) ∙ is_value-before least skip first place (number doc) start below))
       | inr above ↦ (
-          let at : get_or (take (length counts - skip) (drop skip counts)) (place - skip) 0 ≡ get_or counts place 0 = ap (λ xs. get_or xs (place - skip) 0) rest ∙ get_or-drop skip counts (place - skip) 0 ∙ ap (λ k. get_or counts k 0) (let e : skip + (place - skip) ≡ place = omega (arith, above) in e) in
-          let same : count_by (λ doc. is_value (place - skip) (number doc)) docs ≡ having values docs (least + place) = count_by-same _ _ docs (λ doc. is_value-moved least skip first place (number doc) start above ∙ sym (ap (is_value (least + place)) (value doc))) in
+          let at : get_or (take (length counts - skip) (drop skip counts)) (place - skip) 0 ≡ get_or counts place 0 =
+          ap (λ xs. get_or xs (place - skip) 0) rest ∙ get_or-drop skip counts (place - skip) 0
+          ∙ ap (λ k. get_or counts k 0) (let e : skip + (place - skip) ≡ place = omega (arith, above) in e) in
+          let same : count_by (λ doc. is_value (place - skip) (number doc)) docs ≡ having values docs (least + place) =
+          count_by-same _ _ docs (λ doc. is_value-moved least skip first place (number doc) start above ∙ sym (ap (is_value (least + place)) (value doc)))
+          in
           get_or-append_right (take skip counts) _ skip place 0 front above
           ∙ get_or_append_left part _ 0 (place - skip) (omega (arith, above, inside, size))
           ∙ h.counted (place - skip) (omega (arith, above, inside, size, h.long))

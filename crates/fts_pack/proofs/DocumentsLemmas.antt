@@ -1,5 +1,6 @@
 -- Rising documents, their differences, and their blocks.
-use Rattle.std.proofs.Common.{◌≡◌, ℕ, zero, suc, ◌+◌, ◌-◌, ◌*◌, ◌<◌, ◌≤◌, List, [], ◌∷◌, ◌++◌, length, get_or, take, drop, min, refl, sym, ap, ◌∙◌, subst, arith}
+use Rattle.std.proofs.Common.{◌≡◌, ℕ, zero, suc, ◌+◌, ◌-◌, ◌*◌, ◌<◌, ◌≤◌, List, [], ◌∷◌, ◌++◌, length, get_or, take, drop, min, refl, sym, ap, ◌∙◌, subst}
+use Rattle.std.proofs.Common.{arith}
 use Rattle.std.specs.List.Sorted.{IsStrictlyIncreasing}
 use Rattle.std.proofs.lemmas.List.{length-drop, take-append-drop, drop_more, take_all, take_min}
 use Rattle.std.specs.Int.{div_ceil}
@@ -41,8 +42,11 @@ after_last next (x ∷ (y ∷ ys)) h =
 
 Rises-from_head : (next : ℕ) (xs : List ℕ) → IsStrictlyIncreasing xs → (0 < length xs → next ≤ get_or xs 0 0) → Rises next xs
 Rises-from_head next [] h head = tt
-Rises-from_head next (x ∷ xs) h head =
-    (head (omega arith), Rises-from_head (suc x) xs (λ k inside. let e : suc k + 1 ≡ suc (k + 1) = omega arith in rw e at (h (suc k) (omega (arith, inside)))) (λ some. h 0 (omega (arith, some))))
+Rises-from_head next (x ∷ xs) h head = (
+  head (omega arith),
+  Rises-from_head (suc x) xs (λ k inside. let e : suc k + 1 ≡ suc (k + 1) = omega arith in rw e at (h (suc k) (omega (arith, inside))))
+      (λ some. h 0 (omega (arith, some))),
+)
 
 pub Rises-from_increasing : (xs : List ℕ) → IsStrictlyIncreasing xs → Rises 0 xs
 Rises-from_increasing xs h = Rises-from_head 0 xs h (λ some. omega arith)
@@ -65,7 +69,8 @@ pub record IsNextGap (rising : List ℕ) (i next number : ℕ) : Type 0 where
   pub rises : Rises (number + 1) (drop (i + 1) rising)
   pub gaps_are : gaps next (drop i rising) ≡ (number - next) ∷ gaps (number + 1) (drop (i + 1) rising)
 
-pub next_gap : (rising : List ℕ) (i next number : ℕ) → i < length rising → number ≡ get_or rising i 0 → Rises next (drop i rising) → IsNextGap rising i next number
+pub next_gap : (rising : List ℕ) (i next number : ℕ) → i < length rising → number ≡ get_or rising i 0 → Rises next (drop i rising) →
+    IsNextGap rising i next number
 next_gap rising i next number within is rises =
     let rest = drop (i + 1) rising in
     let here : drop i rising ≡ number ∷ rest = drop_more rising i 0 within ∙ ap (λ p. p ∷ rest) (sym is) in
@@ -78,7 +83,8 @@ next_gap rising i next number within is rises =
     }
 
 -- a slice from a block's start to its end is the block
-pub block_sliced : (documents : List ℕ) (block end : ℕ) → end ≡ min (length documents) (block * 128 + 128) → take (end - block * 128) (drop (block * 128) documents) ≡ block_at documents block
+pub block_sliced : (documents : List ℕ) (block end : ℕ) → end ≡ min (length documents) (block * 128 + 128) →
+    take (end - block * 128) (drop (block * 128) documents) ≡ block_at documents block
 block_sliced documents block end end_is =
     let back = drop (block * 128) documents in
     let size : end - block * 128 ≡ min 128 (length back) = omega (arith, end_is, length-drop (block * 128) documents) in

@@ -1,7 +1,9 @@
 -- The blocks of a list of documents, as they are written and as they are read.
-use Rattle.std.proofs.Common.{◌≡◌, ℕ, zero, suc, ◌+◌, ◌-◌, ◌*◌, ◌^◌, ◌<◌, ◌≤◌, ◌≢◌, inl, inr, List, [], ◌∷◌, ◌++◌, All, length, get_or, take, drop, min, refl, sym, ap, ap₂, ◌∙◌, subst, arith, append_assoc}
+use Rattle.std.proofs.Common.{◌≡◌, ℕ, zero, suc, ◌+◌, ◌-◌, ◌*◌, ◌^◌, ◌<◌, ◌≤◌, ◌≢◌, inl, inr, List, [], ◌∷◌, ◌++◌, All, length, get_or, take, drop, min, refl}
+use Rattle.std.proofs.Common.{sym, ap, ap₂, ◌∙◌, subst, arith, append_assoc}
 use Rattle.std.specs.List.Sorted.{IsStrictlyIncreasing}
-use Rattle.std.proofs.lemmas.List.{length-append, length_push, take_all, take_at, drop-drop, drop_at, append-nil, get_or-take, get_or-drop, get_or_default, length-take-le}
+use Rattle.std.proofs.lemmas.List.{length-append, length_push, take_all, take_at, drop-drop, drop_at, append-nil, get_or-take, get_or-drop, get_or_default}
+use Rattle.std.proofs.lemmas.List.{length-take-le}
 use Rattle.std.proofs.lemmas.Bool.{cases_lt}
 use Rattle.std.proofs.Math.Seq.{take-append-add}
 use Rattle.fts_pack.specs.declared.skip.Skip.{Skip}
@@ -15,7 +17,8 @@ use Rattle.fts_pack.proofs.DocumentsLemmas.{Rises-block, take_block, documents_a
 use Rattle.fts_pack.specs.SourceLaws.{length-block_at, block_inside}
 
 -- what is kept of a block doesn't change with what is appended
-pub kept_block-append : (words more : List ℕ) (next count : ℕ) (skip : Skip) → IsKeptBlock words next count skip → kept_block (words ++ more) next count skip ≡ kept_block words next count skip
+pub kept_block-append : (words more : List ℕ) (next count : ℕ) (skip : Skip) → IsKeptBlock words next count skip →
+    kept_block (words ++ more) next count skip ≡ kept_block words next count skip
 kept_block-append words more next count skip h =
     ap (λ xs. documents_at next (take (min 128 count) xs)) (numbers_at-append words more skip.block h.within)
 
@@ -31,7 +34,8 @@ AreKept-append words more next count [] h = h
 AreKept-append words more next count (s ∷ ss) h =
     (IsKeptBlock-append words more next count s h.0, AreKept-append words more (suc s.last) (count - 128) ss h.1)
 
-pub kept_documents-append : (words more : List ℕ) (next count : ℕ) (skips : List Skip) → AreKept words next count skips → kept_documents (words ++ more) next count skips ≡ kept_documents words next count skips
+pub kept_documents-append : (words more : List ℕ) (next count : ℕ) (skips : List Skip) → AreKept words next count skips →
+    kept_documents (words ++ more) next count skips ≡ kept_documents words next count skips
 kept_documents-append words more next count [] h = refl
 kept_documents-append words more next count (s ∷ ss) h =
     ap₂ (λ xs ys. xs ++ ys) (kept_block-append words more next count s h.0) (kept_documents-append words more (suc s.last) (count - 128) ss h.1)
@@ -49,7 +53,9 @@ kept_same words next a b skip same some h = record {
   last_is = ap (λ n. after next (documents_at next (take n (numbers_at words skip.block)))) (sym same) ∙ h.last_is;
 }
 
-pub kept_documents-push : (words : List ℕ) (next more : ℕ) (skips : List Skip) (skip : Skip) → more ≤ 128 → kept_documents words next (length skips * 128 + more) (skips ++ skip ∷ []) ≡ kept_documents words next (length skips * 128) skips ++ kept_block words (next_after next skips) more skip
+pub kept_documents-push : (words : List ℕ) (next more : ℕ) (skips : List Skip) (skip : Skip) → more ≤ 128 →
+    kept_documents words next (length skips * 128 + more) (skips ++ skip ∷ []) ≡ kept_documents words next (length skips * 128) skips
+    ++ kept_block words (next_after next skips) more skip
 unfolding next_after
 kept_documents-push words next more [] skip few =
     let none : 0 * 128 + more ≡ more = omega arith in
@@ -58,9 +64,15 @@ kept_documents-push words next more (s ∷ ss) skip few =
     let full : min 128 (suc (length ss) * 128 + more) ≡ min 128 (suc (length ss) * 128) = omega arith in
     let left : suc (length ss) * 128 + more - 128 ≡ length ss * 128 + more = omega arith in
     let left' : suc (length ss) * 128 - 128 ≡ length ss * 128 = omega arith in
-    ap₂ (λ n k. documents_at next (take n (numbers_at words s.block)) ++ kept_documents words (suc s.last) k (ss ++ skip ∷ [])) full left ∙ ap (λ ds. kept_block words next (suc (length ss) * 128) s ++ ds) (kept_documents-push words (suc s.last) more ss skip few) ∙ sym (append_assoc (kept_block words next (suc (length ss) * 128) s) (kept_documents words (suc s.last) (length ss * 128) ss) (kept_block words (next_after (suc s.last) ss) more skip)) ∙ ap (λ k. (kept_block words next (suc (length ss) * 128) s ++ kept_documents words (suc s.last) k ss) ++ kept_block words (next_after (suc s.last) ss) more skip) (sym left')
+    ap₂ (λ n k. documents_at next (take n (numbers_at words s.block)) ++ kept_documents words (suc s.last) k (ss ++ skip ∷ [])) full left
+    ∙ ap (λ ds. kept_block words next (suc (length ss) * 128) s ++ ds) (kept_documents-push words (suc s.last) more ss skip few)
+    ∙ sym (append_assoc (kept_block words next (suc (length ss) * 128) s) (kept_documents words (suc s.last) (length ss * 128) ss)
+    (kept_block words (next_after (suc s.last) ss) more skip))
+    ∙ ap (λ k. (kept_block words next (suc (length ss) * 128) s ++ kept_documents words (suc s.last) k ss) ++ kept_block words (next_after (suc s.last) ss)
+    more skip) (sym left')
 
-pub AreKept-push : (words : List ℕ) (next more : ℕ) (skips : List Skip) (skip : Skip) → more ≤ 128 → AreKept words next (length skips * 128) skips → IsKeptBlock words (next_after next skips) more skip → AreKept words next (length skips * 128 + more) (skips ++ skip ∷ [])
+pub AreKept-push : (words : List ℕ) (next more : ℕ) (skips : List Skip) (skip : Skip) → more ≤ 128 → AreKept words next (length skips * 128) skips →
+    IsKeptBlock words (next_after next skips) more skip → AreKept words next (length skips * 128 + more) (skips ++ skip ∷ [])
 unfolding next_after
 AreKept-push words next more [] skip few h k =
     let none : 0 * 128 + more ≡ more = omega arith in
@@ -68,24 +80,32 @@ AreKept-push words next more [] skip few h k =
 AreKept-push words next more (s ∷ ss) skip few h k =
     let full : min 128 (suc (length ss) * 128) ≡ min 128 (suc (length ss) * 128 + more) = omega arith in
     let left : suc (length ss) * 128 + more - 128 ≡ length ss * 128 + more = omega arith in
-    let left' : suc (length ss) * 128 - 128 ≡ length ss * 128 = omega arith in
-    (kept_same words next (suc (length ss) * 128) (suc (length ss) * 128 + more) s full (omega arith) h.0, rw left (AreKept-push words (suc s.last) more ss skip few (rw left' at h.1) k))
+    let left' : suc (length ss) * 128 - 128 ≡ length ss * 128 = omega arith in (
+      kept_same words next (suc (length ss) * 128) (suc (length ss) * 128 + more) s full (omega arith) h.0,
+      rw left
+          (AreKept-push words (suc s.last) more ss skip few (rw left' at h.1) k),
+    )
 
-pub next_after-kept : (words : List ℕ) (next count : ℕ) (skips : List Skip) → AreKept words next count skips → next_after next skips ≡ after next (kept_documents words next count skips)
+pub next_after-kept : (words : List ℕ) (next count : ℕ) (skips : List Skip) → AreKept words next count skips →
+    next_after next skips ≡ after next (kept_documents words next count skips)
 unfolding next_after
 next_after-kept words next count [] h = refl
 next_after-kept words next count (s ∷ ss) h =
-    next_after-kept words (suc s.last) (count - 128) ss h.1 ∙ ap (λ n. after n (kept_documents words (suc s.last) (count - 128) ss)) (sym h.0.last_is) ∙ sym (after-append next (kept_block words next count s) (kept_documents words (suc s.last) (count - 128) ss))
+    next_after-kept words (suc s.last) (count - 128) ss h.1 ∙ ap (λ n. after n (kept_documents words (suc s.last) (count - 128) ss)) (sym h.0.last_is)
+    ∙ sym (after-append next (kept_block words next count s) (kept_documents words (suc s.last) (count - 128) ss))
 
 length-kept_block : (words : List ℕ) (next count : ℕ) (skip : Skip) → length (kept_block words next count skip) ≡ min 128 count
 length-kept_block words next count skip =
     let numbers = numbers_at words skip.block in
-    length-documents_at next (take (min 128 count) numbers) ∙ length-take-le (min 128 count) numbers (omega (arith, length-numbers_in_lanes skip.block.width (drop skip.block.start words)))
+    length-documents_at next (take (min 128 count) numbers)
+    ∙ length-take-le (min 128 count) numbers (omega (arith, length-numbers_in_lanes skip.block.width (drop skip.block.start words)))
 
-pub length-kept_documents : (words : List ℕ) (next count : ℕ) (skips : List Skip) → AreKept words next count skips → length (kept_documents words next count skips) ≡ count
+pub length-kept_documents : (words : List ℕ) (next count : ℕ) (skips : List Skip) → AreKept words next count skips →
+    length (kept_documents words next count skips) ≡ count
 length-kept_documents words next count [] h = sym h
 length-kept_documents words next count (s ∷ ss) h =
-    length-append (kept_block words next count s) (kept_documents words (suc s.last) (count - 128) ss) ∙ omega (arith, length-kept_block words next count s, length-kept_documents words (suc s.last) (count - 128) ss h.1)
+    length-append (kept_block words next count s) (kept_documents words (suc s.last) (count - 128) ss)
+    ∙ omega (arith, length-kept_block words next count s, length-kept_documents words (suc s.last) (count - 128) ss h.1)
 
 pub length-kept_skips : (words : List ℕ) (next count : ℕ) (skips : List Skip) → AreKept words next count skips → length skips ≡ block_count count
 length-kept_skips words next count [] h = omega (arith, h)
@@ -115,7 +135,8 @@ pub record KeptAt (words : List ℕ) (next count : ℕ) (skips : List Skip) (blo
   pub documents_are : block_at (kept_documents words next count skips) block ≡ kept_block words (next_at next skips block) (count - block * 128) skip
   pub next_is : next_at next skips block ≡ after next (take (block * 128) (kept_documents words next count skips))
 
-pub kept_at : (words : List ℕ) (next count : ℕ) (skips : List Skip) (block : ℕ) (d : Skip) → AreKept words next count skips → block < length skips → KeptAt words next count skips block (get_or skips block d)
+pub kept_at : (words : List ℕ) (next count : ℕ) (skips : List Skip) (block : ℕ) (d : Skip) → AreKept words next count skips → block < length skips →
+    KeptAt words next count skips block (get_or skips block d)
 unfolding next_at
 kept_at words next count [] block d h inside = absurd (omega arith)
 kept_at words next count (s ∷ ss) zero d h inside =
@@ -126,7 +147,8 @@ kept_at words next count (s ∷ ss) zero d h inside =
     record {
       kept = rw whole h.0;
       documents_are = elim (cases_lt count 128) [
-        | inl few ↦ ap (λ ds. take 128 (here ++ ds)) (nothing_kept words (suc s.last) (count - 128) ss h.1 (omega arith)) ∙ take_all 128 (here ++ []) (omega (arith, size, length-append here [])) ∙ append-nil here ∙ ap (λ n. kept_block words next n s) (sym whole)
+        | inl few ↦ ap (λ ds. take 128 (here ++ ds)) (nothing_kept words (suc s.last) (count - 128) ss h.1 (omega arith))
+            ∙ take_all 128 (here ++ []) (omega (arith, size, length-append here [])) ∙ append-nil here ∙ ap (λ n. kept_block words next n s) (sym whole)
         | inr full ↦ take_at here rest 128 (omega (arith, size)) ∙ ap (λ n. kept_block words next n s) (sym whole)
       ];
       next_is = refl;
@@ -141,8 +163,11 @@ kept_at words next count (s ∷ ss) (suc block) d h inside =
     let split : suc block * 128 ≡ 128 + block * 128 = omega arith in
     record {
       kept = rw left tail.kept;
-      documents_are = ap (λ n. take 128 (drop n (here ++ rest))) split ∙ ap (take 128) (sym (drop-drop (block * 128) 128 (here ++ rest)) ∙ ap (drop (block * 128)) (drop_at here rest 128 size)) ∙ tail.documents_are ∙ ap (λ n. kept_block words (next_at (suc s.last) ss block) n (get_or ss block d)) (sym left);
-      next_is = tail.next_is ∙ ap (λ n. after n (take (block * 128) rest)) (sym h.0.last_is) ∙ sym (after-append next here (take (block * 128) rest)) ∙ ap (after next) (sym (take-append-add here rest (block * 128)) ∙ ap (λ n. take n (here ++ rest)) (omega (arith, size)));
+      documents_are = ap (λ n. take 128 (drop n (here ++ rest))) split
+          ∙ ap (take 128) (sym (drop-drop (block * 128) 128 (here ++ rest)) ∙ ap (drop (block * 128)) (drop_at here rest 128 size)) ∙ tail.documents_are
+          ∙ ap (λ n. kept_block words (next_at (suc s.last) ss block) n (get_or ss block d)) (sym left);
+      next_is = tail.next_is ∙ ap (λ n. after n (take (block * 128) rest)) (sym h.0.last_is) ∙ sym (after-append next here (take (block * 128) rest))
+          ∙ ap (after next) (sym (take-append-add here rest (block * 128)) ∙ ap (λ n. take n (here ++ rest)) (omega (arith, size)));
     }
 
 -- the first blocks were added
@@ -155,7 +180,8 @@ pub record IsBuilt (documents : List ℕ) (block next : ℕ) (skips : List Skip)
 pub IsBuilt-start : (documents : List ℕ) → IsBuilt documents 0 0 [] []
 IsBuilt-start documents = record { count = refl; kept = omega arith; documents_are = refl; next_is = refl }
 
-pub kept_block-added : (piece before words : List ℕ) (next : ℕ) (skip : Skip) → IsSkipAdded piece next before words skip → Rises next piece → length piece ≤ 128 → kept_block words next (length piece) skip ≡ piece
+pub kept_block-added : (piece before words : List ℕ) (next : ℕ) (skip : Skip) → IsSkipAdded piece next before words skip → Rises next piece →
+    length piece ≤ 128 → kept_block words next (length piece) skip ≡ piece
 kept_block-added piece before words next skip h rises few =
     let numbers = gaps next piece in
     let size : length numbers ≡ length piece = length-gaps next piece in
@@ -163,7 +189,8 @@ kept_block-added piece before words next skip h rises few =
     ap (λ n. documents_at next (take n (numbers_at words skip.block))) count
     ∙ ap (documents_at next) (numbers_at-added numbers before words skip.block h.block (omega arith)) ∙ documents_at-gaps next piece rises
 
-pub IsKeptBlock-added : (piece before words : List ℕ) (next : ℕ) (skip : Skip) → IsSkipAdded piece next before words skip → Rises next piece → 0 < length piece → length piece ≤ 128 → IsKeptBlock words next (length piece) skip
+pub IsKeptBlock-added : (piece before words : List ℕ) (next : ℕ) (skip : Skip) → IsSkipAdded piece next before words skip → Rises next piece →
+    0 < length piece → length piece ≤ 128 → IsKeptBlock words next (length piece) skip
 IsKeptBlock-added piece before words next skip h rises some few =
     record {
       some = some;
@@ -171,7 +198,9 @@ IsKeptBlock-added piece before words next skip h rises some few =
       last_is = ap (after next) (kept_block-added piece before words next skip h rises few) ∙ sym h.last_is;
     }
 
-pub IsBuilt-more : (documents : List ℕ) (block next : ℕ) (skips : List Skip) (before words : List ℕ) (skip : Skip) → IsBuilt documents block next skips before → Rises 0 documents → block < block_count (length documents) → IsSkipAdded (block_at documents block) next before words skip → IsBuilt documents (block + 1) (suc skip.last) (skips ++ skip ∷ []) words
+pub IsBuilt-more : (documents : List ℕ) (block next : ℕ) (skips : List Skip) (before words : List ℕ) (skip : Skip) → IsBuilt documents block next skips before →
+    Rises 0 documents → block < block_count (length documents) → IsSkipAdded (block_at documents block) next before words skip →
+    IsBuilt documents (block + 1) (suc skip.last) (skips ++ skip ∷ []) words
 IsBuilt-more documents block next skips before words skip h rises inside added =
     let piece = block_at documents block in
     let new = words_in_lanes skip.block.width (gaps next piece) in
@@ -183,25 +212,35 @@ IsBuilt-more documents block next skips before words skip h rises inside added =
     let some : 0 < length piece = omega (arith, size, start) in
     let here : Rises next piece = subst (λ n. Rises n piece) (sym h.next_is) (Rises-block documents block rises) in
     let kept : AreKept before 0 (length skips * 128) skips = subst (λ n. AreKept before 0 n skips) now h.kept in
-    let kept_more : AreKept words 0 (length skips * 128) skips = subst (λ ws. AreKept ws 0 (length skips * 128) skips) (sym added.block.words_are) (AreKept-append before new 0 (length skips * 128) skips kept) in
-    let front : kept_documents words 0 (length skips * 128) skips ≡ take (block * 128) documents = ap (λ ws. kept_documents ws 0 (length skips * 128) skips) added.block.words_are ∙ kept_documents-append before new 0 (length skips * 128) skips kept ∙ ap (λ n. kept_documents before 0 n skips) (sym now) ∙ h.documents_are in
+    let kept_more : AreKept words 0 (length skips * 128) skips =
+    subst (λ ws. AreKept ws 0 (length skips * 128) skips) (sym added.block.words_are) (AreKept-append before new 0 (length skips * 128) skips kept) in
+    let front : kept_documents words 0 (length skips * 128) skips ≡ take (block * 128) documents =
+    ap (λ ws. kept_documents ws 0 (length skips * 128) skips) added.block.words_are ∙ kept_documents-append before new 0 (length skips * 128) skips kept
+    ∙ ap (λ n. kept_documents before 0 n skips) (sym now) ∙ h.documents_are in
     let next_is : next_after 0 skips ≡ next = next_after-kept words 0 (length skips * 128) skips kept_more ∙ ap (after 0) front ∙ sym h.next_is in
-    let block_is : IsKeptBlock words (next_after 0 skips) (length piece) skip = rw next_is (IsKeptBlock-added piece before words next skip added here some few) in
+    let block_is : IsKeptBlock words (next_after 0 skips) (length piece) skip =
+    rw next_is (IsKeptBlock-added piece before words next skip added here some few) in
     record {
       count = length_push skips skip ∙ ap (λ n. n + 1) h.count;
       kept = rw then (AreKept-push words 0 (length piece) skips skip few kept_more block_is);
-      documents_are = ap (λ n. kept_documents words 0 n (skips ++ skip ∷ [])) then ∙ kept_documents-push words 0 (length piece) skips skip few ∙ ap₂ (λ xs n. xs ++ kept_block words n (length piece) skip) front next_is ∙ ap (λ xs. take (block * 128) documents ++ xs) (kept_block-added piece before words next skip added here few) ∙ sym (take_block documents block);
-      next_is = added.last_is ∙ ap (λ n. after n piece) h.next_is ∙ sym (after-append 0 (take (block * 128) documents) piece) ∙ ap (after 0) (sym (take_block documents block));
+      documents_are = ap (λ n. kept_documents words 0 n (skips ++ skip ∷ [])) then ∙ kept_documents-push words 0 (length piece) skips skip few
+          ∙ ap₂ (λ xs n. xs ++ kept_block words n (length piece) skip) front next_is
+          ∙ ap (λ xs. take (block * 128) documents ++ xs) (kept_block-added piece before words next skip added here few) ∙ sym (take_block documents block);
+      next_is = added.last_is ∙ ap (λ n. after n piece) h.next_is ∙ sym (after-append 0 (take (block * 128) documents) piece)
+          ∙ ap (after 0) (sym (take_block documents block));
     }
 
 -- all blocks were added
-pub kept_documents-built : (documents : List ℕ) (next : ℕ) (skips : List Skip) (words : List ℕ) → IsBuilt documents (block_count (length documents)) next skips words → kept_documents words 0 (length documents) skips ≡ documents
+pub kept_documents-built : (documents : List ℕ) (next : ℕ) (skips : List Skip) (words : List ℕ) →
+    IsBuilt documents (block_count (length documents)) next skips words → kept_documents words 0 (length documents) skips ≡ documents
 kept_documents-built documents next skips words h =
     let blocks = block_count (length documents) in
     let all : min (blocks * 128) (length documents) ≡ length documents = omega arith in
     ap (λ n. kept_documents words 0 n skips) (sym all) ∙ h.documents_are ∙ take_all (blocks * 128) documents (omega arith)
 
-pub IsLongList-built : (documents : List ℕ) (next : ℕ) (skips : List Skip) (words : List ℕ) → IsBuilt documents (block_count (length documents)) next skips words → IsStrictlyIncreasing documents → length documents < 2 ^ 64 → All (λ document. document < 2 ^ 32) documents → IsLongList (length documents) skips words
+pub IsLongList-built : (documents : List ℕ) (next : ℕ) (skips : List Skip) (words : List ℕ) →
+    IsBuilt documents (block_count (length documents)) next skips words → IsStrictlyIncreasing documents → length documents < 2 ^ 64 →
+    All (λ document. document < 2 ^ 32) documents → IsLongList (length documents) skips words
 IsLongList-built documents next skips words h rises few fits =
     let blocks = block_count (length documents) in
     let all : min (blocks * 128) (length documents) ≡ length documents = omega arith in
@@ -213,10 +252,12 @@ IsLongList-built documents next skips words h rises few fits =
       fits = subst (All (λ document. document < 2 ^ 32)) (sym same) fits;
     }
 
-pub long_length : (value : List ℕ) (count : ℕ) (skips : List Skip) (words : List ℕ) → kept_documents words 0 count skips ≡ value → IsLongList count skips words → count ≡ length value
+pub long_length : (value : List ℕ) (count : ℕ) (skips : List Skip) (words : List ℕ) → kept_documents words 0 count skips ≡ value →
+    IsLongList count skips words → count ≡ length value
 long_length value count skips words view h = sym (length-kept_documents words 0 count skips h.kept) ∙ ap length view
 
-pub long_blocks : (value : List ℕ) (count : ℕ) (skips : List Skip) (words : List ℕ) → kept_documents words 0 count skips ≡ value → IsLongList count skips words → length skips ≡ block_count (length value)
+pub long_blocks : (value : List ℕ) (count : ℕ) (skips : List Skip) (words : List ℕ) → kept_documents words 0 count skips ≡ value →
+    IsLongList count skips words → length skips ≡ block_count (length value)
 long_blocks value count skips words view h =
     length-kept_skips words 0 count skips h.kept ∙ ap block_count (long_length value count skips words view h)
 
@@ -226,10 +267,12 @@ pub record Reads (value : List ℕ) (count : ℕ) (words : List ℕ) (block : �
   pub within : IsWithin words skip.block
   pub last_is : skip.last ≡ last_of (block_at value block)
   pub size : min (count - block * 128) 128 ≡ length (block_at value block)
-  pub documents_are : documents_at (after 0 (take (block * 128) value)) (take (min (count - block * 128) 128) (numbers_at words skip.block)) ≡ block_at value block
+  pub documents_are : documents_at (after 0 (take (block * 128) value)) (take (min (count - block * 128) 128) (numbers_at words skip.block))
+      ≡ block_at value block
   pub fits : All (λ document. document < 2 ^ 32) (block_at value block)
 
-pub block_read : (value : List ℕ) (count : ℕ) (skips : List Skip) (words : List ℕ) (block : ℕ) (skip : Skip) → kept_documents words 0 count skips ≡ value → IsLongList count skips words → block < block_count (length value) → skip ≡ get_or skips block skip → Reads value count words block skip
+pub block_read : (value : List ℕ) (count : ℕ) (skips : List Skip) (words : List ℕ) (block : ℕ) (skip : Skip) → kept_documents words 0 count skips ≡ value →
+    IsLongList count skips words → block < block_count (length value) → skip ≡ get_or skips block skip → Reads value count words block skip
 block_read value count skips words block skip view h inside skip_is =
     let many = long_length value count skips words view h in
     let blocks = long_blocks value count skips words view h in
@@ -250,16 +293,20 @@ block_read value count skips words block skip view h inside skip_is =
       last_is = (let e : skip.last ≡ last_of here = omega (arith, last) in e) ∙ ap last_of (sym same);
       size = size;
       documents_are = ap₂ (λ n k. documents_at n (take k (numbers_at words skip.block))) (sym next_is) turned ∙ sym same;
-      fits = λ k d lt. rw (get_or-take 128 (drop (block * 128) value) k d (omega (arith, size, lt)), get_or-drop (block * 128) value k d) (all (block * 128 + k) d (omega (arith, many, size, lt, at.kept.some)));
+      fits = λ k d lt. rw (get_or-take 128 (drop (block * 128) value) k d (omega (arith, size, lt)), get_or-drop (block * 128) value k d)
+          (all (block * 128 + k) d (omega (arith, many, size, lt, at.kept.some)));
     }
 
 -- the first document that a later block may have follows the last of the block before
-pub first_of_block : (value : List ℕ) (count : ℕ) (skips : List Skip) (words : List ℕ) (block : ℕ) (skip : Skip) → kept_documents words 0 count skips ≡ value → IsLongList count skips words → block < block_count (length value) → block ≢ 0 → skip ≡ get_or skips (block - 1) skip → suc skip.last ≡ after 0 (take (block * 128) value)
+pub first_of_block : (value : List ℕ) (count : ℕ) (skips : List Skip) (words : List ℕ) (block : ℕ) (skip : Skip) → kept_documents words 0 count skips ≡ value →
+    IsLongList count skips words → block < block_count (length value) → block ≢ 0 → skip ≡ get_or skips (block - 1) skip →
+    suc skip.last ≡ after 0 (take (block * 128) value)
 first_of_block value count skips words block skip view h inside later skip_is =
     let blocks = long_blocks value count skips words view h in
     let at = kept_at words 0 count skips block skip h.kept (omega (arith, blocks, inside)) in
     let e : block ≡ suc (block - 1) = omega arith in
-    ap (λ s. suc s.last) skip_is ∙ sym (next_at-suc 0 (block - 1) skips skip (omega (arith, blocks, inside))) ∙ ap (next_at 0 skips) (sym e) ∙ at.next_is ∙ ap (λ ds. after 0 (take (block * 128) ds)) view
+    ap (λ s. suc s.last) skip_is ∙ sym (next_at-suc 0 (block - 1) skips skip (omega (arith, blocks, inside))) ∙ ap (next_at 0 skips) (sym e) ∙ at.next_is
+    ∙ ap (λ ds. after 0 (take (block * 128) ds)) view
 
 -- the first document is `next` or later
 head_at_least : (next : ℕ) (numbers : List ℕ) → 0 < length (documents_at next numbers) → next ≤ get_or (documents_at next numbers) 0 0
@@ -267,7 +314,8 @@ head_at_least next [] some = absurd (omega arith)
 head_at_least next (number ∷ numbers) some = omega arith
 
 -- so the first document that a block may have fits
-pub first_fits : (value : List ℕ) (count : ℕ) (skips : List Skip) (words : List ℕ) (block : ℕ) (d : Skip) → kept_documents words 0 count skips ≡ value → IsLongList count skips words → block < block_count (length value) → after 0 (take (block * 128) value) < 2 ^ 32
+pub first_fits : (value : List ℕ) (count : ℕ) (skips : List Skip) (words : List ℕ) (block : ℕ) (d : Skip) → kept_documents words 0 count skips ≡ value →
+    IsLongList count skips words → block < block_count (length value) → after 0 (take (block * 128) value) < 2 ^ 32
 first_fits value count skips words block d view h inside =
     let blocks = long_blocks value count skips words view h in
     let skip = get_or skips block d in

@@ -1,5 +1,6 @@
 -- The blocks of a list of numbers, as they are written and as they are read.
-use Rattle.std.proofs.Common.{◌≡◌, ℕ, ◌+◌, ◌-◌, ◌*◌, ◌/◌, ◌%◌, ◌^◌, ◌<◌, ◌≤◌, inl, inr, List, [], ◌∷◌, ◌++◌, All, length, get_or, take, drop, min, refl, sym, ap, ◌∙◌, subst, arith}
+use Rattle.std.proofs.Common.{◌≡◌, ℕ, ◌+◌, ◌-◌, ◌*◌, ◌/◌, ◌%◌, ◌^◌, ◌<◌, ◌≤◌, inl, inr, List, [], ◌∷◌, ◌++◌, All, length, get_or, take, drop, min, refl, sym}
+use Rattle.std.proofs.Common.{ap, ◌∙◌, subst, arith}
 use Rattle.std.proofs.lemmas.List.{length_push, get_or-take, get_or-drop, get_or_append_left, get_or_read, length-take-le}
 use Rattle.std.proofs.lemmas.List.FromFn.{length-map-range_with_len, get_or-map-range_with_len}
 use Rattle.std.proofs.lemmas.Bool.{cases_lt}
@@ -18,7 +19,8 @@ pub length-numbers_kept : (count : ℕ) (blocks : List Packed) (words : List ℕ
 unfolding numbers_kept
 length-numbers_kept count blocks words = length-map-range_with_len (number_kept blocks words) 0 count
 
-pub get_or-numbers_kept : (count : ℕ) (blocks : List Packed) (words : List ℕ) (i : ℕ) → i < count → get_or (numbers_kept count blocks words) i 0 ≡ number_kept blocks words i
+pub get_or-numbers_kept : (count : ℕ) (blocks : List Packed) (words : List ℕ) (i : ℕ) → i < count →
+    get_or (numbers_kept count blocks words) i 0 ≡ number_kept blocks words i
 unfolding numbers_kept
 get_or-numbers_kept count blocks words i inside = get_or-map-range_with_len (number_kept blocks words) 0 count i i 0 inside (omega arith)
 
@@ -31,7 +33,8 @@ pub record AreBuilt (numbers : List ℕ) (block : ℕ) (blocks : List Packed) (w
 pub AreBuilt-start : (numbers : List ℕ) → AreBuilt numbers 0 [] []
 AreBuilt-start numbers = record { count = refl; within = λ i d inside. absurd (omega arith); same = λ i near inside. absurd (omega arith) }
 
-pub AreBuilt-more : (numbers : List ℕ) (block : ℕ) (blocks : List Packed) (before words : List ℕ) (added : Packed) → AreBuilt numbers block blocks before → block < block_count (length numbers) →
+pub AreBuilt-more : (numbers : List ℕ) (block : ℕ) (blocks : List Packed) (before words : List ℕ) (added : Packed) → AreBuilt numbers block blocks before →
+    block < block_count (length numbers) →
     IsAdded (block_at numbers block) before words added → AreBuilt numbers (block + 1) (blocks ++ added ∷ []) words
 AreBuilt-more numbers block blocks before words added h inside new =
     let piece = block_at numbers block in
@@ -74,7 +77,8 @@ AreBuilt-more numbers block blocks before words added h inside new =
     }
 
 -- all blocks were added
-pub numbers_kept-built : (numbers : List ℕ) (blocks : List Packed) (words : List ℕ) → AreBuilt numbers (block_count (length numbers)) blocks words → numbers_kept (length numbers) blocks words ≡ numbers
+pub numbers_kept-built : (numbers : List ℕ) (blocks : List Packed) (words : List ℕ) → AreBuilt numbers (block_count (length numbers)) blocks words →
+    numbers_kept (length numbers) blocks words ≡ numbers
 numbers_kept-built numbers blocks words h =
     let size = length-numbers_kept (length numbers) blocks words in
     same_number_lists (numbers_kept (length numbers) blocks words) numbers size (λ i near.
@@ -89,7 +93,8 @@ pub record Reads (value : List ℕ) (count : ℕ) (words : List ℕ) (number : �
   pub size : min (count - number * 128) 128 ≡ length (block_at value number)
   pub numbers_are : take (min (count - number * 128) 128) (numbers_at words block) ≡ block_at value number
 
-pub block_read : (value : List ℕ) (count : ℕ) (blocks : List Packed) (words : List ℕ) (number : ℕ) (block : Packed) → numbers_kept count blocks words ≡ value → AreKept count blocks words → number < block_count (length value) →
+pub block_read : (value : List ℕ) (count : ℕ) (blocks : List Packed) (words : List ℕ) (number : ℕ) (block : Packed) → numbers_kept count blocks words ≡ value →
+    AreKept count blocks words → number < block_count (length value) →
     block ≡ get_or blocks number block → Reads value count words number block
 block_read value count blocks words number block view h inside block_is =
     let long : length value ≡ count = ap length (sym view) ∙ length-numbers_kept count blocks words in
@@ -100,7 +105,8 @@ block_read value count blocks words number block view h inside block_is =
     let piece = block_at value number in
     let some = min (count - number * 128) 128 in
     let size : some ≡ length piece = omega (arith, length-block_at value number) in
-    let taken : length (take some (numbers_at words block)) ≡ some = length-take-le some (numbers_at words block) (omega (arith, length-numbers_in_lanes block.width (drop block.start words))) in
+    let taken : length (take some (numbers_at words block)) ≡ some =
+    length-take-le some (numbers_at words block) (omega (arith, length-numbers_in_lanes block.width (drop block.start words))) in
     record {
       start = start;
       narrow = w.narrow;
@@ -119,11 +125,13 @@ block_read value count blocks words number block view h inside block_is =
     }
 
 -- there is a block for each 128 numbers
-pub blocks_kept : (value : List ℕ) (count : ℕ) (blocks : List Packed) (words : List ℕ) → numbers_kept count blocks words ≡ value → AreKept count blocks words → length blocks ≡ block_count (length value)
+pub blocks_kept : (value : List ℕ) (count : ℕ) (blocks : List Packed) (words : List ℕ) → numbers_kept count blocks words ≡ value → AreKept count blocks words →
+    length blocks ≡ block_count (length value)
 blocks_kept value count blocks words view h =
     h.many ∙ ap block_count (sym (length-numbers_kept count blocks words) ∙ ap length view)
 
-pub block_near : (value : List ℕ) (count : ℕ) (blocks : List Packed) (words : List ℕ) (index : ℕ) → numbers_kept count blocks words ≡ value → AreKept count blocks words → index < length value → index / 128 < length blocks
+pub block_near : (value : List ℕ) (count : ℕ) (blocks : List Packed) (words : List ℕ) (index : ℕ) → numbers_kept count blocks words ≡ value →
+    AreKept count blocks words → index < length value → index / 128 < length blocks
 block_near value count blocks words index view h inside = omega (arith, blocks_kept value count blocks words view h)
 
 -- a number, seen from its block
@@ -131,7 +139,8 @@ pub record ReadsOne (value words : List ℕ) (index : ℕ) (block : Packed) : Ty
   pub within : IsWithin words block
   pub number_is : get_or (numbers_at words block) (index % 128) 0 ≡ get_or value index 0
 
-pub number_read : (value : List ℕ) (count : ℕ) (blocks : List Packed) (words : List ℕ) (index : ℕ) (block : Packed) → numbers_kept count blocks words ≡ value → AreKept count blocks words → index < length value →
+pub number_read : (value : List ℕ) (count : ℕ) (blocks : List Packed) (words : List ℕ) (index : ℕ) (block : Packed) → numbers_kept count blocks words ≡ value →
+    AreKept count blocks words → index < length value →
     block ≡ get_or blocks (index / 128) block → ReadsOne value words index block
 number_read value count blocks words index block view h inside block_is =
     let long : length value ≡ count = ap length (sym view) ∙ length-numbers_kept count blocks words in
@@ -139,9 +148,11 @@ number_read value count blocks words index block view h inside block_is =
     let here : get_or blocks (index / 128) no_block ≡ block = sym (get_or_read blocks (index / 128) block near block_is no_block) in
     record {
       within = subst (IsWithin words) here (h.within (index / 128) no_block near);
-      number_is = ap (λ b. get_or (numbers_at words b) (index % 128) 0) (sym here) ∙ sym (get_or-numbers_kept count blocks words index (omega arith)) ∙ ap (λ ns. get_or ns index 0) view;
+      number_is = ap (λ b. get_or (numbers_at words b) (index % 128) 0) (sym here) ∙ sym (get_or-numbers_kept count blocks words index (omega arith))
+          ∙ ap (λ ns. get_or ns index 0) view;
     }
 
 -- all blocks were added, and the numbers are not too many
-pub AreKept-built : (numbers : List ℕ) (blocks : List Packed) (words : List ℕ) → AreBuilt numbers (block_count (length numbers)) blocks words → length numbers < 2 ^ 64 → AreKept (length numbers) blocks words
+pub AreKept-built : (numbers : List ℕ) (blocks : List Packed) (words : List ℕ) → AreBuilt numbers (block_count (length numbers)) blocks words →
+    length numbers < 2 ^ 64 → AreKept (length numbers) blocks words
 AreKept-built numbers blocks words h few = record { few = few; many = h.count; within = h.within }

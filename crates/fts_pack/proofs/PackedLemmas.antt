@@ -17,9 +17,11 @@ pub IsWithin-append : (words more : List ℕ) (block : Packed) → IsWithin word
 IsWithin-append words more block h = record { narrow = h.narrow; room = omega (arith, length-append words more, h.room) }
 
 -- a block that was added has its numbers
-pub numbers_at-added : (piece before words : List ℕ) (block : Packed) → IsAdded piece before words block → length piece ≤ 128 → take (length piece) (numbers_at words block) ≡ piece
+pub numbers_at-added : (piece before words : List ℕ) (block : Packed) → IsAdded piece before words block → length piece ≤ 128 →
+    take (length piece) (numbers_at words block) ≡ piece
 numbers_at-added piece before words block h few =
-    let rest : drop block.start words ≡ words_in_lanes block.width piece = ap₂ drop h.start h.words_are ∙ drop_at before (words_in_lanes block.width piece) (length before) refl in
+    let rest : drop block.start words ≡ words_in_lanes block.width piece =
+    ap₂ drop h.start h.words_are ∙ drop_at before (words_in_lanes block.width piece) (length before) refl in
     ap (λ ws. take (length piece) (numbers_in_lanes block.width ws)) rest ∙ numbers_in_lanes-words block.width piece few h.width_is.holds
 
 -- and the words are as many more as it takes

@@ -1,5 +1,6 @@
 -- Running sums of four lanes.
-use Rattle.std.proofs.Common.{◌≡◌, ℕ, zero, suc, ◌+◌, ◌-◌, ◌*◌, ◌/◌, ◌%◌, ◌^◌, ◌<◌, ◌≤◌, List, [], ◌∷◌, ◌++◌, length, get_or, take, drop, map, sum, refl, sym, ap, ◌∙◌, subst, ap₂, All, mod-eq_of_lt, length-drop, inl, inr, arith, lit<}
+use Rattle.std.proofs.Common.{◌≡◌, ℕ, zero, suc, ◌+◌, ◌-◌, ◌*◌, ◌/◌, ◌%◌, ◌^◌, ◌<◌, ◌≤◌, List, [], ◌∷◌, ◌++◌, length, get_or, take, drop, map, sum, refl, sym}
+use Rattle.std.proofs.Common.{ap, ◌∙◌, subst, ap₂, All, mod-eq_of_lt, length-drop, inl, inr, arith, lit<}
 use Rattle.std.specs.Simd.Lanes.{zip2}
 use Rattle.std.proofs.lemmas.Grind.{same_number_lists}
 use Rattle.std.proofs.lemmas.Nat.{div-add-mod'}
@@ -30,7 +31,8 @@ add_mod m a b c =
     sym (ap (λ n. n % m) whole ∙ mul-add-mod_self_right ((b + c) / m) m (a + (b + c) % m))
 
 abbrev pub AreDocuments : List ℕ → List ℕ → Type 0
-AreDocuments from sums = (lane : ℕ) → lane < 4 → get_or (zip2 (λ x y. (x + y) % 2 ^ 32) from (zip2 (λ x y. (x + y) % 2 ^ 32) sums (1 ∷ 2 ∷ 3 ∷ 4 ∷ []))) lane 0 ≡ (get_or from lane 0 + get_or sums lane 0 + (lane + 1)) % 2 ^ 32
+AreDocuments from sums = (lane : ℕ) → lane < 4 → get_or (zip2 (λ x y. (x + y) % 2 ^ 32) from (zip2 (λ x y. (x + y) % 2 ^ 32) sums (1 ∷ 2 ∷ 3 ∷ 4 ∷ []))) lane 0
+    ≡ (get_or from lane 0 + get_or sums lane 0 + (lane + 1)) % 2 ^ 32
 
 pub four_documents : (from : List ℕ) → length from ≡ 4 → (sums : List ℕ) → length sums ≡ 4 → AreDocuments from sums
 four_documents =
@@ -52,7 +54,9 @@ pub record IsSummed (last : ℕ) (gaps : List ℕ) (at : ℕ) (out from : List �
   pub long : length out ≡ 128
 
 -- four differences as they were loaded
-loaded_is : (gaps out loaded : List ℕ) (at : ℕ) → length gaps ≡ 128 → at + 4 ≤ 128 → length loaded ≡ 4 → ((i : ℕ) → at ≤ i → i < 128 → get_or out i 0 ≡ get_or gaps i 0) → ((lane : ℕ) → lane < 4 → get_or loaded lane 0 ≡ get_or out (at + lane) 0) → loaded ≡ take 4 (drop at gaps)
+loaded_is : (gaps out loaded : List ℕ) (at : ℕ) → length gaps ≡ 128 → at + 4 ≤ 128 → length loaded ≡ 4 →
+    ((i : ℕ) → at ≤ i → i < 128 → get_or out i 0 ≡ get_or gaps i 0) → ((lane : ℕ) → lane < 4 → get_or loaded lane 0 ≡ get_or out (at + lane) 0) →
+    loaded ≡ take 4 (drop at gaps)
 loaded_is gaps out loaded at long room four kept is =
     let rest : length (drop at gaps) ≡ 128 - at = length-drop at gaps ∙ ap (λ n. n - at) long in
     let size : length (take 4 (drop at gaps)) ≡ 4 = length-take-le 4 (drop at gaps) (omega arith) in
@@ -60,9 +64,11 @@ loaded_is gaps out loaded at long room four kept is =
     let near : k < 4 = subst (λ n. k < n) four inside in
     is k near ∙ kept (at + k) (omega arith) (omega arith) ∙ sym (get_or-take 4 (drop at gaps) k 0 near ∙ get_or-drop at gaps k 0))
 
-sum_loaded : (gaps loaded : List ℕ) (at lane : ℕ) → loaded ≡ take 4 (drop at gaps) → lane < 4 → sum (take at gaps) + sum (take (lane + 1) loaded) ≡ sum (take (at + lane + 1) gaps)
+sum_loaded : (gaps loaded : List ℕ) (at lane : ℕ) → loaded ≡ take 4 (drop at gaps) → lane < 4 → sum (take at gaps) + sum (take (lane + 1) loaded)
+    ≡ sum (take (at + lane + 1) gaps)
 sum_loaded gaps loaded at lane e small =
-    let same : take (lane + 1) loaded ≡ take (lane + 1) (drop at gaps) = ap (λ xs. take (lane + 1) xs) e ∙ take-take (lane + 1) 4 (drop at gaps) (omega arith) in
+    let same : take (lane + 1) loaded ≡ take (lane + 1) (drop at gaps) =
+    ap (λ xs. take (lane + 1) xs) e ∙ take-take (lane + 1) 4 (drop at gaps) (omega arith) in
     let count : at + (lane + 1) ≡ at + lane + 1 = omega arith in
     ap (λ xs. sum (take at gaps) + sum xs) same ∙ sym (sum-take-add at (lane + 1) gaps) ∙ ap (λ n. sum (take n gaps)) count
 
@@ -75,7 +81,8 @@ three m a b c d e =
     sym (ap (λ n. n % m) whole ∙ mul-add-mod_self_right (s / m + d / m) m (s % m + d % m + e))
 
 -- four documents more
-pub summed_more : (last : ℕ) (gaps : List ℕ) (at : ℕ) (out out' from from' loaded sums added : List ℕ) → length gaps ≡ 128 → at + 4 ≤ 128 → length loaded ≡ 4 → length out' ≡ 128 → IsSummed last gaps at out from
+pub summed_more : (last : ℕ) (gaps : List ℕ) (at : ℕ) (out out' from from' loaded sums added : List ℕ) → length gaps ≡ 128 → at + 4 ≤ 128 → length loaded ≡ 4 →
+    length out' ≡ 128 → IsSummed last gaps at out from
     → ((lane : ℕ) → lane < 4 → get_or loaded lane 0 ≡ get_or out (at + lane) 0)
     → ((lane : ℕ) → lane < 4 → get_or sums lane 0 ≡ sum (take (lane + 1) loaded) % 2 ^ 32)
     → ((lane : ℕ) → lane < 4 → get_or added lane 0 ≡ (get_or from lane 0 + get_or sums lane 0 + (lane + 1)) % 2 ^ 32)
@@ -91,7 +98,8 @@ summed_more last gaps at out out' from from' loaded sums added long room four lo
     ∙ ap₂ (λ x y. (x + y + (lane + 1)) % 2 ^ 32) (h.reached lane small) (sums_are lane small)
     ∙ three (2 ^ 32) last (sum (take at gaps)) at (sum (take (lane + 1) loaded)) (lane + 1)
     ∙ ap (λ n. n % 2 ^ 32) (let s = sum_loaded gaps loaded at lane e small in
-    let total : last + sum (take at gaps) + at + sum (take (lane + 1) loaded) + (lane + 1) ≡ last + sum (take (at + lane + 1) gaps) + (at + lane + 1) = omega (arith, s) in total) in
+    let total : last + sum (take at gaps) + at + sum (take (lane + 1) loaded) + (lane + 1) ≡ last + sum (take (at + lane + 1) gaps) + (at + lane + 1) =
+    omega (arith, s) in total) in
     record {
       written = λ i inside. elim (cases_lt i at) [
         | inl low ↦ before i low ∙ h.written i low
@@ -118,7 +126,8 @@ behind_last m next last s i last_is some =
     let whole : 1 * m + (next + s + i) ≡ q * m + (last + s + (i + 1)) = omega (arith, parted) in
     sym (mul-add-mod_self_right q m (last + s + (i + 1))) ∙ ap (λ n. n % m) (sym whole) ∙ mul-add-mod_self_right 1 m (next + s + i)
 
-pub summed_whole : (next last : ℕ) (gaps out from : List ℕ) (at : ℕ) → last ≡ (next + (2 ^ 32 - 1)) % 2 ^ 32 → length gaps ≡ 128 → at ≡ 128 → IsSummed last gaps at out from → out ≡ map (λ document. document % 2 ^ 32) (documents_at next gaps)
+pub summed_whole : (next last : ℕ) (gaps out from : List ℕ) (at : ℕ) → last ≡ (next + (2 ^ 32 - 1)) % 2 ^ 32 → length gaps ≡ 128 → at ≡ 128 →
+    IsSummed last gaps at out from → out ≡ map (λ document. document % 2 ^ 32) (documents_at next gaps)
 summed_whole next last gaps out from at last_is long at_is h =
     let all = documents_at next gaps in
     let size : length (map (λ document. document % 2 ^ 32) all) ≡ 128 = length-map all (λ document. document % 2 ^ 32) ∙ length-documents_at next gaps ∙ long in
@@ -129,7 +138,8 @@ summed_whole next last gaps out from at last_is long at_is h =
     ∙ ap (λ n. n % 2 ^ 32) (sym (document_is next gaps k (omega (arith, long, near))))
     ∙ sym (get_or-map (λ document. document % 2 ^ 32) all k 0 0 (omega (arith, long, near, length-documents_at next gaps))))
 
-pub documents_kept : (next count : ℕ) (gaps : List ℕ) → All (λ document. document < 2 ^ 32) (documents_at next (take count gaps)) → take count (map (λ document. document % 2 ^ 32) (documents_at next gaps)) ≡ documents_at next (take count gaps)
+pub documents_kept : (next count : ℕ) (gaps : List ℕ) → All (λ document. document < 2 ^ 32) (documents_at next (take count gaps)) →
+    take count (map (λ document. document % 2 ^ 32) (documents_at next gaps)) ≡ documents_at next (take count gaps)
 documents_kept next zero gaps h = refl
 documents_kept next (suc count) [] h = refl
 documents_kept next (suc count) (gap ∷ gaps) h =

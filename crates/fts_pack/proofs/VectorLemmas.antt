@@ -1,5 +1,6 @@
 -- Shifts and masks of four lanes.
-use Rattle.std.proofs.Common.{◌≡◌, ℕ, zero, suc, ◌+◌, ◌-◌, ◌*◌, ◌/◌, ◌%◌, ◌^◌, ◌<◌, ◌≤◌, List, [], ◌∷◌, length, get_or, bit_and, bit_or, Fits, w32, sym, ap, ◌∙◌, subst, add_comm, mod-eq_of_lt, take, drop, inl, inr, length-drop, arith}
+use Rattle.std.proofs.Common.{◌≡◌, ℕ, zero, suc, ◌+◌, ◌-◌, ◌*◌, ◌/◌, ◌%◌, ◌^◌, ◌<◌, ◌≤◌, List, [], ◌∷◌, length, get_or, bit_and, bit_or, Fits, w32, sym, ap}
+use Rattle.std.proofs.Common.{◌∙◌, subst, add_comm, mod-eq_of_lt, take, drop, inl, inr, length-drop, arith}
 use Rattle.std.specs.Simd.Lanes.{zip2}
 use Rattle.std.proofs.lemmas.Simd.{length-put_chunk, get_or-put_chunk_at, get_or-put_chunk_above}
 use Rattle.std.proofs.lemmas.List.{get_or_append_left, get_or-append_right, get_or-take, get_or-drop, length-take-le}
@@ -35,7 +36,8 @@ field_within : (shift width mask : ℕ) → mask ≡ 2 ^ width - 1 → (x : ℕ)
 field_within shift width mask mask_is x = rw mask_is (and_mask (x / 2 ^ shift) width)
 
 abbrev pub IsWithin : ℕ → ℕ → ℕ → List ℕ → Type 0
-IsWithin shift width mask low = (lane : ℕ) → lane < 4 → get_or (zip2 bit_and (zip2 (λ x n. x / 2 ^ n) low (splat shift)) (splat mask)) lane 0 ≡ get_or low lane 0 / 2 ^ shift % 2 ^ width
+IsWithin shift width mask low = (lane : ℕ) → lane < 4 → get_or (zip2 bit_and (zip2 (λ x n. x / 2 ^ n) low (splat shift)) (splat mask)) lane 0
+    ≡ get_or low lane 0 / 2 ^ shift % 2 ^ width
 
 pub within_lanes : (shift width mask : ℕ) → mask ≡ 2 ^ width - 1 → shift < 32 → (low : List ℕ) → length low ≡ 4 → IsWithin shift width mask low
 within_lanes shift width mask mask_is short =
@@ -77,10 +79,12 @@ field_across_at shift width mask mask_is short narrow x y fits =
 
 abbrev pub IsAcross : ℕ → ℕ → ℕ → List ℕ → List ℕ → Type 0
 IsAcross shift width mask low high = (lane : ℕ) → lane < 4
-    → get_or (zip2 bit_and (zip2 bit_or (zip2 (λ x n. x / 2 ^ n) low (splat shift)) (zip2 (λ x n. x * 2 ^ n % 2 ^ 32) high (splat (32 - shift)))) (splat mask)) lane 0
+    → get_or (zip2 bit_and (zip2 bit_or (zip2 (λ x n. x / 2 ^ n) low (splat shift)) (zip2 (λ x n. x * 2 ^ n % 2 ^ 32) high (splat (32 - shift)))) (splat mask))
+    lane 0
     ≡ (get_or high lane 0 * 2 ^ 32 + get_or low lane 0) / 2 ^ shift % 2 ^ width
 
-pub across_lanes : (shift width mask : ℕ) → mask ≡ 2 ^ width - 1 → 0 < shift → shift < 32 → width ≤ 32 → (low : List ℕ) → length low ≡ 4 → (high : List ℕ) → length high ≡ 4 → Each1 (Fits w32) low → IsAcross shift width mask low high
+pub across_lanes : (shift width mask : ℕ) → mask ≡ 2 ^ width - 1 → 0 < shift → shift < 32 → width ≤ 32 → (low : List ℕ) → length low ≡ 4 → (high : List ℕ) →
+    length high ≡ 4 → Each1 (Fits w32) low → IsAcross shift width mask low high
 across_lanes shift width mask mask_is some short narrow =
     let f = field_across_at shift width mask mask_is short narrow in
     four_lanes (λ low. (high : List ℕ) → length high ≡ 4 → Each1 (Fits w32) low → IsAcross shift width mask low high) (λ a b c d.
@@ -119,7 +123,8 @@ placed a out row numbers long four room before at i inside =
     ]
 
 -- what a vector written at a place leaves there, and after it
-pub placed_there : (a : ℕ) (out row : List ℕ) → length out ≡ 128 → length row ≡ 4 → a + 4 ≤ 128 → (lane : ℕ) → lane < 4 → get_or (put_mid a (128 - a) out (put_chunk 0 (mid_of a (128 - a) out) row)) (a + lane) 0 ≡ get_or row lane 0
+pub placed_there : (a : ℕ) (out row : List ℕ) → length out ≡ 128 → length row ≡ 4 → a + 4 ≤ 128 → (lane : ℕ) → lane < 4 →
+    get_or (put_mid a (128 - a) out (put_chunk 0 (mid_of a (128 - a) out) row)) (a + lane) 0 ≡ get_or row lane 0
 placed_there a out row long four room lane small =
     let mid = mid_of a (128 - a) out in
     let size : length (take a out) ≡ a = length-take-le a out (omega arith) in
@@ -133,7 +138,8 @@ placed_there a out row long four room lane small =
     ∙ ap (λ n. get_or (put_chunk 0 mid row) n 0) (k ∙ none)
     ∙ get_or-put_chunk_at 0 mid row lane 0 (omega arith) (omega arith)
 
-pub placed_after : (a : ℕ) (out row : List ℕ) → length out ≡ 128 → length row ≡ 4 → a + 4 ≤ 128 → (i : ℕ) → a + 4 ≤ i → i < 128 → get_or (put_mid a (128 - a) out (put_chunk 0 (mid_of a (128 - a) out) row)) i 0 ≡ get_or out i 0
+pub placed_after : (a : ℕ) (out row : List ℕ) → length out ≡ 128 → length row ≡ 4 → a + 4 ≤ 128 → (i : ℕ) → a + 4 ≤ i → i < 128 →
+    get_or (put_mid a (128 - a) out (put_chunk 0 (mid_of a (128 - a) out) row)) i 0 ≡ get_or out i 0
 placed_after a out row long four room i past inside =
     let mid = mid_of a (128 - a) out in
     let size : length (take a out) ≡ a = length-take-le a out (omega arith) in

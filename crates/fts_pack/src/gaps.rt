@@ -1,18 +1,20 @@
 // The differences of rising numbers, which are what is packed of them.
-ghost use Rattle.std.specs.Prelude.{◌≡◌, ◌++◌, OnOk};
+ghost use Rattle.std.specs.Prelude.{◌≡◌, ◌++◌, OnOk, OnErr};
 ghost use Rattle.fts_pack.specs.Documents.{gaps, Rises};
 
 use std::alloc::AllocError;
 
 /// Puts after the numbers how far the first of rising numbers is above `next`, and each further one above the one
-/// before, less 1.
+/// before, less 1. Where a growth is refused, the numbers are left as they were.
 pub fn push_gaps(numbers: &mut Vec<u32>, next: u64, rising: &[u32]) -> Result<(), AllocError>
     requires { Rises next rising.now }
-    ensures { OnOk result (numbers.new.items ≡ numbers.old.items ++ gaps next rising.now) }
+    ensures ok { OnOk result (numbers.new.items ≡ numbers.old.items ++ gaps next rising.now) }
+    ensures err { OnErr result (numbers.new.items ≡ numbers.old.items) }
 {
+    numbers.reserve(rising.len())?;
     let mut next = next;
     for number in rising {
-        numbers.push((u64::from(*number) - next) as u32)?;
+        numbers.push_reserved((u64::from(*number) - next) as u32);
         next = u64::from(*number) + 1;
     }
     Ok(())

@@ -22,7 +22,8 @@ pub fn blocks_of_examples()
         ≡ map (λ n. 4294967295) (range_with_len 0 12) }
 {}
 
-/// What a list of documents keeps, by worked examples: the differences of three, and those of 128 in a row.
+/// What a list in blocks keeps of its documents, by worked examples: the differences of three, and those of 128 in a
+/// row.
 pub fn gaps_of_examples()
     ensures three { gaps 0 (5 ∷ 6 ∷ 133 ∷ []) ≡ 5 ∷ 0 ∷ 126 ∷ [] }
     ensures row { gaps 0 (range_with_len 0 128) ≡ map (λ n. 0) (range_with_len 0 128) }

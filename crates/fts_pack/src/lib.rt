@@ -2,8 +2,8 @@
 //!
 //! - [`bits`]: [`Bits`] is one bit per document, and the arithmetic of numbers of a few bits that lie end to end.
 //! - [`column`]: a [`Column`] has one value per document, or none.
-//! - A [`Block`] is a list of up to 128 numbers, [`Blocks`] any number of them, and a [`List`] a rising list of documents,
-//!   read by a [`ListSource`].
+//! - A [`Block`] is a list of up to 128 numbers, [`Blocks`] any number of them, and a [`List`] a rising list of
+//!   documents, read by a [`ListSource`].
 #![tactic(auto)]
 
 pub mod bits;

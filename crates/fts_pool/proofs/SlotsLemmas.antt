@@ -1,5 +1,6 @@
 -- Slots that are filled one by one.
-use Rattle.std.proofs.Common.{◌≡◌, ◌≢◌, ℕ, zero, suc, ◌+◌, ◌<◌, List, [], ◌∷◌, ◌++◌, length, map, get_or, set, refl, ap, subst, ◌∙◌, ◌⊎◌, inl, inr, ⊎_elim, arith, get_or-set_same, get_or-set_other, replicate}
+use Rattle.std.proofs.Common.{◌≡◌, ◌≢◌, ℕ, zero, suc, ◌+◌, ◌<◌, List, [], ◌∷◌, ◌++◌, length, map, get_or, set, refl, ap, subst, ◌∙◌, ◌⊎◌, inl, inr, ⊎_elim}
+use Rattle.std.proofs.Common.{arith, get_or-set_same, get_or-set_other, replicate}
 use Rattle.std.specs.Prelude.{Option, Some, None, is_some}
 use Rattle.std.specs.List.{AllZip}
 use Rattle.std.proofs.lemmas.Bool.{cases_eq}
@@ -25,14 +26,16 @@ filled_still slots n j out lt is = ⊎_elim
     (cases_eq j n)
 
 -- and so is each that was filled or is the one
-pub filled_more : {O : Type 0} (slots : List (Option O)) (n j : ℕ) (out : O) → n < length slots → (j ≢ n → IsFilled slots j) → IsFilled (set slots n (Some out)) j
+pub filled_more : {O : Type 0} (slots : List (Option O)) (n j : ℕ) (out : O) → n < length slots → (j ≢ n → IsFilled slots j) →
+    IsFilled (set slots n (Some out)) j
 filled_more slots n j out lt else' = ⊎_elim
     (λ e. ap (λ (k : ℕ). is_some (get_or (set slots n (Some out)) k None)) e ∙ filled_here slots n out lt)
     (λ ne. filled_still slots n j out lt (else' ne))
     (cases_eq j n)
 
 -- one result more comes after those so far
-pub one_out : {O : Type 0} (outs : List O) (out : O) (rest : List (Option O)) → map (λ o. Some o) outs ++ Some out ∷ rest ≡ map (λ o. Some o) (outs ++ out ∷ []) ++ rest
+pub one_out : {O : Type 0} (outs : List O) (out : O) (rest : List (Option O)) → map (λ o. Some o) outs ++ Some out ∷ rest ≡ map (λ o. Some o) (outs ++ out ∷ [])
+    ++ rest
 one_out [] out rest = refl
 one_out (o ∷ outs) out rest = ap (λ (l : List (Option _)). Some o ∷ l) (one_out outs out rest)
 
@@ -50,7 +53,8 @@ module _ {J O : Type 0} (gives : J → O → Type 0) where
   slots_empty (j ∷ js) zero is = absurd (omega arith)
   slots_empty (j ∷ js) (suc n) is = (tt, slots_empty js n (omega arith))
 
-  pub slots_put : (jobs : List J) (slots : List (Option O)) (n : ℕ) (out : O) → n < length jobs → IsOf gives jobs n out → AreSlots gives jobs slots → AreSlots gives jobs (set slots n (Some out))
+  pub slots_put : (jobs : List J) (slots : List (Option O)) (n : ℕ) (out : O) → n < length jobs → IsOf gives jobs n out → AreSlots gives jobs slots →
+      AreSlots gives jobs (set slots n (Some out))
   slots_put [] slots n out lt is are = absurd (omega arith)
   slots_put (j ∷ js) [] n out lt is are = absurd are
   slots_put (j ∷ js) (s ∷ ss) zero out lt is are = (is j, are.1)
@@ -63,7 +67,8 @@ module _ {J O : Type 0} (gives : J → O → Type 0) where
   outs_of (j ∷ js) [] are = absurd are
   outs_of (j ∷ js) (o ∷ os) are = (are.0, outs_of js os are.1)
 
-  pub ready_same : (jobs : List J) (slots : List (Option O)) (v w : Known) → w.pushed ≡ v.pushed → w.taken ≡ v.taken → IsReady gives jobs slots v → IsReady gives jobs slots w
+  pub ready_same : (jobs : List J) (slots : List (Option O)) (v w : Known) → w.pushed ≡ v.pushed → w.taken ≡ v.taken → IsReady gives jobs slots v →
+      IsReady gives jobs slots w
   ready_same jobs slots v w pushed taken ready = record {
     room = (let room = ready.room in omega arith);
     right = ready.right;
@@ -77,15 +82,18 @@ module _ {J O : Type 0} (gives : J → O → Type 0) where
       let room = ready.room in
       let len = slots_len jobs slots ready.right in
       let lt : n < length slots = omega arith in
-      ready_same jobs (set slots n (Some out)) (known v.shares v.pushed (v.taken ++ n ∷ [])) w (ap (λ (u : Known). u.pushed) is) (ap (λ (u : Known). u.taken) is)
+      ready_same jobs (set slots n (Some out)) (known v.shares v.pushed (v.taken ++ n ∷ [])) w (ap (λ (u : Known). u.pushed) is)
+      (ap (λ (u : Known). u.taken) is)
       record {
         room = ready.room;
         right = slots_put jobs slots n out (omega arith) mine ready.right;
-        filled = (λ j some_time. filled_more slots n j out lt (λ ne. ready.filled j (let s = times-append j v.taken (n ∷ []) in let z = times_else j n [] ne in omega arith)));
+        filled = (λ j some_time. filled_more slots n j out lt (λ ne. ready.filled j (let s = times-append j v.taken (n ∷ []) in let z = times_else j n [] ne in
+            omega arith)));
       }
 
   -- the jobs that another thread took have their slots filled too
-  pub ready_joined : (jobs : List J) (slots slots' : List (Option O)) (done : List (Done O)) (v w : Known) → IsReady gives jobs slots v → AreSlots gives jobs slots'
+  pub ready_joined : (jobs : List J) (slots slots' : List (Option O)) (done : List (Done O)) (v w : Known) → IsReady gives jobs slots v →
+      AreSlots gives jobs slots'
       → ((n : ℕ) → IsFilled slots n → IsFilled slots' n) → ((n : ℕ) → 0 < times n (numbers_of done) → IsFilled slots' n)
       → w.pushed ≡ v.pushed → w.taken ≡ v.taken ++ numbers_of done → IsReady gives jobs slots' w
   ready_joined jobs slots slots' done v w ready are kept filled pushed taken = record {

@@ -97,13 +97,15 @@ forks port v share items views h at =
     let told : v.pushed ≡ n = (k.fit port v at).told (omega arith) in (
       n,
       record {
-        shares = (let s = total-set (λ u. u.shares) views port v l at in let p = total-push (λ u. u.shares) (set views port l) r in let whole = k.shares in omega arith);
+        shares = (let s = total-set (λ u. u.shares) views port v l at in let p = total-push (λ u. u.shares) (set views port l) r in let whole = k.shares in
+            omega arith);
         each_once = (λ y.
             let s = total-set (λ u. times y u.taken) views port v l at in
             let p = total-push (λ u. times y u.taken) (set views port l) r in
             let before = k.each_once y in
             omega arith);
-        fit = each_push (Fits n) (set views port l) r (each_set (Fits n) views port l k.fit (with_share n l (omega arith) told)) (with_share n r (omega arith) told);
+        fit = each_push (Fits n) (set views port l) r (each_set (Fits n) views port l k.fit (with_share n l (omega arith) told))
+            (with_share n r (omega arith) told);
       },
     )
 
@@ -116,13 +118,15 @@ merges port v other w share items views h at apart at' =
     let told : v.pushed ≡ n = (k.fit port v at).told share in (
       n,
       record {
-        shares = (let a = total-set (λ u. u.shares) views port v both at in let b = total-set (λ u. u.shares) (set views port both) other w spent at' in let whole = k.shares in omega arith);
+        shares = (let a = total-set (λ u. u.shares) views port v both at in let b = total-set (λ u. u.shares) (set views port both) other w spent at' in
+            let whole = k.shares in omega arith);
         each_once = (λ y.
             let a = total-set (λ u. times y u.taken) views port v both at in
             let b = total-set (λ u. times y u.taken) (set views port both) other w spent at' in
             let joins = times-append y v.taken w.taken in
             let before = k.each_once y in
             omega arith);
-        fit = each_set (Fits n) (set views port both) other spent (each_set (Fits n) views port both k.fit (with_share n both (omega arith) told)) (with_none n spent refl refl);
+        fit = each_set (Fits n) (set views port both) other spent (each_set (Fits n) views port both k.fit (with_share n both (omega arith) told))
+            (with_none n spent refl refl);
       },
     )

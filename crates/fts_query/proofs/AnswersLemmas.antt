@@ -1,11 +1,13 @@
 -- A text has one outcome, and the reading from the left finds it.
-use Rattle.std.proofs.Common.{◌≡◌, ◌⊎◌, ℕ, true, false, List, [], ◌∷◌, length, subst, Option, Some, None, Result, Ok, Err, refl, sym, ap, ◌∙◌, arith, inl, inr, ltb}
+use Rattle.std.proofs.Common.{◌≡◌, ◌⊎◌, ℕ, true, false, List, [], ◌∷◌, length, subst, Option, Some, None, Result, Ok, Err, refl, sym, ap, ◌∙◌, arith, inl, inr}
+use Rattle.std.proofs.Common.{ltb}
 use Rattle.std.specs.Str.{chars}
 use Rattle.std.specs.List.{list_all}
 use Rattle.std.proofs.lemmas.Bool.{cases_Bool, ltb-true, ltb-false, le-ltb, lt-ltb, false_from_ne_true}
 use Rattle.fts_model.specs.declared.schema.Field.{Field}
 use Rattle.fts_base.specs.declared.refusal.Refusal.{Refusal}
-use Rattle.fts_base.specs.declared.refusal.Refusal.TheVariants.{Memory, TooLong, Syntax, TooDeep, UnknownField, BadNumber, RangeOnText, NoDefaultField, AllNegative}
+use Rattle.fts_base.specs.declared.refusal.Refusal.TheVariants.{Memory, TooLong, Syntax, TooDeep, UnknownField, BadNumber, RangeOnText, NoDefaultField}
+use Rattle.fts_base.specs.declared.refusal.Refusal.TheVariants.{AllNegative}
 use Rattle.fts_model.specs.declared.query.Query.{Query}
 use Rattle.std.specs.Prelude.{IfOk, IfErr}
 use Rattle.fts_query.specs.declared.depth.Quoting.TheVariants.{Outside}
@@ -41,7 +43,8 @@ module _ (schema : List Field) (text : List ℕ) where
   answer_query m f q = answer_is_read f (no_query_is_blank q) ∙ ap answer_from (read_fit m f q)
 
   -- no query is a syntax error
-  none_from : (o : Option Meaning) → query_of schema 4096 (chars text) ≡ o → ((m : Meaning) → IsQuery schema (chars text) m → ⊥) → answer_from o ≡ Err (Syntax 0)
+  none_from : (o : Option Meaning) → query_of schema 4096 (chars text) ≡ o → ((m : Meaning) → IsQuery schema (chars text) m → ⊥) →
+      answer_from o ≡ Err (Syntax 0)
   none_from None e h = refl
   none_from (Some m) e h = absurd (h m (read_is_query schema 4096 (chars text) m e))
 

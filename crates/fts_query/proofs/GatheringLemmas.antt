@@ -19,19 +19,22 @@ finished ms ns ss (Err error) = Err error
 finished ms ns ss (Ok qs) = boolean_of (ms ++ musts qs) (ns ++ must_nots qs) (ss ++ shoulds qs)
 
 -- a must goes to the musts
-goes_must : (m n s : List QueryValue) (q : QueryValue) (r : Result (List (Occur × QueryValue)) QueryError) → finished m n s (result_map (λ qs. (Must, q) ∷ qs) r) ≡ finished (m ++ q ∷ []) n s r
+goes_must : (m n s : List QueryValue) (q : QueryValue) (r : Result (List (Occur × QueryValue)) QueryError) →
+    finished m n s (result_map (λ qs. (Must, q) ∷ qs) r) ≡ finished (m ++ q ∷ []) n s r
 unfolding finished
 goes_must m n s q (Ok qs) = ap (λ (x : List QueryValue). boolean_of x (n ++ must_nots qs) (s ++ shoulds qs)) (sym (append_assoc m (q ∷ []) (musts qs)))
 goes_must m n s q (Err f) = refl
 
 -- a must-not goes to the must-nots
-goes_must_not : (m n s : List QueryValue) (q : QueryValue) (r : Result (List (Occur × QueryValue)) QueryError) → finished m n s (result_map (λ qs. (MustNot, q) ∷ qs) r) ≡ finished m (n ++ q ∷ []) s r
+goes_must_not : (m n s : List QueryValue) (q : QueryValue) (r : Result (List (Occur × QueryValue)) QueryError) →
+    finished m n s (result_map (λ qs. (MustNot, q) ∷ qs) r) ≡ finished m (n ++ q ∷ []) s r
 unfolding finished
 goes_must_not m n s q (Ok qs) = ap (λ (x : List QueryValue). boolean_of (m ++ musts qs) x (s ++ shoulds qs)) (sym (append_assoc n (q ∷ []) (must_nots qs)))
 goes_must_not m n s q (Err f) = refl
 
 -- a should goes to the shoulds
-goes_should : (m n s : List QueryValue) (q : QueryValue) (r : Result (List (Occur × QueryValue)) QueryError) → finished m n s (result_map (λ qs. (Should, q) ∷ qs) r) ≡ finished m n (s ++ q ∷ []) r
+goes_should : (m n s : List QueryValue) (q : QueryValue) (r : Result (List (Occur × QueryValue)) QueryError) →
+    finished m n s (result_map (λ qs. (Should, q) ∷ qs) r) ≡ finished m n (s ++ q ∷ []) r
 unfolding finished
 goes_should m n s q (Ok qs) = ap (λ (x : List QueryValue). boolean_of (m ++ musts qs) (n ++ must_nots qs) x) (sym (append_assoc s (q ∷ []) (shoulds qs)))
 goes_should m n s q (Err f) = refl

@@ -1,5 +1,6 @@
 -- What is in the grammar is read from the front.
-use Rattle.std.proofs.Common.{◌≡◌, ℕ, zero, suc, ◌<◌, ◌≤◌, Bool, true, false, not, ◌||◌, List, [], ◌∷◌, ◌++◌, length, codes, Option, Some, None, Ok, refl, sym, ap, subst, ◌∙◌, append_assoc, length-append, arith, inl, inr}
+use Rattle.std.proofs.Common.{◌≡◌, ℕ, zero, suc, ◌<◌, ◌≤◌, Bool, true, false, not, ◌||◌, List, [], ◌∷◌, ◌++◌, length, codes, Option, Some, None, Ok, refl, sym}
+use Rattle.std.proofs.Common.{ap, subst, ◌∙◌, append_assoc, length-append, arith, inl, inr}
 use Rattle.std.specs.Prelude.{◌==◌, take_while}
 use Rattle.std.specs.List.{list_all}
 use Rattle.std.specs.Str.{encode_utf8_all, bytes_eq}
@@ -14,9 +15,14 @@ use Rattle.fts_query.specs.declared.clauses.Modifier.{Modifier}
 use Rattle.fts_query.specs.declared.clauses.Modifier.TheVariants.{Plain, Minus}
 use Rattle.fts_model.specs.QueryValues.{every}
 use Rattle.fts_query.specs.Meanings.{Meaning, Factor, Value, literal, between, list_meaning, literal_anywhere, field_meaning}
-use Rattle.fts_query.specs.Grammar.{is_space, is_word_char, is_bare, IsWord, IsBound, bound, IsValue, Opens, Closes, begins_equals, IsBlank, IsSpace, IsBare, IsOperator, IsModifier, IsUnit, IsFactor, IsConjunction, IsDisjunction, IsList, IsQuery, quoted_text}
-use Rattle.fts_query.specs.Reading.{Parser, word, begins_space, closes, space_at, operator_at, seq_by, modifier_of, factor_of, conjunction_of, disjunction_of, list_of, meaning_of, quoted_of, word_of, bound_of, range_end, range_of, compared_of, above_of, below_of, quoted_value_of, plain_of, value_of, after_bare, begins_modifier, bare_of, quoted_literal_of, group_of, unit_by, unit_of, query_of, skip_while}
-use Rattle.fts_query.proofs.ReadingLemmas.{take_while_more, bytes_eq-encoded, plain_and, plain_or, plain_not, is_reserved-encoded, stops, opens, word_stops, word-append, word_at, WordEnds, skip_while-append, skip_while_opens, unquoted_is_read, no_word_char}
+use Rattle.fts_query.specs.Grammar.{is_space, is_word_char, is_bare, IsWord, IsBound, bound, IsValue, Opens, Closes, begins_equals, IsBlank, IsSpace, IsBare}
+use Rattle.fts_query.specs.Grammar.{IsOperator, IsModifier, IsUnit, IsFactor, IsConjunction, IsDisjunction, IsList, IsQuery, quoted_text}
+use Rattle.fts_query.specs.Reading.{Parser, word, begins_space, closes, space_at, operator_at, seq_by, modifier_of, factor_of, conjunction_of, disjunction_of}
+use Rattle.fts_query.specs.Reading.{list_of, meaning_of, quoted_of, word_of, bound_of, range_end, range_of, compared_of, above_of, below_of, quoted_value_of}
+use Rattle.fts_query.specs.Reading.{plain_of, value_of, after_bare, begins_modifier, bare_of, quoted_literal_of, group_of, unit_by, unit_of, query_of}
+use Rattle.fts_query.specs.Reading.{skip_while}
+use Rattle.fts_query.proofs.ReadingLemmas.{take_while_more, bytes_eq-encoded, plain_and, plain_or, plain_not, is_reserved-encoded, stops, opens, word_stops}
+use Rattle.fts_query.proofs.ReadingLemmas.{word-append, word_at, WordEnds, skip_while-append, skip_while_opens, unquoted_is_read, no_word_char}
 use Rattle.fts_query.specs.Grammar
 
 -- how a factor begins, and how a unit does
@@ -43,7 +49,8 @@ word_opens c h =
     ]
 
 -- no name that is reserved
-not_reserved : (w : List ℕ) → is_reserved w ≡ false → (bytes_eq (encode_utf8_all w) (codes "AND") ≡ false) × (bytes_eq (encode_utf8_all w) (codes "OR") ≡ false) × (bytes_eq (encode_utf8_all w) (codes "NOT") ≡ false)
+not_reserved : (w : List ℕ) → is_reserved w ≡ false → (bytes_eq (encode_utf8_all w) (codes "AND") ≡ false) × (bytes_eq (encode_utf8_all w) (codes "OR") ≡ false)
+    × (bytes_eq (encode_utf8_all w) (codes "NOT") ≡ false)
 not_reserved w h =
     let k = or_parts (bytes_eq w (codes "AND") || bytes_eq w (codes "OR")) (bytes_eq w (codes "NOT")) h in
     let j = or_parts (bytes_eq w (codes "AND")) (bytes_eq w (codes "OR")) k.0 in
@@ -80,22 +87,46 @@ two w s r = append_assoc w (58 ∷ s) r
 -- a unit begins as one does
 unit_begins : {schema : List Field} {x : List ℕ} {m : Meaning} → IsUnit schema x m → (r : List ℕ) → stops r ≡ true → BeginsUnit (x ++ r)
 unfolding is_word_char skip_while
-unit_begins (Grammar.group v s w cs a l b) r h = record { begins = record { open_ = refl; no_and = refl; no_or = refl }; no_not = refl; head = 40; tail = (v ++ (s ++ (w ++ 41 ∷ []))) ++ r; is = refl; no_plus = refl; no_minus = refl }
-unit_begins Grammar.all r h = record { begins = record { open_ = refl; no_and = refl; no_or = refl }; no_not = refl; head = 42; tail = r; is = refl; no_plus = refl; no_minus = refl }
+unit_begins (Grammar.group v s w cs a l b) r h =
+    record {
+      begins = record { open_ = refl; no_and = refl; no_or = refl };
+      no_not = refl;
+      head = 40;
+      tail = (v ++ (s ++ (w ++ 41 ∷ []))) ++ r;
+      is =
+          refl;
+      no_plus = refl;
+      no_minus = refl;
+    }
+unit_begins Grammar.all r h =
+    record { begins = record { open_ = refl; no_and = refl; no_or = refl }; no_not = refl; head = 42; tail = r; is = refl; no_plus = refl; no_minus = refl }
 unit_begins (Grammar.bare {w = w} b) r h = bare_begins w r b (word_stops r h)
 unit_begins (Grammar.field w s b v) r h = rw (two w s r) (bare_begins w (58 ∷ (s ++ r)) b (refl, refl))
-unit_begins (Grammar.quoted text) r h = record { begins = record { open_ = refl; no_and = refl; no_or = refl }; no_not = refl; head = 34; tail = quoted_text text ++ r; is = refl; no_plus = refl; no_minus = refl }
+unit_begins (Grammar.quoted text) r h =
+    record {
+      begins = record { open_ = refl; no_and = refl; no_or = refl };
+      no_not = refl;
+      head = 34;
+      tail = quoted_text text ++ r;
+      is = refl;
+      no_plus =
+          refl;
+      no_minus = refl;
+    }
 
 -- a word that begins otherwise is another
-word_other : (c : ℕ) (s name : List ℕ) → is_word_char c ≡ true → bytes_eq (encode_utf8_all (c ∷ take_while is_word_char s)) name ≡ false → bytes_eq (word (c ∷ s)) name ≡ false
+word_other : (c : ℕ) (s name : List ℕ) → is_word_char c ≡ true → bytes_eq (encode_utf8_all (c ∷ take_while is_word_char s)) name ≡ false →
+    bytes_eq (word (c ∷ s)) name ≡ false
 word_other c s name h e = ap (λ (x : List ℕ). bytes_eq (encode_utf8_all x) name) (take_while_more is_word_char c s h) ∙ e
 
 -- a factor begins as one does
 factor_begins : {schema : List Field} {x : List ℕ} {f : Factor} → IsFactor schema x f → (r : List ℕ) → stops r ≡ true → Begins (x ++ r)
 unfolding is_word_char encode
 factor_begins (Grammar.factor v s Grammar.IsModifier.plain u) r h = (unit_begins u r h).begins
-factor_begins (Grammar.factor v s Grammar.IsModifier.required u) r h = record { open_ = refl; no_and = word_other 43 (s ++ r) (codes "AND") refl refl; no_or = word_other 43 (s ++ r) (codes "OR") refl refl }
-factor_begins (Grammar.factor v s Grammar.IsModifier.prohibited u) r h = record { open_ = refl; no_and = word_other 45 (s ++ r) (codes "AND") refl refl; no_or = word_other 45 (s ++ r) (codes "OR") refl refl }
+factor_begins (Grammar.factor v s Grammar.IsModifier.required u) r h =
+    record { open_ = refl; no_and = word_other 43 (s ++ r) (codes "AND") refl refl; no_or = word_other 43 (s ++ r) (codes "OR") refl refl }
+factor_begins (Grammar.factor v s Grammar.IsModifier.prohibited u) r h =
+    record { open_ = refl; no_and = word_other 45 (s ++ r) (codes "AND") refl refl; no_or = word_other 45 (s ++ r) (codes "OR") refl refl }
 factor_begins (Grammar.factor v s (Grammar.IsModifier.negated {w = w} a) u) r h =
     let t : List ℕ = 79 ∷ 84 ∷ ((w ++ s) ++ r) in
     record { open_ = refl; no_and = word_other 78 t (codes "AND") refl refl; no_or = word_other 78 t (codes "OR") refl refl }
@@ -231,7 +262,8 @@ or_no_and w b o =
     let e : w ++ b ≡ u ++ ((codes "OR") ++ (v ++ b)) = ap (λ (x : List ℕ). x ++ b) o.2 ∙ three u (codes "OR") v b in
     let s : skip_while is_space (u ++ ((codes "OR") ++ (v ++ b))) ≡ (codes "OR") ++ (v ++ b) = skip_to u ((codes "OR") ++ (v ++ b)) o.3.1 refl in
     let r : take_while is_word_char ((codes "OR") ++ (v ++ b)) ≡ (codes "OR") = (word-append (codes "OR") (v ++ b) or_name.word (space_stops v b o.4)).0 in
-    operator_none (codes "AND") (w ++ b) (ap (λ (x : List ℕ). bytes_eq (word (skip_while is_space x)) (codes "AND")) e ∙ ap (λ (x : List ℕ). bytes_eq (word x) (codes "AND")) s ∙ ap (λ (x : List ℕ). bytes_eq (encode_utf8_all x) (codes "AND")) r)
+    operator_none (codes "AND") (w ++ b) (ap (λ (x : List ℕ). bytes_eq (word (skip_while is_space x)) (codes "AND")) e
+    ∙ ap (λ (x : List ℕ). bytes_eq (word x) (codes "AND")) s ∙ ap (λ (x : List ℕ). bytes_eq (encode_utf8_all x) (codes "AND")) r)
 
 -- no `AND` stands at white space and a factor
 space_no_and : (w b : List ℕ) → IsSpace w → Begins b → operator_at (codes "AND") (w ++ b) ≡ None
@@ -249,12 +281,14 @@ module _ {A : Type 0} (sep : List ℕ → Option (List ℕ)) (item : Parser A) w
   last (suc n) s r a l e h = rw (e, h) refl
 
   -- an item and a sequence are read as one
-  more : (n : ℕ) (s t q r : List ℕ) (a : A) (xs : List A) → item s ≡ Some (a, q) → sep q ≡ Some t → seq_by n sep item t ≡ Some (xs, r) → seq_by (suc n) sep item s ≡ Some (a ∷ xs, r)
+  more : (n : ℕ) (s t q r : List ℕ) (a : A) (xs : List A) → item s ≡ Some (a, q) → sep q ≡ Some t → seq_by n sep item t ≡ Some (xs, r) →
+      seq_by (suc n) sep item s ≡ Some (a ∷ xs, r)
   unfolding seq_by
   more n s t q r a xs e h k = rw (e, h, k) refl
 
   -- an item, a separator and a sequence are read as one
-  more_at : (n : ℕ) (s w t r : List ℕ) (a : A) (xs : List A) → length (s ++ (w ++ t)) ≤ n → 0 < length w → item (s ++ (w ++ (t ++ r))) ≡ Some (a, w ++ (t ++ r)) → sep (w ++ (t ++ r)) ≡ Some (t ++ r)
+  more_at : (n : ℕ) (s w t r : List ℕ) (a : A) (xs : List A) → length (s ++ (w ++ t)) ≤ n → 0 < length w →
+      item (s ++ (w ++ (t ++ r))) ≡ Some (a, w ++ (t ++ r)) → sep (w ++ (t ++ r)) ≡ Some (t ++ r)
       → ((k : ℕ) → length t ≤ k → seq_by k sep item (t ++ r) ≡ Some (xs, r)) → seq_by n sep item ((s ++ (w ++ t)) ++ r) ≡ Some (a ∷ xs, r)
   more_at zero s w t r a xs l p e h k = absurd (omega (arith, simp length-append at l))
   more_at (suc n) s w t r a xs l p e h k =
@@ -319,7 +353,8 @@ modifier_is_read Grammar.IsModifier.prohibited t b = refl
 modifier_is_read (Grammar.IsModifier.negated {w = w} h) t b = negated_is_read w t h b.begins.open_
 
 -- a modifier and a unit are read as a factor
-factor_whole : (unit : Parser Meaning) (v s r : List ℕ) (modifier : Modifier) (m : Meaning) → modifier_of (v ++ (s ++ r)) ≡ Some (modifier, s ++ r) → unit (s ++ r) ≡ Some (m, r) → factor_of unit ((v ++ s) ++ r) ≡ Some ((modifier, m), r)
+factor_whole : (unit : Parser Meaning) (v s r : List ℕ) (modifier : Modifier) (m : Meaning) → modifier_of (v ++ (s ++ r)) ≡ Some (modifier, s ++ r) →
+    unit (s ++ r) ≡ Some (m, r) → factor_of unit ((v ++ s) ++ r) ≡ Some ((modifier, m), r)
 unfolding factor_of
 factor_whole unit v s r modifier m e h = rw (append_assoc v s r, e, h) refl
 
@@ -361,7 +396,8 @@ unfolding is_word_char
 marks = record { star = refl; group = refl; quote = refl; include = refl; exclude = refl; above = refl; below = refl }
 
 -- a unit that begins with a bare word
-bare_step : (schema : List Field) (d c : ℕ) (t w r : List ℕ) → is_word_char c ≡ true → begins_modifier c ≡ false → take_while is_word_char (c ∷ t) ≡ w → skip_while is_word_char (c ∷ t) ≡ r → is_reserved (encode_utf8_all w) ≡ false → unit_of schema (suc d) (c ∷ t) ≡ after_bare schema (encode_utf8_all w) r
+bare_step : (schema : List Field) (d c : ℕ) (t w r : List ℕ) → is_word_char c ≡ true → begins_modifier c ≡ false → take_while is_word_char (c ∷ t) ≡ w →
+    skip_while is_word_char (c ∷ t) ≡ r → is_reserved (encode_utf8_all w) ≡ false → unit_of schema (suc d) (c ∷ t) ≡ after_bare schema (encode_utf8_all w) r
 unfolding unit_of unit_by bare_of
 bare_step schema d c t w r a g e f b =
     let k1 = word_not c 40 a marks.group in
@@ -390,7 +426,8 @@ after_stops schema w [] h = refl
 after_stops schema w (c ∷ r) h = let k = no_colon c h in rw k refl
 
 -- a bare word is read
-bare_is_read : (schema : List Field) (d : ℕ) (w r : List ℕ) → IsBare w → stops r ≡ true → unit_of schema (suc d) (w ++ r) ≡ Some (literal_anywhere schema (encode_utf8_all w), r)
+bare_is_read : (schema : List Field) (d : ℕ) (w r : List ℕ) → IsBare w → stops r ≡ true →
+    unit_of schema (suc d) (w ++ r) ≡ Some (literal_anywhere schema (encode_utf8_all w), r)
 bare_is_read schema d w r b h = bare_then schema d w r b (word_stops r h) ∙ after_stops schema (encode_utf8_all w) r h
 
 -- a word is read
@@ -418,7 +455,8 @@ bound_is_read (Grammar.IsBound.at {w = c ∷ s} w) r h =
 bound_opens : {s : List ℕ} {b : Option (List ℕ)} → IsBound s b → (t : List ℕ) → opens (s ++ t) ≡ true
 bound_opens Grammar.IsBound.none t = refl
 bound_opens (Grammar.IsBound.at {w = []} w) t = absurd (let k = w.0 in omega arith)
-bound_opens (Grammar.IsBound.at {w = c ∷ s} w) t = let g : (is_space c || c == 41) ≡ false = word_opens c (and_parts (is_word_char c) (list_all is_word_char s) w.1).0 in ap not g
+bound_opens (Grammar.IsBound.at {w = c ∷ s} w) t = let g : (is_space c || c == 41) ≡ false =
+    word_opens c (and_parts (is_word_char c) (list_all is_word_char s) w.1).0 in ap not g
 
 -- `TO` is such a name
 to_name : IsName (codes "TO")
@@ -432,7 +470,8 @@ closer_ends Grammar.Closes.included r = ((refl, refl), refl)
 closer_ends Grammar.Closes.excluded r = ((refl, refl), refl)
 
 -- the end of a range is read
-range_end_is_read : {e : ℕ} {j : Bool} → Closes e j → (low : Bound (List ℕ)) (high : Option (List ℕ)) (r : List ℕ) → range_end low high (e ∷ r) ≡ Some (between low (bound j high), r)
+range_end_is_read : {e : ℕ} {j : Bool} → Closes e j → (low : Bound (List ℕ)) (high : Option (List ℕ)) (r : List ℕ) →
+    range_end low high (e ∷ r) ≡ Some (between low (bound j high), r)
 unfolding range_end
 range_end_is_read Grammar.Closes.included low high r = refl
 range_end_is_read Grammar.Closes.excluded low high r = refl
@@ -443,7 +482,8 @@ blank_then [] r h e = e
 blank_then (c ∷ v) r h e = word_stops (c ∷ (v ++ r)) (or_left (is_space c) (c == 41) (and_parts (is_space c) (list_all is_space v) h).0)
 
 -- a range is read
-range_is_read : (u s w t v : List ℕ) (e : ℕ) (i j : Bool) (low high : Option (List ℕ)) (r : List ℕ) → IsBlank u → IsBound s low → IsOperator (codes "TO") w → IsBound t high → IsBlank v → Closes e j
+range_is_read : (u s w t v : List ℕ) (e : ℕ) (i j : Bool) (low high : Option (List ℕ)) (r : List ℕ) → IsBlank u → IsBound s low → IsOperator (codes "TO") w →
+    IsBound t high → IsBlank v → Closes e j
     → range_of i ((u ++ (s ++ (w ++ (t ++ (v ++ e ∷ []))))) ++ r) ≡ Some (between (bound i low) (bound j high), r)
 unfolding range_of
 range_is_read u s w t v e i j low high r bu bs o bt bv c =
@@ -525,8 +565,10 @@ unfolding after_bare
 field_then schema w s r v e = rw e refl
 
 -- a field is read
-field_is_read : (schema : List Field) (d : ℕ) (w s r : List ℕ) (v : Value) → IsBare w → IsValue s v → stops r ≡ true → unit_of schema (suc d) ((w ++ (58 ∷ s)) ++ r) ≡ Some (field_meaning schema (encode_utf8_all w) v, r)
-field_is_read schema d w s r v b i h = rw (two w s r) (bare_then schema d w (58 ∷ (s ++ r)) b (colon_ends (s ++ r)) ∙ field_then schema (encode_utf8_all w) (s ++ r) r v (value_is_read i r h))
+field_is_read : (schema : List Field) (d : ℕ) (w s r : List ℕ) (v : Value) → IsBare w → IsValue s v → stops r ≡ true →
+    unit_of schema (suc d) ((w ++ (58 ∷ s)) ++ r) ≡ Some (field_meaning schema (encode_utf8_all w) v, r)
+field_is_read schema d w s r v b i h =
+    rw (two w s r) (bare_then schema d w (58 ∷ (s ++ r)) b (colon_ends (s ++ r)) ∙ field_then schema (encode_utf8_all w) (s ++ r) r v (value_is_read i r h))
 
 -- white space before a `)` is skipped
 close_skip : (w r : List ℕ) → IsBlank w → skip_while is_space (w ++ (41 ∷ r)) ≡ 41 ∷ r
@@ -534,7 +576,8 @@ unfolding skip_while
 close_skip w r b = skip_while-append w (41 ∷ r) b
 
 -- a group is read
-group_is_read : (schema : List Field) (d : ℕ) (v s w r : List ℕ) (cs : List (List (List Factor))) → IsBlank v → IsBlank w → Begins (s ++ (w ++ (41 ∷ r))) → meaning_of (unit_of schema d) (s ++ (w ++ (41 ∷ r))) ≡ Some (list_meaning cs, w ++ (41 ∷ r))
+group_is_read : (schema : List Field) (d : ℕ) (v s w r : List ℕ) (cs : List (List (List Factor))) → IsBlank v → IsBlank w → Begins (s ++ (w ++ (41 ∷ r))) →
+    meaning_of (unit_of schema d) (s ++ (w ++ (41 ∷ r))) ≡ Some (list_meaning cs, w ++ (41 ∷ r))
     → unit_of schema (suc d) ((40 ∷ (v ++ (s ++ (w ++ 41 ∷ [])))) ++ r) ≡ Some (list_meaning cs, r)
 unfolding unit_of unit_by group_of
 group_is_read schema d v s w r cs a b g e =
@@ -544,17 +587,20 @@ group_is_read schema d v s w r cs a b g e =
     rw (t, k, e, j) refl
 
 -- a sequence of factors is a conjunction
-conjunction_whole : (unit : Parser Meaning) (s : List ℕ) (y : Option (List Factor × List ℕ)) → seq_by (suc (length s)) (operator_at (codes "AND")) (factor_of unit) s ≡ y → conjunction_of unit s ≡ y
+conjunction_whole : (unit : Parser Meaning) (s : List ℕ) (y : Option (List Factor × List ℕ)) →
+    seq_by (suc (length s)) (operator_at (codes "AND")) (factor_of unit) s ≡ y → conjunction_of unit s ≡ y
 unfolding conjunction_of
 conjunction_whole unit s y e = e
 
 -- a sequence of conjunctions is a disjunction
-disjunction_whole : (unit : Parser Meaning) (s : List ℕ) (y : Option (List (List Factor) × List ℕ)) → seq_by (suc (length s)) (operator_at (codes "OR")) (conjunction_of unit) s ≡ y → disjunction_of unit s ≡ y
+disjunction_whole : (unit : Parser Meaning) (s : List ℕ) (y : Option (List (List Factor) × List ℕ)) →
+    seq_by (suc (length s)) (operator_at (codes "OR")) (conjunction_of unit) s ≡ y → disjunction_of unit s ≡ y
 unfolding disjunction_of
 disjunction_whole unit s y e = e
 
 -- a sequence of disjunctions is a list
-meaning_whole : (unit : Parser Meaning) (s r : List ℕ) (cs : List (List (List Factor))) → seq_by (suc (length s)) space_at (disjunction_of unit) s ≡ Some (cs, r) → meaning_of unit s ≡ Some (list_meaning cs, r)
+meaning_whole : (unit : Parser Meaning) (s r : List ℕ) (cs : List (List (List Factor))) → seq_by (suc (length s)) space_at (disjunction_of unit) s
+    ≡ Some (cs, r) → meaning_of unit s ≡ Some (list_meaning cs, r)
 unfolding meaning_of list_of
 meaning_whole unit s r cs e = rw e refl
 
@@ -564,7 +610,8 @@ unfolding unit_of unit_by
 star_is_read schema d r = refl
 
 -- a quoted text is read as a unit
-quote_is_read : (schema : List Field) (d : ℕ) (t r : List ℕ) → unit_of schema (suc d) ((34 ∷ quoted_text t) ++ r) ≡ Some (literal_anywhere schema (encode_utf8_all t), r)
+quote_is_read : (schema : List Field) (d : ℕ) (t r : List ℕ) → unit_of schema (suc d) ((34 ∷ quoted_text t) ++ r)
+    ≡ Some (literal_anywhere schema (encode_utf8_all t), r)
 unfolding unit_of unit_by quoted_literal_of
 quote_is_read schema d t r = let e = quoted_is_read t r in rw e refl
 
@@ -594,13 +641,15 @@ long (c ∷ s) b = omega arith
 
 mutual
   -- a unit is read
-  unit_is_read : {schema : List Field} {x : List ℕ} {m : Meaning} → IsUnit schema x m → (d : ℕ) → (r : List ℕ) → stops r ≡ true → length x ≤ d → unit_of schema d (x ++ r) ≡ Some (m, r)
+  unit_is_read : {schema : List Field} {x : List ℕ} {m : Meaning} → IsUnit schema x m → (d : ℕ) → (r : List ℕ) → stops r ≡ true → length x ≤ d →
+      unit_of schema d (x ++ r) ≡ Some (m, r)
   unit_is_read (Grammar.group v s w cs a l b) zero r h n = absurd (omega arith)
   unit_is_read {schema = schema} (Grammar.group v s w cs a l b) (suc d) r h n =
       let e : Ends (w ++ (41 ∷ r)) = blank_ends w (41 ∷ r) b refl (skip_close r) in
       let short : length s ≤ d = group_short d v s w n in
       let q = w ++ (41 ∷ r) in
-      group_is_read schema d v s w r cs a b (list_begins l q e.stop) (meaning_whole (unit_of schema d) (s ++ q) q cs (list_is_read l d (suc (length (s ++ q))) q e short (enough s q)))
+      group_is_read schema d v s w r cs a b (list_begins l q e.stop)
+      (meaning_whole (unit_of schema d) (s ++ q) q cs (list_is_read l d (suc (length (s ++ q))) q e short (enough s q)))
   unit_is_read Grammar.all zero r h n = absurd (omega arith)
   unit_is_read {schema = schema} Grammar.all (suc d) r h n = star_is_read schema d r
   unit_is_read (Grammar.bare {w = w} b) zero r h n = absurd (bare_long w b n)
@@ -611,14 +660,19 @@ mutual
   unit_is_read {schema = schema} (Grammar.quoted t) (suc d) r h n = quote_is_read schema d t r
 
   -- a factor is read
-  factor_is_read : {schema : List Field} {x : List ℕ} {f : Factor} → IsFactor schema x f → (d : ℕ) → (r : List ℕ) → stops r ≡ true → length x ≤ d → factor_of (unit_of schema d) (x ++ r) ≡ Some (f, r)
+  factor_is_read : {schema : List Field} {x : List ℕ} {f : Factor} → IsFactor schema x f → (d : ℕ) → (r : List ℕ) → stops r ≡ true → length x ≤ d →
+      factor_of (unit_of schema d) (x ++ r) ≡ Some (f, r)
   factor_is_read {schema = schema} (Grammar.factor v s {modifier = modifier} {m = m} a u) d r h n =
-      factor_whole (unit_of schema d) v s r modifier m (modifier_is_read a (s ++ r) (unit_begins u r h)) (unit_is_read u d r h (omega (arith, length-append v s)))
+      factor_whole (unit_of schema d) v s r modifier m (modifier_is_read a (s ++ r) (unit_begins u r h))
+      (unit_is_read u d r h (omega (arith, length-append v s)))
 
   -- a conjunction is read
-  conjunction_is_read : {schema : List Field} {x : List ℕ} {fs : List Factor} → IsConjunction schema x fs → (d : ℕ) → (k : ℕ) (r : List ℕ) → stops r ≡ true → operator_at (codes "AND") r ≡ None → length x ≤ d → length x ≤ k
+  conjunction_is_read : {schema : List Field} {x : List ℕ} {fs : List Factor} → IsConjunction schema x fs → (d : ℕ) → (k : ℕ) (r : List ℕ) → stops r ≡ true →
+      operator_at (codes "AND") r ≡ None → length x ≤ d → length x ≤ k
       → seq_by k (operator_at (codes "AND")) (factor_of (unit_of schema d)) (x ++ r) ≡ Some (fs, r)
-  conjunction_is_read {schema = schema} (Grammar.one {s = s} {f = f} i) d k r h e n l = last (operator_at (codes "AND")) (factor_of (unit_of schema d)) k (s ++ r) r f (let p = long s (factor_begins i [] refl) in omega arith) (factor_is_read i d r h n) e
+  conjunction_is_read {schema = schema} (Grammar.one {s = s} {f = f} i) d k r h e n l =
+      last (operator_at (codes "AND")) (factor_of (unit_of schema d)) k (s ++ r) r f (let p = long s (factor_begins i [] refl) in omega arith)
+      (factor_is_read i d r h n) e
   conjunction_is_read {schema = schema} (Grammar.both s w t {f = f} {fs = fs} i o c) d k r h e n l =
       more_at (operator_at (codes "AND")) (factor_of (unit_of schema d)) k s w t r f fs l (operator_long (codes "AND") w o)
       (factor_is_read i d (w ++ (t ++ r)) (operator_stops (codes "AND") w (t ++ r) o) (front_short d s w t n))
@@ -626,30 +680,36 @@ mutual
       (λ j lt. conjunction_is_read c d j r h e (back_short d s w t n) lt)
 
   -- a disjunction is read
-  disjunction_is_read : {schema : List Field} {x : List ℕ} {fs : List (List Factor)} → IsDisjunction schema x fs → (d : ℕ) → (k : ℕ) (r : List ℕ) → stops r ≡ true → operator_at (codes "AND") r ≡ None → operator_at (codes "OR") r ≡ None → length x ≤ d → length x ≤ k
+  disjunction_is_read : {schema : List Field} {x : List ℕ} {fs : List (List Factor)} → IsDisjunction schema x fs → (d : ℕ) → (k : ℕ) (r : List ℕ) →
+      stops r ≡ true → operator_at (codes "AND") r ≡ None → operator_at (codes "OR") r ≡ None → length x ≤ d → length x ≤ k
       → seq_by k (operator_at (codes "OR")) (conjunction_of (unit_of schema d)) (x ++ r) ≡ Some (fs, r)
   disjunction_is_read {schema = schema} (Grammar.conjunction {s = s} {c = c} i) d k r h e1 e2 n l =
-      last (operator_at (codes "OR")) (conjunction_of (unit_of schema d)) k (s ++ r) r c (let p = long s (conjunction_begins i [] refl) in omega arith) (conjunction_whole (unit_of schema d) (s ++ r) _ (conjunction_is_read i d (suc (length (s ++ r))) r h e1 n (enough s r))) e2
+      last (operator_at (codes "OR")) (conjunction_of (unit_of schema d)) k (s ++ r) r c (let p = long s (conjunction_begins i [] refl) in omega arith)
+      (conjunction_whole (unit_of schema d) (s ++ r) _ (conjunction_is_read i d (suc (length (s ++ r))) r h e1 n (enough s r))) e2
   disjunction_is_read {schema = schema} (Grammar.either s w t {c = c} {cs = cs} i o l) d k r h e1 e2 n lt =
       let q = w ++ (t ++ r) in
       let short = front_short d s w t n in
       more_at (operator_at (codes "OR")) (conjunction_of (unit_of schema d)) k s w t r c cs lt (operator_long (codes "OR") w o)
-      (conjunction_whole (unit_of schema d) (s ++ q) _ (conjunction_is_read i d (suc (length (s ++ q))) q (operator_stops (codes "OR") w (t ++ r) o) (or_no_and w (t ++ r) o) short (enough s q)))
+      (conjunction_whole (unit_of schema d) (s ++ q) _ (conjunction_is_read i d (suc (length (s ++ q))) q (operator_stops (codes "OR") w (t ++ r) o)
+      (or_no_and w (t ++ r) o) short (enough s q)))
       (operator_is_read (codes "OR") or_name w (t ++ r) o (disjunction_begins l r h).open_)
       (λ j lj. disjunction_is_read l d j r h e1 e2 (back_short d s w t n) lj)
 
   -- a list is read
-  list_is_read : {schema : List Field} {x : List ℕ} {cs : List (List (List Factor))} → IsList schema x cs → (d : ℕ) → (k : ℕ) (r : List ℕ) → Ends r → length x ≤ d → length x ≤ k
+  list_is_read : {schema : List Field} {x : List ℕ} {cs : List (List (List Factor))} → IsList schema x cs → (d : ℕ) → (k : ℕ) (r : List ℕ) → Ends r →
+      length x ≤ d → length x ≤ k
       → seq_by k space_at (disjunction_of (unit_of schema d)) (x ++ r) ≡ Some (cs, r)
   list_is_read {schema = schema} (Grammar.single {s = s} {c = c} i) d k r e n l =
       last space_at (disjunction_of (unit_of schema d)) k (s ++ r) r c (let p = long s (disjunction_begins i [] refl) in omega arith)
-      (disjunction_whole (unit_of schema d) (s ++ r) _ (disjunction_is_read i d (suc (length (s ++ r))) r e.stop (ends_and r e) (ends_or r e) n (enough s r))) (ends_space r e)
+      (disjunction_whole (unit_of schema d) (s ++ r) _ (disjunction_is_read i d (suc (length (s ++ r))) r e.stop (ends_and r e) (ends_or r e) n (enough s r)))
+      (ends_space r e)
   list_is_read {schema = schema} (Grammar.several s w t {c = c} {cs = cs} i a l) d k r e n lt =
       let q = w ++ (t ++ r) in
       let short = front_short d s w t n in
       let g : Begins (t ++ r) = list_begins l r e.stop in
       more_at space_at (disjunction_of (unit_of schema d)) k s w t r c cs lt a.0
-      (disjunction_whole (unit_of schema d) (s ++ q) _ (disjunction_is_read i d (suc (length (s ++ q))) q (space_stops w (t ++ r) a) (space_no_and w (t ++ r) a g) (space_no_or w (t ++ r) a g) short (enough s q)))
+      (disjunction_whole (unit_of schema d) (s ++ q) _ (disjunction_is_read i d (suc (length (s ++ q))) q (space_stops w (t ++ r) a)
+      (space_no_and w (t ++ r) a g) (space_no_or w (t ++ r) a g) short (enough s q)))
       (space_is_read w (t ++ r) a g.open_)
       (λ j lj. list_is_read l d j r e (back_short d s w t n) lj)
 
@@ -693,7 +753,8 @@ query_is_read {schema = schema} {s = s} {m = m} d q n =
     let g : Ends w = subst (λ (t : List ℕ). Ends t) (append-nil w) (blank_ends w [] q.blank_after refl refl) in
     let len : length s ≡ length (q.before ++ (x ++ w)) = ap length q.parts in
     let short : length x ≤ d = back_short_mid d q.before x w (omega arith) in
-    let l : meaning_of (unit_of schema d) (x ++ w) ≡ Some (list_meaning q.disjunctions, w) = meaning_whole (unit_of schema d) (x ++ w) w q.disjunctions (list_is_read q.list d (suc (length (x ++ w))) w g short (enough x w)) in
+    let l : meaning_of (unit_of schema d) (x ++ w) ≡ Some (list_meaning q.disjunctions, w) =
+    meaning_whole (unit_of schema d) (x ++ w) w q.disjunctions (list_is_read q.list d (suc (length (x ++ w))) w g short (enough x w)) in
     let k : skip_while is_space w ≡ [] = blank_skip w q.blank_after in
     let h : Some (list_meaning q.disjunctions) ≡ Some m = ap (λ (t : Meaning). Some t) (sym q.means) in
     rw (e, l, k) h

@@ -1,5 +1,6 @@
 -- A query that a text reads as fits the schema.
-use Rattle.std.proofs.Common.{◌≡◌, ℕ, ◌+◌, ◌^◌, Bool, true, false, List, [], ◌∷◌, length, get_or, drop, map, Option, Some, None, Result, Ok, Err, refl, sym, ap, subst, ◌∙◌, inl, inr, pos, neg_ℤ, slice_get, option_map}
+use Rattle.std.proofs.Common.{◌≡◌, ℕ, ◌+◌, ◌^◌, Bool, true, false, List, [], ◌∷◌, length, get_or, drop, map, Option, Some, None, Result, Ok, Err, refl, sym, ap}
+use Rattle.std.proofs.Common.{subst, ◌∙◌, inl, inr, pos, neg_ℤ, slice_get, option_map}
 use Rattle.std.specs.Option.{option_map_or}
 use Rattle.std.specs.declared.ops.Bound.{Bound}
 use Rattle.std.specs.declared.ops.Bound.TheVariants.{Included, Excluded, Unbounded}
@@ -22,7 +23,10 @@ use Rattle.fts_query.specs.declared.error.QueryError.TheVariants.{BadNumber, Unk
 use Rattle.fts_query.specs.declared.clauses.Occur.{Occur}
 use Rattle.fts_query.specs.declared.clauses.Occur.TheVariants.{Must, MustNot, Should}
 use Rattle.fts_model.specs.QueryValues.{QueryValue, query_list}
-use Rattle.fts_query.specs.Meanings.{Meaning, Factor, Clause, members, musts, must_nots, shoulds, boolean_of, node, conjunction, disjunction, disjunction_clause, list_meaning, occur_in_conjunction, number_below, value_in, begins_minus, with_value, with_tokens, literal_in, default_clauses, some_default, literal_anywhere, bound_in, within, Value, literal, between, meaning_in, meaning_at, field_meaning}
+use Rattle.fts_query.specs.Meanings.{Meaning, Factor, Clause, members, musts, must_nots, shoulds, boolean_of, node, conjunction, disjunction}
+use Rattle.fts_query.specs.Meanings.{disjunction_clause, list_meaning, occur_in_conjunction, number_below, value_in, begins_minus, with_value, with_tokens}
+use Rattle.fts_query.specs.Meanings.{literal_in, default_clauses, some_default, literal_anywhere, bound_in, within, Value, literal, between, meaning_in}
+use Rattle.fts_query.specs.Meanings.{meaning_at, field_meaning}
 use Rattle.fts_query.specs.Grammar.{IsUnit, IsFactor, IsConjunction, IsDisjunction, IsList, IsQuery}
 use Rattle.fts_model.specs.declared.schema.Kind.TheVariants as kinds
 use Rattle.fts_model.specs.declared.value.Number.TheVariants as numbers
@@ -81,7 +85,8 @@ module _ (schema : List Field) where
   MembersFit (Ok qs) = fit (musts qs) × fit (must_nots qs) × fit (shoulds qs)
 
   -- a member more
-  cons_fits : (occur : Occur) (m : Meaning) (r : Result (List (Occur × QueryValue)) QueryError) → MeaningFits m → MembersFit r → MembersFit (result_and_then (λ q. result_map (λ qs. (occur, q) ∷ qs) r) m)
+  cons_fits : (occur : Occur) (m : Meaning) (r : Result (List (Occur × QueryValue)) QueryError) → MeaningFits m → MembersFit r →
+      MembersFit (result_and_then (λ q. result_map (λ qs. (occur, q) ∷ qs) r) m)
   cons_fits occur (Err e) r a b = tt
   cons_fits occur (Ok q) (Err e) a b = tt
   cons_fits Must (Ok q) (Ok qs) a b = (both_true a b.0, b.1, b.2)
@@ -100,7 +105,8 @@ module _ (schema : List Field) where
   boolean_fits (q ∷ ms) ns ss a b c = both_true (both_true a b) c
 
   -- a node of members, or their error
-  joined_fits : (r : Result (List (Occur × QueryValue)) QueryError) → MembersFit r → MeaningFits (result_and_then (λ qs. boolean_of (musts qs) (must_nots qs) (shoulds qs)) r)
+  joined_fits : (r : Result (List (Occur × QueryValue)) QueryError) → MembersFit r →
+      MeaningFits (result_and_then (λ qs. boolean_of (musts qs) (must_nots qs) (shoulds qs)) r)
   joined_fits (Err e) h = tt
   joined_fits (Ok qs) h = boolean_fits (musts qs) (must_nots qs) (shoulds qs) h.0 h.1 h.2
 
@@ -157,12 +163,15 @@ module _ (schema : List Field) where
   unsigned_fits (Some n) = refl
 
   -- a value fits a field of its kind
-  field_fits : (field : ℕ) (kind : Kind) → kind_at schema field ≡ Some kind → (r : Result FieldValue QueryError) → ValueFits kind r → MeaningFits (result_map (with_value field) r)
+  field_fits : (field : ℕ) (kind : Kind) → kind_at schema field ≡ Some kind → (r : Result FieldValue QueryError) → ValueFits kind r →
+      MeaningFits (result_map (with_value field) r)
   field_fits field kind e (Err f) h = tt
   field_fits field kind e (Ok v) h = ap (λ (o : Option Kind). option_map_or (λ k. is_term_of k v) o false) e ∙ h
 
   -- an `i64` value fits
-  signed_fits : (b : Bool) (o p : Option ℕ) → ValueFits kinds.I64 (option_map_or (λ n. Ok (values.Number n)) (if b then option_map (λ n. numbers.I64 (neg_ℤ (pos n))) o else option_map (λ n. numbers.I64 (pos n)) p) (Err BadNumber))
+  signed_fits : (b : Bool) (o p : Option ℕ) →
+      ValueFits kinds.I64 (option_map_or (λ n. Ok (values.Number n)) (if b then option_map (λ n. numbers.I64 (neg_ℤ (pos n))) o else
+      option_map (λ n. numbers.I64 (pos n)) p) (Err BadNumber))
   signed_fits true None p = tt
   signed_fits true (Some n) p = refl
   signed_fits false o None = tt
@@ -235,7 +244,8 @@ module _ (schema : List Field) where
   bound_fits kind Unbounded = refl
 
   -- two bounds fit
-  bounds_fit : (field : ℕ) (kind : Kind) → kind_at schema field ≡ Some kind → is_ordered kind ≡ true → (low high : Result (Bound FieldValue) QueryError) → BoundFits kind low → BoundFits kind high
+  bounds_fit : (field : ℕ) (kind : Kind) → kind_at schema field ≡ Some kind → is_ordered kind ≡ true → (low high : Result (Bound FieldValue) QueryError) →
+      BoundFits kind low → BoundFits kind high
       → MeaningFits (within field low high)
   unfolding BoundFits
   bounds_fit field kind e n (Err f) high a b = tt
@@ -252,7 +262,8 @@ module _ (schema : List Field) where
       ]
 
   -- what stands after a number of a field fits
-  at_fits : (v : Value) (field : ℕ) (o : Option Kind) → kind_at schema field ≡ o → MeaningFits (option_map_or (λ kind. meaning_in field kind v) o (Err UnknownField))
+  at_fits : (v : Value) (field : ℕ) (o : Option Kind) → kind_at schema field ≡ o →
+      MeaningFits (option_map_or (λ kind. meaning_in field kind v) o (Err UnknownField))
   at_fits v field None e = tt
   at_fits v field (Some kind) e = meaning_fits field kind v e
 

@@ -1,5 +1,6 @@
 -- What literals mean: tokens, default fields, numbers.
-use Rattle.std.proofs.Common.{◌≡◌, ℕ, suc, ◌+◌, ◌-◌, ◌<◌, ◌≤◌, ◌^◌, Bool, true, false, List, [], ◌∷◌, ◌++◌, length, drop, map, refl, sym, ap, subst, ◌∙◌, append_assoc, All, arith, Err, inl, inr, ◌*◌, ◌&&◌, Some, None, ltb}
+use Rattle.std.proofs.Common.{◌≡◌, ℕ, suc, ◌+◌, ◌-◌, ◌<◌, ◌≤◌, ◌^◌, Bool, true, false, List, [], ◌∷◌, ◌++◌, length, drop, map, refl, sym, ap, subst, ◌∙◌}
+use Rattle.std.proofs.Common.{append_assoc, All, arith, Err, inl, inr, ◌*◌, ◌&&◌, Some, None, ltb}
 use Rattle.std.specs.List.{list_any, list_all}
 use Rattle.std.specs.Str.{IsUtf8}
 use Rattle.std.proofs.lemmas.Bool.{cases_Bool, le-ltb, lt-ltb, ltb-false, and_right, and_parts}
@@ -11,7 +12,8 @@ use Rattle.fts_text.proofs.StretchLemmas.{All-IsPlaceFrom, All-IsPlaceIn, IsPlac
 use Rattle.fts_model.specs.declared.schema.Field.{Field}
 use Rattle.fts_query.specs.declared.error.QueryError.TheVariants.{NoDefaultField}
 use Rattle.fts_model.specs.QueryValues.{phrase, nothing}
-use Rattle.fts_query.specs.Meanings.{Clause, node, with_tokens, with_value, default_clauses, some_default, literal_anywhere, is_digit, are_digits, decimal_after, decimal, number_below}
+use Rattle.fts_query.specs.Meanings.{Clause, node, with_tokens, with_value, default_clauses, some_default, literal_anywhere, is_digit, are_digits}
+use Rattle.fts_query.specs.Meanings.{decimal_after, decimal, number_below}
 use Rattle.fts_query.specs.Gathering.{Gathered, gather_all, gathered_node}
 use Rattle.fts_query.proofs.GatheringLemmas.{nothing_gathered, gathered_node-all}
 use Rattle.std.specs.Prelude.{◌==◌}
@@ -32,7 +34,8 @@ map-member text from [] = refl
 map-member text from (p ∷ ps) = ap (λ (l : List (ℕ × List ℕ)). member text from p ∷ l) (map-member text from ps)
 
 -- the place that comes next, and those after it
-places-first : (text : List ℕ) (place : Token) (left rest : List Token) → left ≡ place ∷ rest → All (IsPlaceFrom 0 text) left → IsPlaceFrom 0 text place × All (IsPlaceFrom 0 text) rest
+places-first : (text : List ℕ) (place : Token) (left rest : List Token) → left ≡ place ∷ rest → All (IsPlaceFrom 0 text) left →
+    IsPlaceFrom 0 text place × All (IsPlaceFrom 0 text) rest
 places-first text place left rest first all =
     let P : List Token → Type 0 = All (IsPlaceFrom 0 text) in
     let each = subst P first all in
@@ -44,20 +47,24 @@ pub record Gathers (text : List ℕ) (from : ℕ) (done : List (ℕ × List ℕ)
   pub members : done ++ map (member text from) left ≡ distances from (tokens text)
 
 -- no member is gathered at first
-pub Gathers-start : (text : List ℕ) (from : ℕ) (done : List (ℕ × List ℕ)) (left : List Token) → IsUtf8 text → done ≡ [] → left ≡ places text → Gathers text from done left
+pub Gathers-start : (text : List ℕ) (from : ℕ) (done : List (ℕ × List ℕ)) (left : List Token) → IsUtf8 text → done ≡ [] → left ≡ places text →
+    Gathers text from done left
 Gathers-start text from done left u e start =
     let P : List Token → Type 0 = All (IsPlaceFrom 0 text) in
     record {
       within = subst P (sym start) (All-IsPlaceFrom 0 text u);
-      members = ap (λ (d : List (ℕ × List ℕ)). d ++ map (member text from) left) e ∙ ap (map (member text from)) start ∙ map-member text from (places text) ∙ ap (distances from) (tokens-places 0 text u);
+      members = ap (λ (d : List (ℕ × List ℕ)). d ++ map (member text from) left) e ∙ ap (map (member text from)) start ∙ map-member text from (places text)
+          ∙ ap (distances from) (tokens-places 0 text u);
     }
 
 -- the next place is one of the text
-pub Gathers-place : (text : List ℕ) (from : ℕ) (done : List (ℕ × List ℕ)) (place : Token) (left rest : List Token) → left ≡ place ∷ rest → Gathers text from done left → IsPlaceFrom 0 text place
+pub Gathers-place : (text : List ℕ) (from : ℕ) (done : List (ℕ × List ℕ)) (place : Token) (left rest : List Token) → left ≡ place ∷ rest →
+    Gathers text from done left → IsPlaceFrom 0 text place
 Gathers-place text from done place left rest first g = (places-first text place left rest first g.within).0
 
 -- a member more
-pub Gathers-next : (text : List ℕ) (from : ℕ) (done more : List (ℕ × List ℕ)) (place : Token) (left rest : List Token) → left ≡ place ∷ rest → more ≡ done ++ member text from place ∷ [] → Gathers text from done left → Gathers text from more rest
+pub Gathers-next : (text : List ℕ) (from : ℕ) (done more : List (ℕ × List ℕ)) (place : Token) (left rest : List Token) → left ≡ place ∷ rest →
+    more ≡ done ++ member text from place ∷ [] → Gathers text from done left → Gathers text from more rest
 Gathers-next text from done more place left rest first e g = record {
   within = (places-first text place left rest first g.within).1;
   members = ap (λ (d : List (ℕ × List ℕ)). d ++ map (member text from) rest) e ∙ append_assoc done (member text from place ∷ []) (map (member text from) rest)
@@ -65,7 +72,8 @@ Gathers-next text from done more place left rest first e g = record {
 }
 
 -- all members are gathered
-pub Gathers-none : (text : List ℕ) (from : ℕ) (done : List (ℕ × List ℕ)) (left : List Token) → left ≡ [] → Gathers text from done left → done ≡ distances from (tokens text)
+pub Gathers-none : (text : List ℕ) (from : ℕ) (done : List (ℕ × List ℕ)) (left : List Token) → left ≡ [] → Gathers text from done left →
+    done ≡ distances from (tokens text)
 Gathers-none text from done left none g = sym (append-nil done) ∙ ap (λ (l : List Token). done ++ map (member text from) l) (sym none) ∙ g.members
 
 -- a position in a text of a query fits 32 bits
@@ -81,14 +89,17 @@ pub no_token : (field : ℕ) (text : List ℕ) (left : List Token) → IsUtf8 te
 no_token field text left u start none = ap (with_tokens field) (tokens_of text left u start ∙ ap (map (token_at text)) none)
 
 -- a text of one token
-pub one_token : (field : ℕ) (text : List ℕ) (left rest : List Token) (first : Token) → IsUtf8 text → left ≡ places text → left ≡ first ∷ rest → rest ≡ [] → with_tokens field (tokens text) ≡ with_value field (values.Text (token_at text first).1)
+pub one_token : (field : ℕ) (text : List ℕ) (left rest : List Token) (first : Token) → IsUtf8 text → left ≡ places text → left ≡ first ∷ rest → rest ≡ [] →
+    with_tokens field (tokens text) ≡ with_value field (values.Text (token_at text first).1)
 one_token field text left rest first u start cons none =
     ap (with_tokens field) (tokens_of text left u start ∙ ap (map (token_at text)) (cons ∙ ap (λ (l : List Token). first ∷ l) none))
 
 -- a text of two tokens or more
-pub more_tokens : (field : ℕ) (text : List ℕ) (left rest others : List Token) (first second : Token) → IsUtf8 text → left ≡ places text → left ≡ first ∷ rest → rest ≡ second ∷ others → with_tokens field (tokens text) ≡ phrase field (distances first.position (tokens text))
+pub more_tokens : (field : ℕ) (text : List ℕ) (left rest others : List Token) (first second : Token) → IsUtf8 text → left ≡ places text → left ≡ first ∷ rest →
+    rest ≡ second ∷ others → with_tokens field (tokens text) ≡ phrase field (distances first.position (tokens text))
 more_tokens field text left rest others first second u start cons more =
-    let e : tokens text ≡ token_at text first ∷ token_at text second ∷ map (token_at text) others = tokens_of text left u start ∙ ap (map (token_at text)) (cons ∙ ap (λ (l : List Token). first ∷ l) more) in
+    let e : tokens text ≡ token_at text first ∷ token_at text second ∷ map (token_at text) others =
+    tokens_of text left u start ∙ ap (map (token_at text)) (cons ∙ ap (λ (l : List Token). first ∷ l) more) in
     ap (with_tokens field) e ∙ ap (λ (ts : List (ℕ × List ℕ)). phrase field (distances first.position ts)) (sym e)
 
 -- the first place stands in the text
@@ -111,7 +122,8 @@ no_clauses i (field ∷ fields) text e =
     ]
 
 -- with a default field there are clauses
-some_clauses : (i : ℕ) (fields : List Field) (text : List ℕ) → list_any is_default fields ≡ true → (c : Clause) × (cs : List Clause) × (default_clauses i fields text ≡ c ∷ cs)
+some_clauses : (i : ℕ) (fields : List Field) (text : List ℕ) → list_any is_default fields ≡ true →
+    (c : Clause) × (cs : List Clause) × (default_clauses i fields text ≡ c ∷ cs)
 some_clauses i [] text e = absurd (let h = e in cc)
 some_clauses i (field ∷ fields) text e =
     elim (cases_Bool field.default) [
@@ -126,12 +138,14 @@ no_default fields text e = ap some_default (no_clauses 0 fields text e)
 
 -- a literal in the default fields
 pub defaults : (fields : List Field) (text : List ℕ) (i : ℕ) (g : Gathered) → list_any is_default fields ≡ true → length fields ≤ i
-    → gather_all g (default_clauses i (drop i fields) text) ≡ gather_all nothing_gathered (default_clauses 0 fields text) → gathered_node g ≡ literal_anywhere fields text
+    → gather_all g (default_clauses i (drop i fields) text) ≡ gather_all nothing_gathered (default_clauses 0 fields text) →
+    gathered_node g ≡ literal_anywhere fields text
 unfolding literal_anywhere
 defaults fields text i g e l h =
     let s = some_clauses 0 fields text e in
     let done : drop i fields ≡ [] = drop_all i fields l in
-    let all : g ≡ gather_all nothing_gathered (default_clauses 0 fields text) = subst (λ (fs : List Field). gather_all g (default_clauses i fs text) ≡ gather_all nothing_gathered (default_clauses 0 fields text)) done h in
+    let all : g ≡ gather_all nothing_gathered (default_clauses 0 fields text) =
+    subst (λ (fs : List Field). gather_all g (default_clauses i fs text) ≡ gather_all nothing_gathered (default_clauses 0 fields text)) done h in
     let whole : some_default (default_clauses 0 fields text) ≡ node (s.0 ∷ s.1) = ap some_default s.2 in
     ap gathered_node all ∙ gathered_node-all (default_clauses 0 fields text) ∙ ap node s.2 ∙ sym whole
 
@@ -158,7 +172,8 @@ are_digits-nonempty [] h = absurd (let k = h in cc)
 are_digits-nonempty (c ∷ w) h = refl
 
 -- all digits are read
-pub whole_is : (all rest : List ℕ) (n : ℕ) → length rest < 1 → decimal_after n rest ≡ decimal all → list_all is_digit rest ≡ list_all is_digit all → (length all == 0) ≡ false → n < 2 ^ 64 → Some n ≡ number_below (2 ^ 64) all
+pub whole_is : (all rest : List ℕ) (n : ℕ) → length rest < 1 → decimal_after n rest ≡ decimal all → list_all is_digit rest ≡ list_all is_digit all →
+    (length all == 0) ≡ false → n < 2 ^ 64 → Some n ≡ number_below (2 ^ 64) all
 unfolding number_below
 whole_is all [] n l e d k h =
     let a : decimal all ≡ n = sym e in

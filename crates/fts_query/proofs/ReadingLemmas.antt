@@ -1,5 +1,6 @@
 -- What is at the front of a text: white space, words, quoted texts, units.
-use Rattle.std.proofs.Common.{take-append-drop, ◌≡◌, ℕ, Bool, true, false, not, ◌||◌, ◌⊎◌, cond, List, [], ◌∷◌, ◌++◌, codes, Option, Some, None, refl, sym, ap, ◌∙◌, arith, inl, inr, zero, suc, ◌+◌, ◌-◌, ◌*◌, ◌≤◌, length, take, drop, subst, length-append, append_assoc, Ok}
+use Rattle.std.proofs.Common.{take-append-drop, ◌≡◌, ℕ, Bool, true, false, not, ◌||◌, ◌⊎◌, cond, List, [], ◌∷◌, ◌++◌, codes, Option, Some, None, refl, sym, ap}
+use Rattle.std.proofs.Common.{◌∙◌, arith, inl, inr, zero, suc, ◌+◌, ◌-◌, ◌*◌, ◌≤◌, length, take, drop, subst, length-append, append_assoc, Ok}
 use Rattle.std.specs.Prelude.{◌==◌, take_while}
 use Rattle.std.specs.List.{list_all, prefix_len}
 use Rattle.std.proofs.lemmas.List.Sums.{take_while-cons}
@@ -135,7 +136,8 @@ word_at (c ∷ w) r h e =
     (take_while_more is_word_char c (w ++ r) t ∙ ap (λ (x : List ℕ). c ∷ x) q.0, skip_while_more is_word_char (c ∷ (w ++ r)) (w ++ r) c refl t ∙ q.1)
 
 -- a word is read up to where it may stop
-pub word-append : (w r : List ℕ) → list_all is_word_char w ≡ true → stops r ≡ true → (take_while is_word_char (w ++ r) ≡ w) × (skip_while is_word_char (w ++ r) ≡ r)
+pub word-append : (w r : List ℕ) → list_all is_word_char w ≡ true → stops r ≡ true →
+    (take_while is_word_char (w ++ r) ≡ w) × (skip_while is_word_char (w ++ r) ≡ r)
 word-append w r h e = word_at w r h (word_stops r e)
 
 -- what is taken passes
@@ -143,7 +145,8 @@ taken : (s : List ℕ) → list_all is_word_char (take_while is_word_char s) ≡
 taken [] = refl
 taken (c ∷ s) =
     elim (cases_Bool (is_word_char c)) [
-      | inl e ↦ ap (list_all is_word_char) (take_while_more is_word_char c s e) ∙ and_from (is_word_char c) (list_all is_word_char (take_while is_word_char s)) e (taken s)
+      | inl e ↦ ap (list_all is_word_char) (take_while_more is_word_char c s e) ∙ and_from (is_word_char c) (list_all is_word_char (take_while is_word_char s))
+          e (taken s)
       | inr e ↦ ap (list_all is_word_char) (take_while_stop is_word_char c s e)
     ]
 
@@ -173,7 +176,12 @@ skip_while_parts [] = ([], refl, refl)
 skip_while_parts (c ∷ s) =
     let q = skip_while_parts s in
     elim (cases_Bool (is_space c)) [
-      | inl e ↦ (c ∷ q.0, and_from (is_space c) (list_all is_space q.0) e q.1, ap (λ (x : List ℕ). c ∷ x) q.2 ∙ ap (λ (x : List ℕ). (c ∷ q.0) ++ x) (sym (skip_while_more is_space (c ∷ s) s c refl e)))
+      | inl e ↦ (
+        c ∷ q.0,
+        and_from (is_space c) (list_all is_space q.0) e q.1,
+        ap (λ (x : List ℕ). c ∷ x) q.2 ∙ ap (λ (x : List ℕ). (c ∷ q.0) ++ x)
+            (sym (skip_while_more is_space (c ∷ s) s c refl e)),
+      )
       | inr e ↦ ([], refl, sym (skip_while_stop is_space (c ∷ s) s c refl e))
     ]
 
@@ -182,8 +190,12 @@ pub space_parts : (s : List ℕ) → begins_space s ≡ true → (w : List ℕ) 
 unfolding skip_while
 space_parts [] h = absurd cc
 space_parts (c ∷ s) h =
-    let q = skip_while_parts s in
-    (c ∷ q.0, (omega arith, and_from (is_space c) (list_all is_space q.0) h q.1), ap (λ (x : List ℕ). c ∷ x) q.2 ∙ ap (λ (x : List ℕ). (c ∷ q.0) ++ x) (sym (skip_while_more is_space (c ∷ s) s c refl h)))
+    let q = skip_while_parts s in (
+      c ∷ q.0,
+      (omega arith, and_from (is_space c) (list_all is_space q.0) h q.1),
+      ap (λ (x : List ℕ). c ∷ x) q.2 ∙ ap (λ (x : List ℕ). (c ∷ q.0) ++ x)
+          (sym (skip_while_more is_space (c ∷ s) s c refl h)),
+    )
 
 -- a text with the `\` that was read before it
 abbrev spelled : Bool → List ℕ → List ℕ
@@ -204,7 +216,8 @@ chosen true x y z e = inl (refl, e)
 chosen false x y z e = inr (refl, e)
 
 -- a character in front, and the text that was read
-char_onto_some : (c : ℕ) (o : Option (List ℕ × List ℕ)) (y : List ℕ × List ℕ) → char_onto c o ≡ Some y → (x : List ℕ × List ℕ) × (o ≡ Some x) × ((c ∷ x.0) ≡ y.0) × (x.1 ≡ y.1)
+char_onto_some : (c : ℕ) (o : Option (List ℕ × List ℕ)) (y : List ℕ × List ℕ) → char_onto c o ≡ Some y →
+    (x : List ℕ × List ℕ) × (o ≡ Some x) × ((c ∷ x.0) ≡ y.0) × (x.1 ≡ y.1)
 char_onto_some c None y e = absurd cc
 char_onto_some c (Some x) y e =
     let h : ◌≡◌ {A = List ℕ × List ℕ} (c ∷ x.0, x.1) y = same_Some _ _ e in
@@ -292,7 +305,8 @@ abbrev pub WordSplit : (text rest : List ℕ) → ℕ → Type 0
 WordSplit text rest n = IsCharBoundary text n × (take n text ≡ word (chars text)) × (drop n text ≡ rest)
 
 -- a text may be cut behind its word
-pub word_split : (text rest : List ℕ) → IsUtf8 text → IsUtf8 rest → chars rest ≡ skip_while is_word_char (chars text) → WordSplit text rest (length text - length rest)
+pub word_split : (text rest : List ℕ) → IsUtf8 text → IsUtf8 rest → chars rest ≡ skip_while is_word_char (chars text) →
+    WordSplit text rest (length text - length rest)
 word_split text rest u v e =
     let p = text_parts text rest u v e in
     let w = word (chars text) in
@@ -308,7 +322,8 @@ with_front front None = None
 with_front front (Some x) = Some (front ++ x.0, x.1)
 
 -- a character more that was read
-pub front_more : (front : List ℕ) (c : ℕ) (o : Option (List ℕ × List ℕ)) → with_front front (in_bytes (char_onto c o)) ≡ with_front (front ++ encode_utf8 c) (in_bytes o)
+pub front_more : (front : List ℕ) (c : ℕ) (o : Option (List ℕ × List ℕ)) →
+    with_front front (in_bytes (char_onto c o)) ≡ with_front (front ++ encode_utf8 c) (in_bytes o)
 front_more front c None = refl
 front_more front c (Some x) = ap (λ (w : List ℕ). Some (w, x.1)) (sym (append_assoc front (encode_utf8 c) (encode_utf8_all x.0)))
 

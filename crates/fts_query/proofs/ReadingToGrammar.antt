@@ -1,5 +1,6 @@
 -- What is read from the front is in the grammar.
-use Rattle.std.proofs.Common.{◌≡◌, ℕ, zero, suc, ◌<◌, Bool, true, false, not, ◌&&◌, List, [], ◌∷◌, ◌++◌, length, codes, Option, Some, None, Ok, refl, sym, ap, subst, ◌∙◌, append_assoc, arith, inl, inr}
+use Rattle.std.proofs.Common.{◌≡◌, ℕ, zero, suc, ◌<◌, Bool, true, false, not, ◌&&◌, List, [], ◌∷◌, ◌++◌, length, codes, Option, Some, None, Ok, refl, sym, ap}
+use Rattle.std.proofs.Common.{subst, ◌∙◌, append_assoc, arith, inl, inr}
 use Rattle.std.specs.Prelude.{◌==◌, option_and_then, take_while}
 use Rattle.std.proofs.lemmas.Bool.{and_parts, eqb-true}
 use Rattle.std.proofs.lemmas.List.{append-nil}
@@ -13,9 +14,14 @@ use Rattle.fts_query.specs.declared.clauses.Modifier.{Modifier}
 use Rattle.fts_query.specs.declared.clauses.Modifier.TheVariants.{Plain, Plus, Minus}
 use Rattle.fts_model.specs.QueryValues.{every}
 use Rattle.fts_query.specs.Meanings.{Meaning, Factor, Value, literal, between, list_meaning, literal_anywhere, field_meaning}
-use Rattle.fts_query.specs.Grammar.{is_space, is_word_char, is_bare, IsBare, IsWord, IsBound, bound, IsValue, Opens, Closes, begins_equals, IsBlank, IsSpace, IsOperator, IsModifier, IsUnit, IsFactor, IsConjunction, IsDisjunction, IsList, IsQuery, quoted_text}
-use Rattle.fts_query.specs.Reading.{Parser, word, begins_space, closes, space_at, operator_at, Read, onto, follow, seq_by, negation_of, modifier_of, factor_of, conjunction_of, disjunction_of, list_of, over, meaning_of, close, unquoted, in_bytes, quoted_of, word_of, bound_of, range_end, range_of, compared_of, above_of, below_of, quoted_value_of, plain_of, value_of, after_bare, begins_modifier, bare_of, quoted_literal_of, group_of, unit_by, unit_of, ended, query_of, skip_while}
-use Rattle.fts_query.proofs.ReadingLemmas.{take_while_more, IsPlain, plain_and, plain_or, plain_not, plain_to, word_is, is_reserved-encoded, word_parts, skip_while_parts, space_parts, read_is_unquoted, chosen}
+use Rattle.fts_query.specs.Grammar.{is_space, is_word_char, is_bare, IsBare, IsWord, IsBound, bound, IsValue, Opens, Closes, begins_equals, IsBlank, IsSpace}
+use Rattle.fts_query.specs.Grammar.{IsOperator, IsModifier, IsUnit, IsFactor, IsConjunction, IsDisjunction, IsList, IsQuery, quoted_text}
+use Rattle.fts_query.specs.Reading.{Parser, word, begins_space, closes, space_at, operator_at, Read, onto, follow, seq_by, negation_of, modifier_of, factor_of}
+use Rattle.fts_query.specs.Reading.{conjunction_of, disjunction_of, list_of, over, meaning_of, close, unquoted, in_bytes, quoted_of, word_of, bound_of}
+use Rattle.fts_query.specs.Reading.{range_end, range_of, compared_of, above_of, below_of, quoted_value_of, plain_of, value_of, after_bare, begins_modifier}
+use Rattle.fts_query.specs.Reading.{bare_of, quoted_literal_of, group_of, unit_by, unit_of, ended, query_of, skip_while}
+use Rattle.fts_query.proofs.ReadingLemmas.{take_while_more, IsPlain, plain_and, plain_or, plain_not, plain_to, word_is, is_reserved-encoded, word_parts}
+use Rattle.fts_query.proofs.ReadingLemmas.{skip_while_parts, space_parts, read_is_unquoted, chosen}
 use Rattle.fts_query.specs.Grammar
 
 -- the front of a text is in the language P, for x
@@ -39,14 +45,17 @@ read_is_space s t e =
 pub read_is_operator : (name : List ℕ) → IsPlain name → (s t : List ℕ) → operator_at name s ≡ Some t → (w : List ℕ) × IsOperator name w × (s ≡ w ++ t)
 unfolding operator_at
 read_is_operator name ascii s t e =
-    let c = cond_some (begins_space s && (bytes_eq (word (skip_while is_space s)) name && begins_space (skip_while is_word_char (skip_while is_space s)))) (skip_while is_space (skip_while is_word_char (skip_while is_space s))) t e in
+    let c = cond_some (begins_space s && (bytes_eq (word (skip_while is_space s)) name && begins_space (skip_while is_word_char (skip_while is_space s))))
+    (skip_while is_space (skip_while is_word_char (skip_while is_space s))) t e in
     let b = and_parts (begins_space s) (bytes_eq (word (skip_while is_space s)) name && begins_space (skip_while is_word_char (skip_while is_space s))) c.0 in
     let d = and_parts (bytes_eq (word (skip_while is_space s)) name) (begins_space (skip_while is_word_char (skip_while is_space s))) b.1 in
     let p = space_parts s b.0 in
     let q = space_parts (skip_while is_word_char (skip_while is_space s)) d.1 in
     let is-name : take_while is_word_char (skip_while is_space s) ≡ name = word_is (skip_while is_space s) name ascii d.0 in
-    let word : skip_while is_space s ≡ name ++ skip_while is_word_char (skip_while is_space s) = (word_parts (skip_while is_space s)).0 ∙ ap (λ (x : List ℕ). x ++ skip_while is_word_char (skip_while is_space s)) is-name in
-    let whole : s ≡ p.0 ++ (name ++ (q.0 ++ t)) = p.2 ∙ ap (λ (x : List ℕ). p.0 ++ x) (word ∙ ap (λ (x : List ℕ). name ++ x) (q.2 ∙ ap (λ (x : List ℕ). q.0 ++ x) c.1)) in
+    let word : skip_while is_space s ≡ name ++ skip_while is_word_char (skip_while is_space s) =
+    (word_parts (skip_while is_space s)).0 ∙ ap (λ (x : List ℕ). x ++ skip_while is_word_char (skip_while is_space s)) is-name in
+    let whole : s ≡ p.0 ++ (name ++ (q.0 ++ t)) =
+    p.2 ∙ ap (λ (x : List ℕ). p.0 ++ x) (word ∙ ap (λ (x : List ℕ). name ++ x) (q.2 ∙ ap (λ (x : List ℕ). q.0 ++ x) c.1)) in
     (p.0 ++ (name ++ q.0), (p.0, q.0, refl, p.1, q.1), whole ∙ simp append_assoc)
 
 -- what a step that follows another begins from
@@ -55,7 +64,8 @@ and_then_some None f y e = absurd cc
 and_then_some (Some x) f y e = (x, refl, e)
 
 -- the first item of a sequence, and the others
-pub onto_some : {A : Type 0} (a : A) (o : Option (List A × List ℕ)) (y : List A × List ℕ) → onto a o ≡ Some y → (x : List A × List ℕ) × (o ≡ Some x) × ((a ∷ x.0) ≡ y.0) × (x.1 ≡ y.1)
+pub onto_some : {A : Type 0} (a : A) (o : Option (List A × List ℕ)) (y : List A × List ℕ) → onto a o ≡ Some y →
+    (x : List A × List ℕ) × (o ≡ Some x) × ((a ∷ x.0) ≡ y.0) × (x.1 ≡ y.1)
 onto_some {A} a None y e = absurd cc
 onto_some {A} a (Some x) y e =
     let h : ◌≡◌ {A = List A × List ℕ} (a ∷ x.0, x.1) y = same_Some _ _ e in
@@ -121,7 +131,8 @@ read_is_modifier (c ∷ s) y e =
         | inr m ↦ elim (chosen (bytes_eq (word (c ∷ s)) (codes "NOT")) _ _ _ m.1) [
           | inl p ↦
               let is-not : take_while is_word_char (c ∷ s) ≡ codes "NOT" = word_is (c ∷ s) (codes "NOT") plain_not p.0 in
-              let parts : c ∷ s ≡ codes "NOT" ++ skip_while is_word_char (c ∷ s) = (word_parts (c ∷ s)).0 ∙ ap (λ (x : List ℕ). x ++ skip_while is_word_char (c ∷ s)) is-not in
+              let parts : c ∷ s ≡ codes "NOT" ++ skip_while is_word_char (c ∷ s) =
+              (word_parts (c ∷ s)).0 ∙ ap (λ (x : List ℕ). x ++ skip_while is_word_char (c ∷ s)) is-not in
               read_is_negation (c ∷ s) (skip_while is_word_char (c ∷ s)) y parts p.1
           | inr p ↦
               let h : ◌≡◌ {A = Modifier × List ℕ} (Plain, c ∷ s) y = same_Some _ _ p.1 in
@@ -146,17 +157,21 @@ module _ (schema : List Field) (unit : Parser Meaning) (read_is_unit : FindsOnly
   -- a conjunction that is read
   read_is_conjunction : FindsOnly (IsConjunction schema) (conjunction_of unit)
   unfolding conjunction_of
-  read_is_conjunction s = read_is_seq (operator_at (codes "AND")) (factor_of unit) (IsOperator (codes "AND")) (IsFactor schema) (IsConjunction schema) (read_is_operator (codes "AND") plain_and) read_is_factor (λ t a h. Grammar.one h) (λ t w u a xs h k l. Grammar.both t w u h k l) (suc (length s)) s
+  read_is_conjunction s = read_is_seq (operator_at (codes "AND")) (factor_of unit) (IsOperator (codes "AND")) (IsFactor schema) (IsConjunction schema)
+      (read_is_operator (codes "AND") plain_and) read_is_factor (λ t a h. Grammar.one h) (λ t w u a xs h k l. Grammar.both t w u h k l) (suc (length s)) s
 
   -- a disjunction that is read
   read_is_disjunction : FindsOnly (IsDisjunction schema) (disjunction_of unit)
   unfolding disjunction_of
-  read_is_disjunction s = read_is_seq (operator_at (codes "OR")) (conjunction_of unit) (IsOperator (codes "OR")) (IsConjunction schema) (IsDisjunction schema) (read_is_operator (codes "OR") plain_or) read_is_conjunction (λ t a h. Grammar.conjunction h) (λ t w u a xs h k l. Grammar.either t w u h k l) (suc (length s)) s
+  read_is_disjunction s = read_is_seq (operator_at (codes "OR")) (conjunction_of unit) (IsOperator (codes "OR")) (IsConjunction schema) (IsDisjunction schema)
+      (read_is_operator (codes "OR") plain_or) read_is_conjunction (λ t a h. Grammar.conjunction h) (λ t w u a xs h k l. Grammar.either t w u h k l)
+      (suc (length s)) s
 
   -- a list that is read
   read_is_list : FindsOnly (IsList schema) (list_of unit)
   unfolding list_of
-  read_is_list s = read_is_seq space_at (disjunction_of unit) IsSpace (IsDisjunction schema) (IsList schema) read_is_space read_is_disjunction (λ t a h. Grammar.single h) (λ t w u a xs h k l. Grammar.several t w u h k l) (suc (length s)) s
+  read_is_list s = read_is_seq space_at (disjunction_of unit) IsSpace (IsDisjunction schema) (IsList schema) read_is_space read_is_disjunction
+      (λ t a h. Grammar.single h) (λ t w u a xs h k l. Grammar.several t w u h k l) (suc (length s)) s
 
 -- a `)` that is read
 close_some : (m : Meaning) (s : List ℕ) (y : Meaning × List ℕ) → close m s ≡ Some y → (s ≡ 41 ∷ y.1) × (m ≡ y.0)
@@ -167,7 +182,8 @@ close_some m (c ∷ s) y e =
     (rw k (ap (λ (p : Meaning × List ℕ). 41 ∷ p.1) b.1), ap (λ (p : Meaning × List ℕ). p.0) b.1)
 
 -- what was seen by a view was read
-pub over_some : {A B : Type 0} (h : A → B) (o : Option (A × List ℕ)) (y : B × List ℕ) → over h o ≡ Some y → (x : A × List ℕ) × (o ≡ Some x) × (h x.0 ≡ y.0) × (x.1 ≡ y.1)
+pub over_some : {A B : Type 0} (h : A → B) (o : Option (A × List ℕ)) (y : B × List ℕ) → over h o ≡ Some y →
+    (x : A × List ℕ) × (o ≡ Some x) × (h x.0 ≡ y.0) × (x.1 ≡ y.1)
 over_some h None y e = absurd cc
 over_some {B = B} h (Some x) y e =
     let k : ◌≡◌ {A = B × List ℕ} (h x.0, x.1) y = same_Some _ _ e in
@@ -178,7 +194,8 @@ abbrev pub FrontMeaning : List Field → List ℕ → Meaning × List ℕ → Ty
 FrontMeaning schema s y = (x : List ℕ) × (cs : List (List (List Factor))) × IsList schema x cs × (list_meaning cs ≡ y.0) × (s ≡ x ++ y.1)
 
 -- a list that is read, by its meaning
-read_is_meaning : (schema : List Field) (unit : Parser Meaning) → FindsOnly (IsUnit schema) unit → (s : List ℕ) (y : Meaning × List ℕ) → meaning_of unit s ≡ Some y → FrontMeaning schema s y
+read_is_meaning : (schema : List Field) (unit : Parser Meaning) → FindsOnly (IsUnit schema) unit → (s : List ℕ) (y : Meaning × List ℕ) →
+    meaning_of unit s ≡ Some y → FrontMeaning schema s y
 unfolding meaning_of
 read_is_meaning schema unit u s y e =
     let x = over_some list_meaning (list_of unit s) y e in
@@ -198,7 +215,8 @@ read_is_word (c ∷ s) y e =
     let p = word_parts (c ∷ s) in
     let k : is_word_char c ≡ true = b.0 in
     let l : 0 < length (take_while is_word_char (c ∷ s)) = rw (take_while_more is_word_char c s k) (omega arith) in
-    subst (λ (p : List ℕ × List ℕ). (w : List ℕ) × IsWord w × (encode_utf8_all w ≡ p.0) × ((c ∷ s) ≡ w ++ p.1)) b.1 (take_while is_word_char (c ∷ s), (l, p.1), refl, p.0)
+    subst (λ (p : List ℕ × List ℕ). (w : List ℕ) × IsWord w × (encode_utf8_all w ≡ p.0) × ((c ∷ s) ≡ w ++ p.1)) b.1
+    (take_while is_word_char (c ∷ s), (l, p.1), refl, p.0)
 
 -- a bound that is read
 read_is_bound : FindsOnly IsBound bound_of
@@ -219,7 +237,8 @@ read_is_bound (c ∷ s) y e =
     ]
 
 -- the end of a range that is read
-read_is_range_end : (low : Bound (List ℕ)) (high : Option (List ℕ)) (s : List ℕ) (y : Value × List ℕ) → range_end low high s ≡ Some y → (e : ℕ) × (j : Bool) × Closes e j × (s ≡ e ∷ y.1) × (between low (bound j high) ≡ y.0)
+read_is_range_end : (low : Bound (List ℕ)) (high : Option (List ℕ)) (s : List ℕ) (y : Value × List ℕ) → range_end low high s ≡ Some y →
+    (e : ℕ) × (j : Bool) × Closes e j × (s ≡ e ∷ y.1) × (between low (bound j high) ≡ y.0)
 unfolding range_end
 read_is_range_end low high [] y e = absurd cc
 read_is_range_end low high (c ∷ s) y e =
@@ -242,8 +261,11 @@ read_is_range : (b : ℕ) (i : Bool) → Opens b i → (s : List ℕ) (y : Value
 unfolding range_of
 read_is_range b i o s y e =
     let TO = codes "TO" in
-    let x = and_then_some (bound_of (skip_while is_space s)) (λ x. option_and_then (λ (t : List ℕ). option_and_then (λ (y : Read (Option (List ℕ))). range_end (bound i x.0) y.0 (skip_while is_space y.1)) (bound_of t)) (operator_at TO x.1)) y e in
-    let t = and_then_some (operator_at TO x.0.1) (λ t. option_and_then (λ (y : Read (Option (List ℕ))). range_end (bound i x.0.0) y.0 (skip_while is_space y.1)) (bound_of t)) y x.2 in
+    let x = and_then_some (bound_of (skip_while is_space s))
+    (λ x. option_and_then (λ (t : List ℕ). option_and_then (λ (y : Read (Option (List ℕ))). range_end (bound i x.0) y.0 (skip_while is_space y.1))
+    (bound_of t)) (operator_at TO x.1)) y e in
+    let t = and_then_some (operator_at TO x.0.1) (λ t. option_and_then (λ (y : Read (Option (List ℕ))). range_end (bound i x.0.0) y.0 (skip_while is_space y.1))
+    (bound_of t)) y x.2 in
     let h = and_then_some (bound_of t.0) (λ y. range_end (bound i x.0.0) y.0 (skip_while is_space y.1)) y t.2 in
     let r = read_is_range_end (bound i x.0.0) h.0.0 (skip_while is_space h.0.1) y h.2 in
     let u = skip_while_parts s in
@@ -253,7 +275,10 @@ read_is_range b i o s y e =
     let v = skip_while_parts h.0.1 in
     let text : List ℕ = b ∷ (u.0 ++ (low.0 ++ (w.0 ++ (high.0 ++ (v.0 ++ r.0 ∷ []))))) in
     let parts : b ∷ s ≡ text ++ y.1 =
-    ap (λ (t : List ℕ). b ∷ t) (u.2 ∙ ap (λ (t : List ℕ). u.0 ++ t) (low.2 ∙ ap (λ (t : List ℕ). low.0 ++ t) (w.2 ∙ ap (λ (t : List ℕ). w.0 ++ t) (high.2 ∙ ap (λ (t : List ℕ). high.0 ++ t) (v.2 ∙ ap (λ (t : List ℕ). v.0 ++ t) r.3)))) ∙ simp append_assoc) in
+    ap (λ (t : List ℕ). b ∷ t)
+    (u.2 ∙ ap (λ (t : List ℕ). u.0 ++ t)
+    (low.2 ∙ ap (λ (t : List ℕ). low.0 ++ t)
+    (w.2 ∙ ap (λ (t : List ℕ). w.0 ++ t) (high.2 ∙ ap (λ (t : List ℕ). high.0 ++ t) (v.2 ∙ ap (λ (t : List ℕ). v.0 ++ t) r.3)))) ∙ simp append_assoc) in
     let is : IsValue text y.0 = subst (λ (z : Value). IsValue text z) r.4 (Grammar.IsValue.range u.0 low.0 w.0 high.0 v.0 o u.1 low.1 w.1 high.1 v.1 r.2) in
     (text, is, parts)
 
@@ -284,7 +309,8 @@ read_is_compared (c ∷ s) y e =
           let x = and_then_some (word_of (c ∷ s)) (λ x. Some ((false, x.0), x.1)) y p.1 in
           let h : ◌≡◌ {A = (Bool × List ℕ) × List ℕ} ((false, x.0.0), x.0.1) y = same_Some _ _ x.2 in
           let w = read_is_word (c ∷ s) x.0 x.1 in
-          let is : IsCompared w.0 (false, x.0.0) = subst (λ (z : List ℕ). IsCompared w.0 (false, z)) w.2 (IsCompared.other w.1 (no_equals c s w.0 x.0.1 p.0 w.1.0 w.3)) in
+          let is : IsCompared w.0 (false, x.0.0) =
+          subst (λ (z : List ℕ). IsCompared w.0 (false, z)) w.2 (IsCompared.other w.1 (no_equals c s w.0 x.0.1 p.0 w.1.0 w.3)) in
           subst (λ (p : (Bool × List ℕ) × List ℕ). Front IsCompared (c ∷ s) p) h (w.0, is, w.3)
     ]
 
@@ -299,7 +325,8 @@ below_is (IsCompared.equal h) = Grammar.IsValue.at_most h
 below_is (IsCompared.other h n) = Grammar.IsValue.less h n
 
 -- a quoted text that is read, in bytes
-read_is_in_bytes : (s : List ℕ) (o : Option (List ℕ × List ℕ)) (y : List ℕ × List ℕ) → unquoted false s ≡ o → in_bytes o ≡ Some y → (t : List ℕ) × (encode_utf8_all t ≡ y.0) × (s ≡ quoted_text t ++ y.1)
+read_is_in_bytes : (s : List ℕ) (o : Option (List ℕ × List ℕ)) (y : List ℕ × List ℕ) → unquoted false s ≡ o → in_bytes o ≡ Some y →
+    (t : List ℕ) × (encode_utf8_all t ≡ y.0) × (s ≡ quoted_text t ++ y.1)
 read_is_in_bytes s None y h e = absurd cc
 read_is_in_bytes s (Some x) y h e =
     let k : ◌≡◌ {A = List ℕ × List ℕ} (encode_utf8_all x.0, x.1) y = same_Some _ _ e in
@@ -322,7 +349,8 @@ read_is_value (c ∷ s) y e =
           let x = and_then_some (quoted_of s) (λ x. Some (literal x.0, x.1)) y p.1 in
           let h : ◌≡◌ {A = Value × List ℕ} (literal x.0.0, x.0.1) y = same_Some _ _ x.2 in
           let t = read_is_quoted s x.0 x.1 in
-          let is : IsValue (34 ∷ quoted_text t.0) (literal x.0.0) = subst (λ (z : List ℕ). IsValue (34 ∷ quoted_text t.0) (literal z)) t.1 (Grammar.IsValue.quoted t.0) in
+          let is : IsValue (34 ∷ quoted_text t.0) (literal x.0.0) =
+          subst (λ (z : List ℕ). IsValue (34 ∷ quoted_text t.0) (literal z)) t.1 (Grammar.IsValue.quoted t.0) in
           subst (λ (p : Value × List ℕ). Front IsValue (c ∷ s) p) h (34 ∷ quoted_text t.0, is, rw k (ap (λ (x : List ℕ). 34 ∷ x) t.2))
       | inr n2 ↦ elim (chosen (c == 91) _ _ _ n2.1) [
         | inl p ↦ let k : c ≡ 91 = eqb-true c 91 p.0 in rw k (read_is_range 91 true Grammar.Opens.included s y p.1)
@@ -356,7 +384,8 @@ read_is_value (c ∷ s) y e =
 
 module _ (schema : List Field) where
   -- what is read after a bare word
-  read_is_after : (s t : List ℕ) (y : Meaning × List ℕ) (w : List ℕ) → IsBare w → s ≡ w ++ t → after_bare schema (encode_utf8_all w) t ≡ Some y → Front (IsUnit schema) s y
+  read_is_after : (s t : List ℕ) (y : Meaning × List ℕ) (w : List ℕ) → IsBare w → s ≡ w ++ t → after_bare schema (encode_utf8_all w) t ≡ Some y →
+      Front (IsUnit schema) s y
   unfolding after_bare
   read_is_after s [] y w b p e =
       let h : ◌≡◌ {A = Meaning × List ℕ} (literal_anywhere schema (encode_utf8_all w), []) y = same_Some _ _ e in
@@ -377,7 +406,8 @@ module _ (schema : List Field) where
       ]
 
   -- the word at the front is bare
-  word_is_bare : (c : ℕ) (s : List ℕ) → (is_word_char c && not (begins_modifier c) && not (is_reserved (word (c ∷ s)))) ≡ true → is_bare (take_while is_word_char (c ∷ s)) ≡ true
+  word_is_bare : (c : ℕ) (s : List ℕ) → (is_word_char c && not (begins_modifier c) && not (is_reserved (word (c ∷ s)))) ≡ true →
+      is_bare (take_while is_word_char (c ∷ s)) ≡ true
   unfolding is_bare
   word_is_bare c s h =
       let p = and_parts (is_word_char c && not (begins_modifier c)) (not (is_reserved (word (c ∷ s)))) h in
@@ -395,18 +425,21 @@ module _ (schema : List Field) where
   read_is_bare [] y e = absurd cc
   read_is_bare (c ∷ s) y e =
       elim (chosen (is_word_char c && not (begins_modifier c) && not (is_reserved (word (c ∷ s)))) _ _ _ e) [
-        | inl p ↦ read_is_after (c ∷ s) (skip_while is_word_char (c ∷ s)) y (take_while is_word_char (c ∷ s)) ((word_parts (c ∷ s)).1, word_is_bare c s p.0) (word_parts (c ∷ s)).0 p.1
+        | inl p ↦ read_is_after (c ∷ s) (skip_while is_word_char (c ∷ s)) y (take_while is_word_char (c ∷ s)) ((word_parts (c ∷ s)).1, word_is_bare c s p.0)
+            (word_parts (c ∷ s)).0 p.1
         | inr p ↦ absurd (let k = p.1 in cc)
       ]
 
   -- a group that is read
-  read_is_group : (s : List ℕ) (x : Meaning × List ℕ) (y : Meaning × List ℕ) → FrontMeaning schema (skip_while is_space s) x → close x.0 (skip_while is_space x.1) ≡ Some y → Front (IsUnit schema) (40 ∷ s) y
+  read_is_group : (s : List ℕ) (x : Meaning × List ℕ) (y : Meaning × List ℕ) → FrontMeaning schema (skip_while is_space s) x →
+      close x.0 (skip_while is_space x.1) ≡ Some y → Front (IsUnit schema) (40 ∷ s) y
   read_is_group s x y f e =
       let k = close_some x.0 (skip_while is_space x.1) y e in
       let v = skip_while_parts s in
       let w = skip_while_parts x.1 in
       let parts : 40 ∷ s ≡ (40 ∷ (v.0 ++ (f.0 ++ (w.0 ++ 41 ∷ [])))) ++ y.1 =
-      ap (λ (t : List ℕ). 40 ∷ t) (v.2 ∙ ap (λ (t : List ℕ). v.0 ++ t) (f.4 ∙ ap (λ (t : List ℕ). f.0 ++ t) (w.2 ∙ ap (λ (t : List ℕ). w.0 ++ t) k.0)) ∙ simp append_assoc) in
+      ap (λ (t : List ℕ). 40 ∷ t) (v.2 ∙ ap (λ (t : List ℕ). v.0 ++ t) (f.4 ∙ ap (λ (t : List ℕ). f.0 ++ t) (w.2 ∙ ap (λ (t : List ℕ). w.0 ++ t) k.0))
+      ∙ simp append_assoc) in
       let m : list_meaning f.1 ≡ y.0 = f.3 ∙ k.1 in
       let text : List ℕ = 40 ∷ (v.0 ++ (f.0 ++ (w.0 ++ 41 ∷ []))) in
       let h : IsUnit schema text y.0 = subst (λ (z : Meaning). IsUnit schema text z) m (Grammar.group v.0 f.0 w.0 f.1 v.1 f.2 w.1) in
@@ -434,7 +467,8 @@ module _ (schema : List Field) where
                 let b = and_then_some (quoted_of s) (λ x. Some (literal_anywhere schema x.0, x.1)) y p.1 in
                 let h : ◌≡◌ {A = Meaning × List ℕ} (literal_anywhere schema b.0.0, b.0.1) y = same_Some _ _ b.2 in
                 let t = read_is_quoted s b.0 b.1 in
-                let is : IsUnit schema (34 ∷ quoted_text t.0) (literal_anywhere schema b.0.0) = subst (λ (z : List ℕ). IsUnit schema (34 ∷ quoted_text t.0) (literal_anywhere schema z)) t.1 (Grammar.quoted t.0) in
+                let is : IsUnit schema (34 ∷ quoted_text t.0) (literal_anywhere schema b.0.0) =
+                subst (λ (z : List ℕ). IsUnit schema (34 ∷ quoted_text t.0) (literal_anywhere schema z)) t.1 (Grammar.quoted t.0) in
                 subst (λ (p : Meaning × List ℕ). Front (IsUnit schema) (c ∷ s) p) h (34 ∷ quoted_text t.0, is, rw k (ap (λ (x : List ℕ). 34 ∷ x) t.2))
             | inr p ↦ read_is_bare (c ∷ s) y p.1
           ]

@@ -1,5 +1,6 @@
 -- The levels of a list: what is read item by item is what the productions are read as.
-use Rattle.std.proofs.Common.{◌≡◌, ℕ, zero, suc, ◌<◌, ◌≤◌, List, [], ◌∷◌, ◌++◌, length, map, codes, Option, Some, None, refl, sym, ap, ◌∙◌, arith, length-append}
+use Rattle.std.proofs.Common.{◌≡◌, ℕ, zero, suc, ◌<◌, ◌≤◌, List, [], ◌∷◌, ◌++◌, length, map, codes, Option, Some, None, refl, sym, ap, ◌∙◌, arith}
+use Rattle.std.proofs.Common.{length-append}
 use Rattle.std.specs.Prelude.{option_and_then}
 use Rattle.std.proofs.lemmas.Option.{same_Some}
 use Rattle.fts_model.specs.declared.schema.Field.{Field}
@@ -9,7 +10,8 @@ use Rattle.fts_query.specs.declared.error.ParseError.TheVariants.{Memory, Syntax
 use Rattle.fts_query.specs.declared.reader.Level.{Level}
 use Rattle.fts_query.specs.Meanings.{Meaning, Factor, Clause, occur_in_conjunction, node, conjunction, disjunction, disjunction_clause, list_meaning}
 use Rattle.fts_query.specs.Gathering.{Gathered, gather, gather_all, gathered_node}
-use Rattle.fts_query.specs.Sequences.{Part, lone, several, clause_of, node_of, joined, separator_of, sequence_by, factor_part, item_of, sequence_of, following, then_gathered}
+use Rattle.fts_query.specs.Sequences.{Part, lone, several, clause_of, node_of, joined, separator_of, sequence_by, factor_part, item_of, sequence_of, following}
+use Rattle.fts_query.specs.Sequences.{then_gathered}
 use Rattle.fts_query.specs.Reading.{Parser, Read, onto, follow, seq_by, over, factor_of, conjunction_of, disjunction_of, list_of, meaning_of, unit_of}
 use Rattle.fts_query.specs.Steps.{Misses}
 use Rattle.fts_query.proofs.GatheringLemmas.{nothing_gathered, gathered_node-all}
@@ -33,17 +35,20 @@ onto-over h x None = refl
 onto-over h x (Some y) = refl
 
 -- a sequence of items that are seen by a view
-seq_by-over : {A B : Type 0} (sep : List ℕ → Option (List ℕ)) (item : Parser A) (h : A → B) (seen : Parser B) → ((s : List ℕ) → seen s ≡ over h (item s)) → (n : ℕ) (s : List ℕ) → seq_by n sep seen s ≡ over (map h) (seq_by n sep item s)
+seq_by-over : {A B : Type 0} (sep : List ℕ → Option (List ℕ)) (item : Parser A) (h : A → B) (seen : Parser B) → ((s : List ℕ) → seen s ≡ over h (item s)) →
+    (n : ℕ) (s : List ℕ) → seq_by n sep seen s ≡ over (map h) (seq_by n sep item s)
 unfolding seq_by
 seq_by-over {A} {B} sep item h seen e zero s = refl
 seq_by-over {A} {B} sep item h seen e (suc n) s =
     ap (option_and_then (λ (x : Read B). onto x.0 (follow (sep x.1) x.1 (λ t. seq_by n sep seen t)))) (e s)
-    ∙ elim (item s) as (λ (o : Option (A × List ℕ)). option_and_then (λ (x : Read B). onto x.0 (follow (sep x.1) x.1 (λ t. seq_by n sep seen t))) (over h o) ≡ over (map h) (option_and_then (λ (x : Read A). onto x.0 (follow (sep x.1) x.1 (λ t. seq_by n sep item t))) o)) [
+    ∙ elim (item s) as (λ (o : Option (A × List ℕ)). option_and_then (λ (x : Read B). onto x.0 (follow (sep x.1) x.1 (λ t. seq_by n sep seen t))) (over h o)
+    ≡ over (map h) (option_and_then (λ (x : Read A). onto x.0 (follow (sep x.1) x.1 (λ t. seq_by n sep item t))) o)) [
       | None ↦ refl
-      | Some x ↦ elim (sep x.1) as (λ (q : Option (List ℕ)). onto (h x.0) (follow q x.1 (λ t. seq_by n sep seen t)) ≡ over (map h) (onto x.0 (follow q x.1 (λ t. seq_by n sep item t)))) [
-        | None ↦ refl
-        | Some t ↦ ap (onto (h x.0)) (seq_by-over sep item h seen e n t) ∙ onto-over h x.0 (seq_by n sep item t)
-      ]
+      | Some x ↦ elim (sep x.1) as (λ (q : Option (List ℕ)). onto (h x.0) (follow q x.1 (λ t. seq_by n sep seen t)) ≡ over (map h)
+          (onto x.0 (follow q x.1 (λ t. seq_by n sep item t)))) [
+            | None ↦ refl
+            | Some t ↦ ap (onto (h x.0)) (seq_by-over sep item h seen e n t) ∙ onto-over h x.0 (seq_by n sep item t)
+          ]
     ]
 
 -- a conjunction and a disjunction, as the level above sees them
@@ -108,24 +113,30 @@ module _ (unit : Parser Meaning) where
   conjunction_item : (s : List ℕ) → item_of levels.Disjunction unit s ≡ over conjunction_part (conjunction_of unit s)
   unfolding sequence_by conjunction_of
   conjunction_item s =
-      ap (over (joined levels.Conjunction)) (seq_by-over (separator_of levels.Conjunction) (factor_of unit) lone (factor_part unit) (λ t. refl) (suc (length s)) s)
+      ap (over (joined levels.Conjunction)) (seq_by-over (separator_of levels.Conjunction) (factor_of unit) lone (factor_part unit) (λ t. refl) (suc (length s))
+      s)
       ∙ over_over (joined levels.Conjunction) (map lone) (seq_by (suc (length s)) (separator_of levels.Conjunction) (factor_of unit) s)
 
   -- a disjunction is read as an item of a list
   disjunction_item : (s : List ℕ) → item_of levels.List unit s ≡ over disjunction_part (disjunction_of unit s)
   unfolding sequence_by disjunction_of
   disjunction_item s =
-      ap (over (joined levels.Disjunction)) (seq_by-over (separator_of levels.Disjunction) (conjunction_of unit) conjunction_part (item_of levels.Disjunction unit) conjunction_item (suc (length s)) s)
+      ap (over (joined levels.Disjunction)) (seq_by-over (separator_of levels.Disjunction) (conjunction_of unit) conjunction_part
+      (item_of levels.Disjunction unit) conjunction_item (suc (length s)) s)
       ∙ over_over (joined levels.Disjunction) (map conjunction_part) (seq_by (suc (length s)) (separator_of levels.Disjunction) (conjunction_of unit) s)
 
   -- a list is read as the node of its items
-  meaning_of-items : (s : List ℕ) → meaning_of unit s ≡ over (node_of levels.List) (seq_by (suc (length s)) (separator_of levels.List) (item_of levels.List unit) s)
+  meaning_of-items : (s : List ℕ) →
+      meaning_of unit s ≡ over (node_of levels.List) (seq_by (suc (length s)) (separator_of levels.List) (item_of levels.List unit) s)
   unfolding meaning_of list_of
   meaning_of-items s =
       let items = seq_by (suc (length s)) (separator_of levels.List) (disjunction_of unit) s in
-      let e : over (node_of levels.List) (seq_by (suc (length s)) (separator_of levels.List) (item_of levels.List unit) s) ≡ over (node_of levels.List) (over (map disjunction_part) items) =
-      ap (over (node_of levels.List)) (seq_by-over (separator_of levels.List) (disjunction_of unit) disjunction_part (item_of levels.List unit) disjunction_item (suc (length s)) s) in
-      sym (e ∙ over_over (node_of levels.List) (map disjunction_part) items ∙ over_same (λ ds. node_of levels.List (map disjunction_part ds)) list_meaning items list_node)
+      let e : over (node_of levels.List) (seq_by (suc (length s)) (separator_of levels.List) (item_of levels.List unit) s)
+      ≡ over (node_of levels.List) (over (map disjunction_part) items) =
+      ap (over (node_of levels.List)) (seq_by-over (separator_of levels.List) (disjunction_of unit) disjunction_part (item_of levels.List unit) disjunction_item
+      (suc (length s)) s) in
+      sym (e ∙ over_over (node_of levels.List) (map disjunction_part) items ∙ over_same (λ ds. node_of levels.List (map disjunction_part ds)) list_meaning items
+      list_node)
 
 -- no more is left than there was
 abbrev IsShorter : {A : Type 0} → Parser A → Type 0
@@ -153,7 +164,8 @@ separator_shorter levels.List s t e =
 
 module _ {A : Type 0} (level : Level) (item : Parser A) (item_shorter : IsShorter item) where
   -- no more is left behind the items that follow one
-  follow_shorter : (o : Option (List ℕ)) (rest : List ℕ) (next : Parser (List A)) (y : List A × List ℕ) → separator_of level rest ≡ o → IsShorter next → follow o rest next ≡ Some y → length y.1 ≤ length rest
+  follow_shorter : (o : Option (List ℕ)) (rest : List ℕ) (next : Parser (List A)) (y : List A × List ℕ) → separator_of level rest ≡ o → IsShorter next →
+      follow o rest next ≡ Some y → length y.1 ≤ length rest
   follow_shorter None rest next y e h g =
       let k : ◌≡◌ {A = List A × List ℕ} ([], rest) y = same_Some _ _ g in
       omega (arith, ap (λ (p : List A × List ℕ). length p.1) k)
@@ -182,13 +194,15 @@ module _ (schema : List Field) (depth : ℕ) where
 
   -- no more is left behind a factor
   factor_shorter : IsShorter (factor_part unit)
-  factor_shorter = over_shorter lone (factor_of unit) (λ s y e. let f = read_is_factor schema unit (read_is_unit schema depth) s y e in omega (arith, ap length f.2, length-append f.0 y.1))
+  factor_shorter = over_shorter lone (factor_of unit) (λ s y e. let f = read_is_factor schema unit (read_is_unit schema depth) s y e in
+      omega (arith, ap length f.2, length-append f.0 y.1))
 
   -- no more is left behind an item
   item_shorter : (level : Level) → IsShorter (item_of level unit)
   item_shorter levels.Conjunction = factor_shorter
   item_shorter levels.Disjunction = sequence_by_shorter levels.Conjunction (factor_part unit) factor_shorter
-  item_shorter levels.List = sequence_by_shorter levels.Disjunction (item_of levels.Disjunction unit) (sequence_by_shorter levels.Conjunction (factor_part unit) factor_shorter)
+  item_shorter levels.List =
+      sequence_by_shorter levels.Disjunction (item_of levels.Disjunction unit) (sequence_by_shorter levels.Conjunction (factor_part unit) factor_shorter)
 
   module _ (level : Level) where
     -- the clauses so far and those that follow make the outcome, where enough may follow
@@ -198,7 +212,8 @@ module _ (schema : List Field) (depth : ℕ) where
       pub whole : then_gathered level g (following most level unit rest) ≡ total
 
     -- a first item is gathered before the others
-    onto_gathered : (g : Gathered) (x : Part) (o : Option (List Part × List ℕ)) → then_gathered level g (onto x o) ≡ then_gathered level (gather g (clause_of level x)) o
+    onto_gathered : (g : Gathered) (x : Part) (o : Option (List Part × List ℕ)) →
+        then_gathered level g (onto x o) ≡ then_gathered level (gather g (clause_of level x)) o
     onto_gathered g x None = refl
     onto_gathered g x (Some y) = refl
 
@@ -207,15 +222,18 @@ module _ (schema : List Field) (depth : ℕ) where
     total_of n first text = then_gathered level nothing_gathered (onto first (following n level unit text))
 
     -- the first item
-    pub Goes-start : (g : Gathered) (first : Part) (text : List ℕ) (n : ℕ) → g ≡ gather nothing_gathered (clause_of level first) → length text ≤ n → Goes g text (total_of n first text)
+    pub Goes-start : (g : Gathered) (first : Part) (text : List ℕ) (n : ℕ) → g ≡ gather nothing_gathered (clause_of level first) → length text ≤ n →
+        Goes g text (total_of n first text)
     Goes-start g first text n e l = record {
       most = n;
       enough = l;
-      whole = ap (λ (h : Gathered). then_gathered level h (following n level unit text)) e ∙ sym (onto_gathered nothing_gathered first (following n level unit text));
+      whole = ap (λ (h : Gathered). then_gathered level h (following n level unit text)) e
+          ∙ sym (onto_gathered nothing_gathered first (following n level unit text));
     }
 
     -- what follows a separator
-    following_next : (m : ℕ) (rest next : List ℕ) → Some next ≡ separator_of level rest → following m level unit rest ≡ seq_by m (separator_of level) (item_of level unit) next
+    following_next : (m : ℕ) (rest next : List ℕ) → Some next ≡ separator_of level rest →
+        following m level unit rest ≡ seq_by m (separator_of level) (item_of level unit) next
     following_next m rest next e = ap (λ (o : Option (List ℕ)). follow o rest (λ t. seq_by m (separator_of level) (item_of level unit) t)) (sym e)
 
     -- nothing follows where there is no separator
@@ -223,40 +241,50 @@ module _ (schema : List Field) (depth : ℕ) where
     following_last m rest e = ap (λ (o : Option (List ℕ)). follow o rest (λ t. seq_by m (separator_of level) (item_of level unit) t)) (sym e)
 
     -- a sequence from its first item on
-    seq_by-item : (m : ℕ) (s left : List ℕ) (p : Part) → item_of level unit s ≡ Some (p, left) → seq_by (suc m) (separator_of level) (item_of level unit) s ≡ onto p (following m level unit left)
+    seq_by-item : (m : ℕ) (s left : List ℕ) (p : Part) → item_of level unit s ≡ Some (p, left) → seq_by (suc m) (separator_of level) (item_of level unit) s
+        ≡ onto p (following m level unit left)
     unfolding seq_by
-    seq_by-item m s left p e = ap (option_and_then (λ (x : Read Part). onto x.0 (follow (separator_of level x.1) x.1 (λ t. seq_by m (separator_of level) (item_of level unit) t)))) e
+    seq_by-item m s left p e =
+        ap (option_and_then (λ (x : Read Part). onto x.0 (follow (separator_of level x.1) x.1 (λ t. seq_by m (separator_of level) (item_of level unit) t)))) e
 
     -- no sequence without a first item
     seq_by-none : (m : ℕ) (s : List ℕ) → item_of level unit s ≡ None → seq_by (suc m) (separator_of level) (item_of level unit) s ≡ None
     unfolding seq_by
-    seq_by-none m s e = ap (option_and_then (λ (x : Read Part). onto x.0 (follow (separator_of level x.1) x.1 (λ t. seq_by m (separator_of level) (item_of level unit) t)))) e
+    seq_by-none m s e = ap
+        (option_and_then (λ (x : Read Part). onto x.0 (follow (separator_of level x.1) x.1 (λ t. seq_by m (separator_of level) (item_of level unit) t)))) e
 
     -- another item, by how many may follow
-    next_step : (m : ℕ) (g h : Gathered) (rest next left : List ℕ) (p : Part) (total : Option (Gathered × List ℕ)) → length rest ≤ m → then_gathered level g (following m level unit rest) ≡ total → Some next ≡ separator_of level rest → item_of level unit next ≡ Some (p, left) → h ≡ gather g (clause_of level p) → Goes h left total
+    next_step : (m : ℕ) (g h : Gathered) (rest next left : List ℕ) (p : Part) (total : Option (Gathered × List ℕ)) → length rest ≤ m →
+        then_gathered level g (following m level unit rest) ≡ total → Some next ≡ separator_of level rest → item_of level unit next ≡ Some (p, left) →
+        h ≡ gather g (clause_of level p) → Goes h left total
     next_step zero g h rest next left p total l w e i k = absurd (let s = separator_shorter level rest next (sym e) in omega arith)
     next_step (suc m) g h rest next left p total l w e i k =
         let q : following (suc m) level unit rest ≡ onto p (following m level unit left) = following_next (suc m) rest next e ∙ seq_by-item m next left p i in
         record {
           most = m;
           enough = let s = separator_shorter level rest next (sym e) in let r = item_shorter level next (p, left) i in omega arith;
-          whole = ap (λ (x : Gathered). then_gathered level x (following m level unit left)) k ∙ sym (onto_gathered g p (following m level unit left)) ∙ sym (ap (then_gathered level g) q) ∙ w;
+          whole = ap (λ (x : Gathered). then_gathered level x (following m level unit left)) k ∙ sym (onto_gathered g p (following m level unit left))
+              ∙ sym (ap (then_gathered level g) q) ∙ w;
         }
 
     -- another item
-    pub Goes-next : (g h : Gathered) (rest next left : List ℕ) (p : Part) (total : Option (Gathered × List ℕ)) → Some next ≡ separator_of level rest → item_of level unit next ≡ Some (p, left) → h ≡ gather g (clause_of level p) → Goes g rest total → Goes h left total
+    pub Goes-next : (g h : Gathered) (rest next left : List ℕ) (p : Part) (total : Option (Gathered × List ℕ)) → Some next ≡ separator_of level rest →
+        item_of level unit next ≡ Some (p, left) → h ≡ gather g (clause_of level p) → Goes g rest total → Goes h left total
     Goes-next g h rest next left p total e i k goes = next_step goes.most g h rest next left p total goes.enough goes.whole e i k
 
     -- less is left behind a separator and an item
-    pub Goes-smaller : (rest next left : List ℕ) (p : Part) → Some next ≡ separator_of level rest → item_of level unit next ≡ Some (p, left) → length left < length rest
+    pub Goes-smaller : (rest next left : List ℕ) (p : Part) → Some next ≡ separator_of level rest → item_of level unit next ≡ Some (p, left) →
+        length left < length rest
     Goes-smaller rest next left p e i = let s = separator_shorter level rest next (sym e) in let r = item_shorter level next (p, left) i in omega arith
 
     -- what was gathered is of all items
-    gathered_is : (o : Option (List Part × List ℕ)) (g : Gathered) (rest : List ℕ) → then_gathered level nothing_gathered o ≡ Some (g, rest) → over (node_of level) o ≡ Some (gathered_node g, rest)
+    gathered_is : (o : Option (List Part × List ℕ)) (g : Gathered) (rest : List ℕ) → then_gathered level nothing_gathered o ≡ Some (g, rest) →
+        over (node_of level) o ≡ Some (gathered_node g, rest)
     gathered_is None g rest e = absurd (let k = e in cc)
     gathered_is (Some x) g rest e =
         let k : ◌≡◌ {A = Gathered × List ℕ} (gather_all nothing_gathered (map (clause_of level) x.0), x.1) (g, rest) = same_Some _ _ e in
-        let n : node_of level x.0 ≡ gathered_node g = sym (gathered_node-all (map (clause_of level) x.0)) ∙ ap (λ (p : Gathered × List ℕ). gathered_node p.0) k in
+        let n : node_of level x.0 ≡ gathered_node g = sym (gathered_node-all (map (clause_of level) x.0)) ∙ ap (λ (p : Gathered × List ℕ). gathered_node p.0)
+        k in
         ap (λ (m : Meaning). Some (m, x.1)) n ∙ ap (λ (p : Gathered × List ℕ). Some (gathered_node g, p.1)) k
 
     -- nothing gathered is nothing read
@@ -265,23 +293,30 @@ module _ (schema : List Field) (depth : ℕ) where
     gathered_none view (Some x) e = absurd (let k = e in cc)
 
     -- no other item
-    pub Goes-last : (n : ℕ) (first : Part) (text rest : List ℕ) (g : Gathered) (m : Meaning) → None ≡ separator_of level rest → Goes g rest (total_of n first text) → m ≡ gathered_node g → over (node_of level) (onto first (following n level unit text)) ≡ Some (m, rest)
+    pub Goes-last : (n : ℕ) (first : Part) (text rest : List ℕ) (g : Gathered) (m : Meaning) → None ≡ separator_of level rest →
+        Goes g rest (total_of n first text) → m ≡ gathered_node g → over (node_of level) (onto first (following n level unit text)) ≡ Some (m, rest)
     Goes-last n first text rest g m e goes k =
-        gathered_is (onto first (following n level unit text)) g rest (sym goes.whole ∙ ap (then_gathered level g) (following_last goes.most rest e)) ∙ ap (λ (x : Meaning). Some (x, rest)) (sym k)
+        gathered_is (onto first (following n level unit text)) g rest (sym goes.whole ∙ ap (then_gathered level g) (following_last goes.most rest e))
+        ∙ ap (λ (x : Meaning). Some (x, rest)) (sym k)
 
     -- an item that is not there, by how many may follow
-    fail_step : (m : ℕ) (g : Gathered) (rest next : List ℕ) (total : Option (Gathered × List ℕ)) → length rest ≤ m → then_gathered level g (following m level unit rest) ≡ total → Some next ≡ separator_of level rest → item_of level unit next ≡ None → total ≡ None
+    fail_step : (m : ℕ) (g : Gathered) (rest next : List ℕ) (total : Option (Gathered × List ℕ)) → length rest ≤ m →
+        then_gathered level g (following m level unit rest) ≡ total → Some next ≡ separator_of level rest → item_of level unit next ≡ None → total ≡ None
     fail_step zero g rest next total l w e i = absurd (let s = separator_shorter level rest next (sym e) in omega arith)
     fail_step (suc m) g rest next total l w e i = sym w ∙ ap (then_gathered level g) (following_next (suc m) rest next e ∙ seq_by-none m next i)
 
     -- an item that is not there
-    pub Goes-fails : (error : ParseError) (n : ℕ) (first : Part) (text rest next : List ℕ) (g : Gathered) → Some next ≡ separator_of level rest → Misses error (item_of level unit next) → Goes g rest (total_of n first text) → Misses error (over (node_of level) (onto first (following n level unit text)))
+    pub Goes-fails : (error : ParseError) (n : ℕ) (first : Part) (text rest next : List ℕ) (g : Gathered) → Some next ≡ separator_of level rest →
+        Misses error (item_of level unit next) → Goes g rest (total_of n first text) →
+        Misses error (over (node_of level) (onto first (following n level unit text)))
     Goes-fails Memory n first text rest next g e i goes = tt
     Goes-fails (Syntax left) n first text rest next g e i goes =
-        gathered_none (node_of level) (onto first (following n level unit text)) (fail_step goes.most g rest next (total_of n first text) goes.enough goes.whole e i)
+        gathered_none (node_of level) (onto first (following n level unit text)) (fail_step goes.most g rest next (total_of n first text) goes.enough goes.whole
+        e i)
 
     -- a sequence of one item
-    pub sequence_lone : (s rest : List ℕ) (p : Part) → item_of level unit s ≡ Some (p, rest) → None ≡ separator_of level rest → sequence_of level unit s ≡ Some (p, rest)
+    pub sequence_lone : (s rest : List ℕ) (p : Part) → item_of level unit s ≡ Some (p, rest) → None ≡ separator_of level rest →
+        sequence_of level unit s ≡ Some (p, rest)
     unfolding sequence_by
     sequence_lone s rest p e f = ap (over (joined level)) (seq_by-item (length s) s rest p e ∙ ap (onto p) (following_last (length s) rest f))
 
@@ -303,7 +338,9 @@ module _ (schema : List Field) (depth : ℕ) where
         cc
 
     -- two items or more are joined to a node
-    joined_several : (p : Part) (o : Option (List Part × List ℕ)) (next : List ℕ) (n : ℕ) (m : Meaning) (rest : List ℕ) → seq_by n (separator_of level) (item_of level unit) next ≡ o → over (node_of level) (onto p o) ≡ Some (m, rest) → over (joined level) (onto p o) ≡ Some (several m, rest)
+    joined_several : (p : Part) (o : Option (List Part × List ℕ)) (next : List ℕ) (n : ℕ) (m : Meaning) (rest : List ℕ) →
+        seq_by n (separator_of level) (item_of level unit) next ≡ o → over (node_of level) (onto p o) ≡ Some (m, rest) →
+        over (joined level) (onto p o) ≡ Some (several m, rest)
     joined_several p None next n m rest e h = absurd (let k = h in cc)
     joined_several p (Some ([], t)) next n m rest e h = absurd (nonempty n next t e)
     joined_several p (Some (q ∷ ps, t)) next n m rest e h =
@@ -311,10 +348,12 @@ module _ (schema : List Field) (depth : ℕ) where
         ap (λ (x : Meaning × List ℕ). Some (several x.0, x.1)) k
 
     -- a sequence of several items
-    pub sequence_several : (s rest next left : List ℕ) (p : Part) (m : Meaning) → item_of level unit s ≡ Some (p, rest) → Some next ≡ separator_of level rest → over (node_of level) (onto p (following (length s) level unit rest)) ≡ Some (m, left) → sequence_of level unit s ≡ Some (several m, left)
+    pub sequence_several : (s rest next left : List ℕ) (p : Part) (m : Meaning) → item_of level unit s ≡ Some (p, rest) → Some next ≡ separator_of level rest →
+        over (node_of level) (onto p (following (length s) level unit rest)) ≡ Some (m, left) → sequence_of level unit s ≡ Some (several m, left)
     unfolding sequence_by
     sequence_several s rest next left p m e f h =
-        let k : following (length s) level unit rest ≡ seq_by (length s) (separator_of level) (item_of level unit) next = following_next (length s) rest next f in
+        let k : following (length s) level unit rest ≡ seq_by (length s) (separator_of level) (item_of level unit) next =
+        following_next (length s) rest next f in
         ap (over (joined level)) (seq_by-item (length s) s rest p e) ∙ joined_several p (following (length s) level unit rest) next (length s) m left (sym k) h
 
     -- nothing read shows nothing
@@ -323,14 +362,17 @@ module _ (schema : List Field) (depth : ℕ) where
     none_onto view other (Some x) e = absurd (let k = e in cc)
 
     -- no sequence where a later item is not there
-    pub sequence_stops : (error : ParseError) (s rest : List ℕ) (p : Part) → item_of level unit s ≡ Some (p, rest) → Misses error (over (node_of level) (onto p (following (length s) level unit rest))) → Misses error (sequence_of level unit s)
+    pub sequence_stops : (error : ParseError) (s rest : List ℕ) (p : Part) → item_of level unit s ≡ Some (p, rest) →
+        Misses error (over (node_of level) (onto p (following (length s) level unit rest))) → Misses error (sequence_of level unit s)
     unfolding sequence_by
     sequence_stops Memory s rest p e h = tt
     sequence_stops (Syntax left) s rest p e h =
-        ap (over (joined level)) (seq_by-item (length s) s rest p e) ∙ none_onto (node_of level) (joined level) (onto p (following (length s) level unit rest)) h
+        ap (over (joined level)) (seq_by-item (length s) s rest p e) ∙ none_onto (node_of level) (joined level) (onto p (following (length s) level unit rest))
+        h
 
   -- a list, from its first item on
-  pub meaning_of-first : (s rest : List ℕ) (p : Part) → item_of levels.List unit s ≡ Some (p, rest) → meaning_of unit s ≡ over (node_of levels.List) (onto p (following (length s) levels.List unit rest))
+  pub meaning_of-first : (s rest : List ℕ) (p : Part) → item_of levels.List unit s ≡ Some (p, rest) →
+      meaning_of unit s ≡ over (node_of levels.List) (onto p (following (length s) levels.List unit rest))
   meaning_of-first s rest p e = meaning_of-items unit s ∙ ap (over (node_of levels.List)) (seq_by-item levels.List (length s) s rest p e)
 
   -- no list without a first item

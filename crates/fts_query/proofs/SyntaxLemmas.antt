@@ -26,28 +26,45 @@ module _ (s t : List Field) where
 
     conjunction_of_another : {w : List ℕ} {fs : List Factor} → IsConjunction s w fs → (gs : List Factor) × IsConjunction t w gs
     conjunction_of_another (Grammar.one f) = let g = factor_of_another f in (g.0 ∷ [], Grammar.one g.1)
-    conjunction_of_another (Grammar.both x w y f o fs) = let g = factor_of_another f in let gs = conjunction_of_another fs in (g.0 ∷ gs.0, Grammar.both x w y g.1 o gs.1)
+    conjunction_of_another (Grammar.both x w y f o fs) = let g = factor_of_another f in let gs = conjunction_of_another fs in
+        (g.0 ∷ gs.0, Grammar.both x w y g.1 o gs.1)
 
     disjunction_of_another : {w : List ℕ} {cs : List (List Factor)} → IsDisjunction s w cs → (ds : List (List Factor)) × IsDisjunction t w ds
     disjunction_of_another (Grammar.conjunction c) = let d = conjunction_of_another c in (d.0 ∷ [], Grammar.conjunction d.1)
-    disjunction_of_another (Grammar.either x w y c o cs) = let d = conjunction_of_another c in let ds = disjunction_of_another cs in (d.0 ∷ ds.0, Grammar.either x w y d.1 o ds.1)
+    disjunction_of_another (Grammar.either x w y c o cs) = let d = conjunction_of_another c in let ds = disjunction_of_another cs in
+        (d.0 ∷ ds.0, Grammar.either x w y d.1 o ds.1)
 
     list_of_another : {w : List ℕ} {cs : List (List (List Factor))} → IsList s w cs → (ds : List (List (List Factor))) × IsList t w ds
     list_of_another (Grammar.single c) = let d = disjunction_of_another c in (d.0 ∷ [], Grammar.single d.1)
-    list_of_another (Grammar.several x w y c o cs) = let d = disjunction_of_another c in let ds = list_of_another cs in (d.0 ∷ ds.0, Grammar.several x w y d.1 o ds.1)
+    list_of_another (Grammar.several x w y c o cs) = let d = disjunction_of_another c in let ds = list_of_another cs in
+        (d.0 ∷ ds.0, Grammar.several x w y d.1 o ds.1)
 
   -- a query of one schema is one of another
   query_of_another : {text : List ℕ} {m : Meaning} → IsQuery s text m → (n : Meaning) × IsQuery t text n
   query_of_another q =
-      let k = list_of_another q.list in
-      (list_meaning k.0, record { before = q.before; inner = q.inner; after = q.after; disjunctions = k.0; parts = q.parts; blank_before = q.blank_before; list = k.1; blank_after = q.blank_after; means = refl })
+      let k = list_of_another q.list in (
+        list_meaning k.0,
+        record {
+          before = q.before;
+          inner = q.inner;
+          after = q.after;
+          disjunctions = k.0;
+          parts = q.parts;
+          blank_before =
+              q.blank_before;
+          list = k.1;
+          blank_after = q.blank_after;
+          means = refl;
+        },
+      )
 
 -- a syntax error under one schema is one under another
 syntax_of_another : (s t : List Field) (text : List ℕ) (byte : ℕ) → Reads s text (Err (Syntax byte)) → Reads t text (Err (Syntax byte))
 syntax_of_another s t text byte h = (h.0, h.1, λ m q. let k = query_of_another t s q in h.2 k.0 k.1)
 
 -- what reads as anything else is no syntax error
-told_none : (schema : List Field) (text : List ℕ) (x : Result QueryValue Refusal) → (without_byte x ≡ Err (Syntax 0) → ⊥) → Reads schema text x → TellsSyntax text None
+told_none : (schema : List Field) (text : List ℕ) (x : Result QueryValue Refusal) → (without_byte x ≡ Err (Syntax 0) → ⊥) → Reads schema text x →
+    TellsSyntax text None
 told_none schema text x other h = λ s byte k. other (one_outcome schema text x (Err (Syntax byte)) h (syntax_of_another s schema text byte k))
 
 -- a query is none
@@ -55,7 +72,8 @@ pub told_query : (schema : List Field) (text : List ℕ) (q : QueryValue) → Re
 told_query schema text q h = told_none schema text (Ok q) (λ k. absurd (let e = k in cc)) h
 
 -- a refusal is told by its byte
-told_refusal : (schema : List Field) (text : List ℕ) (e : Refusal) → (e ≡ Memory) ⊎ Reads schema text (Err e) → byte_of e ≤ length text → (at : Option ℕ) → IsByteOf e at → TellsSyntax text at
+told_refusal : (schema : List Field) (text : List ℕ) (e : Refusal) → (e ≡ Memory) ⊎ Reads schema text (Err e) → byte_of e ≤ length text → (at : Option ℕ) →
+    IsByteOf e at → TellsSyntax text at
 told_refusal schema text Memory h within at is = absurd is
 told_refusal schema text (Syntax byte) (inl k) within at is = absurd (let e = k in cc)
 told_refusal schema text (Syntax byte) (inr h) within at is = subst (TellsSyntax text) (sym is) (within, λ t. syntax_of_another schema t text byte h)
@@ -63,6 +81,7 @@ told_refusal schema text e (inl k) within at is = absurd (let g = k in cc)
 told_refusal schema text e (inr h) within at is = subst (TellsSyntax text) (sym is) (told_none schema text (Err e) (λ k. absurd (let g = k in cc)) h)
 
 -- what was told of a refusal
-pub told : {X : Type 0} (schema : List Field) (text : List ℕ) (e : Refusal) → (e ≡ Memory) ⊎ Reads schema text (Err e) → byte_of e ≤ length text → (r : Result (Option ℕ) X) → IfOk r (IsByteOf e) → IfOk r (TellsSyntax text)
+pub told : {X : Type 0} (schema : List Field) (text : List ℕ) (e : Refusal) → (e ≡ Memory) ⊎ Reads schema text (Err e) → byte_of e ≤ length text →
+    (r : Result (Option ℕ) X) → IfOk r (IsByteOf e) → IfOk r (TellsSyntax text)
 told schema text e h within (Ok at) is = told_refusal schema text e h within at is
 told schema text e h within (Err x) is = tt

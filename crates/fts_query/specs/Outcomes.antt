@@ -58,7 +58,8 @@ abbrev pub byte_of : Refusal → ℕ
 byte_of (Syntax byte) = byte
 byte_of refusal = 0
 
--- what a refusal tells of a byte: a syntax error has one, any other has none, and of what had no memory nothing is known
+-- what a refusal tells of a byte: a syntax error has one, any other has none, and of what had no memory nothing is
+-- known
 abbrev pub IsByteOf : Refusal → Option ℕ → Type 0
 IsByteOf Memory at = ⊥
 IsByteOf (Syntax byte) at = at ≡ Some byte

@@ -32,8 +32,8 @@ fn byte_in(refusal: Refusal) -> Result<Option<usize>, AllocError>
     }
 }
 
-/// The byte of a `Syntax`, as [`parse`] tells it: how far a text could be read that isn't in the grammar. Any other text
-/// has none, be it a query or refused for something else. It is the same under each schema.
+/// The byte of a `Syntax`, as [`parse`] tells it: how far a text could be read that isn't in the grammar. Any other
+/// text has none, be it a query or refused for something else. It is the same under each schema.
 pub fn syntax_at(alloc: Global, text: &str) -> Result<Option<usize>, AllocError>
     ensures { IfOk result (TellsSyntax text.now) }
 {

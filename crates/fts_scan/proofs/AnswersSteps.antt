@@ -32,7 +32,8 @@ groups_in-more field hits hit = filter_map-more (λ (h : Stamped DocumentValue).
 pub put_hit-insert : (order : Order) (hits : List Hit) (hit : Hit) → put_hit order hits hit ≡ insert hits (hit_place order hits hit) hit
 put_hit-insert order [] hit = refl
 put_hit-insert order (other ∷ others) hit =
-    elim (comes_before order hit other) as (λ b. cond b (hit ∷ other ∷ others) (other ∷ put_hit order others hit) ≡ insert (other ∷ others) (cond b 0 (suc (hit_place order others hit))) hit)
+    elim (comes_before order hit other) as (λ b. cond b (hit ∷ other ∷ others) (other ∷ put_hit order others hit) ≡ insert (other ∷ others)
+    (cond b 0 (suc (hit_place order others hit))) hit)
     [ true ↦ refl | false ↦ ap (λ xs. other ∷ xs) (put_hit-insert order others hit) ]
 
 -- a hit's place is in the list or right behind it
@@ -75,7 +76,8 @@ pub take-put_hit : (k : ℕ) (order : Order) (hits : List Hit) (hit : Hit) → t
 take-put_hit zero order hits hit = refl
 take-put_hit (suc k) order [] hit = refl
 take-put_hit (suc k) order (other ∷ others) hit =
-    elim (comes_before order hit other) as (λ b. take (suc k) (cond b (hit ∷ other ∷ others) (other ∷ put_hit order others hit)) ≡ take (suc k) (cond b (hit ∷ other ∷ take k others) (other ∷ put_hit order (take k others) hit)))
+    elim (comes_before order hit other) as (λ b. take (suc k) (cond b (hit ∷ other ∷ others) (other ∷ put_hit order others hit)) ≡ take (suc k)
+    (cond b (hit ∷ other ∷ take k others) (other ∷ put_hit order (take k others) hit)))
     [ true ↦ ap (λ hs. hit ∷ hs) (take-behind k other others) | false ↦ ap (λ hs. other ∷ hs) (take-put_hit k order others hit) ]
 
 -- a top list with one more hit
@@ -84,5 +86,6 @@ pub top-more : (k : ℕ) (order : Order) (field : ℕ) (hits : List (Stamped Doc
 top-more k order field hits hit =
     ap (λ hs. take k (fold (put_hit order) [] hs)) (filter_map-more (hit_in field) hits hit)
     ∙ ap (take k) (fold-append (put_hit order) [] (hits_in field hits) (option_to_list (hit_in field hit)))
-    ∙ elim (hit_in field hit) as (λ o. take k (fold (put_hit order) (sorted_hits order field hits) (option_to_list o)) ≡ fold (λ hs h. take k (put_hit order hs h)) (top k order field hits) (option_to_list o))
+    ∙ elim (hit_in field hit) as (λ o. take k (fold (put_hit order) (sorted_hits order field hits) (option_to_list o))
+    ≡ fold (λ hs h. take k (put_hit order hs h)) (top k order field hits) (option_to_list o))
     [ None ↦ refl | Some h ↦ take-put_hit k order (sorted_hits order field hits) h ]

@@ -1,5 +1,6 @@
 -- The top list, and that there is but one.
-use Rattle.std.proofs.Common.{◌≡◌, ◌≢◌, ℕ, ◌<◌, ◌≤◌, ◌==◌, nat_lt, min, Bool, true, false, cond, ◌⊎◌, inl, inr, ⊎_elim, List, [], ◌∷◌, ◌++◌, length, take, Option, Some, None, refl, sym, ap, subst, ◌∙◌, arith, append_assoc, append-nil, All, AllPairs, Contains, get_or, fold, option_map}
+use Rattle.std.proofs.Common.{◌≡◌, ◌≢◌, ℕ, ◌<◌, ◌≤◌, ◌==◌, nat_lt, min, Bool, true, false, cond, ◌⊎◌, inl, inr, ⊎_elim, List, [], ◌∷◌, ◌++◌, length, take}
+use Rattle.std.proofs.Common.{Option, Some, None, refl, sym, ap, subst, ◌∙◌, arith, append_assoc, append-nil, All, AllPairs, Contains, get_or, fold, option_map}
 use Rattle.std.specs.Cmp.{IsTotalOrder}
 use Rattle.std.specs.FinMap.{nat_cmp-IsAntisymmetric}
 use Rattle.std.specs.List.{cons_option, list_any}
@@ -12,7 +13,8 @@ use Rattle.std.proofs.lemmas.Cmp.{nat_cmp_total, then_total, on_total, back_tota
 use Rattle.std.proofs.lemmas.List.{length-take, get_or-take, get_or_default}
 use Rattle.std.proofs.lemmas.List.Elements.{All-nil, All-cons, All-head, All-tail, All-contains_itself}
 use Rattle.std.proofs.lemmas.List.Kept.{AllPairs-cons}
-use Rattle.std.proofs.lemmas.List.Sorted.{IsPermutation-refl, IsPermutation-insert, IsPermutation-push_more, All-permutation, Contains-permutation, length_permutation}
+use Rattle.std.proofs.lemmas.List.Sorted.{IsPermutation-refl, IsPermutation-insert, IsPermutation-push_more, All-permutation, Contains-permutation}
+use Rattle.std.proofs.lemmas.List.Sorted.{length_permutation}
 use Rattle.std.specs.List.Sorted.{IsPermutation}
 use Rattle.fts_model.specs.declared.value.Number.{Number}
 use Rattle.fts_model.specs.declared.operation.Stamped.{Stamped}
@@ -125,10 +127,12 @@ put_at order other others hit true e sorted apart rest =
     (All-cons (Before order hit) other others e (λ k d lt. Before-trans order hit other (get_or others k d) e (front k d lt))) sorted
 put_at order other others hit false e sorted apart rest =
     AllPairs-cons (Before order) other (put_hit order others hit)
-    (All-put_hit (Before order other) order others hit (Before-else order hit other (λ same. apart (sym same)) e) (pairs_front (Before order) other others sorted)) rest
+    (All-put_hit (Before order other) order others hit (Before-else order hit other (λ same. apart (sym same)) e)
+    (pairs_front (Before order) other others sorted)) rest
 
 -- hits in order stay so with one more
-sorted-put_hit : (order : Order) (hits : List Hit) (hit : Hit) → AllPairs (Before order) hits → All (λ g. Apart g hit) hits → AllPairs (Before order) (put_hit order hits hit)
+sorted-put_hit : (order : Order) (hits : List Hit) (hit : Hit) → AllPairs (Before order) hits → All (λ g. Apart g hit) hits →
+    AllPairs (Before order) (put_hit order hits hit)
 sorted-put_hit order [] hit sorted apart = AllPairs-cons (Before order) hit [] (All-nil (Before order hit)) (pairs_none (Before order))
 sorted-put_hit order (other ∷ others) hit sorted apart =
     put_at order other others hit (comes_before order hit other) refl sorted (All-head (λ g. Apart g hit) other others apart)
@@ -141,7 +145,8 @@ sorted-fold order done [] sorted apart once = sorted
 sorted-fold order done (hit ∷ rest) sorted apart once =
     sorted-fold order (put_hit order done hit) rest
     (sorted-put_hit order done hit sorted (λ k d lt. All-head (Apart (get_or done k d)) hit rest (apart k d lt)))
-    (All-put_hit (λ g. All (Apart g) rest) order done hit (pairs_front Apart hit rest once) (λ k d lt. All-tail (Apart (get_or done k d)) hit rest (apart k d lt)))
+    (All-put_hit (λ g. All (Apart g) rest) order done hit (pairs_front Apart hit rest once) (λ k d lt. All-tail (Apart (get_or done k d)) hit rest
+    (apart k d lt)))
     (pairs_behind Apart hit rest once)
 
 -- what holds of a stamp and of hits' stamps holds with the document of that stamp, if it has a number
@@ -154,7 +159,8 @@ All-with P (Some n) d rest p ps = All-cons (λ (h : Hit). P h.stamp) (record { s
 All-hits_in : (P : ℕ → Type 0) (field : ℕ) (hits : List (Stamped DocumentValue)) → All (λ d. P d.stamp) hits → All (λ (h : Hit). P h.stamp) (hits_in field hits)
 All-hits_in P field [] ps = All-nil (λ (h : Hit). P h.stamp)
 All-hits_in P field (d ∷ ds) ps =
-    All-with P (number_in_field d.value field) d (hits_in field ds) (All-head (λ d. P d.stamp) d ds ps) (All-hits_in P field ds (All-tail (λ d. P d.stamp) d ds ps))
+    All-with P (number_in_field d.value field) d (hits_in field ds) (All-head (λ d. P d.stamp) d ds ps)
+    (All-hits_in P field ds (All-tail (λ d. P d.stamp) d ds ps))
 
 -- no stamp stands twice with a document of another, if it has a number
 once-with : (o : Option Number) (d : Stamped DocumentValue) (rest : List Hit) → All (λ (h : Hit). d.stamp ≢ h.stamp) rest → AllPairs Apart rest →
@@ -183,7 +189,8 @@ moved-fold order before done [] p =
 moved-fold order before done (hit ∷ rest) p =
     let P : List Hit → Type 0 = λ hs. IsPermutation hs (fold (put_hit order) (put_hit order done hit) rest) in
     subst P (append_assoc before (hit ∷ []) rest)
-    (moved-fold order (before ++ hit ∷ []) (put_hit order done hit) rest (IsPermutation-push_more before done (put_hit order done hit) hit p (moved-put_hit order done hit)))
+    (moved-fold order (before ++ hit ∷ []) (put_hit order done hit) rest (IsPermutation-push_more before done (put_hit order done hit) hit p
+    (moved-put_hit order done hit)))
 
 -- the first k come before all others
 first_ones : (order : Order) (k : ℕ) (all : List Hit) (other : Hit) → AllPairs (Before order) all → Contains all other → ¬ Contains (take k all) other →
@@ -200,12 +207,14 @@ first_ones order k all other sorted at out =
     (cases_lt at.0 k)
 
 -- the top list is one
-pub top-IsTop : (k : ℕ) (order : Order) (field : ℕ) (hits : List (Stamped DocumentValue)) → HasEachStampOnce hits → IsTop k order field hits (top k order field hits)
+pub top-IsTop : (k : ℕ) (order : Order) (field : ℕ) (hits : List (Stamped DocumentValue)) → HasEachStampOnce hits →
+    IsTop k order field hits (top k order field hits)
 top-IsTop k order field hits once =
     let found = hits_in field hits in
     let all = sorted_hits order field hits in
     let moved : IsPermutation found all = moved-fold order [] [] found (IsPermutation-refl []) in
-    let sorted : AllPairs (Before order) all = sorted-fold order [] found (pairs_none (Before order)) (All-nil (λ g. All (Apart g) found)) (once-hits_in field hits once) in
+    let sorted : AllPairs (Before order) all =
+    sorted-fold order [] found (pairs_none (Before order)) (All-nil (λ g. All (Apart g) found)) (once-hits_in field hits once) in
     let among : All (Contains found) all = All-permutation (Contains found) found all moved (All-contains_itself found) in
     record {
       long = length-take k all ∙ ap (min k) (length_permutation found all moved);
@@ -243,7 +252,8 @@ same_head : (order : Order) (x y : Hit) (xs ys : List Hit) → AllPairs (Before 
     IsInOrBehind order (y ∷ ys) x → IsInOrBehind order (x ∷ xs) y → x ≡ y
 same_head order x y xs ys p q h l =
     ⊎_elim (λ (same : y ≡ x). sym same)
-    (λ (up : Before order y x). ⊎_elim (λ (same : x ≡ y). same) (λ (down : Before order x y). absurd (Before-one_way order x y down up)) (head_of order y x xs p l))
+    (λ (up : Before order y x). ⊎_elim (λ (same : x ≡ y). same) (λ (down : Before order x y). absurd (Before-one_way order x y down up))
+    (head_of order y x xs p l))
     (head_of order x y ys q h)
 
 -- what comes behind the first member is behind it in the list, or behind all
@@ -278,8 +288,10 @@ same_hit all a b once x y e =
     ⊎_elim
     (λ (same : x.0 ≡ y.0). sym x.2 ∙ ap (λ k. get_or all k a) same ∙ get_or_default all y.0 a b y.1 ∙ y.2)
     (⊎_elim
-    (λ (up : x.0 < y.0). absurd (once x.0 y.0 a up y.1 (ap (λ (h : Hit). h.stamp) x.2 ∙ e ∙ ap (λ (h : Hit). h.stamp) (sym y.2 ∙ get_or_default all y.0 b a y.1))))
-    (λ (down : y.0 < x.0). absurd (once y.0 x.0 b down x.1 (ap (λ (h : Hit). h.stamp) y.2 ∙ sym e ∙ ap (λ (h : Hit). h.stamp) (sym x.2 ∙ get_or_default all x.0 a b x.1)))))
+    (λ (up : x.0 < y.0). absurd
+    (once x.0 y.0 a up y.1 (ap (λ (h : Hit). h.stamp) x.2 ∙ e ∙ ap (λ (h : Hit). h.stamp) (sym y.2 ∙ get_or_default all y.0 b a y.1))))
+    (λ (down : y.0 < x.0). absurd
+    (once y.0 x.0 b down x.1 (ap (λ (h : Hit). h.stamp) y.2 ∙ sym e ∙ ap (λ (h : Hit). h.stamp) (sym x.2 ∙ get_or_default all x.0 a b x.1)))))
     (cases_order x.0 y.0)
 
 -- each hit is in a top list or behind it

@@ -1,5 +1,6 @@
 -- Values that are counted in an order: each as often as it comes, and there is but one list of such counts.
-use Rattle.std.proofs.Common.{◌≡◌, ℕ, ◌+◌, ◌<◌, Bool, true, false, cond, List, [], ◌∷◌, length, refl, sym, ap, subst, ◌∙◌, ⊎_elim, arith, All, AllPairs, Contains, fold, count_by}
+use Rattle.std.proofs.Common.{◌≡◌, ℕ, ◌+◌, ◌<◌, Bool, true, false, cond, List, [], ◌∷◌, length, refl, sym, ap, subst, ◌∙◌, ⊎_elim, arith, All, AllPairs}
+use Rattle.std.proofs.Common.{Contains, fold, count_by}
 use Rattle.std.specs.Cmp.{IsTotalOrder}
 use Rattle.std.specs.FinMap.{IsAntisymmetric, nat_cmp-IsAntisymmetric}
 use Rattle.std.specs.Ordering.{match_ordering, is_eq, nat_cmp, ordering_reverse}
@@ -119,7 +120,8 @@ module _ {V : Type 0} {cmp : V → V → Ordering} (order : IsOneOrder cmp) wher
       omega (arith, here, count_in-none others n (All-tail P group others above))
 
   -- the value of the first group has that group's hits
-  count_in-here : (group : V × ℕ) (others : List (V × ℕ)) (n : V) → n ≡ group.0 → AllPairs (Below cmp) (group ∷ others) → count_in cmp (group ∷ others) n ≡ group.1
+  count_in-here : (group : V × ℕ) (others : List (V × ℕ)) (n : V) → n ≡ group.0 → AllPairs (Below cmp) (group ∷ others) →
+      count_in cmp (group ∷ others) n ≡ group.1
   count_in-here group others n same rising =
       let equal : cmp n group.0 ≡ Equal = ap (λ x. cmp x group.0) same ∙ tied_itself order.total group.0 in
       let here = ap {B = ℕ} (λ o. cond (is_eq o) group.1 0) equal in
@@ -141,7 +143,8 @@ module _ {V : Type 0} {cmp : V → V → Ordering} (order : IsOneOrder cmp) wher
 
   -- a value with hits has a group, however it stands to the first group's
   there_at : (o : Ordering) (group : V × ℕ) (others : List (V × ℕ)) (n : V) → cmp n group.0 ≡ o → AllPairs (Below cmp) (group ∷ others) →
-      (0 < count_in cmp others n → Contains others (n, count_in cmp others n)) → 0 < count_in cmp (group ∷ others) n → Contains (group ∷ others) (n, count_in cmp (group ∷ others) n)
+      (0 < count_in cmp others n → Contains others (n, count_in cmp others n)) → 0 < count_in cmp (group ∷ others) n →
+      Contains (group ∷ others) (n, count_in cmp (group ∷ others) n)
   there_at Less group others n e rising rest some =
       let same : count_in cmp (group ∷ others) n ≡ count_in cmp others n = ap (λ o. cond (is_eq o) group.1 0 + count_in cmp others n) e ∙ omega arith in
       let P : ℕ → Type 0 = λ count. Contains (group ∷ others) (n, count) in
@@ -166,7 +169,8 @@ module _ {V : Type 0} {cmp : V → V → Ordering} (order : IsOneOrder cmp) wher
   Below-one_way a b h l = let contra : Less ≡ Greater = sym l ∙ order_above a.0 b.0 h in cc
 
   -- a group of one list is one of another that counts alike
-  group_there : (xs ys : List (V × ℕ)) → AllPairs (Below cmp) xs → All (λ g. 0 < g.1) xs → AllPairs (Below cmp) ys → ((n : V) → count_in cmp xs n ≡ count_in cmp ys n) →
+  group_there : (xs ys : List (V × ℕ)) → AllPairs (Below cmp) xs → All (λ g. 0 < g.1) xs → AllPairs (Below cmp) ys →
+      ((n : V) → count_in cmp xs n ≡ count_in cmp ys n) →
       (group : V × ℕ) → Contains xs group → Contains ys group
   group_there xs ys rising positive up alike group at =
       let P : V × ℕ → Type 0 = λ g. 0 < g.1 in
@@ -185,7 +189,8 @@ module _ {V : Type 0} {cmp : V → V → Ordering} (order : IsOneOrder cmp) wher
   -- one more is counted, however the value stands to the first group's
   counted_more : (o : Ordering) (group : V × ℕ) (others : List (V × ℕ)) (n : V) →
       hits_counted (count_one cmp others n) ≡ hits_counted others + 1 →
-      hits_counted (match_ordering o ((n, 1) ∷ group ∷ others) ((group.0, group.1 + 1) ∷ others) (group ∷ count_one cmp others n)) ≡ group.1 + hits_counted others + 1
+      hits_counted (match_ordering o ((n, 1) ∷ group ∷ others) ((group.0, group.1 + 1) ∷ others) (group ∷ count_one cmp others n))
+      ≡ group.1 + hits_counted others + 1
   counted_more Less group others n e = omega arith
   counted_more Equal group others n e = omega arith
   counted_more Greater group others n e = omega (arith, e)

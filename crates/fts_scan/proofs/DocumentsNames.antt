@@ -1,5 +1,6 @@
--- The members of an object that is read are in the order of their names.
-use Rattle.std.proofs.Common.{◌≡◌, ℕ, List, [], ◌∷◌, Option, Some, None, refl, ap, subst, ◌∙◌, option_map, All, Ordering, Less, Equal, Greater, nat_cmp}
+-- The members of each object in what is read are in the order of their names.
+use Rattle.std.proofs.Common.{◌≡◌, ℕ, List, [], ◌∷◌, Option, Some, None, IfSome, refl, ap, subst, ◌∙◌, option_map, All, Ordering, Less, Equal, Greater, nat_cmp}
+use Rattle.std.specs.Prelude.{⊤}
 use Rattle.std.specs.Option.{option_and_then}
 use Rattle.std.specs.Ordering.{match_ordering, ordering_reverse}
 use Rattle.std.specs.Cmp.Lexicographic.{slice_cmp}
@@ -8,9 +9,10 @@ use Rattle.std.proofs.lemmas.List.Elements.{All-nil, All-cons, All-head, All-tai
 use Rattle.std.proofs.lemmas.List.Kept.{AllPairs-cons}
 use Rattle.json.specs.Json as json
 use Rattle.json.specs.Lex.{tokens}
-use Rattle.serde_json.specs.Data.{Num, Data, number, array, object, Items, Members, no_members, member, put}
+use Rattle.serde_json.specs.Data.{Data, number, array, object, item, Members, no_members, member, put}
 use Rattle.serde_json.specs.Read.{of_json, of_items, of_members, number_of, read, max_depth}
 use Rattle.fts_model.specs.Documents.{member_names, NamesRise}
+use Rattle.fts_scan.specs.Names.{NamesRiseWithin, NamesRiseInItems, NamesRiseInMembers}
 use Rattle.fts_model.proofs.Lists.{pairs_behind, pairs_front, pairs_none}
 
 -- one name stands before another
@@ -18,7 +20,8 @@ abbrev Before : List ℕ → List ℕ → Type 0
 Before a b = slice_cmp nat_cmp a b ≡ Less
 
 -- what holds of the names of members and of one more holds where that is put by its order to the first
-all_at : (P : List ℕ → Type 0) (o : Ordering) (k l : List ℕ) (d e : Data) (ms : Members) → P k → P l → All P (member_names ms) → All P (member_names (put k d ms)) →
+all_at : (P : List ℕ → Type 0) (o : Ordering) (k l : List ℕ) (d e : Data) (ms : Members) → P k → P l → All P (member_names ms) →
+    All P (member_names (put k d ms)) →
     All P (member_names (match_ordering o (member k d (member l e ms)) (member l d ms) (member l e (put k d ms))))
 all_at P Less k l d e ms p q rest later = All-cons P k (l ∷ member_names ms) p (All-cons P l (member_names ms) q rest)
 all_at P Equal k l d e ms p q rest later = All-cons P l (member_names ms) q rest
@@ -48,46 +51,61 @@ rise-put : (k : List ℕ) (d : Data) (ms : Members) → NamesRise ms → NamesRi
 rise-put k d no_members rise = AllPairs-cons Before k [] (All-nil (Before k)) (pairs_none Before)
 rise-put k d (member l e ms) rise = rise_at (slice_cmp nat_cmp k l) k l d e ms refl rise (rise-put k d ms (pairs_behind Before l (member_names ms) rise))
 
--- nothing is no value
-no_value : {X : Type 0} {A : Type 0} (x : X) → None ≡ Some x → A
-no_value x h = cc
+-- what holds of the names and the values of an object's members
+abbrev MembersRise : Members → Type 0
+MembersRise ms = NamesRise ms × NamesRiseInMembers ms
 
--- the names of what is read rise, where those of what was found before do
-members_rise : (js : json.Members) (found ms : Members) → NamesRise found → of_members js found ≡ Some ms → NamesRise ms
-members_rise json.no_members found ms rise h = let same : found ≡ ms = cc in subst NamesRise same rise
-members_rise (json.member k j js) found ms rise h =
-    (elim (of_json j) as (λ o. option_and_then (λ d. of_members js (put k d found)) o ≡ Some ms → NamesRise ms)
-    [ None ↦ λ e. no_value ms e | Some d ↦ λ e. members_rise js (put k d found) ms (rise-put k d found rise) e ]) h
+-- values of which it holds have it with one put among them
+values_at : (o : Ordering) (k l : List ℕ) (d e : Data) (ms : Members) → NamesRiseWithin d → NamesRiseInMembers (member l e ms) →
+    NamesRiseInMembers (put k d ms) →
+    NamesRiseInMembers (match_ordering o (member k d (member l e ms)) (member l d ms) (member l e (put k d ms)))
+values_at Less k l d e ms r rs later = (r, rs)
+values_at Equal k l d e ms r rs later = (r, rs.1)
+values_at Greater k l d e ms r rs later = (rs.0, later)
 
--- an object that is read has the names of its members
-object_rise : (o : Option Members) (ms : Members) → ((ns : Members) → o ≡ Some ns → NamesRise ns) → option_map object o ≡ Some (object ms) → NamesRise ms
-object_rise None ms rise h = cc
-object_rise (Some ns) ms rise h = let same : ns ≡ ms = cc in subst NamesRise same (rise ns refl)
+values-put : (k : List ℕ) (d : Data) (ms : Members) → NamesRiseWithin d → NamesRiseInMembers ms → NamesRiseInMembers (put k d ms)
+values-put k d no_members r rs = (r, tt)
+values-put k d (member l e ms) r rs = values_at (slice_cmp nat_cmp k l) k l d e ms r rs (values-put k d ms r rs.1)
 
--- a number is no object
-no_number : (o : Option Num) (ms : Members) → option_map number o ≡ Some (object ms) → NamesRise ms
-no_number None ms h = cc
-no_number (Some n) ms h = cc
+-- what holds of a value, if there is one, goes on to what is made of it
+mapped : {A B : Type 0} (f : A → B) (P : A → Type 0) (Q : B → Type 0) (o : Option A) → ((a : A) → P a → Q (f a)) → IfSome o P → IfSome (option_map f o) Q
+mapped f P Q None goes h = tt
+mapped f P Q (Some a) goes h = goes a h
 
--- an array is no object
-no_array : (o : Option Items) (ms : Members) → option_map array o ≡ Some (object ms) → NamesRise ms
-no_array None ms h = cc
-no_array (Some ds) ms h = cc
+bound : {A B : Type 0} (f : A → Option B) (P : A → Type 0) (Q : B → Type 0) (o : Option A) → ((a : A) → P a → IfSome (f a) Q) → IfSome o P →
+    IfSome (option_and_then f o) Q
+bound f P Q None goes h = tt
+bound f P Q (Some a) goes h = goes a h
 
--- the names of an object rise
-json_rises : (j : json.Json) (ms : Members) → of_json j ≡ Some (object ms) → NamesRise ms
-json_rises json.null ms h = cc
-json_rises (json.boolean b) ms h = cc
-json_rises (json.number s) ms h = no_number (number_of s) ms h
-json_rises (json.string s) ms h = cc
-json_rises (json.array js) ms h = no_array (of_items js) ms h
-json_rises (json.object js) ms h = object_rise (of_members js no_members) ms (λ ns e. members_rise js no_members ns (pairs_none Before) e) h
+any : {A : Type 0} (o : Option A) → IfSome o (λ a. ⊤)
+any None = tt
+any (Some a) = tt
 
--- the names of an object that a value is rise
-value_rises : (o : Option json.Json) (ms : Members) → option_and_then of_json o ≡ Some (object ms) → NamesRise ms
-value_rises None ms h = cc
-value_rises (Some j) ms h = json_rises j ms h
+-- the names rise in each object of what is read, where they do in the members that were found before
+mutual
+  json_rises : (j : json.Json) → IfSome (of_json j) NamesRiseWithin
+  json_rises json.null = tt
+  json_rises (json.boolean b) = tt
+  json_rises (json.number s) = mapped number (λ n. ⊤) NamesRiseWithin (number_of s) (λ n h. tt) (any (number_of s))
+  json_rises (json.string s) = tt
+  json_rises (json.array js) = mapped array NamesRiseInItems NamesRiseWithin (of_items js) (λ ds h. h) (items_rise js)
+  json_rises (json.object js) =
+      mapped object MembersRise NamesRiseWithin (of_members js no_members) (λ ms h. h) (members_rise js no_members (pairs_none Before, tt))
 
--- the names of an object that a text is read as rise
-pub read-NamesRise : (text : List ℕ) (ms : Members) → read text ≡ Some (object ms) → NamesRise ms
-read-NamesRise text ms h = value_rises (option_and_then (λ p. json.if_last p.0 p.1) (json.value max_depth (tokens text))) ms h
+  items_rise : (js : json.Items) → IfSome (of_items js) NamesRiseInItems
+  items_rise json.no_items = tt
+  items_rise (json.item j js) =
+      bound (λ d. option_map (item d) (of_items js)) NamesRiseWithin NamesRiseInItems (of_json j)
+      (λ d r. mapped (item d) NamesRiseInItems NamesRiseInItems (of_items js) (λ ds rs. (r, rs)) (items_rise js)) (json_rises j)
+
+  members_rise : (js : json.Members) (found : Members) → MembersRise found → IfSome (of_members js found) MembersRise
+  members_rise json.no_members found rise = rise
+  members_rise (json.member k j js) found rise =
+      bound (λ d. of_members js (put k d found)) NamesRiseWithin MembersRise (of_json j)
+      (λ d r. members_rise js (put k d found) (rise-put k d found rise.0, values-put k d found r rise.1)) (json_rises j)
+
+-- the names rise in each object of what a text is read as
+pub read-NamesRiseWithin : (text : List ℕ) (d : Data) → read text ≡ Some d → NamesRiseWithin d
+read-NamesRiseWithin text d h =
+    let tree = option_and_then (λ p. json.if_last p.0 p.1) (json.value max_depth (tokens text)) in
+    subst (λ o. IfSome o NamesRiseWithin) h (bound of_json (λ j. ⊤) NamesRiseWithin tree (λ j r. json_rises j) (any tree))

@@ -1,5 +1,6 @@
 -- Loops over the tokens of texts that look for one which passes a test.
-use Rattle.std.proofs.Common.{◌≡◌, ◌≤◌, ◌<◌, ◌^◌, ℕ, suc, ◌+◌, Bool, true, false, ◌||◌, List, [], ◌∷◌, length, map, drop, get_or, refl, sym, ap, subst, ◌∙◌, arith, All, Some, None}
+use Rattle.std.proofs.Common.{◌≡◌, ◌≤◌, ◌<◌, ◌^◌, ℕ, suc, ◌+◌, Bool, true, false, ◌||◌, List, [], ◌∷◌, length, map, drop, get_or, refl, sym, ap, subst, ◌∙◌}
+use Rattle.std.proofs.Common.{arith, All, Some, None}
 use Rattle.std.specs.List.{list_any}
 use Rattle.std.specs.Str.{IsUtf8}
 use Rattle.std.proofs.lemmas.List.{drop_all, drop_more}
@@ -21,7 +22,8 @@ pub record Seeks (first : ℕ) (text : List ℕ) (test : ℕ × List ℕ → Boo
   pub follows : following_left left ≡ following first text
 
 -- at first all places are left
-pub Seeks-start : (first : ℕ) (text : List ℕ) (test : ℕ × List ℕ → Bool) (left : Tokens) → IsUtf8 text → places_left left ≡ places_from first text → following_left left ≡ following first text →
+pub Seeks-start : (first : ℕ) (text : List ℕ) (test : ℕ × List ℕ → Bool) (left : Tokens) → IsUtf8 text → places_left left ≡ places_from first text →
+    following_left left ≡ following first text →
     Seeks first text test left
 Seeks-start first text test left utf8 start follows =
     let P : List Token → Type 0 = All (IsPlaceFrom first text) in
@@ -32,25 +34,29 @@ Seeks-start first text test left utf8 start follows =
     }
 
 -- the next place stands in the text
-pub Seeks-place : (first : ℕ) (text : List ℕ) (test : ℕ × List ℕ → Bool) (token : Token) (left rest : Tokens) → places_left left ≡ token ∷ places_left rest → Seeks first text test left →
+pub Seeks-place : (first : ℕ) (text : List ℕ) (test : ℕ × List ℕ → Bool) (token : Token) (left rest : Tokens) → places_left left ≡ token ∷ places_left rest →
+    Seeks first text test left →
     IsPlaceFrom first text token
 Seeks-place first text test token left rest next s =
     let P : List Token → Type 0 = All (IsPlaceFrom first text) in
     subst P next s.within 0 token (omega arith)
 
 -- a token passes where the next does, or one behind it
-any_of_first : (first : ℕ) (text : List ℕ) (test : ℕ × List ℕ → Bool) (token : Token) (left rest : Tokens) (b : Bool) → places_left left ≡ token ∷ places_left rest → test (token_at text token) ≡ b →
+any_of_first : (first : ℕ) (text : List ℕ) (test : ℕ × List ℕ → Bool) (token : Token) (left rest : Tokens) (b : Bool) →
+    places_left left ≡ token ∷ places_left rest → test (token_at text token) ≡ b →
     Seeks first text test left → (b || list_any test (map (token_at text) (places_left rest))) ≡ list_any test (tokens_from first text)
 any_of_first first text test token left rest b next e s =
     ap (λ b. b || list_any test (map (token_at text) (places_left rest))) (sym e) ∙ ap (λ ps. list_any test (map (token_at text) ps)) (sym next) ∙ s.passes
 
 -- where the next passes, one does
-pub Seeks-found : (first : ℕ) (text : List ℕ) (test : ℕ × List ℕ → Bool) (token : Token) (left rest : Tokens) → places_left left ≡ token ∷ places_left rest → test (token_at text token) ≡ true →
+pub Seeks-found : (first : ℕ) (text : List ℕ) (test : ℕ × List ℕ → Bool) (token : Token) (left rest : Tokens) → places_left left ≡ token ∷ places_left rest →
+    test (token_at text token) ≡ true →
     Seeks first text test left → list_any test (tokens_from first text) ≡ true
 Seeks-found first text test token left rest next e s = sym (any_of_first first text test token left rest true next e s)
 
 -- where it doesn't, one is sought behind it
-pub Seeks-next : (first : ℕ) (text : List ℕ) (test : ℕ × List ℕ → Bool) (token : Token) (left rest : Tokens) → places_left left ≡ token ∷ places_left rest → following_left rest ≡ following_left left →
+pub Seeks-next : (first : ℕ) (text : List ℕ) (test : ℕ × List ℕ → Bool) (token : Token) (left rest : Tokens) → places_left left ≡ token ∷ places_left rest →
+    following_left rest ≡ following_left left →
     test (token_at text token) ≡ false → Seeks first text test left → Seeks first text test rest
 Seeks-next first text test token left rest next same e s =
     let P : List Token → Type 0 = All (IsPlaceFrom first text) in
@@ -61,7 +67,8 @@ Seeks-next first text test token left rest next same e s =
     }
 
 -- where none is left, none passes
-pub Seeks-end : (first : ℕ) (text : List ℕ) (test : ℕ × List ℕ → Bool) (left : Tokens) → places_left left ≡ [] → Seeks first text test left → list_any test (tokens_from first text) ≡ false
+pub Seeks-end : (first : ℕ) (text : List ℕ) (test : ℕ × List ℕ → Bool) (left : Tokens) → places_left left ≡ [] → Seeks first text test left →
+    list_any test (tokens_from first text) ≡ false
 Seeks-end first text test left none s = sym s.passes ∙ ap (λ ps. list_any test (map (token_at text) ps)) none
 
 -- what is left of texts, from number `n` on, of which the next begins at `first`: a token passes the test where one of theirs
@@ -75,14 +82,16 @@ pub SeeksOn-start : (texts : List (List ℕ)) (test : ℕ × List ℕ → Bool) 
 SeeksOn-start texts test room = record { room = room; passes = refl }
 
 -- the next of them has room
-pub SeeksOn-room : (texts : List (List ℕ)) (test : ℕ × List ℕ → Bool) (n first : ℕ) → n < length texts → SeeksOn texts test n first → first + length (get_or texts n []) + 2 < 2 ^ 63
+pub SeeksOn-room : (texts : List (List ℕ)) (test : ℕ × List ℕ → Bool) (n first : ℕ) → n < length texts → SeeksOn texts test n first →
+    first + length (get_or texts n []) + 2 < 2 ^ 63
 SeeksOn-room texts test n first inside s =
     let here : HasRoom first (get_or texts n [] ∷ drop (n + 1) texts) = subst (HasRoom first) (drop_more texts n [] inside) s.room in
     omega (arith, here, sum_by-cons {X = List ℕ} length (get_or texts n []) (drop (n + 1) texts))
 
 -- a token passes where one of the next text does, or one of those behind it
 any_of_text : (texts : List (List ℕ)) (test : ℕ × List ℕ → Bool) (n first : ℕ) → n < length texts → SeeksOn texts test n first →
-    list_any test (tokens_from first (get_or texts n [])) || list_any test (tokens_of_texts (following first (get_or texts n [])) (drop (n + 1) texts)) ≡ list_any test (tokens_of_texts 0 texts)
+    list_any test (tokens_from first (get_or texts n [])) || list_any test (tokens_of_texts (following first (get_or texts n [])) (drop (n + 1) texts))
+    ≡ list_any test (tokens_of_texts 0 texts)
 any_of_text texts test n first inside s =
     sym (list_any-append test (tokens_from first (get_or texts n [])) (tokens_of_texts (following first (get_or texts n [])) (drop (n + 1) texts)))
     ∙ ap (λ ts. list_any test (tokens_of_texts first ts)) (sym (drop_more texts n [] inside)) ∙ s.passes
@@ -91,21 +100,25 @@ any_of_text texts test n first inside s =
 pub SeeksOn-found : (texts : List (List ℕ)) (test : ℕ × List ℕ → Bool) (n first : ℕ) → n < length texts → SeeksOn texts test n first →
     IsSought (list_any test (tokens_from first (get_or texts n []))) (following first (get_or texts n [])) None → true ≡ list_any test (tokens_of_texts 0 texts)
 SeeksOn-found texts test n first inside s found =
-    ap (λ b. b || list_any test (tokens_of_texts (following first (get_or texts n [])) (drop (n + 1) texts))) (sym found) ∙ any_of_text texts test n first inside s
+    ap (λ b. b || list_any test (tokens_of_texts (following first (get_or texts n [])) (drop (n + 1) texts))) (sym found)
+    ∙ any_of_text texts test n first inside s
 
 -- where none does, one is sought behind it
 pub SeeksOn-next : (texts : List (List ℕ)) (test : ℕ × List ℕ → Bool) (n first next : ℕ) → n < length texts → SeeksOn texts test n first →
-    IsSought (list_any test (tokens_from first (get_or texts n []))) (following first (get_or texts n [])) (Some next) → next ≤ first + length (get_or texts n []) + 1 → SeeksOn texts test (n + 1) next
+    IsSought (list_any test (tokens_from first (get_or texts n []))) (following first (get_or texts n [])) (Some next) →
+    next ≤ first + length (get_or texts n []) + 1 → SeeksOn texts test (n + 1) next
 SeeksOn-next texts test n first next inside s sought near =
     let here : HasRoom first (get_or texts n [] ∷ drop (n + 1) texts) = subst (HasRoom first) (drop_more texts n [] inside) s.room in
     record {
       room = omega (arith, here, near, sum_by-cons {X = List ℕ} length (get_or texts n []) (drop (n + 1) texts));
       passes = ap (λ m. list_any test (tokens_of_texts m (drop (n + 1) texts))) sought.1
-          ∙ ap (λ b. b || list_any test (tokens_of_texts (following first (get_or texts n [])) (drop (n + 1) texts))) (sym sought.0) ∙ any_of_text texts test n first inside s;
+          ∙ ap (λ b. b || list_any test (tokens_of_texts (following first (get_or texts n [])) (drop (n + 1) texts))) (sym sought.0)
+          ∙ any_of_text texts test n first inside s;
     }
 
 -- where no text is left, none passes
-pub SeeksOn-end : (texts : List (List ℕ)) (test : ℕ × List ℕ → Bool) (n first : ℕ) → length texts ≤ n → SeeksOn texts test n first → false ≡ list_any test (tokens_of_texts 0 texts)
+pub SeeksOn-end : (texts : List (List ℕ)) (test : ℕ × List ℕ → Bool) (n first : ℕ) → length texts ≤ n → SeeksOn texts test n first →
+    false ≡ list_any test (tokens_of_texts 0 texts)
 SeeksOn-end texts test n first past s = ap (λ ts. list_any test (tokens_of_texts first ts)) (sym (drop_all n texts past)) ∙ s.passes
 
 -- the texts of a document have room

@@ -1,5 +1,6 @@
 -- Where a phrase is in a text.
-use Rattle.std.proofs.Common.{◌≡◌, ◌↔◌, ℕ, ◌+◌, ◌==◌, ℤ, pos, ◌+ℤ◌, ◌-ℤ◌, Bool, true, ◌&&◌, List, [], ◌∷◌, refl, ap, subst, arith, All, Contains, IsTrue, bytes_eq}
+use Rattle.std.proofs.Common.{◌≡◌, ◌↔◌, ℕ, ◌+◌, ◌==◌, ℤ, pos, ◌+ℤ◌, ◌-ℤ◌, Bool, true, ◌&&◌, List, [], ◌∷◌, refl, ap, subst, arith, All, Contains, IsTrue}
+use Rattle.std.proofs.Common.{bytes_eq}
 use Rattle.std.specs.List.{list_any, list_all}
 use Rattle.std.proofs.lemmas.Bool.{and_parts, and_from, eqb-true, eq-eqb}
 use Rattle.std.proofs.lemmas.Int.{ints}
@@ -43,7 +44,8 @@ stands_from : (ts : List (ℕ × List ℕ)) (first other : ℕ × List ℕ) (pos
 stands_from ts first other position shift e at =
     let apart : at.0 + first.0 ≡ position + other.0 = omega (arith, ints, e, at.1) in
     found (λ t. (t.0 + first.0 == position + other.0) && bytes_eq t.1 other.1) ts (at.0, other.1) at.2
-    (and_from (at.0 + first.0 == position + other.0) (bytes_eq other.1 other.1) (eq-eqb (at.0 + first.0) (position + other.0) apart) ((bytes_eq-Decides other.1 other.1).1 refl))
+    (and_from (at.0 + first.0 == position + other.0) (bytes_eq other.1 other.1) (eq-eqb (at.0 + first.0) (position + other.0) apart)
+    ((bytes_eq-Decides other.1 other.1).1 refl))
 
 -- so do all such tokens
 all_from : (ts : List (ℕ × List ℕ)) (first : ℕ × List ℕ) (others : List (ℕ × List ℕ)) (position : ℕ) (shift : ℤ) → pos position ≡ shift +ℤ pos first.0 →
@@ -63,7 +65,8 @@ relation ts (first ∷ others) h =
     let both = and_parts (bytes_eq token.1 first.1) (list_all (stands_with ts first token) others) at.2 in
     let shift = pos token.0 -ℤ pos first.0 in
     let P : ℕ × List ℕ → Type 0 = Contains ts in
-    let here : StandsAt ts shift first = (token.0, omega (arith, ints), subst P (ap (λ bs. (token.0, bs)) ((bytes_eq-Decides token.1 first.1).0 both.0)) at.1) in
+    let here : StandsAt ts shift first =
+    (token.0, omega (arith, ints), subst P (ap (λ bs. (token.0, bs)) ((bytes_eq-Decides token.1 first.1).0 both.0)) at.1) in
     (shift, All-cons (StandsAt ts shift) first others here (all_stand ts first token others both.1))
 
 -- a phrase in the relation passes the test

@@ -117,7 +117,8 @@ module _ {V : Type 0} {cmp : V → V → Ordering} (order : IsOneOrder cmp) wher
       ))
 
   -- values that were sorted are counted in a row
-  pub counts-sorted : (same : V → V → Bool) → ((x y : V) → same x y ≡ is_eq (cmp x y)) → (values sorted : List V) → IsPermutation values sorted → IsSorted cmp sorted →
+  pub counts-sorted : (same : V → V → Bool) → ((x y : V) → same x y ≡ is_eq (cmp x y)) → (values sorted : List V) → IsPermutation values sorted →
+      IsSorted cmp sorted →
       counts_of_sorted same sorted ≡ fold (count_one cmp) [] values
   counts-sorted same alike values sorted is up =
       counts-fold same alike sorted (Rise-sorted sorted up) ∙ sym (counted-permuted values sorted is)

@@ -1,5 +1,5 @@
 //! What ties the definitions to each other: each contract is a law, and the body is empty.
-ghost use Rattle.serde_json.specs.Data.{Members, object};
+ghost use Rattle.serde_json.specs.Data.{Data};
 ghost use Rattle.serde_json.specs.Read.{read};
 ghost use Rattle.std.specs.Prelude.{◌≡◌, Some, ◌↔◌, ◌++◌, ◌<◌, ℕ, List, false, filter, All, Contains, IsTrue};
 ghost use Rattle.fts_model.specs.declared.schema.Field.{Field};
@@ -9,16 +9,16 @@ ghost use Rattle.fts_model.specs.declared.operation.Stamped.{Stamped};
 ghost use Rattle.fts_model.specs.Operations.{alive, adds, added, strikes, survives, HasEachStampOnce, StampsRise};
 ghost use Rattle.fts_model.specs.Queries.{phrase_in, PhraseIn};
 ghost use Rattle.fts_model.specs.Answers.{IsGroups, groups, IsTop, top};
-ghost use Rattle.fts_model.specs.Documents.{DocumentValue, NamesRise};
+ghost use Rattle.fts_model.specs.Documents.{DocumentValue};
+ghost use Rattle.fts_scan.specs.Names.{NamesRiseWithin};
 ghost use Rattle.fts_model.specs.declared.answer.Hit.{Hit};
 ghost use Rattle.fts_model.specs.declared.query.Order.{Order};
 ghost use Rattle.fts_model.specs.declared.value.GroupValue.{GroupValue};
 
-/// The members of an object that a text is read as are in the order of their names, so the first
-/// fault of a document is the first in that order.
+/// The members of each object in what a text is read as are in the order of their names, so the first fault of a
+/// document, also of one within a command, is the first in that order.
 pub fn members_stand_in_the_order_of_their_names()
-    ensures { (text : List ℕ) (members : Members) → read text ≡ Some (object members) →
-        NamesRise members }
+    ensures { (text : List ℕ) (value : Data) → read text ≡ Some value → NamesRiseWithin value }
 {}
 
 /// The documents that are alive after some operations stand for these: with more operations after,

@@ -1,5 +1,6 @@
 -- The lists of a column's numbers, cut at two of them.
-use Rattle.std.proofs.Common.{◌≡◌, ◌+◌, ◌-◌, ◌<◌, ◌≤◌, ℕ, zero, suc, Bool, true, false, cond, List, [], ◌∷◌, Option, Some, None, length, get_or, min, take, drop, refl, sym, ap, subst, ◌∙◌, arith, Contains, option_map, inl, inr}
+use Rattle.std.proofs.Common.{◌≡◌, ◌+◌, ◌-◌, ◌<◌, ◌≤◌, ℕ, zero, suc, Bool, true, false, cond, List, [], ◌∷◌, Option, Some, None, length, get_or, min, take}
+use Rattle.std.proofs.Common.{drop, refl, sym, ap, subst, ◌∙◌, arith, Contains, option_map, inl, inr}
 use Rattle.std.specs.Prelude.{slice_get}
 use Rattle.std.proofs.lemmas.List.{get_or-take, get_or-drop, get_or-map, get_or_default, length-map, length-take, length-drop}
 use Rattle.std.proofs.lemmas.Option.{slice_get_within, slice_get-get_or, slice_get-map, get_or_from_slice_get}
@@ -25,11 +26,13 @@ use Rattle.fts_segment.proofs.KeywordIndexLemmas.{number_of_text, text_among}
 use Rattle.fts_segment.proofs.OrdinalLemmas.{holds_text, lists_count}
 
 -- the number of an element that passes a test is among those of all
-numbers_where-has : {X : Type 0} (p : X → Bool) (n : ℕ) (xs : List X) (k : ℕ) (x : X) → slice_get xs k ≡ Some x → p x ≡ true → Contains (numbers_where p n xs) (n + k)
+numbers_where-has : {X : Type 0} (p : X → Bool) (n : ℕ) (xs : List X) (k : ℕ) (x : X) → slice_get xs k ≡ Some x → p x ≡ true →
+    Contains (numbers_where p n xs) (n + k)
 numbers_where-has p n [] k x at is = cc
 numbers_where-has {X} p n (y ∷ xs) zero x at is =
     let same : y ≡ x = cc in
-    let e : numbers_where p n (y ∷ xs) ≡ n ∷ numbers_where p (n + 1) xs = numbers_where-cons p n y xs ∙ ap (λ b. cond b (n ∷ numbers_where p (n + 1) xs) (numbers_where p (n + 1) xs)) (ap p same ∙ is) in
+    let e : numbers_where p n (y ∷ xs) ≡ n ∷ numbers_where p (n + 1) xs =
+    numbers_where-cons p n y xs ∙ ap (λ b. cond b (n ∷ numbers_where p (n + 1) xs) (numbers_where p (n + 1) xs)) (ap p same ∙ is) in
     subst (λ ns. Contains ns (n + zero)) (sym e) (0, omega arith, omega arith)
 numbers_where-has {X} p n (y ∷ xs) (suc k) x at is = by (p y) refl (numbers_where-has p (n + 1) xs k x at is)
   where
@@ -41,10 +44,12 @@ numbers_where-has {X} p n (y ∷ xs) (suc k) x at is = by (p y) refl (numbers_wh
 
     by : (b : Bool) → p y ≡ b → Contains (numbers_where p (n + 1) xs) (n + 1 + k) → Contains (numbers_where p n (y ∷ xs)) (n + suc k)
     by true is (i, less, at) =
-        let e : numbers_where p n (y ∷ xs) ≡ n ∷ numbers_where p (n + 1) xs = numbers_where-cons p n y xs ∙ ap (λ b. cond b (n ∷ numbers_where p (n + 1) xs) (numbers_where p (n + 1) xs)) is in
+        let e : numbers_where p n (y ∷ xs) ≡ n ∷ numbers_where p (n + 1) xs =
+        numbers_where-cons p n y xs ∙ ap (λ b. cond b (n ∷ numbers_where p (n + 1) xs) (numbers_where p (n + 1) xs)) is in
         subst (λ ns. Contains ns (n + suc k)) (sym e) (suc i, omega (arith, less), omega (arith, at_next i at))
     by false is (i, less, at) =
-        let e : numbers_where p n (y ∷ xs) ≡ numbers_where p (n + 1) xs = numbers_where-cons p n y xs ∙ ap (λ b. cond b (n ∷ numbers_where p (n + 1) xs) (numbers_where p (n + 1) xs)) is in
+        let e : numbers_where p n (y ∷ xs) ≡ numbers_where p (n + 1) xs =
+        numbers_where-cons p n y xs ∙ ap (λ b. cond b (n ∷ numbers_where p (n + 1) xs) (numbers_where p (n + 1) xs)) is in
         subst (λ ns. Contains ns (n + suc k)) (sym e) (i, less, at_next i at)
 
 numbers_where-at : {X : Type 0} (p : X → Bool) (xs : List X) (k : ℕ) (x : X) → slice_get xs k ≡ Some x → p x ≡ true → Contains (numbers_where p 0 xs) k
@@ -56,12 +61,15 @@ pub record AreKeyed (column : List (Option ℕ)) (lists : List (List ℕ)) (key 
   pub whole : (doc x : ℕ) → slice_get column doc ≡ Some (Some x) → (k : ℕ) × (k < length lists) × (key k ≡ x) × Contains (get_or lists k []) doc
 
 -- those from one place to another
-pub AreBetween-cut : (column : List (Option ℕ)) (lists : List (List ℕ)) (key : ℕ → ℕ) (low high start end : ℕ) → AreKeyed column lists key → start ≤ end → end ≤ length lists →
-    ((k : ℕ) → k < start → key k < low) → ((k : ℕ) → start ≤ k → k < end → (low ≤ key k) × (key k ≤ high)) → ((k : ℕ) → end ≤ k → k < length lists → high < key k) → AreBetween column low high (take (end - start) (drop start lists))
+pub AreBetween-cut : (column : List (Option ℕ)) (lists : List (List ℕ)) (key : ℕ → ℕ) (low high start end : ℕ) → AreKeyed column lists key → start ≤ end →
+    end ≤ length lists →
+    ((k : ℕ) → k < start → key k < low) → ((k : ℕ) → start ≤ k → k < end → (low ≤ key k) × (key k ≤ high)) →
+    ((k : ℕ) → end ≤ k → k < length lists → high < key k) → AreBetween column low high (take (end - start) (drop start lists))
 AreBetween-cut column lists key low high start end keyed order inside lower middle upper =
     let part = take (end - start) (drop start lists) in
     let size : length part ≡ end - start = omega (arith, length-take (end - start) (drop start lists), length-drop start lists) in
-    let at : (k : ℕ) → k < end - start → get_or part k [] ≡ get_or lists (start + k) [] = λ k less. get_or-take (end - start) (drop start lists) k [] less ∙ get_or-drop start lists k [] in
+    let at : (k : ℕ) → k < end - start → get_or part k [] ≡ get_or lists (start + k) [] = λ k less. get_or-take (end - start) (drop start lists) k [] less
+    ∙ get_or-drop start lists k [] in
     record {
       sound = λ k doc less there.
           let here : k < end - start = omega (arith, less, size) in
@@ -70,7 +78,8 @@ AreBetween-cut column lists key low high start end keyed order inside lower midd
       whole = λ doc x is from to.
           let found = keyed.whole doc x is in
           let up : start ≤ found.0 = elim (cases_lt found.0 start) [ inl less ↦ absurd (omega (arith, lower found.0 less, found.2, from)) | inr more ↦ more ] in
-          let down : found.0 < end = elim (cases_lt found.0 end) [ inl less ↦ less | inr more ↦ absurd (omega (arith, upper found.0 more found.1, found.2, to)) ] in
+          let down : found.0 < end =
+          elim (cases_lt found.0 end) [ inl less ↦ less | inr more ↦ absurd (omega (arith, upper found.0 more found.1, found.2, to)) ] in
           let k = found.0 - start in
           let e : start + k ≡ found.0 = omega (arith, up) in
           (k, omega (arith, size, up, down), subst (λ xs. Contains xs doc) (sym (at k (omega (arith, up, down)) ∙ ap (λ i. get_or lists i []) e)) found.3);
@@ -89,23 +98,31 @@ pub numbers_count : (column : List (Option ℕ)) (numbers : List ℕ) (lists : L
 numbers_count column numbers lists index = ap length index.listed ∙ length-map numbers (λ x. numbers_where (is_number x) 0 column)
 
 -- the lists of a number index have the documents of its numbers
-pub AreKeyed-numbers : (column : List (Option ℕ)) (numbers : List ℕ) (lists : List (List ℕ)) → IsNumberIndex column numbers lists → AreKeyed column lists (λ k. get_or numbers k 0)
+pub AreKeyed-numbers : (column : List (Option ℕ)) (numbers : List ℕ) (lists : List (List ℕ)) → IsNumberIndex column numbers lists →
+    AreKeyed column lists (λ k. get_or numbers k 0)
 AreKeyed-numbers column numbers lists index =
     let list_of : ℕ → List ℕ = λ x. numbers_where (is_number x) 0 column in
     let count : length lists ≡ length numbers = numbers_count column numbers lists index in
-    let at : (k : ℕ) → k < length numbers → get_or lists k [] ≡ list_of (get_or numbers k 0) = λ k less. ap (λ ls. get_or ls k []) index.listed ∙ get_or-map list_of numbers k 0 [] less in
+    let at : (k : ℕ) → k < length numbers → get_or lists k [] ≡ list_of (get_or numbers k 0) = λ k less. ap (λ ls. get_or ls k []) index.listed
+    ∙ get_or-map list_of numbers k 0 [] less in
     record {
       sound = λ k doc less there. column_at column doc (get_or numbers k 0) (subst (λ xs. Contains xs doc) (at k (omega (arith, less, count))) there);
       whole = λ doc x is.
           let within : doc < length column = slice_get_within column doc (Some x) is in
           let there : Contains column (Some x) = (doc, within, get_or_from_slice_get column doc (Some x) (Some x) is) in
           let found = index.whole x there in
-          let key : get_or numbers found.0 0 ≡ x = get_or_default numbers found.0 0 x found.1 ∙ found.2 in
-          (found.0, omega (arith, found.1, count), key, subst (λ xs. Contains xs doc) (sym (at found.0 found.1 ∙ ap list_of key)) (numbers_where-at (is_number x) column doc (Some x) is (its_number x)));
+          let key : get_or numbers found.0 0 ≡ x = get_or_default numbers found.0 0 x found.1 ∙ found.2 in (
+            found.0,
+            omega (arith, found.1, count),
+            key,
+            subst (λ xs. Contains xs doc) (sym (at found.0 found.1 ∙ ap list_of key))
+                (numbers_where-at (is_number x) column doc (Some x) is (its_number x)),
+          );
     }
 
 -- the text of an ordinal's value
-pub ordinal_text : (texts : List (List ℕ)) (v : Option FieldValue) (x : ℕ) → option_map (before texts) (keyword_of kinds.Keyword v) ≡ Some x → (text : List ℕ) × (v ≡ Some (values.Text text)) × (before texts text ≡ x)
+pub ordinal_text : (texts : List (List ℕ)) (v : Option FieldValue) (x : ℕ) → option_map (before texts) (keyword_of kinds.Keyword v) ≡ Some x →
+    (text : List ℕ) × (v ≡ Some (values.Text text)) × (before texts text ≡ x)
 ordinal_text texts None x is = cc
 ordinal_text texts (Some (values.Text t)) x is = (t, refl, let e : Some (before texts t) ≡ Some x = is in cc)
 ordinal_text texts (Some (values.Number n)) x is = cc
@@ -115,7 +132,8 @@ pub text_held : (t : List ℕ) → holds kinds.Keyword (values.Text t) (Some (va
 text_held t = (bytes_eq-Decides t t).1 refl
 
 -- the lists of a keyword index have the documents of its ordinals
-pub AreKeyed-keywords : (vs : List (Option FieldValue)) (dictionary : Dictionary) → AreTerms kinds.Keyword vs dictionary → dictionary.names ≡ texts_of kinds.Keyword vs →
+pub AreKeyed-keywords : (vs : List (Option FieldValue)) (dictionary : Dictionary) → AreTerms kinds.Keyword vs dictionary →
+    dictionary.names ≡ texts_of kinds.Keyword vs →
     AreKeyed (ordinals_of kinds.Keyword vs) dictionary.lists.items (λ k. k)
 AreKeyed-keywords vs dictionary terms texts_are =
     let names = dictionary.names in
@@ -137,12 +155,22 @@ AreKeyed-keywords vs dictionary terms texts_are =
           let value = mapped (slice_get vs doc) refl (sym (slice_get-map ordinal vs doc) ∙ is) in
           let text = ordinal_text texts value.0 x value.2 in
           let here : slice_get vs doc ≡ Some (Some (values.Text text.0)) = value.1 ∙ ap Some text.1 in
-          let there : Contains vs (Some (values.Text text.0)) = (doc, slice_get_within vs doc (Some (values.Text text.0)) here, get_or_from_slice_get vs doc (Some (values.Text text.0)) (Some (values.Text text.0)) here) in
+          let there : Contains vs (Some (values.Text text.0)) = (
+            doc,
+            slice_get_within vs doc (Some (values.Text text.0)) here,
+            get_or_from_slice_get vs doc (Some (values.Text text.0))
+                (Some (values.Text text.0)) here,
+          ) in
           let among : Contains names text.0 = subst (λ ts. Contains ts text.0) (sym texts_are) (text_among vs text.0 there) in
           let named : slice_get names among.0 ≡ Some text.0 = slice_get-get_or names among.0 text.0 among.1 ∙ ap Some among.2 in
           let found = text_found text.0 among.0 terms named in
-          let place : among.0 ≡ x = number_of_text names among.0 text.0 terms.dictionary_is.ascends named ∙ ap (λ ts. before ts text.0) texts_are ∙ text.2 in
-          (among.0, omega (arith, among.1, count), place, subst (λ ds. Contains ds doc) (sym found.0) (numbers_where-at (holds kinds.Keyword (values.Text text.0)) vs doc (Some (values.Text text.0)) here (text_held text.0)));
+          let place : among.0 ≡ x = number_of_text names among.0 text.0 terms.dictionary_is.ascends named ∙ ap (λ ts. before ts text.0) texts_are ∙ text.2 in (
+            among.0,
+            omega (arith, among.1, count),
+            place,
+            subst (λ ds. Contains ds doc) (sym found.0)
+                (numbers_where-at (holds kinds.Keyword (values.Text text.0)) vs doc (Some (values.Text text.0)) here (text_held text.0)),
+          );
     }
   where
     mapped : {X Y : Type 0} {f : X → Y} {y : Y} (o : Option X) {p : Option X} → p ≡ o → option_map f o ≡ Some y → (x : X) × (p ≡ Some x) × (f x ≡ y)
@@ -165,18 +193,24 @@ IsCut-found xs x i up within is = record {
 }
 
 -- the lists of a number index between two places
-pub between_numbers : (column : List (Option ℕ)) (numbers : List ℕ) (lists : List (List ℕ)) (low high start from end : ℕ) → IsNumberIndex column numbers lists → IsCut numbers low from → end ≤ length numbers → ((k : ℕ) → k < end → get_or numbers k 0 ≤ high) → ((k : ℕ) → end ≤ k → k < length numbers → high < get_or numbers k 0) →
+pub between_numbers : (column : List (Option ℕ)) (numbers : List ℕ) (lists : List (List ℕ)) (low high start from end : ℕ) → IsNumberIndex column numbers lists →
+    IsCut numbers low from → end ≤ length numbers → ((k : ℕ) → k < end → get_or numbers k 0 ≤ high) →
+    ((k : ℕ) → end ≤ k → k < length numbers → high < get_or numbers k 0) →
     start ≡ min from end → AreBetween column low high (take (end - start) (drop start lists))
 between_numbers column numbers lists low high start from end index cut within upper behind is =
     let count : length lists ≡ length numbers = numbers_count column numbers lists index in
-    AreBetween-cut column lists (λ k. get_or numbers k 0) low high start end (AreKeyed-numbers column numbers lists index) (omega (arith, is)) (omega (arith, within, count))
+    AreBetween-cut column lists (λ k. get_or numbers k 0) low high start end (AreKeyed-numbers column numbers lists index) (omega (arith, is))
+    (omega (arith, within, count))
     (λ k less. cut.before k (omega (arith, less, is)))
     (λ k more less. (cut.behind k (omega (arith, more, less, is)) (omega (arith, less, within)), upper k less))
     (λ k more less. behind k more (omega (arith, less, count)))
 
 -- the lists of a keyword index between two ordinals
-pub between_keywords : (vs : List (Option FieldValue)) (index : KeywordIndex) (low high start end : ℕ) → AreKeywords kinds.Keyword vs index → end ≤ length index.dictionary.lists.items → end ≤ high + 1 → (end < length index.dictionary.lists.items → high < end) → start ≡ min low end →
+pub between_keywords : (vs : List (Option FieldValue)) (index : KeywordIndex) (low high start end : ℕ) → AreKeywords kinds.Keyword vs index →
+    end ≤ length index.dictionary.lists.items → end ≤ high + 1 → (end < length index.dictionary.lists.items → high < end) → start ≡ min low end →
     AreBetween (ordinals_of kinds.Keyword vs) low high (take (end - start) (drop start index.dictionary.lists.items))
 between_keywords vs index low high start end are within upper behind is =
-    AreBetween-cut (ordinals_of kinds.Keyword vs) index.dictionary.lists.items (λ k. k) low high start end (AreKeyed-keywords vs index.dictionary are.terms are.texts) (omega (arith, is)) within
-    (λ k less. omega (arith, less, is)) (λ k more less. (omega (arith, more, less, is), omega (arith, less, upper))) (λ k more less. omega (arith, behind (omega (arith, more, less)), more))
+    AreBetween-cut (ordinals_of kinds.Keyword vs) index.dictionary.lists.items (λ k. k) low high start end
+    (AreKeyed-keywords vs index.dictionary are.terms are.texts) (omega (arith, is)) within
+    (λ k less. omega (arith, less, is)) (λ k more less. (omega (arith, more, less, is), omega (arith, less, upper)))
+    (λ k more less. omega (arith, behind (omega (arith, more, less)), more))

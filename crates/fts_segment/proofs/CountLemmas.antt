@@ -1,5 +1,6 @@
 -- How many numbers of a column are between two, by the lists of its numbers.
-use Rattle.std.proofs.Common.{◌≡◌, ◌+◌, ◌-◌, ◌<◌, ◌≤◌, ℕ, zero, suc, Bool, true, false, cond, ◌&&◌, nat_le, List, [], ◌∷◌, Option, Some, None, length, get_or, map, min, take, refl, sym, ap, subst, ◌∙◌, arith, Contains, option_map, inl, inr}
+use Rattle.std.proofs.Common.{◌≡◌, ◌+◌, ◌-◌, ◌<◌, ◌≤◌, ℕ, zero, suc, Bool, true, false, cond, ◌&&◌, nat_le, List, [], ◌∷◌, Option, Some, None, length, get_or}
+use Rattle.std.proofs.Common.{map, min, take, refl, sym, ap, subst, ◌∙◌, arith, Contains, option_map, inl, inr}
 use Rattle.std.specs.Prelude.{filter, slice_get}
 use Rattle.std.proofs.lemmas.List.{get_or-map, take_all}
 use Rattle.std.proofs.lemmas.Option.{slice_get_within, slice_get-get_or, get_or_from_slice_get}
@@ -38,23 +39,28 @@ count-cons p x xs = by (p x)
     by false = omega arith
 
 -- those of one test are those of two others
-count-split : {X : Type 0} (p q r : X → Bool) (xs : List X) → ((k : ℕ) (x : X) → slice_get xs k ≡ Some x → one (p x) ≡ one (q x) + one (r x)) → length (filter p xs) ≡ length (filter q xs) + length (filter r xs)
+count-split : {X : Type 0} (p q r : X → Bool) (xs : List X) → ((k : ℕ) (x : X) → slice_get xs k ≡ Some x → one (p x) ≡ one (q x) + one (r x)) →
+    length (filter p xs) ≡ length (filter q xs) + length (filter r xs)
 count-split p q r [] split = refl
-count-split p q r (x ∷ xs) split = omega (arith, count-cons p x xs, count-cons q x xs, count-cons r x xs, split 0 x refl, count-split p q r xs (λ k y at. split (suc k) y at))
+count-split p q r (x ∷ xs) split =
+    omega (arith, count-cons p x xs, count-cons q x xs, count-cons r x xs, split 0 x refl, count-split p q r xs (λ k y at. split (suc k) y at))
 
 count-none : {X : Type 0} (p : X → Bool) (xs : List X) → ((k : ℕ) (x : X) → slice_get xs k ≡ Some x → one (p x) ≡ 0) → length (filter p xs) ≡ 0
 count-none p [] none = refl
 count-none p (x ∷ xs) none = omega (arith, count-cons p x xs, none 0 x refl, count-none p xs (λ k y at. none (suc k) y at))
 
-count-mapped : {X Y : Type 0} (p : X → Bool) (q : Y → Bool) (f : X → Y) (xs : List X) → ((k : ℕ) (x : X) → slice_get xs k ≡ Some x → one (p x) ≡ one (q (f x))) → length (filter p xs) ≡ length (filter q (map f xs))
+count-mapped : {X Y : Type 0} (p : X → Bool) (q : Y → Bool) (f : X → Y) (xs : List X) →
+    ((k : ℕ) (x : X) → slice_get xs k ≡ Some x → one (p x) ≡ one (q (f x))) → length (filter p xs) ≡ length (filter q (map f xs))
 count-mapped p q f [] same = refl
-count-mapped p q f (x ∷ xs) same = omega (arith, count-cons p x xs, count-cons q (f x) (map f xs), same 0 x refl, count-mapped p q f xs (λ k y at. same (suc k) y at))
+count-mapped p q f (x ∷ xs) same =
+    omega (arith, count-cons p x xs, count-cons q (f x) (map f xs), same 0 x refl, count-mapped p q f xs (λ k y at. same (suc k) y at))
 
 numbers_where-count : {X : Type 0} (p : X → Bool) (n : ℕ) (xs : List X) → length (numbers_where p n xs) ≡ length (filter p xs)
 numbers_where-count p n [] = refl
 numbers_where-count {X} p n (x ∷ xs) = ap length (numbers_where-cons p n x xs) ∙ by (p x) (numbers_where-count p (n + 1) xs) ∙ sym (count-cons p x xs)
   where
-    by : (b : Bool) → length (numbers_where p (n + 1) xs) ≡ length (filter p xs) → length (cond b (n ∷ numbers_where p (n + 1) xs) (numbers_where p (n + 1) xs)) ≡ one b + length (filter p xs)
+    by : (b : Bool) → length (numbers_where p (n + 1) xs) ≡ length (filter p xs) → length (cond b (n ∷ numbers_where p (n + 1) xs) (numbers_where p (n + 1) xs))
+        ≡ one b + length (filter p xs)
     by true rest = omega (arith, rest)
     by false rest = omega (arith, rest)
 
@@ -82,10 +88,30 @@ one-not x y other = elim (cases_Bool (is_number x (Some y))) [
 within-split : (low high : ℕ) → low ≤ high + 1 → (v : Option ℕ) → one (below (high + 1) v) ≡ one (below low v) + one (is_within low high v)
 within-split low high order None = refl
 within-split low high order (Some x) = elim (cases_lt x low) [
-  | inl less ↦ omega (arith, one-le (x + 1) (high + 1) (omega (arith, less, order)), one-le (x + 1) low (omega (arith, less)), ap (λ b. one (b && nat_le x high)) (lt-leb low x less))
+  | inl less ↦ omega (
+    arith,
+    one-le (x + 1) (high + 1) (omega (arith, less, order)),
+    one-le (x + 1) low (omega (arith, less)),
+    ap
+        (λ b. one (b && nat_le x high)) (lt-leb low x less),
+  )
   | inr more ↦ elim (cases_lt high x) [
-    | inl above ↦ omega (arith, one-gt (x + 1) (high + 1) (omega (arith, above)), one-gt (x + 1) low (omega (arith, more)), ap (λ b. one (b && nat_le x high)) (le-leb low x more), one-gt x high above)
-    | inr inside ↦ omega (arith, one-le (x + 1) (high + 1) (omega (arith, inside)), one-gt (x + 1) low (omega (arith, more)), ap (λ b. one (b && nat_le x high)) (le-leb low x more), one-le x high inside)
+    | inl above ↦ omega (
+      arith,
+      one-gt (x + 1) (high + 1) (omega (arith, above)),
+      one-gt (x + 1) low (omega (arith, more)),
+      ap (λ b. one (b && nat_le x high))
+          (le-leb low x more),
+      one-gt x high above,
+    )
+    | inr inside ↦ omega (
+      arith,
+      one-le (x + 1) (high + 1) (omega (arith, inside)),
+      one-gt (x + 1) low (omega (arith, more)),
+      ap (λ b. one (b && nat_le x high))
+          (le-leb low x more),
+      one-le x high inside,
+    )
   ]
 ]
 
@@ -104,7 +130,8 @@ pub record AreCounted (column : List (Option ℕ)) (lists : List (List ℕ)) (ke
 
 module _ (column : List (Option ℕ)) (lists : List (List ℕ)) (key : ℕ → ℕ) (counted : AreCounted column lists key) where
   -- the lists of the numbers below a bound have as many documents as have one of these
-  total-below : (j bound : ℕ) → j ≤ length lists → ((k : ℕ) → k < j → key k < bound) → ((k : ℕ) → j ≤ k → k < length lists → bound ≤ key k) → total (take j lists) ≡ length (filter (below bound) column)
+  total-below : (j bound : ℕ) → j ≤ length lists → ((k : ℕ) → k < j → key k < bound) → ((k : ℕ) → j ≤ k → k < length lists → bound ≤ key k) →
+      total (take j lists) ≡ length (filter (below bound) column)
   total-below zero bound inside before behind = sym (count-none (below bound) column none)
     where
       none : (doc : ℕ) (v : Option ℕ) → slice_get column doc ≡ Some v → one (below bound v) ≡ 0
@@ -133,7 +160,13 @@ module _ (column : List (Option ℕ)) (lists : List (List ℕ)) (key : ℕ → �
             | inl lower ↦
                 let less : x < key j = omega (arith, found.2, counted.rises found.0 j lower (omega (arith, inside))) in
                 let other : x ≡ key j → ⊥ = λ same. omega (arith, same, less) in
-                omega (arith, one-le (x + 1) bound (omega (arith, less, before j (omega arith))), one-le (x + 1) (key j) (omega (arith, less)), one-not (key j) x other)
+                omega (
+                  arith,
+                  one-le (x + 1) bound (omega (arith, less, before j (omega arith))),
+                  one-le (x + 1) (key j) (omega (arith, less)),
+                  one-not (key j)
+                      x other,
+                )
             | inr upper ↦ elim (cases_lt j found.0) [
               | inl higher ↦
                   let more : bound ≤ x = omega (arith, found.2, behind found.0 (omega (arith, higher)) found.1) in
@@ -143,7 +176,13 @@ module _ (column : List (Option ℕ)) (lists : List (List ℕ)) (key : ℕ → �
               | inr not_higher ↦
                   let e : j ≡ found.0 = omega (arith, upper, not_higher) in
                   let same : x ≡ key j = sym (ap key e ∙ found.2) in
-                  omega (arith, one-le (x + 1) bound (omega (arith, same, before j (omega arith))), one-gt (x + 1) (key j) (omega (arith, same)), one-is (key j) x same)
+                  omega (
+                    arith,
+                    one-le (x + 1) bound (omega (arith, same, before j (omega arith))),
+                    one-gt (x + 1) (key j) (omega (arith, same)),
+                    one-is (key j)
+                        x same,
+                  )
             ]
           ]
 
@@ -161,7 +200,8 @@ module _ (column : List (Option ℕ)) (lists : List (List ℕ)) (key : ℕ → �
       omega (arith, is, ap total whole, length-filter (below bound) column, count_by-le-length (below bound) column)
 
   -- the lists between two places have as many documents as have a number between two
-  pub total-between : (low high start from end : ℕ) → from ≤ length lists → ((k : ℕ) → k < from → key k < low) → ((k : ℕ) → from ≤ k → k < length lists → low ≤ key k) →
+  pub total-between : (low high start from end : ℕ) → from ≤ length lists → ((k : ℕ) → k < from → key k < low) →
+      ((k : ℕ) → from ≤ k → k < length lists → low ≤ key k) →
       end ≤ length lists → ((k : ℕ) → k < end → key k ≤ high) → ((k : ℕ) → end ≤ k → k < length lists → high < key k) → start ≡ min from end →
       total (take end lists) - total (take start lists) ≡ count_between low high column
   total-between low high start from end from_inside lower upper end_inside inside above is = elim (cases_lt (high + 1) low) [
@@ -186,18 +226,21 @@ module _ (column : List (Option ℕ)) (lists : List (List ℕ)) (key : ℕ → �
   ]
 
 -- the lists of a number index are counted by its numbers
-pub AreCounted-numbers : (column : List (Option ℕ)) (numbers : List ℕ) (lists : List (List ℕ)) → IsNumberIndex column numbers lists → AreCounted column lists (λ k. get_or numbers k 0)
+pub AreCounted-numbers : (column : List (Option ℕ)) (numbers : List ℕ) (lists : List (List ℕ)) → IsNumberIndex column numbers lists →
+    AreCounted column lists (λ k. get_or numbers k 0)
 AreCounted-numbers column numbers lists index =
     let list_of : ℕ → List ℕ = λ x. numbers_where (is_number x) 0 column in
     let count : length lists ≡ length numbers = numbers_count column numbers lists index in
     record {
-      size = λ k less. ap (λ ls. length (get_or ls k [])) index.listed ∙ ap length (get_or-map list_of numbers k 0 [] (omega (arith, less, count))) ∙ numbers_where-count (is_number (get_or numbers k 0)) 0 column;
+      size = λ k less. ap (λ ls. length (get_or ls k [])) index.listed ∙ ap length (get_or-map list_of numbers k 0 [] (omega (arith, less, count)))
+          ∙ numbers_where-count (is_number (get_or numbers k 0)) 0 column;
       whole = λ doc x at. let found = (AreKeyed-numbers column numbers lists index).whole doc x at in (found.0, found.1, found.2);
       rises = λ i j less inside. AllPairs-from_increasing numbers index.rises i j 0 less (omega (arith, inside, count));
     }
 
 -- as many documents have the text of an ordinal as have the ordinal
-text-count : (vs : List (Option FieldValue)) (dictionary : Dictionary) → AreTerms kinds.Keyword vs dictionary → dictionary.names ≡ texts_of kinds.Keyword vs → (k : ℕ) → k < length dictionary.lists.items →
+text-count : (vs : List (Option FieldValue)) (dictionary : Dictionary) → AreTerms kinds.Keyword vs dictionary → dictionary.names ≡ texts_of kinds.Keyword vs →
+    (k : ℕ) → k < length dictionary.lists.items →
     length (get_or dictionary.lists.items k []) ≡ length (filter (is_number k) (ordinals_of kinds.Keyword vs))
 text-count vs dictionary terms texts_are k less =
     let names = dictionary.names in
@@ -207,14 +250,22 @@ text-count vs dictionary terms texts_are k less =
     let has : Option FieldValue → Bool = holds kinds.Keyword (values.Text text) in
     let within : k < length names = omega (arith, less, lists_count vs dictionary terms) in
     let named : slice_get names k ≡ Some text = slice_get-get_or names k [] within in
-    let place_of : (t : List ℕ) (i : ℕ) → slice_get names i ≡ Some t → before texts t ≡ i = λ t i at. ap (λ ts. before ts t) (sym texts_are) ∙ sym (number_of_text names i t terms.dictionary_is.ascends at) in
-    let each : (doc : ℕ) (v : Option FieldValue) → slice_get vs doc ≡ Some v → one (has v) ≡ one (is_number k (ordinal v)) = λ doc v at. elim (cases_Bool (has v)) [
-      | inl known ↦ ap one (known ∙ sym (ap (λ w. is_number k (ordinal w)) (holds_text text v known) ∙ ap (λ n. is_number k (Some n)) (place_of text k named) ∙ its_number k))
+    let place_of : (t : List ℕ) (i : ℕ) → slice_get names i ≡ Some t → before texts t ≡ i = λ t i at. ap (λ ts. before ts t) (sym texts_are)
+    ∙ sym (number_of_text names i t terms.dictionary_is.ascends at) in
+    let each : (doc : ℕ) (v : Option FieldValue) → slice_get vs doc ≡ Some v → one (has v) ≡ one (is_number k (ordinal v)) =
+    λ doc v at. elim (cases_Bool (has v)) [
+      | inl known ↦ ap one (known ∙ sym (ap (λ w. is_number k (ordinal w)) (holds_text text v known) ∙ ap (λ n. is_number k (Some n)) (place_of text k named)
+          ∙ its_number k))
       | inr unknown ↦ elim (cases_Bool (is_number k (ordinal v))) [
         | inl same ↦
             let t = ordinal_text texts v k (is_number-is k (ordinal v) same) in
             let here : slice_get vs doc ≡ Some (Some (values.Text t.0)) = at ∙ ap Some t.1 in
-            let there : Contains vs (Some (values.Text t.0)) = (doc, slice_get_within vs doc (Some (values.Text t.0)) here, get_or_from_slice_get vs doc (Some (values.Text t.0)) (Some (values.Text t.0)) here) in
+            let there : Contains vs (Some (values.Text t.0)) = (
+              doc,
+              slice_get_within vs doc (Some (values.Text t.0)) here,
+              get_or_from_slice_get vs doc (Some (values.Text t.0)) (Some (values.Text t.0))
+                  here,
+            ) in
             let among : Contains names t.0 = subst (λ ts. Contains ts t.0) (sym texts_are) (text_among vs t.0 there) in
             let found : slice_get names among.0 ≡ Some t.0 = slice_get-get_or names among.0 t.0 among.1 ∙ ap Some among.2 in
             let at_k : among.0 ≡ k = sym (place_of t.0 among.0 found) ∙ t.2 in
@@ -227,7 +278,8 @@ text-count vs dictionary terms texts_are k less =
     ap length (text_found text k terms named).0 ∙ numbers_where-count has 0 vs ∙ count-mapped has (is_number k) ordinal vs each
 
 -- the lists of a dictionary of keywords are counted by their ordinals
-pub AreCounted-keywords : (vs : List (Option FieldValue)) (dictionary : Dictionary) → AreTerms kinds.Keyword vs dictionary → dictionary.names ≡ texts_of kinds.Keyword vs →
+pub AreCounted-keywords : (vs : List (Option FieldValue)) (dictionary : Dictionary) → AreTerms kinds.Keyword vs dictionary →
+    dictionary.names ≡ texts_of kinds.Keyword vs →
     AreCounted (ordinals_of kinds.Keyword vs) dictionary.lists.items (λ k. k)
 AreCounted-keywords vs dictionary terms texts_are = record {
   size = text-count vs dictionary terms texts_are;

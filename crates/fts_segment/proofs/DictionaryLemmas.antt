@@ -1,5 +1,6 @@
 -- The dictionary of a log.
-use Rattle.std.proofs.Common.{◌≡◌, ◌+◌, ◌<◌, ◌==◌, ℕ, suc, zero, Bool, true, false, cond, List, [], ◌∷◌, ◌++◌, Some, map, filter, drop, nat_eq, length, get_or, refl, sym, ap, ap₂, subst, ◌∙◌, inl, inr, arith, All, Contains, bytes_eq, nat_lt, Less}
+use Rattle.std.proofs.Common.{◌≡◌, ◌+◌, ◌<◌, ◌==◌, ℕ, suc, zero, Bool, true, false, cond, List, [], ◌∷◌, ◌++◌, Some, map, filter, drop, nat_eq, length, get_or}
+use Rattle.std.proofs.Common.{refl, sym, ap, ap₂, subst, ◌∙◌, inl, inr, arith, All, Contains, bytes_eq, nat_lt, Less}
 use Rattle.std.specs.Prelude.{slice_get}
 use Rattle.std.specs.Ordering.{nat_cmp}
 use Rattle.std.specs.Cmp.Lexicographic.{slice_cmp}
@@ -27,7 +28,8 @@ use Rattle.fts_segment.proofs.TermsLemmas.{one_place}
 use Rattle.fts_segment.proofs.TermLogsLemmas.{Stand, occurrence_values-by_ordinal, AreNamed-by_ordinal}
 use Rattle.fts_segment.proofs.HoldingLemmas.{docs_of-cons}
 
-same_test : (names : List (List ℕ)) → Ascends names → (id term : ℕ) (q : List ℕ) → slice_get names id ≡ Some q → term < length names → (term == id) ≡ bytes_eq (get_or names term []) q
+same_test : (names : List (List ℕ)) → Ascends names → (id term : ℕ) (q : List ℕ) → slice_get names id ≡ Some q → term < length names →
+    (term == id) ≡ bytes_eq (get_or names term []) q
 same_test names up id term q found within = elim (cases_eq term id) [
   | inl same ↦
       (let is : (term == id) ≡ true = grind (arith, nat_tests) in is)
@@ -35,19 +37,23 @@ same_test names up id term q found within = elim (cases_eq term id) [
   | inr other ↦
       (let is : (term == id) ≡ false = grind (arith, nat_tests) in is)
       ∙ elim (cases_Bool (bytes_eq (get_or names term []) q)) [
-        | inl e ↦ absurd (other (one_place names up term id q (slice_get-get_or names term [] within ∙ ap Some ((bytes_eq-Decides (get_or names term []) q).0 e)) found))
+        | inl e ↦ absurd (other
+            (one_place names up term id q (slice_get-get_or names term [] within ∙ ap Some ((bytes_eq-Decides (get_or names term []) q).0 e)) found))
         | inr e ↦ sym e
       ]
 ]
 
-group_cons : (names : List (List ℕ)) (id : ℕ) (q : List ℕ) (e : Occurrence) (es : List Occurrence) (b : Bool) → is_of id e ≡ b → is_term q (occurrence_value names e) ≡ b →
+group_cons : (names : List (List ℕ)) (id : ℕ) (q : List ℕ) (e : Occurrence) (es : List Occurrence) (b : Bool) → is_of id e ≡ b →
+    is_term q (occurrence_value names e) ≡ b →
     places_of id es ≡ places_with q (occurrence_values names es) → places_of id (e ∷ es) ≡ places_with q (occurrence_values names (e ∷ es))
 group_cons names id q e es true here there others =
     ap (λ b. map place (cond b (e ∷ filter (is_of id) es) (filter (is_of id) es))) here ∙ ap (λ (ps : List Place). place e ∷ ps) others
-    ∙ sym (ap (λ b. map place_of (cond b (occurrence_value names e ∷ filter (is_term q) (occurrence_values names es)) (filter (is_term q) (occurrence_values names es)))) there)
+    ∙ sym (ap (λ b. map place_of (cond b (occurrence_value names e ∷ filter (is_term q) (occurrence_values names es))
+    (filter (is_term q) (occurrence_values names es)))) there)
 group_cons names id q e es false here there others =
     ap (λ b. map place (cond b (e ∷ filter (is_of id) es) (filter (is_of id) es))) here ∙ others
-    ∙ sym (ap (λ b. map place_of (cond b (occurrence_value names e ∷ filter (is_term q) (occurrence_values names es)) (filter (is_term q) (occurrence_values names es)))) there)
+    ∙ sym (ap (λ b. map place_of (cond b (occurrence_value names e ∷ filter (is_term q) (occurrence_values names es))
+    (filter (is_term q) (occurrence_values names es)))) there)
 
 -- a term's group is where it occurs
 group_places : (names : List (List ℕ)) → Ascends names → (id : ℕ) (q : List ℕ) → slice_get names id ≡ Some q → (es : List Occurrence) → AreNamed names es →
@@ -58,16 +64,19 @@ group_places names up id q found (e ∷ es) named =
     (group_places names up id q found es (All-tail (λ (x : Occurrence). x.term < length names) e es named))
 
 -- the groups have the places of their names
-pub groups_are : (names : List (List ℕ)) (log : List Occurrence) (groups : List (List Place)) → Ascends names → AreNamed names log → length groups ≡ length names →
+pub groups_are : (names : List (List ℕ)) (log : List Occurrence) (groups : List (List Place)) → Ascends names → AreNamed names log →
+    length groups ≡ length names →
     ((t : ℕ) → t < length names → get_or groups t [] ≡ places_of t log) → groups ≡ map (λ q. places_with q (occurrence_values names log)) names
 groups_are names log groups up named count grouped =
     let places : List ℕ → List Place = λ q. places_with q (occurrence_values names log) in
     same_lists groups (map places names) (count ∙ sym (length-map names places)) (λ k d within.
     let inside : k < length names = omega (arith, count, within) in
-    get_or_default groups k d [] within ∙ grouped k inside ∙ group_places names up k (get_or names k []) (slice_get-get_or names k [] inside) log named ∙ sym (get_or-map places names k [] d inside))
+    get_or_default groups k d [] within ∙ grouped k inside ∙ group_places names up k (get_or names k []) (slice_get-get_or names k [] inside) log named
+    ∙ sym (get_or-map places names k [] d inside))
 
 -- a term that occurs has a number
-named_where : (names : List (List ℕ)) (q : List ℕ) (es : List Occurrence) → AreNamed names es → occurs (occurrence_values names es) q ≡ true → (id : ℕ) × (slice_get names id ≡ Some q)
+named_where : (names : List (List ℕ)) (q : List ℕ) (es : List Occurrence) → AreNamed names es → occurs (occurrence_values names es) q ≡ true →
+    (id : ℕ) × (slice_get names id ≡ Some q)
 named_where names q [] named is = absurd (let clash : false ≡ true = is in cc)
 named_where names q (e ∷ es) named is = elim (cases_Bool (is_term q (occurrence_value names e))) [
   | inl is_one ↦ (e.term, slice_get-get_or names e.term [] (named 0 e (omega arith)) ∙ ap Some ((bytes_eq-Decides (get_or names e.term []) q).0 is_one))
@@ -82,18 +91,23 @@ Ascends-filter p names up i j lower within =
     (λ i j d lower within. rw (get_or_default names i d [] (omega arith), get_or_default names j d [] within) (up i j lower within)) i j [] lower within
 
 -- the next name is listed
-pub names_step : (groups : List (List Place)) (all : List (List ℕ)) (i : ℕ) (places : List Place) (name : List ℕ) (names after : List (List ℕ)) → i < length all → length groups ≡ length all →
-    name ≡ get_or all i [] → places ≡ get_or groups i [] → after ≡ names ++ unless_none places name → names ++ names_listed (drop i groups) (drop i all) ≡ names_listed groups all →
+pub names_step : (groups : List (List Place)) (all : List (List ℕ)) (i : ℕ) (places : List Place) (name : List ℕ) (names after : List (List ℕ)) →
+    i < length all → length groups ≡ length all →
+    name ≡ get_or all i [] → places ≡ get_or groups i [] → after ≡ names ++ unless_none places name → names ++ names_listed (drop i groups) (drop i all)
+    ≡ names_listed groups all →
     after ++ names_listed (drop (i + 1) groups) (drop (i + 1) all) ≡ names_listed groups all
 names_step groups all i places name names after within count here there put so_far =
-    let first : drop i groups ≡ places ∷ drop (i + 1) groups = drop_more groups i [] (omega (arith, count, within)) ∙ ap (λ (ps : List Place). ps ∷ drop (i + 1) groups) (sym there) in
+    let first : drop i groups ≡ places ∷ drop (i + 1) groups = drop_more groups i [] (omega (arith, count, within))
+    ∙ ap (λ (ps : List Place). ps ∷ drop (i + 1) groups) (sym there) in
     let second : drop i all ≡ name ∷ drop (i + 1) all = drop_more all i [] within ∙ ap (λ (n : List ℕ). n ∷ drop (i + 1) all) (sym here) in
     ap (λ ns. ns ++ names_listed (drop (i + 1) groups) (drop (i + 1) all)) put
     ∙ append_assoc names (unless_none places name) (names_listed (drop (i + 1) groups) (drop (i + 1) all))
     ∙ ap (λ ns. names ++ ns) (sym (ap₂ names_listed first second)) ∙ so_far
 
-pub listed_step : {X : Type 0} (f : List Place → X) (groups : List (List Place)) (i : ℕ) (places : List Place) (lists after : List X) → i < length groups → places ≡ get_or groups i [] →
-    after ≡ lists ++ unless_none places (f places) → lists ++ listed_by f (drop i groups) ≡ listed_by f groups → after ++ listed_by f (drop (i + 1) groups) ≡ listed_by f groups
+pub listed_step : {X : Type 0} (f : List Place → X) (groups : List (List Place)) (i : ℕ) (places : List Place) (lists after : List X) → i < length groups →
+    places ≡ get_or groups i [] →
+    after ≡ lists ++ unless_none places (f places) → lists ++ listed_by f (drop i groups) ≡ listed_by f groups →
+    after ++ listed_by f (drop (i + 1) groups) ≡ listed_by f groups
 listed_step f groups i places lists after within there put so_far =
     let first : drop i groups ≡ places ∷ drop (i + 1) groups = drop_more groups i [] within ∙ ap (λ (ps : List Place). ps ∷ drop (i + 1) groups) (sym there) in
     ap (λ ls. ls ++ listed_by f (drop (i + 1) groups)) put ∙ append_assoc lists (unless_none places (f places)) (listed_by f (drop (i + 1) groups))
@@ -103,9 +117,11 @@ pub docs_with_places : (q : List ℕ) (os : List OccurrenceValue) → map (λ (p
 docs_with_places q os = map-map (λ (p : Place). p.doc) place_of (filter (is_term q) os)
 
 -- a term has a place exactly where it occurs
-occurs_where : (os : List OccurrenceValue) (q : List ℕ) (places : List Place) → map (λ (p : Place). p.doc) places ≡ docs_of q os → occurs os q ≡ nat_lt 0 (length places)
+occurs_where : (os : List OccurrenceValue) (q : List ℕ) (places : List Place) → map (λ (p : Place). p.doc) places ≡ docs_of q os →
+    occurs os q ≡ nat_lt 0 (length places)
 occurs_where os q [] same = ap (λ ns. nat_lt 0 (length ns)) (sym same)
-occurs_where os q (p ∷ ps) same = ap (λ ns. nat_lt 0 (length ns)) (sym same) ∙ lt-ltb 0 (suc (length (map (λ (p : Place). p.doc) ps))) (omega arith) ∙ sym (lt-ltb 0 (suc (length ps)) (omega arith))
+occurs_where os q (p ∷ ps) same = ap (λ ns. nat_lt 0 (length ns)) (sym same) ∙ lt-ltb 0 (suc (length (map (λ (p : Place). p.doc) ps))) (omega arith)
+    ∙ sym (lt-ltb 0 (suc (length ps)) (omega arith))
 
 unless_none_is : {X : Type 0} (places : List Place) (x : X) → unless_none places x ≡ cond (nat_lt 0 (length places)) (x ∷ []) []
 unless_none_is [] x = refl
@@ -123,12 +139,14 @@ names_listed-is os (q ∷ names) =
     ap (λ ns. unless_none (places_with q os) q ++ ns) (names_listed-is os names) ∙ ap (λ ns. ns ++ rest) (unless_none_is (places_with q os) q)
     ∙ ap (λ b. cond b (q ∷ []) [] ++ rest) (sym (occurs_where os q (places_with q os) (docs_with_places q os))) ∙ cond_before (occurs os q) q rest
 
-unless_none_map : {X : Type 0} (f : List Place → X) (g : List ℕ → X) (places : List Place) (q : List ℕ) → f places ≡ g q → unless_none places (f places) ≡ map g (unless_none places q)
+unless_none_map : {X : Type 0} (f : List Place → X) (g : List ℕ → X) (places : List Place) (q : List ℕ) → f places ≡ g q →
+    unless_none places (f places) ≡ map g (unless_none places q)
 unless_none_map f g [] q same = refl
 unless_none_map f g (p ∷ ps) q same = ap (λ x. x ∷ []) same
 
 -- what is listed is what each of the names gives
-listed_by-is : {X : Type 0} (f : List Place → X) (g : List ℕ → X) (os : List OccurrenceValue) (names : List (List ℕ)) → ((q : List ℕ) → f (places_with q os) ≡ g q) →
+listed_by-is : {X : Type 0} (f : List Place → X) (g : List ℕ → X) (os : List OccurrenceValue) (names : List (List ℕ)) →
+    ((q : List ℕ) → f (places_with q os) ≡ g q) →
     listed_by f (map (λ q. places_with q os) names) ≡ map g (names_listed (map (λ q. places_with q os) names) names)
 listed_by-is f g os [] same = refl
 listed_by-is f g os (q ∷ names) same =
@@ -152,7 +170,8 @@ docs_right q os = ap (dedup nat_eq) (docs_with_places q os)
 -- the names with the groups of their places make the dictionary of the occurrences
 pub IsDictionaryOf-listed : (names : List (List ℕ)) (log : List Occurrence) → Ascends names → AreNamed names log →
     let os = occurrence_values names log in
-    let groups = map (λ q. places_with q os) names in IsDictionaryOf os (names_listed groups names) (listed_by docs_in groups) (listed_by position_lists_of groups)
+    let groups = map (λ q. places_with q os) names in
+    IsDictionaryOf os (names_listed groups names) (listed_by docs_in groups) (listed_by position_lists_of groups)
 IsDictionaryOf-listed names log up named =
     let os = occurrence_values names log in
     let is = names_listed-is os names in
@@ -166,7 +185,8 @@ IsDictionaryOf-listed names log up named =
       whole = λ q occurring.
           let number = named_where names q log named occurring in
           let R : List (List ℕ) → Type 0 = λ ns. Contains ns q in
-          subst R (sym is) (contains_at (occurs os) names number.0 q (slice_get_within names number.0 q number.1) (get_or_from_slice_get names number.0 q q number.1) occurring);
+          subst R (sym is) (contains_at (occurs os) names number.0 q (slice_get_within names number.0 q number.1)
+          (get_or_from_slice_get names number.0 q q number.1) occurring);
     }
 
 -- the same where terms were numbered anew by their order
@@ -174,22 +194,28 @@ pub record IsGrouped (names sorted : List (List ℕ)) (log : List Occurrence) (g
   pub groups_are : groups ≡ map (λ q. places_with q (occurrence_values names log)) sorted
   pub dictionary_is : IsDictionaryOf (occurrence_values names log) (names_listed groups sorted) (listed_by docs_in groups) (listed_by position_lists_of groups)
 
-pub IsGrouped-sorted : (names sorted : List (List ℕ)) (ordinals : List ℕ) (log after : List Occurrence) (groups : List (List Place)) (count : ℕ) → Ascends sorted → Stand names sorted ordinals → AreNamed names log →
-    after ≡ map (by_ordinal ordinals) log → count ≡ length sorted → length groups ≡ count → ((t : ℕ) → t < count → get_or groups t [] ≡ places_of t after) → IsGrouped names sorted log groups
+pub IsGrouped-sorted : (names sorted : List (List ℕ)) (ordinals : List ℕ) (log after : List Occurrence) (groups : List (List Place)) (count : ℕ) →
+    Ascends sorted → Stand names sorted ordinals → AreNamed names log →
+    after ≡ map (by_ordinal ordinals) log → count ≡ length sorted → length groups ≡ count → ((t : ℕ) → t < count → get_or groups t [] ≡ places_of t after) →
+    IsGrouped names sorted log groups
 IsGrouped-sorted names sorted ordinals log after groups count up stand named is long many grouped =
     let Named : List Occurrence → Type 0 = AreNamed sorted in
     let again : Named after = subst Named (sym is) (AreNamed-by_ordinal names sorted ordinals log stand named) in
-    let same : occurrence_values sorted after ≡ occurrence_values names log = ap (occurrence_values sorted) is ∙ occurrence_values-by_ordinal names sorted ordinals log stand named in
+    let same : occurrence_values sorted after ≡ occurrence_values names log =
+    ap (occurrence_values sorted) is ∙ occurrence_values-by_ordinal names sorted ordinals log stand named in
     let places : List OccurrenceValue → List (List Place) = λ os. map (λ q. places_with q os) sorted in
-    let are : groups ≡ places (occurrence_values names log) = groups_are sorted after groups up again (many ∙ long) (λ t within. grouped t (omega (arith, within, long))) ∙ ap places same in
-    let Is : List OccurrenceValue → List (List Place) → Type 0 = λ os gs. IsDictionaryOf os (names_listed gs sorted) (listed_by docs_in gs) (listed_by position_lists_of gs) in
+    let are : groups ≡ places (occurrence_values names log) =
+    groups_are sorted after groups up again (many ∙ long) (λ t within. grouped t (omega (arith, within, long))) ∙ ap places same in
+    let Is : List OccurrenceValue → List (List Place) → Type 0 =
+    λ os gs. IsDictionaryOf os (names_listed gs sorted) (listed_by docs_in gs) (listed_by position_lists_of gs) in
     record {
       groups_are = are;
       dictionary_is = subst (Is (occurrence_values names log)) (sym are) (subst (λ os. Is os (places os)) same (IsDictionaryOf-listed sorted after up again));
     }
 
 -- the documents of each group rise
-pub lists_rise : (names : List (List ℕ)) (os : List OccurrenceValue) → ((q : List ℕ) → IsStrictlyIncreasing (docs_with q os)) → All (λ places. IsStrictlyIncreasing (docs_in places)) (map (λ q. places_with q os) names)
+pub lists_rise : (names : List (List ℕ)) (os : List OccurrenceValue) → ((q : List ℕ) → IsStrictlyIncreasing (docs_with q os)) →
+    All (λ places. IsStrictlyIncreasing (docs_in places)) (map (λ q. places_with q os) names)
 lists_rise names os up =
     All-map (λ places. IsStrictlyIncreasing (docs_in places)) (λ q. places_with q os) names (λ k d within.
     let P : List ℕ → Type 0 = λ ns. IsStrictlyIncreasing ns in subst P (sym (docs_right (get_or names k d) os)) (up (get_or names k d)))

@@ -1,5 +1,7 @@
 -- Indexes of fields.
-use Rattle.std.proofs.Common.{◌≡◌, ◌+◌, ◌^◌, ◌==◌, ◌<◌, ◌≤◌, ℕ, ℤ, pos, negsuc, suc, zero, Bool, true, false, cond, List, [], ◌∷◌, ◌++◌, Option, Some, None, map, length, get_or, refl, sym, ap, subst, ◌∙◌, inl, inr, arith, All, Contains, IfSome, IfNone, MatchOption, take, Bor, length-append}
+use Rattle.std.proofs.Common.{◌≡◌, ◌+◌, ◌^◌, ◌==◌, ◌<◌, ◌≤◌, ℕ, ℤ, pos, negsuc, suc, zero, Bool, true, false, cond, List, [], ◌∷◌, ◌++◌, Option, Some, None}
+use Rattle.std.proofs.Common.{map, length, get_or, refl, sym, ap, subst, ◌∙◌, inl, inr, arith, All, Contains, IfSome, IfNone, MatchOption, take, Bor}
+use Rattle.std.proofs.Common.{length-append}
 use Rattle.std.specs.Prelude.{slice_get, option_copied, option_map, option_and_then, nat_lt}
 use Rattle.std.specs.Ordering.{int_eq}
 use Rattle.std.specs.Cmp.{signed_Decides}
@@ -41,10 +43,13 @@ use Rattle.fts_segment.proofs.SegmentLemmas.{found_list, absent_list}
 -- these are the indexes of the first fields
 pub record AreFirst (schema : List Field) (documents : List (Stamped DocumentValue)) (count : ℕ) (indexes : List FieldIndex) : Type 0 where
   pub many : length indexes ≡ count
-  pub each : (f : ℕ) (field : Field) (index : FieldIndex) → slice_get schema f ≡ Some field → slice_get indexes f ≡ Some index → IsFieldIndex field.kind (values_in f documents) index
+  pub each : (f : ℕ) (field : Field) (index : FieldIndex) → slice_get schema f ≡ Some field → slice_get indexes f ≡ Some index →
+      IsFieldIndex field.kind (values_in f documents) index
 
-pub AreFirst-push : {schema : List Field} {documents : List (Stamped DocumentValue)} {count : ℕ} {indexes : List FieldIndex} (index : FieldIndex) (at : Field) → slice_get schema count ≡ Some at →
-    IsFieldIndex at.kind (values_in count documents) index → AreFirst schema documents count indexes → AreFirst schema documents (count + 1) (indexes ++ index ∷ [])
+pub AreFirst-push : {schema : List Field} {documents : List (Stamped DocumentValue)} {count : ℕ} {indexes : List FieldIndex} (index : FieldIndex) (at : Field) →
+    slice_get schema count ≡ Some at →
+    IsFieldIndex at.kind (values_in count documents) index → AreFirst schema documents count indexes →
+    AreFirst schema documents (count + 1) (indexes ++ index ∷ [])
 AreFirst-push {schema} {documents} {count} {indexes} index at here is s = record {
   many = omega (arith, length-append indexes (index ∷ []), s.many);
   each = λ f field one there found. elim (slice_get_push_cases indexes index f one found) [
@@ -77,17 +82,21 @@ holds-tokens kinds.U64 text (Some (values.Number (numbers.I64 n))) = refl
 holds-tokens kinds.I64 text (Some (values.Number (numbers.U64 n))) = refl
 holds-tokens kinds.I64 text (Some (values.Number (numbers.I64 n))) = refl
 
-docs_with-holds : (kind : Kind) (text : List ℕ) (vs : List (Option FieldValue)) → docs_with text (occurrences kind 0 vs) ≡ numbers_where (holds kind (values.Text text)) 0 vs
+docs_with-holds : (kind : Kind) (text : List ℕ) (vs : List (Option FieldValue)) →
+    docs_with text (occurrences kind 0 vs) ≡ numbers_where (holds kind (values.Text text)) 0 vs
 docs_with-holds kind text vs = docs_with-occurrences text kind 0 vs
-    ∙ numbers_where-same (λ v. list_any (is_token text) (tokens_of kind v)) (holds kind (values.Text text)) 0 vs (λ k d h. holds-tokens kind text (get_or vs k d))
+    ∙ numbers_where-same (λ v. list_any (is_token text) (tokens_of kind v)) (holds kind (values.Text text)) 0 vs
+    (λ k d h. holds-tokens kind text (get_or vs k d))
 
 -- what is not among the terms no document has
-pub text_absent : {kind : Kind} {vs : List (Option FieldValue)} {dictionary : Dictionary} (text : List ℕ) → AreTerms kind vs dictionary → ((i : ℕ) → slice_get dictionary.names i ≡ Some text → ⊥) →
+pub text_absent : {kind : Kind} {vs : List (Option FieldValue)} {dictionary : Dictionary} (text : List ℕ) → AreTerms kind vs dictionary →
+    ((i : ℕ) → slice_get dictionary.names i ≡ Some text → ⊥) →
     numbers_where (holds kind (values.Text text)) 0 vs ≡ []
 text_absent {kind} {vs} {dictionary} text a absent = sym (docs_with-holds kind text vs) ∙ absent_list text a.dictionary_is absent
 
 -- a term has the list of its documents
-pub text_found : {kind : Kind} {vs : List (Option FieldValue)} {dictionary : Dictionary} (text : List ℕ) (i : ℕ) → AreTerms kind vs dictionary → slice_get dictionary.names i ≡ Some text →
+pub text_found : {kind : Kind} {vs : List (Option FieldValue)} {dictionary : Dictionary} (text : List ℕ) (i : ℕ) → AreTerms kind vs dictionary →
+    slice_get dictionary.names i ≡ Some text →
     (get_or dictionary.lists.items i [] ≡ numbers_where (holds kind (values.Text text)) 0 vs) × (get_or dictionary.lists.items i [] ≡ [] → ⊥)
 text_found {kind} {vs} {dictionary} text i a found =
     let list = found_list i text a.dictionary_is found in
@@ -126,7 +135,8 @@ texts_in_value kinds.I64 texts (Some (values.Number (numbers.I64 n))) = refl
 pub texts_without : (kind : Kind) (vs : List (Option FieldValue)) (texts : List (List ℕ)) → numbers_where (holds kind (values.Texts texts)) 0 vs ≡ []
 texts_without kind vs texts = numbers_where-none (holds kind (values.Texts texts)) 0 vs (λ k d h. texts_in_value kind texts (get_or vs k d))
 
-pub text_without : {kind : Kind} {vs : List (Option FieldValue)} {dictionary : Dictionary} (n : Number) → AreTerms kind vs dictionary → numbers_where (holds kind (values.Number n)) 0 vs ≡ []
+pub text_without : {kind : Kind} {vs : List (Option FieldValue)} {dictionary : Dictionary} (n : Number) → AreTerms kind vs dictionary →
+    numbers_where (holds kind (values.Number n)) 0 vs ≡ []
 text_without {kind} {vs} n a = numbers_where-none (holds kind (values.Number n)) 0 vs (λ k d h. number_in_text kind n (get_or vs k d) a.kind_is)
 
 eqb-refl_at : (a b : ℕ) → a ≡ b → (a == b) ≡ true
@@ -149,10 +159,12 @@ int_test n m f g = elim (cases_Bool (int_eq n m)) [
 ]
 
 -- a value has a number as a term where it is that number
-number_test : (kind : Kind) (term : FieldValue) (x : ℕ) (v : Option FieldValue) → number_of kind (Some term) ≡ Some x → Fits64 kind term → IfSome v (Fits64 kind) → holds kind term v ≡ is_number x (number_of kind v)
+number_test : (kind : Kind) (term : FieldValue) (x : ℕ) (v : Option FieldValue) → number_of kind (Some term) ≡ Some x → Fits64 kind term →
+    IfSome v (Fits64 kind) → holds kind term v ≡ is_number x (number_of kind v)
 number_test kind term x None is f g = refl
 number_test kinds.U64 (values.Number (numbers.U64 m)) x (Some (values.Number (numbers.U64 n))) is f g = ap (λ k. n == k) (let same : m ≡ x = cc in same)
-number_test kinds.I64 (values.Number (numbers.I64 m)) x (Some (values.Number (numbers.I64 n))) is f g = sym (int_test n m g f) ∙ ap (λ k. u64_of n == k) (let same : u64_of m ≡ x = cc in same)
+number_test kinds.I64 (values.Number (numbers.I64 m)) x (Some (values.Number (numbers.I64 n))) is f g =
+    sym (int_test n m g f) ∙ ap (λ k. u64_of n == k) (let same : u64_of m ≡ x = cc in same)
 number_test kinds.U64 (values.Number (numbers.U64 m)) x (Some (values.Number (numbers.I64 n))) is f g = refl
 number_test kinds.I64 (values.Number (numbers.I64 m)) x (Some (values.Number (numbers.U64 n))) is f g = refl
 number_test kinds.U64 (values.Number (numbers.U64 m)) x (Some (values.Texts ts)) is f g = refl
@@ -174,7 +186,8 @@ number_test kinds.Keyword (values.Number (numbers.U64 m)) x (Some v) is f g = ab
 number_test kinds.Text (values.Number (numbers.I64 m)) x (Some v) is f g = absurd (let clash : None ≡ Some x = is in cc)
 number_test kinds.Keyword (values.Number (numbers.I64 m)) x (Some v) is f g = absurd (let clash : None ≡ Some x = is in cc)
 
-holders_of : (kind : Kind) (term : FieldValue) (x : ℕ) (vs : List (Option FieldValue)) → number_of kind (Some term) ≡ Some x → Fits64 kind term → All (λ v. IfSome v (Fits64 kind)) vs →
+holders_of : (kind : Kind) (term : FieldValue) (x : ℕ) (vs : List (Option FieldValue)) → number_of kind (Some term) ≡ Some x → Fits64 kind term →
+    All (λ v. IfSome v (Fits64 kind)) vs →
     numbers_where (holds kind term) 0 vs ≡ numbers_where (is_number x) 0 (numbers_of kind vs)
 holders_of kind term x vs is f fit =
     numbers_where-same (holds kind term) (λ v. is_number x (number_of kind v)) 0 vs (λ k d h. number_test kind term x (get_or vs k d) is f (fit k d h))
@@ -185,7 +198,8 @@ is_number-is x None h = absurd (let clash : false ≡ true = h in cc)
 is_number-is x (Some y) h = ap Some (eqb-true y x h)
 
 -- what is not among the numbers no document has
-pub number_absent : {kind : Kind} {vs : List (Option FieldValue)} {index : NumberIndex} (term : FieldValue) (x : ℕ) → AreNumbers kind vs index → number_of kind (Some term) ≡ Some x → Fits64 kind term →
+pub number_absent : {kind : Kind} {vs : List (Option FieldValue)} {index : NumberIndex} (term : FieldValue) (x : ℕ) → AreNumbers kind vs index →
+    number_of kind (Some term) ≡ Some x → Fits64 kind term →
     ((i : ℕ) → slice_get index.numbers.items i ≡ Some x → ⊥) → numbers_where (holds kind term) 0 vs ≡ []
 number_absent {kind} {vs} {index} term x a is f absent =
     let column = numbers_of kind vs in
@@ -197,17 +211,22 @@ number_absent {kind} {vs} {index} term x a is f absent =
       | inr it_isnt ↦ it_isnt
     ])
 
-numbers_where-some : {X : Type 0} (p : X → Bool) (n : ℕ) (xs : List X) (k : ℕ) (d : X) → k < length xs → p (get_or xs k d) ≡ true → numbers_where p n xs ≡ [] → ⊥
+numbers_where-some : {X : Type 0} (p : X → Bool) (n : ℕ) (xs : List X) (k : ℕ) (d : X) → k < length xs → p (get_or xs k d) ≡ true → numbers_where p n xs ≡ [] →
+    ⊥
 numbers_where-some p n [] k d h is none = absurd (omega arith)
 numbers_where-some p n (x ∷ xs) zero d h is none =
-    let clash : n ∷ numbers_where p (n + 1) xs ≡ [] = sym (ap (λ b. cond b (n ∷ numbers_where p (n + 1) xs) (numbers_where p (n + 1) xs)) is) ∙ sym (numbers_where-cons p n x xs) ∙ none in cc
+    let clash : n ∷ numbers_where p (n + 1) xs ≡ [] = sym (ap (λ b. cond b (n ∷ numbers_where p (n + 1) xs) (numbers_where p (n + 1) xs)) is)
+    ∙ sym (numbers_where-cons p n x xs) ∙ none in cc
 numbers_where-some p n (x ∷ xs) (suc k) d h is none = elim (cases_Bool (p x)) [
-  | inl it_is ↦ let clash : n ∷ numbers_where p (n + 1) xs ≡ [] = sym (ap (λ b. cond b (n ∷ numbers_where p (n + 1) xs) (numbers_where p (n + 1) xs)) it_is) ∙ sym (numbers_where-cons p n x xs) ∙ none in cc
-  | inr it_isnt ↦ numbers_where-some p (n + 1) xs k d (omega arith) is (sym (ap (λ b. cond b (n ∷ numbers_where p (n + 1) xs) (numbers_where p (n + 1) xs)) it_isnt) ∙ sym (numbers_where-cons p n x xs) ∙ none)
+  | inl it_is ↦ let clash : n ∷ numbers_where p (n + 1) xs ≡ [] = sym (ap (λ b. cond b (n ∷ numbers_where p (n + 1) xs) (numbers_where p (n + 1) xs)) it_is)
+      ∙ sym (numbers_where-cons p n x xs) ∙ none in cc
+  | inr it_isnt ↦ numbers_where-some p (n + 1) xs k d (omega arith) is
+      (sym (ap (λ b. cond b (n ∷ numbers_where p (n + 1) xs) (numbers_where p (n + 1) xs)) it_isnt) ∙ sym (numbers_where-cons p n x xs) ∙ none)
 ]
 
 -- a number has the list of its documents
-pub number_found : {kind : Kind} {vs : List (Option FieldValue)} {index : NumberIndex} (term : FieldValue) (x i : ℕ) → AreNumbers kind vs index → number_of kind (Some term) ≡ Some x → Fits64 kind term →
+pub number_found : {kind : Kind} {vs : List (Option FieldValue)} {index : NumberIndex} (term : FieldValue) (x i : ℕ) → AreNumbers kind vs index →
+    number_of kind (Some term) ≡ Some x → Fits64 kind term →
     slice_get index.numbers.items i ≡ Some x → (get_or index.lists.items i [] ≡ numbers_where (holds kind term) 0 vs) × (get_or index.lists.items i [] ≡ [] → ⊥)
 number_found {kind} {vs} {index} term x i a is f found =
     let column = numbers_of kind vs in
@@ -220,7 +239,8 @@ number_found {kind} {vs} {index} term x i a is f found =
     (list ∙ sym (holders_of kind term x vs is f a.fit), λ none. numbers_where-some (is_number x) 0 column at.0 (Some x) at.1 passes (sym list ∙ none))
 
 -- a value has no term that is no number of its kind
-pub no_number : (kind : Kind) (term : FieldValue) (v : Option FieldValue) → holds_numbers kind ≡ true → number_of kind (Some term) ≡ None → holds kind term v ≡ false
+pub no_number : (kind : Kind) (term : FieldValue) (v : Option FieldValue) → holds_numbers kind ≡ true → number_of kind (Some term) ≡ None →
+    holds kind term v ≡ false
 no_number kind term None h is = refl
 no_number kinds.Text term (Some v) h is = absurd (let clash : false ≡ true = h in cc)
 no_number kinds.Keyword term (Some v) h is = absurd (let clash : false ≡ true = h in cc)
@@ -245,7 +265,8 @@ no_number kinds.I64 (values.Text t) (Some (values.Number (numbers.I64 n))) h is 
 no_number kinds.U64 (values.Texts ts) (Some v) h is = texts_in_value kinds.U64 ts (Some v)
 no_number kinds.I64 (values.Texts ts) (Some v) h is = texts_in_value kinds.I64 ts (Some v)
 
-pub none_without : {kind : Kind} {vs : List (Option FieldValue)} {index : NumberIndex} (term : FieldValue) → AreNumbers kind vs index → number_of kind (Some term) ≡ None → numbers_where (holds kind term) 0 vs ≡ []
+pub none_without : {kind : Kind} {vs : List (Option FieldValue)} {index : NumberIndex} (term : FieldValue) → AreNumbers kind vs index →
+    number_of kind (Some term) ≡ None → numbers_where (holds kind term) 0 vs ≡ []
 none_without {kind} {vs} term a is = numbers_where-none (holds kind term) 0 vs (λ k d h. no_number kind term (get_or vs k d) a.kind_is is)
 
 pub if_none : {X : Type 0} {P A : Type 0} (Q : X → Type 0) (o : Option X) → MatchOption o P Q → (P → A) → IfNone o A
@@ -265,7 +286,8 @@ pub postings-values : (segment : SegmentValue) (term : Term) (field : Field) →
     postings segment term ≡ numbers_where (holds field.kind term.value) 0 (values_in term.field segment.documents)
 postings-values segment term field at =
     numbers_where-map (λ (d : Stamped DocumentValue). has segment.schema d.value term) (holds field.kind term.value) (λ d. value_in_field d.value term.field)
-    (λ d. ap (λ f. field_has f (value_in_field d.value term.field) term.value) at ∙ field_holds field (value_in_field d.value term.field) term.value) 0 segment.documents
+    (λ d. ap (λ f. field_has f (value_in_field d.value term.field) term.value) at ∙ field_holds field (value_in_field d.value term.field) term.value) 0
+    segment.documents
 
 -- no document has a term of a field that isn't there
 pub no_field : (segment : SegmentValue) (term : Term) → slice_get segment.schema term.field ≡ None → postings segment term ≡ []
@@ -294,8 +316,10 @@ field_at None kind h = absurd (let clash : None ≡ Some kind = h in cc)
 field_at (Some field) kind h = (field, refl, (let same : Some field.kind ≡ Some kind = h in cc))
 
 -- the index of a field, as it is read, is that of its values
-pub index_at : {schema : List Field} {documents : List (Stamped DocumentValue)} {indexes : List FieldIndex} (f : ℕ) (kind : Kind) (index : FieldIndex) (read : List FieldIndex) → AreIndexes schema documents indexes →
-    option_map (λ f. f.kind) (slice_get schema f) ≡ Some kind → read ≡ indexes → true ≡ nat_lt f (length read) → index ≡ get_or read f index → IsFieldIndex kind (values_in f documents) index
+pub index_at : {schema : List Field} {documents : List (Stamped DocumentValue)} {indexes : List FieldIndex} (f : ℕ) (kind : Kind) (index : FieldIndex)
+    (read : List FieldIndex) → AreIndexes schema documents indexes →
+    option_map (λ f. f.kind) (slice_get schema f) ≡ Some kind → read ≡ indexes → true ≡ nat_lt f (length read) → index ≡ get_or read f index →
+    IsFieldIndex kind (values_in f documents) index
 index_at {schema} {documents} {indexes} f kind index read a here same within is =
     let field = field_at (slice_get schema f) kind here in
     let P : Kind → Type 0 = λ k. IsFieldIndex k (values_in f documents) index in
@@ -310,31 +334,37 @@ postings-kind segment term kind here =
     ap (λ k. numbers_where (holds k term.value) 0 (values_in term.field segment.documents)) (sym field.2) ∙ sym (postings-values segment term field.0 field.1)
 
 -- the same where its place is known
-pub index_found : {schema : List Field} {documents : List (Stamped DocumentValue)} {indexes : List FieldIndex} (f : ℕ) (kind : Kind) (index : FieldIndex) → AreIndexes schema documents indexes →
-    option_map (λ f. f.kind) (slice_get schema f) ≡ Some kind → f < length indexes → index ≡ get_or indexes f index → IsFieldIndex kind (values_in f documents) index
+pub index_found : {schema : List Field} {documents : List (Stamped DocumentValue)} {indexes : List FieldIndex} (f : ℕ) (kind : Kind) (index : FieldIndex) →
+    AreIndexes schema documents indexes →
+    option_map (λ f. f.kind) (slice_get schema f) ≡ Some kind → f < length indexes → index ≡ get_or indexes f index →
+    IsFieldIndex kind (values_in f documents) index
 index_found {schema} {documents} {indexes} f kind index a here within is =
     let field = field_at (slice_get schema f) kind here in
     let P : Kind → Type 0 = λ k. IsFieldIndex k (values_in f documents) index in
     subst P field.2 (a.each f field.0 index field.1 (slice_get-get_or indexes f index within ∙ ap Some (sym is)))
 
-pub stored_index : {schema : List Field} {documents : List (Stamped DocumentValue)} {indexes : List FieldIndex} (f : ℕ) (kind : Kind) (index : FieldIndex) → AreIndexes schema documents indexes →
+pub stored_index : {schema : List Field} {documents : List (Stamped DocumentValue)} {indexes : List FieldIndex} (f : ℕ) (kind : Kind) (index : FieldIndex) →
+    AreIndexes schema documents indexes →
     option_map (λ f. f.kind) (slice_get schema f) ≡ Some kind → index ≡ get_or indexes f index → IsFieldIndex kind (values_in f documents) index
 stored_index {schema} {documents} {indexes} f kind index a here is =
     let field = field_at (slice_get schema f) kind here in
     index_found f kind index a here (omega (arith, slice_get_within schema f field.0 field.1, a.count)) is
 
 -- the numbers of the values of a field are those of the documents
-pub numbers_of-values : (segment : SegmentValue) (f : ℕ) (kind : Kind) → option_map (λ f. f.kind) (slice_get segment.schema f) ≡ Some kind → numbers_of kind (values_in f segment.documents) ≡ column segment f
+pub numbers_of-values : (segment : SegmentValue) (f : ℕ) (kind : Kind) → option_map (λ f. f.kind) (slice_get segment.schema f) ≡ Some kind →
+    numbers_of kind (values_in f segment.documents) ≡ column segment f
 numbers_of-values segment f kind here =
     sym (map-map (number_of kind) (λ (d : Stamped DocumentValue). value_in_field d.value f) segment.documents)
     ∙ ap (λ k. map (λ (d : Stamped DocumentValue). option_and_then (λ kind. number_of kind (value_in_field d.value f)) k) segment.documents) (sym here)
 
 -- and the ordinals of these are those of the documents
-pub ordinals_of-values : (segment : SegmentValue) (f : ℕ) (kind : Kind) → option_map (λ f. f.kind) (slice_get segment.schema f) ≡ Some kind → ordinals_of kind (values_in f segment.documents) ≡ ordinals segment f
+pub ordinals_of-values : (segment : SegmentValue) (f : ℕ) (kind : Kind) → option_map (λ f. f.kind) (slice_get segment.schema f) ≡ Some kind →
+    ordinals_of kind (values_in f segment.documents) ≡ ordinals segment f
 ordinals_of-values segment f kind here = ap (λ k. option_map_or (λ kind. ordinals_of kind (values_in f segment.documents)) k []) (sym here)
 
 -- and so are their texts
-pub texts_of-values : (segment : SegmentValue) (f : ℕ) (kind : Kind) → option_map (λ f. f.kind) (slice_get segment.schema f) ≡ Some kind → texts_of kind (values_in f segment.documents) ≡ keywords segment f
+pub texts_of-values : (segment : SegmentValue) (f : ℕ) (kind : Kind) → option_map (λ f. f.kind) (slice_get segment.schema f) ≡ Some kind →
+    texts_of kind (values_in f segment.documents) ≡ keywords segment f
 texts_of-values segment f kind here = ap (λ k. option_map_or (λ kind. texts_of kind (values_in f segment.documents)) k []) (sym here)
 
 no_number_fits : (vs : List (Option FieldValue)) → All (λ v. IfSome v (Fits64 kinds.Text)) vs × All (λ v. IfSome v (Fits64 kinds.Keyword)) vs

@@ -26,7 +26,8 @@ same_from_equal xs ys h = (bytes_eq-Decides xs ys).0 (texts_ties xs ys ∙ ap is
 pub turned : (xs ys : List ℕ) (o : Ordering) → slice_cmp nat_cmp xs ys ≡ o → slice_cmp nat_cmp ys xs ≡ ordering_reverse o
 turned xs ys o h = nat_list_cmp_total.antisymm ys xs ∙ ap ordering_reverse h
 
-pub Narrows-less : {names : List (List ℕ)} {term : List ℕ} {low high : ℕ} (middle : ℕ) → Ascends names → Narrows names term low high → low ≤ middle → middle < high →
+pub Narrows-less : {names : List (List ℕ)} {term : List ℕ} {low high : ℕ} (middle : ℕ) → Ascends names → Narrows names term low high → low ≤ middle →
+    middle < high →
     slice_cmp nat_cmp (get_or names middle []) term ≡ Less → Narrows names term (middle + 1) high
 Narrows-less {names} {term} {low} {high} middle up n from below less = record {
   ordered = omega arith;
@@ -38,7 +39,8 @@ Narrows-less {names} {term} {low} {high} middle up n from below less = record {
   behind = n.behind;
 }
 
-pub Narrows-greater : {names : List (List ℕ)} {term : List ℕ} {low high : ℕ} (middle : ℕ) → Ascends names → Narrows names term low high → low ≤ middle → middle < high →
+pub Narrows-greater : {names : List (List ℕ)} {term : List ℕ} {low high : ℕ} (middle : ℕ) → Ascends names → Narrows names term low high → low ≤ middle →
+    middle < high →
     slice_cmp nat_cmp (get_or names middle []) term ≡ Greater → Narrows names term low middle
 Narrows-greater {names} {term} {low} {high} middle up n from below greater = record {
   ordered = from;
@@ -46,12 +48,14 @@ Narrows-greater {names} {term} {low} {high} middle up n from below greater = rec
   before = n.before;
   behind = λ i h within. elim (cases_lt middle i) [
     | inl higher ↦ turned term (get_or names i []) Less
-        (nat_list_cmp_total.trans term (get_or names middle []) (get_or names i []) (turned (get_or names middle []) term Greater greater) (up middle i higher within))
+        (nat_list_cmp_total.trans term (get_or names middle []) (get_or names i []) (turned (get_or names middle []) term Greater greater)
+        (up middle i higher within))
     | inr lower ↦ let same : middle ≡ i = omega arith in let P : ℕ → Type 0 = λ k. slice_cmp nat_cmp (get_or names k []) term ≡ Greater in subst P same greater
   ];
 }
 
-pub Narrows-none : {names : List (List ℕ)} {term : List ℕ} {low high : ℕ} → Narrows names term low high → high ≤ low → (i : ℕ) → slice_get names i ≡ Some term → ⊥
+pub Narrows-none : {names : List (List ℕ)} {term : List ℕ} {low high : ℕ} → Narrows names term low high → high ≤ low → (i : ℕ) → slice_get names i ≡ Some term →
+    ⊥
 Narrows-none {names} {term} {low} {high} n met i found =
     let within : i < length names = slice_get_within names i term found in
     let here : get_or names i [] ≡ term = get_or_from_slice_get names i term [] found in
@@ -61,17 +65,20 @@ Narrows-none {names} {term} {low} {high} n met i found =
       | inr higher ↦ let clash : Greater ≡ Equal = sym (n.behind i (omega arith) within) ∙ itself in cc
     ]
 
-pub Narrows-found : (names : List (List ℕ)) (term : List ℕ) (middle : ℕ) → middle < length names → slice_cmp nat_cmp (get_or names middle []) term ≡ Equal → slice_get names middle ≡ Some term
+pub Narrows-found : (names : List (List ℕ)) (term : List ℕ) (middle : ℕ) → middle < length names → slice_cmp nat_cmp (get_or names middle []) term ≡ Equal →
+    slice_get names middle ≡ Some term
 Narrows-found names term middle within equal = slice_get-get_or names middle [] within ∙ ap Some (same_from_equal (get_or names middle []) term equal)
 
 -- where nothing is left between them, `low` names are before the term, and none is the term
 pub Narrows-before : {names : List (List ℕ)} {term : List ℕ} {low high : ℕ} → Narrows names term low high → high ≤ low → before names term ≡ low
 Narrows-before {names} {term} {low} {high} n met =
-    count_front (λ t. text_lt t term) names low (omega (arith, n.ordered, n.within, met)) (λ i h. ap is_lt (n.before i h)) (λ i h within. ap is_lt (n.behind i (omega (arith, met, h)) within))
+    count_front (λ t. text_lt t term) names low (omega (arith, n.ordered, n.within, met)) (λ i h. ap is_lt (n.before i h))
+    (λ i h within. ap is_lt (n.behind i (omega (arith, met, h)) within))
 
 pub Narrows-up_to : {names : List (List ℕ)} {term : List ℕ} {low high : ℕ} → Narrows names term low high → high ≤ low → up_to names term ≡ low
 Narrows-up_to {names} {term} {low} {high} n met =
-    count_front (λ t. text_le t term) names low (omega (arith, n.ordered, n.within, met)) (λ i h. ap is_le (n.before i h)) (λ i h within. ap is_le (n.behind i (omega (arith, met, h)) within))
+    count_front (λ t. text_le t term) names low (omega (arith, n.ordered, n.within, met)) (λ i h. ap is_le (n.before i h))
+    (λ i h within. ap is_le (n.behind i (omega (arith, met, h)) within))
 
 -- a name that is there isn't behind itself, nor are those before it
 pub up_to-found : (names : List (List ℕ)) (term : List ℕ) (i : ℕ) → Ascends names → slice_get names i ≡ Some term → up_to names term ≡ i + 1
@@ -81,6 +88,9 @@ up_to-found names term i up found =
     count_front (λ t. text_le t term) names (i + 1) (omega (arith, within))
     (λ k h. elim (cases_lt k i) [
       | inl lower ↦ ap is_le (ap (slice_cmp nat_cmp (get_or names k [])) (sym here) ∙ up k i lower within)
-      | inr higher ↦ let same : i ≡ k = omega (arith, h, higher) in ap is_le (ap (λ k. slice_cmp nat_cmp (get_or names k []) term) (sym same) ∙ ap (λ t. slice_cmp nat_cmp t term) here ∙ tied_itself nat_list_cmp_total term)
+      | inr higher ↦ let same : i ≡ k = omega (arith, h, higher) in
+          ap is_le (ap (λ k. slice_cmp nat_cmp (get_or names k []) term) (sym same) ∙ ap (λ t. slice_cmp nat_cmp t term) here ∙ tied_itself nat_list_cmp_total
+          term)
     ])
-    (λ k h inside. ap is_le (ap (slice_cmp nat_cmp (get_or names k [])) (sym here) ∙ turned (get_or names i []) (get_or names k []) Less (up i k (omega (arith, h)) inside)))
+    (λ k h inside. ap is_le (ap (slice_cmp nat_cmp (get_or names k [])) (sym here) ∙ turned (get_or names i []) (get_or names k []) Less
+    (up i k (omega (arith, h)) inside)))

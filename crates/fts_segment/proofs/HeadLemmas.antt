@@ -1,5 +1,6 @@
 -- Heads of names, and the order that they tell.
-use Rattle.std.proofs.Common.{◌≡◌, ◌+◌, ◌*◌, ◌^◌, ◌<◌, ◌≤◌, ℕ, zero, suc, List, [], ◌∷◌, ◌++◌, length, get_or, refl, sym, ap, ◌∙◌, arith, Ordering, Less, Equal, add-one, pow-suc}
+use Rattle.std.proofs.Common.{◌≡◌, ◌+◌, ◌*◌, ◌^◌, ◌<◌, ◌≤◌, ℕ, zero, suc, List, [], ◌∷◌, ◌++◌, length, get_or, refl, sym, ap, ◌∙◌, arith, Ordering, Less, Equal}
+use Rattle.std.proofs.Common.{add-one, pow-suc}
 use Rattle.std.specs.Ordering.{nat_cmp, ordering_then}
 use Rattle.std.specs.Cmp.Lexicographic.{slice_cmp}
 use Rattle.std.proofs.Math.Nat.{one-le-pow, pow-le-pow_right, mul-le-mul_right}
@@ -31,7 +32,8 @@ head-more n bytes = rw add-one (head-suc n bytes)
 
 -- and it fits eight bytes where it has no more
 pub head-fits : (n : ℕ) (bytes : List ℕ) → AreBytes bytes → n < 8 → head n bytes * 256 + get_or bytes n 0 < 2 ^ 64
-head-fits n bytes small few = omega (arith, head-suc n bytes, head-below (suc n) bytes small, pow-le-pow_right {n = 256} (omega arith) {i = suc n} {j = 8} (omega (arith, few)))
+head-fits n bytes small few =
+    omega (arith, head-suc n bytes, head-below (suc n) bytes small, pow-le-pow_right {n = 256} (omega arith) {i = suc n} {j = 8} (omega (arith, few)))
 
 -- a lower head is a name before
 pub lower : (n : ℕ) (xs ys : List ℕ) → AreBytes ys → head n xs < head n ys → slice_cmp nat_cmp xs ys ≡ Less
@@ -50,14 +52,16 @@ lower (suc n) (x ∷ xs) (y ∷ ys) small less =
     absurd (omega (arith, less, more, head-below n ys (λ i. small (suc i)))))
 
 -- heads that differ are in the order of the names
-pub order_of_heads : (n : ℕ) (xs ys : List ℕ) (o : Ordering) → AreBytes xs → AreBytes ys → o ≡ nat_cmp (head n xs) (head n ys) → (o ≡ Equal → ⊥) → o ≡ slice_cmp nat_cmp xs ys
+pub order_of_heads : (n : ℕ) (xs ys : List ℕ) (o : Ordering) → AreBytes xs → AreBytes ys → o ≡ nat_cmp (head n xs) (head n ys) → (o ≡ Equal → ⊥) →
+    o ≡ slice_cmp nat_cmp xs ys
 order_of_heads n xs ys o these those is differ =
     by_ranked (head n xs < head n ys) (head n xs ≡ head n ys) (head n ys < head n xs) o (ranked (head n xs) (head n ys) o is)
     (λ less before. less ∙ sym (lower n xs ys those before))
     (λ equal same. absurd (differ equal))
     (λ greater behind. greater ∙ sym (turned ys xs Less (lower n ys xs these behind)))
 
-pub AreHeads-push : (heads : List ℕ) (names : List (List ℕ)) (name : List ℕ) → AreBytes name → AreHeads heads names → AreHeads (heads ++ head 8 name ∷ []) (names ++ name ∷ [])
+pub AreHeads-push : (heads : List ℕ) (names : List (List ℕ)) (name : List ℕ) → AreBytes name → AreHeads heads names →
+    AreHeads (heads ++ head 8 name ∷ []) (names ++ name ∷ [])
 AreHeads-push heads names name small h = record {
   are = ap (λ hs. hs ++ head 8 name ∷ []) h.are ∙ sym (map-append (head 8) names (name ∷ []));
   bytes = All-push AreBytes names name h.bytes small;

@@ -1,5 +1,6 @@
 -- The documents that hold a term.
-use Rattle.std.proofs.Common.{◌≡◌, ◌+◌, ◌<◌, ◌≤◌, ◌||◌, ℕ, suc, Bool, true, false, cond, List, [], ◌∷◌, ◌++◌, Option, Some, Contains, ⊎_elim, map, filter, length, refl, sym, ap, subst, ◌∙◌, arith, All, nat_eq}
+use Rattle.std.proofs.Common.{◌≡◌, ◌+◌, ◌<◌, ◌≤◌, ◌||◌, ℕ, suc, Bool, true, false, cond, List, [], ◌∷◌, ◌++◌, Option, Some, Contains, ⊎_elim, map, filter}
+use Rattle.std.proofs.Common.{length, refl, sym, ap, subst, ◌∙◌, arith, All, nat_eq}
 use Rattle.std.specs.List.{list_any, dedup, dedup_from, AllPairs, enumerate_from}
 use Rattle.std.specs.List.Sorted.{IsStrictlyIncreasing}
 use Rattle.std.specs.Str.{bytes_eq}
@@ -39,14 +40,17 @@ after_first q kind doc vs =
     (All-weaker (λ (o : OccurrenceValue). doc + 1 ≤ o.doc) (λ (o : OccurrenceValue). doc < o.doc) (λ o above. omega arith) _ (from_first kind (doc + 1) vs)))
 
 docs_of-append : (q : List ℕ) (os ps : List OccurrenceValue) → docs_of q (os ++ ps) ≡ docs_of q os ++ docs_of q ps
-docs_of-append q os ps = ap (map (λ (o : OccurrenceValue). o.doc)) (filter-append (is_term q) os ps) ∙ map-append (λ (o : OccurrenceValue). o.doc) (filter (is_term q) os) (filter (is_term q) ps)
+docs_of-append q os ps = ap (map (λ (o : OccurrenceValue). o.doc)) (filter-append (is_term q) os ps)
+    ∙ map-append (λ (o : OccurrenceValue). o.doc) (filter (is_term q) os) (filter (is_term q) ps)
 
-pub docs_of-cons : (q : List ℕ) (o : OccurrenceValue) (os : List OccurrenceValue) (b : Bool) → is_term q o ≡ b → docs_of q (o ∷ os) ≡ cond b (o.doc ∷ docs_of q os) (docs_of q os)
+pub docs_of-cons : (q : List ℕ) (o : OccurrenceValue) (os : List OccurrenceValue) (b : Bool) → is_term q o ≡ b →
+    docs_of q (o ∷ os) ≡ cond b (o.doc ∷ docs_of q os) (docs_of q os)
 docs_of-cons q o os true is = ap (λ b. map (λ (o : OccurrenceValue). o.doc) (cond b (o ∷ filter (is_term q) os) (filter (is_term q) os))) is
 docs_of-cons q o os false is = ap (λ b. map (λ (o : OccurrenceValue). o.doc) (cond b (o ∷ filter (is_term q) os) (filter (is_term q) os))) is
 
 document_again : (doc n : ℕ) (xs : List ℕ) → n ≡ doc → dedup_from nat_eq doc (n ∷ xs) ≡ dedup_from nat_eq doc xs
-document_again doc n xs same = ap (λ b. cond b (dedup_from nat_eq doc xs) (doc ∷ dedup_from nat_eq n xs)) (let is : nat_eq n doc ≡ true = grind (arith, nat_tests) in is)
+document_again doc n xs same =
+    ap (λ b. cond b (dedup_from nat_eq doc xs) (doc ∷ dedup_from nat_eq n xs)) (let is : nat_eq n doc ≡ true = grind (arith, nat_tests) in is)
 
 document_ends : (doc : ℕ) (xs : List ℕ) → All (λ n. doc < n) xs → dedup_from nat_eq doc xs ≡ doc ∷ dedup nat_eq xs
 document_ends doc [] above = refl
@@ -54,7 +58,8 @@ document_ends doc (n ∷ xs) above =
     let more : doc < n = above 0 n (omega arith) in
     ap (λ b. cond b (dedup_from nat_eq doc xs) (doc ∷ dedup_from nat_eq n xs)) (let other : nat_eq n doc ≡ false = grind (arith, nat_tests) in other)
 
-one_document : (q : List ℕ) (doc : ℕ) (os : List OccurrenceValue) (xs : List ℕ) → AreOf doc os → All (λ n. doc < n) xs → dedup_from nat_eq doc (docs_of q os ++ xs) ≡ doc ∷ dedup nat_eq xs
+one_document : (q : List ℕ) (doc : ℕ) (os : List OccurrenceValue) (xs : List ℕ) → AreOf doc os → All (λ n. doc < n) xs →
+    dedup_from nat_eq doc (docs_of q os ++ xs) ≡ doc ∷ dedup nat_eq xs
 one_document q doc [] xs of above = document_ends doc xs above
 one_document q doc (o ∷ os) xs of above =
     let others = one_document q doc os xs (All-tail (λ (o : OccurrenceValue). o.doc ≡ doc) o os of) above in
@@ -71,8 +76,10 @@ document_first q doc [] xs of above = refl
 document_first q doc (o ∷ os) xs of above =
     let rest = All-tail (λ (o : OccurrenceValue). o.doc ≡ doc) o os of in
     let here = All-head (λ (o : OccurrenceValue). o.doc ≡ doc) o os of in
-    elim (is_term q o) as (λ b. is_term q o ≡ b → dedup nat_eq (docs_of q (o ∷ os) ++ xs) ≡ cond (b || list_any (is_term q) os) (doc ∷ dedup nat_eq xs) (dedup nat_eq xs)) [
-      | true ↦ λ is. ap (λ ns. dedup nat_eq (ns ++ xs)) (docs_of-cons q o os true is) ∙ ap (λ n. dedup_from nat_eq n (docs_of q os ++ xs)) here ∙ one_document q doc os xs rest above
+    elim (is_term q o) as (λ b. is_term q o ≡ b → dedup nat_eq (docs_of q (o ∷ os) ++ xs) ≡ cond (b || list_any (is_term q) os) (doc ∷ dedup nat_eq xs)
+    (dedup nat_eq xs)) [
+      | true ↦ λ is. ap (λ ns. dedup nat_eq (ns ++ xs)) (docs_of-cons q o os true is) ∙ ap (λ n. dedup_from nat_eq n (docs_of q os ++ xs)) here
+          ∙ one_document q doc os xs rest above
       | false ↦ λ is. ap (λ ns. dedup nat_eq (ns ++ xs)) (docs_of-cons q o os false is) ∙ document_first q doc os xs rest above
     ] refl
 
@@ -81,8 +88,11 @@ any_token : (q : List ℕ) (doc : ℕ) (ts : List (ℕ × List ℕ)) → list_an
 any_token q doc [] = refl
 any_token q doc (t ∷ ts) = ap (λ b. bytes_eq t.1 q || b) (any_token q doc ts)
 
-pub numbers_where-cons : {X : Type 0} (p : X → Bool) (n : ℕ) (x : X) (xs : List X) → numbers_where p n (x ∷ xs) ≡ cond (p x) (n ∷ numbers_where p (n + 1) xs) (numbers_where p (n + 1) xs)
-numbers_where-cons {X} p n x xs = elim (p x) as (λ b. map (λ (y : ℕ × X). y.0) (cond b ((n, x) ∷ filter (λ y. p y.1) (enumerate_from (n + 1) xs)) (filter (λ y. p y.1) (enumerate_from (n + 1) xs)))
+pub numbers_where-cons : {X : Type 0} (p : X → Bool) (n : ℕ) (x : X) (xs : List X) →
+    numbers_where p n (x ∷ xs) ≡ cond (p x) (n ∷ numbers_where p (n + 1) xs) (numbers_where p (n + 1) xs)
+numbers_where-cons {X} p n x xs =
+    elim (p x) as (λ b. map (λ (y : ℕ × X). y.0) (cond b ((n, x) ∷ filter (λ y. p y.1) (enumerate_from (n + 1) xs))
+    (filter (λ y. p y.1) (enumerate_from (n + 1) xs)))
     ≡ cond b (n ∷ numbers_where p (n + 1) xs) (numbers_where p (n + 1) xs)) [ true ↦ refl | false ↦ refl ]
 
 -- a number of an element that passes a test is that of one
@@ -102,18 +112,22 @@ numbers_where-holds {X} p n (x ∷ xs) k at = by (p x) refl (numbers_where-holds
         (Contains-cases n (numbers_where p (n + 1) xs) k at)
     by false is rest at = let r = rest at in (suc r.0, omega (arith, r.1), r.2, r.3, r.4)
 
-pub numbers_where-map : {X Y : Type 0} (p : X → Bool) (q : Y → Bool) (f : X → Y) → ((x : X) → p x ≡ q (f x)) → (n : ℕ) (xs : List X) → numbers_where p n xs ≡ numbers_where q n (map f xs)
+pub numbers_where-map : {X Y : Type 0} (p : X → Bool) (q : Y → Bool) (f : X → Y) → ((x : X) → p x ≡ q (f x)) → (n : ℕ) (xs : List X) →
+    numbers_where p n xs ≡ numbers_where q n (map f xs)
 numbers_where-map p q f same n [] = refl
 numbers_where-map p q f same n (x ∷ xs) =
     numbers_where-cons p n x xs ∙ ap (λ ns. cond (p x) (n ∷ ns) ns) (numbers_where-map p q f same (n + 1) xs)
     ∙ ap (λ b. cond b (n ∷ numbers_where q (n + 1) (map f xs)) (numbers_where q (n + 1) (map f xs))) (same x) ∙ sym (numbers_where-cons q n (f x) (map f xs))
 
-pub numbers_where-push : {X : Type 0} (p : X → Bool) (n : ℕ) (xs : List X) (x : X) → numbers_where p n (xs ++ x ∷ []) ≡ numbers_where p n xs ++ cond (p x) ((n + length xs) ∷ []) []
+pub numbers_where-push : {X : Type 0} (p : X → Bool) (n : ℕ) (xs : List X) (x : X) → numbers_where p n (xs ++ x ∷ []) ≡ numbers_where p n xs
+    ++ cond (p x) ((n + length xs) ∷ []) []
 numbers_where-push p n [] x = numbers_where-cons p n x [] ∙ ap (λ k. cond (p x) (k ∷ []) []) (let at : n ≡ n + 0 = omega arith in at)
 numbers_where-push p n (y ∷ xs) x =
     numbers_where-cons p n y (xs ++ x ∷ []) ∙ ap (λ ns. cond (p y) (n ∷ ns) ns) (numbers_where-push p (n + 1) xs x)
-    ∙ ap (λ k. cond (p y) (n ∷ (numbers_where p (n + 1) xs ++ cond (p x) (k ∷ []) [])) (numbers_where p (n + 1) xs ++ cond (p x) (k ∷ []) [])) (let at : n + 1 + length xs ≡ n + suc (length xs) = omega arith in at)
-    ∙ (elim (p y) as (λ b. cond b (n ∷ (numbers_where p (n + 1) xs ++ cond (p x) ((n + suc (length xs)) ∷ []) [])) (numbers_where p (n + 1) xs ++ cond (p x) ((n + suc (length xs)) ∷ []) [])
+    ∙ ap (λ k. cond (p y) (n ∷ (numbers_where p (n + 1) xs ++ cond (p x) (k ∷ []) [])) (numbers_where p (n + 1) xs ++ cond (p x) (k ∷ []) []))
+    (let at : n + 1 + length xs ≡ n + suc (length xs) = omega arith in at)
+    ∙ (elim (p y) as (λ b. cond b (n ∷ (numbers_where p (n + 1) xs ++ cond (p x) ((n + suc (length xs)) ∷ []) []))
+    (numbers_where p (n + 1) xs ++ cond (p x) ((n + suc (length xs)) ∷ []) [])
     ≡ cond b (n ∷ numbers_where p (n + 1) xs) (numbers_where p (n + 1) xs) ++ cond (p x) ((n + suc (length xs)) ∷ []) []) [ true ↦ refl | false ↦ refl ])
     ∙ ap (λ ns. ns ++ cond (p x) ((n + suc (length xs)) ∷ []) []) (sym (numbers_where-cons p n y xs))
 
@@ -121,7 +135,8 @@ pub numbers_where-same : {X : Type 0} (p q : X → Bool) (n : ℕ) (xs : List X)
 numbers_where-same p q n [] same = refl
 numbers_where-same {X} p q n (x ∷ xs) same =
     numbers_where-cons p n x xs ∙ ap (λ ns. cond (p x) (n ∷ ns) ns) (numbers_where-same p q (n + 1) xs (All-tail (λ (x : X). p x ≡ q x) x xs same))
-    ∙ ap (λ b. cond b (n ∷ numbers_where q (n + 1) xs) (numbers_where q (n + 1) xs)) (All-head (λ (x : X). p x ≡ q x) x xs same) ∙ sym (numbers_where-cons q n x xs)
+    ∙ ap (λ b. cond b (n ∷ numbers_where q (n + 1) xs) (numbers_where q (n + 1) xs)) (All-head (λ (x : X). p x ≡ q x) x xs same)
+    ∙ sym (numbers_where-cons q n x xs)
 
 pub numbers_where-none : {X : Type 0} (p : X → Bool) (n : ℕ) (xs : List X) → All (λ x. p x ≡ false) xs → numbers_where p n xs ≡ []
 numbers_where-none p n [] never = refl

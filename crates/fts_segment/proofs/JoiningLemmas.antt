@@ -1,5 +1,6 @@
 -- What was joined of parts, and what is left of them.
-use Rattle.std.proofs.Common.{◌≡◌, ◌≢◌, ◌⊎◌, inl, inr, ⊎_elim, ℕ, suc, true, false, cond, List, [], ◌∷◌, ◌++◌, Option, Some, None, map, flat_map, Contains, refl, sym, ap, ap₂, subst, ◌∙◌, Less, Equal, Greater}
+use Rattle.std.proofs.Common.{◌≡◌, ◌≢◌, ◌⊎◌, inl, inr, ⊎_elim, ℕ, suc, true, false, cond, List, [], ◌∷◌, ◌++◌, Option, Some, None, map, flat_map, Contains}
+use Rattle.std.proofs.Common.{refl, sym, ap, ap₂, subst, ◌∙◌, Less, Equal, Greater}
 use Rattle.std.specs.Prelude.{slice_get}
 use Rattle.std.specs.List.{AllByRecursion}
 use Rattle.std.specs.List.Sorted.{IsStrictlyIncreasing}
@@ -15,7 +16,8 @@ use Rattle.fts_segment.specs.Postings.{Posting, documents, position_lists}
 use Rattle.fts_segment.specs.Parts.{PartValue, found, joined, moved, IsBelow, Ascend, IsSound, IsJoined, begins, passed, given, lesser, least_of}
 use Rattle.fts_segment.proofs.FindLemmas.{same_from_equal, turned}
 use Rattle.fts_segment.proofs.KeywordsLemmas.{here, either, none}
-use Rattle.fts_segment.proofs.PartLemmas.{IsFrom, AreFrom, IsMet, IsBelowAll, joined-given, joined-passed, joined-other, sound-all, below-all-after, below-all-passed, met-below}
+use Rattle.fts_segment.proofs.PartLemmas.{IsFrom, AreFrom, IsMet, IsBelowAll, joined-given, joined-passed, joined-other, sound-all, below-all-after}
+use Rattle.fts_segment.proofs.PartLemmas.{below-all-passed, met-below}
 
 -- where there is no document there is no posting
 pub no_documents : (postings : List Posting) → documents postings ≡ [] → postings ≡ []
@@ -57,17 +59,20 @@ pub record IsJoining (all rest : List PartValue) (names lists : List (List ℕ))
   pub some : AllByRecursion (λ q. joined all q ≢ []) names
   pub left : (q : List ℕ) → Contains names q ⊎ (joined rest q ≡ joined all q)
 
-pub IsJoining-start : (ps : List PartValue) (names lists : List (List ℕ)) (positions : List (List (List ℕ))) → AllByRecursion IsSound ps → names ≡ [] → lists ≡ [] → positions ≡ [] → IsJoining ps ps names lists positions
+pub IsJoining-start : (ps : List PartValue) (names lists : List (List ℕ)) (positions : List (List (List ℕ))) → AllByRecursion IsSound ps → names ≡ [] →
+    lists ≡ [] → positions ≡ [] → IsJoining ps ps names lists positions
 IsJoining-start ps names lists positions sound no_names no_lists no_positions =
     let P : List (List ℕ) → List (List ℕ) → List (List (List ℕ)) → Type 0 = λ ns ls qs. IsJoining ps ps ns ls qs in
     let none_yet : P [] [] [] = record { sound = sound; ascend = tt; below = tt; listed = refl; positioned = refl; some = tt; left = λ q. inr refl } in
     subst (λ ns. P ns lists positions) (sym no_names) (subst (λ ls. P [] ls positions) (sym no_lists) (subst (P [] []) (sym no_positions) none_yet))
 
-are-before : (term : List ℕ) (rest : List PartValue) (names : List (List ℕ)) → IsMet term rest → AllByRecursion (λ name. IsBelowAll name rest) names → AreBefore term names
+are-before : (term : List ℕ) (rest : List PartValue) (names : List (List ℕ)) → IsMet term rest → AllByRecursion (λ name. IsBelowAll name rest) names →
+    AreBefore term names
 are-before term rest [] met h = tt
 are-before term rest (n ∷ names) met h = (met-below n term rest met h.0, are-before term rest names met h.1)
 
-all-below-after : (term : List ℕ) (rest : List PartValue) (names : List (List ℕ)) → AllByRecursion (λ name. IsBelowAll name rest) names → AllByRecursion (λ name. IsBelowAll name (map (passed term) rest)) names
+all-below-after : (term : List ℕ) (rest : List PartValue) (names : List (List ℕ)) → AllByRecursion (λ name. IsBelowAll name rest) names →
+    AllByRecursion (λ name. IsBelowAll name (map (passed term) rest)) names
 all-below-after term rest [] h = tt
 all-below-after term rest (n ∷ names) h = (below-all-after n term rest h.0, all-below-after term rest names h.1)
 
@@ -79,21 +84,25 @@ not-among term (n ∷ names) h c = ⊎_elim
     (λ behind. not-among term names h.1 behind) (either n term names c)
 
 -- what the parts have for the next term is all that they had
-pub all-given : (term : List ℕ) (postings : List Posting) (all rest : List PartValue) (names lists : List (List ℕ)) (positions : List (List (List ℕ))) → IsJoining all rest names lists positions →
+pub all-given : (term : List ℕ) (postings : List Posting) (all rest : List PartValue) (names lists : List (List ℕ)) (positions : List (List (List ℕ))) →
+    IsJoining all rest names lists positions →
     AreFrom term rest → IsMet term rest → postings ≡ flat_map (given term) rest → joined all term ≡ postings
 all-given term postings all rest names lists positions j from met is = ⊎_elim
     (λ (among : Contains names term). absurd (not-among term names (are-before term rest names met j.below) among))
     (λ (same : joined rest term ≡ joined all term). sym same ∙ joined-given term rest j.sound from ∙ sym is) (j.left term)
 
 -- so these postings are such as can be written
-pub postings-rise : (term : List ℕ) (postings : List Posting) (all rest : List PartValue) (names lists : List (List ℕ)) (positions : List (List (List ℕ))) → IsJoining all rest names lists positions →
-    AreFrom term rest → IsMet term rest → postings ≡ flat_map (given term) rest → ((q : List ℕ) → IsStrictlyIncreasing (documents (joined all q))) → IsStrictlyIncreasing (documents postings)
+pub postings-rise : (term : List ℕ) (postings : List Posting) (all rest : List PartValue) (names lists : List (List ℕ)) (positions : List (List (List ℕ))) →
+    IsJoining all rest names lists positions →
+    AreFrom term rest → IsMet term rest → postings ≡ flat_map (given term) rest → ((q : List ℕ) → IsStrictlyIncreasing (documents (joined all q))) →
+    IsStrictlyIncreasing (documents postings)
 postings-rise term postings all rest names lists positions j from met is rise =
     let P : List Posting → Type 0 = λ ps. IsStrictlyIncreasing (documents ps) in
     subst P (all-given term postings all rest names lists positions j from met is) (rise term)
 
 -- a term is passed that no part has a posting for
-pass-none : (term : List ℕ) (all rest : List PartValue) (names lists : List (List ℕ)) (positions : List (List (List ℕ))) → IsJoining all rest names lists positions →
+pass-none : (term : List ℕ) (all rest : List PartValue) (names lists : List (List ℕ)) (positions : List (List (List ℕ))) →
+    IsJoining all rest names lists positions →
     AreFrom term rest → joined all term ≡ [] → IsJoining all (map (passed term) rest) names lists positions
 pass-none term all rest names lists positions j from no_posting = record {
   sound = sound-all term rest j.sound;
@@ -112,13 +121,15 @@ pass-none term all rest names lists positions j from no_posting = record {
 }
 
 -- and one that they have postings for
-pass-some : (term : List ℕ) (all rest : List PartValue) (names lists : List (List ℕ)) (positions : List (List (List ℕ))) → IsJoining all rest names lists positions →
+pass-some : (term : List ℕ) (all rest : List PartValue) (names lists : List (List ℕ)) (positions : List (List (List ℕ))) →
+    IsJoining all rest names lists positions →
     AreFrom term rest → IsMet term rest → joined all term ≢ [] →
     IsJoining all (map (passed term) rest) (names ++ term ∷ []) (lists ++ documents (joined all term) ∷ []) (positions ++ position_lists (joined all term) ∷ [])
 pass-some term all rest names lists positions j from met some_posting = record {
   sound = sound-all term rest j.sound;
   ascend = ascend-push term names j.ascend (are-before term rest names met j.below);
-  below = all-push (λ name. IsBelowAll name (map (passed term) rest)) names term (all-below-after term rest names j.below) (below-all-passed term rest j.sound from);
+  below = all-push (λ name. IsBelowAll name (map (passed term) rest)) names term (all-below-after term rest names j.below)
+      (below-all-passed term rest j.sound from);
   listed = ap (λ ls. ls ++ documents (joined all term) ∷ []) j.listed ∙ sym (map_push (λ q. documents (joined all q)) names term);
   positioned = ap (λ ps. ps ++ position_lists (joined all term) ∷ []) j.positioned ∙ sym (map_push (λ q. position_lists (joined all q)) names term);
   some = all-push (λ q. joined all q ≢ []) names term j.some some_posting;
@@ -127,20 +138,24 @@ pass-some term all rest names lists positions j from met some_posting = record {
         let one : term ≡ q = (bytes_eq-Decides term q).0 same in
         let Q : List ℕ → Type 0 = λ t. Contains (names ++ term ∷ []) t in
         inl (subst Q one (Contains-append_right names (term ∷ []) term (here term [])))
-    | false ↦ λ differ. ⊎_elim (λ among. inl (Contains-append_left names (term ∷ []) q among)) (λ same. inr (joined-other term q rest j.sound differ ∙ same)) (j.left q)
+    | false ↦ λ differ. ⊎_elim (λ among. inl (Contains-append_left names (term ∷ []) q among)) (λ same. inr (joined-other term q rest j.sound differ ∙ same))
+        (j.left q)
   ] refl;
 }
 
 -- a term is passed
-pub IsJoining-next : (term : List ℕ) (postings : List Posting) (all rest : List PartValue) (names lists : List (List ℕ)) (positions : List (List (List ℕ))) → IsJoining all rest names lists positions →
+pub IsJoining-next : (term : List ℕ) (postings : List Posting) (all rest : List PartValue) (names lists : List (List ℕ)) (positions : List (List (List ℕ))) →
+    IsJoining all rest names lists positions →
     AreFrom term rest → IsMet term rest → joined all term ≡ postings →
-    IsJoining all (map (passed term) rest) (names ++ unless_none postings term) (lists ++ unless_none postings (documents postings)) (positions ++ unless_none postings (position_lists postings))
+    IsJoining all (map (passed term) rest) (names ++ unless_none postings term) (lists ++ unless_none postings (documents postings))
+    (positions ++ unless_none postings (position_lists postings))
 IsJoining-next term [] all rest names lists positions j from met is =
     let P : List (List ℕ) → List (List ℕ) → List (List (List ℕ)) → Type 0 = λ ns ls qs. IsJoining all (map (passed term) rest) ns ls qs in
     subst (λ ns. P ns (lists ++ []) (positions ++ [])) (sym (append-nil names)) (subst (λ ls. P names ls (positions ++ [])) (sym (append-nil lists))
     (subst (P names lists) (sym (append-nil positions)) (pass-none term all rest names lists positions j from is)))
 IsJoining-next term (p ∷ postings) all rest names lists positions j from met is =
-    let P : List Posting → Type 0 = λ ps. IsJoining all (map (passed term) rest) (names ++ term ∷ []) (lists ++ documents ps ∷ []) (positions ++ position_lists ps ∷ []) in
+    let P : List Posting → Type 0 =
+    λ ps. IsJoining all (map (passed term) rest) (names ++ term ∷ []) (lists ++ documents ps ∷ []) (positions ++ position_lists ps ∷ []) in
     subst P is (pass-some term all rest names lists positions j from met (λ no. let clash : p ∷ postings ≡ [] = sym is ∙ no in cc))
 
 -- a part with no name has nothing
@@ -170,18 +185,21 @@ abbrev pub NotBefore : List ℕ → Option (List ℕ) → Type 0
 NotBefore term None = Unit {0}
 NotBefore term (Some a) = slice_cmp nat_cmp a term ≢ Less
 
-first-from : (o : Option (List ℕ)) (names : List (List ℕ)) (term : List ℕ) → NotBefore term (lesser o (slice_get names 0)) → NotBefore term o × IsFrom term names
+first-from : (o : Option (List ℕ)) (names : List (List ℕ)) (term : List ℕ) → NotBefore term (lesser o (slice_get names 0)) →
+    NotBefore term o × IsFrom term names
 first-from None [] term h = (tt, tt)
 first-from None (n ∷ names) term h = (tt, h)
 first-from (Some a) [] term h = (h, tt)
 first-from (Some a) (n ∷ names) term h =
-    elim (slice_cmp nat_cmp a n) as (λ c. slice_cmp nat_cmp a n ≡ c → NotBefore term (cond (is_gt c) (Some n) (Some a)) → (slice_cmp nat_cmp a term ≢ Less) × (slice_cmp nat_cmp n term ≢ Less)) [
+    elim (slice_cmp nat_cmp a n) as (λ c. slice_cmp nat_cmp a n ≡ c → NotBefore term (cond (is_gt c) (Some n) (Some a)) → (slice_cmp nat_cmp a term ≢ Less)
+    × (slice_cmp nat_cmp n term ≢ Less)) [
       | Less ↦ λ less from. (from, λ no. from (nat_list_cmp_total.trans a n term less no))
       | Equal ↦ λ equal from. let one = same_from_equal a n equal in (from, let P : List ℕ → Type 0 = λ x. slice_cmp nat_cmp x term ≢ Less in subst P one from)
       | Greater ↦ λ greater from. (λ no. from (nat_list_cmp_total.trans n a term (turned a n Greater greater) no), from)
     ] refl h
 
-first-met : (o : Option (List ℕ)) (names : List (List ℕ)) (term : List ℕ) → lesser o (slice_get names 0) ≡ Some term → (o ≡ Some term) ⊎ (begins term names ≡ true)
+first-met : (o : Option (List ℕ)) (names : List (List ℕ)) (term : List ℕ) → lesser o (slice_get names 0) ≡ Some term →
+    (o ≡ Some term) ⊎ (begins term names ≡ true)
 first-met None [] term h = absurd (let no : None ≡ Some term = h in cc)
 first-met None (n ∷ names) term h = let e : n ≡ term = let f : Some n ≡ Some term = h in cc in inr ((bytes_eq-Decides n term).1 e)
 first-met (Some a) [] term h = inl h
@@ -221,11 +239,13 @@ met-of-least ps term h = elim (least-met None ps term h) as (λ w. IsMet term ps
 ]
 
 -- at the end all is joined
-pub IsJoined-end : (all rest : List PartValue) (names lists : List (List ℕ)) (positions : List (List (List ℕ))) → IsJoining all rest names lists positions → least_of None rest ≡ None → IsJoined all names lists positions
+pub IsJoined-end : (all rest : List PartValue) (names lists : List (List ℕ)) (positions : List (List (List ℕ))) → IsJoining all rest names lists positions →
+    least_of None rest ≡ None → IsJoined all names lists positions
 IsJoined-end all rest names lists positions j h = record {
   ascend = j.ascend;
   listed = j.listed;
   positioned = j.positioned;
   some = j.some;
-  whole = λ q some_posting. ⊎_elim (λ among. among) (λ (same : joined rest q ≡ joined all q). absurd (some_posting (sym same ∙ (least-none None rest h).1 q))) (j.left q);
+  whole = λ q some_posting. ⊎_elim (λ among. among) (λ (same : joined rest q ≡ joined all q). absurd (some_posting (sym same ∙ (least-none None rest h).1 q)))
+      (j.left q);
 }

@@ -2,7 +2,8 @@
 use Rattle.std.proofs.lemmas.Bool.{lt-ltb}
 use Rattle.std.proofs.lemmas.Option.{slice_get_within, get_or_from_slice_get}
 use Rattle.std.proofs.lemmas.Slice.Eq.{bytes_eq-Decides}
-use Rattle.std.proofs.Common.{◌≡◌, ◌<◌, ◌+◌, ℕ, zero, suc, Bool, true, false, List, [], ◌∷◌, Option, Some, None, length, map, Contains, IfSome, get_or, refl, sym, ap, subst, ◌∙◌, ⊎_elim, arith}
+use Rattle.std.proofs.Common.{◌≡◌, ◌<◌, ◌+◌, ℕ, zero, suc, Bool, true, false, List, [], ◌∷◌, Option, Some, None, length, map, Contains, IfSome, get_or, refl}
+use Rattle.std.proofs.Common.{sym, ap, subst, ◌∙◌, ⊎_elim, arith}
 use Rattle.std.proofs.lemmas.List.{get_or-map, length-map}
 use Rattle.std.specs.Prelude.{slice_get, nat_lt}
 use Rattle.fts_model.specs.declared.schema.Kind.TheVariants as kinds
@@ -79,7 +80,8 @@ number_of_text names i t up found =
     sym (before-at names i (climbs_by_place names up) (slice_get_within names i t found)) ∙ ap (before names) (get_or_from_slice_get names i t [] found)
 
 -- so is the text of a document's value, where it has one
-keyword_among : (vs : List (Option FieldValue)) (v : Option FieldValue) → Contains vs v → IfSome (keyword_of kinds.Keyword v) (Contains (texts_of kinds.Keyword vs))
+keyword_among : (vs : List (Option FieldValue)) (v : Option FieldValue) → Contains vs v →
+    IfSome (keyword_of kinds.Keyword v) (Contains (texts_of kinds.Keyword vs))
 keyword_among vs None h = tt
 keyword_among vs (Some (values.Number n)) h = tt
 keyword_among vs (Some (values.Texts ts)) h = tt

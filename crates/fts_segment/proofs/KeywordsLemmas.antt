@@ -1,7 +1,8 @@
 -- Texts in order, each once, and what comes before a text among them.
 use Rattle.std.proofs.lemmas.Bool.{false≢true}
 use Rattle.std.proofs.lemmas.Bool.Decides.{nat_tests}
-use Rattle.std.proofs.Common.{cond, ◌≡◌, ◌+◌, ◌<◌, ◌≤◌, ◌⊎◌, ℕ, zero, suc, Bool, true, false, List, [], ◌∷◌, length, filter, fold, All, Contains, get_or, refl, sym, ap, subst, ◌∙◌, inl, inr, ⊎_elim, arith, Ordering, Less, Equal, Greater}
+use Rattle.std.proofs.Common.{cond, ◌≡◌, ◌+◌, ◌<◌, ◌≤◌, ◌⊎◌, ℕ, zero, suc, Bool, true, false, List, [], ◌∷◌, length, filter, fold, All, Contains, get_or, refl}
+use Rattle.std.proofs.Common.{sym, ap, subst, ◌∙◌, inl, inr, ⊎_elim, arith, Ordering, Less, Equal, Greater}
 use Rattle.std.specs.Prelude.{nat_lt, nat_le}
 use Rattle.std.specs.Ordering.{nat_cmp, is_lt, is_le, is_eq, ordering_reverse, match_ordering}
 use Rattle.std.specs.Cmp.Lexicographic.{slice_cmp, texts_ties}
@@ -89,16 +90,19 @@ with-keeps (s ∷ ts) t x h = by (cmp t s) (with-keeps ts t x)
     by : (o : Ordering) → (Contains ts x → Contains (with_text ts t) x) → Contains (match_ordering o (t ∷ s ∷ ts) (s ∷ ts) (s ∷ with_text ts t)) x
     by Less later = there t x (s ∷ ts) h
     by Equal later = h
-    by Greater later = ⊎_elim (λ is. subst (Contains (s ∷ with_text ts t)) is (here s (with_text ts t))) (λ k. there s x (with_text ts t) (later k)) (either s x ts h)
+    by Greater later = ⊎_elim (λ is. subst (Contains (s ∷ with_text ts t)) is (here s (with_text ts t))) (λ k. there s x (with_text ts t) (later k))
+        (either s x ts h)
 
 with-only : (ts : List (List ℕ)) (t x : List ℕ) → Contains (with_text ts t) x → (t ≡ x) ⊎ Contains ts x
 with-only [] t x h = either t x [] h
 with-only (s ∷ ts) t x h = by (cmp t s) (with-only ts t x) h
   where
-    by : (o : Ordering) → (Contains (with_text ts t) x → (t ≡ x) ⊎ Contains ts x) → Contains (match_ordering o (t ∷ s ∷ ts) (s ∷ ts) (s ∷ with_text ts t)) x → (t ≡ x) ⊎ Contains (s ∷ ts) x
+    by : (o : Ordering) → (Contains (with_text ts t) x → (t ≡ x) ⊎ Contains ts x) → Contains (match_ordering o (t ∷ s ∷ ts) (s ∷ ts) (s ∷ with_text ts t)) x →
+        (t ≡ x) ⊎ Contains (s ∷ ts) x
     by Less later k = either t x (s ∷ ts) k
     by Equal later k = inr k
-    by Greater later k = ⊎_elim (λ is. inr (subst (Contains (s ∷ ts)) is (here s ts))) (λ l. ⊎_elim (λ is. inl is) (λ m. inr (there s x ts m)) (later l)) (either s x (with_text ts t) k)
+    by Greater later k = ⊎_elim (λ is. inr (subst (Contains (s ∷ ts)) is (here s ts))) (λ l. ⊎_elim (λ is. inl is) (λ m. inr (there s x ts m)) (later l))
+        (either s x (with_text ts t) k)
 
 fold-climbs : (texts ts : List (List ℕ)) → Climbs ts → Climbs (fold with_text ts texts)
 fold-climbs [] ts climbs = climbs
@@ -107,12 +111,14 @@ fold-climbs (t ∷ texts) ts climbs = fold-climbs texts (with_text ts t) (with-c
 fold-has : (texts ts : List (List ℕ)) (x : List ℕ) → Contains ts x ⊎ Contains texts x → Contains (fold with_text ts texts) x
 fold-has [] ts x h = ⊎_elim (λ k. k) (λ k. absurd (none x k)) h
 fold-has (t ∷ texts) ts x h = fold-has texts (with_text ts t) x
-    (⊎_elim (λ k. inl (with-keeps ts t x k)) (λ k. ⊎_elim (λ is. inl (subst (Contains (with_text ts t)) is (with-has ts t))) (λ l. inr l) (either t x texts k)) h)
+    (⊎_elim (λ k. inl (with-keeps ts t x k)) (λ k. ⊎_elim (λ is. inl (subst (Contains (with_text ts t)) is (with-has ts t))) (λ l. inr l) (either t x texts k))
+    h)
 
 fold-only : (texts ts : List (List ℕ)) (x : List ℕ) → Contains (fold with_text ts texts) x → Contains ts x ⊎ Contains texts x
 fold-only [] ts x h = inl h
 fold-only (t ∷ texts) ts x h =
-    ⊎_elim (λ k. ⊎_elim (λ is. inr (subst (Contains (t ∷ texts)) is (here t texts))) (λ l. inl l) (with-only ts t x k)) (λ k. inr (there t x texts k)) (fold-only texts (with_text ts t) x h)
+    ⊎_elim (λ k. ⊎_elim (λ is. inr (subst (Contains (t ∷ texts)) is (here t texts))) (λ l. inl l) (with-only ts t x k)) (λ k. inr (there t x texts k))
+    (fold-only texts (with_text ts t) x h)
 
 pub in_order-climbs : (texts : List (List ℕ)) → Climbs (in_order texts)
 in_order-climbs texts = fold-climbs texts [] tt
@@ -126,13 +132,16 @@ in_order-only texts x h = ⊎_elim (λ k. absurd (none x k)) (λ k. k) (fold-onl
 -- two lists in order that have the same texts are the same
 same_head : (x y : List ℕ) (xs ys : List (List ℕ)) → Behind x xs → Behind y ys → Contains (y ∷ ys) x → Contains (x ∷ xs) y → x ≡ y
 same_head x y xs ys a b h k = ⊎_elim (λ is. sym is)
-    (λ later. ⊎_elim (λ is. is) (λ last. absurd (not_both x y (All-contains (λ z. cmp x z ≡ Less) xs y a last) (All-contains (λ z. cmp y z ≡ Less) ys x b later))) (either x y xs k))
+    (λ later. ⊎_elim (λ is. is)
+    (λ last. absurd (not_both x y (All-contains (λ z. cmp x z ≡ Less) xs y a last) (All-contains (λ z. cmp y z ≡ Less) ys x b later))) (either x y xs k))
     (either y x ys h)
 
 behind_it : (x z : List ℕ) (xs ys : List (List ℕ)) → Behind x xs → Contains xs z → Contains (x ∷ ys) z → Contains ys z
-behind_it x z xs ys a h k = ⊎_elim (λ is. absurd (not_before_itself x (subst (λ w. cmp x w ≡ Less) (sym is) (All-contains (λ z. cmp x z ≡ Less) xs z a h)))) (λ l. l) (either x z ys k)
+behind_it x z xs ys a h k = ⊎_elim (λ is. absurd (not_before_itself x (subst (λ w. cmp x w ≡ Less) (sym is) (All-contains (λ z. cmp x z ≡ Less) xs z a h))))
+    (λ l. l) (either x z ys k)
 
-pub same_texts : (xs ys : List (List ℕ)) → Climbs xs → Climbs ys → ((z : List ℕ) → Contains xs z → Contains ys z) → ((z : List ℕ) → Contains ys z → Contains xs z) → xs ≡ ys
+pub same_texts : (xs ys : List (List ℕ)) → Climbs xs → Climbs ys → ((z : List ℕ) → Contains xs z → Contains ys z) →
+    ((z : List ℕ) → Contains ys z → Contains xs z) → xs ≡ ys
 same_texts [] [] a b f g = refl
 same_texts [] (y ∷ ys) a b f g = absurd (none y (g y (here y ys)))
 same_texts (x ∷ xs) [] a b f g = absurd (none x (f x (here x xs)))
@@ -146,7 +155,11 @@ same_texts (x ∷ xs) (y ∷ ys) a b f g =
 -- texts of which each is before those with greater numbers climb
 pub climbs_by_place : (ts : List (List ℕ)) → ((i j : ℕ) → i < j → j < length ts → cmp (get_or ts i []) (get_or ts j []) ≡ Less) → Climbs ts
 climbs_by_place [] h = tt
-climbs_by_place (t ∷ ts) h = (behind t ts (λ k less. h 0 (suc k) (omega arith) (omega (arith, less))), climbs_by_place ts (λ i j order less. h (suc i) (suc j) (omega (arith, order)) (omega (arith, less))))
+climbs_by_place (t ∷ ts) h = (
+  behind t ts (λ k less. h 0 (suc k) (omega arith) (omega (arith, less))),
+  climbs_by_place ts (λ i j order less. h (suc i) (suc j) (omega (arith, order))
+      (omega (arith, less))),
+)
   where
     behind : (t : List ℕ) (ts : List (List ℕ)) → ((k : ℕ) → k < length ts → cmp t (get_or ts k []) ≡ Less) → Behind t ts
     behind t [] h = All-nil _
@@ -174,12 +187,17 @@ count_none p (t ∷ ts) failed =
     omega (arith, count-cons p t ts, first, count_none p ts (λ k d less. failed (suc k) d (omega (arith, less))))
 
 -- where exactly the first texts pass, these are counted
-pub count_front : (p : List ℕ → Bool) (ts : List (List ℕ)) (k : ℕ) → k ≤ length ts → ((i : ℕ) → i < k → p (get_or ts i []) ≡ true) → ((i : ℕ) → k ≤ i → i < length ts → p (get_or ts i []) ≡ false) → length (filter p ts) ≡ k
+pub count_front : (p : List ℕ → Bool) (ts : List (List ℕ)) (k : ℕ) → k ≤ length ts → ((i : ℕ) → i < k → p (get_or ts i []) ≡ true) →
+    ((i : ℕ) → k ≤ i → i < length ts → p (get_or ts i []) ≡ false) → length (filter p ts) ≡ k
 count_front p [] k few front back = omega (arith, few)
 count_front p (t ∷ ts) zero few front back = count_none p (t ∷ ts) (λ i d less. ap p (get_or_default (t ∷ ts) i d [] less) ∙ back i (omega arith) less)
 count_front p (t ∷ ts) (suc k) few front back =
     count-cons p t ts ∙ ap (λ b. one b + count p ts) (front 0 (omega arith))
-    ∙ omega (arith, count_front p ts k (omega (arith, few)) (λ i h. front (suc i) (omega (arith, h))) (λ i h within. back (suc i) (omega (arith, h)) (omega (arith, within))))
+    ∙ omega (
+      arith,
+      count_front p ts k (omega (arith, few)) (λ i h. front (suc i) (omega (arith, h)))
+          (λ i h within. back (suc i) (omega (arith, h)) (omega (arith, within))),
+    )
 
 one_le : (a b : Bool) → (a ≡ true → b ≡ true) → one a ≤ one b
 one_le true true f = omega arith
@@ -192,7 +210,8 @@ count-le : (p q : List ℕ → Bool) (ts : List (List ℕ)) → ((t : List ℕ) 
 count-le p q [] f = omega arith
 count-le p q (t ∷ ts) f = omega (arith, count-cons p t ts, count-cons q t ts, one_le (p t) (q t) (f t), count-le p q ts f)
 
-count-lt : (p q : List ℕ → Bool) (ts : List (List ℕ)) (x : List ℕ) → ((t : List ℕ) → p t ≡ true → q t ≡ true) → Contains ts x → p x ≡ false → q x ≡ true → count p ts < count q ts
+count-lt : (p q : List ℕ → Bool) (ts : List (List ℕ)) (x : List ℕ) → ((t : List ℕ) → p t ≡ true → q t ≡ true) → Contains ts x → p x ≡ false → q x ≡ true →
+    count p ts < count q ts
 count-lt p q [] x f h fails passes = absurd (none x h)
 count-lt p q (t ∷ ts) x f h fails passes = ⊎_elim
     (λ is. let a : one (p t) ≡ 0 = ap (λ y. one (p y)) is ∙ ap (λ b. one b) fails in let b : one (q t) ≡ 1 = ap (λ y. one (q y)) is ∙ ap (λ b. one b) passes in
@@ -240,10 +259,12 @@ up_to_itself : (t : List ℕ) → text_le t t ≡ true
 up_to_itself t = ap is_le (tied_itself nat_list_cmp_total t)
 
 lt_le : (a b c : List ℕ) → text_lt a b ≡ true → text_le b c ≡ true → text_lt a c ≡ true
-lt_le a b c h k = ⊎_elim (λ l. ap is_lt (nat_list_cmp_total.trans a b c (is_before a b h) l)) (λ is. subst (λ x. text_lt a x ≡ true) is h) (before_or_same b c k)
+lt_le a b c h k = ⊎_elim (λ l. ap is_lt (nat_list_cmp_total.trans a b c (is_before a b h) l)) (λ is. subst (λ x. text_lt a x ≡ true) is h)
+    (before_or_same b c k)
 
 le_lt : (a b c : List ℕ) → text_le a b ≡ true → text_lt b c ≡ true → text_lt a c ≡ true
-le_lt a b c h k = ⊎_elim (λ l. ap is_lt (nat_list_cmp_total.trans a b c l (is_before b c k))) (λ is. subst (λ x. text_lt x c ≡ true) (sym is) k) (before_or_same a b h)
+le_lt a b c h k = ⊎_elim (λ l. ap is_lt (nat_list_cmp_total.trans a b c l (is_before b c k))) (λ is. subst (λ x. text_lt x c ≡ true) (sym is) k)
+    (before_or_same a b h)
 
 lt-le : (a b : List ℕ) → text_lt a b ≡ true → text_le a b ≡ true
 lt-le a b h = ap is_le (is_before a b h)
@@ -266,14 +287,16 @@ from_included ts low t h = by (text_le low t) refl
   where
     by : (b : Bool) → text_le low t ≡ b → nat_le (before ts low) (before ts t) ≡ b
     by true is = le_is _ _ (count-le (λ k. text_lt k low) (λ k. text_lt k t) ts (λ k b. lt_le k low t b is))
-    by false is = le_isnt _ _ (count-lt (λ k. text_lt k t) (λ k. text_lt k low) ts t (λ k b. lt_le k t low b (lt-le t low (not_up_to low t is))) h (itself t) (not_up_to low t is))
+    by false is = le_isnt _ _ (count-lt (λ k. text_lt k t) (λ k. text_lt k low) ts t (λ k b. lt_le k t low b (lt-le t low (not_up_to low t is))) h (itself t)
+        (not_up_to low t is))
 
 pub from_excluded : (ts : List (List ℕ)) (low t : List ℕ) → Contains ts t → nat_le (up_to ts low) (before ts t) ≡ text_lt low t
 from_excluded ts low t h = by (text_lt low t) refl
   where
     by : (b : Bool) → text_lt low t ≡ b → nat_le (up_to ts low) (before ts t) ≡ b
     by true is = le_is _ _ (count-le (λ k. text_le k low) (λ k. text_lt k t) ts (λ k b. le_lt k low t b is))
-    by false is = le_isnt _ _ (count-lt (λ k. text_lt k t) (λ k. text_le k low) ts t (λ k b. lt-le k low (lt_le k t low b (not_before low t is))) h (itself t) (not_before low t is))
+    by false is = le_isnt _ _ (count-lt (λ k. text_lt k t) (λ k. text_le k low) ts t (λ k b. lt-le k low (lt_le k t low b (not_before low t is))) h (itself t)
+        (not_before low t is))
 
 pub to_included : (ts : List (List ℕ)) (high t : List ℕ) → Contains ts t → nat_lt (before ts t) (up_to ts high) ≡ text_le t high
 to_included ts high t h = by (text_le t high) refl

@@ -1,5 +1,6 @@
 -- The numbers of a field.
-use Rattle.std.proofs.Common.{◌≡◌, ◌+◌, ◌<◌, ◌==◌, ℕ, suc, zero, true, false, cond, List, [], ◌∷◌, ◌++◌, Option, Some, None, map, filter, length, get_or, refl, sym, ap, subst, ◌∙◌, inl, inr, arith, All, Contains, nat_eq, append-nil}
+use Rattle.std.proofs.Common.{◌≡◌, ◌+◌, ◌<◌, ◌==◌, ℕ, suc, zero, true, false, cond, List, [], ◌∷◌, ◌++◌, Option, Some, None, map, filter, length, get_or, refl}
+use Rattle.std.proofs.Common.{sym, ap, subst, ◌∙◌, inl, inr, arith, All, Contains, nat_eq, append-nil}
 use Rattle.std.specs.Prelude.{slice_get}
 use Rattle.std.specs.List.{dedup}
 use Rattle.std.specs.List.Sorted.{IsStrictlyIncreasing}
@@ -59,14 +60,17 @@ pub record IsLogged (numbers : List ℕ) (vs : List (Option ℕ)) (log : List Oc
   pub named : All (λ e. e.term < length numbers) log
   pub docs : (t x : ℕ) → slice_get numbers t ≡ Some x → map (λ (p : Place). p.doc) (places_of t log) ≡ numbers_where (is_number x) 0 vs
 
-docs-push : (t : ℕ) (log : List Occurrence) (e : Occurrence) → map (λ (p : Place). p.doc) (places_of t (log ++ e ∷ [])) ≡ map (λ (p : Place). p.doc) (places_of t log) ++ cond (e.term == t) (e.doc ∷ []) []
+docs-push : (t : ℕ) (log : List Occurrence) (e : Occurrence) → map (λ (p : Place). p.doc) (places_of t (log ++ e ∷ []))
+    ≡ map (λ (p : Place). p.doc) (places_of t log) ++ cond (e.term == t) (e.doc ∷ []) []
 docs-push t log e =
     ap (λ es. map (λ (p : Place). p.doc) (map place es)) (filter-append (is_of t) log (e ∷ []))
     ∙ ap (map (λ (p : Place). p.doc)) (map-append place (filter (is_of t) log) (filter (is_of t) (e ∷ [])))
     ∙ map-append (λ (p : Place). p.doc) (places_of t log) (map place (filter (is_of t) (e ∷ [])))
-    ∙ ap (λ ns. map (λ (p : Place). p.doc) (places_of t log) ++ ns) (elim (e.term == t) as (λ b. map (λ (p : Place). p.doc) (map place (cond b (e ∷ []) [])) ≡ cond b (e.doc ∷ []) []) [ true ↦ refl | false ↦ refl ])
+    ∙ ap (λ ns. map (λ (p : Place). p.doc) (places_of t log) ++ ns)
+    (elim (e.term == t) as (λ b. map (λ (p : Place). p.doc) (map place (cond b (e ∷ []) [])) ≡ cond b (e.doc ∷ []) []) [ true ↦ refl | false ↦ refl ])
 
-same_test : (numbers : List ℕ) → IsStrictlyIncreasing numbers → (s t y x : ℕ) → slice_get numbers s ≡ Some y → slice_get numbers t ≡ Some x → (s == t) ≡ (y == x)
+same_test : (numbers : List ℕ) → IsStrictlyIncreasing numbers → (s t y x : ℕ) → slice_get numbers s ≡ Some y → slice_get numbers t ≡ Some x →
+    (s == t) ≡ (y == x)
 same_test numbers up s t y x at_s at_t = elim (cases_eq s t) [
   | inl same ↦
       let values : Some y ≡ Some x = sym at_s ∙ ap (slice_get numbers) same ∙ at_t in
@@ -80,7 +84,8 @@ same_test numbers up s t y x at_s at_t = elim (cases_eq s t) [
 ]
 
 -- a document's number is logged
-pub IsLogged-push : {numbers : List ℕ} {vs : List (Option ℕ)} {old : List Occurrence} (doc : ℕ) (v : Option ℕ) (new : List Occurrence) → IsStrictlyIncreasing numbers → doc ≡ length vs →
+pub IsLogged-push : {numbers : List ℕ} {vs : List (Option ℕ)} {old : List Occurrence} (doc : ℕ) (v : Option ℕ) (new : List Occurrence) →
+    IsStrictlyIncreasing numbers → doc ≡ length vs →
     NumberLog numbers doc v old new → IsLogged numbers vs old → IsLogged numbers (vs ++ v ∷ []) new
 IsLogged-push {numbers} {vs} {old} doc None new up at same s =
     let P : List Occurrence → Type 0 = λ es. All (λ e. e.term < length numbers) es in
@@ -102,7 +107,8 @@ IsLogged-push {numbers} {vs} {old} doc (Some y) new up at put s =
     }
 
 -- the groups of the log have the documents of each number
-pub group_docs : (numbers : List ℕ) (vs : List (Option ℕ)) (log : List Occurrence) (groups : List (List Place)) (numbers_read : List ℕ) (vs_read : List (Option ℕ)) (log_read : List Occurrence) →
+pub group_docs : (numbers : List ℕ) (vs : List (Option ℕ)) (log : List Occurrence) (groups : List (List Place)) (numbers_read : List ℕ)
+    (vs_read : List (Option ℕ)) (log_read : List Occurrence) →
     numbers_read ≡ numbers → vs_read ≡ vs → log_read ≡ log →
     ((t : ℕ) → t < length numbers_read → map (λ (p : Place). p.doc) (places_of t log) ≡ numbers_where (is_number (get_or numbers_read t 0)) 0 vs_read) →
     ((t : ℕ) → t < length numbers → get_or groups t [] ≡ places_of t log_read) →
@@ -114,16 +120,19 @@ group_docs numbers vs log groups numbers_read vs_read log_read n v l docs groupe
 
 -- so they rise
 pub groups_rise : (numbers : List ℕ) (vs : List (Option ℕ)) (groups : List (List Place)) → length groups ≡ length numbers →
-    ((t : ℕ) → t < length numbers → docs_in (get_or groups t []) ≡ numbers_where (is_number (get_or numbers t 0)) 0 vs) → All (λ places. IsStrictlyIncreasing (docs_in places)) groups
+    ((t : ℕ) → t < length numbers → docs_in (get_or groups t []) ≡ numbers_where (is_number (get_or numbers t 0)) 0 vs) →
+    All (λ places. IsStrictlyIncreasing (docs_in places)) groups
 groups_rise numbers vs groups count grouped k d within =
     let P : List ℕ → Type 0 = IsStrictlyIncreasing in
-    let same : docs_in (get_or groups k d) ≡ numbers_where (is_number (get_or numbers k 0)) 0 vs = ap docs_in (get_or_default groups k d [] within) ∙ grouped k (omega arith) in
+    let same : docs_in (get_or groups k d) ≡ numbers_where (is_number (get_or numbers k 0)) 0 vs = ap docs_in (get_or_default groups k d [] within)
+    ∙ grouped k (omega arith) in
     subst P (sym same) (numbers_rise (is_number (get_or numbers k 0)) 0 vs)
 
 -- the numbers with their groups make the index
 pub IsNumberIndex-listed : (numbers : List ℕ) (vs : List (Option ℕ)) (groups : List (List Place)) → length groups ≡ length numbers →
     ((t : ℕ) → t < length numbers → docs_in (get_or groups t []) ≡ numbers_where (is_number (get_or numbers t 0)) 0 vs) →
-    IsStrictlyIncreasing numbers → All (λ x. Contains vs (Some x)) numbers → ((x : ℕ) → Contains vs (Some x) → Contains numbers x) → IsNumberIndex vs numbers (map docs_in groups)
+    IsStrictlyIncreasing numbers → All (λ x. Contains vs (Some x)) numbers → ((x : ℕ) → Contains vs (Some x) → Contains numbers x) →
+    IsNumberIndex vs numbers (map docs_in groups)
 IsNumberIndex-listed numbers vs groups count grouped up occur whole =
     let g : ℕ → List ℕ = λ x. numbers_where (is_number x) 0 vs in
     record {

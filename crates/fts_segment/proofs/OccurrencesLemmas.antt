@@ -1,5 +1,6 @@
 -- Loops over the tokens of texts that put each after the occurrences so far.
-use Rattle.std.proofs.Common.{◌≡◌, ◌<◌, ◌≤◌, ◌^◌, ℕ, suc, ◌+◌, List, [], ◌∷◌, ◌++◌, Option, map, drop, get_or, length, refl, sym, ap, subst, ◌∙◌, All, append_assoc, append-nil, arith, length-append}
+use Rattle.std.proofs.Common.{◌≡◌, ◌<◌, ◌≤◌, ◌^◌, ℕ, suc, ◌+◌, List, [], ◌∷◌, ◌++◌, Option, map, drop, get_or, length, refl, sym, ap, subst, ◌∙◌, All}
+use Rattle.std.proofs.Common.{append_assoc, append-nil, arith, length-append}
 use Rattle.std.specs.Str.{IsUtf8}
 use Rattle.std.proofs.lemmas.List.{drop_all, drop_more, map-append}
 use Rattle.std.proofs.lemmas.List.Sums.{sum_by-cons}
@@ -24,25 +25,30 @@ pub record Logs (first : ℕ) (text : List ℕ) (doc : ℕ) (before now : List O
   pub whole : now ++ map (λ token. occurrence_at doc (token_at text token)) (places_left left) ≡ before ++ map (occurrence_at doc) (tokens_from first text)
   pub follows : following_left left ≡ following first text
 
-pub Logs-start : (first : ℕ) (text : List ℕ) (doc : ℕ) (before : List OccurrenceValue) (left : Tokens) → IsUtf8 text → places_left left ≡ places_from first text →
+pub Logs-start : (first : ℕ) (text : List ℕ) (doc : ℕ) (before : List OccurrenceValue) (left : Tokens) → IsUtf8 text →
+    places_left left ≡ places_from first text →
     following_left left ≡ following first text → Logs first text doc before before left
 Logs-start first text doc before left utf8 start follows =
     let P : List Token → Type 0 = All (IsPlaceFrom first text) in
     record {
       within = subst P (sym start) (All-IsPlaceFrom first text utf8);
-      whole = ap (λ os. before ++ os) (ap (map (λ token. occurrence_at doc (token_at text token))) start ∙ map-map (occurrence_at doc) (token_at text) (places_from first text)
+      whole = ap (λ os. before ++ os) (ap (map (λ token. occurrence_at doc (token_at text token))) start ∙ map-map (occurrence_at doc) (token_at text)
+          (places_from first text)
           ∙ ap (map (occurrence_at doc)) (tokens-places first text utf8));
       follows = follows;
     }
 
-pub Logs-place : {first : ℕ} {text : List ℕ} {doc : ℕ} {before now : List OccurrenceValue} (token : Token) (left rest : Tokens) → places_left left ≡ token ∷ places_left rest →
+pub Logs-place : {first : ℕ} {text : List ℕ} {doc : ℕ} {before now : List OccurrenceValue} (token : Token) (left rest : Tokens) →
+    places_left left ≡ token ∷ places_left rest →
     Logs first text doc before now left → IsPlaceFrom first text token
 Logs-place {first} {text} token left rest next s =
     let P : List Token → Type 0 = All (IsPlaceFrom first text) in
     subst P next s.within 0 token (omega arith)
 
-pub Logs-next : {first : ℕ} {text : List ℕ} {doc : ℕ} {before now : List OccurrenceValue} (token : Token) (left rest : Tokens) (after : List OccurrenceValue) → places_left left ≡ token ∷ places_left rest →
-    following_left rest ≡ following_left left → after ≡ now ++ occurrence_at doc (token_at text token) ∷ [] → Logs first text doc before now left → Logs first text doc before after rest
+pub Logs-next : {first : ℕ} {text : List ℕ} {doc : ℕ} {before now : List OccurrenceValue} (token : Token) (left rest : Tokens) (after : List OccurrenceValue) →
+    places_left left ≡ token ∷ places_left rest →
+    following_left rest ≡ following_left left → after ≡ now ++ occurrence_at doc (token_at text token) ∷ [] → Logs first text doc before now left →
+    Logs first text doc before after rest
 Logs-next {first} {text} {doc} {before} {now} token left rest after next same put s =
     let P : List Token → Type 0 = All (IsPlaceFrom first text) in
     let o = occurrence_at doc (token_at text token) in
@@ -54,7 +60,8 @@ Logs-next {first} {text} {doc} {before} {now} token left rest after next same pu
       follows = same ∙ s.follows;
     }
 
-pub Logs-end : {first : ℕ} {text : List ℕ} {doc : ℕ} {before now : List OccurrenceValue} (left : Tokens) → places_left left ≡ [] → Logs first text doc before now left →
+pub Logs-end : {first : ℕ} {text : List ℕ} {doc : ℕ} {before now : List OccurrenceValue} (left : Tokens) → places_left left ≡ [] →
+    Logs first text doc before now left →
     now ≡ before ++ map (occurrence_at doc) (tokens_from first text)
 Logs-end {first} {text} {doc} {before} {now} left none s =
     sym (append-nil now) ∙ sym (ap (λ ps. now ++ map (λ t. occurrence_at doc (token_at text t)) ps) none) ∙ s.whole
@@ -79,15 +86,18 @@ pub LogsOn-room : {texts : List (List ℕ)} {doc : ℕ} {before now : List Occur
     first + length (get_or texts n []) + 2 < 2 ^ 32
 LogsOn-room {texts} n first inside s = omega (arith, here_first texts n first inside s.room)
 
-pub LogsOn-next : {texts : List (List ℕ)} {doc : ℕ} {before now : List OccurrenceValue} (n first next : ℕ) (after : List OccurrenceValue) → n < length texts → LogsOn texts doc before now n first →
-    after ≡ now ++ map (occurrence_at doc) (tokens_from first (get_or texts n [])) → length (tokens_from first (get_or texts n [])) ≤ length (get_or texts n []) →
+pub LogsOn-next : {texts : List (List ℕ)} {doc : ℕ} {before now : List OccurrenceValue} (n first next : ℕ) (after : List OccurrenceValue) → n < length texts →
+    LogsOn texts doc before now n first →
+    after ≡ now ++ map (occurrence_at doc) (tokens_from first (get_or texts n [])) →
+    length (tokens_from first (get_or texts n [])) ≤ length (get_or texts n []) →
     next ≡ following first (get_or texts n []) → next ≤ first + length (get_or texts n []) + 1 → LogsOn texts doc before after (n + 1) next
 LogsOn-next {texts} {doc} {before} {now} n first next after inside s put few is near =
     let text = get_or texts n [] in
     let rest = drop (n + 1) texts in
     let at : List (List ℕ) → List OccurrenceValue = λ ts. now ++ map (occurrence_at doc) (tokens_of_texts first ts) in
     let bytes = ap bytes_of (drop_more texts n [] inside) ∙ sum_by-cons {X = List ℕ} length text rest in
-    let count = ap (λ ts. length (tokens_of_texts first ts)) (drop_more texts n [] inside) ∙ length-append (tokens_from first text) (tokens_of_texts (following first text) rest) in
+    let count = ap (λ ts. length (tokens_of_texts first ts)) (drop_more texts n [] inside)
+    ∙ length-append (tokens_from first text) (tokens_of_texts (following first text) rest) in
     let same = ap (λ m. length (tokens_of_texts m rest)) is in
     record {
       room = omega (arith, near, here_first texts n first inside s.room);

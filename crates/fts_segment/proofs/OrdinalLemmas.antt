@@ -33,7 +33,8 @@ last_of_first documents some =
     (n, within, get_or_default documents n (last_of (get_or (blocks_of documents) 0 [])) 0 within ∙ is)
 
 -- as many lists as texts
-pub lists_count : (vs : List (Option FieldValue)) (dictionary : Dictionary) → AreTerms kinds.Keyword vs dictionary → length dictionary.lists.items ≡ length dictionary.names
+pub lists_count : (vs : List (Option FieldValue)) (dictionary : Dictionary) → AreTerms kinds.Keyword vs dictionary →
+    length dictionary.lists.items ≡ length dictionary.names
 lists_count vs dictionary are = ap length are.dictionary_is.listed ∙ length-map dictionary.names (λ q. docs_with q (occurrences kinds.Keyword 0 vs))
 
 -- a value that has a text as its term is that text
@@ -44,7 +45,8 @@ holds_text text (Some (values.Number n)) h = cc
 holds_text text (Some (values.Texts ts)) h = cc
 
 -- a document that was picked from the list of an ordinal has its text, and none is picked where there is no such text
-pub keyword_there : (vs : List (Option FieldValue)) (index : KeywordIndex) (ordinal : ℕ) (lists : List (List ℕ)) (list d : List ℕ) (o : Option ℕ) → AreKeywords kinds.Keyword vs index →
+pub keyword_there : (vs : List (Option FieldValue)) (index : KeywordIndex) (ordinal : ℕ) (lists : List (List ℕ)) (list d : List ℕ) (o : Option ℕ) →
+    AreKeywords kinds.Keyword vs index →
     lists ≡ index.dictionary.lists.items → ordinal < length lists → list ≡ get_or lists ordinal d → MatchOption o (list ≡ []) (Contains list) →
     MatchOption o (slice_get (texts_of kinds.Keyword vs) ordinal ≡ None) (λ doc. HasKeywordAt vs ordinal doc)
 keyword_there vs index ordinal lists list d None are same inside found none =
@@ -57,7 +59,8 @@ keyword_there vs index ordinal lists list d (Some doc) are same inside found at 
     let text = get_or names ordinal [] in
     let named : slice_get names ordinal ≡ Some text = slice_get-get_or names ordinal [] within in
     let is = text_found text ordinal are.terms named in
-    let member : Contains (numbers_where (holds kinds.Keyword (values.Text text)) 0 vs) doc = subst (λ ds. Contains ds doc) (found ∙ get_or_default lists ordinal d [] inside ∙ ap (λ ls. get_or ls ordinal []) same ∙ is.0) at in
+    let member : Contains (numbers_where (holds kinds.Keyword (values.Text text)) 0 vs) doc =
+    subst (λ ds. Contains ds doc) (found ∙ get_or_default lists ordinal d [] inside ∙ ap (λ ls. get_or ls ordinal []) same ∙ is.0) at in
     let held = numbers_where-holds (holds kinds.Keyword (values.Text text)) 0 vs doc member in
     let number : doc ≡ held.0 = omega (arith, held.1) in
     record {
@@ -67,12 +70,19 @@ keyword_there vs index ordinal lists list d (Some doc) are same inside found at 
     }
 
 -- so there is this document
-pub document_within : (field : ℕ) (documents : List (Stamped DocumentValue)) (ordinal doc : ℕ) → HasKeywordAt (values_in field documents) ordinal doc → doc < length documents
+pub document_within : (field : ℕ) (documents : List (Stamped DocumentValue)) (ordinal doc : ℕ) → HasKeywordAt (values_in field documents) ordinal doc →
+    doc < length documents
 document_within field documents ordinal doc h =
-    omega (arith, slice_get_within (values_in field documents) doc (Some (values.Text h.text)) h.has, length-map documents (λ (d : Stamped DocumentValue). value_in_field d.value field))
+    omega (
+      arith,
+      slice_get_within (values_in field documents) doc (Some (values.Text h.text)) h.has,
+      length-map documents
+          (λ (d : Stamped DocumentValue). value_in_field d.value field),
+    )
 
 -- and its value in the field is the text
-text_there : (field : ℕ) (text : List ℕ) (d : DocumentValue) (o : Option (Stamped DocumentValue)) → option_map (λ d. value_in_field d.value field) o ≡ Some (Some (values.Text text)) →
+text_there : (field : ℕ) (text : List ℕ) (d : DocumentValue) (o : Option (Stamped DocumentValue)) → option_map (λ d. value_in_field d.value field) o
+    ≡ Some (Some (values.Text text)) →
     option_map (λ d. d.value) o ≡ Some d → value_in_field d field ≡ Some (values.Text text)
 text_there field text d None has is = cc
 text_there field text d (Some x) has is =
@@ -80,7 +90,9 @@ text_there field text d (Some x) has is =
     let same : x.value ≡ d = cc in
     ap (λ y. value_in_field y field) (sym same) ∙ here
 
-pub document_text : (field : ℕ) (documents : List (Stamped DocumentValue)) (ordinal doc : ℕ) (d : DocumentValue) (h : HasKeywordAt (values_in field documents) ordinal doc) →
+pub document_text : (field : ℕ) (documents : List (Stamped DocumentValue)) (ordinal doc : ℕ) (d : DocumentValue)
+    (h : HasKeywordAt (values_in field documents) ordinal doc) →
     option_map (λ d. d.value) (slice_get documents doc) ≡ Some d → value_in_field d field ≡ Some (values.Text h.text)
 document_text field documents ordinal doc d h is =
-    text_there field h.text d (slice_get documents doc) (sym (slice_get-map (λ (d : Stamped DocumentValue). value_in_field d.value field) documents doc) ∙ h.has) is
+    text_there field h.text d (slice_get documents doc) (sym (slice_get-map (λ (d : Stamped DocumentValue). value_in_field d.value field) documents doc)
+    ∙ h.has) is

@@ -1,5 +1,6 @@
 -- Parts as terms are passed.
-use Rattle.std.proofs.Common.{◌≡◌, ◌≢◌, ◌+◌, ◌<◌, ◌≤◌, inl, inr, ℕ, zero, suc, Bool, true, false, cond, List, [], ◌∷◌, ◌++◌, Option, Some, None, map, length, flat_map, sum_by, drop, get_or, refl, sym, ap, ap₂, subst, ◌∙◌, arith, Less, Equal, Greater}
+use Rattle.std.proofs.Common.{◌≡◌, ◌≢◌, ◌+◌, ◌<◌, ◌≤◌, inl, inr, ℕ, zero, suc, Bool, true, false, cond, List, [], ◌∷◌, ◌++◌, Option, Some, None, map, length}
+use Rattle.std.proofs.Common.{flat_map, sum_by, drop, get_or, refl, sym, ap, ap₂, subst, ◌∙◌, arith, Less, Equal, Greater}
 use Rattle.std.specs.Prelude.{slice_get}
 use Rattle.std.specs.List.{AllByRecursion}
 use Rattle.std.specs.Str.{bytes_eq}
@@ -65,7 +66,8 @@ below-passed term (n ∷ names) postings numbers up from =
     ] refl
 
 -- a part gives what is found in it
-pub given-found : (term : List ℕ) (names : List (List ℕ)) (postings : List (List Posting)) (numbers : List (Option ℕ)) → Ascend names → length names ≡ length postings → IsFrom term names →
+pub given-found : (term : List ℕ) (names : List (List ℕ)) (postings : List (List Posting)) (numbers : List (Option ℕ)) → Ascend names →
+    length names ≡ length postings → IsFrom term names →
     moved numbers (found names postings term) ≡ given term (record { names = names; postings = postings; numbers = numbers })
 given-found term [] postings numbers up paired from = refl
 given-found term (n ∷ names) [] numbers up paired from = absurd (omega (arith, paired))
@@ -77,10 +79,12 @@ given-found term (n ∷ names) (l ∷ postings) numbers up paired from =
 
 -- and nothing of it is left
 pub found-passed : (term : List ℕ) (p : PartValue) → IsSound p → IsFrom term p.names → found (passed term p).names (passed term p).postings term ≡ []
-found-passed term p sound from = found-below term (passed term p).names (passed term p).postings (below-passed term p.names p.postings p.numbers sound.ascend from)
+found-passed term p sound from =
+    found-below term (passed term p).names (passed term p).postings (below-passed term p.names p.postings p.numbers sound.ascend from)
 
 -- other terms are left as they were
-pub found-other : (term other : List ℕ) (names : List (List ℕ)) (postings : List (List Posting)) (numbers : List (Option ℕ)) → length names ≡ length postings → bytes_eq term other ≡ false →
+pub found-other : (term other : List ℕ) (names : List (List ℕ)) (postings : List (List Posting)) (numbers : List (Option ℕ)) → length names ≡ length postings →
+    bytes_eq term other ≡ false →
     let p : PartValue = record { names = names; postings = postings; numbers = numbers } in
     moved (passed term p).numbers (found (passed term p).names (passed term p).postings other) ≡ moved numbers (found names postings other)
 found-other term other [] postings numbers paired differ = refl
@@ -88,7 +92,8 @@ found-other term other (n ∷ names) [] numbers paired differ = absurd (omega (a
 found-other term other (n ∷ names) (l ∷ postings) numbers paired differ =
     let all : PartValue = record { names = n ∷ names; postings = l ∷ postings; numbers = numbers } in
     let rest : PartValue = record { names = names; postings = postings; numbers = numbers } in
-    elim (bytes_eq n term) as (λ b. bytes_eq n term ≡ b → moved (cond b rest all).numbers (found (cond b rest all).names (cond b rest all).postings other) ≡ moved numbers (cond (bytes_eq n other) l (found names postings other))) [
+    elim (bytes_eq n term) as (λ b. bytes_eq n term ≡ b → moved (cond b rest all).numbers (found (cond b rest all).names (cond b rest all).postings other)
+    ≡ moved numbers (cond (bytes_eq n other) l (found names postings other))) [
       | true ↦ λ same.
           let one : n ≡ term = (bytes_eq-Decides n term).0 same in
           let apart : bytes_eq n other ≡ false = ap (λ x. bytes_eq x other) one ∙ differ in
@@ -97,20 +102,26 @@ found-other term other (n ∷ names) (l ∷ postings) numbers paired differ =
     ] refl
 
 -- parts behind a term are sound
-pub sound-passed : (term : List ℕ) (names : List (List ℕ)) (postings : List (List Posting)) (numbers : List (Option ℕ)) → IsSound (record { names = names; postings = postings; numbers = numbers }) → IsSound (passed term (record { names = names; postings = postings; numbers = numbers }))
+pub sound-passed : (term : List ℕ) (names : List (List ℕ)) (postings : List (List Posting)) (numbers : List (Option ℕ)) →
+    IsSound (record { names = names; postings = postings; numbers = numbers }) →
+    IsSound (passed term (record { names = names; postings = postings; numbers = numbers }))
 sound-passed term [] postings numbers s = s
 sound-passed term (n ∷ names) [] numbers s = absurd (omega (arith, s.paired))
 sound-passed term (n ∷ names) (l ∷ postings) numbers s =
-    elim (bytes_eq n term) as (λ b. IsSound (cond b (record { names = names; postings = postings; numbers = numbers }) (record { names = n ∷ names; postings = l ∷ postings; numbers = numbers }))) [
+    elim (bytes_eq n term) as
+    (λ b. IsSound (cond b (record { names = names; postings = postings; numbers = numbers })
+    (record { names = n ∷ names; postings = l ∷ postings; numbers = numbers }))) [
       | true ↦ record { ascend = s.ascend.1; paired = omega (arith, s.paired) }
       | false ↦ s
     ]
 
 -- what was below a part stays below it
-pub below-after : (name term : List ℕ) (names : List (List ℕ)) (postings : List (List Posting)) (numbers : List (Option ℕ)) → IsBelow name names → IsBelow name (passed term (record { names = names; postings = postings; numbers = numbers })).names
+pub below-after : (name term : List ℕ) (names : List (List ℕ)) (postings : List (List Posting)) (numbers : List (Option ℕ)) → IsBelow name names →
+    IsBelow name (passed term (record { names = names; postings = postings; numbers = numbers })).names
 below-after name term [] postings numbers h = tt
 below-after name term (n ∷ names) postings numbers h =
-    elim (bytes_eq n term) as (λ b. IsBelow name (cond {A = PartValue} b (record { names = names; postings = drop 1 postings; numbers = numbers }) (record { names = n ∷ names; postings = postings; numbers = numbers })).names) [
+    elim (bytes_eq n term) as (λ b. IsBelow name (cond {A = PartValue} b (record { names = names; postings = drop 1 postings; numbers = numbers })
+    (record { names = n ∷ names; postings = postings; numbers = numbers })).names) [
       | true ↦ h.1
       | false ↦ h
     ]
@@ -129,7 +140,8 @@ joined-passed term [] sound from = refl
 joined-passed term (p ∷ ps) sound from =
     ap₂ (λ a b. moved (passed term p).numbers a ++ b) (found-passed term p sound.0 from.0) (joined-passed term ps sound.1 from.1)
 
-pub joined-other : (term other : List ℕ) (ps : List PartValue) → AllByRecursion IsSound ps → bytes_eq term other ≡ false → joined (map (passed term) ps) other ≡ joined ps other
+pub joined-other : (term other : List ℕ) (ps : List PartValue) → AllByRecursion IsSound ps → bytes_eq term other ≡ false →
+    joined (map (passed term) ps) other ≡ joined ps other
 joined-other term other [] sound differ = refl
 joined-other term other (p ∷ ps) sound differ =
     ap₂ (λ a b. a ++ b) (found-other term other p.names p.postings p.numbers sound.0.paired differ) (joined-other term other ps sound.1 differ)
@@ -171,38 +183,67 @@ abbrev pub left : List PartValue → ℕ
 left ps = sum_by (λ p. length p.names) ps
 
 fewer-part : (term : List ℕ) (p : PartValue) (names : List (List ℕ)) → p.names ≡ names → length (passed term p).names ≤ length names
-fewer-part term p [] e = let P : List (List ℕ) → Type 0 = λ ns. length (cond (begins term ns) (record { names = drop 1 p.names; postings = drop 1 p.postings; numbers = p.numbers }) p).names ≤ 0 in
+fewer-part term p [] e = let P : List (List ℕ) → Type 0 =
+    λ ns. length (cond (begins term ns) (record { names = drop 1 p.names; postings = drop 1 p.postings; numbers = p.numbers }) p).names ≤ 0 in
     subst P (sym e) (omega (arith, ap length e))
 fewer-part term p (n ∷ names) e =
-    elim (begins term p.names) as (λ b. length (cond b (record { names = drop 1 p.names; postings = drop 1 p.postings; numbers = p.numbers }) p).names ≤ suc (length names)) [
-      | true ↦ let P : List (List ℕ) → Type 0 = λ ns. length (drop 1 ns) ≤ suc (length names) in subst P (sym e) (let k : length names ≤ suc (length names) = omega arith in k)
+    elim (begins term p.names) as (λ b. length (cond b (record { names = drop 1 p.names; postings = drop 1 p.postings; numbers = p.numbers }) p).names
+    ≤ suc (length names)) [
+      | true ↦ let P : List (List ℕ) → Type 0 = λ ns. length (drop 1 ns) ≤ suc (length names) in
+          subst P (sym e) (let k : length names ≤ suc (length names) = omega arith in k)
       | false ↦ omega (arith, ap length e)
     ]
 
-fewer-begun : (term : List ℕ) (p : PartValue) (names : List (List ℕ)) → p.names ≡ names → begins term p.names ≡ true → length (passed term p).names < length p.names
+fewer-begun : (term : List ℕ) (p : PartValue) (names : List (List ℕ)) → p.names ≡ names → begins term p.names ≡ true →
+    length (passed term p).names < length p.names
 fewer-begun term p [] e h = absurd (let no : false ≡ true = ap (begins term) (sym e) ∙ h in cc)
 fewer-begun term p (n ∷ names) e h =
-    let P : Bool → Type 0 = λ b. length (cond b (record { names = drop 1 p.names; postings = drop 1 p.postings; numbers = p.numbers }) p).names < length p.names in
+    let P : Bool → Type 0 = λ b. length (cond b (record { names = drop 1 p.names; postings = drop 1 p.postings; numbers = p.numbers }) p).names
+    < length p.names in
     let Q : List (List ℕ) → Type 0 = λ ns. length (drop 1 ns) < length ns in
     subst P (sym h) (subst Q (sym e) (let k : length names < suc (length names) = omega arith in k))
 
 fewer-all : (term : List ℕ) (ps : List PartValue) → left (map (passed term) ps) ≤ left ps
 fewer-all term [] = omega arith
-fewer-all term (p ∷ ps) = omega (arith, fewer-part term p p.names refl, fewer-all term ps, sum_by-cons (λ (p : PartValue). length p.names) p ps, sum_by-cons (λ (p : PartValue). length p.names) (passed term p) (map (passed term) ps))
+fewer-all term (p ∷ ps) =
+    omega (
+      arith,
+      fewer-part term p p.names refl,
+      fewer-all term ps,
+      sum_by-cons (λ (p : PartValue). length p.names) p ps,
+      sum_by-cons
+          (λ (p : PartValue). length p.names) (passed term p) (map (passed term) ps),
+    )
 
-fewer-at : (term : List ℕ) (ps : List PartValue) (i : ℕ) (p : PartValue) → slice_get ps i ≡ Some p → begins term p.names ≡ true → left (map (passed term) ps) < left ps
+fewer-at : (term : List ℕ) (ps : List PartValue) (i : ℕ) (p : PartValue) → slice_get ps i ≡ Some p → begins term p.names ≡ true →
+    left (map (passed term) ps) < left ps
 fewer-at term [] i p e h = absurd (let no : None ≡ Some p = e in cc)
 fewer-at term (q ∷ ps) zero p e h =
     let same : q ≡ p = cc in
     let begun : begins term q.names ≡ true = ap (λ (r : PartValue). begins term r.names) same ∙ h in
-    omega (arith, fewer-begun term q q.names refl begun, fewer-all term ps, sum_by-cons (λ (p : PartValue). length p.names) q ps, sum_by-cons (λ (p : PartValue). length p.names) (passed term q) (map (passed term) ps))
+    omega (
+      arith,
+      fewer-begun term q q.names refl begun,
+      fewer-all term ps,
+      sum_by-cons (λ (p : PartValue). length p.names) q ps,
+      sum_by-cons
+          (λ (p : PartValue). length p.names) (passed term q) (map (passed term) ps),
+    )
 fewer-at term (q ∷ ps) (suc i) p e h =
-    omega (arith, fewer-part term q q.names refl, fewer-at term ps i p e h, sum_by-cons (λ (p : PartValue). length p.names) q ps, sum_by-cons (λ (p : PartValue). length p.names) (passed term q) (map (passed term) ps))
+    omega (
+      arith,
+      fewer-part term q q.names refl,
+      fewer-at term ps i p e h,
+      sum_by-cons (λ (p : PartValue). length p.names) q ps,
+      sum_by-cons
+          (λ (p : PartValue). length p.names) (passed term q) (map (passed term) ps),
+    )
 
 pub fewer : (term : List ℕ) (ps : List PartValue) → IsMet term ps → left (map (passed term) ps) < left ps
 fewer term ps met = fewer-at term ps met.1 met.0 met.2 met.3
 
-pub length-postings_by : (lists : List (List ℕ)) (positions : List (List (List ℕ))) → length lists ≡ length positions → length (postings_by lists positions) ≡ length lists
+pub length-postings_by : (lists : List (List ℕ)) (positions : List (List (List ℕ))) → length lists ≡ length positions →
+    length (postings_by lists positions) ≡ length lists
 length-postings_by [] positions e = refl
 length-postings_by (l ∷ lists) [] e = absurd (omega (arith, e))
 length-postings_by (l ∷ lists) (p ∷ positions) e = ap suc (length-postings_by lists positions (omega (arith, e)))
@@ -231,7 +272,8 @@ given-here term at d numbers is h =
     let paired : length lists ≡ length positions = sym is.listed ∙ is.positioned in
     let there : at < length lists = omega (arith, within, is.listed) in
     ap (λ b. cond b (moved numbers (get_or (drop at (postings_by lists positions)) 0 [])) []) h
-    ∙ ap (λ ps. moved numbers (get_or ps 0 [])) (drop_more (postings_by lists positions) at [] (omega (arith, there, length-postings_by lists positions paired)))
+    ∙ ap (λ ps. moved numbers (get_or ps 0 []))
+    (drop_more (postings_by lists positions) at [] (omega (arith, there, length-postings_by lists positions paired)))
     ∙ ap (moved numbers) (postings_by-at lists positions at paired there)
 
 pub passed-here : (term : List ℕ) (at : ℕ) (d : Dictionary) (numbers : List (Option ℕ)) → IsWhole d numbers → begins term (drop at d.names) ≡ true →

@@ -1,5 +1,6 @@
 -- The postings of a term, out of its documents and its positions in them.
-use Rattle.std.proofs.Common.{◌≡◌, ◌≢◌, ◌+◌, ◌<◌, ℕ, zero, suc, Bool, true, false, cond, List, [], ◌∷◌, Option, map, length, get_or, nat_eq, nat_lt, refl, sym, ap, ap₂, subst, ◌∙◌, ⊎_elim, arith, All, Contains}
+use Rattle.std.proofs.Common.{◌≡◌, ◌≢◌, ◌+◌, ◌<◌, ℕ, zero, suc, Bool, true, false, cond, List, [], ◌∷◌, Option, map, length, get_or, nat_eq, nat_lt, refl, sym}
+use Rattle.std.proofs.Common.{ap, ap₂, subst, ◌∙◌, ⊎_elim, arith, All, Contains}
 use Rattle.std.specs.List.{AllByRecursion, dedup, dedup_from, list_any}
 use Rattle.std.specs.Str.{bytes_eq}
 use Rattle.std.specs.Ordering.{nat_cmp}
@@ -35,23 +36,29 @@ position_lists-postings_of (d ∷ docs) [] e = absurd (omega (arith, e))
 position_lists-postings_of (d ∷ docs) (l ∷ lists) e = ap (λ ls. l ∷ ls) (position_lists-postings_of docs lists (omega (arith, e)))
 
 docs-cons : (q : List ℕ) (kind : Kind) (doc : ℕ) (v : Option FieldValue) (vs : List (Option FieldValue)) →
-    let rest = docs_with q (occurrences kind (doc + 1) vs) in docs_with q (occurrences kind doc (v ∷ vs)) ≡ cond (list_any (is_token q) (tokens_of kind v)) (doc ∷ rest) rest
+    let rest = docs_with q (occurrences kind (doc + 1) vs) in
+    docs_with q (occurrences kind doc (v ∷ vs)) ≡ cond (list_any (is_token q) (tokens_of kind v)) (doc ∷ rest) rest
 docs-cons q kind doc v vs =
     let p : Option FieldValue → Bool = λ v. list_any (is_token q) (tokens_of kind v) in
-    docs_with-occurrences q kind doc (v ∷ vs) ∙ numbers_where-cons p doc v vs ∙ ap (λ ds. cond (p v) (doc ∷ ds) ds) (sym (docs_with-occurrences q kind (doc + 1) vs))
+    docs_with-occurrences q kind doc (v ∷ vs) ∙ numbers_where-cons p doc v vs
+    ∙ ap (λ ds. cond (p v) (doc ∷ ds) ds) (sym (docs_with-occurrences q kind (doc + 1) vs))
 
 -- the postings of a value, and of those behind it
-pub postings-cons : (q : List ℕ) (kind : Kind) (doc : ℕ) (v : Option FieldValue) (vs : List (Option FieldValue)) → let rest = postings_with q (occurrences kind (doc + 1) vs) in
-    postings_with q (occurrences kind doc (v ∷ vs)) ≡ cond (list_any (is_token q) (tokens_of kind v)) (posting_at doc (positions_among q (tokens_of kind v)) ∷ rest) rest
+pub postings-cons : (q : List ℕ) (kind : Kind) (doc : ℕ) (v : Option FieldValue) (vs : List (Option FieldValue)) → let rest =
+    postings_with q (occurrences kind (doc + 1) vs) in
+    postings_with q (occurrences kind doc (v ∷ vs)) ≡ cond (list_any (is_token q) (tokens_of kind v))
+    (posting_at doc (positions_among q (tokens_of kind v)) ∷ rest) rest
 postings-cons q kind doc v vs =
     let ds = docs_with q (occurrences kind (doc + 1) vs) in
     let ls = position_lists_with q (occurrences kind (doc + 1) vs) in
     let here = positions_among q (tokens_of kind v) in
     ap₂ postings_of (docs-cons q kind doc v vs) (position_lists-cons q kind doc v vs)
-    ∙ elim (list_any (is_token q) (tokens_of kind v)) as (λ b. postings_of (cond b (doc ∷ ds) ds) (cond b (here ∷ ls) ls) ≡ cond b (posting_at doc here ∷ postings_of ds ls) (postings_of ds ls)) [ true ↦ refl | false ↦ refl ]
+    ∙ elim (list_any (is_token q) (tokens_of kind v)) as (λ b. postings_of (cond b (doc ∷ ds) ds) (cond b (here ∷ ls) ls)
+    ≡ cond b (posting_at doc here ∷ postings_of ds ls) (postings_of ds ls)) [ true ↦ refl | false ↦ refl ]
 
 -- each document has its positions
-pub paired-occurrences : (q : List ℕ) (kind : Kind) (doc : ℕ) (vs : List (Option FieldValue)) → length (docs_with q (occurrences kind doc vs)) ≡ length (position_lists_with q (occurrences kind doc vs))
+pub paired-occurrences : (q : List ℕ) (kind : Kind) (doc : ℕ) (vs : List (Option FieldValue)) →
+    length (docs_with q (occurrences kind doc vs)) ≡ length (position_lists_with q (occurrences kind doc vs))
 paired-occurrences q kind doc [] = refl
 paired-occurrences q kind doc (v ∷ vs) =
     let ds = docs_with q (occurrences kind (doc + 1) vs) in
@@ -65,7 +72,8 @@ paired-occurrences q kind doc (v ∷ vs) =
     ∙ sym (ap length (position_lists-cons q kind doc v vs))
 
 -- the documents are among those that there are
-pub docs-within : (q : List ℕ) (kind : Kind) (doc n : ℕ) (vs : List (Option FieldValue)) → n ≡ doc + length vs → All (λ d. d < n) (docs_with q (occurrences kind doc vs))
+pub docs-within : (q : List ℕ) (kind : Kind) (doc n : ℕ) (vs : List (Option FieldValue)) → n ≡ doc + length vs →
+    All (λ d. d < n) (docs_with q (occurrences kind doc vs))
 docs-within q kind doc n [] e = All-nil (λ d. d < n)
 docs-within q kind doc n (v ∷ vs) e =
     let P : List ℕ → Type 0 = All (λ d. d < n) in
@@ -84,12 +92,14 @@ dedup_from-some d (x ∷ xs) = elim (nat_eq x d) as (λ b. cond b (dedup_from na
 ]
 
 -- a term that has no posting doesn't occur
-occurs-none : (q : List ℕ) (os : List OccurrenceValue) → length (docs_with q os) ≡ length (position_lists_with q os) → postings_with q os ≡ [] → occurs os q ≡ false
+occurs-none : (q : List ℕ) (os : List OccurrenceValue) → length (docs_with q os) ≡ length (position_lists_with q os) → postings_with q os ≡ [] →
+    occurs os q ≡ false
 occurs-none q os paired empty = by (docs_of q os) refl
   where
     by : (ds : List ℕ) → docs_of q os ≡ ds → occurs os q ≡ false
     by [] is = ap (λ ds. nat_lt 0 (length ds)) is
-    by (d ∷ ds) is = absurd (dedup_from-some d ds (ap (dedup nat_eq) (sym is) ∙ sym (documents-postings_of (docs_with q os) (position_lists_with q os) paired) ∙ ap documents empty))
+    by (d ∷ ds) is = absurd (dedup_from-some d ds (ap (dedup nat_eq) (sym is) ∙ sym (documents-postings_of (docs_with q os) (position_lists_with q os) paired)
+        ∙ ap documents empty))
 
 -- and one that doesn't occur has none
 postings-none : (q : List ℕ) (os : List OccurrenceValue) → (occurs os q ≡ true → ⊥) → postings_with q os ≡ []
@@ -106,12 +116,14 @@ occurs-some q os some = by (occurs os q) refl
     by true is = is
     by false is = absurd (some (postings-none q os (λ yes. let clash : true ≡ false = sym yes ∙ is in cc)))
 
-postings_by-map : (os : List OccurrenceValue) (names : List (List ℕ)) → postings_by (map (λ q. docs_with q os) names) (map (λ q. position_lists_with q os) names) ≡ map (λ q. postings_with q os) names
+postings_by-map : (os : List OccurrenceValue) (names : List (List ℕ)) →
+    postings_by (map (λ q. docs_with q os) names) (map (λ q. position_lists_with q os) names) ≡ map (λ q. postings_with q os) names
 postings_by-map os [] = refl
 postings_by-map os (q ∷ names) = ap (λ ps. postings_with q os ∷ ps) (postings_by-map os names)
 
 -- a dictionary has the postings of its terms
-pub postings_by-dictionary : (os : List OccurrenceValue) (names lists : List (List ℕ)) (positions : List (List (List ℕ))) → IsDictionaryOf os names lists positions →
+pub postings_by-dictionary : (os : List OccurrenceValue) (names lists : List (List ℕ)) (positions : List (List (List ℕ))) →
+    IsDictionaryOf os names lists positions →
     postings_by lists positions ≡ map (λ q. postings_with q os) names
 postings_by-dictionary os names lists positions d = ap₂ postings_by d.listed d.positioned ∙ postings_by-map os names
 
@@ -121,11 +133,13 @@ found-map f [] q absent = sym (absent (none q))
 found-map f (n ∷ names) q gone = elim (bytes_eq n q) as (λ b. bytes_eq n q ≡ b → cond b (f n) (found names (map f names) q) ≡ f q) [
   | true ↦ λ same. ap f ((bytes_eq-Decides n q).0 same)
   | false ↦ λ differ. found-map f names q (λ absent. gone (λ c. ⊎_elim
-      (λ (same : n ≡ q). let clash : true ≡ false = sym ((bytes_eq-Decides n q).1 same) ∙ differ in absurd (let e : true ≡ false = clash in cc)) absent (either n q names c)))
+      (λ (same : n ≡ q). let clash : true ≡ false = sym ((bytes_eq-Decides n q).1 same) ∙ differ in absurd (let e : true ≡ false = clash in cc)) absent
+      (either n q names c)))
 ] refl
 
 -- what is found in a dictionary are the postings of the term
-pub found-dictionary : (os : List OccurrenceValue) (names lists : List (List ℕ)) (positions : List (List (List ℕ))) → IsDictionaryOf os names lists positions → (q : List ℕ) →
+pub found-dictionary : (os : List OccurrenceValue) (names lists : List (List ℕ)) (positions : List (List (List ℕ))) → IsDictionaryOf os names lists positions →
+    (q : List ℕ) →
     found names (postings_by lists positions) q ≡ postings_with q os
 found-dictionary os names lists positions d q =
     ap (λ ps. found names ps q) (postings_by-dictionary os names lists positions d)
@@ -139,7 +153,8 @@ ascend-climbs : (ts : List (List ℕ)) → Climbs ts → Ascend ts
 ascend-climbs [] h = tt
 ascend-climbs (t ∷ ts) h = (below-climbs t ts h.0, ascend-climbs ts h.1)
 
-pub sound-dictionary : (os : List OccurrenceValue) (names lists : List (List ℕ)) (positions : List (List (List ℕ))) (numbers : List (Option ℕ)) → IsDictionaryOf os names lists positions →
+pub sound-dictionary : (os : List OccurrenceValue) (names lists : List (List ℕ)) (positions : List (List (List ℕ))) (numbers : List (Option ℕ)) →
+    IsDictionaryOf os names lists positions →
     IsSound (record { names = names; postings = postings_by lists positions; numbers = numbers })
 sound-dictionary os names lists positions numbers d = record {
   ascend = ascend-climbs names (climbs_by_place names d.ascends);
@@ -163,14 +178,18 @@ map-same : {X Y : Type 0} (f g : X → Y) → ((x : X) → f x ≡ g x) → (xs 
 map-same f g same [] = refl
 map-same f g same (x ∷ xs) = ap₂ (λ y ys. y ∷ ys) (same x) (map-same f g same xs)
 
-all-occur : (os : List OccurrenceValue) (parts : List PartValue) (names : List (List ℕ)) → ((q : List ℕ) → joined parts q ≡ postings_with q os) → AllByRecursion (λ q. joined parts q ≢ []) names →
+all-occur : (os : List OccurrenceValue) (parts : List PartValue) (names : List (List ℕ)) → ((q : List ℕ) → joined parts q ≡ postings_with q os) →
+    AllByRecursion (λ q. joined parts q ≢ []) names →
     All (λ q. occurs os q ≡ true) names
 all-occur os parts [] same some = All-nil (λ q. occurs os q ≡ true)
-all-occur os parts (q ∷ names) same some = All-cons (λ q. occurs os q ≡ true) q names (occurs-some q os (λ empty. some.0 (same q ∙ empty))) (all-occur os parts names same some.1)
+all-occur os parts (q ∷ names) same some =
+    All-cons (λ q. occurs os q ≡ true) q names (occurs-some q os (λ empty. some.0 (same q ∙ empty))) (all-occur os parts names same some.1)
 
 -- what was joined is the dictionary of occurrences where the parts have these
-pub dictionary-joined : (kind : Kind) (vs : List (Option FieldValue)) (parts : List PartValue) (names lists : List (List ℕ)) (positions : List (List (List ℕ))) →
-    ((q : List ℕ) → joined parts q ≡ postings_with q (occurrences kind 0 vs)) → IsJoined parts names lists positions → IsDictionaryOf (occurrences kind 0 vs) names lists positions
+pub dictionary-joined : (kind : Kind) (vs : List (Option FieldValue)) (parts : List PartValue) (names lists : List (List ℕ))
+    (positions : List (List (List ℕ))) →
+    ((q : List ℕ) → joined parts q ≡ postings_with q (occurrences kind 0 vs)) → IsJoined parts names lists positions →
+    IsDictionaryOf (occurrences kind 0 vs) names lists positions
 dictionary-joined kind vs parts names lists positions same j =
     let os = occurrences kind 0 vs in
     let paired : (q : List ℕ) → length (docs_with q os) ≡ length (position_lists_with q os) = λ q. paired-occurrences q kind 0 vs in

@@ -11,13 +11,16 @@ pub puts-none : {docs : List ℕ} {log : PositionListLog} → IsPositionListLog 
 puts-none {docs} {log} is = record { is = is; documents_are = sym (append-nil docs); positions_are = sym (append-nil (logged_position_lists log)) }
 
 -- the same postings, by another name
-pub puts-as : {some other : List Posting} {docs new_docs : List ℕ} {log new_log : PositionListLog} → other ≡ some → Puts some docs log new_docs new_log → Puts other docs log new_docs new_log
+pub puts-as : {some other : List Posting} {docs new_docs : List ℕ} {log new_log : PositionListLog} → other ≡ some → Puts some docs log new_docs new_log →
+    Puts other docs log new_docs new_log
 puts-as {some} {other} {docs} {new_docs} {log} {new_log} same h =
     let P : List Posting → Type 0 = λ ps. Puts ps docs log new_docs new_log in subst P (sym same) h
 
-appended : {X : Type 0} (f : Posting → X) (some more all : List Posting) (before out new : List X) → all ≡ some ++ more → out ≡ before ++ map f some → new ≡ out ++ map f more → new ≡ before ++ map f all
+appended : {X : Type 0} (f : Posting → X) (some more all : List Posting) (before out new : List X) → all ≡ some ++ more → out ≡ before ++ map f some →
+    new ≡ out ++ map f more → new ≡ before ++ map f all
 appended f some more all before out new is so_far put =
-    put ∙ ap (λ zs. zs ++ map f more) so_far ∙ append_assoc before (map f some) (map f more) ∙ ap (λ zs. before ++ zs) (sym (map-append f some more) ∙ ap (map f) (sym is))
+    put ∙ ap (λ zs. zs ++ map f more) so_far ∙ append_assoc before (map f some) (map f more)
+    ∙ ap (λ zs. before ++ zs) (sym (map-append f some more) ∙ ap (map f) (sym is))
 
 -- more behind some
 pub puts-more : {some more all : List Posting} {docs mid_docs new_docs : List ℕ} {log mid_log new_log : PositionListLog} → all ≡ some ++ more →
@@ -25,5 +28,6 @@ pub puts-more : {some more all : List Posting} {docs mid_docs new_docs : List �
 puts-more {some} {more} {all} {docs} {mid_docs} {new_docs} {log} {mid_log} {new_log} is first second = record {
   is = second.is;
   documents_are = appended (λ (p : Posting). p.doc) some more all docs mid_docs new_docs is first.documents_are second.documents_are;
-  positions_are = appended (λ (p : Posting). p.positions) some more all (logged_position_lists log) (logged_position_lists mid_log) (logged_position_lists new_log) is first.positions_are second.positions_are;
+  positions_are = appended (λ (p : Posting). p.positions) some more all (logged_position_lists log) (logged_position_lists mid_log)
+      (logged_position_lists new_log) is first.positions_are second.positions_are;
 }

@@ -12,14 +12,16 @@ use Rattle.fts_segment.specs.Positions.{position_lists_with}
 
 never_none : (k : ℕ) (xs : List ℕ) → dedup_from nat_eq k xs ≡ [] → ⊥
 never_none k [] h = cc
-never_none k (x ∷ xs) h = elim (nat_eq x k) as (λ b. cond b (dedup_from nat_eq k xs) (k ∷ dedup_from nat_eq x xs) ≡ [] → ⊥) [ true ↦ λ e. never_none k xs e | false ↦ λ e. cc ] h
+never_none k (x ∷ xs) h = elim (nat_eq x k) as (λ b. cond b (dedup_from nat_eq k xs) (k ∷ dedup_from nat_eq x xs) ≡ [] → ⊥)
+    [ true ↦ λ e. never_none k xs e | false ↦ λ e. cc ] h
 
 some_left : (xs : List ℕ) → 0 < length xs → dedup nat_eq xs ≡ [] → ⊥
 some_left [] more h = omega arith
 some_left (x ∷ xs) more h = never_none x xs h
 
 -- a term of the dictionary has its list, which is not empty
-pub found_list : {os : List OccurrenceValue} {names lists : List (List ℕ)} {positions : List (List (List ℕ))} (k : ℕ) (q : List ℕ) → IsDictionaryOf os names lists positions → slice_get names k ≡ Some q →
+pub found_list : {os : List OccurrenceValue} {names lists : List (List ℕ)} {positions : List (List (List ℕ))} (k : ℕ) (q : List ℕ) →
+    IsDictionaryOf os names lists positions → slice_get names k ≡ Some q →
     (k < length lists) × (get_or lists k [] ≡ docs_with q os) × (docs_with q os ≡ [] → ⊥)
 found_list {os} {names} {lists} {positions} k q index found =
     let within : k < length names = slice_get_within names k q found in
@@ -30,14 +32,17 @@ found_list {os} {names} {lists} {positions} k q index found =
     )
 
 -- what is not in the dictionary doesn't occur
-pub absent_list : {os : List OccurrenceValue} {names lists : List (List ℕ)} {positions : List (List (List ℕ))} (q : List ℕ) → IsDictionaryOf os names lists positions → ((k : ℕ) → slice_get names k ≡ Some q → ⊥) → docs_with q os ≡ []
+pub absent_list : {os : List OccurrenceValue} {names lists : List (List ℕ)} {positions : List (List (List ℕ))} (q : List ℕ) →
+    IsDictionaryOf os names lists positions → ((k : ℕ) → slice_get names k ≡ Some q → ⊥) → docs_with q os ≡ []
 absent_list {os} {names} {lists} {positions} q index absent = elim (cases_Bool (occurs os q)) [
   | inl is ↦ absurd (let at = index.whole q is in absent at.0 (slice_get-get_or names at.0 q at.1 ∙ ap Some at.2))
-  | inr is ↦ ap (dedup nat_eq) (nil_from_length (docs_of q os) (let none : length (docs_of q os) ≡ 0 = omega (arith, ltb-false 0 (length (docs_of q os)) is) in none))
+  | inr is ↦ ap (dedup nat_eq) (nil_from_length (docs_of q os) (let none : length (docs_of q os) ≡ 0 = omega (arith, ltb-false 0 (length (docs_of q os)) is) in
+      none))
 ]
 
 -- and its positions
-pub found_position_lists : {os : List OccurrenceValue} {names lists : List (List ℕ)} {positions : List (List (List ℕ))} (k : ℕ) (q : List ℕ) → IsDictionaryOf os names lists positions → slice_get names k ≡ Some q →
+pub found_position_lists : {os : List OccurrenceValue} {names lists : List (List ℕ)} {positions : List (List (List ℕ))} (k : ℕ) (q : List ℕ) →
+    IsDictionaryOf os names lists positions → slice_get names k ≡ Some q →
     get_or positions k [] ≡ position_lists_with q os
 found_position_lists {os} {names} {lists} {positions} k q index found =
     let g : List ℕ → List (List ℕ) = λ q. position_lists_with q os in

@@ -1,11 +1,13 @@
 -- What the live documents of sources have, source by source.
-use Rattle.std.proofs.Common.{◌≡◌, ◌+◌, ◌<◌, ◌≤◌, ℕ, zero, suc, Bool, true, false, cond, List, [], ◌∷◌, ◌++◌, Option, Some, None, map, length, drop, get_or, count_by, replicate, refl, sym, ap, ap₂, subst, ◌∙◌, arith, All, append_assoc}
+use Rattle.std.proofs.Common.{◌≡◌, ◌+◌, ◌<◌, ◌≤◌, ℕ, zero, suc, Bool, true, false, cond, List, [], ◌∷◌, ◌++◌, Option, Some, None, map, length, drop, get_or}
+use Rattle.std.proofs.Common.{count_by, replicate, refl, sym, ap, ap₂, subst, ◌∙◌, arith, All, append_assoc}
 use Rattle.std.specs.Prelude.{slice_get}
 use Rattle.std.specs.List.{AllByRecursion, list_any}
 use Rattle.std.specs.List.Sorted.{IsStrictlyIncreasing}
 use Rattle.std.proofs.lemmas.List.{append-nil, drop_all, drop_more, get_or-map, map-append, length-append, length-map}
 use Rattle.std.proofs.lemmas.List.Elements.{All-head, All-tail, All-cons, All-nil, All-append}
-use Rattle.std.proofs.lemmas.List.Sums.{sum_by-cons}
+use Rattle.std.proofs.lemmas.Grind.{flat_map-append}
+use Rattle.std.proofs.lemmas.List.Sums.{sum_by-append, sum_by-cons}
 use Rattle.fts_model.specs.declared.schema.Field.{Field}
 use Rattle.fts_model.specs.declared.schema.Kind.{Kind}
 use Rattle.fts_model.specs.declared.value.FieldValue.{FieldValue}
@@ -24,7 +26,8 @@ use Rattle.fts_segment.specs.TermPositionLists.{term_position_lists}
 use Rattle.fts_segment.specs.Parts.{PartValue, renumbered, placed, moved, found, joined, part_from, postings_with, IsSound, IsWhole, IsPart, AreParts, IsJoined}
 use Rattle.fts_segment.proofs.HoldingLemmas.{docs_with-rise}
 use Rattle.fts_segment.proofs.MovingLemmas.{dropped_at}
-use Rattle.fts_segment.proofs.PostingsLemmas.{postings-cons, paired-occurrences, docs-within, documents-postings_of, found-dictionary, sound-dictionary, dictionary-joined}
+use Rattle.fts_segment.proofs.PostingsLemmas.{postings-cons, paired-occurrences, docs-within, documents-postings_of, found-dictionary, sound-dictionary}
+use Rattle.fts_segment.proofs.PostingsLemmas.{dictionary-joined}
 
 -- there are as many live members as bits are set
 pub length-where_set : {X : Type 0} (xs : List X) (bits : List Bool) → length bits ≡ length xs → length (where_set xs bits) ≡ count_by (λ bit. bit) bits
@@ -53,34 +56,40 @@ pub All-contents : (P : Stamped DocumentValue → Type 0) (ss : List SourceValue
 All-contents P [] h = All-nil P
 All-contents P (s ∷ ss) h =
     let Q : SourceValue → Type 0 = λ s. All P s.segment.documents in
-    All-append P (content_of s.segment s.live) (contents ss) (All-where_set P s.segment.documents s.live (All-head Q s ss h)) (All-contents P ss (All-tail Q s ss h))
+    All-append P (content_of s.segment s.live) (contents ss) (All-where_set P s.segment.documents s.live (All-head Q s ss h))
+    (All-contents P ss (All-tail Q s ss h))
 
 -- the values of a field in documents behind others
 values_in-append : (field : ℕ) (xs ys : List (Stamped DocumentValue)) → values_in field (xs ++ ys) ≡ values_in field xs ++ values_in field ys
 values_in-append field xs ys = map-append (λ (d : Stamped DocumentValue). value_in_field d.value field) xs ys
 
-pub few-contents : (kind : Kind) (field : ℕ) (ss : List SourceValue) → All (λ s. All (HasFewTokens kind) (values_in field s.segment.documents)) ss → All (HasFewTokens kind) (values_in field (contents ss))
+pub few-contents : (kind : Kind) (field : ℕ) (ss : List SourceValue) → All (λ s. All (HasFewTokens kind) (values_in field s.segment.documents)) ss →
+    All (HasFewTokens kind) (values_in field (contents ss))
 few-contents kind field [] h = All-nil (HasFewTokens kind)
 few-contents kind field (s ∷ ss) h =
     let Q : SourceValue → Type 0 = λ s. All (HasFewTokens kind) (values_in field s.segment.documents) in
     let P : List (Option FieldValue) → Type 0 = All (HasFewTokens kind) in
     let value : Stamped DocumentValue → Option FieldValue = λ d. value_in_field d.value field in
     let here : P (values_in field (content_of s.segment s.live)) =
-    subst P (sym (where_set-map value s.segment.documents s.live)) (All-where_set (HasFewTokens kind) (values_in field s.segment.documents) s.live (All-head Q s ss h)) in
+    subst P (sym (where_set-map value s.segment.documents s.live)) (All-where_set (HasFewTokens kind) (values_in field s.segment.documents) s.live
+    (All-head Q s ss h)) in
     subst P (sym (values_in-append field (content_of s.segment s.live) (contents ss)))
-    (All-append (HasFewTokens kind) (values_in field (content_of s.segment s.live)) (values_in field (contents ss)) here (few-contents kind field ss (All-tail Q s ss h)))
+    (All-append (HasFewTokens kind) (values_in field (content_of s.segment s.live)) (values_in field (contents ss)) here
+    (few-contents kind field ss (All-tail Q s ss h)))
 
 pub get_behind : {X : Type 0} (xs : List X) (y : X) (ys : List X) → slice_get (xs ++ y ∷ ys) (length xs) ≡ Some y
 get_behind [] y ys = refl
 get_behind (x ∷ xs) y ys = get_behind xs y ys
 
 -- postings of which the first may be there
-moved-cond : (numbers : List (Option ℕ)) (b : Bool) (p : Posting) (ps : List Posting) → moved numbers (cond b (p ∷ ps) ps) ≡ cond b (placed (slice_get numbers p.doc) p ++ moved numbers ps) (moved numbers ps)
+moved-cond : (numbers : List (Option ℕ)) (b : Bool) (p : Posting) (ps : List Posting) →
+    moved numbers (cond b (p ∷ ps) ps) ≡ cond b (placed (slice_get numbers p.doc) p ++ moved numbers ps) (moved numbers ps)
 moved-cond numbers true p ps = refl
 moved-cond numbers false p ps = refl
 
 -- one value more
-moved-step : (q : List ℕ) (kind : Kind) (ns : List (Option ℕ)) (m : Option ℕ) (ms : List (Option ℕ)) (v : Option FieldValue) (vs : List (Option FieldValue)) (rest : List Posting) →
+moved-step : (q : List ℕ) (kind : Kind) (ns : List (Option ℕ)) (m : Option ℕ) (ms : List (Option ℕ)) (v : Option FieldValue) (vs : List (Option FieldValue))
+    (rest : List Posting) →
     moved ((ns ++ m ∷ []) ++ ms) (postings_with q (occurrences kind (length (ns ++ m ∷ [])) vs)) ≡ rest →
     moved (ns ++ m ∷ ms) (postings_with q (occurrences kind (length ns) (v ∷ vs)))
     ≡ cond (list_any (is_token q) (tokens_of kind v)) (placed (Some m) (posting_at (length ns) (positions_among q (tokens_of kind v))) ++ rest) rest
@@ -125,7 +134,8 @@ postings-append q kind doc (x ∷ xs) ys =
     ∙ ap (λ ps. ps ++ others) (sym (postings-cons q kind doc x xs))
 
 -- the part of a source
-pub part-is : (kind : Kind) (field next : ℕ) (source : SourceValue) (dictionary : Dictionary) (numbers : List (Option ℕ)) → AreTerms kind (values_in field source.segment.documents) dictionary →
+pub part-is : (kind : Kind) (field next : ℕ) (source : SourceValue) (dictionary : Dictionary) (numbers : List (Option ℕ)) →
+    AreTerms kind (values_in field source.segment.documents) dictionary →
     numbers ≡ renumbered next source.live → IsPart kind field next source (part_from 0 dictionary numbers)
 part-is kind field next source dictionary numbers terms are =
     let os = occurrences kind 0 (values_in field source.segment.documents) in
@@ -136,7 +146,8 @@ part-is kind field next source dictionary numbers terms are =
     }
 
 -- each term of a dictionary has its lists
-pub terms-whole : (kind : Kind) (vs : List (Option FieldValue)) (dictionary : Dictionary) (numbers : List (Option ℕ)) → AreTerms kind vs dictionary → length numbers ≡ length vs → IsWhole dictionary numbers
+pub terms-whole : (kind : Kind) (vs : List (Option FieldValue)) (dictionary : Dictionary) (numbers : List (Option ℕ)) → AreTerms kind vs dictionary →
+    length numbers ≡ length vs → IsWhole dictionary numbers
 terms-whole kind vs dictionary numbers terms count =
     let os = occurrences kind 0 vs in
     let names = dictionary.names in
@@ -165,7 +176,8 @@ live_count-push [] s = omega (arith, live_count-cons s [])
 live_count-push (t ∷ ss) s = omega (arith, live_count-cons t (ss ++ s ∷ []), live_count-push ss s, live_count-cons t ss)
 
 -- one part more
-pub AreParts-push : (kind : Kind) (field next : ℕ) (ss : List SourceValue) (ps : List PartValue) (s : SourceValue) (p : PartValue) → AreParts kind field next ss ps → IsPart kind field (next + live_count ss) s p →
+pub AreParts-push : (kind : Kind) (field next : ℕ) (ss : List SourceValue) (ps : List PartValue) (s : SourceValue) (p : PartValue) →
+    AreParts kind field next ss ps → IsPart kind field (next + live_count ss) s p →
     AreParts kind field next (ss ++ s ∷ []) (ps ++ p ∷ [])
 AreParts-push kind field next [] [] s p are is =
     let P : ℕ → Type 0 = λ n. IsPart kind field n s p in
@@ -173,8 +185,11 @@ AreParts-push kind field next [] [] s p are is =
 AreParts-push kind field next [] (q ∷ ps) s p are is = absurd are
 AreParts-push kind field next (t ∷ ss) [] s p are is = absurd are
 AreParts-push kind field next (t ∷ ss) (q ∷ ps) s p are is =
-    let P : ℕ → Type 0 = λ n. IsPart kind field n s p in
-    (are.0, AreParts-push kind field (next + live_in t) ss ps s p are.1 (subst P (let same : next + live_count (t ∷ ss) ≡ next + live_in t + live_count ss = omega (arith, live_count-cons t ss) in same) is))
+    let P : ℕ → Type 0 = λ n. IsPart kind field n s p in (
+      are.0,
+      AreParts-push kind field (next + live_in t) ss ps s p are.1
+          (subst P (let same : next + live_count (t ∷ ss) ≡ next + live_in t + live_count ss = omega (arith, live_count-cons t ss) in same) is),
+    )
 
 -- the postings that parts have are those in the live documents of the sources
 parts-joined : (q : List ℕ) (kind : Kind) (field next : ℕ) (ss : List SourceValue) (ps : List PartValue) → All HasBits ss → AreParts kind field next ss ps →
@@ -191,7 +206,8 @@ parts-joined q kind field next (s ∷ ss) (p ∷ ps) bits are =
     let long : length s.live ≡ length vs = here ∙ sym (length-map s.segment.documents value) in
     let first : moved p.numbers (found p.names p.postings q) ≡ postings_with q (occurrences kind next live) =
     ap₂ moved are.0.numbers_are (are.0.postings_are q) ∙ postings-live q kind [] next vs s.live long in
-    let all : values_in field (contents (s ∷ ss)) ≡ live ++ others = values_in-append field (content_of s.segment s.live) (contents ss) ∙ ap (λ ws. ws ++ others) (where_set-map value s.segment.documents s.live) in
+    let all : values_in field (contents (s ∷ ss)) ≡ live ++ others = values_in-append field (content_of s.segment s.live) (contents ss)
+    ∙ ap (λ ws. ws ++ others) (where_set-map value s.segment.documents s.live) in
     ap₂ (λ a b. a ++ b) first (parts-joined q kind field (next + live_in s) ss ps (All-tail HasBits s ss bits) are.1)
     ∙ ap (λ n. postings_with q (occurrences kind next live) ++ postings_with q (occurrences kind (next + n) others)) (sym (length-where_set vs s.live long))
     ∙ sym (postings-append q kind next live others)
@@ -203,16 +219,20 @@ sound-parts kind field next [] (p ∷ ps) are = absurd are
 sound-parts kind field next (s ∷ ss) [] are = absurd are
 sound-parts kind field next (s ∷ ss) (p ∷ ps) are = (are.0.sound, sound-parts kind field (next + live_in s) ss ps are.1)
 
-pub parts-rise : (kind : Kind) (field : ℕ) (ss : List SourceValue) (ps : List PartValue) → All HasBits ss → AreParts kind field 0 ss ps → (q : List ℕ) → IsStrictlyIncreasing (documents (joined ps q))
+pub parts-rise : (kind : Kind) (field : ℕ) (ss : List SourceValue) (ps : List PartValue) → All HasBits ss → AreParts kind field 0 ss ps → (q : List ℕ) →
+    IsStrictlyIncreasing (documents (joined ps q))
 parts-rise kind field ss ps bits are q =
     let vs = values_in field (contents ss) in
     let os = occurrences kind 0 vs in
     let P : List ℕ → Type 0 = λ ds. IsStrictlyIncreasing ds in
-    subst P (sym (ap documents (parts-joined q kind field 0 ss ps bits are) ∙ documents-postings_of (docs_with q os) (position_lists_with q os) (paired-occurrences q kind 0 vs))) (docs_with-rise q kind 0 vs)
+    subst P (sym (ap documents (parts-joined q kind field 0 ss ps bits are) ∙ documents-postings_of (docs_with q os) (position_lists_with q os)
+    (paired-occurrences q kind 0 vs))) (docs_with-rise q kind 0 vs)
 
 -- the dictionary that parts make is that of the live documents
-pub terms-joined : (kind : Kind) (field : ℕ) (ss : List SourceValue) (ps : List PartValue) (dictionary : Dictionary) → holds_numbers kind ≡ false → All HasBits ss → AreParts kind field 0 ss ps →
-    All (λ s. All (HasFewTokens kind) (values_in field s.segment.documents)) ss → IsJoined ps dictionary.names dictionary.lists.items (term_position_lists dictionary.positions) →
+pub terms-joined : (kind : Kind) (field : ℕ) (ss : List SourceValue) (ps : List PartValue) (dictionary : Dictionary) → holds_numbers kind ≡ false →
+    All HasBits ss → AreParts kind field 0 ss ps →
+    All (λ s. All (HasFewTokens kind) (values_in field s.segment.documents)) ss →
+    IsJoined ps dictionary.names dictionary.lists.items (term_position_lists dictionary.positions) →
     AreTerms kind (values_in field (contents ss)) dictionary
 terms-joined kind field ss ps dictionary kind_is bits are few j = record {
   kind_is = kind_is;
@@ -222,16 +242,19 @@ terms-joined kind field ss ps dictionary kind_is bits are few j = record {
 }
 
 -- one document more is taken, if it is live
-pub taken-step : {X : Type 0} (xs : List X) (live : List Bool) (n : ℕ) (x : X) (bit : Bool) (taken new all : List X) → slice_get xs n ≡ Some x → slice_get live n ≡ Some bit →
+pub taken-step : {X : Type 0} (xs : List X) (live : List Bool) (n : ℕ) (x : X) (bit : Bool) (taken new all : List X) → slice_get xs n ≡ Some x →
+    slice_get live n ≡ Some bit →
     new ≡ taken ++ cond bit (x ∷ []) [] → taken ++ where_set (drop n xs) (drop n live) ≡ all → new ++ where_set (drop (n + 1) xs) (drop (n + 1) live) ≡ all
 taken-step xs live n x bit taken new all at is put h =
     let rest = where_set (drop (n + 1) xs) (drop (n + 1) live) in
     ap (λ ys. ys ++ rest) put ∙ append_assoc taken (cond bit (x ∷ []) []) rest
-    ∙ ap (λ ys. taken ++ ys) (elim bit as (λ b. cond b (x ∷ []) [] ++ rest ≡ where_set (x ∷ drop (n + 1) xs) (b ∷ drop (n + 1) live)) [ true ↦ refl | false ↦ refl ])
+    ∙ ap (λ ys. taken ++ ys) (elim bit as (λ b. cond b (x ∷ []) [] ++ rest ≡ where_set (x ∷ drop (n + 1) xs) (b ∷ drop (n + 1) live))
+    [ true ↦ refl | false ↦ refl ])
     ∙ ap (λ ys. taken ++ ys) (sym (ap₂ where_set (dropped_at xs n x at) (dropped_at live n bit is))) ∙ h
 
 -- at the end all live ones are taken
-pub taken-end : {X : Type 0} (xs : List X) (live : List Bool) (n : ℕ) (taken all : List X) → length xs ≤ n → taken ++ where_set (drop n xs) (drop n live) ≡ all → taken ≡ all
+pub taken-end : {X : Type 0} (xs : List X) (live : List Bool) (n : ℕ) (taken all : List X) → length xs ≤ n →
+    taken ++ where_set (drop n xs) (drop n live) ≡ all → taken ≡ all
 taken-end xs live n taken all past h = sym (append-nil taken) ∙ ap (λ ys. taken ++ where_set ys (drop n live)) (sym (drop_all n xs past)) ∙ h
 
 -- there is a member at each place
@@ -245,7 +268,8 @@ pub dropped : {X : Type 0} (xs : List X) (i : ℕ) (x : X) → i < length xs →
 dropped xs i x h e = drop_more xs i x h ∙ ap (λ y. y ∷ drop (i + 1) xs) (sym e)
 
 -- one source more is taken
-pub contents-taken : (documents before : List (Stamped DocumentValue)) (ss : List SourceValue) (i : ℕ) (s : SourceValue) (all : List (Stamped DocumentValue)) → i < length ss → s ≡ get_or ss i s →
+pub contents-taken : (documents before : List (Stamped DocumentValue)) (ss : List SourceValue) (i : ℕ) (s : SourceValue) (all : List (Stamped DocumentValue)) →
+    i < length ss → s ≡ get_or ss i s →
     documents ≡ before ++ content_of s.segment s.live → before ++ contents (drop i ss) ≡ all → documents ++ contents (drop (i + 1) ss) ≡ all
 contents-taken documents before ss i s all h e new old =
     ap (λ ds. ds ++ contents (drop (i + 1) ss)) new ∙ append_assoc before (content_of s.segment s.live) (contents (drop (i + 1) ss))
@@ -261,17 +285,26 @@ length-content (x ∷ xs) (false ∷ bits) = omega (arith, length-content xs bit
 pub length-contents : (ss : List SourceValue) → length (contents ss) ≤ live_count ss
 length-contents [] = omega arith
 length-contents (s ∷ ss) =
-    omega (arith, length-contents ss, length-content s.segment.documents s.live, length-append (content_of s.segment s.live) (contents ss), live_count-cons s ss)
+    omega (
+      arith,
+      length-contents ss,
+      length-content s.segment.documents s.live,
+      length-append (content_of s.segment s.live) (contents ss),
+      live_count-cons s
+          ss,
+    )
 
 -- the live documents of sources of one schema fit it
-pub fit-contents : (schema : List Field) (ss : List SourceValue) → All (λ s. s.segment.schema ≡ schema) ss → All (λ s. AllFit s.segment.schema s.segment.documents) ss → AllFit schema (contents ss)
+pub fit-contents : (schema : List Field) (ss : List SourceValue) → All (λ s. s.segment.schema ≡ schema) ss →
+    All (λ s. AllFit s.segment.schema s.segment.documents) ss → AllFit schema (contents ss)
 fit-contents schema [] same h = All-nil (λ d. fits schema d.value ≡ true)
 fit-contents schema (s ∷ ss) same h =
     let Q : SourceValue → Type 0 = λ s. AllFit s.segment.schema s.segment.documents in
     let R : SourceValue → Type 0 = λ s. s.segment.schema ≡ schema in
     let P : Stamped DocumentValue → Type 0 = λ d. fits schema d.value ≡ true in
     let here : All P s.segment.documents = subst (λ fields. AllFit fields s.segment.documents) (All-head R s ss same) (All-head Q s ss h) in
-    All-append P (content_of s.segment s.live) (contents ss) (All-where_set P s.segment.documents s.live here) (fit-contents schema ss (All-tail R s ss same) (All-tail Q s ss h))
+    All-append P (content_of s.segment s.live) (contents ss) (All-where_set P s.segment.documents s.live here)
+    (fit-contents schema ss (All-tail R s ss same) (All-tail Q s ss h))
 
 -- all of them where all bits are set
 where_set-all : {X : Type 0} (xs : List X) → where_set xs (replicate (length xs) true) ≡ xs
@@ -287,7 +320,8 @@ abbrev pub joined_source : List SourceValue → SourceValue
 joined_source ss = record { segment = joined_segment ss; live = replicate (length (contents ss)) true }
 
 -- two sources by their segments and bits
-pub same_both : (s t : SourceValue) (first second : SegmentValue) (first_live second_live : List Bool) → first ≡ s.segment → first_live ≡ s.live → second ≡ t.segment → second_live ≡ t.live →
+pub same_both : (s t : SourceValue) (first second : SegmentValue) (first_live second_live : List Bool) → first ≡ s.segment → first_live ≡ s.live →
+    second ≡ t.segment → second_live ≡ t.live →
     both first first_live second second_live ≡ s ∷ t ∷ []
 same_both s t first second first_live second_live first_is first_bits second_is second_bits =
     ap₂ (λ a b. both a b second second_live) first_is first_bits ∙ ap₂ (λ a b. both s.segment s.live a b) second_is second_bits
@@ -295,13 +329,21 @@ same_both s t first second first_live second_live first_is first_bits second_is 
 -- sources that are joined in turn
 pub joined_in_turn : (s : SourceValue) (ss : List SourceValue) → joined_segment (s ∷ joined_source ss ∷ []) ≡ joined_segment (s ∷ ss)
 joined_in_turn s ss =
-    let all : contents (joined_source ss ∷ []) ≡ contents ss = append-nil (where_set (contents ss) (replicate (length (contents ss)) true)) ∙ where_set-all (contents ss) in
+    let all : contents (joined_source ss ∷ []) ≡ contents ss = append-nil (where_set (contents ss) (replicate (length (contents ss)) true))
+    ∙ where_set-all (contents ss) in
     let whole : List (Stamped DocumentValue) → SegmentValue = λ ds. record { schema = s.segment.schema; documents = content_of s.segment s.live ++ ds } in
     ap whole all
 
 pub few_in_turn : (s : SourceValue) (ss : List SourceValue) → live_count (s ∷ joined_source ss ∷ []) ≤ live_count (s ∷ ss)
 few_in_turn s ss =
-    omega (arith, live_count-cons s (joined_source ss ∷ []), live_count-cons (joined_source ss) [], live_count-cons s ss, all_set (length (contents ss)), length-contents ss)
+    omega (
+      arith,
+      live_count-cons s (joined_source ss ∷ []),
+      live_count-cons (joined_source ss) [],
+      live_count-cons s ss,
+      all_set (length (contents ss)),
+      length-contents ss,
+    )
 
 -- the others have the same schema as the first
 pub schemas_behind : (s : SourceValue) (ss : List SourceValue) → 0 < length ss → AreOfOneSchema (s ∷ ss) → AreOfOneSchema ss × (schema_of ss ≡ s.segment.schema)
@@ -316,3 +358,45 @@ pub schemas_in_turn : (s : SourceValue) (ss : List SourceValue) → 0 < length s
 schemas_in_turn s ss some h =
     let Same : SourceValue → Type 0 = λ u. u.segment.schema ≡ s.segment.schema in
     All-cons Same s (joined_source ss ∷ []) refl (All-cons Same (joined_source ss) [] (schemas_behind s ss some h).1 (All-nil Same))
+
+-- a part of some sources of one schema
+abbrev pub SameSchema : List Field → SourceValue → Type 0
+SameSchema schema source = source.segment.schema ≡ schema
+
+schema_of_part : (schema : List Field) (part : List SourceValue) → 0 < length part → All (SameSchema schema) part → schema_of part ≡ schema
+schema_of_part schema [] some h = absurd (omega (arith, some))
+schema_of_part schema (s ∷ ss) some h = All-head (SameSchema schema) s ss h
+
+pub schemas_of_part : (schema : List Field) (part : List SourceValue) → 0 < length part → All (SameSchema schema) part → AreOfOneSchema part
+schemas_of_part schema part some h = subst (λ fields. All (SameSchema fields) part) (sym (schema_of_part schema part some h)) h
+
+-- sources of which each half is joined before
+pub joined_halves : (front back : List SourceValue) → 0 < length front →
+    joined_segment (joined_source front ∷ joined_source back ∷ []) ≡ joined_segment (front ++ back)
+joined_halves [] back some = absurd (omega (arith, some))
+joined_halves (s ∷ ss) back some =
+    let whole : List (Stamped DocumentValue) → SegmentValue = λ ds. record { schema = s.segment.schema; documents = ds } in
+    joined_in_turn (joined_source (s ∷ ss)) back
+    ∙ ap (λ ds. whole (ds ++ contents back)) (where_set-all (contents (s ∷ ss)))
+    ∙ ap whole (sym (flat_map-append (λ (t : SourceValue). content_of t.segment t.live) (s ∷ ss) back))
+
+pub live_count-append : (front back : List SourceValue) → live_count (front ++ back) ≡ live_count front + live_count back
+live_count-append front back = sum_by-append (λ (s : SourceValue). count_by (λ bit. bit) s.live) front back
+
+pub few_halves : (front back : List SourceValue) → live_count (joined_source front ∷ joined_source back ∷ []) ≤ live_count (front ++ back)
+few_halves front back =
+    omega (
+      arith,
+      few_in_turn (joined_source front) back,
+      live_count-cons (joined_source front) back,
+      all_set (length (contents front)),
+      length-contents front,
+      live_count-append front back,
+    )
+
+pub schemas_halves : (schema : List Field) (front back : List SourceValue) → 0 < length front → 0 < length back → All (SameSchema schema) front →
+    All (SameSchema schema) back → AreOfOneSchema (joined_source front ∷ joined_source back ∷ [])
+schemas_halves schema front back some more h g =
+    let Same : SourceValue → Type 0 = SameSchema (schema_of front) in
+    All-cons Same (joined_source front) (joined_source back ∷ []) refl
+    (All-cons Same (joined_source back) [] (schema_of_part schema back more g ∙ sym (schema_of_part schema front some h)) (All-nil Same))

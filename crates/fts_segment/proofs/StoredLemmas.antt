@@ -14,7 +14,8 @@ pub record Keeps (value : SegmentValue) (stored : Stored) : Type 0 where
   pub fit : AllFit value.schema value.documents
   pub documents_are : AreDocuments value.documents
 
-pub keeps : (segment : Inside) (value : SegmentValue) (stored : Stored) → stored_value segment ≡ value → IsStored segment → stored ≡ arc_value segment.stored → Keeps value stored
+pub keeps : (segment : Inside) (value : SegmentValue) (stored : Stored) → stored_value segment ≡ value → IsStored segment → stored ≡ arc_value segment.stored →
+    Keeps value stored
 keeps segment value stored view is same = record {
   value_is = ap (λ (s : Stored). record { schema = s.schema; documents = s.documents.items }) same ∙ view;
   indexes_are = (let P : Stored → Type 0 = λ s. AreIndexes s.schema s.documents.items s.indexes.items in subst P (sym same) is.indexes_are);

@@ -8,7 +8,8 @@ pub total-push : (lists : List (List ℕ)) (xs : List ℕ) → total (lists ++ x
 total-push [] xs = omega arith
 total-push (ys ∷ lists) xs = omega (arith, total-push lists xs)
 
-pub sums-push : (before : ℕ) (lists : List (List ℕ)) (xs : List ℕ) → sums_from before (lists ++ xs ∷ []) ≡ sums_from before lists ++ (before + total lists + length xs) ∷ []
+pub sums-push : (before : ℕ) (lists : List (List ℕ)) (xs : List ℕ) → sums_from before (lists ++ xs ∷ []) ≡ sums_from before lists
+    ++ (before + total lists + length xs) ∷ []
 sums-push before [] xs = let e : before + length xs ≡ before + 0 + length xs = omega arith in ap (λ n. before ∷ n ∷ []) e
 sums-push before (ys ∷ lists) xs =
     let e : before + length ys + total lists + length xs ≡ before + (length ys + total lists) + length xs = omega arith in
@@ -50,4 +51,5 @@ sums-inside lists sums k is le = omega (arith, le, ap length is, sums-count 0 li
 
 -- what is read there
 pub sums-read : (lists : List (List ℕ)) (sums : List ℕ) (k n : ℕ) → sums ≡ sums_from 0 lists → k ≤ length lists → n ≡ get_or sums k n → n ≡ total (take k lists)
-sums-read lists sums k n is le read = omega (arith, read, get_or_default sums k n 0 (sums-inside lists sums k is le), ap (λ (ns : List ℕ). get_or ns k 0) is, sums-at 0 lists k le)
+sums-read lists sums k n is le read =
+    omega (arith, read, get_or_default sums k n 0 (sums-inside lists sums k is le), ap (λ (ns : List ℕ). get_or ns k 0) is, sums-at 0 lists k le)

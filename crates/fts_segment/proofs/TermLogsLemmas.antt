@@ -12,7 +12,8 @@ use Rattle.fts_segment.specs.TermLogs.{occurrence_value, occurrence_values, AreN
 at_occurrence : Occurrence → List ℕ → OccurrenceValue
 at_occurrence e t = record { term = t; doc = e.doc; position = e.position }
 
-pub occurrence_values-more : (names more : List (List ℕ)) (es : List Occurrence) → AreNamed names es → occurrence_values (names ++ more) es ≡ occurrence_values names es
+pub occurrence_values-more : (names more : List (List ℕ)) (es : List Occurrence) → AreNamed names es →
+    occurrence_values (names ++ more) es ≡ occurrence_values names es
 unfolding at_occurrence
 occurrence_values-more names more [] named = refl
 occurrence_values-more names more (e ∷ es) named =
@@ -25,16 +26,19 @@ pub AreNamed-more : (names more : List (List ℕ)) (es : List Occurrence) → Ar
 AreNamed-more names more es named k d h = omega (arith, named k d h, length-append names more)
 
 -- an occurrence more at the end
-pub occurrence_values-push : (names : List (List ℕ)) (es : List Occurrence) (e : Occurrence) (term : List ℕ) → slice_get names e.term ≡ Some term → occurrence_values names (es ++ e ∷ []) ≡ occurrence_values names es ++ record { term = term; doc = e.doc; position = e.position } ∷ []
+pub occurrence_values-push : (names : List (List ℕ)) (es : List Occurrence) (e : Occurrence) (term : List ℕ) → slice_get names e.term ≡ Some term →
+    occurrence_values names (es ++ e ∷ []) ≡ occurrence_values names es ++ record { term = term; doc = e.doc; position = e.position } ∷ []
 unfolding at_occurrence
 occurrence_values-push names es e term known =
-    map-append (occurrence_value names) es (e ∷ []) ∙ ap (λ (t : List ℕ). occurrence_values names es ++ at_occurrence e t ∷ []) (get_or_from_slice_get names e.term term [] known)
+    map-append (occurrence_value names) es (e ∷ []) ∙ ap (λ (t : List ℕ). occurrence_values names es ++ at_occurrence e t ∷ [])
+    (get_or_from_slice_get names e.term term [] known)
 
 -- each number has a place at which its name stands among others
 abbrev pub Stand : List (List ℕ) → List (List ℕ) → List ℕ → Type 0
 Stand names others ordinals = (n : ℕ) → n < length names → slice_get others (get_or ordinals n 0) ≡ slice_get names n
 
-stands : (names others : List (List ℕ)) (ordinals : List ℕ) (n : ℕ) → Stand names others ordinals → n < length names → slice_get others (get_or ordinals n 0) ≡ Some (get_or names n [])
+stands : (names others : List (List ℕ)) (ordinals : List ℕ) (n : ℕ) → Stand names others ordinals → n < length names →
+    slice_get others (get_or ordinals n 0) ≡ Some (get_or names n [])
 stands names others ordinals n stand within = stand n within ∙ slice_get-get_or names n [] within
 
 -- by these places the occurrences are the same
@@ -48,7 +52,8 @@ occurrence_values-by_ordinal names others ordinals (e ∷ es) stand named =
     ap₂ (λ (t : List ℕ) (os : List OccurrenceValue). at_occurrence e t ∷ os) name
     (occurrence_values-by_ordinal names others ordinals es stand (All-tail (λ (x : Occurrence). x.term < length names) e es named))
 
-pub AreNamed-by_ordinal : (names others : List (List ℕ)) (ordinals : List ℕ) (es : List Occurrence) → Stand names others ordinals → AreNamed names es → AreNamed others (map (by_ordinal ordinals) es)
+pub AreNamed-by_ordinal : (names others : List (List ℕ)) (ordinals : List ℕ) (es : List Occurrence) → Stand names others ordinals → AreNamed names es →
+    AreNamed others (map (by_ordinal ordinals) es)
 AreNamed-by_ordinal names others ordinals [] stand named = All-nil (λ (x : Occurrence). x.term < length others)
 AreNamed-by_ordinal names others ordinals (e ∷ es) stand named =
     All-cons (λ (x : Occurrence). x.term < length others) (by_ordinal ordinals e) (map (by_ordinal ordinals) es)

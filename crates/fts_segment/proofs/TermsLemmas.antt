@@ -18,18 +18,21 @@ slice_get_append (y ∷ xs) ys zero x h = h
 slice_get_append (y ∷ xs) ys (suc i) x h = slice_get_append xs ys i x h
 
 -- what stands in a list with one more at its end stood there before, or is the last
-pub slice_get_push_cases : {X : Type 0} (xs : List X) (y : X) (i : ℕ) (x : X) → slice_get (xs ++ y ∷ []) i ≡ Some x → (slice_get xs i ≡ Some x) ⊎ ((i ≡ length xs) × (x ≡ y))
+pub slice_get_push_cases : {X : Type 0} (xs : List X) (y : X) (i : ℕ) (x : X) → slice_get (xs ++ y ∷ []) i ≡ Some x →
+    (slice_get xs i ≡ Some x) ⊎ ((i ≡ length xs) × (x ≡ y))
 slice_get_push_cases [] y zero x h = inr (refl, cc)
 slice_get_push_cases [] y (suc i) x h = absurd cc
 slice_get_push_cases (z ∷ xs) y zero x h = inl h
 slice_get_push_cases (z ∷ xs) y (suc i) x h = elim (slice_get_push_cases xs y i x h) [ inl e ↦ inl e | inr e ↦ inr (ap suc e.0, e.1) ]
 
 -- one name isn't before itself
-apart : (names : List (List ℕ)) (i j : ℕ) (q : List ℕ) → slice_get names i ≡ Some q → slice_get names j ≡ Some q → slice_cmp nat_cmp (get_or names i []) (get_or names j []) ≡ Less → ⊥
+apart : (names : List (List ℕ)) (i j : ℕ) (q : List ℕ) → slice_get names i ≡ Some q → slice_get names j ≡ Some q →
+    slice_cmp nat_cmp (get_or names i []) (get_or names j []) ≡ Less → ⊥
 apart names i j q first second less =
     let at_i : get_or names i [] ≡ q = get_or_from_slice_get names i q [] first in
     let at_j : get_or names j [] ≡ q = get_or_from_slice_get names j q [] second in
-    let clash : Less ≡ Equal = sym less ∙ ap (λ x. slice_cmp nat_cmp x (get_or names j [])) at_i ∙ ap (slice_cmp nat_cmp q) at_j ∙ tied_itself nat_list_cmp_total q in cc
+    let clash : Less ≡ Equal = sym less ∙ ap (λ x. slice_cmp nat_cmp x (get_or names j [])) at_i ∙ ap (slice_cmp nat_cmp q) at_j
+    ∙ tied_itself nat_list_cmp_total q in cc
 
 -- where names ascend, one stands at one place
 pub one_place : (names : List (List ℕ)) → Ascends names → (i j : ℕ) (q : List ℕ) → slice_get names i ≡ Some q → slice_get names j ≡ Some q → i ≡ j

@@ -1,5 +1,6 @@
 -- The tokens of a value: how many they are, and that their positions rise.
-use Rattle.std.proofs.Common.{◌≡◌, ◌+◌, ◌<◌, ◌≤◌, ℕ, suc, Bool, true, false, cond, List, [], ◌∷◌, ◌++◌, Option, Some, None, map, filter, length, refl, sym, ap, subst, ◌∙◌, arith}
+use Rattle.std.proofs.Common.{◌≡◌, ◌+◌, ◌<◌, ◌≤◌, ℕ, suc, Bool, true, false, cond, List, [], ◌∷◌, ◌++◌, Option, Some, None, map, filter, length, refl, sym, ap}
+use Rattle.std.proofs.Common.{subst, ◌∙◌, arith}
 use Rattle.std.specs.Prelude.{nat_eq, nat_lt}
 use Rattle.std.specs.List.{enumerate_from}
 use Rattle.std.specs.Str.{IsUtf8, chars}
@@ -23,7 +24,8 @@ use Rattle.fts_segment.proofs.OccurrencesLemmas.{map-map}
 -- a text has no more tokens than bytes
 pub few_tokens : (first : ℕ) (text : List ℕ) → IsUtf8 text → length (tokens_from first text) ≤ length text
 few_tokens first text utf8 =
-    let same : length (places_from first text) ≡ length (tokens_from first text) = sym (length-map (places_from first text) (token_at text)) ∙ ap length (tokens-places first text utf8) in
+    let same : length (places_from first text) ≡ length (tokens_from first text) = sym (length-map (places_from first text) (token_at text))
+    ∙ ap length (tokens-places first text utf8) in
     omega (arith, same, length-places first text utf8)
 
 Rises-later : (a b : ℕ) (xs : List ℕ) → a ≤ b → Rises b xs → Rises a xs
@@ -80,7 +82,8 @@ unfolding kept
 Rises-tokens first text =
     let rs = spans 0 (chars text) in
     let number : ℕ × Span → ℕ = λ r. r.0 in
-    subst (Rises first) (sym (numbers_kept first text)) (Rises-filter number (λ r. nat_lt (byte_len r.1) 40) first (enumerate_from first rs) (Rises-enumerate first rs))
+    subst (Rises first) (sym (numbers_kept first text)) (Rises-filter number (λ r. nat_lt (byte_len r.1) 40) first (enumerate_from first rs)
+    (Rises-enumerate first rs))
 
 -- the text behind begins no earlier, and behind them
 following-past : (first : ℕ) (text : List ℕ) → first + length (spans 0 (chars text)) ≤ following first text
@@ -98,7 +101,8 @@ Below-tokens first text =
     let rs = spans 0 (chars text) in
     let number : ℕ × Span → ℕ = λ r. r.0 in
     subst (Below (following first text)) (sym (numbers_kept first text))
-    (Below-filter number (λ r. nat_lt (byte_len r.1) 40) (following first text) (enumerate_from first rs) (Below-enumerate first (following first text) rs (following-past first text)))
+    (Below-filter number (λ r. nat_lt (byte_len r.1) 40) (following first text) (enumerate_from first rs)
+    (Below-enumerate first (following first text) rs (following-past first text)))
 
 Rises-texts : (first : ℕ) (texts : List (List ℕ)) → Rises first (map (λ t. t.0) (tokens_of_texts first texts))
 Rises-texts first [] = tt
@@ -128,7 +132,8 @@ Rises-tokens_of kind None = tt
 Rises-tokens_of kind (Some value) = Rises-value kind value
 
 -- the positions of a term in a value are a position list
-pub IsPositionList-tokens : (q : List ℕ) (kind : Kind) (value : Option FieldValue) → HasFewTokens kind value → IsPositionList (positions_among q (tokens_of kind value))
+pub IsPositionList-tokens : (q : List ℕ) (kind : Kind) (value : Option FieldValue) → HasFewTokens kind value →
+    IsPositionList (positions_among q (tokens_of kind value))
 IsPositionList-tokens q kind value few =
     let position : ℕ × List ℕ → ℕ = λ t. t.0 in
     let ts = tokens_of kind value in

@@ -1,5 +1,6 @@
 -- Numbers that are copied a block at a time.
-use Rattle.std.proofs.Common.{◌≡◌, ◌+◌, ◌-◌, ◌*◌, ◌/◌, ◌<◌, ◌≤◌, ℕ, List, [], ◌∷◌, ◌++◌, length, get_or, take, drop, sum, min, sym, ap, ◌∙◌, arith, inl, inr, length-drop, append_assoc}
+use Rattle.std.proofs.Common.{◌≡◌, ◌+◌, ◌-◌, ◌*◌, ◌/◌, ◌<◌, ◌≤◌, ℕ, List, [], ◌∷◌, ◌++◌, length, get_or, take, drop, sum, min, sym, ap, ◌∙◌, arith, inl, inr}
+use Rattle.std.proofs.Common.{length-drop, append_assoc}
 use Rattle.std.specs.Prelude.{slice_range}
 use Rattle.std.proofs.lemmas.Bool.{cases_lt}
 use Rattle.std.proofs.lemmas.Grind.{same_number_lists}
@@ -18,7 +19,8 @@ pub record IsOpened (numbers : List ℕ) (index start many : ℕ) (out : List �
   pub to : index < start + many
   pub are : (i : ℕ) → i < many → get_or out i 0 ≡ get_or numbers (start + i) 0
 
-pub opened : (numbers : List ℕ) (index many : ℕ) (out : List ℕ) → index < length numbers → many ≡ length (block_at numbers (index / 128)) → take many out ≡ block_at numbers (index / 128) →
+pub opened : (numbers : List ℕ) (index many : ℕ) (out : List ℕ) → index < length numbers → many ≡ length (block_at numbers (index / 128)) →
+    take many out ≡ block_at numbers (index / 128) →
     IsOpened numbers index (index / 128 * 128) many out
 opened numbers index many out inside many_is out_is =
     let block = index / 128 in
@@ -28,18 +30,21 @@ opened numbers index many out inside many_is out_is =
       within = omega (arith, many_is, size, inside);
       from = omega arith;
       to = omega (arith, many_is, size, inside);
-      are = λ i h. sym (get_or-take many out i 0 h) ∙ ap (λ xs. get_or xs i 0) out_is ∙ get_or-take 128 (drop (block * 128) numbers) i 0 (omega (arith, many_is, size, h))
+      are = λ i h. sym (get_or-take many out i 0 h) ∙ ap (λ xs. get_or xs i 0) out_is ∙ get_or-take 128 (drop (block * 128) numbers) i 0
+          (omega (arith, many_is, size, h))
           ∙ get_or-drop (block * 128) numbers i 0;
     }
 
 -- numbers that are copied out of a block
-pub copied : (block numbers : List ℕ) (base from start count many : ℕ) → start ≡ base + from → from + count ≤ many → many ≤ length block → base + many ≤ length numbers →
+pub copied : (block numbers : List ℕ) (base from start count many : ℕ) → start ≡ base + from → from + count ≤ many → many ≤ length block →
+    base + many ≤ length numbers →
     ((i : ℕ) → i < many → get_or block i 0 ≡ get_or numbers (base + i) 0) → slice_range block from (from + count) ≡ slice_range numbers start (start + count)
 copied block numbers base from start count many start_is few long within are =
     let left : from + count - from ≡ count = omega arith in
     let right : start + count - start ≡ count = omega arith in
     let first : length (take count (drop from block)) ≡ count = length-take-le count (drop from block) (omega (arith, length-drop from block, few, long)) in
-    let second : length (take count (drop start numbers)) ≡ count = length-take-le count (drop start numbers) (omega (arith, length-drop start numbers, few, within, start_is)) in
+    let second : length (take count (drop start numbers)) ≡ count =
+    length-take-le count (drop start numbers) (omega (arith, length-drop start numbers, few, within, start_is)) in
     ap (λ n. take n (drop from block)) left
     ∙ same_number_lists (take count (drop from block)) (take count (drop start numbers)) (first ∙ sym second) (λ k inside.
     let small : k < count = omega (arith, inside, first) in
@@ -57,7 +62,8 @@ range-range xs a b c ab bc =
     ∙ ap (λ ys. slice_range xs a b ++ take (c - b) ys) (drop-drop (b - a) a xs ∙ ap (λ n. drop n xs) there)
 
 -- one piece more is copied
-pub copied-step : (xs out new all : List ℕ) (at next end : ℕ) → at ≤ next → next ≤ end → new ≡ out ++ slice_range xs at next → out ++ slice_range xs at end ≡ all → new ++ slice_range xs next end ≡ all
+pub copied-step : (xs out new all : List ℕ) (at next end : ℕ) → at ≤ next → next ≤ end → new ≡ out ++ slice_range xs at next →
+    out ++ slice_range xs at end ≡ all → new ++ slice_range xs next end ≡ all
 copied-step xs out new all at next end on within put so_far =
     ap (λ ys. ys ++ slice_range xs next end) put ∙ append_assoc out (slice_range xs at next) (slice_range xs next end)
     ∙ ap (λ ys. out ++ ys) (sym (range-range xs at next end on within)) ∙ so_far

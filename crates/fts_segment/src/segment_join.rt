@@ -1,6 +1,6 @@
 // Makes one segment of the live documents of several, by joining what these have.
 ghost use Rattle.std.specs.Prelude.{◌≡◌, ◌<◌, ◌≤◌, ◌^◌, ◌++◌, ◌∷◌, [], Bool, All, Some, IfErr, IfOk};
-ghost use Rattle.std.specs.Prelude.{OnOk, length, slice_get, if◌then◌else◌};
+ghost use Rattle.std.specs.Prelude.{OnOk, length, replicate, slice_get, true, if◌then◌else◌};
 ghost use Rattle.fts_base.specs.declared.refusal.Refusal.TheVariants.{Memory};
 ghost use Rattle.fts_model.specs.Documents.{DocumentValue};
 ghost use Rattle.fts_model.specs.Limits.{most_merged};
@@ -149,6 +149,40 @@ fn joined_both(
     Ok(segment)
 }
 
+/// Bits of a segment's documents, all set.
+fn all_live(alloc: Global, segment: &Segment) -> Result<Bits, AllocError>
+    ensures { IfOk result (λ live. live ≡ replicate (length segment.now.documents) true) }
+{
+    match Bits::all_set(alloc, segment.docs()) {
+        Ok(live) => Ok(live),
+        Err(_) => Err(AllocError),
+    }
+}
+
+/// How many segments are joined at once: the next terms of all of them are compared to find the first.
+const MOST_AT_ONCE: usize = 16;
+
+/// One segment of the live documents of sources. Where they are many, each half is joined before, so that a term is
+/// compared with those of few others.
+fn joined_by_halves(alloc: Global, sources: &[Source<'_>]) -> Result<Segment, AllocError>
+    requires some { 0 < length sources.now }
+    requires schemas { AreOfOneSchema sources.now }
+    requires few { live_count sources.now ≤ most_merged }
+    ensures { IfOk result (λ segment. segment ≡ joined_segment sources.now) }
+{
+    if sources.len() <= MOST_AT_ONCE {
+        let segment = joined(alloc, sources)?;
+        return Ok(segment);
+    }
+    let (front, back) = sources.split_at(sources.len() / 2);
+    let front = joined_by_halves(alloc, front)?;
+    let back = joined_by_halves(alloc, back)?;
+    let front_live = all_live(alloc, &front)?;
+    let back_live = all_live(alloc, &back)?;
+    let segment = joined_both(alloc, &front, &front_live, &back, &back_live)?;
+    Ok(segment)
+}
+
 /// One segment of the live documents of a source and of others after it, where the others are joined before.
 fn joined_in_turn(
     alloc: Global,
@@ -160,10 +194,8 @@ fn joined_in_turn(
     requires few { live_count (first.now ∷ others.now) ≤ most_merged }
     ensures { IfOk result (λ segment. segment ≡ joined_segment (first.now ∷ others.now)) }
 {
-    let second = joined(alloc, others)?;
-    let Ok(live) = Bits::all_set(alloc, second.docs()) else {
-        return Err(AllocError);
-    };
+    let second = joined_by_halves(alloc, others)?;
+    let live = all_live(alloc, &second)?;
     let segment = joined_both(alloc, first.segment(), first.live(), &second, &live)?;
     Ok(segment)
 }
@@ -186,6 +218,6 @@ pub fn join(alloc: Global, sources: &[Source<'_>]) -> Result<Segment, Refusal>
         let segment = joined_in_turn(alloc, first, others)?;
         return Ok(segment);
     }
-    let segment = joined(alloc, sources)?;
+    let segment = joined_by_halves(alloc, sources)?;
     Ok(segment)
 }

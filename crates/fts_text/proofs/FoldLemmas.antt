@@ -13,11 +13,13 @@ fold_chars-empty [] h = ap fold_chars chars-nil
 fold_chars-empty (b ∷ bs) h = absurd (omega arith)
 
 -- the next character
-pub fold_chars-more : (bs rest : List ℕ) (c : ℕ) → IsUtf8 bs → bs ≡ encode_utf8 c ++ rest → fold_chars (chars bs) ≡ encode_utf8 (simple_fold c) ++ fold_chars (chars rest)
+pub fold_chars-more : (bs rest : List ℕ) (c : ℕ) → IsUtf8 bs → bs ≡ encode_utf8 c ++ rest → fold_chars (chars bs) ≡ encode_utf8 (simple_fold c)
+    ++ fold_chars (chars rest)
 fold_chars-more bs rest c text begins = ap fold_chars (chars_past_char bs rest c text begins)
 
 -- what is written and what is still to come, after the next character
-pub fold_chars-step : (bs rest out new whole : List ℕ) (c d : ℕ) → IsUtf8 bs → bs ≡ encode_utf8 c ++ rest → d ≡ simple_fold c → new ≡ out ++ encode_utf8 d → out ++ fold_chars (chars bs) ≡ whole → new ++ fold_chars (chars rest) ≡ whole
+pub fold_chars-step : (bs rest out new whole : List ℕ) (c d : ℕ) → IsUtf8 bs → bs ≡ encode_utf8 c ++ rest → d ≡ simple_fold c → new ≡ out ++ encode_utf8 d →
+    out ++ fold_chars (chars bs) ≡ whole → new ++ fold_chars (chars rest) ≡ whole
 fold_chars-step bs rest out new whole c d text begins folds grows all =
     ap (λ l. l ++ fold_chars (chars rest)) grows
     ∙ append_assoc out (encode_utf8 d) (fold_chars (chars rest))
@@ -26,7 +28,8 @@ fold_chars-step bs rest out new whole c d text begins folds grows all =
     ∙ all
 
 -- so the next character fits if the whole does
-pub length-fold_chars-step : (bs rest out whole : List ℕ) (c d : ℕ) → IsUtf8 bs → bs ≡ encode_utf8 c ++ rest → d ≡ simple_fold c → out ++ fold_chars (chars bs) ≡ whole → length out + length (encode_utf8 d) ≤ length whole
+pub length-fold_chars-step : (bs rest out whole : List ℕ) (c d : ℕ) → IsUtf8 bs → bs ≡ encode_utf8 c ++ rest → d ≡ simple_fold c →
+    out ++ fold_chars (chars bs) ≡ whole → length out + length (encode_utf8 d) ≤ length whole
 length-fold_chars-step bs rest out whole c d text begins folds all =
     let grown = fold_chars-step bs rest out (out ++ encode_utf8 d) whole c d text begins folds (λ _. out ++ encode_utf8 d) all in
     let both = length-append (out ++ encode_utf8 d) (fold_chars (chars rest)) in

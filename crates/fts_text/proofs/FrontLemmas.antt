@@ -1,5 +1,6 @@
 -- How far the characters of one class go.
-use Rattle.std.proofs.Common.{◌≡◌, ◌≤◌, ℕ, ◌+◌, Bool, true, false, not, cond, List, [], ◌∷◌, ◌++◌, length, drop, refl, sym, ap, subst, ◌∙◌, arith, length-append}
+use Rattle.std.proofs.Common.{◌≡◌, ◌≤◌, ℕ, ◌+◌, Bool, true, false, not, cond, List, [], ◌∷◌, ◌++◌, length, drop, refl, sym, ap, subst, ◌∙◌, arith}
+use Rattle.std.proofs.Common.{length-append}
 use Rattle.std.proofs.Math.Seq.{drop-append-add}
 use Rattle.std.proofs.lemmas.Bool.{and_parts, not-false, not-true}
 use Rattle.std.proofs.lemmas.Str.{chars-nil, chars-encodes, chars_past_char, encodes-chars, scalars-chars, length-encode, IsCharBoundary-from_drop}
@@ -15,13 +16,15 @@ front_len-empty a [] h = ap (front_len a) chars-nil
 front_len-empty a (b ∷ bs) h = absurd (omega arith)
 
 -- the next character is of the class
-pub front_len-more : (a : Bool) (bs rest : List ℕ) (c : ℕ) → IsUtf8 bs → bs ≡ encode_utf8 c ++ rest → not (beq (is_alphanumeric c) a) ≡ false → front_len a (chars bs) ≡ len_utf8 c + front_len a (chars rest)
+pub front_len-more : (a : Bool) (bs rest : List ℕ) (c : ℕ) → IsUtf8 bs → bs ≡ encode_utf8 c ++ rest → not (beq (is_alphanumeric c) a) ≡ false →
+    front_len a (chars bs) ≡ len_utf8 c + front_len a (chars rest)
 front_len-more a bs rest c text begins same =
     ap (front_len a) (chars_past_char bs rest c text begins)
     ∙ ap (λ b. cond b (len_utf8 c + front_len a (chars rest)) 0) (not-false (beq (is_alphanumeric c) a) same)
 
 -- the next character is not
-pub front_len-stop : (a : Bool) (bs rest : List ℕ) (c : ℕ) → IsUtf8 bs → bs ≡ encode_utf8 c ++ rest → not (beq (is_alphanumeric c) a) ≡ true → front_len a (chars bs) ≡ 0
+pub front_len-stop : (a : Bool) (bs rest : List ℕ) (c : ℕ) → IsUtf8 bs → bs ≡ encode_utf8 c ++ rest → not (beq (is_alphanumeric c) a) ≡ true →
+    front_len a (chars bs) ≡ 0
 front_len-stop a bs rest c text begins other =
     ap (front_len a) (chars_past_char bs rest c text begins)
     ∙ ap (λ b. cond b (len_utf8 c + front_len a (chars rest)) 0) (not-true (beq (is_alphanumeric c) a) other)
@@ -37,7 +40,8 @@ after a [] = []
 after a (c ∷ cs) = cond (beq (is_alphanumeric c) a) (after a cs) (c ∷ cs)
 
 -- the bytes of both
-length-front-at : (a b : Bool) (c : ℕ) (cs : List ℕ) → length (encodes (front a cs)) ≡ front_len a cs → length (encodes (cond b (c ∷ front a cs) [])) ≡ cond b (len_utf8 c + front_len a cs) 0
+length-front-at : (a b : Bool) (c : ℕ) (cs : List ℕ) → length (encodes (front a cs)) ≡ front_len a cs →
+    length (encodes (cond b (c ∷ front a cs) [])) ≡ cond b (len_utf8 c + front_len a cs) 0
 length-front-at a true c cs h =
     let both = length-append (encode_utf8 c) (encodes (front a cs)) in
     let one = length-encode c in
@@ -50,7 +54,8 @@ length-front a [] = refl
 length-front a (c ∷ cs) = length-front-at a (beq (is_alphanumeric c) a) c cs (length-front a cs)
 
 -- what is behind a front's bytes is behind its characters, whether the first is of it or not
-drop-front-at : (a b : Bool) (c : ℕ) (cs : List ℕ) → drop (front_len a cs) (encodes cs) ≡ encodes (after a cs) → drop (cond b (len_utf8 c + front_len a cs) 0) (encodes (c ∷ cs)) ≡ encodes (cond b (after a cs) (c ∷ cs))
+drop-front-at : (a b : Bool) (c : ℕ) (cs : List ℕ) → drop (front_len a cs) (encodes cs) ≡ encodes (after a cs) →
+    drop (cond b (len_utf8 c + front_len a cs) 0) (encodes (c ∷ cs)) ≡ encodes (cond b (after a cs) (c ∷ cs))
 drop-front-at a true c cs h =
     ap (λ n. drop (n + front_len a cs) (encodes (c ∷ cs))) (sym (length-encode c))
     ∙ drop-append-add (encode_utf8 c) (encodes cs) (front_len a cs)
@@ -63,7 +68,8 @@ drop-front a [] = refl
 drop-front a (c ∷ cs) = drop-front-at a (beq (is_alphanumeric c) a) c cs (drop-front a cs)
 
 -- characters behind a front are characters, whether the first is of it or not
-scalars-after-at : (a b : Bool) (c : ℕ) (cs : List ℕ) → scalars (c ∷ cs) ≡ true → (scalars cs ≡ true → scalars (after a cs) ≡ true) → scalars (cond b (after a cs) (c ∷ cs)) ≡ true
+scalars-after-at : (a b : Bool) (c : ℕ) (cs : List ℕ) → scalars (c ∷ cs) ≡ true → (scalars cs ≡ true → scalars (after a cs) ≡ true) →
+    scalars (cond b (after a cs) (c ∷ cs)) ≡ true
 scalars-after-at a true c cs all h = h (and_parts (scalar c) (scalars cs) all).1
 scalars-after-at a false c cs all h = all
 
@@ -104,5 +110,6 @@ chars-drop-front_len a bs text =
 -- a front ends between characters
 pub IsCharBoundary-front_len : (a : Bool) (bs : List ℕ) → IsUtf8 bs → IsCharBoundary bs (front_len a (chars bs))
 IsCharBoundary-front_len a bs text =
-    let rest : IsUtf8 (drop (front_len a (chars bs)) bs) = (after a (chars bs), (scalars-after a (chars bs) (scalars-chars bs text), sym (drop-front_len a bs text))) in
+    let rest : IsUtf8 (drop (front_len a (chars bs)) bs) =
+    (after a (chars bs), (scalars-after a (chars bs) (scalars-chars bs text), sym (drop-front_len a bs text))) in
     IsCharBoundary-from_drop bs (front_len a (chars bs)) (front_len-le a bs text) rest

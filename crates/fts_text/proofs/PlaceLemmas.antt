@@ -1,5 +1,6 @@
 -- The places that are left, one after another.
-use Rattle.std.proofs.Common.{◌≡◌, ◌<◌, ◌≤◌, ◌-◌, ◌+◌, ℕ, Bool, true, false, cond, nat_lt, List, [], ◌∷◌, map, length, Some, None, refl, sym, ap, ◌∙◌, inl, inr, arith}
+use Rattle.std.proofs.Common.{◌≡◌, ◌<◌, ◌≤◌, ◌-◌, ◌+◌, ℕ, Bool, true, false, cond, nat_lt, List, [], ◌∷◌, map, length, Some, None, refl, sym, ap, ◌∙◌, inl, inr}
+use Rattle.std.proofs.Common.{arith}
 use Rattle.std.specs.Prelude.{nat_eq}
 use Rattle.std.proofs.lemmas.Bool.{cases_Bool, eq-eqb, eqb-true}
 use Rattle.std.proofs.lemmas.Bool.Decides.{nat_tests}
@@ -23,13 +24,15 @@ map-cond true r rs = refl
 map-cond false r rs = refl
 
 -- one more span, as the test has it
-places_left-cons : (s t : Tokens) (token : Token) (b : Bool) (h : YieldsSpan s (Some token) t) → is_kept (s.next_position, h.0) ≡ b → places_left s ≡ cond b (token ∷ places_left t) (places_left t)
+places_left-cons : (s t : Tokens) (token : Token) (b : Bool) (h : YieldsSpan s (Some token) t) → is_kept (s.next_position, h.0) ≡ b →
+    places_left s ≡ cond b (token ∷ places_left t) (places_left t)
 unfolding places_left
 places_left-cons s t token b h test =
     ap (λ rs. map place_of (kept s.next_position rs)) h.1
     ∙ ap (map place_of) (kept-cons s.next_position h.0 (spans_left t))
     ∙ map-cond (is_kept (s.next_position, h.0)) (s.next_position, h.0) (kept (s.next_position + 1) (spans_left t))
-    ∙ ap (λ c. cond c (place_of (s.next_position, h.0) ∷ map place_of (kept (s.next_position + 1) (spans_left t))) (map place_of (kept (s.next_position + 1) (spans_left t)))) test
+    ∙ ap (λ c. cond c (place_of (s.next_position, h.0) ∷ map place_of (kept (s.next_position + 1) (spans_left t)))
+    (map place_of (kept (s.next_position + 1) (spans_left t)))) test
     ∙ ap (λ u. cond b (u ∷ map place_of (kept (s.next_position + 1) (spans_left t))) (map place_of (kept (s.next_position + 1) (spans_left t)))) (sym h.2)
     ∙ ap (λ n. cond b (token ∷ map place_of (kept n (spans_left t))) (map place_of (kept n (spans_left t)))) (sym h.3)
 

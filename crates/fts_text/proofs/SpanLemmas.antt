@@ -1,5 +1,6 @@
 -- The spans of a text, one after another.
-use Rattle.std.proofs.Common.{◌≡◌, ◌<◌, ℕ, ◌+◌, Bool, true, false, not, cond, nat_lt, List, [], ◌∷◌, length, drop, filter, refl, sym, ap, ◌∙◌, arith, add-zero, add_assoc}
+use Rattle.std.proofs.Common.{◌≡◌, ◌<◌, ℕ, ◌+◌, Bool, true, false, not, cond, nat_lt, List, [], ◌∷◌, length, drop, filter, refl, sym, ap, ◌∙◌, arith, add-zero}
+use Rattle.std.proofs.Common.{add_assoc}
 use Rattle.std.specs.Bool.{beq}
 use Rattle.std.specs.Char.{len_utf8}
 use Rattle.std.specs.List.{slice_split, onto_first}
@@ -52,7 +53,8 @@ spans-gap at (c ∷ cs) = spans-gap-at at c cs (is_alphanumeric c) refl (spans-g
 
 -- the first part is the front, and the others have the spans of the rest
 abbrev pub BeginsWithFront : ℕ → List ℕ → Type 0
-BeginsWithFront at cs = (tail : List Span) × (parts at cs ≡ char_indices at (front true cs) ∷ tail) × (filter is_nonempty tail ≡ spans (at + front_len true cs) (after true cs))
+BeginsWithFront at cs = (tail : List Span) × (parts at cs ≡ char_indices at (front true cs) ∷ tail)
+    × (filter is_nonempty tail ≡ spans (at + front_len true cs) (after true cs))
 
 -- the parts begin with the characters before the first separator, whether the first is one or not
 parts-front-at : (at c : ℕ) (cs : List ℕ) (b : Bool) → is_alphanumeric c ≡ b → BeginsWithFront (at + len_utf8 c) cs
@@ -78,14 +80,16 @@ parts-front at [] = ([], refl, refl)
 parts-front at (c ∷ cs) = parts-front-at at c cs (is_alphanumeric c) refl (parts-front (at + len_utf8 c) cs)
 
 -- a part with a byte is kept
-filter-first : (at : ℕ) (ds : List ℕ) (tail : List Span) → 0 < length (encode_utf8_all ds) → filter is_nonempty (char_indices at ds ∷ tail) ≡ char_indices at ds ∷ filter is_nonempty tail
+filter-first : (at : ℕ) (ds : List ℕ) (tail : List Span) → 0 < length (encode_utf8_all ds) →
+    filter is_nonempty (char_indices at ds ∷ tail) ≡ char_indices at ds ∷ filter is_nonempty tail
 filter-first at [] tail some = absurd (omega arith)
 filter-first at (d ∷ ds) tail some =
     let yes : is_nonempty (char_indices at (d ∷ ds)) ≡ true = grind (arith, nat_tests) in
     ap (λ b. cond b (char_indices at (d ∷ ds) ∷ filter is_nonempty tail) (filter is_nonempty tail)) yes
 
 -- a front that is not empty is the first span
-pub spans-front : (at : ℕ) (cs : List ℕ) → 0 < front_len true cs → spans at cs ≡ char_indices at (front true cs) ∷ spans (at + front_len true cs) (after true cs)
+pub spans-front : (at : ℕ) (cs : List ℕ) → 0 < front_len true cs →
+    spans at cs ≡ char_indices at (front true cs) ∷ spans (at + front_len true cs) (after true cs)
 unfolding spans
 spans-front at cs some =
     let begins = parts-front at cs in
@@ -113,14 +117,16 @@ chars-rest a bs rest n text long cut =
     ap chars cut ∙ ap (λ k. chars (drop k bs)) long ∙ chars-drop-front_len a bs text
 
 -- past the gap at the front of a text
-spans-past_gap : (at gap : ℕ) (bs mid : List ℕ) → IsUtf8 bs → gap ≡ front_len false (chars bs) → mid ≡ drop gap bs → spans at (chars bs) ≡ spans (at + gap) (chars mid)
+spans-past_gap : (at gap : ℕ) (bs mid : List ℕ) → IsUtf8 bs → gap ≡ front_len false (chars bs) → mid ≡ drop gap bs →
+    spans at (chars bs) ≡ spans (at + gap) (chars mid)
 spans-past_gap at gap bs mid text long cut =
     spans-gap at (chars bs)
     ∙ ap (λ k. spans (at + k) (after false (chars bs))) (sym long)
     ∙ ap (spans (at + gap)) (sym (chars-rest false bs mid gap text long cut))
 
 -- the first span of a text, and those of the rest
-pub spans-step : (at gap len : ℕ) (bs mid rest : List ℕ) → IsUtf8 bs → gap ≡ front_len false (chars bs) → mid ≡ drop gap bs → IsUtf8 mid → len ≡ front_len true (chars mid) → rest ≡ drop len mid → 0 < len
+pub spans-step : (at gap len : ℕ) (bs mid rest : List ℕ) → IsUtf8 bs → gap ≡ front_len false (chars bs) → mid ≡ drop gap bs → IsUtf8 mid →
+    len ≡ front_len true (chars mid) → rest ≡ drop len mid → 0 < len
     → spans at (chars bs) ≡ char_indices (at + gap) (front true (chars mid)) ∷ spans (at + gap + len) (chars rest)
 spans-step at gap len bs mid rest text gap_is mid_is mid_text len_is rest_is some =
     spans-past_gap at gap bs mid text gap_is mid_is
@@ -129,7 +135,8 @@ spans-step at gap len bs mid rest text gap_is mid_is mid_text len_is rest_is som
     ∙ ap (λ cs. char_indices (at + gap) (front true (chars mid)) ∷ spans (at + gap + len) cs) (sym (chars-rest true mid rest len mid_text len_is rest_is))
 
 -- a text with a gap alone has no span
-pub spans-end : (at gap len : ℕ) (bs mid rest : List ℕ) → IsUtf8 bs → gap ≡ front_len false (chars bs) → mid ≡ drop gap bs → IsUtf8 mid → len ≡ front_len true (chars mid) → rest ≡ drop len mid → len ≡ 0
+pub spans-end : (at gap len : ℕ) (bs mid rest : List ℕ) → IsUtf8 bs → gap ≡ front_len false (chars bs) → mid ≡ drop gap bs → IsUtf8 mid →
+    len ≡ front_len true (chars mid) → rest ≡ drop len mid → len ≡ 0
     → (spans at (chars bs) ≡ []) × (spans (at + gap + len) (chars rest) ≡ [])
 spans-end at gap len bs mid rest text gap_is mid_is mid_text len_is rest_is none =
     let mid_chars = chars-rest false bs mid gap text gap_is mid_is in
@@ -149,7 +156,8 @@ pub byte_len-char_indices : (at : ℕ) (ds : List ℕ) → byte_len (char_indice
 byte_len-char_indices at ds = ap (λ l. length (encode_utf8_all l)) (chars_of-char_indices at ds)
 
 -- the place of a front
-pub place_of-front : (n at len : ℕ) (cs : List ℕ) → len ≡ front_len true cs → 0 < len → (let token : Token = record { position = n; start = at; end = at + len } in token) ≡ place_of (n, char_indices at (front true cs))
+pub place_of-front : (n at len : ℕ) (cs : List ℕ) → len ≡ front_len true cs → 0 < len →
+    (let token : Token = record { position = n; start = at; end = at + len } in token) ≡ place_of (n, char_indices at (front true cs))
 place_of-front n at len cs long some =
     let bytes = byte_len-char_indices at (front true cs) ∙ length-front true cs in
     let starts : at ≡ start_of (char_indices at (front true cs)) = sym (start_of-char_indices at (front true cs) (omega (arith, length-front true cs))) in

@@ -1,5 +1,6 @@
 -- Each span is in its text.
-use Rattle.std.proofs.Common.{◌≡◌, ◌<◌, ◌≤◌, ◌-◌, ℕ, zero, suc, ◌+◌, Bool, true, false, cond, ◌&&◌, List, [], ◌∷◌, ◌++◌, length, take, drop, map, filter, refl, sym, ap, subst, ◌∙◌, arith, inl, inr, not, nat_eq, nat_lt, length-append, append_assoc}
+use Rattle.std.proofs.Common.{◌≡◌, ◌<◌, ◌≤◌, ◌-◌, ℕ, zero, suc, ◌+◌, Bool, true, false, cond, ◌&&◌, List, [], ◌∷◌, ◌++◌, length, take, drop, map, filter, refl}
+use Rattle.std.proofs.Common.{sym, ap, subst, ◌∙◌, arith, inl, inr, not, nat_eq, nat_lt, length-append, append_assoc}
 use Rattle.std.proofs.Math.Seq.{take-append_seam, drop-append_seam}
 use Rattle.std.proofs.lemmas.Bool.{and_parts, cases_lt}
 use Rattle.std.proofs.lemmas.List.{length-map}
@@ -18,7 +19,8 @@ use Rattle.fts_text.specs.Tokens.{Span, behind_spans, char_indices, chars_of, by
 use Rattle.fts_text.specs.Places.{places_from, IsPlaceFrom, start_of, place_of, IsPlaceIn, token_at}
 use Rattle.fts_text.specs.declared.tokenizer.Token.{Token}
 use Rattle.fts_text.proofs.FrontLemmas.{front, after, length-front}
-use Rattle.fts_text.proofs.SpanLemmas.{is_nonempty, parts, chars_of-char_indices, byte_len-char_indices, start_of-char_indices, spans-gap, spans-front, spans-nil, after-gap}
+use Rattle.fts_text.proofs.SpanLemmas.{is_nonempty, parts, chars_of-char_indices, byte_len-char_indices, start_of-char_indices, spans-gap, spans-front}
+use Rattle.fts_text.proofs.SpanLemmas.{spans-nil, after-gap}
 
 -- the characters are those of the front and those after it
 front-after-at : (a b : Bool) (c : ℕ) (cs : List ℕ) → cs ≡ front a cs ++ after a cs → c ∷ cs ≡ cond b (c ∷ front a cs) [] ++ cond b (after a cs) (c ∷ cs)
@@ -45,7 +47,8 @@ length-encodes-append : (xs ys : List ℕ) → length (encodes (xs ++ ys)) ≡ l
 length-encodes-append xs ys = ap length (encodes-append xs ys) ∙ length-append (encodes xs) (encodes ys)
 
 -- a span of what follows others stands in the whole
-Stands-later : (n at : ℕ) (cs xs rest : List ℕ) (r : ℕ × Span) → cs ≡ xs ++ rest → 0 < length (encodes xs) → Stands (n + 1) (at + length (encodes xs)) rest r → Stands n at cs r
+Stands-later : (n at : ℕ) (cs xs rest : List ℕ) (r : ℕ × Span) → cs ≡ xs ++ rest → 0 < length (encodes xs) → Stands (n + 1) (at + length (encodes xs)) rest r →
+    Stands n at cs r
 Stands-later n at cs xs rest r whole some s =
     let bytes = length-encodes-append xs s.before in
     let place : at + length (encodes xs) + length (encodes s.before) ≡ at + length (encodes (xs ++ s.before)) = omega arith in
@@ -88,7 +91,8 @@ Stands-all (suc fuel) n at cs few =
           let few_more = length-some word (omega arith) in
           let long = ap length split ∙ length-append (gap ++ word) rest in
           let longer = length-append gap word in
-          let step : spans at cs ≡ char_indices (at + front_len false cs) word ∷ spans (at + front_len false cs + front_len true mid) rest = spans-gap at cs ∙ spans-front (at + front_len false cs) mid some in
+          let step : spans at cs ≡ char_indices (at + front_len false cs) word ∷ spans (at + front_len false cs + front_len true mid) rest =
+          spans-gap at cs ∙ spans-front (at + front_len false cs) mid some in
           let begins : at + front_len false cs ≡ at + length (encodes gap) = omega arith in
           let ends : at + front_len false cs + front_len true mid ≡ at + length (encodes (gap ++ word)) = omega arith in
           let first : Stands n at cs (n, char_indices (at + front_len false cs) word) = record {
@@ -101,9 +105,13 @@ Stands-all (suc fuel) n at cs few =
             numbered = omega arith;
           } in
           let Q : ℕ → Type 0 = λ k. AllByRecursion (Stands (n + 1) k rest) (enumerate_from (n + 1) (spans k rest)) in
-          let others : AllByRecursion (Stands (n + 1) (at + length (encodes (gap ++ word))) rest) (enumerate_from (n + 1) (spans (at + length (encodes (gap ++ word))) rest)) = Stands-all fuel (n + 1) (at + length (encodes (gap ++ word))) rest (omega arith) in
-          let later = AllByRecursion-weaker (Stands (n + 1) (at + length (encodes (gap ++ word))) rest) (Stands n at cs) _ (λ r s. Stands-later n at cs (gap ++ word) rest r split (omega arith) s) others in
-          let tail : AllByRecursion (Stands n at cs) (enumerate_from (n + 1) (spans (at + front_len false cs + front_len true mid) rest)) = let R : ℕ → Type 0 = λ k. AllByRecursion (Stands n at cs) (enumerate_from (n + 1) (spans k rest)) in subst R (sym ends) later in
+          let others : AllByRecursion (Stands (n + 1) (at + length (encodes (gap ++ word))) rest)
+          (enumerate_from (n + 1) (spans (at + length (encodes (gap ++ word))) rest)) =
+          Stands-all fuel (n + 1) (at + length (encodes (gap ++ word))) rest (omega arith) in
+          let later = AllByRecursion-weaker (Stands (n + 1) (at + length (encodes (gap ++ word))) rest) (Stands n at cs) _
+          (λ r s. Stands-later n at cs (gap ++ word) rest r split (omega arith) s) others in
+          let tail : AllByRecursion (Stands n at cs) (enumerate_from (n + 1) (spans (at + front_len false cs + front_len true mid) rest)) = let R : ℕ → Type 0 =
+          λ k. AllByRecursion (Stands n at cs) (enumerate_from (n + 1) (spans k rest)) in subst R (sym ends) later in
           subst P (sym step) (first, tail)
       | inr none ↦
           let empty = after-gap cs (omega arith) in
@@ -118,7 +126,8 @@ AllByRecursion-filter P test (x ∷ xs) all =
     elim (test x) as (λ b. AllByRecursion P (cond b (x ∷ filter test xs) (filter test xs))) [ true ↦ (all.0, rest) | false ↦ rest ]
 
 -- what holds of all holds of what they are mapped to
-AllByRecursion-map : {X Y : Type 0} (P : X → Type 0) (Q : Y → Type 0) (f : X → Y) (xs : List X) → ((x : X) → P x → Q (f x)) → AllByRecursion P xs → AllByRecursion Q (map f xs)
+AllByRecursion-map : {X Y : Type 0} (P : X → Type 0) (Q : Y → Type 0) (f : X → Y) (xs : List X) → ((x : X) → P x → Q (f x)) → AllByRecursion P xs →
+    AllByRecursion Q (map f xs)
 AllByRecursion-map P Q f [] h all = tt
 AllByRecursion-map P Q f (x ∷ xs) h all = (h x all.0, AllByRecursion-map P Q f xs h all.1)
 
@@ -167,7 +176,8 @@ StandsInBytes-from first text utf8 r s =
       before = s.before;
       here = s.here;
       behind = s.behind;
-      whole = sym (encodes-chars text utf8) ∙ ap encodes s.whole ∙ encodes-append s.before (s.here ++ s.behind) ∙ ap (λ l. encodes s.before ++ l) (encodes-append s.here s.behind);
+      whole = sym (encodes-chars text utf8) ∙ ap encodes s.whole ∙ encodes-append s.before (s.here ++ s.behind)
+          ∙ ap (λ l. encodes s.before ++ l) (encodes-append s.here s.behind);
       here_text = parts.0;
       rest_text = (s.here ++ s.behind, (rest, encodes-append s.here s.behind));
       behind_text = (s.behind, (parts.1, refl));
@@ -193,13 +203,15 @@ IsPlaceFrom-from first text r s =
         nonempty = omega (arith, s.bytes, s.some);
         within = omega (arith, s.starts, s.bytes);
         begins = subst P (sym s.starts) (IsCharBoundary-at_seam text (encodes s.before) (here ++ behind) s.whole s.rest_text);
-        ends = subst P last (IsCharBoundary-at_seam text (encodes s.before ++ here) behind (s.whole ∙ sym (append_assoc (encodes s.before) here behind)) s.behind_text);
+        ends = subst P last (IsCharBoundary-at_seam text (encodes s.before ++ here) behind (s.whole ∙ sym (append_assoc (encodes s.before) here behind))
+            s.behind_text);
       };
       numbered = omega (arith, s.starts, s.numbered);
     }
 
 -- what stands between two parts is the range between them
-slice_range-seam : (text before here behind : List ℕ) (a b : ℕ) → text ≡ before ++ (here ++ behind) → a ≡ length before → b ≡ a + length here → slice_range text a b ≡ here
+slice_range-seam : (text before here behind : List ℕ) (a b : ℕ) → text ≡ before ++ (here ++ behind) → a ≡ length before → b ≡ a + length here →
+    slice_range text a b ≡ here
 slice_range-seam text before here behind a b whole starts ends =
     let long : b - a ≡ length here = omega arith in
     ap (λ n. take n (drop a text)) long
@@ -213,21 +225,24 @@ token_at-from : (first : ℕ) (text : List ℕ) (r : ℕ × Span) → StandsInBy
 unfolding folded
 token_at-from first text r s =
     let ends : start_of r.1 + byte_len r.1 ≡ start_of r.1 + length (encodes s.here) = omega (arith, s.bytes) in
-    let bytes = slice_range-seam text (encodes s.before) (encodes s.here) (encodes s.behind) (start_of r.1) (start_of r.1 + byte_len r.1) s.whole s.starts ends in
+    let bytes = slice_range-seam text (encodes s.before) (encodes s.here) (encodes s.behind) (start_of r.1) (start_of r.1 + byte_len r.1) s.whole s.starts
+    ends in
     let spelled = ap chars bytes ∙ chars-encodes s.here s.here_text ∙ sym s.spelled in
     ap (λ cs. (r.0, fold_chars cs)) spelled
 
 -- the kept spans stand in the text's bytes
 StandsInBytes-all : (first : ℕ) (text : List ℕ) → IsUtf8 text → AllByRecursion (StandsInBytes first text) (kept first (spans 0 (chars text)))
 StandsInBytes-all first text utf8 =
-    AllByRecursion-weaker (Stands first 0 (chars text)) (StandsInBytes first text) (kept first (spans 0 (chars text))) (StandsInBytes-from first text utf8) (Stands-kept first (chars text))
+    AllByRecursion-weaker (Stands first 0 (chars text)) (StandsInBytes first text) (kept first (spans 0 (chars text))) (StandsInBytes-from first text utf8)
+    (Stands-kept first (chars text))
 
 -- each place of a text stands in it
 pub All-IsPlaceFrom : (first : ℕ) (text : List ℕ) → IsUtf8 text → All (IsPlaceFrom first text) (places_from first text)
 unfolding places_from
 All-IsPlaceFrom first text utf8 =
     All-from_recursion (IsPlaceFrom first text) (places_from first text)
-    (AllByRecursion-map (StandsInBytes first text) (IsPlaceFrom first text) place_of (kept first (spans 0 (chars text))) (IsPlaceFrom-from first text) (StandsInBytes-all first text utf8))
+    (AllByRecursion-map (StandsInBytes first text) (IsPlaceFrom first text) place_of (kept first (spans 0 (chars text))) (IsPlaceFrom-from first text)
+    (StandsInBytes-all first text utf8))
 
 pub All-IsPlaceIn : (first : ℕ) (text : List ℕ) → IsUtf8 text → All (IsPlaceIn text) (places_from first text)
 All-IsPlaceIn first text utf8 = λ k d lt. (All-IsPlaceFrom first text utf8 k d lt).place
@@ -237,7 +252,8 @@ pub tokens-places : (first : ℕ) (text : List ℕ) → IsUtf8 text → map (tok
 unfolding places_from tokens_from
 tokens-places first text utf8 =
     map-map (token_at text) place_of (kept first (spans 0 (chars text)))
-    ∙ map-same (StandsInBytes first text) (λ r. token_at text (place_of r)) (λ r. (r.0, fold_chars (chars_of r.1))) (kept first (spans 0 (chars text))) (token_at-from first text) (StandsInBytes-all first text utf8)
+    ∙ map-same (StandsInBytes first text) (λ r. token_at text (place_of r)) (λ r. (r.0, fold_chars (chars_of r.1))) (kept first (spans 0 (chars text)))
+    (token_at-from first text) (StandsInBytes-all first text utf8)
 
 -- a list with one in front or not is no shorter, and at most one longer
 length-cond : {X : Type 0} (b : Bool) (x : X) (xs : List X) → (length xs ≤ length (cond b (x ∷ xs) xs)) × (length (cond b (x ∷ xs) xs) ≤ length xs + 1)
@@ -259,7 +275,8 @@ length-spans at [] = omega arith
 length-spans at (c ∷ cs) =
     let rest = length-spans (at + len_utf8 c) cs in
     let first = length-onto_first (at, c) (parts (at + len_utf8 c) cs) in
-    elim (is_alphanumeric c) as (λ b. length (filter is_nonempty (cond (not b) ([] ∷ parts (at + len_utf8 c) cs) (onto_first (at, c) (parts (at + len_utf8 c) cs)))) ≤ length (c ∷ cs)) [
+    elim (is_alphanumeric c) as
+    (λ b. length (filter is_nonempty (cond (not b) ([] ∷ parts (at + len_utf8 c) cs) (onto_first (at, c) (parts (at + len_utf8 c) cs)))) ≤ length (c ∷ cs)) [
       | true ↦ omega (arith, rest, first)
       | false ↦ omega (arith, rest)
     ]
@@ -291,7 +308,8 @@ following-le first text utf8 =
     omega (arith, behind-le first (length (spans 0 (chars text))), length-spans 0 (chars text), bytes, same)
 
 -- the place that comes next, and those after it
-pub IsPlaceIn-first : (text : List ℕ) (token : Token) (left rest : List Token) → left ≡ token ∷ rest → All (IsPlaceIn text) left → IsPlaceIn text token × All (IsPlaceIn text) rest
+pub IsPlaceIn-first : (text : List ℕ) (token : Token) (left rest : List Token) → left ≡ token ∷ rest → All (IsPlaceIn text) left →
+    IsPlaceIn text token × All (IsPlaceIn text) rest
 IsPlaceIn-first text token left rest first all =
     let P : List Token → Type 0 = All (IsPlaceIn text) in
     let each = subst P first all in

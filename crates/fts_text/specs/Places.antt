@@ -1,5 +1,6 @@
 -- Where the tokens of a text stand.
 use Rattle.std.specs.Prelude.{◌≡◌, ℕ, ◌+◌, ◌<◌, ◌≤◌, Option, MatchOption, List, [], ◌∷◌, length, map, slice_range}
+use Rattle.std.specs.Iterator.{YieldsFirst}
 use Rattle.std.specs.Str.{chars, IsCharBoundary}
 use Rattle.fts_text.specs.declared.tokenizer.Token.{Token}
 use Rattle.fts_text.specs.declared.tokenizer.Tokens.{Tokens}
@@ -57,3 +58,7 @@ YieldsSpan s r t = MatchOption r
     ((spans_left s ≡ []) × (spans_left t ≡ []) × (t.next_position ≡ s.next_position) × (t.first ≡ s.first))
     (λ token. (span : Span) × (spans_left s ≡ span ∷ spans_left t) × (token ≡ place_of (s.next_position, span))
     × (t.next_position ≡ s.next_position + 1) × (length t.rest.now < length s.rest.now) × (t.first ≡ s.first))
+
+-- the first of the places that were left came, or none was left, and the number of the next text's first span stays
+abbrev pub YieldsPlace : Tokens → Option Token → Tokens → Type 0
+YieldsPlace s r t = YieldsFirst places_left s r t × (following_left t ≡ following_left s)

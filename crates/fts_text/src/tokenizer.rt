@@ -54,8 +54,8 @@ impl<'a> Tokens<'a> {
 
     /// The tokens of a text, from its first on.
     pub fn new(text: &'a str) -> Tokens<'a>
-        ensures tokens { places_left result ≡ places text.now }
         ensures following { following_left result ≡ following 0 text.now }
+        ensures tokens { places_left result ≡ places text.now }
     {
         Tokens::over(text, 0)
     }
@@ -138,10 +138,10 @@ impl<'a> Tokens<'a> {
 impl Iterator for Tokens<'_> {
     type Item = Token;
 
-    ghost use Rattle.std.specs.Iterator.{YieldsFirst, item_count};
-    ghost use Rattle.fts_text.specs.Places.{places_left};
+    ghost use Rattle.std.specs.Iterator.{item_count};
+    ghost use Rattle.fts_text.specs.Places.{places_left, YieldsPlace};
 
-    ghost next_gives = { YieldsFirst places_left };
+    ghost next_gives = { YieldsPlace };
 
     ghost remaining = { item_count places_left };
 

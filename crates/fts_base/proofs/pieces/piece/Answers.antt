@@ -13,10 +13,12 @@ offset_bounds-buffer-start g c =
     omega (arith, at.0, at.1, c.start_of-start.ensures)
 
 pub slice_bounds-result-count : goal.slice_bounds-result-count
-slice_bounds-result-count g c = omega (arith, (end_at 0 c.args.ends.now (length c.args.buffer.now) c.args.number c.requires c.if-number-ends.false).0, c.start_of-start.ensures)
+slice_bounds-result-count g c =
+    omega (arith, (end_at 0 c.args.ends.now (length c.args.buffer.now) c.args.number c.requires c.if-number-ends.false).0, c.start_of-start.ensures)
 
 pub slice_bounds-result-start : goal.slice_bounds-result-start
-slice_bounds-result-start g c = omega (arith, (end_at 0 c.args.ends.now (length c.args.buffer.now) c.args.number c.requires c.if-number-ends.false).0, c.start_of-start.ensures)
+slice_bounds-result-start g c =
+    omega (arith, (end_at 0 c.args.ends.now (length c.args.buffer.now) c.args.number c.requires c.if-number-ends.false).0, c.start_of-start.ensures)
 
 pub slice_bounds-result-end-2 : goal.slice_bounds-result-end-2
 slice_bounds-result-end-2 g c = (end_at 0 c.args.ends.now (length c.args.buffer.now) c.args.number c.requires c.if-number-ends.false).1

@@ -10,5 +10,6 @@ loop-op-preserved c =
     let i = c.loop-op.op-index in
     let op = c.op-item.result in
     let more = ap bound_of (taken ops i op c.loop-op-test.true c.op-item.is) ∙ bound_of-push (take i ops) op in
-    let is : c.max-bound.result ≡ max (bound_by op.stamp op.value) (bound_of (take i ops)) = grind (arith, c.max-bound.ensures, c.bound_by.ensures, c.loop-op.invariant) in
+    let is : c.max-bound.result ≡ max (bound_by op.stamp op.value) (bound_of (take i ops)) =
+    grind (arith, c.max-bound.ensures, c.bound_by.ensures, c.loop-op.invariant) in
     is ∙ sym more

@@ -20,7 +20,8 @@ pub strike_found-requires-clause-are : goal.strike_found-requires-clause-are
 strike_found-requires-clause-are c =
     let s = c.args.segment.now in
     let P : List Found → Type 0 = All (IsFound s) in
-    subst P (sym c.deref.ensures.value) (All-permutation (IsFound s) c.in_ok-deletes.deletes.items c.sort_unstable_by.new.self.items c.sort_unstable_by.ensures.permutation c.in_ok-deletes.ensures.are)
+    subst P (sym c.deref.ensures.value) (All-permutation (IsFound s) c.in_ok-deletes.deletes.items c.sort_unstable_by.new.self.items
+    c.sort_unstable_by.ensures.permutation c.in_ok-deletes.ensures.are)
 
 pub returns-clause-ok : goal.returns-clause-ok
 returns-clause-ok c =
@@ -30,7 +31,9 @@ returns-clause-ok c =
     let p : ℕ → Stamped DocumentValue → Bool = λ bound d. not (nat_lt d.stamp bound) in
     c.strike_found.ensures
     ∙ ap (λ deletes. bits_where (survives_found s.schema deletes) s.documents left) c.deref.ensures.value
-    ∙ bits_where-alike s.schema s.documents left c.in_ok-deletes.deletes.items c.sort_unstable_by.new.self.items ops c.sort_unstable_by.ensures.permutation c.in_ok-deletes.ensures.alike
+    ∙ bits_where-alike s.schema s.documents left c.in_ok-deletes.deletes.items c.sort_unstable_by.new.self.items ops c.sort_unstable_by.ensures.permutation
+    c.in_ok-deletes.ensures.alike
     ∙ ap (bits_where (survives_terms s.schema ops) s.documents)
-    (c.strike_all.ensures ∙ ap (λ bound. bits_where (p bound) s.documents c.in_ok-left.left) c.bound.ensures ∙ ap (bits_where (p _) s.documents) c.in_ok-left.ensures.ok)
+    (c.strike_all.ensures ∙ ap (λ bound. bits_where (p bound) s.documents c.in_ok-left.left) c.bound.ensures ∙ ap (bits_where (p _) s.documents)
+    c.in_ok-left.ensures.ok)
     ∙ bits_after-steps s.schema ops s.documents c.args.live.now

@@ -12,8 +12,14 @@ loop-document-preserved c =
     let f = cleared c.args.segment.now.documents c.args.stamp in
     let n = c.loop-document.document in
     record {
-      bits = omega (arith, ap length c.strike_document.ensures, length-cleared c.args.segment.now.documents c.args.stamp c.loop-document.live n, c.loop-document.invariant.bits);
-      struck = c.strike_document.ensures ∙ ap (λ bs. f bs n) c.loop-document.invariant.struck ∙ sym (fold_push f c.args.live.now (range_with_len 0 n) n) ∙ ap (fold f c.args.live.now) (sym (range_more n));
+      bits = omega (
+        arith,
+        ap length c.strike_document.ensures,
+        length-cleared c.args.segment.now.documents c.args.stamp c.loop-document.live n,
+        c.loop-document.invariant.bits,
+      );
+      struck = c.strike_document.ensures ∙ ap (λ bs. f bs n) c.loop-document.invariant.struck ∙ sym (fold_push f c.args.live.now (range_with_len 0 n) n)
+          ∙ ap (fold f c.args.live.now) (sym (range_more n));
     }
 
 pub returns-after-loop-document : goal.returns-after-loop-document
@@ -25,4 +31,5 @@ returns-after-loop-document c =
 
 pub returns-else-stamp-gt0 : goal.returns-else-stamp-gt0
 returns-else-stamp-gt0 c =
-    sym (bits_where-all (λ d. not (nat_lt d.stamp c.args.stamp)) (λ d. let none : nat_lt d.stamp c.args.stamp ≡ false = grind (arith, nat_tests, c.if-stamp-gt0.false) in ap not none) c.args.segment.now.documents c.args.live.now c.requires)
+    sym (bits_where-all (λ d. not (nat_lt d.stamp c.args.stamp)) (λ d. let none : nat_lt d.stamp c.args.stamp ≡ false =
+    grind (arith, nat_tests, c.if-stamp-gt0.false) in ap not none) c.args.segment.now.documents c.args.live.now c.requires)

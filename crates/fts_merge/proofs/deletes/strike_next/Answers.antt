@@ -34,5 +34,6 @@ returns c =
     let q : Stamped DocumentValue → Bool = λ d. not (strikes_found s.schema delete d) in
     record {
       bits = ap length c.strike_by.ensures ∙ length-bits_where q s.documents c.args.live.now c.requires.bits;
-      struck = λ before e. c.strike_by.ensures ∙ ap (bits_where q s.documents) e ∙ survives_found-more s.schema s.documents before deletes n delete c.requires.within c.index-deletes-number.is;
+      struck = λ before e. c.strike_by.ensures ∙ ap (bits_where q s.documents) e ∙ survives_found-more s.schema s.documents before deletes n delete
+          c.requires.within c.index-deletes-number.is;
     }

@@ -22,13 +22,15 @@ loop-place-preserved c =
           rw (w.levels-is, w.start-is, w.first-is) (record {
             begun = omega arith;
             first = c.requires place _ c.loop-place-test.true;
-            found = level_opened c.args.members found (map (λ v. v.items) w.push_level.new.levels.items) all cs start place first next c.loop-place-test.true is apart w.in_ok-push_level.ensures c.loop-place.invariant.found;
+            found = level_opened c.args.members found (map (λ v. v.items) w.push_level.new.levels.items) all cs start place first next c.loop-place-test.true is
+                apart w.in_ok-push_level.ensures c.loop-place.invariant.found;
           })
       | else-not-joins w ↦
           let joined : joins_level first next.size ≡ true = sym c.joins.ensures ∙ w.if-not-joins.false in
           rw (w.levels-is, w.start-is, w.first-is) (record {
             begun = omega arith;
             first = c.loop-place.invariant.first;
-            found = level_joined c.args.members found all cs start place first next c.loop-place.invariant.begun c.loop-place-test.true is joined c.loop-place.invariant.found;
+            found = level_joined c.args.members found all cs start place first next c.loop-place.invariant.begun c.loop-place-test.true is joined
+                c.loop-place.invariant.found;
           })
     ]

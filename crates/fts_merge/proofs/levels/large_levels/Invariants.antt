@@ -7,5 +7,6 @@ abbrev pub invariant-loop-place : goal.invariant-loop-place
 invariant-loop-place l = record {
   begun : l.start < l.place;
   first : l.first ≤ most_merged;
-  found : map (λ c. c.items) l.levels.items ++ large_enough l.members (levels_behind l.first (slice_range l.counted l.start l.place) (drop l.place l.counted)) ≡ large_enough l.members (levels_of l.counted);
+  found : map (λ c. c.items) l.levels.items ++ large_enough l.members (levels_behind l.first (slice_range l.counted l.start l.place) (drop l.place l.counted))
+      ≡ large_enough l.members (levels_of l.counted);
 }

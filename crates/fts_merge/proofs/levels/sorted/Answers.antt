@@ -11,4 +11,5 @@ returns c =
     let key : Counted → Reverse ℕ × ℕ = λ d. (record { 0 = d.size }, d.index) in
     let rises = c.sort_unstable_by_key.ensures.sorted key (answers_always _ _ _ (λ f a r g h. search rules)) in
     greatest_first-is c.args.counted.items cs c.sort_unstable_by_key.ensures.permutation
-    (λ k d within. sym (comes_as_pairs (get_or cs (k + 1) d).size (get_or cs (k + 1) d).index (get_or cs k d).size (get_or cs k d).index) ∙ rises k d (omega arith) within)
+    (λ k d within. sym (comes_as_pairs (get_or cs (k + 1) d).size (get_or cs (k + 1) d).index (get_or cs k d).size (get_or cs k d).index)
+    ∙ rises k d (omega arith) within)

@@ -13,4 +13,5 @@ large_levels-requires c =
     let cs = considered c.args.policy c.args.sizes.now in
     let is : c.deref.result.now ≡ greatest_first cs = search rules in
     All-same (λ (d : Counted). d.size ≤ most_merged) c.deref.result.now (greatest_first cs) is
-    (All-permutation (λ (d : Counted). d.size ≤ most_merged) cs (greatest_first cs) (IsPermutation-greatest_first cs) (considered-within c.args.policy 0 c.args.sizes.now c.requires.floor c.requires.most))
+    (All-permutation (λ (d : Counted). d.size ≤ most_merged) cs (greatest_first cs) (IsPermutation-greatest_first cs)
+    (considered-within c.args.policy 0 c.args.sizes.now c.requires.floor c.requires.most))

@@ -12,7 +12,9 @@ returns-in_err-list-in-Delete-clause-none c =
     ∙ struck-none s op.stamp c.in-Delete.term c.in_err-list-in-Delete.ensures.none k d h)
 
 pub returns-in-Add-clause-none : goal.returns-in-Add-clause-none
-returns-in-Add-clause-none c = λ k d h. ap (λ v. strikes_by_term c.args.segment.now.schema c.args.op.now.stamp v (get_or c.args.segment.now.documents k d)) c.in-Add.is
+returns-in-Add-clause-none c = λ k d h. ap (λ v. strikes_by_term c.args.segment.now.schema c.args.op.now.stamp v (get_or c.args.segment.now.documents k d))
+    c.in-Add.is
 
 pub returns-in-DeleteAll-clause-none : goal.returns-in-DeleteAll-clause-none
-returns-in-DeleteAll-clause-none c = λ k d h. ap (λ v. strikes_by_term c.args.segment.now.schema c.args.op.now.stamp v (get_or c.args.segment.now.documents k d)) c.in-DeleteAll.is
+returns-in-DeleteAll-clause-none c =
+    λ k d h. ap (λ v. strikes_by_term c.args.segment.now.schema c.args.op.now.stamp v (get_or c.args.segment.now.documents k d)) c.in-DeleteAll.is

@@ -13,5 +13,6 @@ loop-op-preserved c =
     let P : List (Stamped Op) → Type 0 = λ os. StrikeAlike s.schema c.push_found.new.deletes.items os s.documents in
     record {
       are = c.in_ok-push_found.ensures.are;
-      alike = subst P (sym (taken ops i c.op-item.result c.loop-op-test.true c.op-item.is)) (c.in_ok-push_found.ensures.alike (take i ops) c.loop-op.invariant.alike);
+      alike = subst P (sym (taken ops i c.op-item.result c.loop-op-test.true c.op-item.is))
+          (c.in_ok-push_found.ensures.alike (take i ops) c.loop-op.invariant.alike);
     }

@@ -11,7 +11,8 @@ loop-number-preserved c =
     let i = c.loop-number.number in
     let s = c.index-sources-number.result in
     record {
-      told = origins-taken c.push_origins.new.origins.items c.loop-number.origins.items ss i s (origins_from 0 ss) c.loop-number-test.true c.index-sources-number.is
+      told = origins-taken c.push_origins.new.origins.items c.loop-number.origins.items ss i s (origins_from 0 ss) c.loop-number-test.true
+          c.index-sources-number.is
           (c.in_ok-push_origins.ensures ∙ ap (λ bits. c.loop-number.origins.items ++ origins_in i bits) c.live.ensures.live) c.loop-number.invariant.told;
       bits = All-more HasBits ss i s c.loop-number-test.true c.loop-number.invariant.bits (subst HasBits c.index-sources-number.is c.live.ensures.bits);
     }

@@ -13,5 +13,6 @@ pub returns : goal.returns
 returns c =
     let n = c.loop-document.document in
     sym (append-nil c.loop-document.origins.items)
-    ∙ ap (λ bits. c.loop-document.origins.items ++ origins_behind c.args.number n bits) (sym (drop_all n c.args.live.now (omega (arith, c.loop-document-test.false, c.len-document-end.ensures))))
+    ∙ ap (λ bits. c.loop-document.origins.items ++ origins_behind c.args.number n bits)
+    (sym (drop_all n c.args.live.now (omega (arith, c.loop-document-test.false, c.len-document-end.ensures))))
     ∙ c.loop-document.invariant

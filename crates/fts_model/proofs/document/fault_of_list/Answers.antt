@@ -12,14 +12,17 @@ returns-in_default c =
 pub returns-then-items-gt-MOST_TEXTS : goal.returns-then-items-gt-MOST_TEXTS
 returns-then-items-gt-MOST_TEXTS c =
     let items = c.args.items.now in
-    list_many (strings_in (items_view items)) c.in-Some.bytes (length items) (c.in-Some.ensures ∙ bytes_behind-is 0 (items_view items) (omega arith)) (strings_count items) c.if-items-gt-MOST_TEXTS.true
+    list_many (strings_in (items_view items)) c.in-Some.bytes (length items) (c.in-Some.ensures ∙ bytes_behind-is 0 (items_view items) (omega arith))
+    (strings_count items) c.if-items-gt-MOST_TEXTS.true
 
 pub returns-then-bytes-gt-LONGEST_TEXT : goal.returns-then-bytes-gt-LONGEST_TEXT
 returns-then-bytes-gt-LONGEST_TEXT c =
     let items = c.args.items.now in
-    list_long (strings_in (items_view items)) c.in-Some.bytes (length items) (c.in-Some.ensures ∙ bytes_behind-is 0 (items_view items) (omega arith)) (strings_count items) c.if-items-gt-MOST_TEXTS.false c.if-bytes-gt-LONGEST_TEXT.true
+    list_long (strings_in (items_view items)) c.in-Some.bytes (length items) (c.in-Some.ensures ∙ bytes_behind-is 0 (items_view items) (omega arith))
+    (strings_count items) c.if-items-gt-MOST_TEXTS.false c.if-bytes-gt-LONGEST_TEXT.true
 
 pub returns : goal.returns
 returns c =
     let items = c.args.items.now in
-    list_fine (strings_in (items_view items)) c.in-Some.bytes (length items) (c.in-Some.ensures ∙ bytes_behind-is 0 (items_view items) (omega arith)) (strings_count items) c.if-items-gt-MOST_TEXTS.false c.if-bytes-gt-LONGEST_TEXT.false
+    list_fine (strings_in (items_view items)) c.in-Some.bytes (length items) (c.in-Some.ensures ∙ bytes_behind-is 0 (items_view items) (omega arith))
+    (strings_count items) c.if-items-gt-MOST_TEXTS.false c.if-bytes-gt-LONGEST_TEXT.false

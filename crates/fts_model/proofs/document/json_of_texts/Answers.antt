@@ -24,4 +24,5 @@ returns c =
     let items = c.loop-number.items.items in
     let done : length texts ≤ c.loop-number.number = omega (arith, c.loop-number-test.false, c.len-number-end.ensures) in
     view-Array c.loop-number.items
-    ∙ ap array (sym (items_alone items) ∙ ap (λ (ts : List (List ℕ)). items_before items (items_of (map string ts))) (sym (drop_all c.loop-number.number texts done)) ∙ c.loop-number.invariant)
+    ∙ ap array (sym (items_alone items) ∙ ap (λ (ts : List (List ℕ)). items_before items (items_of (map string ts)))
+    (sym (drop_all c.loop-number.number texts done)) ∙ c.loop-number.invariant)

@@ -15,5 +15,6 @@ among_none names (field ∷ fields) (v ∷ vs) h = ⊎_elim (λ e. inl e) (λ e.
 
 pub returns : goal.returns
 returns c =
-    sym (with_values_done _ _ _ (among_none _ _ _ (either_empty_from_Zip c.loop-field.field-iterator c.next.new.self c.next.result c.in-None.is c.next.ensures.steps)))
+    sym (with_values_done _ _ _ (among_none _ _ _ (either_empty_from_Zip c.loop-field.field-iterator c.next.new.self c.next.result c.in-None.is
+    c.next.ensures.steps)))
     ∙ c.loop-field.invariant

@@ -9,7 +9,8 @@ use Rattle.fts_model.proofs.document.texts_of.Goals as goal
 pub loop-item-init : goal.loop-item-init
 loop-item-init c = λ ts h.
     let start : List (List ℕ) = c.in_ok-texts.texts in
-    ap (λ (xs : List (List ℕ)). option_map (λ rest. xs ++ rest) (strings_in (items_view c.args.items.now))) c.in_ok-texts.ensures ∙ ap (option_map (λ rest. rest)) h
+    ap (λ (xs : List (List ℕ)). option_map (λ rest. xs ++ rest) (strings_in (items_view c.args.items.now))) c.in_ok-texts.ensures
+    ∙ ap (option_map (λ rest. rest)) h
 
 pub loop-item-preserved : goal.loop-item-preserved
 loop-item-preserved c = λ ts h.
@@ -24,5 +25,7 @@ loop-item-preserved c = λ ts h.
 pub returns : goal.returns
 returns c = λ ts h.
     let texts = c.loop-item.texts in
-    let all : Some (texts ++ []) ≡ Some ts = ap (λ vs. option_map (λ rest. texts ++ rest) (strings_in (items_view vs))) (sym (drop_all c.loop-item.item-index c.args.items.now c.loop-item-test.false)) ∙ c.loop-item.invariant ts h in
+    let all : Some (texts ++ []) ≡ Some ts =
+    ap (λ vs. option_map (λ rest. texts ++ rest) (strings_in (items_view vs)))
+    (sym (drop_all c.loop-item.item-index c.args.items.now c.loop-item-test.false)) ∙ c.loop-item.invariant ts h in
     sym (append-nil texts) ∙ (let same : texts ++ [] ≡ ts = cc in same)

@@ -6,4 +6,5 @@ use Rattle.fts_model.proofs.document.values_fit.Given as goal
 
 -- the values fit where those that are left fit
 abbrev pub invariant-loop-field : goal.invariant-loop-field
-invariant-loop-field l = fits_fields (iter_rest l.schema) (iter_rest (zip_first l.field-iterator)) (iter_rest (zip_second l.field-iterator)) ≡ fits_fields l.fn.schema l.fields l.values
+invariant-loop-field l = fits_fields (iter_rest l.schema) (iter_rest (zip_first l.field-iterator)) (iter_rest (zip_second l.field-iterator))
+    ≡ fits_fields l.fn.schema l.fields l.values

@@ -24,5 +24,6 @@ loop-field-preserved c =
     record {
       values = grind (arith, common_steps);
       in_range = rw c.in_ok-push.ensures.items
-          (values_more c.args.fields.now c.loop-field.field-index c.field-item.result c.loop-field.values.items c.match-get.value (omega arith) c.field-item.is c.loop-field.invariant.in_range can);
+          (values_more c.args.fields.now c.loop-field.field-index c.field-item.result c.loop-field.values.items c.match-get.value (omega arith) c.field-item.is
+          c.loop-field.invariant.in_range can);
     }

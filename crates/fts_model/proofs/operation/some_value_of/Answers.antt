@@ -37,14 +37,18 @@ only_null kinds.Keyword (number n) apart h = cc
 only_null kinds.U64 (string text) apart h = cc
 only_null kinds.I64 (string text) apart h = cc
 only_null kinds.Keyword (string text) apart h =
-    elim (nat_le (length text) 256) as (λ b. cond b (Ok (Some (values.Text text))) (Err KeywordTooLong) ≡ Ok None → string text ≡ null) [ true ↦ λ g. cc | false ↦ λ g. cc ] h
+    elim (nat_le (length text) 256) as (λ b. cond b (Ok (Some (values.Text text))) (Err KeywordTooLong) ≡ Ok None → string text ≡ null)
+    [ true ↦ λ g. cc | false ↦ λ g. cc ] h
 only_null kinds.U64 (number n) apart h =
-    elim (as_u64 n) as (λ o. ok_or (option_map (λ x. Some (values.Number (numbers.U64 x))) o) WrongKind ≡ Ok None → number n ≡ null) [ None ↦ λ g. cc | Some x ↦ λ g. cc ] h
+    elim (as_u64 n) as (λ o. ok_or (option_map (λ x. Some (values.Number (numbers.U64 x))) o) WrongKind ≡ Ok None → number n ≡ null)
+    [ None ↦ λ g. cc | Some x ↦ λ g. cc ] h
 only_null kinds.I64 (number n) apart h =
-    elim (as_i64 n) as (λ o. ok_or (option_map (λ x. Some (values.Number (numbers.I64 x))) o) WrongKind ≡ Ok None → number n ≡ null) [ None ↦ λ g. cc | Some x ↦ λ g. cc ] h
+    elim (as_i64 n) as (λ o. ok_or (option_map (λ x. Some (values.Number (numbers.I64 x))) o) WrongKind ≡ Ok None → number n ≡ null)
+    [ None ↦ λ g. cc | Some x ↦ λ g. cc ] h
 
 -- so a value that is not null and has no fault is some value
-no_refusal : (read : Result (Option FieldValue) Refusal) (fault : Refusal) → error_if_err read ≡ None → (read ≡ Ok None → ⊥) → result_and_then (λ v. ok_or v WrongKind) read ≡ Err fault → ⊥
+no_refusal : (read : Result (Option FieldValue) Refusal) (fault : Refusal) → error_if_err read ≡ None → (read ≡ Ok None → ⊥) →
+    result_and_then (λ v. ok_or v WrongKind) read ≡ Err fault → ⊥
 no_refusal (Err e) fault h some g = cc
 no_refusal (Ok None) fault h some g = some refl
 no_refusal (Ok (Some v)) fault h some g = cc

@@ -6,4 +6,5 @@ use Rattle.fts_pack.proofs.lanes.unpack_at.Goals as goal
 
 pub returns : goal.returns
 returns g c =
-    same_number_lists c.eight_steps-4.new.out (numbers_in_lanes g.row.W c.args.words.now) (c.eight_steps-4.array_long ∙ sym (length-numbers_in_lanes g.row.W c.args.words.now)) (λ k inside. c.eight_steps-4.ensures k (omega arith))
+    same_number_lists c.eight_steps-4.new.out (numbers_in_lanes g.row.W c.args.words.now)
+    (c.eight_steps-4.array_long ∙ sym (length-numbers_in_lanes g.row.W c.args.words.now)) (λ k inside. c.eight_steps-4.ensures k (omega arith))

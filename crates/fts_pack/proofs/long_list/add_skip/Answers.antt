@@ -7,7 +7,7 @@ use Rattle.fts_pack.proofs.long_list.add_skip.Goals as goal
 pub returns : goal.returns
 returns c =
     let differences = gaps c.args.next c.args.documents.now in
-    let same : c.deref.result.now ≡ differences = c.deref.ensures.value ∙ c.in_ok-push_gaps.ensures ∙ ap (λ xs. xs ++ differences) c.clear.ensures.items in
+    let same : c.deref.result.now ≡ differences = c.deref.ensures.value ∙ c.in_ok-push_gaps.ensures.ok ∙ ap (λ xs. xs ++ differences) c.clear.ensures.items in
     let P : List ℕ → Type 0 = λ piece. IsAdded piece c.args.words.now.items c.add_block.new.words.items c.in_ok-block.block in
     record {
       block = subst P same c.in_ok-block.ensures;

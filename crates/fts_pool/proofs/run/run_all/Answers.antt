@@ -5,7 +5,8 @@ use Rattle.fts_pool.proofs.SlotsLemmas.{outs_of, slots_empty, slots_len}
 use Rattle.fts_pool.proofs.run.run_all.Goals as goal
 
 pub give_out-requires-clause-slots : goal.give_out-requires-clause-slots
-give_out-requires-clause-slots g c κs within = subst (AreSlots g.J.Job.gives c.args.jobs.now) (sym c.in_ok-slots.ensures) (slots_empty g.J.Job.gives c.args.jobs.now _ (search rules))
+give_out-requires-clause-slots g c κs within =
+    subst (AreSlots g.J.Job.gives c.args.jobs.now) (sym c.in_ok-slots.ensures) (slots_empty g.J.Job.gives c.args.jobs.now _ (search rules))
 
 pub emptied-requires-clause-filled : goal.emptied-requires-clause-filled
 emptied-requires-clause-filled g c n below =
@@ -18,4 +19,5 @@ emptied-requires-clause-room g c =
     search rules
 
 pub returns-clause-ok : goal.returns-clause-ok
-returns-clause-ok g c = outs_of g.J.Job.gives c.args.jobs.now c.emptied.result.items (subst (AreSlots g.J.Job.gives c.args.jobs.now) c.emptied.ensures c.run_from.ensures.slots)
+returns-clause-ok g c =
+    outs_of g.J.Job.gives c.args.jobs.now c.emptied.result.items (subst (AreSlots g.J.Job.gives c.args.jobs.now) c.emptied.ensures c.run_from.ensures.slots)

@@ -10,13 +10,15 @@ another-pass-requires g t c = forks _ _ (let shares = c.requires.shares in let s
 
 pub absorb-requires-clause-rule : goal.absorb-requires-clause-rule
 absorb-requires-clause-rule g t c = merges _ _ _ _
-    (let same = c.join-pass.ensures.second.1.1.0 in let mine = ap (λ v. v.shares) c.another-pass.ensures.rule.0 in let shares = c.requires.shares in let some_helper = c.if-helpers-eq0.false in omega arith)
+    (let same = c.join-pass.ensures.second.1.1.0 in let mine = ap (λ v. v.shares) c.another-pass.ensures.rule.0 in let shares = c.requires.shares in
+    let some_helper = c.if-helpers-eq0.false in omega arith)
 
 pub returns-clause-ready : goal.returns-clause-ready
 returns-clause-ready g t c =
     let put = c.put_all.ensures in
     let absorb = c.absorb.ensures.rule in
     let theirs = c.join-pass.ensures.first.1.0 in
-    ready_joined g.J.Job.gives c.args.jobs.now c.join-pass.result.1.1.items c.put_all.new.slots.items c.join-pass.result.0.1.items (worker_view c.join-pass.result.1.0) (worker_view c.absorb.new.self)
+    ready_joined g.J.Job.gives c.args.jobs.now c.join-pass.result.1.1.items c.put_all.new.slots.items c.join-pass.result.0.1.items
+    (worker_view c.join-pass.result.1.0) (worker_view c.absorb.new.self)
     c.join-pass.ensures.second.1.1.1.1 put.slots put.kept put.filled
     (ap (λ v. v.pushed) absorb) (ap (λ v. v.taken) absorb ∙ ap (λ u. (worker_view c.join-pass.result.1.0).taken ++ u.taken) theirs)

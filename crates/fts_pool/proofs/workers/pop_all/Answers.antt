@@ -34,6 +34,7 @@ loop-preserved g c =
       shares = ap (λ v. v.shares) step.0 ∙ was.shares;
       pushed = ap (λ v. v.pushed) step.0 ∙ was.pushed;
       ready = subst (λ l. IsReady g.J.Job.gives c.args.jobs.now l (worker_view c.pop_as.new.self)) (sym c.put.ensures)
-          (ready_put g.J.Job.gives c.args.jobs.now c.loop.slots.items c.in-Some-pop_as.number c.run_one.result (worker_view c.loop.worker) (worker_view c.pop_as.new.self) was.ready
+          (ready_put g.J.Job.gives c.args.jobs.now c.loop.slots.items c.in-Some-pop_as.number c.run_one.result (worker_view c.loop.worker)
+          (worker_view c.pop_as.new.self) was.ready
           (All-get_or (λ x. x < (worker_view c.loop.worker).pushed) (c.in-Some-pop_as.number ∷ []) 0 0 (omega arith) step.1) c.run_one.ensures step.0);
     }

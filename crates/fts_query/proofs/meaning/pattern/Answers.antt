@@ -10,17 +10,21 @@ loop-place-init c =
 
 pub overflow_cast-offset : goal.overflow_cast-offset
 overflow_cast-offset c =
-    let at = Gathers-place c.args.text.now c.args.from c.loop-place.pattern.items c.in-Some.place _ (places_left c.next.new.self) c.in-Some.ensures.steps c.loop-place.invariant.2 in
+    let at = Gathers-place c.args.text.now c.args.from c.loop-place.pattern.items c.in-Some.place _ (places_left c.next.new.self) c.in-Some.ensures.steps.0
+    c.loop-place.invariant.2 in
     let fits = position_fits c.args.text.now c.in-Some.place c.args.from c.requires at in
     omega (arith, fits, c.saturating_sub-offset.ensures)
 
 pub token-requires : goal.token-requires
-token-requires c = (Gathers-place c.args.text.now c.args.from c.loop-place.pattern.items c.in-Some.place _ (places_left c.next.new.self) c.in-Some.ensures.steps c.loop-place.invariant.2).place
+token-requires c = (Gathers-place c.args.text.now c.args.from c.loop-place.pattern.items c.in-Some.place _ (places_left c.next.new.self)
+    c.in-Some.ensures.steps.0 c.loop-place.invariant.2).place
 
 pub loop-place-preserved : goal.loop-place-preserved
 loop-place-preserved c =
-    let grown : c.push.new.self.items ≡ c.loop-place.pattern.items ++ member c.args.text.now c.args.from c.in-Some.place ∷ [] = cc (c.in_ok-push.ensures.items, c.in_ok-token.ensures, c.saturating_sub-offset.ensures) in (
+    let grown : c.push.new.self.items ≡ c.loop-place.pattern.items ++ member c.args.text.now c.args.from c.in-Some.place ∷ [] =
+    cc (c.in_ok-push.ensures.items, c.in_ok-token.ensures, c.saturating_sub-offset.ensures) in (
       tt,
       tt,
-      Gathers-next c.args.text.now c.args.from c.loop-place.pattern.items c.push.new.self.items c.in-Some.place _ (places_left c.next.new.self) c.in-Some.ensures.steps grown c.loop-place.invariant.2,
+      Gathers-next c.args.text.now c.args.from c.loop-place.pattern.items c.push.new.self.items c.in-Some.place _ (places_left c.next.new.self)
+          c.in-Some.ensures.steps.0 grown c.loop-place.invariant.2,
     )

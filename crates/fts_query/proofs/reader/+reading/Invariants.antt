@@ -34,7 +34,8 @@ abbrev pub decreases-group_at : goal.decreases-group_at
 decreases-group_at l = 20 * l.depth + 12
 
 abbrev pub invariant-node_at-loop-next : goal.invariant-node_at-loop-next
-invariant-node_at-loop-next l = (n : ℕ) → length l.fn.text ≤ n → Goes l.schema l.depth l.level (gathered_of l.clauses) l.rest (total_of l.schema l.depth l.level n (part_seen l.fn.first) l.fn.text)
+invariant-node_at-loop-next l = (n : ℕ) → length l.fn.text ≤ n →
+    Goes l.schema l.depth l.level (gathered_of l.clauses) l.rest (total_of l.schema l.depth l.level n (part_seen l.fn.first) l.fn.text)
 
 abbrev pub decreases-node_at-loop-next : goal.decreases-node_at-loop-next
 decreases-node_at-loop-next l = length l.rest

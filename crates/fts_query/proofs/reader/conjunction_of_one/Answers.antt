@@ -11,5 +11,7 @@ use Rattle.fts_query.proofs.reader.conjunction_of_one.Goals as goal
 pub returns : goal.returns
 returns c =
     let f = clause_of Conjunction (lone (factor_seen c.args.factor)) in
-    let pushed : gathered_of c.push.new.self ≡ gather (gathered_of c.new-clauses.result) f = c.in_ok-push.ensures ∙ ap (λ (r : Occur). gather (gathered_of c.new-clauses.result) (r, result_map query_value c.args.factor.unit)) c.occur_in_conjunction.ensures in
+    let pushed : gathered_of c.push.new.self ≡ gather (gathered_of c.new-clauses.result) f =
+    c.in_ok-push.ensures ∙ ap (λ (r : Occur). gather (gathered_of c.new-clauses.result) (r, result_map query_value c.args.factor.unit))
+    c.occur_in_conjunction.ensures in
     c.into_node.ensures ∙ ap gathered_node (pushed ∙ ap (λ (g : Gathered). gather g f) c.new-clauses.ensures) ∙ gathered_node-all (f ∷ [])

@@ -12,7 +12,8 @@ use Rattle.fts_scan.proofs.answers.groups.Goals as goal
 pub returns : goal.returns
 returns c =
     let sorted = c.sort_unstable_by.new.self.items in
-    let up = c.sort_unstable_by.ensures.sorted (λ a b. is_lt (group_cmp a b)) (ranks_by group_order.total (λ (v : GroupValue). v)) (always_returns_same _ _ _ (λ a r g k. search rules)) in
+    let up = c.sort_unstable_by.ensures.sorted (λ a b. is_lt (group_cmp a b)) (ranks_by group_order.total (λ (v : GroupValue). v))
+    (always_returns_same _ _ _ (λ a r g k. search rules)) in
     let P : List (GroupValue × ℕ) → Type 0 = λ counts. IfOk c.counts_of_sorted.result (λ found. found.items ≡ counts) in
     subst P
     (counts-sorted group_order is_one_group (λ x y. refl) c.in_ok-values.values.items sorted c.sort_unstable_by.ensures.permutation up

@@ -10,4 +10,5 @@ use Rattle.fts_scan.proofs.matcher.leads.Given as goal
 abbrev pub invariant-loop-other : goal.invariant-loop-other
 invariant-loop-other l =
     let ts = tokens_of_texts 0 (strings l.fn.texts) in
-    list_all (stands_with ts l.first (token_at l.text l.fn.place)) (drop l.other-index l.others) ≡ list_all (stands_with ts l.first (token_at l.text l.fn.place)) l.others
+    list_all (stands_with ts l.first (token_at l.text l.fn.place)) (drop l.other-index l.others)
+    ≡ list_all (stands_with ts l.first (token_at l.text l.fn.place)) l.others

@@ -16,7 +16,8 @@ loop-op-preserved c =
     let within : i < length ops = omega arith in
     let more = take_more ops i op within in
     let behind = λ (x : Stamped Op). alive schema (take i ops ++ x ∷ []) in
-    let left = λ (documents : List (Stamped DocumentValue)). filter (λ (d : Stamped DocumentValue). not (strikes schema op.value d.value)) documents ++ alive schema (op ∷ []) in
+    let left = λ (documents : List (Stamped DocumentValue)). filter (λ (d : Stamped DocumentValue). not (strikes schema op.value d.value)) documents
+    ++ alive schema (op ∷ []) in
     c.in_ok-documents.ensures
     ∙ ap left c.loop-op.invariant
     ∙ sym (alive-one schema (take i ops) op)

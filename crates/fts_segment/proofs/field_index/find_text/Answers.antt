@@ -4,7 +4,9 @@ use Rattle.fts_segment.proofs.PositionsLemmas.{position_lists_found}
 use Rattle.fts_segment.proofs.field_index.find_text.Goals as goal
 
 pub returns-in-Text-clause-none : goal.returns-in-Text-clause-none
-returns-in-Text-clause-none c vs a = rw c.in-Text.is (if_none _ c.find.result c.find.ensures (λ absent. text_absent c.in-Text.text a (λ i found. absent i (found ∙ ap Some (sym c.as_str.ensures)))))
+returns-in-Text-clause-none c vs a =
+    rw c.in-Text.is (if_none _ c.find.result c.find.ensures
+    (λ absent. text_absent c.in-Text.text a (λ i found. absent i (found ∙ ap Some (sym c.as_str.ensures)))))
 
 pub returns-in-Text-clause-some : goal.returns-in-Text-clause-some
 returns-in-Text-clause-some c = if_some _ _ _ c.find.result c.find.ensures (λ list found. λ none.

@@ -15,11 +15,13 @@ join_parts-requires-clause-sound c =
 pub join_parts-requires-clause-rise : goal.join_parts-requires-clause-rise
 join_parts-requires-clause-rise c =
     let P : List PartValue → Type 0 = λ ps. (q : List ℕ) → IsStrictlyIncreasing (documents (joined ps q)) in
-    subst P (sym c.deref_mut.ensures.value) (parts-rise c.args.kind c.args.field c.args.sources.now c.in_ok-parts.parts.items c.in_ok-parts.ensures.bits c.in_ok-parts.ensures.are)
+    subst P (sym c.deref_mut.ensures.value) (parts-rise c.args.kind c.args.field c.args.sources.now c.in_ok-parts.parts.items c.in_ok-parts.ensures.bits
+    c.in_ok-parts.ensures.are)
 
 pub returns : goal.returns
 returns c =
     let d = c.in_ok-dictionary.dictionary in
     let P : List PartValue → Type 0 = λ ps. IsJoined ps d.names d.lists.items (term_position_lists d.positions) in
-    terms-joined c.args.kind c.args.field c.args.sources.now c.in_ok-parts.parts.items d c.requires.terms c.in_ok-parts.ensures.bits c.in_ok-parts.ensures.are c.in_ok-parts.ensures.few
+    terms-joined c.args.kind c.args.field c.args.sources.now c.in_ok-parts.parts.items d c.requires.terms c.in_ok-parts.ensures.bits c.in_ok-parts.ensures.are
+    c.in_ok-parts.ensures.few
     (subst P c.deref_mut.ensures.value c.in_ok-dictionary.ensures)

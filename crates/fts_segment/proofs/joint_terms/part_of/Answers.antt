@@ -16,7 +16,9 @@ use Rattle.fts_segment.proofs.joint_terms.part_of.Goals as goal
 use Rattle.fts_segment.proofs.joint_terms.part_of.Goals.{In_ok-numbers}
 
 pub dictionary-terms-requires : goal.dictionary-terms-requires
-dictionary-terms-requires c = ap (λ o. option_map_or holds_numbers o true) (ap (λ (s : SegmentValue). kind_at s.schema c.args.field) c.segment.ensures.segment ∙ c.requires.kind) ∙ c.requires.terms
+dictionary-terms-requires c =
+    ap (λ o. option_map_or holds_numbers o true) (ap (λ (s : SegmentValue). kind_at s.schema c.args.field) c.segment.ensures.segment ∙ c.requires.kind)
+    ∙ c.requires.terms
 
 terms_of : (c : In_ok-numbers) → AreTerms c.args.kind (values_in c.args.field c.args.source.now.segment.documents) c.dictionary-terms.result.now
 terms_of c =
@@ -40,4 +42,5 @@ returns-clause-is c =
     let kind = c.args.kind in
     let source = c.args.source.now in
     let d = c.dictionary-terms.result.now in
-    subst (IsPart kind c.args.field c.args.next source) (sym c.new-2.ensures) (part-is kind c.args.field c.args.next source d c.in_ok-numbers.numbers (terms_of a) (numbers_of a))
+    subst (IsPart kind c.args.field c.args.next source) (sym c.new-2.ensures) (part-is kind c.args.field c.args.next source d c.in_ok-numbers.numbers
+    (terms_of a) (numbers_of a))

@@ -10,6 +10,7 @@ pub returns-in_ok-find_name-in-Text : goal.returns-in_ok-find_name-in-Text
 returns-in_ok-find_name-in-Text c =
     let names = c.args.names.now in
     let text = c.as_bytes.result.now in
-    let here : option_copied c.args.value ≡ Some (values.Text text) = ap option_copied c.in_ok-text.was ∙ ap Some (c.in-Text.is ∙ ap values.Text (sym (c.as_bytes.ensures.value ∙ c.as_str.ensures))) in
+    let here : option_copied c.args.value ≡ Some (values.Text text) =
+    ap option_copied c.in_ok-text.was ∙ ap Some (c.in-Text.is ∙ ap values.Text (sym (c.as_bytes.ensures.value ∙ c.as_str.ensures))) in
     ap Some (number_of_text names c.in_ok-find_name-in-Text.field-0 text c.requires.ascends c.in_ok-find_name-in-Text.ensures)
     ∙ sym (ap (λ v. option_map (before names) (keyword_of kinds.Keyword v)) here)

@@ -10,4 +10,5 @@ returns c =
     let documents = c.args.list.now in
     let isnt : (length documents == 0) ≡ false = sym c.is_empty.ensures ∙ c.if-is_empty.false in
     let some : 0 < length documents = omega (arith, eqb-false (length documents) 0 isnt) in
-    subst (λ n. Contains documents n) (sym (c.last.ensures ∙ ap (λ ds. last_of (get_or (blocks_of ds) 0 [])) c.source.ensures.documents)) (last_of_first documents some)
+    subst (λ n. Contains documents n) (sym (c.last.ensures ∙ ap (λ ds. last_of (get_or (blocks_of ds) 0 [])) c.source.ensures.documents))
+    (last_of_first documents some)

@@ -20,9 +20,11 @@ returns-in_ok-move_lists-in-Some-clause-puts c =
     puts-as (placed-some (slice_get c.args.numbers.now c.args.doc) c.in-Some.number posting c.in-Some.ensures) (record {
       is = c.in_ok-move_lists-in-Some.ensures.is;
       documents_are = c.in_ok-push-in-Some.ensures.items;
-      positions_are = c.in_ok-move_lists-in-Some.ensures.moved ∙ ap (λ ls. logged_position_lists c.args.log.now ++ ls) (range_one lists c.args.list [] c.requires.within);
+      positions_are = c.in_ok-move_lists-in-Some.ensures.moved ∙ ap (λ ls. logged_position_lists c.args.log.now ++ ls)
+          (range_one lists c.args.list [] c.requires.within);
     })
 
 pub returns-in-None-clause-puts : goal.returns-in-None-clause-puts
 returns-in-None-clause-puts c =
-    puts-as (placed-none (slice_get c.args.numbers.now c.args.doc) (posting_at c.args.doc (get_or (lists_in c.args.lists.now) c.args.list [])) c.in-None.ensures) (puts-none c.requires.is)
+    puts-as (placed-none (slice_get c.args.numbers.now c.args.doc) (posting_at c.args.doc (get_or (lists_in c.args.lists.now) c.args.list []))
+    c.in-None.ensures) (puts-none c.requires.is)

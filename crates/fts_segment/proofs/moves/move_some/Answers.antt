@@ -20,10 +20,12 @@ loop-index-preserved c =
     let d = get_or block l.index 0 in
     let lists = lists_in c.args.lists.now in
     let same = l.invariant.same in
-    let P : List (List ℕ) → Type 0 = λ ls. Puts (placed (slice_get c.args.numbers.now d) (posting_at d (get_or ls (c.args.start + l.index) []))) l.docs.items l.log c.move_posting.new.docs.items c.move_posting.new.log in
+    let P : List (List ℕ) → Type 0 = λ ls. Puts (placed (slice_get c.args.numbers.now d) (posting_at d (get_or ls (c.args.start + l.index) []))) l.docs.items
+    l.log c.move_posting.new.docs.items c.move_posting.new.log in
     record {
       same = c.move_posting.ensures.same ∙ same;
-      puts = puts-more (moved-one c.args.numbers.now lists block c.args.start l.index d 0 c.loop-index-test.true refl c.requires.within) l.invariant.puts (subst P same c.in_ok-move_posting.ensures.puts);
+      puts = puts-more (moved-one c.args.numbers.now lists block c.args.start l.index d 0 c.loop-index-test.true refl c.requires.within) l.invariant.puts
+          (subst P same c.in_ok-move_posting.ensures.puts);
     }
 
 pub move_posting-requires-clause-is : goal.move_posting-requires-clause-is
@@ -41,4 +43,5 @@ pub returns-clause-puts : goal.returns-clause-puts
 returns-clause-puts c =
     let block = c.args.block.now in
     let beyond : length block ≤ c.loop-index.index = omega (arith, c.loop-index-test.false) in
-    puts-as (ap (λ ds. moved c.args.numbers.now (postings_of ds (drop c.args.start (lists_in c.args.lists.now)))) (sym (take_all c.loop-index.index block beyond))) c.loop-index.invariant.puts
+    puts-as (ap (λ ds. moved c.args.numbers.now (postings_of ds (drop c.args.start (lists_in c.args.lists.now))))
+    (sym (take_all c.loop-index.index block beyond))) c.loop-index.invariant.puts

@@ -15,7 +15,8 @@ loop-value-preserved c =
     let vs = c.args.values.now in
     let i = c.loop-value.value-index in
     let e = take_more vs i None c.loop-value-test.true in
-    rw e (c.in_ok-push_present.ensures ∙ ap (λ xs. xs ++ present (get_or vs i None ∷ [])) c.loop-value.invariant ∙ sym (present-append (take i vs) (get_or vs i None ∷ [])))
+    rw e (c.in_ok-push_present.ensures ∙ ap (λ xs. xs ++ present (get_or vs i None ∷ [])) c.loop-value.invariant
+    ∙ sym (present-append (take i vs) (get_or vs i None ∷ [])))
 
 -- what is left after the duplicates are gone
 left : (c : goal.After-shrink_to_fit) → c.shrink_to_fit.new.self.items ≡ dedup nat_eq c.sort_unstable.new.self.items
@@ -34,10 +35,12 @@ returns-clause-occur c =
     let P : ℕ → Type 0 = λ x. Contains c.args.values.now (Some x) in
     let Q : List ℕ → Type 0 = All P in
     subst Q (sym (left c)) (All-dedup nat_eq P c.sort_unstable.new.self.items
-    (All-permutation P c.loop-value.numbers.items c.sort_unstable.new.self.items c.sort_unstable.ensures.permutation (subst Q (sym (all_of c)) (present-from c.args.values.now))))
+    (All-permutation P c.loop-value.numbers.items c.sort_unstable.new.self.items c.sort_unstable.ensures.permutation
+    (subst Q (sym (all_of c)) (present-from c.args.values.now))))
 
 pub returns-clause-whole : goal.returns-clause-whole
 returns-clause-whole c x there =
     let P : List ℕ → Type 0 = λ xs. Contains xs x in
     subst P (sym (left c)) (Contains-dedup_nat c.sort_unstable.new.self.items x
-    (Contains-permutation c.loop-value.numbers.items c.sort_unstable.new.self.items x c.sort_unstable.ensures.permutation (subst P (sym (all_of c)) (present-contains c.args.values.now x there))))
+    (Contains-permutation c.loop-value.numbers.items c.sort_unstable.new.self.items x c.sort_unstable.ensures.permutation
+    (subst P (sym (all_of c)) (present-contains c.args.values.now x there))))

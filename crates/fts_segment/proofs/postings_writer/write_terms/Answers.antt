@@ -20,8 +20,11 @@ loop-number-preserved c =
     let inside : l.number < length groups = omega (arith, within, count) in
     let here : (get_or items l.number d).now ≡ get_or names l.number [] = sym (get_or-map (λ n. n.now) items l.number d [] c.loop-number-test.true) in
     record {
-      names = names_step groups names l.number places (get_or items l.number d).now l.writer.names c.put.new.writer.names within count here c.get.ensures c.in_ok-put.ensures.names l.invariant.names;
-      lists = listed_step docs_in groups l.number places l.writer.lists.items c.put.new.writer.lists.items inside c.get.ensures c.in_ok-put.ensures.lists l.invariant.lists;
-      positions = listed_step position_lists_of groups l.number places (logged_term_position_lists l.writer.positions) (logged_term_position_lists c.put.new.writer.positions) inside c.get.ensures c.in_ok-put.ensures.positions l.invariant.positions;
+      names = names_step groups names l.number places (get_or items l.number d).now l.writer.names c.put.new.writer.names within count here c.get.ensures
+          c.in_ok-put.ensures.names l.invariant.names;
+      lists = listed_step docs_in groups l.number places l.writer.lists.items c.put.new.writer.lists.items inside c.get.ensures c.in_ok-put.ensures.lists
+          l.invariant.lists;
+      positions = listed_step position_lists_of groups l.number places (logged_term_position_lists l.writer.positions)
+          (logged_term_position_lists c.put.new.writer.positions) inside c.get.ensures c.in_ok-put.ensures.positions l.invariant.positions;
       is = c.in_ok-put.ensures.is;
     }

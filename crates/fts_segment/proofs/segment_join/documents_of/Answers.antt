@@ -15,7 +15,8 @@ loop-source-preserved c =
     let Fit : SourceValue → Type 0 = λ s. AllFit s.segment.schema s.segment.documents in
     let Are : SourceValue → Type 0 = λ s. AreDocuments s.segment.documents in
     record {
-      taken = contents-taken c.take_live.new.documents.items c.loop-source.documents.items ss i s (contents ss) c.loop-source-test.true c.source-item.is c.in_ok-take_live.ensures.documents c.loop-source.invariant.taken;
+      taken = contents-taken c.take_live.new.documents.items c.loop-source.documents.items ss i s (contents ss) c.loop-source-test.true c.source-item.is
+          c.in_ok-take_live.ensures.documents c.loop-source.invariant.taken;
       fit = All-more Fit ss i s c.loop-source-test.true c.loop-source.invariant.fit (subst Fit c.source-item.is c.take_live.ensures.fit);
       are = All-more Are ss i s c.loop-source-test.true c.loop-source.invariant.are (subst Are c.source-item.is c.take_live.ensures.are);
     }
@@ -25,7 +26,8 @@ returns-clause-documents c =
     let ss = c.args.sources.now in
     let i = c.loop-source.source-index in
     let past : length ss ≤ i = omega (arith, c.loop-source-test.false) in
-    c.shrink_to_fit.ensures.items ∙ sym (append-nil c.loop-source.documents.items) ∙ ap (λ xs. c.loop-source.documents.items ++ contents xs) (sym (drop_all i ss past)) ∙ c.loop-source.invariant.taken
+    c.shrink_to_fit.ensures.items ∙ sym (append-nil c.loop-source.documents.items) ∙ ap (λ xs. c.loop-source.documents.items ++ contents xs)
+    (sym (drop_all i ss past)) ∙ c.loop-source.invariant.taken
 
 pub returns-clause-fit : goal.returns-clause-fit
 returns-clause-fit c =

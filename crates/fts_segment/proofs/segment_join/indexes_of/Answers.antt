@@ -24,4 +24,5 @@ loop-field-preserved c =
     let field = field_at (slice_get schema number) c.kind-kind.result c.kind-kind.ensures in
     let index = c.in_ok-joined.field-0 in
     subst (AreFirst schema documents (number + 1)) (sym c.in_ok-push.ensures.items)
-    (AreFirst-push index field.0 field.1 (subst (λ (k : Kind). IsFieldIndex k (values_in number documents) index) (sym field.2) c.in_ok-joined.ensures) c.loop-field.invariant)
+    (AreFirst-push index field.0 field.1 (subst (λ (k : Kind). IsFieldIndex k (values_in number documents) index) (sym field.2) c.in_ok-joined.ensures)
+    c.loop-field.invariant)

@@ -8,7 +8,8 @@ use Rattle.fts_segment.proofs.term_join.join_parts.Goals as goal
 
 pub loop-term-init : goal.loop-term-init
 loop-term-init c = record {
-  joining = IsJoining-start c.args.parts.now c.new-writer.result.names c.new-writer.result.lists.items (logged_term_position_lists c.new-writer.result.positions)
+  joining = IsJoining-start c.args.parts.now c.new-writer.result.names c.new-writer.result.lists.items
+      (logged_term_position_lists c.new-writer.result.positions)
       c.requires.sound c.new-writer.ensures.names c.new-writer.ensures.lists c.new-writer.ensures.positions;
   is = c.new-writer.ensures.is;
 }
@@ -19,7 +20,8 @@ join_term-requires-clause-rise c =
     let term = c.in-Some.term.now in
     let w = c.loop-term.writer in
     let least : least_of None rest ≡ Some term = sym c.least.ensures ∙ ap (option_map (λ t. t.now)) c.in-Some.is in
-    postings-rise term (flat_map (given term) rest) c.args.parts.now rest w.names w.lists.items (logged_term_position_lists w.positions) c.loop-term.invariant.joining (least-from None rest term least).1 (met-of-least rest term least) refl c.requires.rise
+    postings-rise term (flat_map (given term) rest) c.args.parts.now rest w.names w.lists.items (logged_term_position_lists w.positions)
+    c.loop-term.invariant.joining (least-from None rest term least).1 (met-of-least rest term least) refl c.requires.rise
 
 pub loop-term-smaller : goal.loop-term-smaller
 loop-term-smaller c =

@@ -20,10 +20,12 @@ empty_of c none = omega (arith, ap length (docs_of c), ap (λ ps. length (docume
 
 none_of : (c : After-is_empty) → vec_len c.pass_all.new.docs ≡ 0 → flat_map (given c.args.term.now) c.args.parts.now ≡ []
 none_of c empty =
-    no_documents (flat_map (given c.args.term.now) c.args.parts.now) (sym (docs_of c) ∙ nil_from_length c.pass_all.new.docs.items (omega (arith, empty, c.pass_all.new.docs.ok.0)))
+    no_documents (flat_map (given c.args.term.now) c.args.parts.now) (sym (docs_of c) ∙ nil_from_length c.pass_all.new.docs.items
+    (omega (arith, empty, c.pass_all.new.docs.ok.0)))
 
 -- then the log is as it was
-same_of : (c : After-is_empty) → flat_map (given c.args.term.now) c.args.parts.now ≡ [] → logged_position_lists c.pass_all.new.log ≡ logged_position_lists c.args.writer.now.positions.lists
+same_of : (c : After-is_empty) → flat_map (given c.args.term.now) c.args.parts.now ≡ [] →
+    logged_position_lists c.pass_all.new.log ≡ logged_position_lists c.args.writer.now.positions.lists
 same_of c none =
     let logged = logged_position_lists c.args.writer.now.positions.lists in
     c.in_ok-pass_all.ensures.puts.positions_are ∙ ap (λ ps. logged ++ position_lists ps) none ∙ append-nil logged
@@ -31,13 +33,15 @@ same_of c none =
 pub returns-then-is_empty-clause-names : goal.returns-then-is_empty-clause-names
 returns-then-is_empty-clause-names c =
     let a = (goal.at.returns-then-is_empty-clause-names c).After-is_empty in
-    none_put c.args.writer.now.names c.args.term.now (flat_map (given c.args.term.now) c.args.parts.now) (none_of a (eqb-true (vec_len c.pass_all.new.docs) 0 (sym c.is_empty.ensures ∙ c.if-is_empty.true)))
+    none_put c.args.writer.now.names c.args.term.now (flat_map (given c.args.term.now) c.args.parts.now)
+    (none_of a (eqb-true (vec_len c.pass_all.new.docs) 0 (sym c.is_empty.ensures ∙ c.if-is_empty.true)))
 
 pub returns-then-is_empty-clause-lists : goal.returns-then-is_empty-clause-lists
 returns-then-is_empty-clause-lists c =
     let a = (goal.at.returns-then-is_empty-clause-lists c).After-is_empty in
     let postings = flat_map (given c.args.term.now) c.args.parts.now in
-    none_put c.args.writer.now.lists.items (documents postings) postings (none_of a (eqb-true (vec_len c.pass_all.new.docs) 0 (sym c.is_empty.ensures ∙ c.if-is_empty.true)))
+    none_put c.args.writer.now.lists.items (documents postings) postings
+    (none_of a (eqb-true (vec_len c.pass_all.new.docs) 0 (sym c.is_empty.ensures ∙ c.if-is_empty.true)))
 
 pub returns-then-is_empty-clause-positions : goal.returns-then-is_empty-clause-positions
 returns-then-is_empty-clause-positions c =
@@ -45,7 +49,8 @@ returns-then-is_empty-clause-positions c =
     let postings = flat_map (given c.args.term.now) c.args.parts.now in
     let log = c.args.writer.now.positions in
     let none = none_of a (eqb-true (vec_len c.pass_all.new.docs) 0 (sym c.is_empty.ensures ∙ c.if-is_empty.true)) in
-    ap (λ ls. pieces 0 ls log.ends.items) (same_of a none) ∙ none_put (pieces 0 (logged_position_lists log.lists) log.ends.items) (position_lists postings) postings none
+    ap (λ ls. pieces 0 ls log.ends.items) (same_of a none) ∙ none_put (pieces 0 (logged_position_lists log.lists) log.ends.items) (position_lists postings)
+    postings none
 
 pub returns-then-is_empty-clause-is : goal.returns-then-is_empty-clause-is
 returns-then-is_empty-clause-is c =
@@ -74,7 +79,8 @@ returns-clause-lists c =
     let a = (goal.at.returns-clause-lists c).After-is_empty in
     let lists = c.args.writer.now.lists.items in
     let postings = flat_map (given c.args.term.now) c.args.parts.now in
-    some_put lists c.end_term.new.self.lists.items (documents postings) postings (λ none. eqb-false (vec_len c.pass_all.new.docs) 0 (sym c.is_empty.ensures ∙ c.if-is_empty.false) (empty_of a none))
+    some_put lists c.end_term.new.self.lists.items (documents postings) postings
+    (λ none. eqb-false (vec_len c.pass_all.new.docs) 0 (sym c.is_empty.ensures ∙ c.if-is_empty.false) (empty_of a none))
     (c.in_ok-end_term.ensures.lists ∙ ap (λ ds. lists ++ ds ∷ []) (c.deref.ensures.value ∙ docs_of a))
 
 pub returns-clause-positions : goal.returns-clause-positions
@@ -83,11 +89,13 @@ returns-clause-positions c =
     let log = c.args.writer.now.positions in
     let before = logged_position_lists log.lists in
     let postings = flat_map (given c.args.term.now) c.args.parts.now in
-    some_put (pieces 0 before log.ends.items) (pieces 0 (logged_position_lists c.end_term.new.self.positions.lists) c.end_term.new.self.positions.ends.items) (position_lists postings) postings
+    some_put (pieces 0 before log.ends.items) (pieces 0 (logged_position_lists c.end_term.new.self.positions.lists) c.end_term.new.self.positions.ends.items)
+    (position_lists postings) postings
     (λ none. eqb-false (vec_len c.pass_all.new.docs) 0 (sym c.is_empty.ensures ∙ c.if-is_empty.false) (empty_of a none))
     (c.in_ok-end_term.ensures.positions before (position_lists postings) c.requires.is.ends c.in_ok-pass_all.ensures.puts.positions_are).terms_are
 
 pub returns-clause-is : goal.returns-clause-is
 returns-clause-is c =
     let log = c.args.writer.now.positions in
-    (c.in_ok-end_term.ensures.positions (logged_position_lists log.lists) (position_lists (flat_map (given c.args.term.now) c.args.parts.now)) c.requires.is.ends c.in_ok-pass_all.ensures.puts.positions_are).is
+    (c.in_ok-end_term.ensures.positions (logged_position_lists log.lists) (position_lists (flat_map (given c.args.term.now) c.args.parts.now))
+    c.requires.is.ends c.in_ok-pass_all.ensures.puts.positions_are).is

@@ -21,8 +21,10 @@ loop-part-preserved c =
     let term = c.args.term.now in
     let i = l.part-index in
     let item = c.part-item.result in
-    let here : slice_get items i ≡ Some item = slice_get-get_or items i item (omega (arith, c.loop-part-test.true, l.auto.part-items)) ∙ ap Some (sym c.part-item.is) in
-    let step = set-front (passed term) items parts i item c.pass.new.self l.invariant.passed_are here (c.in_ok-pass.ensures.part ∙ ap (passed term) (sym c.part-item.is)) in
+    let here : slice_get items i ≡ Some item = slice_get-get_or items i item (omega (arith, c.loop-part-test.true, l.auto.part-items))
+    ∙ ap Some (sym c.part-item.is) in
+    let step = set-front (passed term) items parts i item c.pass.new.self l.invariant.passed_are here
+    (c.in_ok-pass.ensures.part ∙ ap (passed term) (sym c.part-item.is)) in
     record {
       passed_are = step.0;
       puts = puts-more (given-front (given term) parts i item step.1) l.invariant.puts (puts-as (ap (given term) c.part-item.is) c.in_ok-pass.ensures.puts);

@@ -11,4 +11,5 @@ loop-occurrence-preserved c =
     let d : Occurrence = record { term = 0; doc = 0; position = 0 } in
     let e = get_or l.log l.occurrence-index d in
     let within : l.occurrence-index < length l.log = omega (arith, c.loop-occurrence-test.true, l.auto.log) in
-    map_over_more (by_ordinal c.args.ordinals.now) c.args.log.now l.log l.occurrence-index e (omega (arith, within, l.auto.log)) l.invariant (get_or_default l.log l.occurrence-index d e within)
+    map_over_more (by_ordinal c.args.ordinals.now) c.args.log.now l.log l.occurrence-index e (omega (arith, within, l.auto.log)) l.invariant
+    (get_or_default l.log l.occurrence-index d e within)

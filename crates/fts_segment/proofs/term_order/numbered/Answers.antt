@@ -17,5 +17,6 @@ returns-clause-in_order c = IsInOrder-sorted c.sort_unstable.new.self.items c.so
 pub returns-clause-all : goal.returns-clause-all
 returns-clause-all c =
     let all : map shown c.loop-number.order.items ≡ enumerate_from 0 c.args.names.now =
-    c.loop-number.invariant ∙ take_all c.loop-number.number (enumerate_from 0 c.args.names.now) (omega (arith, length-enumerate_from 0 c.args.names.now, c.len-number-end.ensures)) in
+    c.loop-number.invariant ∙ take_all c.loop-number.number (enumerate_from 0 c.args.names.now)
+    (omega (arith, length-enumerate_from 0 c.args.names.now, c.len-number-end.ensures)) in
     rw (← all) (IsPermutation-map shown c.loop-number.order.items c.sort_unstable.new.self.items c.sort_unstable.ensures.permutation)

@@ -33,12 +33,22 @@ loop-name-preserved c =
     let different = map (λ n. n.now) c.loop-name.different.items in
     let last = c.in-Ok.ordinal in
     let long : suc last ≡ length (with_name different e.0.now) =
-    omega (arith, c.len-in-loop-name.ensures, c.push_different.new.names.ok.0, length-map c.push_different.new.names.items (λ n. n.now), ap length c.in_ok-push_different.ensures, some_with different e.0.now) in
-    rw c.in_ok-push_different.ensures (IsSorting-next c.args.names.now items i e different c.loop-name.ordinals.items last c.loop-name-test.true is right in_order long c.loop-name.invariant)
+    omega (
+      arith,
+      c.len-in-loop-name.ensures,
+      c.push_different.new.names.ok.0,
+      length-map c.push_different.new.names.items (λ n. n.now),
+      ap length
+          c.in_ok-push_different.ensures,
+      some_with different e.0.now,
+    ) in
+    rw c.in_ok-push_different.ensures (IsSorting-next c.args.names.now items i e different c.loop-name.ordinals.items last c.loop-name-test.true is right
+    in_order long c.loop-name.invariant)
 
 pub returns-clause-ordinals : goal.returns-clause-ordinals
 returns-clause-ordinals c =
     let items = c.deref-name-items.result.now in
     let P : List Numbered → Type 0 = λ es. IsPermutation (enumerate_from 0 c.args.names.now) (map shown es) in
     let moved = subst P (sym c.deref-name-items.ensures.value) c.in_ok-order.ensures.all in
-    Stand-sorted c.args.names.now items c.loop-name.name-index (map (λ n. n.now) c.loop-name.different.items) c.loop-name.ordinals.items moved (omega arith) c.loop-name.invariant
+    Stand-sorted c.args.names.now items c.loop-name.name-index (map (λ n. n.now) c.loop-name.different.items) c.loop-name.ordinals.items moved (omega arith)
+    c.loop-name.invariant

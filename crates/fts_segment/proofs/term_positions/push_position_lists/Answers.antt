@@ -10,20 +10,24 @@ pub push_place-requires-clause-list : goal.push_place-requires-clause-list
 push_place-requires-clause-list c =
     let d : Place = record { doc = 0; position = 0 } in
     let rest = take (length c.args.places.now - 1) (drop 1 c.args.places.now) in
-    (ArePositionLists-step c.loop-place.doc c.loop-place.list.items _ rest c.loop-place.place-index d _ c.loop-place-test.true refl refl c.loop-place.invariant.1).0
+    (ArePositionLists-step c.loop-place.doc c.loop-place.list.items _ rest c.loop-place.place-index d _ c.loop-place-test.true refl refl
+    c.loop-place.invariant.1).0
 
 pub loop-place-preserved : goal.loop-place-preserved
 loop-place-preserved c =
     let d : Place = record { doc = 0; position = 0 } in
     let l = c.loop-place in
     let rest = take (length c.args.places.now - 1) (drop 1 c.args.places.now) in (
-      position_lists-step (logged_position_lists c.args.lists.now ++ position_lists_of c.args.places.now) (logged_position_lists l.lists) (logged_position_lists c.push_place.new.lists) l.doc l.list.items c.push_place.new.list.items rest l.place-index d _ c.loop-place-test.true refl
+      position_lists-step (logged_position_lists c.args.lists.now ++ position_lists_of c.args.places.now) (logged_position_lists l.lists)
+          (logged_position_lists c.push_place.new.lists) l.doc l.list.items c.push_place.new.list.items rest l.place-index d _ c.loop-place-test.true refl
           c.in_ok-push_place.ensures.positions c.in_ok-push_place.ensures.list l.invariant.0,
-      (ArePositionLists-step l.doc l.list.items c.push_place.new.list.items rest l.place-index d _ c.loop-place-test.true refl c.in_ok-push_place.ensures.list l.invariant.1).1,
+      (ArePositionLists-step l.doc l.list.items c.push_place.new.list.items rest l.place-index d _ c.loop-place-test.true refl c.in_ok-push_place.ensures.list
+          l.invariant.1).1,
       c.in_ok-push_place.ensures.is,
     )
 
 pub push-requires-2-clause-list : goal.push-requires-2-clause-list
 push-requires-2-clause-list c =
     let rest = take (length c.args.places.now - 1) (drop 1 c.args.places.now) in
-    subst IsPositionList (sym c.deref.ensures.value) (ArePositionLists-end c.loop-place.doc c.loop-place.list.items rest c.loop-place.place-index (omega arith) c.loop-place.invariant.1)
+    subst IsPositionList (sym c.deref.ensures.value) (ArePositionLists-end c.loop-place.doc c.loop-place.list.items rest c.loop-place.place-index (omega arith)
+    c.loop-place.invariant.1)

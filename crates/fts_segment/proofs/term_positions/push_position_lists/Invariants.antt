@@ -5,5 +5,7 @@ use Rattle.fts_segment.specs.PositionListLogs.{IsPositionListLog, logged_positio
 use Rattle.fts_segment.proofs.term_positions.push_position_lists.Given as goal
 
 abbrev pub invariant-loop-place : goal.invariant-loop-place
-invariant-loop-place l = (logged_position_lists l.lists ++ position_lists_from l.doc l.list.items (drop l.place-index l.rest) ≡ logged_position_lists l.fn.lists ++ position_lists_of l.places)
+invariant-loop-place l =
+    (logged_position_lists l.lists ++ position_lists_from l.doc l.list.items (drop l.place-index l.rest) ≡ logged_position_lists l.fn.lists ++ position_lists_of
+    l.places)
     × All IsPositionList (position_lists_from l.doc l.list.items (drop l.place-index l.rest)) × IsPositionListLog l.lists

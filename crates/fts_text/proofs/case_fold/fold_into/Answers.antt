@@ -21,7 +21,9 @@ pub returns-in-Err-clause-full : goal.returns-in-Err-clause-full
 unfolding folded
 returns-in-Err-clause-full c =
     let kept = c.loop-c.invariant.2 in
-    let fits = length-fold_chars-step (chars_rest c.loop-c.c-iterator) (chars_rest c.next.new.self) (string_bytes c.loop-c.out) (string_bytes c.args.out.now ++ fold_chars (chars c.args.span.now)) c.in-Some.c c.fold_char.result kept.text c.in-Some.ensures.steps.0 c.fold_char.ensures kept.whole in
+    let fits = length-fold_chars-step (chars_rest c.loop-c.c-iterator) (chars_rest c.next.new.self) (string_bytes c.loop-c.out)
+    (string_bytes c.args.out.now ++ fold_chars (chars c.args.span.now)) c.in-Some.c c.fold_char.result kept.text c.in-Some.ensures.steps.0
+    c.fold_char.ensures kept.whole in
     let both = length-append (string_bytes c.args.out.now) (fold_chars (chars c.args.span.now)) in
     let full = c.in-Err.ensures.full in
     omega (arith, kept.capacity, c.args.out.now.bytes.ok.0, c.loop-c.out.bytes.ok.0)
@@ -36,8 +38,10 @@ loop-c-preserved c =
       tt,
       record {
         text = IsUtf8-past_char before after c.in-Some.c kept.text begins;
-        begins = begins-step (string_bytes c.loop-c.out) (encode_utf8 c.fold_char.result) (string_bytes c.push.new.self) (string_bytes c.args.out.now) c.len-len.result kept.begins (omega (arith, c.args.out.now.bytes.ok.0)) c.in_default.ensures.bytes;
-        whole = fold_chars-step before after (string_bytes c.loop-c.out) (string_bytes c.push.new.self) _ c.in-Some.c c.fold_char.result kept.text begins c.fold_char.ensures c.in_default.ensures.bytes kept.whole;
+        begins = begins-step (string_bytes c.loop-c.out) (encode_utf8 c.fold_char.result) (string_bytes c.push.new.self) (string_bytes c.args.out.now)
+            c.len-len.result kept.begins (omega (arith, c.args.out.now.bytes.ok.0)) c.in_default.ensures.bytes;
+        whole = fold_chars-step before after (string_bytes c.loop-c.out) (string_bytes c.push.new.self) _ c.in-Some.c c.fold_char.result kept.text begins
+            c.fold_char.ensures c.in_default.ensures.bytes kept.whole;
         capacity = omega (arith, kept.capacity, c.in_default.ensures.capacity);
       },
     )

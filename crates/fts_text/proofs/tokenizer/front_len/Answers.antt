@@ -33,5 +33,6 @@ returns-in-None-clause-len c =
 pub returns-then-is_alphanumeric-alphanumeric-clause-len : goal.returns-then-is_alphanumeric-alphanumeric-clause-len
 returns-then-is_alphanumeric-alphanumeric-clause-len c =
     let other = rw c.is_alphanumeric.ensures at c.if-is_alphanumeric-alphanumeric.true in
-    let none = front_len-stop c.args.alphanumeric (chars_rest c.loop-c.c-iterator) (chars_rest c.next.new.self) c.in-Some.c c.loop-c.invariant.2.text c.in-Some.ensures.steps.0 other in
+    let none = front_len-stop c.args.alphanumeric (chars_rest c.loop-c.c-iterator) (chars_rest c.next.new.self) c.in-Some.c c.loop-c.invariant.2.text
+    c.in-Some.ensures.steps.0 other in
     omega (arith, c.loop-c.invariant.2.counted)

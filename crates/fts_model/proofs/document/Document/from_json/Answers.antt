@@ -14,4 +14,5 @@ returns-in-Some-fault_of_members-clause-refused c =
     let members = members_view c.in-Some.members.now.entries in
     let is : view c.args.json.now ≡ object members = search rules in
     let found = object_with_fault c.args.schema.now members c.in-Some-fault_of_members.fault (sym c.in-Some-fault_of_members.is ∙ c.fault_of_members.ensures) in
-    one_error (document_of c.args.schema.now (view c.args.json.now)) c.in-Some-fault_of_members.fault fault (ap (document_of c.args.schema.now) is ∙ found) wanted
+    one_error (document_of c.args.schema.now (view c.args.json.now)) c.in-Some-fault_of_members.fault fault (ap (document_of c.args.schema.now) is ∙ found)
+    wanted

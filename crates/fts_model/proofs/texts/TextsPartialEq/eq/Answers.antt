@@ -14,7 +14,8 @@ returns-then-ne c =
     let h : n < length xs = omega (arith, c.loop-number-test.true, c.len-number-end.ensures) in
     let l : n < length ys = omega (arith, h, c.if-len.false, c.len.ensures, c.len-2.ensures) in
     let apart : bytes_eq (get_or xs n []) (get_or ys n []) ≡ false =
-    ap (λ x. bytes_eq x (get_or ys n [])) (sym c.get.ensures) ∙ ap (bytes_eq c.get.result.now) (sym c.get-in-loop-number.ensures) ∙ not-true _ (sym c.ne.ensures ∙ c.if-ne.true) in
+    ap (λ x. bytes_eq x (get_or ys n [])) (sym c.get.ensures) ∙ ap (bytes_eq c.get.result.now) (sym c.get-in-loop-number.ensures)
+    ∙ not-true _ (sym c.ne.ensures ∙ c.if-ne.true) in
     sym (sym c.loop-number.invariant ∙ pointwise-step xs ys n h l ∙ ap (λ b. b && pointwise bytes_eq (drop (n + 1) xs) (drop (n + 1) ys)) apart)
 
 pub loop-number-preserved : goal.loop-number-preserved
@@ -25,7 +26,8 @@ loop-number-preserved c =
     let h : n < length xs = omega (arith, c.loop-number-test.true, c.len-number-end.ensures) in
     let l : n < length ys = omega (arith, h, c.if-len.false, c.len.ensures, c.len-2.ensures) in
     let same : bytes_eq (get_or xs n []) (get_or ys n []) ≡ true =
-    ap (λ x. bytes_eq x (get_or ys n [])) (sym c.get.ensures) ∙ ap (bytes_eq c.get.result.now) (sym c.get-in-loop-number.ensures) ∙ not-false _ (sym c.ne.ensures ∙ c.if-ne.false) in
+    ap (λ x. bytes_eq x (get_or ys n [])) (sym c.get.ensures) ∙ ap (bytes_eq c.get.result.now) (sym c.get-in-loop-number.ensures)
+    ∙ not-false _ (sym c.ne.ensures ∙ c.if-ne.false) in
     sym (pointwise-step xs ys n h l ∙ ap (λ b. b && pointwise bytes_eq (drop (n + 1) xs) (drop (n + 1) ys)) same) ∙ c.loop-number.invariant
 
 pub returns : goal.returns

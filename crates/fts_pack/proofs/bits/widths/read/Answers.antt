@@ -7,4 +7,5 @@ returns c =
     let bit = c.args.index * c.args.width in
     let low : c.unwrap_or-low.result ≡ get_or c.args.words.now (bit / 64) 0 = search rules in
     let high : c.unwrap_or-high.result ≡ get_or c.args.words.now (bit / 64 + 1) 0 = search rules in
-    read_pair 64 c.args.width bit _ _ c.args.words.now (omega arith) c.requires.narrow (Below-64 c.args.words.now c.type_inv.words) (c.from-2.ensures ∙ low) (c.from.ensures ∙ high)
+    read_pair 64 c.args.width bit _ _ c.args.words.now (omega arith) c.requires.narrow (Below-64 c.args.words.now c.type_inv.words) (c.from-2.ensures ∙ low)
+    (c.from.ensures ∙ high)

@@ -10,8 +10,12 @@ loop-value-preserved c =
     let index = c.loop-value.value-index in
     let more = take_more values index None c.loop-value-test.true in
     elim c.match-value.branch [
-      | in-Some w ↦ (let front : take (index + 1) values ≡ take index values ++ Some w.in-Some.value ∷ [] = more ∙ ap (λ v. take index values ++ v ∷ []) w.in-Some.is in
-          rw (front, w.range-is, w.widened.ensures) (IsRangeOf-present (take index values) c.loop-value.range w.in-Some.value c.loop-value.invariant.0, range_with-fits c.loop-value.range w.in-Some.value c.loop-value.invariant.1 (omega arith)))
+      | in-Some w ↦ (let front : take (index + 1) values ≡ take index values ++ Some w.in-Some.value ∷ [] = more ∙ ap (λ v. take index values ++ v ∷ [])
+          w.in-Some.is in
+          rw (front, w.range-is, w.widened.ensures) (
+            IsRangeOf-present (take index values) c.loop-value.range w.in-Some.value c.loop-value.invariant.0,
+            range_with-fits c.loop-value.range w.in-Some.value c.loop-value.invariant.1 (omega arith),
+          ))
       | in_default w ↦ (let front : take (index + 1) values ≡ take index values ++ None ∷ [] = more ∙ ap (λ v. take index values ++ v ∷ []) w.in_default.is in
           rw (front, w.range-is) (IsRangeOf-missing (take index values) c.loop-value.range c.loop-value.invariant.0, c.loop-value.invariant.1))
     ]

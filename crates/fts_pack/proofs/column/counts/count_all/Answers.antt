@@ -9,7 +9,8 @@ pub count_one-requires : goal.count_one-requires
 count_one-requires g c =
     let doc = get_or c.args.docs.now c.loop-doc.doc-index 0 in
     let found = c.in-Some.ensures.lookup in
-    let number : c.number.result ≡ get_or (map g.L.Lane.value c.args.lanes.now) doc 0 = number_of_lane g.L.Lane.value c.args.lanes.now doc _ _ found.3.0 found.1 c.number.ensures in
+    let number : c.number.result ≡ get_or (map g.L.Lane.value c.args.lanes.now) doc 0 =
+    number_of_lane g.L.Lane.value c.args.lanes.now doc _ _ found.3.0 found.1 c.number.ensures in
     omega (arith, number, c.requires doc found.3.0, c.loop-doc.invariant.long)
 
 pub loop-doc-preserved : goal.loop-doc-preserved
@@ -24,6 +25,9 @@ loop-doc-preserved g c =
       | in-Some w ↦ (
           let found = w.in-Some.ensures.lookup in
           let number : w.number.result ≡ get_or numbers doc 0 = number_of_lane g.L.Lane.value lanes doc _ _ found.3.0 found.1 w.number.ensures in
-          rw (w.counts-is, w.count_one.ensures) (AreCounted-more (slice_get numbers) docs c.args.counts.now c.loop-doc.counts index w.number.result c.loop-doc-test.true (omega (arith, number, c.requires doc found.3.0, c.loop-doc.invariant.long)) (slice_get-get_or numbers doc 0 (omega (arith, size, found.3.0)) ∙ ap Some (sym number)) c.loop-doc.invariant))
-      | in_default w ↦ rw w.counts-is (AreCounted-missing (slice_get numbers) docs c.args.counts.now c.loop-doc.counts index c.loop-doc-test.true (slice_get_past numbers doc (omega (arith, size, w.in_default.ensures.lookup.3))) c.loop-doc.invariant)
+          rw (w.counts-is, w.count_one.ensures) (AreCounted-more (slice_get numbers) docs c.args.counts.now c.loop-doc.counts index w.number.result
+          c.loop-doc-test.true (omega (arith, number, c.requires doc found.3.0, c.loop-doc.invariant.long))
+          (slice_get-get_or numbers doc 0 (omega (arith, size, found.3.0)) ∙ ap Some (sym number)) c.loop-doc.invariant))
+      | in_default w ↦ rw w.counts-is (AreCounted-missing (slice_get numbers) docs c.args.counts.now c.loop-doc.counts index c.loop-doc-test.true
+          (slice_get_past numbers doc (omega (arith, size, w.in_default.ensures.lookup.3))) c.loop-doc.invariant)
     ]

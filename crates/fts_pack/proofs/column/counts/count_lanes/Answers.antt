@@ -19,5 +19,6 @@ returns-then-count_ones-len g c =
     let lanes = c.args.lanes.now in
     let len = c.len-len.result in
     AreCounted-same (slice_get (map value (take len lanes))) (number_at present (map value lanes)) c.args.docs.now c.args.counts.now c.count_all.new.counts
-    (λ doc. every_number value present lanes len doc c.len-len.ensures (sym c.count_ones.ensures ∙ c.if-count_ones-len.true) (omega (arith, c.requires.enough, c.len-len.ensures)))
+    (λ doc. every_number value present lanes len doc c.len-len.ensures (sym c.count_ones.ensures ∙ c.if-count_ones-len.true)
+    (omega (arith, c.requires.enough, c.len-len.ensures)))
     c.count_all.ensures

@@ -2,12 +2,14 @@ use Rattle.std.proofs.Common.{◌≡◌, ◌∙◌, ap, arith, get_or, map, None
 use Rattle.fts_pack.specs.column.Lanes.{number_at}
 use Rattle.fts_pack.proofs.CountsLemmas.{AreCounted-missing, AreCounted-more, number_at-clear, number_at-past, number_at-set, number_of_lane}
 use Rattle.fts_pack.proofs.column.counts.count_present.Goals as goal
-use Rattle.fts_pack.proofs.column.counts.count_present.Goals.{then-doc-len+then-get, else-doc-len, else-doc-len-via-then-doc-len+else-get, else-doc-len-via-else-doc-len}
+use Rattle.fts_pack.proofs.column.counts.count_present.Goals.{then-doc-len+then-get, else-doc-len, else-doc-len-via-then-doc-len+else-get}
+use Rattle.fts_pack.proofs.column.counts.count_present.Goals.{else-doc-len-via-else-doc-len}
 
 pub count_one-requires : goal.count_one-requires
 count_one-requires g c =
     let doc = get_or c.args.docs.now c.loop-doc.doc-index 0 in
-    let number : c.number.result ≡ get_or (map g.L.Lane.value c.args.lanes.now) doc 0 = number_of_lane g.L.Lane.value c.args.lanes.now doc _ _ (omega arith) c.index-lanes-doc.is c.number.ensures in
+    let number : c.number.result ≡ get_or (map g.L.Lane.value c.args.lanes.now) doc 0 =
+    number_of_lane g.L.Lane.value c.args.lanes.now doc _ _ (omega arith) c.index-lanes-doc.is c.number.ensures in
     omega (arith, number, c.requires.within doc)
 
 pub loop-doc-preserved : goal.loop-doc-preserved
@@ -22,7 +24,9 @@ loop-doc-preserved g c =
     elim c.if-doc-len.branch [
       | then-doc-len+then-get w ↦ (
           let is : w.number.result ≡ get_or numbers doc 0 = number_of_lane g.L.Lane.value lanes doc _ _ (omega arith) w.index-lanes-doc.is w.number.ensures in
-          rw (w.counts-is, w.count_one.ensures, is) (AreCounted-more number docs c.args.counts.now c.loop-doc.counts index (get_or numbers doc 0) c.loop-doc-test.true (omega (arith, c.requires.within doc)) (number_at-set present numbers doc (w.get.ensures ∙ ap Some w.if-get.true)) c.loop-doc.invariant))
+          rw (w.counts-is, w.count_one.ensures, is) (AreCounted-more number docs c.args.counts.now c.loop-doc.counts index (get_or numbers doc 0)
+          c.loop-doc-test.true (omega (arith, c.requires.within doc)) (number_at-set present numbers doc (w.get.ensures ∙ ap Some w.if-get.true))
+          c.loop-doc.invariant))
       | else-doc-len w ↦ (
           let none : number doc ≡ None = elim w.else-doc-len.branch [
             | else-doc-len-via-then-doc-len+else-get v ↦ number_at-clear present numbers doc (v.get.ensures ∙ ap Some v.if-get.false)

@@ -14,5 +14,6 @@ returns-then-count_ones-len g c =
     let low = c.args.low in
     let high = c.args.high in
     IsLastWithin-same (slice_get (map value (take len lanes))) (number_at present (map value lanes)) low high low high c.args.docs.now c.last_of_all.result
-    (λ doc. ap (is_within low high) (every_number value present lanes len doc c.len-len.ensures (sym c.count_ones.ensures ∙ c.if-count_ones-len.true) (omega (arith, c.requires, c.len-len.ensures))))
+    (λ doc. ap (is_within low high) (every_number value present lanes len doc c.len-len.ensures (sym c.count_ones.ensures ∙ c.if-count_ones-len.true)
+    (omega (arith, c.requires, c.len-len.ensures))))
     c.last_of_all.ensures

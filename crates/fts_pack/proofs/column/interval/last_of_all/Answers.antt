@@ -25,4 +25,5 @@ loop-place-preserved g c =
     let docs = c.args.docs.now in
     let numbers = map g.L.Lane.value lanes in
     NoneWithin-before (slice_get numbers) c.args.low c.args.high docs c.loop-place.place c.loop-place-test.true c.loop-place.invariant
-    (ap (is_within c.args.low c.args.high) (slice_get_past numbers (get_or docs (c.loop-place.place - 1) 0) (omega (arith, length-map lanes g.L.Lane.value, c.in_default.ensures.lookup.3))))
+    (ap (is_within c.args.low c.args.high) (slice_get_past numbers (get_or docs (c.loop-place.place - 1) 0)
+    (omega (arith, length-map lanes g.L.Lane.value, c.in_default.ensures.lookup.3))))

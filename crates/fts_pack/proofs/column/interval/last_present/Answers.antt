@@ -4,7 +4,8 @@ use Rattle.fts_pack.specs.column.Lanes.{number_at}
 use Rattle.fts_pack.proofs.CountsLemmas.{number_at-clear, number_at-past, number_at-set, number_of_lane}
 use Rattle.fts_pack.proofs.IntervalLemmas.{NoneWithin-before}
 use Rattle.fts_pack.proofs.column.interval.last_present.Goals as goal
-use Rattle.fts_pack.proofs.column.interval.last_present.Goals.{else-doc-len-via-then-doc-len+then-get+else-is_between, else-doc-len-via-then-doc-len+else-get, else-doc-len-via-else-doc-len}
+use Rattle.fts_pack.proofs.column.interval.last_present.Goals.{else-doc-len-via-then-doc-len+then-get+else-is_between, else-doc-len-via-then-doc-len+else-get}
+use Rattle.fts_pack.proofs.column.interval.last_present.Goals.{else-doc-len-via-else-doc-len}
 
 pub loop-place-preserved : goal.loop-place-preserved
 loop-place-preserved g c =

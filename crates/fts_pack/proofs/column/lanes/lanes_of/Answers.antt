@@ -16,7 +16,8 @@ pub loop-value-preserved : goal.loop-value-preserved
 loop-value-preserved g c =
     let numbers = offsets c.args.least c.args.values.now in
     let index = c.loop-value.value-index in
-    rw c.in_ok-push.ensures.items (lanes_more g.L.Lane.value numbers c.loop-value.lanes.items c.of.result index c.loop-value.invariant (omega (arith, c.loop-value-test.true, length-offsets c.args.least c.args.values.now))
+    rw c.in_ok-push.ensures.items (lanes_more g.L.Lane.value numbers c.loop-value.lanes.items c.of.result index c.loop-value.invariant
+    (omega (arith, c.loop-value-test.true, length-offsets c.args.least c.args.values.now))
     (c.of.ensures ∙ c.offset.ensures ∙ sym (offset_at c.args.least index 0 c.args.values.now c.loop-value-test.true)))
 
 pub returns : goal.returns
@@ -24,4 +25,6 @@ returns g c =
     let values = c.args.values.now in
     let numbers = offsets c.args.least values in
     let size : length numbers ≡ c.loop-value.value-index = omega (arith, length-offsets c.args.least values) in
-    rw c.in_ok-resize.ensures.items (lanes_filled g.L.Lane.value numbers c.loop-value.lanes.items c.of-2.result c.loop-value.lanes.len c.lane_count-count.result c.loop-value.value-index c.loop-value.invariant size c.loop-value.lanes.ok.0 (omega (arith, size, length-offsets c.args.least values)) c.lane_count-count.ensures.whole)
+    rw c.in_ok-resize.ensures.items (lanes_filled g.L.Lane.value numbers c.loop-value.lanes.items c.of-2.result c.loop-value.lanes.len c.lane_count-count.result
+    c.loop-value.value-index c.loop-value.invariant size c.loop-value.lanes.ok.0 (omega (arith, size, length-offsets c.args.least values))
+    c.lane_count-count.ensures.whole)

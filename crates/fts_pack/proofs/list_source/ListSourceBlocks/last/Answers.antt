@@ -8,4 +8,5 @@ last-requires c = omega (arith, c.requires, length-blocks_of c.args.self.now.lis
 
 pub returns : goal.returns
 returns c =
-    c.last.ensures ∙ ap last_of (sym (get_or-blocks_of c.args.self.now.list.now c.args.block [] (omega (arith, c.requires, length-blocks_of c.args.self.now.list.now))))
+    c.last.ensures ∙ ap last_of
+    (sym (get_or-blocks_of c.args.self.now.list.now c.args.block [] (omega (arith, c.requires, length-blocks_of c.args.self.now.list.now))))

@@ -7,8 +7,10 @@ open-requires c = omega (arith, c.requires, length-blocks_of c.args.self.now.lis
 
 pub returns-clause-count : goal.returns-clause-count
 returns-clause-count c =
-    c.open.ensures.count ∙ ap length (sym (get_or-blocks_of c.args.self.now.list.now c.args.block [] (omega (arith, c.requires, length-blocks_of c.args.self.now.list.now))))
+    c.open.ensures.count ∙ ap length
+    (sym (get_or-blocks_of c.args.self.now.list.now c.args.block [] (omega (arith, c.requires, length-blocks_of c.args.self.now.list.now))))
 
 pub returns-clause-documents : goal.returns-clause-documents
 returns-clause-documents c =
-    c.open.ensures.documents ∙ sym (get_or-blocks_of c.args.self.now.list.now c.args.block [] (omega (arith, c.requires, length-blocks_of c.args.self.now.list.now)))
+    c.open.ensures.documents
+    ∙ sym (get_or-blocks_of c.args.self.now.list.now c.args.block [] (omega (arith, c.requires, length-blocks_of c.args.self.now.list.now)))

@@ -8,12 +8,20 @@ use Rattle.fts_pack.proofs.LongListLemmas.{Reads, block_read, long_blocks}
 use Rattle.fts_pack.proofs.SumLemmas.{documents_kept}
 use Rattle.fts_pack.proofs.long_list.LongList.open.Goals as goal
 
-reads : (list : Inside) (value : List ℕ) (block : ℕ) (skip : Skip) → kept_documents list.words.items 0 list.count list.skips.items ≡ value → IsLongList list.count list.skips.items list.words.items → block < block_count (length value) → skip ≡ get_or list.skips.items block skip → Reads value list.count list.words.items block skip
+reads : (list : Inside) (value : List ℕ) (block : ℕ) (skip : Skip) → kept_documents list.words.items 0 list.count list.skips.items ≡ value →
+    IsLongList list.count list.skips.items list.words.items → block < block_count (length value) → skip ≡ get_or list.skips.items block skip →
+    Reads value list.count list.words.items block skip
 reads list value block skip = block_read value list.count list.skips.items list.words.items block skip
 
 pub index-requires : goal.index-requires
 index-requires c =
-    omega (arith, c.requires, c.self.inside.skips.ok, long_blocks c.args.self.now c.self.inside.count c.self.inside.skips.items c.self.inside.words.items c.self.view_is c.self.invariant)
+    omega (
+      arith,
+      c.requires,
+      c.self.inside.skips.ok,
+      long_blocks c.args.self.now c.self.inside.count c.self.inside.skips.items c.self.inside.words.items
+          c.self.view_is c.self.invariant,
+    )
 
 pub split_at-requires : goal.split_at-requires
 split_at-requires c =
@@ -47,7 +55,10 @@ pub returns-clause-documents : goal.returns-clause-documents
 returns-clause-documents c =
     let r = reads c.self.inside c.args.self.now c.args.block c.index.result.now c.self.view_is c.self.invariant c.requires c.index.ensures in
     let skip = c.index.result.now in
-    let words : c.split_at.result.1.now ≡ drop skip.block.start c.self.inside.words.items = c.split_at.ensures.back ∙ ap (drop skip.block.start) c.deref.ensures.value in
-    let numbers : c.unpack.new.out ≡ numbers_in_lanes skip.block.width (drop skip.block.start c.self.inside.words.items) = c.unpack.ensures ∙ ap (numbers_in_lanes skip.block.width) words in
-    let here : documents_at c.first.result (take c.min.result c.unpack.new.out) ≡ block_at c.args.self.now c.args.block = ap₂ documents_at c.first.ensures (ap₂ take c.min.ensures numbers) ∙ r.documents_are in
+    let words : c.split_at.result.1.now ≡ drop skip.block.start c.self.inside.words.items =
+    c.split_at.ensures.back ∙ ap (drop skip.block.start) c.deref.ensures.value in
+    let numbers : c.unpack.new.out ≡ numbers_in_lanes skip.block.width (drop skip.block.start c.self.inside.words.items) =
+    c.unpack.ensures ∙ ap (numbers_in_lanes skip.block.width) words in
+    let here : documents_at c.first.result (take c.min.result c.unpack.new.out) ≡ block_at c.args.self.now c.args.block =
+    ap₂ documents_at c.first.ensures (ap₂ take c.min.ensures numbers) ∙ r.documents_are in
     ap (take c.min.result) c.add_up.ensures ∙ documents_kept c.first.result c.min.result c.unpack.new.out (rw here r.fits) ∙ here

@@ -3,8 +3,10 @@ use Rattle.fts_segment.proofs.decoded_list.Unpacked.enter.Goals as goal
 
 pub invariant_of-self : goal.invariant_of-self
 invariant_of-self c =
-    let h = opened c.args.self.now.numbers.now c.args.index c.open-self.result c.open-self.new.out c.requires c.open-self.ensures.count c.open-self.ensures.numbers in
+    let h = opened c.args.self.now.numbers.now c.args.index c.open-self.result c.open-self.new.out c.requires c.open-self.ensures.count
+    c.open-self.ensures.numbers in
     record { few = c.args.self.now.few; near = h.near; within = h.within; are = h.are }
 
 pub returns-clause-to : goal.returns-clause-to
-returns-clause-to c = (opened c.args.self.now.numbers.now c.args.index c.open-self.result c.open-self.new.out c.requires c.open-self.ensures.count c.open-self.ensures.numbers).to
+returns-clause-to c =
+    (opened c.args.self.now.numbers.now c.args.index c.open-self.result c.open-self.new.out c.requires c.open-self.ensures.count c.open-self.ensures.numbers).to

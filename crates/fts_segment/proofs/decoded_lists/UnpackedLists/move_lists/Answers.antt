@@ -1,4 +1,5 @@
-use Rattle.std.proofs.Common.{◌≡◌, ◌+◌, ◌-◌, ◌<◌, ◌≤◌, ◌^◌, ◌++◌, ℕ, List, [], All, length, take, drop, sum, min, ap, ap₂, sym, subst, ◌∙◌, arith, append-nil, length-append}
+use Rattle.std.proofs.Common.{◌≡◌, ◌+◌, ◌-◌, ◌<◌, ◌≤◌, ◌^◌, ◌++◌, ℕ, List, [], All, length, take, drop, sum, min, ap, ap₂, sym, subst, ◌∙◌, arith, append-nil}
+use Rattle.std.proofs.Common.{length-append}
 use Rattle.std.specs.Prelude.{slice_range}
 use Rattle.std.proofs.lemmas.List.{drop_at, take_all}
 use Rattle.std.proofs.lemmas.List.Elements.{All-take, All-drop}
@@ -16,11 +17,13 @@ returns-then-start-end-clause-moved c =
     let lists = lists_in self in
     let none : slice_range lists c.args.start c.args.end ≡ [] =
     sym (range_min lists c.args.start c.args.end)
-    ∙ range_none lists c.args.start (min c.args.end (length lists)) (omega (arith, c.if-start-end.true, c.min-end.ensures, c.len.ensures, length-position_lists_at self.counts.numbers.now self.gaps.numbers.now)) in
+    ∙ range_none lists c.args.start (min c.args.end (length lists))
+    (omega (arith, c.if-start-end.true, c.min-end.ensures, c.len.ensures, length-position_lists_at self.counts.numbers.now self.gaps.numbers.now)) in
     sym (ap (λ ls. logged_position_lists c.args.log.now ++ ls) none ∙ append-nil (logged_position_lists c.args.log.now))
 
 -- the counts that were copied
-some_of : (c : After-deref) → take (length c.deref.result.now - c.len-first.result) (drop c.len-first.result c.deref.result.now) ≡ slice_range c.seek.new.self.counts.numbers.now c.args.start c.min-end.result
+some_of : (c : After-deref) → take (length c.deref.result.now - c.len-first.result) (drop c.len-first.result c.deref.result.now)
+    ≡ slice_range c.seek.new.self.counts.numbers.now c.args.start c.min-end.result
 some_of c =
     let old = c.args.log.now.counts in
     let some = slice_range c.seek.new.self.counts.numbers.now c.args.start c.min-end.result in
@@ -31,11 +34,21 @@ some_of c =
     ∙ take_all (length c.deref.result.now - c.len-first.result) some (omega (arith, ap length all, length-append old.items some, first))
 
 -- the positions of these lists lie within the differences
-within_of : (c : After-deref) → c.seek.new.self.start + sum (take (length c.deref.result.now - c.len-first.result) (drop c.len-first.result c.deref.result.now)) ≤ length c.seek.new.self.gaps.numbers.now
+within_of : (c : After-deref) → c.seek.new.self.start + sum (take (length c.deref.result.now - c.len-first.result) (drop c.len-first.result c.deref.result.now))
+    ≤ length c.seek.new.self.gaps.numbers.now
 within_of c =
     let s = c.seek.new.self in
     let counts = s.counts.numbers.now in
-    omega (arith, ap sum (some_of c), sum-range counts c.args.start c.min-end.result (omega (arith, c.if-start-end.false)), s.begins, ap (λ n. sum (take n counts)) c.seek.ensures.there, sum-within counts c.min-end.result, s.whole)
+    omega (
+      arith,
+      ap sum (some_of c),
+      sum-range counts c.args.start c.min-end.result (omega (arith, c.if-start-end.false)),
+      s.begins,
+      ap
+          (λ n. sum (take n counts)) c.seek.ensures.there,
+      sum-within counts c.min-end.result,
+      s.whole,
+    )
 
 pub total-positions-requires : goal.total-positions-requires
 total-positions-requires c =
@@ -77,13 +90,15 @@ invariant_of-self-2 c =
     }
 
 -- the lists that are moved, where `many` are their positions
-moved_of : (c : After-deref) (many : ℕ) → many ≡ sum (take (length c.deref.result.now - c.len-first.result) (drop c.len-first.result c.deref.result.now)) → let s = c.seek.new.self in
+moved_of : (c : After-deref) (many : ℕ) → many ≡ sum (take (length c.deref.result.now - c.len-first.result) (drop c.len-first.result c.deref.result.now)) →
+    let s = c.seek.new.self in
     position_lists_at (slice_range s.counts.numbers.now c.args.start c.min-end.result) (slice_range s.gaps.numbers.now s.start (s.start + many))
     ≡ slice_range (position_lists_at s.counts.numbers.now s.gaps.numbers.now) c.args.start c.min-end.result
 moved_of c many is =
     let s = c.seek.new.self in
     let counts = s.counts.numbers.now in
-    range-position_lists_at c.args.start c.min-end.result s.start many counts s.gaps.numbers.now (s.begins ∙ ap (λ n. sum (take n counts)) c.seek.ensures.there) (is ∙ ap sum (some_of c))
+    range-position_lists_at c.args.start c.min-end.result s.start many counts s.gaps.numbers.now (s.begins ∙ ap (λ n. sum (take n counts)) c.seek.ensures.there)
+    (is ∙ ap sum (some_of c))
 
 pub returns-clause-is : goal.returns-clause-is
 returns-clause-is c =
@@ -96,10 +111,12 @@ returns-clause-is c =
     let others = slice_range gaps s.start (s.start + c.total-positions.result) in
     let Each : List ℕ → Type 0 = λ list. All (λ p. p < 2 ^ 32) list in
     let within : s.start + c.total-positions.result ≤ length gaps = omega (arith, c.total-positions.ensures, within_of a) in
-    let whole : sum some ≡ length others = sym (ap sum (some_of a)) ∙ sym c.total-positions.ensures ∙ sym (length-range gaps s.start c.total-positions.result within) in
+    let whole : sum some ≡ length others = sym (ap sum (some_of a)) ∙ sym c.total-positions.ensures
+    ∙ sym (length-range gaps s.start c.total-positions.result within) in
     let few : length (log.gaps.items ++ others) < 2 ^ 64 = omega (arith, ap length c.in_ok-copy-2.ensures.copied, c.copy-2.new.out.ok.0) in
     let fit = subst (All Each) (sym (moved_of a c.total-positions.result c.total-positions.ensures))
-    (All-take Each (c.min-end.result - c.args.start) (drop c.args.start (position_lists_at counts gaps)) (All-drop Each c.args.start (position_lists_at counts gaps) s.fit)) in
+    (All-take Each (c.min-end.result - c.args.start) (drop c.args.start (position_lists_at counts gaps))
+    (All-drop Each c.args.start (position_lists_at counts gaps) s.fit)) in
     rw (c.in_ok-copy.ensures.copied, c.in_ok-copy-2.ensures.copied) (AreLogged-append log.counts.items some log.gaps.items others c.requires whole few fit)
 
 pub returns-clause-moved : goal.returns-clause-moved
@@ -111,9 +128,11 @@ returns-clause-moved c =
     let some = slice_range counts c.args.start c.min-end.result in
     let others = slice_range gaps s.start (s.start + c.total-positions.result) in
     let lists = position_lists_at counts gaps in
-    let end : c.min-end.result ≡ min c.args.end (length lists) = omega (arith, c.min-end.ensures, c.len.ensures, ap length c.seek.ensures.counts, length-position_lists_at counts gaps) in
+    let end : c.min-end.result ≡ min c.args.end (length lists) =
+    omega (arith, c.min-end.ensures, c.len.ensures, ap length c.seek.ensures.counts, length-position_lists_at counts gaps) in
     ap₂ position_lists_at c.in_ok-copy.ensures.copied c.in_ok-copy-2.ensures.copied
     ∙ position_lists_at-append log.counts.items some log.gaps.items others c.requires.whole
     ∙ ap (λ ls. logged_position_lists log ++ ls)
-    (moved_of (goal.at.returns-clause-moved c).After-deref c.total-positions.result c.total-positions.ensures ∙ ap (slice_range lists c.args.start) end ∙ range_min lists c.args.start c.args.end
+    (moved_of (goal.at.returns-clause-moved c).After-deref c.total-positions.result c.total-positions.ensures ∙ ap (slice_range lists c.args.start) end
+    ∙ range_min lists c.args.start c.args.end
     ∙ ap (λ ls. slice_range ls c.args.start c.args.end) (ap₂ position_lists_at c.seek.ensures.counts c.seek.ensures.gaps))

@@ -17,16 +17,19 @@ is_of c = sym c.number_in.ensures.number ∙ c.in_ok-number_in-in-Numbers.was
 pub returns-in_ok-number_in-in-Numbers-clause-none : goal.returns-in_ok-number_in-in-Numbers-clause-none
 returns-in_ok-number_in-in-Numbers-clause-none c vs a =
     let P : FieldIndex → Type 0 = IsFieldIndex c.args.kind vs in
-    if_none _ c.find.result c.find.ensures (λ absent. number_absent c.args.term.now c.in_ok-number_in-in-Numbers.field-0 (subst P c.in-Numbers.is a) (is_of c) c.number_in.ensures.fits absent)
+    if_none _ c.find.result c.find.ensures (λ absent. number_absent c.args.term.now c.in_ok-number_in-in-Numbers.field-0 (subst P c.in-Numbers.is a) (is_of c)
+    c.number_in.ensures.fits absent)
 
 pub returns-in_ok-number_in-in-Numbers-clause-some : goal.returns-in_ok-number_in-in-Numbers-clause-some
 returns-in_ok-number_in-in-Numbers-clause-some c =
     let P : FieldIndex → Type 0 = IsFieldIndex c.args.kind c.requires.0 in
     if_some _ _ _ c.find.result c.find.ensures (λ list found. λ none.
-    (number_found c.args.term.now c.in_ok-number_in-in-Numbers.field-0 found.0 (subst P c.in-Numbers.is c.requires.1) (is_of c) c.number_in.ensures.fits found.1).1 (sym found.2 ∙ none))
+    (number_found c.args.term.now c.in_ok-number_in-in-Numbers.field-0 found.0 (subst P c.in-Numbers.is c.requires.1) (is_of c) c.number_in.ensures.fits
+    found.1).1 (sym found.2 ∙ none))
 
 pub returns-in_ok-number_in-in-Numbers-clause-documents : goal.returns-in_ok-number_in-in-Numbers-clause-documents
 returns-in_ok-number_in-in-Numbers-clause-documents c vs a =
     let P : FieldIndex → Type 0 = IsFieldIndex c.args.kind vs in
     if_some _ _ _ c.find.result c.find.ensures (λ list found.
-    found.2 ∙ (number_found c.args.term.now c.in_ok-number_in-in-Numbers.field-0 found.0 (subst P c.in-Numbers.is a) (is_of c) c.number_in.ensures.fits found.1).0)
+    found.2 ∙ (number_found c.args.term.now c.in_ok-number_in-in-Numbers.field-0 found.0 (subst P c.in-Numbers.is a) (is_of c) c.number_in.ensures.fits
+    found.1).0)

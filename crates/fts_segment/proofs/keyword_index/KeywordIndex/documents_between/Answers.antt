@@ -15,7 +15,8 @@ index-requires c =
 pub index-requires-2 : goal.index-requires-2
 index-requires-2 c =
     let self = c.args.self.now in
-    let inside : c.min-start.result ≤ length self.dictionary.lists.items = omega (arith, c.min-start.ensures, c.min-end.ensures, ap length c.deref-lists.ensures.value) in
+    let inside : c.min-start.result ≤ length self.dictionary.lists.items =
+    omega (arith, c.min-start.ensures, c.min-end.ensures, ap length c.deref-lists.ensures.value) in
     omega (arith, sums-inside self.dictionary.lists.items self.sums.items c.min-start.result c.requires.1.sums inside, self.sums.ok.0)
 
 pub overflow_sub-result : goal.overflow_sub-result
@@ -41,9 +42,16 @@ returns c vs are =
     let size = ap length c.deref-lists.ensures.value in
     let inside : end ≤ length lists = omega (arith, size, c.min-end.ensures) in
     let from = min c.args.low (length lists) in
-    let between = total-between (ordinals_of kinds.Keyword vs) lists (λ k. k) (AreCounted-keywords vs self.dictionary are.terms are.texts) c.args.low c.args.high start from end
+    let between = total-between (ordinals_of kinds.Keyword vs) lists (λ k. k) (AreCounted-keywords vs self.dictionary are.terms are.texts) c.args.low
+    c.args.high start from end
     (omega arith) (λ k less. omega (arith, less)) (λ k more less. omega (arith, more, less))
     inside (λ k less. omega (arith, less, c.min-end.ensures, c.saturating_add.ensures))
     (λ k more less. omega (arith, more, less, size, c.min-end.ensures, c.saturating_add.ensures, c.deref-lists.type_inv.0, c.ranges.high.fits))
     (omega (arith, c.min-start.ensures, inside)) in
-    omega (arith, between, sums-read lists self.sums.items end c.index.result.now are.sums inside c.index.ensures, sums-read lists self.sums.items start c.index-2.result.now are.sums (omega (arith, c.min-start.ensures, inside)) c.index-2.ensures)
+    omega (
+      arith,
+      between,
+      sums-read lists self.sums.items end c.index.result.now are.sums inside c.index.ensures,
+      sums-read lists self.sums.items start
+          c.index-2.result.now are.sums (omega (arith, c.min-start.ensures, inside)) c.index-2.ensures,
+    )

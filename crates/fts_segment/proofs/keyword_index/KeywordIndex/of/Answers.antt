@@ -18,7 +18,8 @@ ordinals_of-requires-clause-ascends c = c.requires.terms.dictionary_is.ascends
 pub ordinals_of-requires-clause-whole : goal.ordinals_of-requires-clause-whole
 ordinals_of-requires-clause-whole c =
     let dictionary = c.args.dictionary in
-    names_are_texts (values_in c.args.field c.args.documents.now) dictionary.names dictionary.lists.items (term_position_lists dictionary.positions) c.requires.terms.dictionary_is
+    names_are_texts (values_in c.args.field c.args.documents.now) dictionary.names dictionary.lists.items (term_position_lists dictionary.positions)
+    c.requires.terms.dictionary_is
 
 pub sums_of-requires : goal.sums_of-requires
 sums_of-requires c =
@@ -36,7 +37,8 @@ returns c =
     record {
       kind_is = refl;
       terms = c.requires.terms;
-      texts = names_are_texts (values_in c.args.field c.args.documents.now) dictionary.names dictionary.lists.items (term_position_lists dictionary.positions) c.requires.terms.dictionary_is;
+      texts = names_are_texts (values_in c.args.field c.args.documents.now) dictionary.names dictionary.lists.items (term_position_lists dictionary.positions)
+          c.requires.terms.dictionary_is;
       ordinals = c.in-Ok.ensures.ok ∙ c.deref.ensures.value ∙ c.in_ok-values.ensures;
       sums = c.in_ok-sums.ensures ∙ ap (sums_from 0) c.deref-2.ensures.value;
     }

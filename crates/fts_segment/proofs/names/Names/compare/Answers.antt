@@ -10,4 +10,5 @@ returns-in_default c =
     let heads = c.self.inside.heads.items in
     let h : AreHeads heads names = subst (AreHeads heads) c.self.view_is c.self.invariant.1 in
     let this : c.index.result.now ≡ head 8 (get_or names c.args.number []) = c.index.ensures ∙ head_at heads names c.args.number _ h c.requires.within in
-    order_of_heads 8 (get_or names c.args.number []) c.args.name.now c.cmp.result (h.bytes c.args.number [] c.requires.within) c.requires.bytes (c.cmp.ensures ∙ ap₂ nat_cmp this c.requires.is) c.in_default.not-Equal
+    order_of_heads 8 (get_or names c.args.number []) c.args.name.now c.cmp.result (h.bytes c.args.number [] c.requires.within) c.requires.bytes
+    (c.cmp.ensures ∙ ap₂ nat_cmp this c.requires.is) c.in_default.not-Equal

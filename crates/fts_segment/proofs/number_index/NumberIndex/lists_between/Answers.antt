@@ -20,10 +20,13 @@ returns c column index =
     let start = c.min-start.result in
     let end = c.place_behind-end.result in
     let numbers = c.args.self.now.numbers.items in
-    let cut : IsCut numbers c.args.low c.place_of_number.result = subst (λ (ns : List ℕ). IsCut ns c.args.low c.place_of_number.result) c.deref-2.ensures.value c.place_of_number.ensures in
+    let cut : IsCut numbers c.args.low c.place_of_number.result =
+    subst (λ (ns : List ℕ). IsCut ns c.args.low c.place_of_number.result) c.deref-2.ensures.value c.place_of_number.ensures in
     let size = ap length c.deref.ensures.value in
     subst (λ (ls : List (List ℕ)). AreBetween column c.args.low c.args.high (take (end - start) (drop start ls))) (sym c.deref-3.ensures.value)
-    (between_numbers column numbers c.args.self.now.lists.items c.args.low c.args.high start c.place_of_number.result end index cut (omega (arith, c.place_behind-end.ensures.within, size))
+    (between_numbers column numbers c.args.self.now.lists.items c.args.low c.args.high start c.place_of_number.result end index cut
+    (omega (arith, c.place_behind-end.ensures.within, size))
     (λ k less. subst (λ (ns : List ℕ). get_or ns k 0 ≤ c.args.high) c.deref.ensures.value (c.place_behind-end.ensures.before k less))
-    (λ k more inside. subst (λ (ns : List ℕ). c.args.high < get_or ns k 0) c.deref.ensures.value (c.place_behind-end.ensures.behind k more (omega (arith, inside, size))))
+    (λ k more inside. subst (λ (ns : List ℕ). c.args.high < get_or ns k 0) c.deref.ensures.value
+    (c.place_behind-end.ensures.behind k more (omega (arith, inside, size))))
     c.min-start.ensures)

@@ -18,8 +18,10 @@ logged-requires-clause-whole c =
 
 pub lists_of-requires-clause-rise : goal.lists_of-requires-clause-rise
 lists_of-requires-clause-rise c =
-    groups_rise c.in_ok-numbers.numbers.items c.in_ok-values.values.items c.in_ok-groups.groups (omega (arith, c.in_ok-groups.ensures.count, c.len.ensures, c.in_ok-numbers.numbers.ok.0))
-    (group_docs c.in_ok-numbers.numbers.items c.in_ok-values.values.items c.in_ok-log.log.items c.in_ok-groups.groups c.deref-3.result.now c.deref-2.result.now c.deref-4.result.now
+    groups_rise c.in_ok-numbers.numbers.items c.in_ok-values.values.items c.in_ok-groups.groups
+    (omega (arith, c.in_ok-groups.ensures.count, c.len.ensures, c.in_ok-numbers.numbers.ok.0))
+    (group_docs c.in_ok-numbers.numbers.items c.in_ok-values.values.items c.in_ok-log.log.items c.in_ok-groups.groups c.deref-3.result.now c.deref-2.result.now
+    c.deref-4.result.now
     c.deref-3.ensures.value c.deref-2.ensures.value c.deref-4.ensures.value c.in_ok-log.ensures.docs
     (λ t below. c.in_ok-groups.ensures.groups t (omega (arith, c.len.ensures, c.in_ok-numbers.numbers.ok.0))))
 
@@ -30,13 +32,24 @@ sums_of-requires c =
     let numbers = c.in_ok-numbers.numbers.items in
     let P : List (Option ℕ) → Type 0 = λ vs. All (λ x. Contains vs (Some x)) numbers in
     let Q : List (Option ℕ) → Type 0 = λ vs. (x : ℕ) → Contains vs (Some x) → Contains numbers x in
-    let index = IsNumberIndex-listed numbers values c.in_ok-groups.groups (omega (arith, c.in_ok-groups.ensures.count, c.len.ensures, c.in_ok-numbers.numbers.ok.0))
+    let index = IsNumberIndex-listed numbers values c.in_ok-groups.groups
+    (omega (arith, c.in_ok-groups.ensures.count, c.len.ensures, c.in_ok-numbers.numbers.ok.0))
     (group_docs numbers values c.in_ok-log.log.items c.in_ok-groups.groups c.deref-3.result.now c.deref-2.result.now c.deref-4.result.now
     c.deref-3.ensures.value c.deref-2.ensures.value c.deref-4.ensures.value c.in_ok-log.ensures.docs
     (λ t below. c.in_ok-groups.ensures.groups t (omega (arith, c.len.ensures, c.in_ok-numbers.numbers.ok.0))))
     c.in_ok-numbers.ensures.rises (subst P c.deref.ensures.value c.in_ok-numbers.ensures.occur) (subst Q c.deref.ensures.value c.in_ok-numbers.ensures.whole) in
-    let all = total-all values (map docs_in c.in_ok-groups.groups) (λ k. get_or numbers k 0) (AreCounted-numbers values numbers (map docs_in c.in_ok-groups.groups) index) in
-    omega (arith, c.requires, all, ap total (c.deref-5.ensures.value ∙ c.in_ok-lists.ensures), ap length c.in_ok-values.ensures.numbers, length-map (values_in c.args.field documents) (number_of c.args.kind), length-map documents (λ d. value_in_field d.value c.args.field))
+    let all = total-all values (map docs_in c.in_ok-groups.groups) (λ k. get_or numbers k 0)
+    (AreCounted-numbers values numbers (map docs_in c.in_ok-groups.groups) index) in
+    omega (
+      arith,
+      c.requires,
+      all,
+      ap total (c.deref-5.ensures.value ∙ c.in_ok-lists.ensures),
+      ap length c.in_ok-values.ensures.numbers,
+      length-map
+          (values_in c.args.field documents) (number_of c.args.kind),
+      length-map documents (λ d. value_in_field d.value c.args.field),
+    )
 
 pub returns-clause-index : goal.returns-clause-index
 returns-clause-index c =
@@ -45,8 +58,10 @@ returns-clause-index c =
     let R : List (Option ℕ) → Type 0 = λ vs. IsNumberIndex vs c.in_ok-numbers.numbers.items (map docs_in c.in_ok-groups.groups) in
     let S : List (List ℕ) → Type 0 = IsNumberIndex (numbers_of c.args.kind (values_in c.args.field c.args.documents.now)) c.in_ok-numbers.numbers.items in
     subst S (sym c.in_ok-lists.ensures) (subst R c.in_ok-values.ensures.numbers
-    (IsNumberIndex-listed c.in_ok-numbers.numbers.items c.in_ok-values.values.items c.in_ok-groups.groups (omega (arith, c.in_ok-groups.ensures.count, c.len.ensures, c.in_ok-numbers.numbers.ok.0))
-    (group_docs c.in_ok-numbers.numbers.items c.in_ok-values.values.items c.in_ok-log.log.items c.in_ok-groups.groups c.deref-3.result.now c.deref-2.result.now c.deref-4.result.now
+    (IsNumberIndex-listed c.in_ok-numbers.numbers.items c.in_ok-values.values.items c.in_ok-groups.groups
+    (omega (arith, c.in_ok-groups.ensures.count, c.len.ensures, c.in_ok-numbers.numbers.ok.0))
+    (group_docs c.in_ok-numbers.numbers.items c.in_ok-values.values.items c.in_ok-log.log.items c.in_ok-groups.groups c.deref-3.result.now c.deref-2.result.now
+    c.deref-4.result.now
     c.deref-3.ensures.value c.deref-2.ensures.value c.deref-4.ensures.value c.in_ok-log.ensures.docs
     (λ t below. c.in_ok-groups.ensures.groups t (omega (arith, c.len.ensures, c.in_ok-numbers.numbers.ok.0))))
     c.in_ok-numbers.ensures.rises (subst P c.deref.ensures.value c.in_ok-numbers.ensures.occur) (subst Q c.deref.ensures.value c.in_ok-numbers.ensures.whole)))

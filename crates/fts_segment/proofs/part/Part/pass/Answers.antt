@@ -21,7 +21,8 @@ list_of c = let d = c.self.inside.dictionary.now in
     get_or_read d.lists.items c.self.inside.at _ (omega (arith, within_of c, c.self.invariant.whole.listed)) c.index-list.ensures []
 
 -- and what the part gives for it
-given_of : (c : After-get-positions) → moved c.self.inside.numbers (postings_of c.index-list.result.now (position_lists_in c.get-positions.result)) ≡ given c.args.term.now c.args.self.now
+given_of : (c : After-get-positions) → moved c.self.inside.numbers (postings_of c.index-list.result.now (position_lists_in c.get-positions.result))
+    ≡ given c.args.term.now c.args.self.now
 given_of c =
     let p = c.self.inside in
     ap₂ (λ list lists. moved p.numbers (postings_of list lists)) (list_of c) c.get-positions.ensures.positions
@@ -42,7 +43,8 @@ move_postings-requires-clause-numbered c =
     subst (All (λ doc. doc < length p.numbers)) (sym (list_of a)) (c.self.invariant.whole.numbered p.at (within_of a))
 
 pub invariant_of-self : goal.invariant_of-self
-invariant_of-self c = record { whole = c.self.invariant.whole; next = c.self.invariant.next; lists_are = c.move_postings.ensures.same ∙ c.self.invariant.lists_are }
+invariant_of-self c =
+    record { whole = c.self.invariant.whole; next = c.self.invariant.next; lists_are = c.move_postings.ensures.same ∙ c.self.invariant.lists_are }
 
 pub invariant_of-self-then-is_next : goal.invariant_of-self-then-is_next
 invariant_of-self-then-is_next c =

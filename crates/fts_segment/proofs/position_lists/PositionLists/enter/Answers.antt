@@ -29,5 +29,6 @@ returns-clause-bounds c =
     let s = c.self.inside in
     let h = here (goal.at.returns-clause-bounds c).After-open-many in
     let first = get_or_read s.starts.items c.args.block c.index.result.now h.near c.index.ensures 0 in
-    bounds_are s.counts s.starts.items s.gaps c.args.self.now c.args.block c.open-many.result c.open-many.new.out c.add_up.new.out c.self.invariant c.self.view_is h
+    bounds_are s.counts s.starts.items s.gaps c.args.self.now c.args.block c.open-many.result c.open-many.new.out c.add_up.new.out c.self.invariant
+    c.self.view_is h
     (rw first at c.add_up.ensures)

@@ -14,10 +14,12 @@ enter-requires-clause-within c = let s = c.self.inside in
     omega (arith, c.if-number-len.false, c.len.ensures, length-position_lists_at s.counts s.gaps, ap length c.self.view_is)
 
 -- where the list lies
-between : (c : After-enter) → LiesBetween c.self.inside.counts c.self.inside.gaps c.args.number (get_or c.enter.new.bounds.at (c.args.number % 128) 0) (get_or c.enter.new.bounds.at (c.args.number % 128 + 1) 0)
+between : (c : After-enter) → LiesBetween c.self.inside.counts c.self.inside.gaps c.args.number (get_or c.enter.new.bounds.at (c.args.number % 128) 0)
+    (get_or c.enter.new.bounds.at (c.args.number % 128 + 1) 0)
 between c = let s = c.self.inside in
     lies_between s.counts s.starts.items s.gaps c.args.self.now c.args.number c.enter.new.bounds.at c.self.invariant c.self.view_is
-    (omega (arith, c.if-number-len.false, c.len.ensures, length-position_lists_at s.counts s.gaps, ap length c.self.view_is)) (rw c.enter.ensures.block at c.enter.ensures.bounds)
+    (omega (arith, c.if-number-len.false, c.len.ensures, length-position_lists_at s.counts s.gaps, ap length c.self.view_is))
+    (rw c.enter.ensures.block at c.enter.ensures.bounds)
 
 pub between-requires-clause-within : goal.between-requires-clause-within
 between-requires-clause-within c = (between (goal.at.between-requires-clause-within c).After-enter).within
@@ -26,4 +28,5 @@ pub between-requires-clause-fit : goal.between-requires-clause-fit
 between-requires-clause-fit c = (between (goal.at.between-requires-clause-fit c).After-enter).fit
 
 pub returns-clause-positions : goal.returns-clause-positions
-returns-clause-positions c = c.between.ensures ∙ sym (between (goal.at.returns-clause-positions c).After-enter).is ∙ ap (λ rs. get_or rs c.args.number []) c.self.view_is
+returns-clause-positions c = c.between.ensures ∙ sym (between (goal.at.returns-clause-positions c).After-enter).is
+    ∙ ap (λ rs. get_or rs c.args.number []) c.self.view_is

@@ -47,5 +47,6 @@ returns-clause-fit c kind is =
     let found = stored_index c.args.field c.kind.result c.index.result.now k.indexes_are c.kind.ensures c.index.ensures in
     let known : Some c.kind.result ≡ Some kind = sym c.kind.ensures ∙ ap (λ v. kind_at v.schema c.args.field) k.value_is ∙ is in
     let same : c.kind.result ≡ kind = cc in
-    let fit : NumbersFit c.kind.result c.args.field s.documents.items = numbers_fit c.kind.result (values_in c.args.field s.documents.items) c.index.result.now found in
+    let fit : NumbersFit c.kind.result c.args.field s.documents.items =
+    numbers_fit c.kind.result (values_in c.args.field s.documents.items) c.index.result.now found in
     subst (λ (v : SegmentValue). NumbersFit kind c.args.field v.documents) k.value_is (subst (λ k. NumbersFit k c.args.field s.documents.items) same fit)

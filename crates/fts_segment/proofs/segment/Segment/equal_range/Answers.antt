@@ -18,7 +18,8 @@ returns-clause-before c =
     let s = c.deref-stored.result.now in
     let k = keeps c.self.inside c.args.self.now s c.self.view_is c.self.invariant c.deref-stored.ensures in
     let v : SegmentValue = record { schema = s.schema; documents = s.documents.items } in
-    c.equal_range-before.ensures.before (values_in c.args.field s.documents.items) (stored_index c.args.field c.kind.result c.index.result.now k.indexes_are c.kind.ensures c.index.ensures)
+    c.equal_range-before.ensures.before (values_in c.args.field s.documents.items) (stored_index c.args.field c.kind.result c.index.result.now k.indexes_are
+    c.kind.ensures c.index.ensures)
     ∙ ap (λ ts. before ts c.args.text.now) (texts_of-values v c.args.field c.kind.result c.kind.ensures ∙ ap (λ v. keywords v c.args.field) k.value_is)
 
 pub returns-clause-up_to : goal.returns-clause-up_to
@@ -26,5 +27,6 @@ returns-clause-up_to c =
     let s = c.deref-stored.result.now in
     let k = keeps c.self.inside c.args.self.now s c.self.view_is c.self.invariant c.deref-stored.ensures in
     let v : SegmentValue = record { schema = s.schema; documents = s.documents.items } in
-    c.equal_range-before.ensures.up_to (values_in c.args.field s.documents.items) (stored_index c.args.field c.kind.result c.index.result.now k.indexes_are c.kind.ensures c.index.ensures)
+    c.equal_range-before.ensures.up_to (values_in c.args.field s.documents.items) (stored_index c.args.field c.kind.result c.index.result.now k.indexes_are
+    c.kind.ensures c.index.ensures)
     ∙ ap (λ ts. up_to ts c.args.text.now) (texts_of-values v c.args.field c.kind.result c.kind.ensures ∙ ap (λ v. keywords v c.args.field) k.value_is)

@@ -15,7 +15,8 @@ returns-in_err-index-clause-none c =
     let s = c.deref-stored.result.now in
     let k = keeps c.self.inside c.args.self.now s c.self.view_is c.self.invariant c.deref-stored.ensures in
     let f = c.args.term.now.field in
-    let past : length s.schema ≤ f = omega (arith, ltb-false f (length c.deref.result.now) (sym c.in_err-index.ensures.lookup.0), k.indexes_are.count, ap length c.deref.ensures.value) in
+    let past : length s.schema ≤ f =
+    omega (arith, ltb-false f (length c.deref.result.now) (sym c.in_err-index.ensures.lookup.0), k.indexes_are.count, ap length c.deref.ensures.value) in
     let v : SegmentValue = record { schema = s.schema; documents = s.documents.items } in
     rw c.from_residual.ensures (ap (λ v. postings v c.args.term.now) (sym k.value_is) ∙ no_field v c.args.term.now (slice_get_past s.schema f past))
 
@@ -24,26 +25,32 @@ find-requires c =
     let s = c.deref-stored.result.now in
     let k = keeps c.self.inside c.args.self.now s c.self.view_is c.self.invariant c.deref-stored.ensures in (
       values_in c.args.term.now.field s.documents.items,
-      index_at c.args.term.now.field c.kind.result c.in_ok-index.index.now c.deref.result.now k.indexes_are c.kind.ensures c.deref.ensures.value c.in_ok-index.ensures.lookup.0 c.in_ok-index.ensures.lookup.1,
+      index_at c.args.term.now.field c.kind.result c.in_ok-index.index.now c.deref.result.now k.indexes_are c.kind.ensures c.deref.ensures.value
+          c.in_ok-index.ensures.lookup.0 c.in_ok-index.ensures.lookup.1,
     )
 
 -- the index is that of the values of the field
 there : (c : goal.After-find) → IsFieldIndex c.kind.result (values_in c.args.term.now.field c.deref-stored.result.now.documents.items) c.in_ok-index.index.now
 there c =
     let k = keeps c.self.inside c.args.self.now c.deref-stored.result.now c.self.view_is c.self.invariant c.deref-stored.ensures in
-    index_at c.args.term.now.field c.kind.result c.in_ok-index.index.now c.deref.result.now k.indexes_are c.kind.ensures c.deref.ensures.value c.in_ok-index.ensures.lookup.0 c.in_ok-index.ensures.lookup.1
+    index_at c.args.term.now.field c.kind.result c.in_ok-index.index.now c.deref.result.now k.indexes_are c.kind.ensures c.deref.ensures.value
+    c.in_ok-index.ensures.lookup.0 c.in_ok-index.ensures.lookup.1
 
-postings_are : (c : goal.After-find) → numbers_where (holds c.kind.result c.args.term.now.value) 0 (values_in c.args.term.now.field c.deref-stored.result.now.documents.items) ≡ postings c.args.self.now c.args.term.now
+postings_are : (c : goal.After-find) →
+    numbers_where (holds c.kind.result c.args.term.now.value) 0 (values_in c.args.term.now.field c.deref-stored.result.now.documents.items)
+    ≡ postings c.args.self.now c.args.term.now
 postings_are c =
     let s = c.deref-stored.result.now in
     let k = keeps c.self.inside c.args.self.now s c.self.view_is c.self.invariant c.deref-stored.ensures in
-    postings-kind (record { schema = s.schema; documents = s.documents.items }) c.args.term.now c.kind.result c.kind.ensures ∙ ap (λ v. postings v c.args.term.now) k.value_is
+    postings-kind (record { schema = s.schema; documents = s.documents.items }) c.args.term.now c.kind.result c.kind.ensures
+    ∙ ap (λ v. postings v c.args.term.now) k.value_is
 
 pub returns-clause-none : goal.returns-clause-none
 returns-clause-none c = rw (← postings_are c) (c.find.ensures.none (values_in c.args.term.now.field c.deref-stored.result.now.documents.items) (there c))
 
 pub returns-clause-documents : goal.returns-clause-documents
-returns-clause-documents c = rw (← postings_are c) (c.find.ensures.documents (values_in c.args.term.now.field c.deref-stored.result.now.documents.items) (there c))
+returns-clause-documents c =
+    rw (← postings_are c) (c.find.ensures.documents (values_in c.args.term.now.field c.deref-stored.result.now.documents.items) (there c))
 
 pub returns-clause-positions : goal.returns-clause-positions
 returns-clause-positions c =

@@ -15,8 +15,11 @@ use Rattle.fts_segment.proofs.segment.Segment.keyword.Goals as goal
 pub document_with-requires-clause-is : goal.document_with-requires-clause-is
 document_with-requires-clause-is c =
     let s = c.deref-stored.result.now in
-    let k = keeps c.self.inside c.args.self.now s c.self.view_is c.self.invariant c.deref-stored.ensures in
-    (values_in c.args.field s.documents.items, stored_index c.args.field c.kind-kind.result c.index.result.now k.indexes_are c.kind-kind.ensures c.index.ensures)
+    let k = keeps c.self.inside c.args.self.now s c.self.view_is c.self.invariant c.deref-stored.ensures in (
+      values_in c.args.field s.documents.items,
+      stored_index c.args.field c.kind-kind.result c.index.result.now k.indexes_are c.kind-kind.ensures
+          c.index.ensures,
+    )
 
 pub returns-in_err-doc : goal.returns-in_err-doc
 returns-in_err-doc c =
@@ -27,7 +30,8 @@ returns-in_err-doc c =
     (stored_index c.args.field c.kind-kind.result c.index.result.now k.indexes_are c.kind-kind.ensures c.index.ensures) in
     ap option_copied c.from_residual.ensures
     ∙ sym none
-    ∙ ap (λ ts. slice_get ts c.args.ordinal) (texts_of-values v c.args.field c.kind-kind.result c.kind-kind.ensures ∙ ap (λ v. keywords v c.args.field) k.value_is)
+    ∙ ap (λ ts. slice_get ts c.args.ordinal) (texts_of-values v c.args.field c.kind-kind.result c.kind-kind.ensures ∙ ap (λ v. keywords v c.args.field)
+    k.value_is)
 
 pub document-requires : goal.document-requires
 document-requires c =
@@ -35,7 +39,8 @@ document-requires c =
     let k = keeps c.self.inside c.args.self.now s c.self.view_is c.self.invariant c.deref-stored.ensures in
     subst (λ (v : SegmentValue). c.in_ok-doc.doc < length v.documents) k.value_is
     (document_within c.args.field s.documents.items c.args.ordinal c.in_ok-doc.doc
-    (c.in_ok-doc.ensures (values_in c.args.field s.documents.items) (stored_index c.args.field c.kind-kind.result c.index.result.now k.indexes_are c.kind-kind.ensures c.index.ensures)))
+    (c.in_ok-doc.ensures (values_in c.args.field s.documents.items) (stored_index c.args.field c.kind-kind.result c.index.result.now k.indexes_are
+    c.kind-kind.ensures c.index.ensures)))
 
 pub returns-in_err-value : goal.returns-in_err-value
 returns-in_err-value c =
@@ -62,5 +67,6 @@ returns c =
     let known : Some c.kind-kind.result ≡ Some kinds.Keyword = sym c.kind-kind.ensures ∙ ap (λ v. kind_at v.schema c.args.field) k.value_is ∙ c.requires in
     let kind : kinds.Keyword ≡ c.kind-kind.result = cc in
     let keyword : texts_of kinds.Keyword (values_in c.args.field s.documents.items) ≡ keywords c.args.self.now c.args.field =
-    ap (λ kind. texts_of kind (values_in c.args.field s.documents.items)) kind ∙ texts_of-values v c.args.field c.kind-kind.result c.kind-kind.ensures ∙ ap (λ v. keywords v c.args.field) k.value_is in
+    ap (λ kind. texts_of kind (values_in c.args.field s.documents.items)) kind ∙ texts_of-values v c.args.field c.kind-kind.result c.kind-kind.ensures
+    ∙ ap (λ v. keywords v c.args.field) k.value_is in
     c.text_of.ensures ∙ ap text_in_value same ∙ sym has.is ∙ ap (λ ts. slice_get ts c.args.ordinal) keyword

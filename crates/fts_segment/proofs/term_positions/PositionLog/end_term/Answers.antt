@@ -10,7 +10,8 @@ returns c before more ends all =
     record {
       is = record {
         lists = c.requires;
-        ends = rw (c.in_ok-push.ensures.items, c.len.ensures) (AreEnds-push 0 log.ends.items (length before) (length (logged_position_lists log.lists)) ends le);
+        ends = rw (c.in_ok-push.ensures.items, c.len.ensures) (AreEnds-push 0 log.ends.items (length before) (length (logged_position_lists log.lists)) ends
+            le);
       };
       terms_are = rw (c.in_ok-push.ensures.items, c.len.ensures, all) (pieces-push 0 before more log.ends.items ends);
     }

@@ -19,8 +19,10 @@ range_from-self-requires c = λ _.
 
 pub returns-then-len-eq0 : goal.returns-then-len-eq0
 returns-then-len-eq0 c =
-    let ended = spans-end c.args.self.now.at c.front_len-gap.result c.front_len-len.result c.args.self.now.rest.now c.range_from-rest.result.now c.range_from-self.result.now
-    c.front_len-gap.ensures.utf8 c.front_len-gap.ensures.len c.range_from-rest.ensures.value c.front_len-len.ensures.utf8 c.front_len-len.ensures.len c.range_from-self.ensures.value c.if-len-eq0.true in
+    let ended = spans-end c.args.self.now.at c.front_len-gap.result c.front_len-len.result c.args.self.now.rest.now c.range_from-rest.result.now
+    c.range_from-self.result.now
+    c.front_len-gap.ensures.utf8 c.front_len-gap.ensures.len c.range_from-rest.ensures.value c.front_len-len.ensures.utf8 c.front_len-len.ensures.len
+    c.range_from-self.ensures.value c.if-len-eq0.true in
     (ended.0, ended.1, refl, refl)
 
 pub returns : goal.returns
@@ -30,7 +32,8 @@ returns c =
     let at = c.args.self.now.at + c.front_len-gap.result in (
       char_indices at (front true (chars mid)),
       spans-step c.args.self.now.at c.front_len-gap.result c.front_len-len.result c.args.self.now.rest.now mid c.range_from-self.result.now
-          c.front_len-gap.ensures.utf8 c.front_len-gap.ensures.len c.range_from-rest.ensures.value c.front_len-len.ensures.utf8 c.front_len-len.ensures.len c.range_from-self.ensures.value some,
+          c.front_len-gap.ensures.utf8 c.front_len-gap.ensures.len c.range_from-rest.ensures.value c.front_len-len.ensures.utf8 c.front_len-len.ensures.len
+          c.range_from-self.ensures.value some,
       place_of-front c.args.self.now.next_position at c.front_len-len.result (chars mid) c.front_len-len.ensures.len some,
       refl,
       omega arith,

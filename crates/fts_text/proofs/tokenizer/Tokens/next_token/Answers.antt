@@ -12,7 +12,8 @@ returns-then-span-lt-LIMIT-clause-following c =
 
 pub loop-span-preserved : goal.loop-span-preserved
 loop-span-preserved c = record {
-  places = sym (places_left-dropped c.loop-span.self c.next_span.new.self c.in-Some.span c.in-Some.ensures c.if-span-lt-LIMIT.false) ∙ c.loop-span.invariant.places;
+  places = sym (places_left-dropped c.loop-span.self c.next_span.new.self c.in-Some.span c.in-Some.ensures c.if-span-lt-LIMIT.false)
+      ∙ c.loop-span.invariant.places;
   following = following_left-next c.loop-span.self c.next_span.new.self c.in-Some.span c.in-Some.ensures ∙ c.loop-span.invariant.following;
 }
 

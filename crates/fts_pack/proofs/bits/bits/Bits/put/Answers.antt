@@ -5,12 +5,25 @@ use Rattle.fts_pack.proofs.bits.bits.Bits.put.Goals as goal
 
 pub overflow_sub-self : goal.overflow_sub-self
 overflow_sub-self c =
-    omega (arith, ones_above _ _ c.get-was.result c.requires c.get-was.ensures, ap (count_by (λ b. b)) c.self.view_is, c.self.invariant.ones_are, c.from.ensures ∙ byte_is c.get-was.result)
+    omega (
+      arith,
+      ones_above _ _ c.get-was.result c.requires c.get-was.ensures,
+      ap (count_by (λ b. b)) c.self.view_is,
+      c.self.invariant.ones_are,
+      c.from.ensures
+          ∙ byte_is c.get-was.result,
+    )
 
 pub overflow_add-self : goal.overflow_add-self
 overflow_add-self c =
     let long : c.self.inside.len ≡ length c.args.self.now = sym (length-flags _ _) ∙ ap length c.self.view_is in
-    omega (arith, long, c.self.invariant.bits.len_fits, ones_room _ _ c.get-was.result c.requires c.get-was.ensures c.args.bit _ _ _ (c.self.invariant.ones_are ∙ ap (count_by (λ b. b)) c.self.view_is) (c.from.ensures ∙ byte_is c.get-was.result) (c.from-2.ensures ∙ byte_is c.args.bit))
+    omega (
+      arith,
+      long,
+      c.self.invariant.bits.len_fits,
+      ones_room _ _ c.get-was.result c.requires c.get-was.ensures c.args.bit _ _ _
+          (c.self.invariant.ones_are ∙ ap (count_by (λ b. b)) c.self.view_is) (c.from.ensures ∙ byte_is c.get-was.result) (c.from-2.ensures ∙ byte_is c.args.bit),
+    )
 
 pub index_mut-requires : goal.index_mut-requires
 index_mut-requires c =
@@ -22,7 +35,8 @@ invariant_of-self c =
     let put = bits-put true _ _ _ _ _ c.self.view_is c.self.invariant.bits c.requires (get_or_read _ _ _ place c.index_mut.ensures.value 0) in
     record {
       bits = put.0;
-      ones_are = ones_put _ _ c.get-was.result c.requires c.get-was.ensures true _ _ _ _ (c.self.invariant.ones_are ∙ ap (count_by (λ b. b)) c.self.view_is) (c.from.ensures ∙ byte_is c.get-was.result) (c.from-2.ensures ∙ byte_is c.args.bit ∙ ap one_if c.if-bit.true) put.1;
+      ones_are = ones_put _ _ c.get-was.result c.requires c.get-was.ensures true _ _ _ _ (c.self.invariant.ones_are ∙ ap (count_by (λ b. b)) c.self.view_is)
+          (c.from.ensures ∙ byte_is c.get-was.result) (c.from-2.ensures ∙ byte_is c.args.bit ∙ ap one_if c.if-bit.true) put.1;
     }
 
 pub returns-then-bit : goal.returns-then-bit
@@ -41,7 +55,8 @@ invariant_of-self-else-bit c =
     let put = bits-put false _ _ _ _ _ c.self.view_is c.self.invariant.bits c.requires (get_or_read _ _ _ place c.index_mut-else-bit.ensures.value 0) in
     record {
       bits = put.0;
-      ones_are = ones_put _ _ c.get-was.result c.requires c.get-was.ensures false _ _ _ _ (c.self.invariant.ones_are ∙ ap (count_by (λ b. b)) c.self.view_is) (c.from.ensures ∙ byte_is c.get-was.result) (c.from-2.ensures ∙ byte_is c.args.bit ∙ ap one_if c.if-bit.false) put.1;
+      ones_are = ones_put _ _ c.get-was.result c.requires c.get-was.ensures false _ _ _ _ (c.self.invariant.ones_are ∙ ap (count_by (λ b. b)) c.self.view_is)
+          (c.from.ensures ∙ byte_is c.get-was.result) (c.from-2.ensures ∙ byte_is c.args.bit ∙ ap one_if c.if-bit.false) put.1;
     }
 
 pub returns-else-bit : goal.returns-else-bit

@@ -13,7 +13,8 @@ put-requires c = omega (arith, c.loop-doc.invariant.len, c.requires c.loop-doc.d
 
 pub loop-doc-preserved : goal.loop-doc-preserved
 loop-doc-preserved c =
-    AreSet-more c.args.self.now c.loop-doc.self _ c.args.docs.now c.loop-doc.doc-index _ c.loop-doc.invariant c.loop-doc-test.true refl (c.requires c.loop-doc.doc-index 0 c.loop-doc-test.true) c.put.ensures
+    AreSet-more c.args.self.now c.loop-doc.self _ c.args.docs.now c.loop-doc.doc-index _ c.loop-doc.invariant c.loop-doc-test.true refl
+    (c.requires c.loop-doc.doc-index 0 c.loop-doc-test.true) c.put.ensures
 
 pub returns : goal.returns
 returns c =

@@ -6,11 +6,14 @@ use Rattle.fts_pack.specs.column.Column.{IsRangeOf, least_of}
 use Rattle.fts_pack.proofs.BlocksLemmas.{block_fits, block_of_none, block_told, told_none, told_range}
 use Rattle.fts_pack.proofs.column.column.Column.block_range.Goals as goal
 
-told : (c : goal.Then-first-last) → IsRangeOf (block_of c.args.block c.args.self.now) (Some (c.in_ok-least.least + c.at-first.result.0, c.in_ok-least.least + c.at-first.result.1))
+told : (c : goal.Then-first-last) →
+    IsRangeOf (block_of c.args.block c.args.self.now) (Some (c.in_ok-least.least + c.at-first.result.0, c.in_ok-least.least + c.at-first.result.1))
 told c =
     let column = c.self.inside in
     told_range c.in_ok-least.least (block_of c.args.block c.args.self.now) c.at-first.result
-    (block_told c.args.self.now (least_of column.range) c.in_ok-least.least (in_blocks column.blocks) c.args.block c.at-first.result (subst (λ v. AreEndsOf (least_of c.self.inside.range) v (in_blocks c.self.inside.blocks)) c.self.view_is c.self.invariant.1) (ap least_of c.in_ok-least.was) c.at-first.ensures)
+    (block_told c.args.self.now (least_of column.range) c.in_ok-least.least (in_blocks column.blocks) c.args.block c.at-first.result
+    (subst (λ v. AreEndsOf (least_of c.self.inside.range) v (in_blocks c.self.inside.blocks)) c.self.view_is c.self.invariant.1)
+    (ap least_of c.in_ok-least.was) c.at-first.ensures)
     c.if-first-last.true
 
 pub returns-in_err-least : goal.returns-in_err-least
@@ -41,5 +44,7 @@ pub returns-else-first-last : goal.returns-else-first-last
 returns-else-first-last c =
     let column = c.self.inside in
     told_none c.in_ok-least.least (block_of c.args.block c.args.self.now) c.at-first.result
-    (block_told c.args.self.now (least_of column.range) c.in_ok-least.least (in_blocks column.blocks) c.args.block c.at-first.result (subst (λ v. AreEndsOf (least_of c.self.inside.range) v (in_blocks c.self.inside.blocks)) c.self.view_is c.self.invariant.1) (ap least_of c.in_ok-least.was) c.at-first.ensures)
+    (block_told c.args.self.now (least_of column.range) c.in_ok-least.least (in_blocks column.blocks) c.args.block c.at-first.result
+    (subst (λ v. AreEndsOf (least_of c.self.inside.range) v (in_blocks c.self.inside.blocks)) c.self.view_is c.self.invariant.1)
+    (ap least_of c.in_ok-least.was) c.at-first.ensures)
     c.if-first-last.false

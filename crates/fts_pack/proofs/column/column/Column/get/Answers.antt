@@ -13,20 +13,26 @@ pub at-requires : goal.at-requires
 at-requires c =
     let column = c.self.inside in
     let size = column_length _ _ _ _ _ c.self.view_is in
-    lane_inside c.args.self.now column.range column.width column.words.items (in_lanes column.lanes) (subst (λ v. IsColumn v c.self.inside.range c.self.inside.width c.self.inside.words.items (in_lanes c.self.inside.lanes)) c.self.view_is c.self.invariant.0) c.args.doc (omega (arith, size, c.len.ensures, c.if-doc-len.true))
+    lane_inside c.args.self.now column.range column.width column.words.items (in_lanes column.lanes)
+    (subst (λ v. IsColumn v c.self.inside.range c.self.inside.width c.self.inside.words.items (in_lanes c.self.inside.lanes)) c.self.view_is
+    c.self.invariant.0) c.args.doc (omega (arith, size, c.len.ensures, c.if-doc-len.true))
 
 there : (c : goal.After-at) → get_or c.args.self.now c.args.doc None ≡ Some (c.in_ok-least.least + c.at.result)
 there c =
     let column = c.self.inside in
-    value_there c.args.self.now column.range column.width column.words.items (in_lanes column.lanes) column.present c.in_ok-least.least c.args.doc (subst (λ v. IsColumn v c.self.inside.range c.self.inside.width c.self.inside.words.items (in_lanes c.self.inside.lanes)) c.self.view_is c.self.invariant.0)
-    (ap (map is_some) (sym c.self.view_is) ∙ presence-values_at _ _ _ (length-numbers_in 64 c.self.inside.width _ c.self.inside.words.items)) (ap least_of c.in_ok-least.was) (c.get.ensures ∙ ap Some c.if-get.true) ∙ ap (λ n. Some (c.in_ok-least.least + n)) (sym c.at.ensures)
+    value_there c.args.self.now column.range column.width column.words.items (in_lanes column.lanes) column.present c.in_ok-least.least c.args.doc
+    (subst (λ v. IsColumn v c.self.inside.range c.self.inside.width c.self.inside.words.items (in_lanes c.self.inside.lanes)) c.self.view_is
+    c.self.invariant.0)
+    (ap (map is_some) (sym c.self.view_is) ∙ presence-values_at _ _ _ (length-numbers_in 64 c.self.inside.width _ c.self.inside.words.items))
+    (ap least_of c.in_ok-least.was) (c.get.ensures ∙ ap Some c.if-get.true) ∙ ap (λ n. Some (c.in_ok-least.least + n)) (sym c.at.ensures)
 
 pub overflow_add-result : goal.overflow_add-result
 overflow_add-result c =
     let column = c.self.inside in
     let size = column_length _ _ _ _ _ c.self.view_is in
     let range : IsRangeOf c.args.self.now column.range = subst (λ v. IsRangeOf v column.range) c.self.view_is c.self.invariant.0.range_is in
-    Fits-of_lt (value_fits c.args.self.now column.range c.args.doc _ _ _ range c.self.invariant.0.range_fits c.in_ok-least.was (omega (arith, size, c.len.ensures, c.if-doc-len.true)) (there c))
+    Fits-of_lt (value_fits c.args.self.now column.range c.args.doc _ _ _ range c.self.invariant.0.range_fits c.in_ok-least.was
+    (omega (arith, size, c.len.ensures, c.if-doc-len.true)) (there c))
 
 pub returns-then-get : goal.returns-then-get
 returns-then-get c = sym (there c)
@@ -36,6 +42,8 @@ returns-else-doc-len c =
     let column = c.self.inside in
     let size = column_length _ _ _ _ _ c.self.view_is in
     elim c.else-doc-len.branch [
-      | else-doc-len-via-then-doc-len+else-get w ↦ sym (value_missing c.args.self.now column.present c.args.doc (ap (map is_some) (sym c.self.view_is) ∙ presence-values_at _ _ _ (length-numbers_in 64 c.self.inside.width _ c.self.inside.words.items)) (w.get.ensures ∙ ap Some w.if-get.false))
+      | else-doc-len-via-then-doc-len+else-get w ↦ sym (value_missing c.args.self.now column.present c.args.doc
+          (ap (map is_some) (sym c.self.view_is) ∙ presence-values_at _ _ _ (length-numbers_in 64 c.self.inside.width _ c.self.inside.words.items))
+          (w.get.ensures ∙ ap Some w.if-get.false))
       | else-doc-len-via-else-doc-len w ↦ sym (get_or_past c.args.self.now c.args.doc None (omega (arith, size, c.len.ensures, w.if-doc-len.false)))
     ]

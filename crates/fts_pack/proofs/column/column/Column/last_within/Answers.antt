@@ -23,7 +23,9 @@ told c =
     let high = c.args.high in
     let number = number_at column.present lanes in
     IsLastWithin-same number (λ doc. get_or values doc None) (low - least) (high - least) low high docs c.last_within.result
-    (λ doc. is_within-above (number doc) least low high (omega (arith, c.if-high-least.false)) ∙ ap (is_within low high) (sym (value_of_number values column.range column.width column.words.items lanes column.present least doc c.self.view_is c.self.invariant.0 (ap least_of c.in_ok-least.was))))
+    (λ doc. is_within-above (number doc) least low high (omega (arith, c.if-high-least.false)) ∙ ap (is_within low high)
+    (sym (value_of_number values column.range column.width column.words.items lanes column.present least doc c.self.view_is c.self.invariant.0
+    (ap least_of c.in_ok-least.was))))
     (subst (λ above. IsLastWithin number above (high - least) docs c.last_within.result) c.saturating_sub-above.ensures c.last_within.ensures)
 
 pub returns : goal.returns

@@ -23,9 +23,12 @@ pub returns-clause-present : goal.returns-clause-present
 returns-clause-present c =
     let column = c.self.inside in
     let from = c.args.from in
-    let bits : map is_some c.args.self.now ≡ column.present = ap (map is_some) (sym c.self.view_is) ∙ presence-values_at _ _ _ (length-numbers_in 64 column.width _ column.words.items) in
-    let low : c.from-low.result ≡ number_of (take 64 (drop from column.present)) = c.from-low.ensures ∙ c.word.ensures ∙ ap (λ n. number_of (take 64 (drop n column.present))) (omega (arith, c.requires.aligned)) in
-    let high : c.from-high.result ≡ number_of (take 64 (drop (from + 64) column.present)) = c.from-high.ensures ∙ c.word-2.ensures ∙ ap (λ n. number_of (take 64 (drop n column.present))) (omega (arith, c.requires.aligned)) in
+    let bits : map is_some c.args.self.now ≡ column.present =
+    ap (map is_some) (sym c.self.view_is) ∙ presence-values_at _ _ _ (length-numbers_in 64 column.width _ column.words.items) in
+    let low : c.from-low.result ≡ number_of (take 64 (drop from column.present)) =
+    c.from-low.ensures ∙ c.word.ensures ∙ ap (λ n. number_of (take 64 (drop n column.present))) (omega (arith, c.requires.aligned)) in
+    let high : c.from-high.result ≡ number_of (take 64 (drop (from + 64) column.present)) =
+    c.from-high.ensures ∙ c.word-2.ensures ∙ ap (λ n. number_of (take 64 (drop n column.present))) (omega (arith, c.requires.aligned)) in
     words_side_by_side column.present from c.from-low.result c.from-high.result low high
     ∙ sym (ap number_of (presence-part from 128 c.args.self.now ∙ ap (λ b. take 128 (drop from b)) bits))
 
@@ -37,5 +40,6 @@ returns-clause-values c i x small e =
     elim (cases_lt i 64) [
       | inl low ↦ half_low front back _ i c.write_values.ensures.long low ∙ c.write_values.ensures.values i x low e
       | inr high ↦ (let there : c.args.from + 64 + (i - 64) ≡ c.args.from + i = omega arith in
-          half_high front back _ i c.write_values.ensures.long c.write_values-2.ensures.long high small ∙ c.write_values-2.ensures.values (i - 64) x (omega arith) (ap (λ n. get_or values n None) there ∙ e))
+          half_high front back _ i c.write_values.ensures.long c.write_values-2.ensures.long high small
+          ∙ c.write_values-2.ensures.values (i - 64) x (omega arith) (ap (λ n. get_or values n None) there ∙ e))
     ]

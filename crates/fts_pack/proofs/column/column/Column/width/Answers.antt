@@ -6,4 +6,6 @@ use Rattle.fts_pack.proofs.column.column.Column.width.Goals as goal
 
 pub returns : goal.returns
 returns c =
-    column_width c.args.self.now c.self.inside.range c.self.inside.width c.self.inside.words.items (in_lanes c.self.inside.lanes) (subst (λ v. IsColumn v c.self.inside.range c.self.inside.width c.self.inside.words.items (in_lanes c.self.inside.lanes)) c.self.view_is c.self.invariant.0)
+    column_width c.args.self.now c.self.inside.range c.self.inside.width c.self.inside.words.items (in_lanes c.self.inside.lanes)
+    (subst (λ v. IsColumn v c.self.inside.range c.self.inside.width c.self.inside.words.items (in_lanes c.self.inside.lanes)) c.self.view_is
+    c.self.invariant.0)

@@ -9,7 +9,9 @@ pub write-requires-clause-inside : goal.write-requires-clause-inside
 write-requires-clause-inside c =
     let column = c.self.inside in
     let size = column_length c.args.self.now _ _ _ _ c.self.view_is in
-    stretch_inside c.args.self.now column.range column.width column.words.items (in_lanes column.lanes) (subst (λ v. IsColumn v c.self.inside.range c.self.inside.width c.self.inside.words.items (in_lanes c.self.inside.lanes)) c.self.view_is c.self.invariant.0) c.args.from c.requires.aligned (omega (arith, size, c.len.ensures, c.if-from-len.false))
+    stretch_inside c.args.self.now column.range column.width column.words.items (in_lanes column.lanes)
+    (subst (λ v. IsColumn v c.self.inside.range c.self.inside.width c.self.inside.words.items (in_lanes c.self.inside.lanes)) c.self.view_is
+    c.self.invariant.0) c.args.from c.requires.aligned (omega (arith, size, c.len.ensures, c.if-from-len.false))
 
 pub returns-then-from-len-clause-values : goal.returns-then-from-len-clause-values
 returns-then-from-len-clause-values c i x small e =
@@ -20,4 +22,7 @@ pub returns-clause-values : goal.returns-clause-values
 returns-clause-values c i x small e =
     let column = c.self.inside in
     let least : c.unwrap_or-least.result.0 ≡ least_of column.range = ap (λ r. r.0) c.unwrap_or-least.ensures ∙ unwrap_least column.range in
-    lane_read c.args.self.now column.range column.width column.words.items (in_lanes column.lanes) (subst (λ v. IsColumn v c.self.inside.range c.self.inside.width c.self.inside.words.items (in_lanes c.self.inside.lanes)) c.self.view_is c.self.invariant.0) c.unwrap_or-least.result.0 (c.args.from + i) _ x least (c.write.ensures.values i small ∙ ap (λ n. (c.unwrap_or-least.result.0 + n) % 2 ^ 64) (get_or-drop c.args.from (in_lanes column.lanes) i 0)) e
+    lane_read c.args.self.now column.range column.width column.words.items (in_lanes column.lanes)
+    (subst (λ v. IsColumn v c.self.inside.range c.self.inside.width c.self.inside.words.items (in_lanes c.self.inside.lanes)) c.self.view_is
+    c.self.invariant.0) c.unwrap_or-least.result.0 (c.args.from + i) _ x least (c.write.ensures.values i small
+    ∙ ap (λ n. (c.unwrap_or-least.result.0 + n) % 2 ^ 64) (get_or-drop c.args.from (in_lanes column.lanes) i 0)) e
