@@ -23,7 +23,8 @@ times-none {X} number n (x ∷ xs) h =
     let P : X → Type 0 = λ x. number x ≢ n in
     let rest = times-none number n xs (All-tail P x xs h) in
     let here : (number x == n) ≡ false =
-    ⊎_elim (λ (yes : (number x == n) ≡ true). absurd (All-head P x xs h (eqb-true (number x) n yes))) (λ (no : (number x == n) ≡ false). no) (cases_Bool (number x == n)) in
+    ⊎_elim (λ (yes : (number x == n) ≡ true). absurd (All-head P x xs h (eqb-true (number x) n yes))) (λ (no : (number x == n) ≡ false). no)
+    (cases_Bool (number x == n)) in
     let zero : cond (number x == n) 1 0 ≡ 0 = ap {B = ℕ} (λ b. cond b 1 0) here in
     omega (arith, sum_by-cons (λ x. cond (number x == n) 1 0) x xs, rest, zero)
 

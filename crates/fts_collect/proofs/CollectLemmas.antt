@@ -24,7 +24,8 @@ use Rattle.fts_collect.proofs.NamesLemmas.{named-fold}
 use Rattle.fts_collect.proofs.RanksLemmas.{IsNumberField, keep-first, first_keys-within}
 
 -- more values were counted
-pub counted-more : (segment : SegmentValue) (asked : Option ℕ) (field : ℕ) (numbers : List (Option ℕ)) (docs : List ℕ) (old new : Tally) → asked ≡ Some field → numbers ≡ column_of segment field →
+pub counted-more : (segment : SegmentValue) (asked : Option ℕ) (field : ℕ) (numbers : List (Option ℕ)) (docs : List ℕ) (old new : Tally) → asked ≡ Some field →
+    numbers ≡ column_of segment field →
     ((before : List ℕ) → IsTally before old → IsTally (before ++ present_at numbers docs) new) →
     (before : List ℕ) → HasCounted segment asked before old → HasCounted segment asked (before ++ docs) new
 counted-more segment asked field numbers docs old new is same more before =
@@ -34,16 +35,19 @@ counted-more segment asked field numbers docs old new is same more before =
     subst P (sym is)
     (λ counted.
     let R : List ℕ → Type 0 = λ xs. IsTally xs new in
-    subst R (sym (filter_map-append (λ doc. slice_index_or (column_of segment field) doc None) before docs)) (taken (present_at (column_of segment field) before) counted))
+    subst R (sym (filter_map-append (λ doc. slice_index_or (column_of segment field) doc None) before docs))
+    (taken (present_at (column_of segment field) before) counted))
 
 -- more keys were offered
-pub ranked-more : (segment : SegmentValue) (asked : Option Top) (top : Top) (numbers : List (Option ℕ)) (docs : List ℕ) (old new : TopKValue) → asked ≡ Some top → numbers ≡ column segment top.by →
+pub ranked-more : (segment : SegmentValue) (asked : Option Top) (top : Top) (numbers : List (Option ℕ)) (docs : List ℕ) (old new : TopKValue) →
+    asked ≡ Some top → numbers ≡ column segment top.by →
     new ≡ record { k = old.k; keys = keep_keys old.k old.keys (keys_at top.order segment.documents numbers docs) } →
     (before : List ℕ) → HasRanked segment asked before old → HasRanked segment asked (before ++ docs) new
 ranked-more segment asked top numbers docs old new is same more before =
     let P : Option Top → Type 0 = λ o. HasRanked segment o before old → HasRanked segment o (before ++ docs) new in
     let h = key_at top.order segment.documents (column segment top.by) in
-    let later : TopKValue → TopKValue = λ l. record { k = l.k; keys = keep_keys l.k l.keys (keys_at top.order segment.documents (column segment top.by) docs) } in
+    let later : TopKValue → TopKValue =
+    λ l. record { k = l.k; keys = keep_keys l.k l.keys (keys_at top.order segment.documents (column segment top.by) docs) } in
     subst P (sym is)
     (λ ranked.
     more
@@ -53,11 +57,13 @@ ranked-more segment asked top numbers docs old new is same more before =
     (keep-first top.k (filter_map h before) (filter_map h docs) ∙ ap (first_keys top.k) (sym (filter_map-append h before docs))))
 
 -- a number field has a kind that holds numbers
-kind_known : (schema : List Field) (field : ℕ) (kind : Kind) → kind_at schema field ≡ Some kind → is_number_field schema field ≡ true → holds_numbers kind ≡ true
+kind_known : (schema : List Field) (field : ℕ) (kind : Kind) → kind_at schema field ≡ Some kind → is_number_field schema field ≡ true →
+    holds_numbers kind ≡ true
 kind_known schema field kind known is = ap (λ (o : Option Kind). option_map_or holds_numbers o false) (sym known) ∙ is
 
 -- a number field of a segment whose documents have values of their fields
-pub number_field : (segment : SegmentValue) (field : ℕ) (kind : Kind) → HasNumbers segment → kind_at segment.schema field ≡ Some kind → is_number_field segment.schema field ≡ true → IsNumberField segment field kind
+pub number_field : (segment : SegmentValue) (field : ℕ) (kind : Kind) → HasNumbers segment → kind_at segment.schema field ≡ Some kind →
+    is_number_field segment.schema field ≡ true → IsNumberField segment field kind
 number_field segment field kind values known is =
     let holds = kind_known segment.schema field kind known is in
     record { known = known; holds = holds; can = values field kind known holds }
@@ -70,7 +76,8 @@ groups_at segment field docs has ordered =
     let is = (column_kept segment field has ordered).1 in
     let column = column_of segment field in
     let value = value_at segment field in
-    named-fold group_cmp value bound [] (present_at column docs) is.keeps (present_within segment.documents field bound column value docs is) (All-nil (λ (c : ℕ × ℕ). c.0 < bound))
+    named-fold group_cmp value bound [] (present_at column docs) is.keeps (present_within segment.documents field bound column value docs is)
+    (All-nil (λ (c : ℕ × ℕ). c.0 < bound))
     ∙ ap (fold (count_one group_cmp) []) (sym (values_kept segment.documents field bound column value docs is))
 
 -- what holds of what may be there
@@ -81,16 +88,20 @@ may_be p (Some x) h = h
 -- a request that fits has groups by a field whose values have an order, and a top list by a number field
 pub fits-groups : (schema : List Field) (request : Request) → request_fits schema request ≡ true → IfSome request.groups (λ f. is_ordered_field schema f ≡ true)
 fits-groups schema request fits =
-    may_be (is_ordered_field schema) request.groups (and_parts (option_map_or (is_ordered_field schema) request.groups true) (option_map_or (λ top. is_number_field schema top.by && is_limit top.k) request.top true) fits).0
+    may_be (is_ordered_field schema) request.groups (and_parts (option_map_or (is_ordered_field schema) request.groups true)
+    (option_map_or (λ top. is_number_field schema top.by && is_limit top.k) request.top true) fits).0
 
-top_field : (schema : List Field) (o : Option Top) → IfSome o (λ top. (is_number_field schema top.by && is_limit top.k) ≡ true) → IfSome o (λ t. is_number_field schema t.by ≡ true)
+top_field : (schema : List Field) (o : Option Top) → IfSome o (λ top. (is_number_field schema top.by && is_limit top.k) ≡ true) →
+    IfSome o (λ t. is_number_field schema t.by ≡ true)
 top_field schema None h = tt
 top_field schema (Some top) h = (and_parts (is_number_field schema top.by) (is_limit top.k) h).0
 
 pub fits-top : (schema : List Field) (request : Request) → request_fits schema request ≡ true → IfSome request.top (λ t. is_number_field schema t.by ≡ true)
 fits-top schema request fits =
     top_field schema request.top
-    (may_be (λ (top : Top). is_number_field schema top.by && is_limit top.k) request.top (and_parts (option_map_or (is_ordered_field schema) request.groups true) (option_map_or (λ top. is_number_field schema top.by && is_limit top.k) request.top true) fits).1)
+    (may_be (λ (top : Top). is_number_field schema top.by && is_limit top.k) request.top
+    (and_parts (option_map_or (is_ordered_field schema) request.groups true) (option_map_or (λ top. is_number_field schema top.by && is_limit top.k)
+    request.top true) fits).1)
 
 -- keys of hits are of documents
 pub ranked-within : (segment : SegmentValue) (wanted : Option Top) (docs : List ℕ) (top_k : TopKValue) → All (λ doc. doc < length segment.documents) docs →

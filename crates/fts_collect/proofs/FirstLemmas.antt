@@ -1,5 +1,6 @@
 -- The first of hits, and that they are the first of what several lists of hits begin with.
-use Rattle.std.proofs.Common.{◌≡◌, ℕ, ◌-◌, ◌<◌, ◌≤◌, ◌==◌, Bool, true, false, cond, ⊎_elim, List, [], ◌∷◌, ◌++◌, length, take, fold, refl, sym, ap, subst, ◌∙◌, arith, append_assoc, append-nil, length-append, All, AllPairs, Contains, get_or}
+use Rattle.std.proofs.Common.{◌≡◌, ℕ, ◌-◌, ◌<◌, ◌≤◌, ◌==◌, Bool, true, false, cond, ⊎_elim, List, [], ◌∷◌, ◌++◌, length, take, fold, refl, sym, ap, subst, ◌∙◌}
+use Rattle.std.proofs.Common.{arith, append_assoc, append-nil, length-append, All, AllPairs, Contains, get_or}
 use Rattle.std.specs.List.{flat_map}
 use Rattle.std.specs.List.Sorted.{IsPermutation, IsSortedBy}
 use Rattle.std.specs.Ordering.{is_lt}
@@ -7,7 +8,8 @@ use Rattle.std.proofs.lemmas.Bool.{cases_Bool}
 use Rattle.std.proofs.lemmas.List.{length-take, get_or-take, take_all, get_or_append_left, get_or-append_right}
 use Rattle.std.proofs.lemmas.List.Elements.{All-nil, All-head, All-tail}
 use Rattle.std.proofs.lemmas.List.Sums.{fold-append, sum_by-append, sum_by-take-le}
-use Rattle.std.proofs.lemmas.List.Sorted.{IsPermutation-refl, IsPermutation-sym, IsPermutation-trans, IsPermutation-append_left, IsPermutation-append_comm, Contains-permutation, sum_by-IsPermutation, sorted_far, ranks_by}
+use Rattle.std.proofs.lemmas.List.Sorted.{IsPermutation-refl, IsPermutation-sym, IsPermutation-trans, IsPermutation-append_left, IsPermutation-append_comm}
+use Rattle.std.proofs.lemmas.List.Sorted.{Contains-permutation, sum_by-IsPermutation, sorted_far, ranks_by}
 use Rattle.fts_model.specs.declared.query.Order.{Order}
 use Rattle.fts_model.specs.declared.answer.Hit.{Hit}
 use Rattle.fts_model.specs.Answers.{comes_before, put_hit}
@@ -28,7 +30,8 @@ in_order order hits = fold (put_hit order) [] hits
 -- what comes before doesn't come behind
 Before-not : (order : Order) (a b : Hit) → Before order a b → comes_before order b a ≡ false
 Before-not order a b h =
-    ⊎_elim (λ (yes : comes_before order b a ≡ true). absurd (Before-one_way order a b h yes)) (λ (no : comes_before order b a ≡ false). no) (cases_Bool (comes_before order b a))
+    ⊎_elim (λ (yes : comes_before order b a ≡ true). absurd (Before-one_way order a b h yes)) (λ (no : comes_before order b a ≡ false). no)
+    (cases_Bool (comes_before order b a))
 
 -- a hit behind all others is put last
 put_hit-last : (order : Order) (hits : List Hit) (hit : Hit) → All (λ g. Before order g hit) hits → put_hit order hits hit ≡ hits ++ hit ∷ []
@@ -43,11 +46,13 @@ none_left : (n : ℕ) → n - n ≡ 0
 none_left n = omega arith
 
 -- in a list in order, those in front come before the one behind them
-front_before : (order : Order) (done : List Hit) (hit : Hit) (rest : List Hit) → AllPairs (Before order) (done ++ hit ∷ rest) → All (λ g. Before order g hit) done
+front_before : (order : Order) (done : List Hit) (hit : Hit) (rest : List Hit) → AllPairs (Before order) (done ++ hit ∷ rest) →
+    All (λ g. Before order g hit) done
 front_before order done hit rest h = λ k d lt.
     let P : Hit → Type 0 = λ g. Before order g (get_or (done ++ hit ∷ rest) (length done) d) in
     let Q : Hit → Type 0 = Before order (get_or done k d) in
-    subst Q (get_or-append_right done (hit ∷ rest) (length done) (length done) d refl (omega arith) ∙ ap (λ n. get_or (hit ∷ rest) n d) (none_left (length done)))
+    subst Q (get_or-append_right done (hit ∷ rest) (length done) (length done) d refl (omega arith) ∙ ap (λ n. get_or (hit ∷ rest) n d)
+    (none_left (length done)))
     (subst P (get_or_append_left done (hit ∷ rest) d k lt) (h k (length done) d lt (simp length-append (omega arith))))
 
 -- a list in order, put into order hit by hit, stays
@@ -99,16 +104,19 @@ first_of-append : (k : ℕ) (order : Order) (hits more : List Hit) → first_of 
 first_of-append k order hits more = ap (take k) (fold-append (put_hit order) [] hits more) ∙ take-fold k order (in_order order hits) more
 
 -- the first of a list stand for it
-first_of-front : (k : ℕ) (order : Order) (hits more : List Hit) → AreApart hits → first_of k order (first_of k order hits ++ more) ≡ first_of k order (hits ++ more)
+first_of-front : (k : ℕ) (order : Order) (hits more : List Hit) → AreApart hits → first_of k order (first_of k order hits ++ more)
+    ≡ first_of k order (hits ++ more)
 first_of-front k order hits more apart =
-    first_of-append k order (first_of k order hits) more ∙ ap (λ hs. fold (keep k order) hs more) (first_of-again k order hits apart) ∙ sym (first_of-append k order hits more)
+    first_of-append k order (first_of k order hits) more ∙ ap (λ hs. fold (keep k order) hs more) (first_of-again k order hits apart)
+    ∙ sym (first_of-append k order hits more)
 
 -- a list in order of the same hits is these in order
 pub ordered-one : (order : Order) (hits list : List Hit) → AreApart hits → IsPermutation hits list → AllPairs (Before order) list → list ≡ in_order order hits
 ordered-one order hits list apart is up =
     one_order (Before order) (Before-one_way order) list (in_order order hits) up (ordered order hits apart)
     (λ z at. Contains-permutation hits (in_order order hits) z (moved order hits) (Contains-permutation list hits z (IsPermutation-sym hits list is) at))
-    (λ z at. Contains-permutation hits list z is (Contains-permutation (in_order order hits) hits z (IsPermutation-sym hits (in_order order hits) (moved order hits)) at))
+    (λ z at. Contains-permutation hits list z is
+    (Contains-permutation (in_order order hits) hits z (IsPermutation-sym hits (in_order order hits) (moved order hits)) at))
 
 -- lists of the same hits have the same first
 pub first_of-members : (k : ℕ) (order : Order) (hits others : List Hit) → AreApart hits → AreApart others →
@@ -121,7 +129,8 @@ first_of-members k order hits others apart separate there back =
     (λ z at. Contains-permutation hits a z (moved order hits) (back z (Contains-permutation b others z (IsPermutation-sym others b (moved order others)) at))))
 
 -- the first of hits are the first of them in another order
-pub first_of-permuted : (k : ℕ) (order : Order) (hits others : List Hit) → AreApart hits → IsPermutation hits others → first_of k order hits ≡ first_of k order others
+pub first_of-permuted : (k : ℕ) (order : Order) (hits others : List Hit) → AreApart hits → IsPermutation hits others →
+    first_of k order hits ≡ first_of k order others
 first_of-permuted k order hits others apart is =
     ap (take k) (ordered-one order others (in_order order hits) (once-permuted stamp_of hits others is apart)
     (IsPermutation-trans others hits (in_order order hits) (IsPermutation-sym hits others is) (moved order hits)) (ordered order hits apart))
@@ -129,7 +138,12 @@ first_of-permuted k order hits others apart is =
 -- no stamp stands more often among the first than among all
 times-first_of : (k : ℕ) (order : Order) (hits : List Hit) (stamp : ℕ) → times stamp_of stamp (first_of k order hits) ≤ times stamp_of stamp hits
 times-first_of k order hits stamp =
-    omega (arith, sum_by-take-le (λ (h : Hit). cond (h.stamp == stamp) 1 0) (in_order order hits) k, sum_by-IsPermutation (λ (h : Hit). cond (h.stamp == stamp) 1 0) hits (in_order order hits) (moved order hits))
+    omega (
+      arith,
+      sum_by-take-le (λ (h : Hit). cond (h.stamp == stamp) 1 0) (in_order order hits) k,
+      sum_by-IsPermutation
+          (λ (h : Hit). cond (h.stamp == stamp) 1 0) hits (in_order order hits) (moved order hits),
+    )
 
 -- nor among the first of several lists
 times-firsts : (k : ℕ) (order : Order) (lists : List (List Hit)) (stamp : ℕ) →
@@ -189,7 +203,8 @@ firsts_behind k order done (hits ∷ lists) apart =
     let behind : AreApart (hits ++ (done ++ all)) = once-permuted stamp_of (done ++ (hits ++ all)) (hits ++ (done ++ all)) front apart in
     let P : List Hit → Type 0 = AreApart in
     let again : AreApart ((hits ++ done) ++ all) = subst P (sym (append_assoc hits done all)) behind in
-    first_of-permuted k order (done ++ (first_of k order hits ++ firsts)) (first_of k order hits ++ (done ++ firsts)) (apart-firsts k order done (hits ∷ lists) apart) (second_front done (first_of k order hits) firsts)
+    first_of-permuted k order (done ++ (first_of k order hits ++ firsts)) (first_of k order hits ++ (done ++ firsts))
+    (apart-firsts k order done (hits ∷ lists) apart) (second_front done (first_of k order hits) firsts)
     ∙ first_of-front k order hits (done ++ firsts) (apart-front hits (done ++ all) behind)
     ∙ ap (first_of k order) (sym (append_assoc hits done firsts))
     ∙ firsts_behind k order (hits ++ done) lists again
@@ -211,13 +226,16 @@ Before-sorted order hits apart sorted = λ i j d up lt.
     let a = get_or hits i d in
     let b = get_or hits j d in
     let P : Bool → Type 0 = λ t. t ≡ false in
-    let late : is_lt (rank order b a) ≡ false = sorted_far (λ x y. is_lt (rank order x y)) (ranks_by (rank_total order) (λ (h : Hit). h)) hits sorted i j d (omega (arith, up)) lt in
+    let late : is_lt (rank order b a) ≡ false = sorted_far (λ x y. is_lt (rank order x y)) (ranks_by (rank_total order) (λ (h : Hit). h)) hits sorted i j d
+    (omega (arith, up)) lt in
     let behind : comes_before order b a ≡ false =
-    ⊎_elim (λ (yes : comes_before order b a ≡ true). let ranks = ap is_lt (ranked order b a yes) in let contra : true ≡ false = sym ranks ∙ late in cc) (λ (no : comes_before order b a ≡ false). no) (cases_Bool (comes_before order b a)) in
+    ⊎_elim (λ (yes : comes_before order b a ≡ true). let ranks = ap is_lt (ranked order b a yes) in let contra : true ≡ false = sym ranks ∙ late in cc)
+    (λ (no : comes_before order b a ≡ false). no) (cases_Bool (comes_before order b a)) in
     Before-else order b a (λ same. apart i j d up lt (sym same)) behind
 
 -- the first of hits, once they are sorted
-pub first_of-sorted : (k : ℕ) (order : Order) (hits list : List Hit) → AreApart hits → IsPermutation hits list → IsSortedBy (λ a b. is_lt (rank order a b)) list →
+pub first_of-sorted : (k : ℕ) (order : Order) (hits list : List Hit) → AreApart hits → IsPermutation hits list →
+    IsSortedBy (λ a b. is_lt (rank order a b)) list →
     take k list ≡ first_of k order hits
 first_of-sorted k order hits list apart is sorted =
     ap (take k) (ordered-one order hits list apart is (Before-sorted order list (once-permuted stamp_of hits list is apart) sorted))

@@ -38,14 +38,16 @@ value_can kinds.I64 kinds.U64 (values.Number (numbers.I64 z)) holds is can = cc
 value_can kinds.I64 kinds.I64 (values.Number (numbers.I64 z)) holds is can = can
 
 -- what may stand in a number field is what it can have
-may_can : (there field : Field) (v : Option FieldValue) (kind : Kind) → CanHave field.kind v → may_stand (Some there) field v ≡ true → there.kind ≡ kind → holds_numbers kind ≡ true → CanHave kind v
+may_can : (there field : Field) (v : Option FieldValue) (kind : Kind) → CanHave field.kind v → may_stand (Some there) field v ≡ true → there.kind ≡ kind →
+    holds_numbers kind ≡ true → CanHave kind v
 may_can there field None kind can stands same holds = tt
 may_can there field (Some v) kind can stands same holds =
     let P : Kind → Type 0 = λ k. is_of_kind k v ≡ true in
     value_can kind field.kind v holds (subst P same (and_parts (bytes_eq field.name there.name) (is_of_kind there.kind v) stands).1) can
 
 -- each of values that fit a schema is one that the number field of its number can have
-field_can : (schema fields : List Field) (vs : List (Option FieldValue)) (field : ℕ) (kind : Kind) → AreValuesOf fields vs → fits_fields schema fields vs ≡ true →
+field_can : (schema fields : List Field) (vs : List (Option FieldValue)) (field : ℕ) (kind : Kind) → AreValuesOf fields vs →
+    fits_fields schema fields vs ≡ true →
     kind_at schema field ≡ Some kind → holds_numbers kind ≡ true → CanHave kind (option_and_then (λ v. v) (slice_get vs field))
 field_can schema [] [] field kind are fit known holds = tt
 field_can schema [] (v ∷ vs) field kind are fit known holds = absurd are
@@ -58,7 +60,8 @@ field_can (s ∷ ss) (f ∷ fs) (v ∷ vs) (suc field) kind are fit known holds 
     field_can ss fs vs field kind are.1 (and_parts (may_stand (Some s) f v) (fits_fields ss fs vs) fit).1 known holds
 
 -- what may stand in a keyword field is a text
-may_be_text : (there field : Field) (v : Option FieldValue) → may_stand (Some there) field v ≡ true → there.kind ≡ kinds.Keyword → IfSome v (λ v. is_of_kind kinds.Keyword v ≡ true)
+may_be_text : (there field : Field) (v : Option FieldValue) → may_stand (Some there) field v ≡ true → there.kind ≡ kinds.Keyword →
+    IfSome v (λ v. is_of_kind kinds.Keyword v ≡ true)
 may_be_text there field None stands same = tt
 may_be_text there field (Some v) stands same =
     let P : Kind → Type 0 = λ k. is_of_kind k v ≡ true in
@@ -78,7 +81,8 @@ field_is_text (s ∷ ss) (f ∷ fs) (v ∷ vs) (suc field) are fit known =
     field_is_text ss fs vs field are.1 (and_parts (may_stand (Some s) f v) (fits_fields ss fs vs) fit).1 known
 
 -- documents that fit the schema of their segment have numbers and keywords where it says so
-pub has_values : (segment : SegmentValue) → All (λ d. IsDocument d.value) segment.documents → All (λ d. fits segment.schema d.value ≡ true) segment.documents → HasValues segment
+pub has_values : (segment : SegmentValue) → All (λ d. IsDocument d.value) segment.documents → All (λ d. fits segment.schema d.value ≡ true) segment.documents →
+    HasValues segment
 has_values segment documents fit = record {
   numbers = λ field kind known holds k d within.
       let at : Stamped DocumentValue = get_or segment.documents k d in
@@ -106,5 +110,6 @@ ordered_number schema field is =
 pub column_is : (segment : SegmentValue) (field : ℕ) (found : List (Option ℕ)) → (is_number_field segment.schema field ≡ true → found ≡ column segment field) →
     (is_number_field segment.schema field ≡ false → found ≡ ordinals segment field) → found ≡ column_of segment field
 column_is segment field found numbers keywords =
-    elim (is_number_field segment.schema field) as (λ b. is_number_field segment.schema field ≡ b → found ≡ cond b (column segment field) (ordinals segment field))
+    elim (is_number_field segment.schema field) as (λ b. is_number_field segment.schema field ≡ b → found ≡ cond b (column segment field)
+    (ordinals segment field))
     [ true ↦ numbers | false ↦ keywords ] refl

@@ -1,5 +1,6 @@
 -- The groups of parts, put together.
-use Rattle.std.proofs.Common.{◌≡◌, ℕ, ◌+◌, ◌^◌, ◌<◌, ◌≤◌, Bool, true, false, cond, ◌⊎◌, ⊎_elim, List, [], ◌∷◌, ◌++◌, length, take, drop, fold, Some, refl, sym, ap, subst, ◌∙◌, arith, append_assoc, append-nil, length-append, All, get_or, unwrap_or}
+use Rattle.std.proofs.Common.{◌≡◌, ℕ, ◌+◌, ◌^◌, ◌<◌, ◌≤◌, Bool, true, false, cond, ◌⊎◌, ⊎_elim, List, [], ◌∷◌, ◌++◌, length, take, drop, fold, Some, refl, sym}
+use Rattle.std.proofs.Common.{ap, subst, ◌∙◌, arith, append_assoc, append-nil, length-append, All, get_or, unwrap_or}
 use Rattle.std.specs.Ordering.{match_ordering, is_eq}
 use Rattle.std.specs.declared.cmp.Ordering.{Ordering}
 use Rattle.std.specs.declared.cmp.Ordering.TheVariants.{Less, Equal, Greater}
@@ -36,7 +37,8 @@ split_count true n m = refl
 split_count false n m = refl
 
 -- a group more is counted for its value alone, however that stands to the first group's
-counted_at : (o : Ordering) (group : GroupValue × ℕ) (others : List (GroupValue × ℕ)) (more : GroupValue × ℕ) (n : GroupValue) → group_cmp more.0 group.0 ≡ o → group.1 + more.1 < 2 ^ 64 →
+counted_at : (o : Ordering) (group : GroupValue × ℕ) (others : List (GroupValue × ℕ)) (more : GroupValue × ℕ) (n : GroupValue) → group_cmp more.0 group.0 ≡ o →
+    group.1 + more.1 < 2 ^ 64 →
     count_in group_cmp (add_group others more) n ≡ count_in group_cmp others n + cond (is_eq (group_cmp n more.0)) more.1 0 →
     count_in group_cmp (match_ordering o (more ∷ group ∷ others) ((group.0, counts_added group.1 more.1) ∷ others) (group ∷ add_group others more)) n
     ≡ count_in group_cmp (group ∷ others) n + cond (is_eq (group_cmp n more.0)) more.1 0
@@ -58,13 +60,15 @@ count_in-more (group ∷ others) more n fits =
 -- all of a group more are counted, however its value stands to the first group's
 hits_at : (o : Ordering) (group : GroupValue × ℕ) (others : List (GroupValue × ℕ)) (more : GroupValue × ℕ) → group.1 + more.1 < 2 ^ 64 →
     hits_counted (add_group others more) ≡ hits_counted others + more.1 →
-    hits_counted (match_ordering o (more ∷ group ∷ others) ((group.0, counts_added group.1 more.1) ∷ others) (group ∷ add_group others more)) ≡ group.1 + hits_counted others + more.1
+    hits_counted (match_ordering o (more ∷ group ∷ others) ((group.0, counts_added group.1 more.1) ∷ others) (group ∷ add_group others more))
+    ≡ group.1 + hits_counted others + more.1
 hits_at Less group others more fits rest = omega arith
 hits_at Equal group others more fits rest = omega (arith, added_fits group.1 more.1 fits)
 hits_at Greater group others more fits rest = omega (arith, rest)
 
 -- all of a group more are counted
-hits_counted-more : (others : List (GroupValue × ℕ)) (more : GroupValue × ℕ) → hits_counted others + more.1 < 2 ^ 64 → hits_counted (add_group others more) ≡ hits_counted others + more.1
+hits_counted-more : (others : List (GroupValue × ℕ)) (more : GroupValue × ℕ) → hits_counted others + more.1 < 2 ^ 64 →
+    hits_counted (add_group others more) ≡ hits_counted others + more.1
 hits_counted-more [] more fits = omega arith
 hits_counted-more (group ∷ others) more fits =
     hits_at (group_cmp more.0 group.0) group others more (omega (arith, fits)) (hits_counted-more others more (omega (arith, fits)))
@@ -79,7 +83,8 @@ count_in-all others (g ∷ more) n fits =
     omega (arith, count_in-all (add_group others g) more n (omega (arith, fits, step)), count_in-more others g n here)
 
 -- what holds of groups holds with one more, however its value stands to the first group's
-all_at : (P : GroupValue × ℕ → Type 0) (o : Ordering) (group : GroupValue × ℕ) (others : List (GroupValue × ℕ)) (more : GroupValue × ℕ) → ((g : GroupValue × ℕ) (m : ℕ) → P g → P (g.0, counts_added g.1 m)) →
+all_at : (P : GroupValue × ℕ → Type 0) (o : Ordering) (group : GroupValue × ℕ) (others : List (GroupValue × ℕ)) (more : GroupValue × ℕ) →
+    ((g : GroupValue × ℕ) (m : ℕ) → P g → P (g.0, counts_added g.1 m)) →
     P more → P group → All P others → All P (add_group others more) →
     All P (match_ordering o (more ∷ group ∷ others) ((group.0, counts_added group.1 more.1) ∷ others) (group ∷ add_group others more))
 all_at P Less group others more grows p here behind rest = All-cons P more (group ∷ others) p (All-cons P group others here behind)
@@ -87,7 +92,8 @@ all_at P Equal group others more grows p here behind rest = All-cons P (group.0,
 all_at P Greater group others more grows p here behind rest = All-cons P group (add_group others more) here rest
 
 -- what holds of groups holds with one more
-All-add_group : (P : GroupValue × ℕ → Type 0) (others : List (GroupValue × ℕ)) (more : GroupValue × ℕ) → ((g : GroupValue × ℕ) (m : ℕ) → P g → P (g.0, counts_added g.1 m)) →
+All-add_group : (P : GroupValue × ℕ → Type 0) (others : List (GroupValue × ℕ)) (more : GroupValue × ℕ) →
+    ((g : GroupValue × ℕ) (m : ℕ) → P g → P (g.0, counts_added g.1 m)) →
     P more → All P others → All P (add_group others more)
 All-add_group P [] more grows p ps = All-cons P more [] p (All-nil P)
 All-add_group P (group ∷ others) more grows p ps =
@@ -100,12 +106,15 @@ rising_at : (o : Ordering) (group : GroupValue × ℕ) (others : List (GroupValu
     GroupsRise (match_ordering o (more ∷ group ∷ others) ((group.0, counts_added group.1 more.1) ∷ others) (group ∷ add_group others more))
 rising_at Less group others more e rising rest =
     AllPairs-cons (Below group_cmp) more (group ∷ others)
-    (All-cons (Below group_cmp more) group others e (λ k d lt. group_order.total.trans more.0 group.0 _ e (pairs_front (Below group_cmp) group others rising k d lt))) rising
+    (All-cons (Below group_cmp more) group others e (λ k d lt. group_order.total.trans more.0 group.0 _ e (pairs_front (Below group_cmp) group others rising k d
+    lt))) rising
 rising_at Equal group others more e rising rest =
-    AllPairs-cons (Below group_cmp) (group.0, counts_added group.1 more.1) others (pairs_front (Below group_cmp) group others rising) (pairs_behind (Below group_cmp) group others rising)
+    AllPairs-cons (Below group_cmp) (group.0, counts_added group.1 more.1) others (pairs_front (Below group_cmp) group others rising)
+    (pairs_behind (Below group_cmp) group others rising)
 rising_at Greater group others more e rising rest =
     AllPairs-cons (Below group_cmp) group (add_group others more)
-    (All-add_group (Below group_cmp group) others more (λ g m p. p) (order_below group_order more.0 group.0 e) (pairs_front (Below group_cmp) group others rising)) rest
+    (All-add_group (Below group_cmp group) others more (λ g m p. p) (order_below group_order more.0 group.0 e)
+    (pairs_front (Below group_cmp) group others rising)) rest
 
 -- groups that rise do so with one more
 rising-add_group : (others : List (GroupValue × ℕ)) (more : GroupValue × ℕ) → GroupsRise others → GroupsRise (add_group others more)
@@ -144,7 +153,8 @@ groups-together field hits more fits =
     let front = groups field hits in
     let back = groups field more in
     let few : hits_counted front + hits_counted back < 2 ^ 64 = omega (arith, fits, hits_counted-groups field hits, hits_counted-groups field more) in
-    one_list_of_groups group_order (fold add_group front back) (groups field (hits ++ more)) (rising-all front back (groups-rise field hits)) (positive-all front back (groups-positive field hits) (groups-positive field more))
+    one_list_of_groups group_order (fold add_group front back) (groups field (hits ++ more)) (rising-all front back (groups-rise field hits))
+    (positive-all front back (groups-positive field hits) (groups-positive field more))
     (groups-rise field (hits ++ more)) (groups-positive field (hits ++ more))
     (λ n. omega (
       arith,
@@ -156,7 +166,8 @@ groups-together field hits more fits =
     ))
 
 -- a group below all others stays in front
-fold-behind : (group : GroupValue × ℕ) (others more : List (GroupValue × ℕ)) → All (Below group_cmp group) more → fold add_group (group ∷ others) more ≡ group ∷ fold add_group others more
+fold-behind : (group : GroupValue × ℕ) (others more : List (GroupValue × ℕ)) → All (Below group_cmp group) more →
+    fold add_group (group ∷ others) more ≡ group ∷ fold add_group others more
 fold-behind group others [] above = refl
 fold-behind group others (g ∷ more) above =
     let greater : group_cmp g.0 group.0 ≡ Greater = order_above group_order group.0 g.0 (All-head (Below group_cmp group) g more above) in
@@ -187,7 +198,8 @@ pub merge-greater : (a b : GroupValue × ℕ) (us bs : List (GroupValue × ℕ))
     fold add_group (a ∷ us) (b ∷ bs) ≡ a ∷ fold add_group us (b ∷ bs)
 merge-greater a b us bs rising e =
     let below : Below group_cmp a b = order_below group_order b.0 a.0 e in
-    fold-behind a us (b ∷ bs) (All-cons (Below group_cmp a) b bs below (λ k d lt. group_order.total.trans a.0 b.0 _ below (pairs_front (Below group_cmp) b bs rising k d lt)))
+    fold-behind a us (b ∷ bs)
+    (All-cons (Below group_cmp a) b bs below (λ k d lt. group_order.total.trans a.0 b.0 _ below (pairs_front (Below group_cmp) b bs rising k d lt)))
 
 -- groups that rise do so from a place on
 rising-drop : (xs : List (GroupValue × ℕ)) (i : ℕ) → GroupsRise xs → GroupsRise (drop i xs)
@@ -198,7 +210,8 @@ rising-drop xs k rising = λ i j d up lt.
     subst P (sym (get_or-drop k xs i d)) (subst Q (sym (get_or-drop k xs j d)) (rising (k + i) (k + j) d (omega (arith, up)) within))
 
 -- a step of merging puts the lower first group behind what was put
-pub merged-less : (front back list : List (GroupValue × ℕ)) (i j : ℕ) (a b : GroupValue × ℕ) (all : List (GroupValue × ℕ)) → i < length front → j < length back →
+pub merged-less : (front back list : List (GroupValue × ℕ)) (i j : ℕ) (a b : GroupValue × ℕ) (all : List (GroupValue × ℕ)) → i < length front →
+    j < length back →
     a ≡ get_or front i a → b ≡ get_or back j b → group_cmp b.0 a.0 ≡ Less → GroupsRise back → list ++ fold add_group (drop i front) (drop j back) ≡ all →
     (list ++ b ∷ []) ++ fold add_group (drop i front) (drop (j + 1) back) ≡ all
 merged-less front back list i j a b all h l at here e rising is =
@@ -213,7 +226,8 @@ merged-less front back list i j a b all h l at here e rising is =
     ∙ ap (λ xs. list ++ fold add_group (drop i front) xs) (sym (dropped back j b l here))
     ∙ is
 
-pub merged-equal : (front back list : List (GroupValue × ℕ)) (i j : ℕ) (a b : GroupValue × ℕ) (all : List (GroupValue × ℕ)) → i < length front → j < length back →
+pub merged-equal : (front back list : List (GroupValue × ℕ)) (i j : ℕ) (a b : GroupValue × ℕ) (all : List (GroupValue × ℕ)) → i < length front →
+    j < length back →
     a ≡ get_or front i a → b ≡ get_or back j b → group_cmp b.0 a.0 ≡ Equal → GroupsRise back → list ++ fold add_group (drop i front) (drop j back) ≡ all →
     (list ++ (a.0, counts_added a.1 b.1) ∷ []) ++ fold add_group (drop (i + 1) front) (drop (j + 1) back) ≡ all
 merged-equal front back list i j a b all h l at here e rising is =
@@ -227,7 +241,8 @@ merged-equal front back list i j a b all h l at here e rising is =
     ∙ ap (λ xs. list ++ fold add_group (drop i front) xs) (sym (dropped back j b l here))
     ∙ is
 
-pub merged-greater : (front back list : List (GroupValue × ℕ)) (i j : ℕ) (a b : GroupValue × ℕ) (all : List (GroupValue × ℕ)) → i < length front → j < length back →
+pub merged-greater : (front back list : List (GroupValue × ℕ)) (i j : ℕ) (a b : GroupValue × ℕ) (all : List (GroupValue × ℕ)) → i < length front →
+    j < length back →
     a ≡ get_or front i a → b ≡ get_or back j b → group_cmp b.0 a.0 ≡ Greater → GroupsRise back → list ++ fold add_group (drop i front) (drop j back) ≡ all →
     (list ++ a ∷ []) ++ fold add_group (drop (i + 1) front) (drop j back) ≡ all
 merged-greater front back list i j a b all h l at here e rising is =
@@ -249,7 +264,8 @@ merged-end front back list i j all end rising is =
     ⊎_elim
     (λ (past : length front ≤ i).
     let none : drop i front ≡ [] = drop_all i front past in
-    ap (λ xs. (list ++ xs) ++ drop j back) none ∙ ap (λ xs. xs ++ drop j back) (append-nil list) ∙ ap (λ xs. list ++ xs) (sym (fold-rising (drop j back) (rising-drop back j rising)))
+    ap (λ xs. (list ++ xs) ++ drop j back) none ∙ ap (λ xs. xs ++ drop j back) (append-nil list)
+    ∙ ap (λ xs. list ++ xs) (sym (fold-rising (drop j back) (rising-drop back j rising)))
     ∙ ap (λ xs. list ++ fold add_group xs (drop j back)) (sym none) ∙ is)
     (λ (past : length back ≤ j).
     let none : drop j back ≡ [] = drop_all j back past in
@@ -257,13 +273,17 @@ merged-end front back list i j all end rising is =
     end
 
 -- the lists of the parts in front, and those of the parts behind
-pub AreGroupsOf-take : (field n : ℕ) (lists : List (List (Stamped DocumentValue))) (parts : List PartValue) → AreGroupsOf field lists parts → AreGroupsOf field (take n lists) (take n parts)
+pub AreGroupsOf-take : (field n : ℕ) (lists : List (List (Stamped DocumentValue))) (parts : List PartValue) → AreGroupsOf field lists parts →
+    AreGroupsOf field (take n lists) (take n parts)
 AreGroupsOf-take field n lists parts are =
-    sym (take-map (λ (part : PartValue). part.answer.groups) n parts) ∙ ap (take n) are ∙ take-map (λ (hits : List (Stamped DocumentValue)). Some (groups field hits)) n lists
+    sym (take-map (λ (part : PartValue). part.answer.groups) n parts) ∙ ap (take n) are
+    ∙ take-map (λ (hits : List (Stamped DocumentValue)). Some (groups field hits)) n lists
 
-pub AreGroupsOf-drop : (field n : ℕ) (lists : List (List (Stamped DocumentValue))) (parts : List PartValue) → AreGroupsOf field lists parts → AreGroupsOf field (drop n lists) (drop n parts)
+pub AreGroupsOf-drop : (field n : ℕ) (lists : List (List (Stamped DocumentValue))) (parts : List PartValue) → AreGroupsOf field lists parts →
+    AreGroupsOf field (drop n lists) (drop n parts)
 AreGroupsOf-drop field n lists parts are =
-    sym (drop-map (λ (part : PartValue). part.answer.groups) n parts) ∙ ap (drop n) are ∙ drop-map (λ (hits : List (Stamped DocumentValue)). Some (groups field hits)) n lists
+    sym (drop-map (λ (part : PartValue). part.answer.groups) n parts) ∙ ap (drop n) are
+    ∙ drop-map (λ (hits : List (Stamped DocumentValue)). Some (groups field hits)) n lists
 
 -- the hits of some lists and of the others are those of all
 pub joined-split : (n : ℕ) (lists : List (List (Stamped DocumentValue))) → joined (take n lists) ++ joined (drop n lists) ≡ joined lists

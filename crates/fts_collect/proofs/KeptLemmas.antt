@@ -1,5 +1,6 @@
 -- What the column of a field keeps stands for the values of its documents, and in their order.
-use Rattle.std.proofs.Common.{Bor, unwrap_or, ◌≡◌, ℕ, zero, suc, ◌^◌, ◌<◌, ◌≤◌, true, false, cond, ⊎_elim, List, [], ◌∷◌, length, map, Option, Some, None, refl, sym, ap, subst, ◌∙◌, arith, All, Contains, IfSome, get_or, option_map}
+use Rattle.std.proofs.Common.{Bor, unwrap_or, ◌≡◌, ℕ, zero, suc, ◌^◌, ◌<◌, ◌≤◌, true, false, cond, ⊎_elim, List, [], ◌∷◌, length, map, Option, Some, None, refl}
+use Rattle.std.proofs.Common.{sym, ap, subst, ◌∙◌, arith, All, Contains, IfSome, get_or, option_map}
 use Rattle.std.specs.Prelude.{slice_get, slice_index_or, option_and_then, option_copied}
 use Rattle.std.specs.Cmp.Lexicographic.{slice_cmp, nat_list_cmp_total}
 use Rattle.std.specs.List.{filter_map, cons_option}
@@ -71,9 +72,11 @@ climbs_at (t ∷ ts) (suc i) (suc j) climbs up less = climbs_at ts i j climbs.1 
 -- ordinals stand as their keywords do
 ordinals_keep : (ts : List (List ℕ)) → Climbs ts → KeepsOrder group_cmp (value_in kinds.Keyword ts) (length ts)
 ordinals_keep ts climbs x y h l =
-    ⊎_elim (λ (same : x ≡ y). ap (λ n. slice_cmp nat_cmp (get_or ts n []) (get_or ts y [])) same ∙ tied_itself nat_list_cmp_total (get_or ts y []) ∙ sym (ap (λ n. nat_cmp n y) same ∙ itself y))
+    ⊎_elim (λ (same : x ≡ y). ap (λ n. slice_cmp nat_cmp (get_or ts n []) (get_or ts y [])) same ∙ tied_itself nat_list_cmp_total (get_or ts y [])
+    ∙ sym (ap (λ n. nat_cmp n y) same ∙ itself y))
     (⊎_elim (λ (up : x < y). climbs_at ts x y climbs up l ∙ sym (below x y up))
-    (λ (down : y < x). nat_list_cmp_total.antisymm (get_or ts x []) (get_or ts y []) ∙ ap ordering_reverse (climbs_at ts y x climbs down h) ∙ sym (order_above nat_order y x (below y x down))))
+    (λ (down : y < x). nat_list_cmp_total.antisymm (get_or ts x []) (get_or ts y []) ∙ ap ordering_reverse (climbs_at ts y x climbs down h)
+    ∙ sym (order_above nat_order y x (below y x down))))
     (cases_order x y)
 
 -- a text that is among others stands at the number of those before it
@@ -90,9 +93,11 @@ texts_climb vs = in_order-climbs (texts_in (map (keyword_of kinds.Keyword) vs))
 
 -- the ordinal of a text stands for it
 ordinal_kept : (vs : List (Option FieldValue)) (v : Option FieldValue) → Contains vs v → IfSome v (λ v. is_of_kind kinds.Keyword v ≡ true) →
-    option_and_then group_of v ≡ option_map (value_in kinds.Keyword (texts_of kinds.Keyword vs)) (option_map (before (texts_of kinds.Keyword vs)) (keyword_of kinds.Keyword v))
+    option_and_then group_of v ≡ option_map (value_in kinds.Keyword (texts_of kinds.Keyword vs))
+    (option_map (before (texts_of kinds.Keyword vs)) (keyword_of kinds.Keyword v))
 ordinal_kept vs None at is = refl
-ordinal_kept vs (Some (values.Text t)) at is = ap (λ x. Some (group_values.Keyword x)) (sym (text_at (texts_of kinds.Keyword vs) t (texts_climb vs) (text_among vs t at)).1)
+ordinal_kept vs (Some (values.Text t)) at is =
+    ap (λ x. Some (group_values.Keyword x)) (sym (text_at (texts_of kinds.Keyword vs) t (texts_climb vs) (text_among vs t at)).1)
 ordinal_kept vs (Some (values.Texts ts)) at is = cc
 ordinal_kept vs (Some (values.Number n)) at is = cc
 
@@ -124,9 +129,11 @@ is_kept documents field bound keep value kept within keeps =
       kept = λ doc.
           ⊎_elim
           (λ (inside : doc < length documents).
-          ap (option_and_then g) (slice_get-get_or documents doc d inside) ∙ kept doc d inside ∙ ap (option_map value) (sym (get_or-map f documents doc d None inside)))
+          ap (option_and_then g) (slice_get-get_or documents doc d inside) ∙ kept doc d inside
+          ∙ ap (option_map value) (sym (get_or-map f documents doc d None inside)))
           (λ (past : length documents ≤ doc).
-          ap (option_and_then g) (slice_get_past documents doc past) ∙ ap (option_map value) (sym (get_or_past (map f documents) doc None (omega (arith, length-map documents f, past)))))
+          ap (option_and_then g) (slice_get_past documents doc past)
+          ∙ ap (option_map value) (sym (get_or_past (map f documents) doc None (omega (arith, length-map documents f, past)))))
           (cases_lt doc (length documents));
       within = λ doc.
           ⊎_elim (λ (inside : doc < length documents). subst P (sym (get_or-map f documents doc d None inside)) (within doc d inside))
@@ -136,7 +143,8 @@ is_kept documents field bound keep value kept within keeps =
     }
 
 -- the column of a number field is one
-numbers_are_kept : (documents : List (Stamped DocumentValue)) (field : ℕ) (kind : Kind) (keywords : List (List ℕ)) → holds_numbers kind ≡ true → All (λ d. CanHave kind (value_in_field d.value field)) documents →
+numbers_are_kept : (documents : List (Stamped DocumentValue)) (field : ℕ) (kind : Kind) (keywords : List (List ℕ)) → holds_numbers kind ≡ true →
+    All (λ d. CanHave kind (value_in_field d.value field)) documents →
     IsKept documents field (2 ^ 64) (map (λ d. number_of kind (value_in_field d.value field)) documents) (value_in kind keywords)
 numbers_are_kept documents field kind keywords holds can =
     is_kept documents field (2 ^ 64) (number_of kind) (value_in kind keywords)
@@ -152,8 +160,10 @@ value_among field documents k d within =
     (k, omega (arith, length-map documents value, within), get_or-map value documents k d (value (get_or documents k d)) within)
 
 -- so are the ordinals of a keyword field
-ordinals_are_kept : (documents : List (Stamped DocumentValue)) (field : ℕ) → All (λ d. IfSome (value_in_field d.value field) (λ v. is_of_kind kinds.Keyword v ≡ true)) documents →
-    IsKept documents field (length (texts_of kinds.Keyword (values_in field documents))) (ordinals_of kinds.Keyword (values_in field documents)) (value_in kinds.Keyword (texts_of kinds.Keyword (values_in field documents)))
+ordinals_are_kept : (documents : List (Stamped DocumentValue)) (field : ℕ) →
+    All (λ d. IfSome (value_in_field d.value field) (λ v. is_of_kind kinds.Keyword v ≡ true)) documents →
+    IsKept documents field (length (texts_of kinds.Keyword (values_in field documents))) (ordinals_of kinds.Keyword (values_in field documents))
+    (value_in kinds.Keyword (texts_of kinds.Keyword (values_in field documents)))
 ordinals_are_kept documents field are =
     let vs = values_in field documents in
     let ts = texts_of kinds.Keyword vs in
@@ -179,22 +189,33 @@ value_with segment field kind x =
 kept_with : (segment : SegmentValue) (field : ℕ) (kind : Kind) → HasValues segment → kind_at segment.schema field ≡ Some kind → is_ordered kind ≡ true →
     (bound : ℕ) × IsKept segment.documents field bound (column_with segment field (Some kind)) (value_with segment field (Some kind))
 kept_with segment field kinds.Text has known ordered = cc
-kept_with segment field kinds.Keyword has known ordered = (length (texts_of kinds.Keyword (values_in field segment.documents)), ordinals_are_kept segment.documents field (has.keywords field known))
-kept_with segment field kinds.U64 has known ordered = (2 ^ 64, numbers_are_kept segment.documents field kinds.U64 (texts_of kinds.U64 (values_in field segment.documents)) refl (has.numbers field kinds.U64 known refl))
-kept_with segment field kinds.I64 has known ordered = (2 ^ 64, numbers_are_kept segment.documents field kinds.I64 (texts_of kinds.I64 (values_in field segment.documents)) refl (has.numbers field kinds.I64 known refl))
+kept_with segment field kinds.Keyword has known ordered =
+    (length (texts_of kinds.Keyword (values_in field segment.documents)), ordinals_are_kept segment.documents field (has.keywords field known))
+kept_with segment field kinds.U64 has known ordered = (
+  2 ^ 64,
+  numbers_are_kept segment.documents field kinds.U64 (texts_of kinds.U64 (values_in field segment.documents)) refl
+      (has.numbers field kinds.U64 known refl),
+)
+kept_with segment field kinds.I64 has known ordered = (
+  2 ^ 64,
+  numbers_are_kept segment.documents field kinds.I64 (texts_of kinds.I64 (values_in field segment.documents)) refl
+      (has.numbers field kinds.I64 known refl),
+)
 
 pub column_kept : (segment : SegmentValue) (field : ℕ) → HasValues segment → is_ordered_field segment.schema field ≡ true →
     (bound : ℕ) × IsKept segment.documents field bound (column_of segment field) (value_at segment field)
 column_kept segment field has ordered = by (kind_at segment.schema field) refl ordered
   where
-    by : (o : Option Kind) → kind_at segment.schema field ≡ o → option_map_or is_ordered o false ≡ true → (bound : ℕ) × IsKept segment.documents field bound (column_of segment field) (value_at segment field)
+    by : (o : Option Kind) → kind_at segment.schema field ≡ o → option_map_or is_ordered o false ≡ true →
+        (bound : ℕ) × IsKept segment.documents field bound (column_of segment field) (value_at segment field)
     by None known ordered = cc
     by (Some kind) known ordered =
         let P : Option Kind → Type 0 = λ o. (bound : ℕ) × IsKept segment.documents field bound (column_with segment field o) (value_with segment field o) in
         subst P (sym known) (kept_with segment field kind has known ordered)
 
 -- the values of hits are those that their column keeps
-pub values_kept : (documents : List (Stamped DocumentValue)) (field bound : ℕ) (column : List (Option ℕ)) (value : ℕ → GroupValue) (docs : List ℕ) → IsKept documents field bound column value →
+pub values_kept : (documents : List (Stamped DocumentValue)) (field bound : ℕ) (column : List (Option ℕ)) (value : ℕ → GroupValue) (docs : List ℕ) →
+    IsKept documents field bound column value →
     groups_in field (filter_map (slice_get documents) docs) ≡ map value (present_at column docs)
 values_kept documents field bound column value [] is = refl
 values_kept documents field bound column value (doc ∷ docs) is =
@@ -210,17 +231,20 @@ within_with : (bound : ℕ) (o : Option ℕ) (rest : List ℕ) → IfSome o (λ 
 within_with bound None rest h all = all
 within_with bound (Some x) rest h all = All-cons (λ x. x < bound) x rest h all
 
-pub present_within : (documents : List (Stamped DocumentValue)) (field bound : ℕ) (column : List (Option ℕ)) (value : ℕ → GroupValue) (docs : List ℕ) → IsKept documents field bound column value →
+pub present_within : (documents : List (Stamped DocumentValue)) (field bound : ℕ) (column : List (Option ℕ)) (value : ℕ → GroupValue) (docs : List ℕ) →
+    IsKept documents field bound column value →
     All (λ x. x < bound) (present_at column docs)
 present_within documents field bound column value [] is = All-nil (λ x. x < bound)
 present_within documents field bound column value (doc ∷ docs) is =
     within_with bound (slice_index_or column doc None) (present_at column docs) (is.within doc) (present_within documents field bound column value docs is)
 
 -- what is read of an ordinal, or nothing
-pub keyword_read : (keywords : List (List ℕ)) (ordinal : ℕ) (found : Option (Bor (List ℕ))) (nothing : Bor (List ℕ)) → option_copied found ≡ slice_get keywords ordinal → nothing.now ≡ [] →
+pub keyword_read : (keywords : List (List ℕ)) (ordinal : ℕ) (found : Option (Bor (List ℕ))) (nothing : Bor (List ℕ)) →
+    option_copied found ≡ slice_get keywords ordinal → nothing.now ≡ [] →
     (unwrap_or found nothing).now ≡ slice_index_or keywords ordinal []
 keyword_read keywords ordinal None nothing is empty =
     ⊎_elim
-    (λ (inside : ordinal < length keywords). let clash : None ≡ Some (get_or keywords ordinal []) = is ∙ slice_get-get_or keywords ordinal [] inside in absurd (let no : None ≡ Some (get_or keywords ordinal []) = clash in cc))
+    (λ (inside : ordinal < length keywords). let clash : None ≡ Some (get_or keywords ordinal []) = is ∙ slice_get-get_or keywords ordinal [] inside in
+    absurd (let no : None ≡ Some (get_or keywords ordinal []) = clash in cc))
     (λ (past : length keywords ≤ ordinal). empty ∙ sym (get_or_past keywords ordinal [] past)) (cases_lt ordinal (length keywords))
 keyword_read keywords ordinal (Some keyword) nothing is empty = sym (get_or_from_slice_get keywords ordinal keyword.now [] (sym is))

@@ -1,5 +1,7 @@
 -- The first of keys, in order.
-use Rattle.std.proofs.Common.{◌≡◌, ℕ, zero, suc, ◌+◌, ◌-◌, ◌<◌, ◌≤◌, ◌==◌, nat_lt, slice_get, Bool, true, false, cond, ⊎_elim, List, [], ◌∷◌, ◌++◌, length, take, fold, Option, Some, None, refl, sym, ap, subst, ◌∙◌, arith, append_assoc, append-nil, length-append, All, AllPairs, get_or, sum_by}
+use Rattle.std.proofs.Common.{◌≡◌, ℕ, zero, suc, ◌+◌, ◌-◌, ◌<◌, ◌≤◌, ◌==◌, nat_lt, slice_get, Bool, true, false, cond, ⊎_elim, List, [], ◌∷◌, ◌++◌, length}
+use Rattle.std.proofs.Common.{take, fold, Option, Some, None, refl, sym, ap, subst, ◌∙◌, arith, append_assoc, append-nil, length-append, All, AllPairs, get_or}
+use Rattle.std.proofs.Common.{sum_by}
 use Rattle.std.specs.Cmp.{IsTotalOrder}
 use Rattle.std.specs.FinMap.{nat_cmp-IsAntisymmetric}
 use Rattle.std.specs.List.Sorted.{IsPermutation, IsSortedBy}
@@ -22,7 +24,8 @@ use Rattle.fts_collect.specs.Internals.Keys.{key_cmp, key_lt, put_key, first_key
 -- keys stand in one order
 pub key_total : IsTotalOrder key_cmp
 key_total =
-    then_total (on_total (λ (k : Key). k.rank) nat_cmp_total) (then_total (on_total (λ (k : Key). k.stamp) nat_cmp_total) (on_total (λ (k : Key). k.doc) nat_cmp_total))
+    then_total (on_total (λ (k : Key). k.rank) nat_cmp_total) (then_total (on_total (λ (k : Key). k.stamp) nat_cmp_total)
+    (on_total (λ (k : Key). k.doc) nat_cmp_total))
 
 -- the first of two orderings that isn't equal
 then_equal : (o p : Ordering) → ordering_then o p ≡ Equal → (o ≡ Equal) × (p ≡ Equal)
@@ -104,7 +107,8 @@ apart_swap other others a b e f =
     ∙ sym (ap (λ c. cond c (a ∷ other ∷ put_key others b) (other ∷ put_key (put_key others b) a)) e)
 
 -- two keys may be put among others in either order, whether they stand before the first of these or not
-swap_at : (other : Key) (others : List Key) (a b : Key) (x y : Bool) → key_lt a other ≡ x → key_lt b other ≡ y → put_key (put_key others a) b ≡ put_key (put_key others b) a →
+swap_at : (other : Key) (others : List Key) (a b : Key) (x y : Bool) → key_lt a other ≡ x → key_lt b other ≡ y →
+    put_key (put_key others a) b ≡ put_key (put_key others b) a →
     put_key (cond x (a ∷ other ∷ others) (other ∷ put_key others a)) b ≡ put_key (cond y (b ∷ other ∷ others) (other ∷ put_key others b)) a
 swap_at other others a b true true e f same =
     let rest = other ∷ others in
@@ -128,7 +132,8 @@ pub take-put_key : (k : ℕ) (keys : List Key) (key : Key) → take k (put_key k
 take-put_key zero keys key = refl
 take-put_key (suc k) [] key = refl
 take-put_key (suc k) (other ∷ others) key =
-    elim (key_lt key other) as (λ b. take (suc k) (cond b (key ∷ other ∷ others) (other ∷ put_key others key)) ≡ take (suc k) (cond b (key ∷ other ∷ take k others) (other ∷ put_key (take k others) key)))
+    elim (key_lt key other) as (λ b. take (suc k) (cond b (key ∷ other ∷ others) (other ∷ put_key others key)) ≡ take (suc k)
+    (cond b (key ∷ other ∷ take k others) (other ∷ put_key (take k others) key)))
     [ true ↦ ap (λ ks. key ∷ ks) (take-behind k other others) | false ↦ ap (λ ks. other ∷ ks) (take-put_key k others key) ]
 
 -- two keys may be taken in either order
@@ -235,7 +240,8 @@ times-cons z key keys = sum_by-cons (λ k. cond (is_eq (key_cmp k z)) 1 0) key k
 times-put : (z : Key) (keys : List Key) (key : Key) → times z (put_key keys key) ≡ times z keys + cond (is_eq (key_cmp key z)) 1 0
 times-put z [] key = omega arith
 times-put z (other ∷ others) key =
-    elim (key_lt key other) as (λ b. times z (cond b (key ∷ other ∷ others) (other ∷ put_key others key)) ≡ times z (other ∷ others) + cond (is_eq (key_cmp key z)) 1 0) [
+    elim (key_lt key other) as (λ b. times z (cond b (key ∷ other ∷ others) (other ∷ put_key others key)) ≡ times z (other ∷ others) + cond
+    (is_eq (key_cmp key z)) 1 0) [
       | true ↦ omega (arith, times-cons z key (other ∷ others))
       | false ↦ omega (arith, times-cons z other (put_key others key), times-cons z other others, times-put z others key)
     ]
@@ -263,7 +269,8 @@ times-here key keys =
 no_lower : (a b : Key) (us bs : List Key) → InOrder (b ∷ bs) → times a (a ∷ us) ≡ times a (b ∷ bs) → key_lt a b ≡ true → ⊥
 no_lower a b us bs up same low =
     let R : Key → Key → Type 0 = λ a b. key_lt b a ≡ false in
-    let none = times-none a (b ∷ bs) (All-cons (λ key. key_lt a key ≡ true) b bs low (λ k d lt. lt_le a b (get_or bs k d) low (pairs_front R b bs up k d lt))) in
+    let none = times-none a (b ∷ bs) (All-cons (λ key. key_lt a key ≡ true) b bs low (λ k d lt. lt_le a b (get_or bs k d) low (pairs_front R b bs up k d lt)))
+    in
     omega (arith, same, none, times-here a us)
 
 -- they begin with the same key, however the first ones compare
@@ -312,7 +319,8 @@ length-put_key (other ∷ others) key =
 pub bound-put : (k : ℕ) (keys : List Key) (bound key : Key) → IsBound k keys bound → key_lt key bound ≡ true → IsBound k (take k (put_key keys key)) bound
 bound-put k keys bound key is before = record {
   full = omega (arith, length-take k (put_key keys key), length-put_key keys key, is.full);
-  within = All-take (λ other. key_lt bound other ≡ false) k (put_key keys key) (All-put_key (λ other. key_lt bound other ≡ false) keys key (lt_one_way key bound before) is.within);
+  within = All-take (λ other. key_lt bound other ≡ false) k (put_key keys key) (All-put_key (λ other. key_lt bound other ≡ false) keys key
+      (lt_one_way key bound before) is.within);
 }
 
 -- a bound stays one whatever key is taken
@@ -353,7 +361,8 @@ top_k-again k held kept (Some bound) is h =
     subst P (sym (ap (first_keys k) is ∙ first_keys-again k held)) h
 
 -- the last key of a full list is a bound of it, or of none where the list is empty
-pub top_k-last : (k : ℕ) (held kept : List Key) (bound : Option Key) → kept ≡ first_keys k held → length kept ≡ k → bound ≡ slice_get kept (length kept - 1) → IsTopK k kept bound
+pub top_k-last : (k : ℕ) (held kept : List Key) (bound : Option Key) → kept ≡ first_keys k held → length kept ≡ k → bound ≡ slice_get kept (length kept - 1) →
+    IsTopK k kept bound
 top_k-last k held kept None is full last = tt
 top_k-last k held kept (Some bound) is full last =
     let n = length kept - 1 in

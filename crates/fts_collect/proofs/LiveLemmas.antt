@@ -1,5 +1,6 @@
 -- The hits among live documents, by their numbers.
-use Rattle.std.proofs.Common.{◌≡◌, ℕ, suc, ◌+◌, ◌^◌, ◌<◌, ◌≤◌, Bool, true, false, cond, List, [], ◌∷◌, ◌++◌, length, map, filter, Option, Some, refl, sym, ap, ◌∙◌, arith, append_assoc, length-append, All, get_or}
+use Rattle.std.proofs.Common.{◌≡◌, ℕ, suc, ◌+◌, ◌^◌, ◌<◌, ◌≤◌, Bool, true, false, cond, List, [], ◌∷◌, ◌++◌, length, map, filter, Option, Some, refl, sym, ap}
+use Rattle.std.proofs.Common.{◌∙◌, arith, append_assoc, length-append, All, get_or}
 use Rattle.std.specs.Prelude.{slice_get, slice_index_or}
 use Rattle.std.specs.List.{filter_map, cons_option, enumerate_from}
 use Rattle.std.proofs.lemmas.List.{get_or-append-add}
@@ -41,7 +42,8 @@ live_at p set g n x live others false true e is here rest =
 live_at p set g n x live others false false e is here rest = rest
 
 -- the live ones of those that pass, by their numbers, with others in front
-live_behind : {X : Type 0} (p : X → Bool) (before : List X) (front : List Bool) (xs : List X) (bits : List Bool) → length before ≡ length front → length xs ≡ length bits →
+live_behind : {X : Type 0} (p : X → Bool) (before : List X) (front : List Bool) (xs : List X) (bits : List Bool) → length before ≡ length front →
+    length xs ≡ length bits →
     filter p (where_set xs bits) ≡ filter_map (slice_get (before ++ xs)) (filter (is_set (front ++ bits)) (numbers_where p (length before) xs))
 live_behind p before front [] bits same fits = refl
 live_behind p before front (x ∷ xs) [] same fits = absurd (omega (arith, fits))
@@ -51,10 +53,12 @@ live_behind p before front (x ∷ xs) (bit ∷ bits) same fits =
     let n = length before in
     let later : filter p (where_set xs bits) ≡ filter_map (slice_get all) (filter set (numbers_where p (n + 1) xs)) =
     live_behind p (before ++ x ∷ []) (front ++ bit ∷ []) xs bits (simp length-append (omega (arith, same))) (omega (arith, fits))
-    ∙ ap (λ ys. filter_map (slice_get ys) (filter (is_set ((front ++ bit ∷ []) ++ bits)) (numbers_where p (length (before ++ x ∷ [])) xs))) (append_assoc before (x ∷ []) xs)
+    ∙ ap (λ ys. filter_map (slice_get ys) (filter (is_set ((front ++ bit ∷ []) ++ bits)) (numbers_where p (length (before ++ x ∷ [])) xs)))
+    (append_assoc before (x ∷ []) xs)
     ∙ ap (λ bs. filter_map (slice_get all) (filter (is_set bs) (numbers_where p (length (before ++ x ∷ [])) xs))) (append_assoc front (bit ∷ []) bits)
     ∙ ap (λ m. filter_map (slice_get all) (filter set (numbers_where p m xs))) (length-append before (x ∷ [])) in
-    live_at p set (slice_get all) n x (where_set xs bits) (filter (λ e. p e.1) (enumerate_from (n + 1) xs)) bit (p x) refl (ap set same ∙ bit_behind front bit bits) (get_behind before x xs) later
+    live_at p set (slice_get all) n x (where_set xs bits) (filter (λ e. p e.1) (enumerate_from (n + 1) xs)) bit (p x) refl
+    (ap set same ∙ bit_behind front bit bits) (get_behind before x xs) later
 
 -- the live ones of those that pass, by their numbers
 pub live_hits-at : {X : Type 0} (p : X → Bool) (xs : List X) (bits : List Bool) → length bits ≡ length xs →
@@ -70,8 +74,10 @@ where_between : {X : Type 0} (p : X → Bool) (first : ℕ) (xs : List X) → Al
 where_between p first [] = All-nil (Between first (first + 0))
 where_between p first (x ∷ xs) =
     let P = Between first (first + suc (length xs)) in
-    let later = All-weaker (Between (first + 1) (first + 1 + length xs)) P (λ n h. (omega (arith, h.0), omega (arith, h.1))) (numbers_where p (first + 1) xs) (where_between p (first + 1) xs) in
-    elim (p x) as (λ b. All P (map (λ e. e.0) (cond b ((first, x) ∷ filter (λ e. p e.1) (enumerate_from (first + 1) xs)) (filter (λ e. p e.1) (enumerate_from (first + 1) xs)))))
+    let later = All-weaker (Between (first + 1) (first + 1 + length xs)) P (λ n h. (omega (arith, h.0), omega (arith, h.1))) (numbers_where p (first + 1) xs)
+    (where_between p (first + 1) xs) in
+    elim (p x) as (λ b. All P
+    (map (λ e. e.0) (cond b ((first, x) ∷ filter (λ e. p e.1) (enumerate_from (first + 1) xs)) (filter (λ e. p e.1) (enumerate_from (first + 1) xs)))))
     [ true ↦ All-cons P first (numbers_where p (first + 1) xs) (omega arith, omega arith) later | false ↦ later ]
 
 -- the live hits are numbers of documents, rising, and few

@@ -23,7 +23,8 @@ named_at cmp value Equal c counts x rest = refl
 named_at cmp value Greater c counts x rest = ap (λ cs. (value c.0, c.1) ∷ cs) rest
 
 -- one number more is one value more
-named-one : {V : Type 0} (cmp : V → V → Ordering) (value : ℕ → V) (bound : ℕ) (counts : List (ℕ × ℕ)) (x : ℕ) → KeepsOrder cmp value bound → x < bound → All (λ c. c.0 < bound) counts →
+named-one : {V : Type 0} (cmp : V → V → Ordering) (value : ℕ → V) (bound : ℕ) (counts : List (ℕ × ℕ)) (x : ℕ) → KeepsOrder cmp value bound → x < bound →
+    All (λ c. c.0 < bound) counts →
     named_by value (count_one nat_cmp counts x) ≡ count_one cmp (named_by value counts) (value x)
 named-one cmp value bound [] x keeps h below = refl
 named-one cmp value bound (c ∷ counts) x keeps h below =
@@ -34,7 +35,8 @@ named-one cmp value bound (c ∷ counts) x keeps h below =
     (sym (keeps x c.0 h (All-head (λ c. c.0 < bound) c counts below)))
 
 -- the counts of numbers are those of their values
-pub named-fold : {V : Type 0} (cmp : V → V → Ordering) (value : ℕ → V) (bound : ℕ) (counts : List (ℕ × ℕ)) (xs : List ℕ) → KeepsOrder cmp value bound → All (λ x. x < bound) xs → All (λ c. c.0 < bound) counts →
+pub named-fold : {V : Type 0} (cmp : V → V → Ordering) (value : ℕ → V) (bound : ℕ) (counts : List (ℕ × ℕ)) (xs : List ℕ) → KeepsOrder cmp value bound →
+    All (λ x. x < bound) xs → All (λ c. c.0 < bound) counts →
     named_by value (fold (count_one nat_cmp) counts xs) ≡ fold (count_one cmp) (named_by value counts) (map value xs)
 named-fold cmp value bound counts [] keeps within below = refl
 named-fold cmp value bound counts (x ∷ xs) keeps within below =

@@ -17,7 +17,8 @@ both_below : (x y : ℕ) → x < 2 ^ 63 → y < 2 ^ 63 →
 both_below x y h l = grind (arith, nat_tests)
 
 -- from 2 ^ 63 on it is moved
-both_above : (x y : ℕ) → 2 ^ 63 ≤ x → 2 ^ 63 ≤ y → cond (nat_lt (x - 2 ^ 63) (y - 2 ^ 63)) Less (cond (nat_lt (y - 2 ^ 63) (x - 2 ^ 63)) Greater Equal) ≡ nat_cmp x y
+both_above : (x y : ℕ) → 2 ^ 63 ≤ x → 2 ^ 63 ≤ y → cond (nat_lt (x - 2 ^ 63) (y - 2 ^ 63)) Less (cond (nat_lt (y - 2 ^ 63) (x - 2 ^ 63)) Greater Equal)
+    ≡ nat_cmp x y
 both_above x y h l = grind (arith, nat_tests)
 
 -- a number below 2 ^ 63 is below one that isn't

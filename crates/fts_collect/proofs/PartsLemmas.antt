@@ -1,5 +1,6 @@
 -- What parts tell of the hits of a whole.
-use Rattle.std.proofs.Common.{◌≡◌, ℕ, cond, ⊎_elim, List, [], ◌∷◌, ◌++◌, length, map, Option, Some, None, refl, sym, ap, subst, ◌∙◌, arith, append-nil, append_assoc, Contains, unwrap_or, option_map, sum_by}
+use Rattle.std.proofs.Common.{◌≡◌, ℕ, cond, ⊎_elim, List, [], ◌∷◌, ◌++◌, length, map, Option, Some, None, refl, sym, ap, subst, ◌∙◌, arith, append-nil}
+use Rattle.std.proofs.Common.{append_assoc, Contains, unwrap_or, option_map, sum_by}
 use Rattle.std.specs.List.{flat_map, filter_map, cons_option}
 use Rattle.std.specs.List.Sorted.{IsPermutation}
 use Rattle.std.proofs.lemmas.List.{length-append}
@@ -7,7 +8,8 @@ use Rattle.fts_segment.proofs.OccurrencesLemmas.{map-map}
 use Rattle.std.proofs.lemmas.List.Elements.{filter_map-append}
 use Rattle.std.proofs.lemmas.List.Sums.{sum_by-cons}
 use Rattle.std.proofs.lemmas.List.Concat.{flat_map-append}
-use Rattle.std.proofs.lemmas.List.Sorted.{IsPermutation-sym, IsPermutation-trans, IsPermutation-append_right, IsPermutation-append_comm, Contains-permutation, length_permutation, sum_by-IsPermutation}
+use Rattle.std.proofs.lemmas.List.Sorted.{IsPermutation-sym, IsPermutation-trans, IsPermutation-append_right, IsPermutation-append_comm, Contains-permutation}
+use Rattle.std.proofs.lemmas.List.Sorted.{length_permutation, sum_by-IsPermutation}
 use Rattle.fts_model.specs.declared.operation.Stamped.{Stamped}
 use Rattle.fts_model.specs.declared.query.Order.{Order}
 use Rattle.fts_model.specs.declared.query.Top.{Top}
@@ -36,7 +38,8 @@ hits_in-joined field (hits ∷ lists) =
     filter_map-append (hit_in field) hits (joined lists) ∙ ap (λ more. answers.hits_in field hits ++ more) (hits_in-joined field lists)
 
 -- how many hits several lists have
-sum_of-lengths : (parts : List PartValue) (lists : List (List (Stamped DocumentValue))) → map (λ part. part.answer.count) parts ≡ map (λ hits. length hits) lists →
+sum_of-lengths : (parts : List PartValue) (lists : List (List (Stamped DocumentValue))) →
+    map (λ part. part.answer.count) parts ≡ map (λ hits. length hits) lists →
     sum_by (λ part. part.answer.count) parts ≡ length (joined lists)
 sum_of-lengths [] [] told = refl
 sum_of-lengths [] (hits ∷ lists) told = cc
@@ -60,7 +63,8 @@ all_hits-told k order field (part ∷ parts) (hits ∷ lists) told =
 
 -- a member that is mapped to another stands there, whether the first is kept or not
 Contains-kept : {X Y : Type 0} (h : X → Option Y) (x : X) (xs : List X) (o : Option Y) (z : Y) → h x ≡ o →
-    (Contains (filter_map h xs) z → (y : X) × Contains xs y × (h y ≡ Some z)) → Contains (cons_option o (filter_map h xs)) z → (y : X) × Contains (x ∷ xs) y × (h y ≡ Some z)
+    (Contains (filter_map h xs) z → (y : X) × Contains xs y × (h y ≡ Some z)) → Contains (cons_option o (filter_map h xs)) z →
+    (y : X) × Contains (x ∷ xs) y × (h y ≡ Some z)
 Contains-kept h x xs None z e rest at = let r = rest at in (r.0, Contains-behind x xs r.0 r.1, r.2)
 Contains-kept h x xs (Some y) z e rest at =
     ⊎_elim (λ (same : y ≡ z). (x, Contains-first x xs x refl, e ∙ ap Some same))
@@ -101,8 +105,10 @@ top-permuted k order field hits others is once =
 -- so are the groups
 groups-permuted : (field : ℕ) (hits others : List (Stamped DocumentValue)) → IsPermutation hits others → groups field hits ≡ groups field others
 groups-permuted field hits others is =
-    one_list_of_groups group_order (groups field hits) (groups field others) (groups-rise field hits) (groups-positive field hits) (groups-rise field others) (groups-positive field others)
-    (λ n. count_in-groups field n hits ∙ sym (sum_by-IsPermutation (λ (h : Stamped DocumentValue). cond (is_in_group field n h.value) 1 0) hits others is) ∙ sym (count_in-groups field n others))
+    one_list_of_groups group_order (groups field hits) (groups field others) (groups-rise field hits) (groups-positive field hits) (groups-rise field others)
+    (groups-positive field others)
+    (λ n. count_in-groups field n hits ∙ sym (sum_by-IsPermutation (λ (h : Stamped DocumentValue). cond (is_in_group field n h.value) 1 0) hits others is)
+    ∙ sym (count_in-groups field n others))
 
 -- what parts tell, seen by one of their fields
 told_by : {Y : Type 0} (f : AnswerValue → Y) (request : Request) (parts : List PartValue) (lists : List (List (Stamped DocumentValue))) →
@@ -150,12 +156,14 @@ top-joined request wanted hits parts e are once =
     told_by (λ (a : AnswerValue). a.top) request parts are.lists are.told
     ∙ ap (λ (o : Option Top). map (λ (hits : List (Stamped DocumentValue)). option_map (λ t. top t.k t.order t.by hits) o) are.lists) e in
     let whole = all_hits-told k order field parts are.lists told in
-    let each : HasEachStampOnce (joined are.lists) = once-permuted (λ (d : Stamped DocumentValue). d.stamp) hits (joined are.lists) (IsPermutation-sym (joined are.lists) hits are.cut) once in
+    let each : HasEachStampOnce (joined are.lists) =
+    once-permuted (λ (d : Stamped DocumentValue). d.stamp) hits (joined are.lists) (IsPermutation-sym (joined are.lists) hits are.cut) once in
     let P : List Hit → Type 0 = AreApart in
     let apart : AreApart (flat_map (λ hits. hits) found) = subst P (hits_in-joined field are.lists) (once-hits_in field (joined are.lists) each) in
     record {
       apart = subst P (sym whole) (firsts_apart k order found apart);
-      first = ap (first_of k order) whole ∙ first_of-firsts k order found apart ∙ ap (first_of k order) (sym (hits_in-joined field are.lists)) ∙ top-permuted k order field (joined are.lists) hits are.cut each;
+      first = ap (first_of k order) whole ∙ first_of-firsts k order found apart ∙ ap (first_of k order) (sym (hits_in-joined field are.lists))
+          ∙ top-permuted k order field (joined are.lists) hits are.cut each;
     }
 
 -- the hits of parts of which the last is taken away
@@ -163,12 +171,14 @@ pub all_hits-push : (parts : List PartValue) (part : PartValue) → all_hits (pa
 all_hits-push parts part = flat_map-append hits_in parts (part ∷ []) ∙ ap (λ hits. all_hits parts ++ hits) (append-nil (hits_in part))
 
 -- the hits of the last part move behind others
-pub all_hits-moved : (all : List Hit) (parts : List PartValue) (part : PartValue) (hits : List Hit) → IsPermutation all (all_hits (parts ++ part ∷ []) ++ hits) →
+pub all_hits-moved : (all : List Hit) (parts : List PartValue) (part : PartValue) (hits : List Hit) →
+    IsPermutation all (all_hits (parts ++ part ∷ []) ++ hits) →
     IsPermutation all (all_hits parts ++ (hits ++ hits_in part))
 all_hits-moved all parts part hits is =
     let front = all_hits parts in
     let P : List Hit → Type 0 = IsPermutation all in
-    let same : all_hits (parts ++ part ∷ []) ++ hits ≡ front ++ (hits_in part ++ hits) = ap (λ xs. xs ++ hits) (all_hits-push parts part) ∙ append_assoc front (hits_in part) hits in
+    let same : all_hits (parts ++ part ∷ []) ++ hits ≡ front ++ (hits_in part ++ hits) = ap (λ xs. xs ++ hits) (all_hits-push parts part)
+    ∙ append_assoc front (hits_in part) hits in
     IsPermutation-trans all (front ++ (hits_in part ++ hits)) (front ++ (hits ++ hits_in part)) (subst P same is)
     (IsPermutation-append_right front (hits_in part ++ hits) (hits ++ hits_in part) (IsPermutation-append_comm (hits_in part) hits))
 

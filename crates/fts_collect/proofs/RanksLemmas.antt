@@ -1,5 +1,6 @@
 -- The first hits by their keys.
-use Rattle.std.proofs.Common.{◌≡◌, ℕ, ◌+◌, ◌-◌, ◌^◌, ◌<◌, ◌≤◌, ◌==◌, nat_lt, Bool, true, false, cond, ⊎_elim, inl, inr, List, [], ◌∷◌, ◌++◌, length, take, map, fold, Option, Some, None, refl, sym, ap, subst, ◌∙◌, arith, All, AllPairs, IfSome, get_or, option_map, suc, drop, drop-cons}
+use Rattle.std.proofs.Common.{◌≡◌, ℕ, ◌+◌, ◌-◌, ◌^◌, ◌<◌, ◌≤◌, ◌==◌, nat_lt, Bool, true, false, cond, ⊎_elim, inl, inr, List, [], ◌∷◌, ◌++◌, length, take, map}
+use Rattle.std.proofs.Common.{fold, Option, Some, None, refl, sym, ap, subst, ◌∙◌, arith, All, AllPairs, IfSome, get_or, option_map, suc, drop, drop-cons}
 use Rattle.std.specs.Prelude.{slice_get, slice_index_or, option_and_then}
 use Rattle.std.specs.List.{filter_map, cons_option}
 use Rattle.std.specs.Option.{option_map_or}
@@ -51,7 +52,8 @@ turned : (x y : ℕ) → x < 2 ^ 64 → y < 2 ^ 64 → nat_cmp (2 ^ 64 - 1 - y) 
 turned x y h l = grind (arith, nat_tests)
 
 -- ranks stand as the numbers that they are
-rank-cmp : (kind : Kind) (order : Order) (x y : ℕ) → x < 2 ^ 64 → y < 2 ^ 64 → cmp_by order (number_at kind (rank_in order x)) (number_at kind (rank_in order y)) ≡ nat_cmp x y
+rank-cmp : (kind : Kind) (order : Order) (x y : ℕ) → x < 2 ^ 64 → y < 2 ^ 64 →
+    cmp_by order (number_at kind (rank_in order x)) (number_at kind (rank_in order y)) ≡ nat_cmp x y
 rank-cmp kind Rising x y h l = number_at-cmp kind x y
 rank-cmp kind Falling x y h l = number_at-cmp kind (2 ^ 64 - 1 - y) (2 ^ 64 - 1 - x) ∙ turned x y h l
 
@@ -96,15 +98,18 @@ map-put_key kind order documents (other ∷ others) key h early =
     let first = All-head (Earlier key.doc) other others early in
     let same = before_as kind order documents key other h first.0 first.1 in
     let rest = map-put_key kind order documents others key h (All-tail (Earlier key.doc) other others early) in
-    elim (key_lt key other) as (λ b. key_lt key other ≡ b → map f (cond b (key ∷ other ∷ others) (other ∷ put_key others key)) ≡ put_hit order (f other ∷ map f others) (f key)) [
+    elim (key_lt key other) as (λ b. key_lt key other ≡ b → map f (cond b (key ∷ other ∷ others) (other ∷ put_key others key)) ≡ put_hit order
+    (f other ∷ map f others) (f key)) [
       | true ↦ λ e. sym (ap (λ c. cond c (f key ∷ f other ∷ map f others) (f other ∷ put_hit order (map f others) (f key))) (sym same ∙ e))
-      | false ↦ λ e. ap (λ hs. f other ∷ hs) rest ∙ sym (ap (λ c. cond c (f key ∷ f other ∷ map f others) (f other ∷ put_hit order (map f others) (f key))) (sym same ∙ e))
+      | false ↦ λ e. ap (λ hs. f other ∷ hs) rest ∙ sym (ap (λ c. cond c (f key ∷ f other ∷ map f others) (f other ∷ put_hit order (map f others) (f key)))
+          (sym same ∙ e))
     ] refl
 
 -- keys in the order of their documents, put into order, are their hits put into order
 map-fold : (kind : Kind) (order : Order) (documents : List (Stamped DocumentValue)) (done keys : List Key) → All Fits done → All Fits keys →
     All (λ a. All (λ b. a.doc < b.doc) keys) done → AllPairs (λ a b. a.doc < b.doc) keys →
-    map (hit_of kind order documents) (fold put_key done keys) ≡ fold (put_hit order) (map (hit_of kind order documents) done) (map (hit_of kind order documents) keys)
+    map (hit_of kind order documents) (fold put_key done keys) ≡ fold (put_hit order) (map (hit_of kind order documents) done)
+    (map (hit_of kind order documents) keys)
 map-fold kind order documents done [] fits more early up = refl
 map-fold kind order documents done (key ∷ keys) fits more early up =
     let f = hit_of kind order documents in
@@ -112,7 +117,8 @@ map-fold kind order documents done (key ∷ keys) fits more early up =
     let here = All-head Fits key keys more in
     let before : All (Earlier key.doc) done = λ k d lt. (fits k d lt, All-head (λ (b : Key). (get_or done k d).doc < b.doc) key keys (early k d lt)) in
     map-fold kind order documents (put_key done key) keys (All-put_key Fits done key here fits) (All-tail Fits key keys more)
-    (All-put_key (λ (a : Key). All (λ (b : Key). a.doc < b.doc) keys) done key (pairs_front R key keys up) (λ k d lt. All-tail (λ (b : Key). (get_or done k d).doc < b.doc) key keys (early k d lt)))
+    (All-put_key (λ (a : Key). All (λ (b : Key). a.doc < b.doc) keys) done key (pairs_front R key keys up)
+    (λ k d lt. All-tail (λ (b : Key). (get_or done k d).doc < b.doc) key keys (early k d lt)))
     (pairs_behind R key keys up)
     ∙ ap (λ hs. fold (put_hit order) hs (map f keys)) (map-put_key kind order documents done key here before)
 
@@ -123,8 +129,13 @@ keys-all P order documents numbers [] ps = All-nil (λ (key : Key). P key.doc)
 keys-all P order documents numbers (doc ∷ docs) ps =
     let Q : Key → Type 0 = λ key. P key.doc in
     let rest = keys-all P order documents numbers docs (All-tail P doc docs ps) in
-    elim (slice_index_or numbers doc None) as (λ o. All Q (cons_option (option_map (λ x. record { rank = rank_in order x; stamp = stamp_at documents doc; doc = doc }) o) (keys_at order documents numbers docs)))
-    [ None ↦ rest | Some x ↦ All-cons Q (record { rank = rank_in order x; stamp = stamp_at documents doc; doc = doc }) (keys_at order documents numbers docs) (All-head P doc docs ps) rest ]
+    elim (slice_index_or numbers doc None) as
+    (λ o. All Q (cons_option (option_map (λ x. record { rank = rank_in order x; stamp = stamp_at documents doc; doc = doc }) o)
+    (keys_at order documents numbers docs))) [
+      | None ↦ rest
+      | Some x ↦ All-cons Q (record { rank = rank_in order x; stamp = stamp_at documents doc; doc = doc }) (keys_at order documents numbers docs)
+          (All-head P doc docs ps) rest
+    ]
 
 -- the keys of rising documents are in their order
 keys-rise : (order : Order) (documents : List (Stamped DocumentValue)) (numbers : List (Option ℕ)) (docs : List ℕ) → AllPairs (λ a b. a < b) docs →
@@ -134,8 +145,13 @@ keys-rise order documents numbers (doc ∷ docs) up =
     let R : Key → Key → Type 0 = λ a b. a.doc < b.doc in
     let rest = keys-rise order documents numbers docs (pairs_behind (λ a b. a < b) doc docs up) in
     let above = keys-all (λ b. doc < b) order documents numbers docs (pairs_front (λ a b. a < b) doc docs up) in
-    elim (slice_index_or numbers doc None) as (λ o. AllPairs R (cons_option (option_map (λ x. record { rank = rank_in order x; stamp = stamp_at documents doc; doc = doc }) o) (keys_at order documents numbers docs)))
-    [ None ↦ rest | Some x ↦ AllPairs-cons R (record { rank = rank_in order x; stamp = stamp_at documents doc; doc = doc }) (keys_at order documents numbers docs) above rest ]
+    elim (slice_index_or numbers doc None) as
+    (λ o. AllPairs R (cons_option (option_map (λ x. record { rank = rank_in order x; stamp = stamp_at documents doc; doc = doc }) o)
+    (keys_at order documents numbers docs))) [
+      | None ↦ rest
+      | Some x ↦ AllPairs-cons R (record { rank = rank_in order x; stamp = stamp_at documents doc; doc = doc })
+          (keys_at order documents numbers docs) above rest
+    ]
 
 -- what holds of a field of a segment
 pub record IsNumberField (segment : SegmentValue) (field : ℕ) (kind : Kind) : Type 0 where
@@ -147,7 +163,8 @@ pub record IsNumberField (segment : SegmentValue) (field : ℕ) (kind : Kind) : 
 key-fits : (order : Order) (documents : List (Stamped DocumentValue)) (doc : ℕ) (rest : List Key) (o : Option ℕ) → IfSome o (λ x. x < 2 ^ 64) → All Fits rest →
     All Fits (cons_option (option_map (λ x. record { rank = rank_in order x; stamp = stamp_at documents doc; doc = doc }) o) rest)
 key-fits order documents doc rest None fits ps = ps
-key-fits order documents doc rest (Some x) fits ps = All-cons Fits (record { rank = rank_in order x; stamp = stamp_at documents doc; doc = doc }) rest (rank-fits order x fits) ps
+key-fits order documents doc rest (Some x) fits ps = All-cons Fits (record { rank = rank_in order x; stamp = stamp_at documents doc; doc = doc }) rest
+    (rank-fits order x fits) ps
 
 keys-fit : (segment : SegmentValue) (field : ℕ) (kind : Kind) (order : Order) (docs : List ℕ) → IsNumberField segment field kind →
     All Fits (keys_at order segment.documents (column segment field) docs)
@@ -157,22 +174,30 @@ keys-fit segment field kind order (doc ∷ docs) is =
     (fits_at segment field kind doc is.known is.can) (keys-fit segment field kind order docs is)
 
 -- the hit of a document is that of its key, if it has a number
-hit_at_number : (kind : Kind) (order : Order) (documents : List (Stamped DocumentValue)) (doc : ℕ) (d : Stamped DocumentValue) (o : Option ℕ) → slice_get documents doc ≡ Some d → IfSome o (λ x. x < 2 ^ 64) →
+hit_at_number : (kind : Kind) (order : Order) (documents : List (Stamped DocumentValue)) (doc : ℕ) (d : Stamped DocumentValue) (o : Option ℕ) →
+    slice_get documents doc ≡ Some d → IfSome o (λ x. x < 2 ^ 64) →
     option_map (λ n. record { stamp = d.stamp; value = n; document = d.value }) (option_map (number_at kind) o)
     ≡ option_map (hit_of kind order documents) (option_map (λ x. record { rank = rank_in order x; stamp = stamp_at documents doc; doc = doc }) o)
 hit_at_number kind order documents doc d None is fits = refl
 hit_at_number kind order documents doc d (Some x) is fits =
     ap Some (
-    ap (λ (o : Option (Stamped DocumentValue)). record { stamp = option_map_or (λ e. e.stamp) o 0; value = number_at kind x; document = option_map_or (λ e. e.value) o (record { schema = []; values = [] }) }) (sym is)
+    ap (λ (o : Option (Stamped DocumentValue)). record {
+      stamp = option_map_or (λ e. e.stamp) o 0;
+      value = number_at kind x;
+      document =
+          option_map_or (λ e. e.value) o (record { schema = []; values = [] });
+    }) (sym is)
     ∙ ap (λ y. record { stamp = stamp_at documents doc; value = number_at kind y; document = document_at documents doc }) (sym (rank-again order x fits)))
 
 -- a column has a place for each document
 length-column : (segment : SegmentValue) (field : ℕ) → length (column segment field) ≡ length segment.documents
-length-column segment field = length-map segment.documents (λ d. option_and_then (λ kind. number_of kind (value_in_field d.value field)) (kind_at segment.schema field))
+length-column segment field =
+    length-map segment.documents (λ d. option_and_then (λ kind. number_of kind (value_in_field d.value field)) (kind_at segment.schema field))
 
 -- the hit of a document is that of its key
 hit_at : (segment : SegmentValue) (field : ℕ) (kind : Kind) (order : Order) (doc : ℕ) → IsNumberField segment field kind →
-    option_and_then (hit_in field) (slice_get segment.documents doc) ≡ option_map (hit_of kind order segment.documents) (key_at order segment.documents (column segment field) doc)
+    option_and_then (hit_in field) (slice_get segment.documents doc) ≡ option_map (hit_of kind order segment.documents)
+    (key_at order segment.documents (column segment field) doc)
 hit_at segment field kind order doc is =
     let documents = segment.documents in
     let e : Stamped DocumentValue = record { stamp = 0; value = record { schema = []; values = [] } } in
@@ -190,12 +215,14 @@ hit_at segment field kind order doc is =
     ∙ hit_at_number kind order documents doc d (slice_index_or (column segment field) doc None) here fits)
     (λ (past : length documents ≤ doc).
     ap (option_and_then (hit_in field)) (slice_get_past documents doc past)
-    ∙ sym (ap (λ o. option_map f (option_map (λ x. record { rank = rank_in order x; stamp = stamp_at documents doc; doc = doc }) o)) (get_or_past (column segment field) doc None (omega (arith, length-column segment field, past)))))
+    ∙ sym (ap (λ o. option_map f (option_map (λ x. record { rank = rank_in order x; stamp = stamp_at documents doc; doc = doc }) o))
+    (get_or_past (column segment field) doc None (omega (arith, length-column segment field, past)))))
     (cases_lt doc (length documents))
 
 -- the hits with a number are those of the keys
 hits-keys : (segment : SegmentValue) (field : ℕ) (kind : Kind) (order : Order) (docs : List ℕ) → IsNumberField segment field kind →
-    hits_in field (filter_map (slice_get segment.documents) docs) ≡ map (hit_of kind order segment.documents) (keys_at order segment.documents (column segment field) docs)
+    hits_in field (filter_map (slice_get segment.documents) docs)
+    ≡ map (hit_of kind order segment.documents) (keys_at order segment.documents (column segment field) docs)
 hits-keys segment field kind order [] is = refl
 hits-keys segment field kind order (doc ∷ docs) is =
     let f = hit_of kind order segment.documents in
@@ -207,13 +234,16 @@ hits-keys segment field kind order (doc ∷ docs) is =
     ∙ sym (map-cons f (key_at order segment.documents (column segment field) doc) keys)
 
 -- the top list of hits by their rising numbers is that of the first keys
-pub top-keys : (segment : SegmentValue) (field : ℕ) (kind : Kind) (k : ℕ) (order : Order) (docs : List ℕ) → IsNumberField segment field kind → AllPairs (λ a b. a < b) docs →
-    map (hit_of kind order segment.documents) (first_keys k (keys_at order segment.documents (column segment field) docs)) ≡ top k order field (filter_map (slice_get segment.documents) docs)
+pub top-keys : (segment : SegmentValue) (field : ℕ) (kind : Kind) (k : ℕ) (order : Order) (docs : List ℕ) → IsNumberField segment field kind →
+    AllPairs (λ a b. a < b) docs →
+    map (hit_of kind order segment.documents) (first_keys k (keys_at order segment.documents (column segment field) docs))
+    ≡ top k order field (filter_map (slice_get segment.documents) docs)
 top-keys segment field kind k order docs is up =
     let f = hit_of kind order segment.documents in
     let keys = keys_at order segment.documents (column segment field) docs in
     sym (take-map f k (fold put_key [] keys))
-    ∙ ap (take k) (map-fold kind order segment.documents [] keys (All-nil Fits) (keys-fit segment field kind order docs is) (All-nil (λ (a : Key). All (λ (b : Key). a.doc < b.doc) keys)) (keys-rise order segment.documents (column segment field) docs up))
+    ∙ ap (take k) (map-fold kind order segment.documents [] keys (All-nil Fits) (keys-fit segment field kind order docs is)
+    (All-nil (λ (a : Key). All (λ (b : Key). a.doc < b.doc) keys)) (keys-rise order segment.documents (column segment field) docs up))
     ∙ ap (λ hs. take k (fold (put_hit order) [] hs)) (sym (hits-keys segment field kind order docs is))
 
 -- what holds of keys holds of them in order
@@ -232,7 +262,8 @@ pub first_keys-within : (segment : SegmentValue) (field k : ℕ) (order : Order)
 first_keys-within segment field k order docs within =
     let P : Key → Type 0 = λ key. key.doc < length segment.documents in
     let keys = keys_at order segment.documents (column segment field) docs in
-    All-take P k (fold put_key [] keys) (All-fold P [] keys (All-nil P) (keys-all (λ doc. doc < length segment.documents) order segment.documents (column segment field) docs within))
+    All-take P k (fold put_key [] keys)
+    (All-fold P [] keys (All-nil P) (keys-all (λ doc. doc < length segment.documents) order segment.documents (column segment field) docs within))
 
 -- more keys than the first are taken after them
 pub keep-first : (k : ℕ) (keys more : List Key) → keep_keys k (first_keys k keys) more ≡ first_keys k (keys ++ more)
@@ -245,12 +276,14 @@ keep-front k keys (x ∷ xs) ys =
     keep-last k keys x (xs ++ ys) ∙ ap (λ ks. take k (put_key ks x)) (keep-front k keys xs ys) ∙ sym (keep-last k (keep_keys k keys ys) x xs)
 
 -- hits may be offered after those behind them
-Offers-front : (ranking : Ranking) (docs more : List ℕ) (old middle new : TopKValue) → Offers ranking more old middle → Offers ranking docs middle new → Offers ranking (docs ++ more) old new
+Offers-front : (ranking : Ranking) (docs more : List ℕ) (old middle new : TopKValue) → Offers ranking more old middle → Offers ranking docs middle new →
+    Offers ranking (docs ++ more) old new
 Offers-front ranking docs more old middle new behind here =
     let key : ℕ → Option Key = key_at ranking.order ranking.segment.now.documents ranking.column.now in
     let offered : TopKValue → TopKValue = λ t. record { k = t.k; keys = keep_keys t.k t.keys (filter_map key docs) } in
     here ∙ ap offered behind
-    ∙ ap (λ keys. record { k = old.k; keys = keys }) (sym (ap (keep_keys old.k old.keys) (filter_map-append key docs more) ∙ keep-front old.k old.keys (filter_map key docs) (filter_map key more)))
+    ∙ ap (λ keys. record { k = old.k; keys = keys })
+    (sym (ap (keep_keys old.k old.keys) (filter_map-append key docs more) ∙ keep-front old.k old.keys (filter_map key docs) (filter_map key more)))
 
 -- those from a place on, of which those before another place are offered last
 pub Offers-part : (ranking : Ranking) (docs : List ℕ) (start left : ℕ) (old middle new : TopKValue) → start ≤ left → left ≤ length docs →
@@ -262,13 +295,15 @@ Offers-part ranking docs start left old middle new up within behind here =
     subst P (sym parts) (Offers-front ranking (drop start (take left docs)) (drop left docs) old middle new behind here)
 
 -- a hit with no number is none of the first, and one with a number isn't if no key of its rank is
-keep_none : (k : ℕ) (keys : List Key) (order : Order) (documents : List (Stamped DocumentValue)) (doc rank : ℕ) (v : Option ℕ) → ((key : Key) → rank ≤ key.rank → take k (put_key keys key) ≡ keys) → IfSome v (λ x. rank ≤ rank_in order x)
+keep_none : (k : ℕ) (keys : List Key) (order : Order) (documents : List (Stamped DocumentValue)) (doc rank : ℕ) (v : Option ℕ) →
+    ((key : Key) → rank ≤ key.rank → take k (put_key keys key) ≡ keys) → IfSome v (λ x. rank ≤ rank_in order x)
     → keep_keys k keys (cons_option (option_map (λ x. record { rank = rank_in order x; stamp = stamp_at documents doc; doc = doc }) v) []) ≡ keys
 keep_none k keys order documents doc rank None beyond low = refl
 keep_none k keys order documents doc rank (Some x) beyond low = beyond (record { rank = rank_in order x; stamp = stamp_at documents doc; doc = doc }) low
 
 -- a number in a range ranks no better than its best
-best_first : (order : Order) (range : ℕ × ℕ) (v : Option ℕ) → IfSome v (λ x. (range.0 ≤ x) × (x ≤ range.1)) → IfSome v (λ x. best_rank order range ≤ rank_in order x)
+best_first : (order : Order) (range : ℕ × ℕ) (v : Option ℕ) → IfSome v (λ x. (range.0 ≤ x) × (x ≤ range.1)) →
+    IfSome v (λ x. best_rank order range ≤ rank_in order x)
 best_first order range None h = tt
 best_first Rising range (Some x) h = h.0
 best_first Falling range (Some x) h = let most : x ≤ range.1 = h.1 in omega arith
@@ -279,22 +314,30 @@ pub block_beyond : (ranking : Ranking) (block : ℕ) (top_k : TopKValue) (range 
 block_beyond ranking block top_k range h beyond doc here =
     let value = slice_index_or ranking.column.now doc None in
     ap (λ keys. record { k = top_k.k; keys = keys })
-    (sym (keep_none top_k.k top_k.keys ranking.order ranking.segment.now.documents doc (best_rank ranking.order range) value beyond (best_first ranking.order range value (block_within ranking.column.now block doc range h here))))
+    (sym (keep_none top_k.k top_k.keys ranking.order ranking.segment.now.documents doc (best_rank ranking.order range) value beyond
+    (best_first ranking.order range value (block_within ranking.column.now block doc range h here))))
 
 -- nor has a block without values
 pub block_without : (ranking : Ranking) (block : ℕ) (top_k : TopKValue) → IsRangeOf (block_of block ranking.column.now) None → IsBeyond ranking block top_k
 block_without ranking block top_k h doc here =
-    sym (ap (λ v. record { k = top_k.k; keys = keep_keys top_k.k top_k.keys (cons_option (option_map (λ x. record { rank = rank_in ranking.order x; stamp = stamp_at ranking.segment.now.documents doc; doc = doc }) v) []) }) (block_none ranking.column.now block doc h here))
+    sym (ap (λ v. record {
+      k = top_k.k;
+      keys = keep_keys top_k.k top_k.keys
+          (cons_option (option_map (λ x. record { rank = rank_in ranking.order x; stamp = stamp_at ranking.segment.now.documents doc; doc = doc }) v) []);
+    })
+    (block_none ranking.column.now block doc h here))
 
 -- hits of which none is one of the first change nothing
-pub Offers-passed : (ranking : Ranking) (top_k : TopKValue) (docs : List ℕ) → All (λ doc. Offers ranking (doc ∷ []) top_k top_k) docs → Offers ranking docs top_k top_k
+pub Offers-passed : (ranking : Ranking) (top_k : TopKValue) (docs : List ℕ) → All (λ doc. Offers ranking (doc ∷ []) top_k top_k) docs →
+    Offers ranking docs top_k top_k
 Offers-passed ranking top_k [] h = refl
 Offers-passed ranking top_k (doc ∷ docs) h =
     let P : ℕ → Type 0 = λ d. Offers ranking (d ∷ []) top_k top_k in
     Offers-front ranking (doc ∷ []) docs top_k top_k top_k (Offers-passed ranking top_k docs (All-tail P doc docs h)) (All-head P doc docs h)
 
 -- those of a block that has none of the first
-pub Offers-beyond : (ranking : Ranking) (block : ℕ) (top_k : TopKValue) (docs : List ℕ) → IsBeyond ranking block top_k → AreOfBlock block docs → Offers ranking docs top_k top_k
+pub Offers-beyond : (ranking : Ranking) (block : ℕ) (top_k : TopKValue) (docs : List ℕ) → IsBeyond ranking block top_k → AreOfBlock block docs →
+    Offers ranking docs top_k top_k
 Offers-beyond ranking block top_k docs beyond same = Offers-passed ranking top_k docs (λ k d inside. beyond (get_or docs k d) (same k d inside))
 
 -- no key of a greater rank is one of the first
@@ -302,7 +345,8 @@ abbrev pub IsMost : ℕ → TopKValue → Type 0
 IsMost most top_k = (key : Key) → most < key.rank → take top_k.k (put_key top_k.keys key) ≡ top_k.keys
 
 -- a hit without a number, or whose number ranks behind that, changes nothing
-pub Offers-behind : (ranking : Ranking) (most : ℕ) (top_k : TopKValue) (doc : ℕ) → IsMost most top_k → IfSome (slice_index_or ranking.column.now doc None) (λ x. most < rank_in ranking.order x) → Offers ranking (doc ∷ []) top_k top_k
+pub Offers-behind : (ranking : Ranking) (most : ℕ) (top_k : TopKValue) (doc : ℕ) → IsMost most top_k →
+    IfSome (slice_index_or ranking.column.now doc None) (λ x. most < rank_in ranking.order x) → Offers ranking (doc ∷ []) top_k top_k
 Offers-behind ranking most top_k doc bound low =
     let value = slice_index_or ranking.column.now doc None in
     ap (λ keys. record { k = top_k.k; keys = keys })
@@ -313,12 +357,14 @@ behind_rising : (least most : ℕ) (v : Option ℕ) → IfSome v (λ x. least �
 behind_rising least most None low out = tt
 behind_rising least most (Some x) low out = grind arith
 
-behind_falling : (greatest most : ℕ) (v : Option ℕ) → most < 2 ^ 64 → greatest < 2 ^ 64 → IfSome v (λ x. x ≤ greatest) → is_within (2 ^ 64 - 1 - most) greatest v ≡ false → IfSome v (λ x. most < 2 ^ 64 - 1 - x)
+behind_falling : (greatest most : ℕ) (v : Option ℕ) → most < 2 ^ 64 → greatest < 2 ^ 64 → IfSome v (λ x. x ≤ greatest) →
+    is_within (2 ^ 64 - 1 - most) greatest v ≡ false → IfSome v (λ x. most < 2 ^ 64 - 1 - x)
 behind_falling greatest most None fits all low out = tt
 behind_falling greatest most (Some x) fits all low out = grind arith
 
 -- each number lies in the range
-pub in_range : (values : List (Option ℕ)) (range : ℕ × ℕ) (doc : ℕ) → IsRangeOf values (Some range) → IfSome (slice_index_or values doc None) (λ x. (range.0 ≤ x) × (x ≤ range.1))
+pub in_range : (values : List (Option ℕ)) (range : ℕ × ℕ) (doc : ℕ) → IsRangeOf values (Some range) →
+    IfSome (slice_index_or values doc None) (λ x. (range.0 ≤ x) × (x ≤ range.1))
 in_range values range doc h =
     let P : Option ℕ → Type 0 = λ v. IfSome v (λ x. (range.0 ≤ x) × (x ≤ range.1)) in
     elim (cases_lt doc (length values)) [
@@ -334,30 +380,37 @@ pub most_in : (least greatest : ℕ) (v : Option ℕ) → IfSome v (λ x. (least
 most_in least greatest None h = tt
 most_in least greatest (Some x) h = h.1
 
-pub Offers-rising : (ranking : Ranking) (most : ℕ) (range : ℕ × ℕ) (top_k : TopKValue) (docs : List ℕ) → ranking.order ≡ Rising → IsRangeOf ranking.column.now (Some range) → IsMost most top_k →
+pub Offers-rising : (ranking : Ranking) (most : ℕ) (range : ℕ × ℕ) (top_k : TopKValue) (docs : List ℕ) → ranking.order ≡ Rising →
+    IsRangeOf ranking.column.now (Some range) → IsMost most top_k →
     All (λ doc. is_within range.0 most (slice_index_or ranking.column.now doc None) ≡ false) docs → Offers ranking docs top_k top_k
 Offers-rising ranking most range top_k docs rising ranged bound out =
     Offers-passed ranking top_k docs (λ k d inside.
     let doc = get_or docs k d in
     let v = slice_index_or ranking.column.now doc None in
     Offers-behind ranking most top_k doc bound
-    (subst (λ o. IfSome v (λ x. most < rank_in o x)) (sym rising) (behind_rising range.0 most v (least_in range.0 range.1 v (in_range ranking.column.now range doc ranged)) (out k d inside))))
+    (subst (λ o. IfSome v (λ x. most < rank_in o x)) (sym rising)
+    (behind_rising range.0 most v (least_in range.0 range.1 v (in_range ranking.column.now range doc ranged)) (out k d inside))))
 
-pub Offers-falling : (ranking : Ranking) (most : ℕ) (range : ℕ × ℕ) (top_k : TopKValue) (docs : List ℕ) → ranking.order ≡ Falling → most < 2 ^ 64 → range.1 < 2 ^ 64 → IsRangeOf ranking.column.now (Some range) → IsMost most top_k →
+pub Offers-falling : (ranking : Ranking) (most : ℕ) (range : ℕ × ℕ) (top_k : TopKValue) (docs : List ℕ) → ranking.order ≡ Falling → most < 2 ^ 64 →
+    range.1 < 2 ^ 64 → IsRangeOf ranking.column.now (Some range) → IsMost most top_k →
     All (λ doc. is_within (2 ^ 64 - 1 - most) range.1 (slice_index_or ranking.column.now doc None) ≡ false) docs → Offers ranking docs top_k top_k
 Offers-falling ranking most range top_k docs falling fits all ranged bound out =
     Offers-passed ranking top_k docs (λ k d inside.
     let doc = get_or docs k d in
     let v = slice_index_or ranking.column.now doc None in
     Offers-behind ranking most top_k doc bound
-    (subst (λ o. IfSome v (λ x. most < rank_in o x)) (sym falling) (behind_falling range.1 most v fits all (most_in range.0 range.1 v (in_range ranking.column.now range doc ranged)) (out k d inside))))
+    (subst (λ o. IfSome v (λ x. most < rank_in o x)) (sym falling)
+    (behind_falling range.1 most v fits all (most_in range.0 range.1 v (in_range ranking.column.now range doc ranged)) (out k d inside))))
 
 -- where a column has no number, no hit changes anything
 pub Offers-without : (ranking : Ranking) (top_k : TopKValue) (docs : List ℕ) → IsRangeOf ranking.column.now None → Offers ranking docs top_k top_k
 Offers-without ranking top_k docs none =
     Offers-passed ranking top_k docs (λ k d inside.
     let doc = get_or docs k d in
-    let P : Option ℕ → Type 0 = λ v. keep_keys top_k.k top_k.keys (cons_option (option_map (λ x. record { rank = rank_in ranking.order x; stamp = stamp_at ranking.segment.now.documents doc; doc = doc }) v) []) ≡ top_k.keys in
+    let P : Option ℕ → Type 0 =
+    λ v. keep_keys top_k.k top_k.keys
+    (cons_option (option_map (λ x. record { rank = rank_in ranking.order x; stamp = stamp_at ranking.segment.now.documents doc; doc = doc }) v) [])
+    ≡ top_k.keys in
     let nothing : slice_index_or ranking.column.now doc None ≡ None = elim (cases_lt doc (length ranking.column.now)) [
       | inl there ↦ none doc None there
       | inr past ↦ get_or_past ranking.column.now doc None past
@@ -366,12 +419,14 @@ Offers-without ranking top_k docs none =
 
 -- those before a place, of which the last that may be one of the first is offered, and the others behind it change nothing
 pub Offers-step : (ranking : Ranking) (docs : List ℕ) (place left : ℕ) (old middle new : TopKValue) → place < left → left ≤ length docs →
-    Offers ranking (drop left docs) old middle → Offers ranking (drop (place + 1) (take left docs)) middle middle → Offers ranking (get_or docs place 0 ∷ []) middle new → Offers ranking (drop place docs) old new
+    Offers ranking (drop left docs) old middle → Offers ranking (drop (place + 1) (take left docs)) middle middle →
+    Offers ranking (get_or docs place 0 ∷ []) middle new → Offers ranking (drop place docs) old new
 Offers-step ranking docs place left old middle new before within behind passed here =
     let P : List ℕ → Type 0 = λ ds. Offers ranking ds middle new in
     let first = get_or docs place 0 in
     let size : length (take left docs) ≡ left = length-take-le left docs within in
     let split : drop place (take left docs) ≡ first ∷ drop (place + 1) (take left docs) =
-    drop-cons (take left docs) place 0 (omega (arith, before, size)) ∙ ap (λ d. d ∷ drop (suc place) (take left docs)) (get_or-take left docs place 0 before) ∙ ap (λ n. first ∷ drop n (take left docs)) (let e : suc place ≡ place + 1 = omega arith in e) in
+    drop-cons (take left docs) place 0 (omega (arith, before, size)) ∙ ap (λ d. d ∷ drop (suc place) (take left docs)) (get_or-take left docs place 0 before)
+    ∙ ap (λ n. first ∷ drop n (take left docs)) (let e : suc place ≡ place + 1 = omega arith in e) in
     Offers-part ranking docs place left old middle new (omega (arith, before)) within behind
     (subst P (sym split) (Offers-front ranking (first ∷ []) (drop (place + 1) (take left docs)) middle middle new passed here))

@@ -1,5 +1,6 @@
 -- How the hits of a cursor are seen, some at a time.
-use Rattle.std.proofs.Common.{◌≡◌, ℕ, ◌+◌, ◌<◌, List, [], ◌∷◌, ◌++◌, length, take, drop, Some, None, Option, refl, sym, ap, subst, ◌∙◌, arith, append_assoc, All}
+use Rattle.std.proofs.Common.{◌≡◌, ℕ, ◌+◌, ◌<◌, List, [], ◌∷◌, ◌++◌, length, take, drop, Some, None, Option, refl, sym, ap, subst, ◌∙◌, arith, append_assoc}
+use Rattle.std.proofs.Common.{All}
 use Rattle.std.specs.Prelude.{slice_get}
 use Rattle.std.specs.List.{cons_option}
 use Rattle.std.proofs.lemmas.List.{take-append-drop}
@@ -29,7 +30,8 @@ under_way-first segment request all docs remaining seen none at rest = record {
 }
 
 -- those at hand were seen, and the next are at hand
-pub under_way-next : (segment : SegmentValue) (request : Request) (all docs remaining more others : List ℕ) (old new : Seen) → IsUnderWay segment request all docs remaining old →
+pub under_way-next : (segment : SegmentValue) (request : Request) (all docs remaining more others : List ℕ) (old new : Seen) →
+    IsUnderWay segment request all docs remaining old →
     ((before : List ℕ) → HasSeen segment request before old → HasSeen segment request (before ++ docs) new) →
     more ≡ take 128 remaining → others ≡ drop 128 remaining → IsUnderWay segment request all more others new
 under_way-next segment request all docs remaining more others old new under taken at rest = record {
@@ -48,14 +50,16 @@ All-behind P [] ys ps = ps
 All-behind P (x ∷ xs) ys ps = All-behind P xs ys (All-tail P x (xs ++ ys) ps)
 
 -- what holds of all hits holds of those at hand
-pub under_way-all : (P : ℕ → Type 0) (segment : SegmentValue) (request : Request) (all docs remaining : List ℕ) (seen : Seen) → IsUnderWay segment request all docs remaining seen →
+pub under_way-all : (P : ℕ → Type 0) (segment : SegmentValue) (request : Request) (all docs remaining : List ℕ) (seen : Seen) →
+    IsUnderWay segment request all docs remaining seen →
     All P all → All P docs
 under_way-all P segment request all docs remaining seen under ps =
     let Q : List ℕ → Type 0 = All P in
     All-front P docs remaining (All-behind P under.before (docs ++ remaining) (subst Q (sym under.rest) ps))
 
 -- one more document, where there is one
-length-one_more : (o : Option (Stamped DocumentValue)) (d : Stamped DocumentValue) (rest : List (Stamped DocumentValue)) → o ≡ Some d → length (cons_option o rest) ≡ length rest + 1
+length-one_more : (o : Option (Stamped DocumentValue)) (d : Stamped DocumentValue) (rest : List (Stamped DocumentValue)) → o ≡ Some d →
+    length (cons_option o rest) ≡ length rest + 1
 length-one_more None d rest is = cc
 length-one_more (Some e) d rest is = omega arith
 

@@ -1,5 +1,7 @@
 -- Numbers that are counted.
-use Rattle.std.proofs.Common.{◌≡◌, ℕ, zero, suc, ◌+◌, ◌-◌, ◌^◌, ◌<◌, ◌≤◌, ◌==◌, nat_lt, ◌%◌, true, false, cond, ⊎_elim, List, [], ◌∷◌, ◌++◌, length, take, set, replicate, Option, Some, None, refl, sym, ap, ap₂, subst, inl, inr, zero-add, mod-eq_of_lt, ◌∙◌, arith, append_assoc, length-append, IfSome, get_or}
+use Rattle.std.proofs.Common.{◌≡◌, ℕ, zero, suc, ◌+◌, ◌-◌, ◌^◌, ◌<◌, ◌≤◌, ◌==◌, nat_lt, ◌%◌, true, false, cond, ⊎_elim, List, [], ◌∷◌, ◌++◌, length, take, set}
+use Rattle.std.proofs.Common.{replicate, Option, Some, None, refl, sym, ap, ap₂, subst, inl, inr, zero-add, mod-eq_of_lt, ◌∙◌, arith, append_assoc}
+use Rattle.std.proofs.Common.{length-append, IfSome, get_or}
 use Rattle.std.specs.Ordering.{nat_cmp, match_ordering}
 use Rattle.std.specs.declared.cmp.Ordering.TheVariants.{Less, Equal, Greater}
 use Rattle.std.proofs.lemmas.Bool.{ltb-false, lt-ltb, cases_Bool, cases_eq, cases_lt, eq-eqb, ne_eqb}
@@ -48,7 +50,8 @@ count_one-front x start [] h = refl
 count_one-front x start (count ∷ counts) h =
     let rest = counts_from (start + 1) counts in
     elim (nat_lt 0 count) as (λ b. count_one nat_cmp (cond b ((start, count) ∷ rest) rest) x ≡ (x, 1) ∷ cond b ((start, count) ∷ rest) rest) [
-      | true ↦ ap (λ o. match_ordering o ((x, 1) ∷ (start, count) ∷ rest) ((start, count + 1) ∷ rest) ((start, count) ∷ count_one nat_cmp rest x)) (below x start h)
+      | true ↦ ap (λ o. match_ordering o ((x, 1) ∷ (start, count) ∷ rest) ((start, count + 1) ∷ rest) ((start, count) ∷ count_one nat_cmp rest x))
+          (below x start h)
       | false ↦ count_one-front x (start + 1) counts (omega (arith, h))
     ]
 
@@ -74,12 +77,14 @@ first_more start count counts =
 counts_from-set : (start : ℕ) (counts : List ℕ) (i : ℕ) → i < length counts →
     counts_from start (set counts i (get_or counts i 0 + 1)) ≡ count_one nat_cmp (counts_from start counts) (start + i)
 counts_from-set start [] i h = absurd (omega (arith, h))
-counts_from-set start (count ∷ counts) zero h = first_more start count counts ∙ ap (λ x. count_one nat_cmp (counts_from start (count ∷ counts)) x) (plus_none start)
+counts_from-set start (count ∷ counts) zero h = first_more start count counts ∙ ap (λ x. count_one nat_cmp (counts_from start (count ∷ counts)) x)
+    (plus_none start)
 counts_from-set start (count ∷ counts) (suc i) h =
     let rest = counts_from (start + 1) counts in
     let n = (start + suc i) in
     let later = counts_from-set (start + 1) counts i (omega (arith, h)) ∙ ap (λ x. count_one nat_cmp rest x) (next start i) in
-    elim (nat_lt 0 count) as (λ b. cond b ((start, count) ∷ counts_from (start + 1) (set counts i (get_or counts i 0 + 1))) (counts_from (start + 1) (set counts i (get_or counts i 0 + 1)))
+    elim (nat_lt 0 count) as (λ b. cond b ((start, count) ∷ counts_from (start + 1) (set counts i (get_or counts i 0 + 1)))
+    (counts_from (start + 1) (set counts i (get_or counts i 0 + 1)))
     ≡ count_one nat_cmp (cond b ((start, count) ∷ rest) rest) n) [
       | true ↦ ap (λ gs. (start, count) ∷ gs) later ∙ sym (count_one-behind nat_order n start count rest (below start n (omega arith)))
       | false ↦ later
@@ -93,14 +98,16 @@ counts_of-push numbers x = fold_push (count_one nat_cmp) [] numbers x
 count_within : (start : ℕ) (counts : List ℕ) (i : ℕ) → get_or counts i 0 ≤ hits_counted (counts_from start counts)
 count_within start [] i = omega arith
 count_within start (count ∷ counts) zero =
-    elim (nat_lt 0 count) as (λ b. nat_lt 0 count ≡ b → count ≤ hits_counted (cond b ((start, count) ∷ counts_from (start + 1) counts) (counts_from (start + 1) counts)))
+    elim (nat_lt 0 count) as
+    (λ b. nat_lt 0 count ≡ b → count ≤ hits_counted (cond b ((start, count) ∷ counts_from (start + 1) counts) (counts_from (start + 1) counts)))
     [ true ↦ λ h. omega arith | false ↦ λ h. omega (arith, ltb-false 0 count h) ] refl
 count_within start (count ∷ counts) (suc i) =
     elim (nat_lt 0 count) as (λ b. get_or counts i 0 ≤ hits_counted (cond b ((start, count) ∷ counts_from (start + 1) counts) (counts_from (start + 1) counts)))
     [ true ↦ omega (arith, count_within (start + 1) counts i) | false ↦ count_within (start + 1) counts i ]
 
 -- no count is over the numbers that were counted
-counted_within : (numbers : List ℕ) (least : ℕ) (counts : List ℕ) → AreCounts numbers least counts → length numbers < 2 ^ 64 → (i : ℕ) → get_or counts i 0 ≤ length numbers
+counted_within : (numbers : List ℕ) (least : ℕ) (counts : List ℕ) → AreCounts numbers least counts → length numbers < 2 ^ 64 → (i : ℕ) →
+    get_or counts i 0 ≤ length numbers
 counted_within numbers least counts is few i =
     let total = ap hits_counted (is few) ∙ hits_counted-fold nat_order [] numbers in
     omega (arith, count_within least counts i, total)
@@ -112,7 +119,8 @@ AreCounts-one numbers least counts x low high is few =
     let i = x - least in
     let fewer : length numbers + 1 < 2 ^ 64 = omega (arith, few, length-append numbers (x ∷ [])) in
     let same = is (omega (arith, fewer)) in
-    let fits : (get_or counts i 0 + 1) % 2 ^ 64 ≡ get_or counts i 0 + 1 = mod-eq_of_lt (omega (arith, counted_within numbers least counts is (omega (arith, fewer)) i, fewer)) in
+    let fits : (get_or counts i 0 + 1) % 2 ^ 64 ≡ get_or counts i 0 + 1 =
+    mod-eq_of_lt (omega (arith, counted_within numbers least counts is (omega (arith, fewer)) i, fewer)) in
     let place : least + i ≡ x = omega (arith, low) in
     ap (λ c. counts_from least (set counts i c)) fits
     ∙ counts_from-set least counts i (omega (arith, low, high))
@@ -137,7 +145,8 @@ kept-more h docs i lt =
     ∙ ap (λ xs. filter_map h (take i docs) ++ xs) (one_kept (h (get_or docs i 0)))
 
 -- a number of a column is one of those that it has places for
-within_at : (column : List (Option ℕ)) (least count doc x : ℕ) → AreWithin column least count → slice_index_or column doc None ≡ Some x → (least ≤ x) × (x < least + count)
+within_at : (column : List (Option ℕ)) (least count doc x : ℕ) → AreWithin column least count → slice_index_or column doc None ≡ Some x →
+    (least ≤ x) × (x < least + count)
 within_at column least count doc x within is =
     let P : Option ℕ → Type 0 = λ v. IfSome v (λ x. (least ≤ x) × (x < least + count)) in
     ⊎_elim (λ (inside : doc < length column). subst P is (within doc None inside))
@@ -145,13 +154,16 @@ within_at column least count doc x within is =
     (cases_lt doc (length column))
 
 -- one document more has a value, or has not
-having-cons : (column : List (Option ℕ)) (doc : ℕ) (docs : List ℕ) (x : ℕ) (v : Option ℕ) → slice_index_or column doc None ≡ v → having column (doc ∷ docs) x ≡ cond (is_value x v) 1 0 + having column docs x
+having-cons : (column : List (Option ℕ)) (doc : ℕ) (docs : List ℕ) (x : ℕ) (v : Option ℕ) → slice_index_or column doc None ≡ v →
+    having column (doc ∷ docs) x ≡ cond (is_value x v) 1 0 + having column docs x
 having-cons column doc docs x v is =
     sum_by-cons (λ d. cond (is_value x (slice_index_or column d None)) 1 0) doc docs ∙ ap (λ o. cond (is_value x o) 1 0 + having column docs x) is
 
 -- each place tells of documents as after the first of them and then the others
-counted_first : (column : List (Option ℕ)) (doc : ℕ) (docs : List ℕ) (least x : ℕ) (counts : List ℕ) → slice_index_or column doc None ≡ Some x → least ≤ x → x < least + length counts → (place : ℕ) →
-    (get_or counts place 0 + having column (doc ∷ docs) (least + place)) % 2 ^ 64 ≡ (get_or (set counts (x - least) ((get_or counts (x - least) 0 + 1) % 2 ^ 64)) place 0 + having column docs (least + place)) % 2 ^ 64
+counted_first : (column : List (Option ℕ)) (doc : ℕ) (docs : List ℕ) (least x : ℕ) (counts : List ℕ) → slice_index_or column doc None ≡ Some x → least ≤ x →
+    x < least + length counts → (place : ℕ) →
+    (get_or counts place 0 + having column (doc ∷ docs) (least + place)) % 2 ^ 64
+    ≡ (get_or (set counts (x - least) ((get_or counts (x - least) 0 + 1) % 2 ^ 64)) place 0 + having column docs (least + place)) % 2 ^ 64
 counted_first column doc docs least x counts is low high place =
     let i = x - least in
     let more = (get_or counts i 0 + 1) % 2 ^ 64 in
@@ -159,28 +171,36 @@ counted_first column doc docs least x counts is low high place =
     let first = having-cons column doc docs (least + place) (Some x) is in
     elim (cases_eq place i) [
       | inl here ↦ (
-          let one_more : having column (doc ∷ docs) (least + place) ≡ 1 + rest = first ∙ ap (λ b. cond b 1 0 + rest) (eq-eqb x (least + place) (omega (arith, here, low))) in
-          let total : get_or counts place 0 + having column (doc ∷ docs) (least + place) ≡ get_or counts i 0 + 1 + rest = omega (arith, one_more, ap (λ k. get_or counts k 0) here) in
-          let now : get_or (set counts i more) place 0 ≡ more = ap (λ k. get_or (set counts i more) k 0) here ∙ get_or-set_same counts i more 0 (omega (arith, low, high)) in
+          let one_more : having column (doc ∷ docs) (least + place) ≡ 1 + rest =
+          first ∙ ap (λ b. cond b 1 0 + rest) (eq-eqb x (least + place) (omega (arith, here, low))) in
+          let total : get_or counts place 0 + having column (doc ∷ docs) (least + place) ≡ get_or counts i 0 + 1 + rest =
+          omega (arith, one_more, ap (λ k. get_or counts k 0) here) in
+          let now : get_or (set counts i more) place 0 ≡ more =
+          ap (λ k. get_or (set counts i more) k 0) here ∙ get_or-set_same counts i more 0 (omega (arith, low, high)) in
           ap (λ n. n % 2 ^ 64) total ∙ sym (mod-add (get_or counts i 0 + 1) rest (2 ^ 64)) ∙ ap (λ n. (n + rest) % 2 ^ 64) (sym now))
       | inr other ↦ (
-          let same : having column (doc ∷ docs) (least + place) ≡ rest = first ∙ ap (λ b. cond b 1 0 + rest) (ne_eqb x (least + place) (λ e. other (omega (arith, e)))) ∙ zero-add rest in
+          let same : having column (doc ∷ docs) (least + place) ≡ rest =
+          first ∙ ap (λ b. cond b 1 0 + rest) (ne_eqb x (least + place) (λ e. other (omega (arith, e)))) ∙ zero-add rest in
           ap₂ (λ a n. (a + n) % 2 ^ 64) (sym (get_or-set_other counts i place more 0 other)) same)
     ]
 
 -- where each place has counted the documents whose number it tells, the numbers of all of them are counted
-pub AreCounts-docs : (column : List (Option ℕ)) (docs numbers : List ℕ) (least : ℕ) (counts after : List ℕ) → AreWithin column least (length counts) → length after ≡ length counts →
+pub AreCounts-docs : (column : List (Option ℕ)) (docs numbers : List ℕ) (least : ℕ) (counts after : List ℕ) → AreWithin column least (length counts) →
+    length after ≡ length counts →
     ((place : ℕ) → place < length counts → get_or after place 0 ≡ (get_or counts place 0 + having column docs (least + place)) % 2 ^ 64) →
     AreCounts numbers least counts → AreCounts (numbers ++ present_at column docs) least after
 AreCounts-docs column [] numbers least counts after within long each is =
-    let same = λ (few : length numbers < 2 ^ 64). ext_get_or 0 after counts long (λ place lt. each place (omega (arith, lt, long)) ∙ ap (λ n. n % 2 ^ 64) (sym (plus_none (get_or counts place 0)))
+    let same = λ (few : length numbers < 2 ^ 64). ext_get_or 0 after counts long (λ place lt. each place (omega (arith, lt, long)) ∙ ap (λ n. n % 2 ^ 64)
+    (sym (plus_none (get_or counts place 0)))
     ∙ mod-eq_of_lt (omega (arith, counted_within numbers least counts is few place, few))) in
     let counted : AreCounts numbers least after = λ few. ap (counts_from least) (same few) ∙ is few in
     subst (λ xs. AreCounts xs least after) (sym (append-nil numbers)) counted
 AreCounts-docs column (doc ∷ docs) numbers least counts after within long each is =
-    elim (slice_index_or column doc None) as (λ v. slice_index_or column doc None ≡ v → AreCounts (numbers ++ cons_option v (present_at column docs)) least after) [
+    elim (slice_index_or column doc None) as (λ v. slice_index_or column doc None ≡ v → AreCounts (numbers ++ cons_option v (present_at column docs)) least
+    after) [
       | None ↦ λ none. AreCounts-docs column docs numbers least counts after within long
-          (λ place lt. each place lt ∙ ap (λ n. (get_or counts place 0 + n) % 2 ^ 64) (having-cons column doc docs (least + place) None none ∙ zero-add (having column docs (least + place)))) is
+          (λ place lt. each place lt ∙ ap (λ n. (get_or counts place 0 + n) % 2 ^ 64) (having-cons column doc docs (least + place) None none
+          ∙ zero-add (having column docs (least + place)))) is
       | Some x ↦ λ some.
           let at = within_at column least (length counts) doc x within some in
           let more = set counts (x - least) ((get_or counts (x - least) 0 + 1) % 2 ^ 64) in
@@ -193,6 +213,8 @@ AreCounts-docs column (doc ∷ docs) numbers least counts after within long each
 
 -- more documents are put behind those before
 pub present_at-behind : (numbers : List ℕ) (column : List (Option ℕ)) (docs : List ℕ) (i : ℕ) → i < length docs →
-    (numbers ++ present_at column (take i docs)) ++ option_to_list (slice_index_or column (get_or docs i 0) None) ≡ numbers ++ present_at column (take (i + 1) docs)
+    (numbers ++ present_at column (take i docs)) ++ option_to_list (slice_index_or column (get_or docs i 0) None) ≡ numbers
+    ++ present_at column (take (i + 1) docs)
 present_at-behind numbers column docs i h =
-    append_assoc numbers (present_at column (take i docs)) (option_to_list (slice_index_or column (get_or docs i 0) None)) ∙ ap (λ xs. numbers ++ xs) (sym (kept-more (λ doc. slice_index_or column doc None) docs i h))
+    append_assoc numbers (present_at column (take i docs)) (option_to_list (slice_index_or column (get_or docs i 0) None))
+    ∙ ap (λ xs. numbers ++ xs) (sym (kept-more (λ doc. slice_index_or column doc None) docs i h))

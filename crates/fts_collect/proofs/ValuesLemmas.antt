@@ -1,5 +1,6 @@
 -- The numbers of documents, as they are and as a column keeps them.
-use Rattle.std.proofs.Common.{◌≡◌, ℕ, ◌+◌, ◌-◌, ◌^◌, ◌<◌, ◌≤◌, nat_lt, true, false, cond, ⊎_elim, List, [], length, map, Option, Some, None, refl, sym, ap, subst, ◌∙◌, arith, All, IfSome, get_or, option_map}
+use Rattle.std.proofs.Common.{◌≡◌, ℕ, ◌+◌, ◌-◌, ◌^◌, ◌<◌, ◌≤◌, nat_lt, true, false, cond, ⊎_elim, List, [], length, map, Option, Some, None, refl, sym, ap}
+use Rattle.std.proofs.Common.{subst, ◌∙◌, arith, All, IfSome, get_or, option_map}
 use Rattle.std.specs.Prelude.{ℤ, pos, negsuc, slice_get, slice_index_or, option_and_then}
 use Rattle.std.specs.List.{filter_map, cons_option}
 use Rattle.std.proofs.lemmas.Bool.{ltb-true, lt-ltb, le-ltb, cases_lt}
@@ -75,7 +76,8 @@ number_fits kinds.I64 (Some (values.Number (numbers.I64 (negsuc n)))) can = omeg
 -- a document of a number has in a field what the column keeps there
 pub kept_at : (segment : SegmentValue) (field : ℕ) (kind : Kind) (doc : ℕ) → kind_at segment.schema field ≡ Some kind → holds_numbers kind ≡ true →
     All (λ d. CanHave kind (value_in_field d.value field)) segment.documents →
-    option_and_then (λ d. number_in_field d.value field) (slice_get segment.documents doc) ≡ option_map (number_at kind) (slice_index_or (column segment field) doc None)
+    option_and_then (λ d. number_in_field d.value field) (slice_get segment.documents doc)
+    ≡ option_map (number_at kind) (slice_index_or (column segment field) doc None)
 kept_at segment field kind doc known h can =
     let documents = segment.documents in
     let d : Stamped DocumentValue = record { stamp = 0; value = record { schema = []; values = [] } } in
@@ -110,7 +112,8 @@ fits_at segment field kind doc known can =
     (cases_lt doc (length documents))
 
 -- a list that is kept of one that begins with what may be there
-pub kept-cons : {X Y : Type 0} (k : X → Option Y) (o : Option X) (rest : List X) → filter_map k (cons_option o rest) ≡ cons_option (option_and_then k o) (filter_map k rest)
+pub kept-cons : {X Y : Type 0} (k : X → Option Y) (o : Option X) (rest : List X) →
+    filter_map k (cons_option o rest) ≡ cons_option (option_and_then k o) (filter_map k rest)
 kept-cons k None rest = refl
 kept-cons k (Some x) rest = refl
 

@@ -5,15 +5,14 @@ ghost use Rattle.fts_cursor.specs.Hits.{live_hits};
 ghost use Rattle.fts_cursor.specs.Standing.{Walked};
 ghost use Rattle.fts_model.specs.declared.operation.Term.{Term};
 ghost use Rattle.fts_model.specs.Queries.{is_number_field, is_ordered_field, query_fits, request_fits};
-ghost use Rattle.fts_model.specs.QueryValues.{every, query_value};
+ghost use Rattle.fts_model.specs.QueryValues.{query_value};
 ghost use Rattle.fts_model.specs.Answers.{answer, answer_of, groups, top};
 ghost use Rattle.fts_segment.specs.Contents.{content_of};
 ghost use Rattle.fts_postings.specs.Bounds.{most_at};
 ghost use Rattle.fts_cursor.specs.Openings.{HasMusts};
-ghost use Rattle.fts_collect.specs.Parts.{OpensIn};
+ghost use Rattle.fts_collect.specs.Parts.{AreWalked, OpensIn};
 ghost use Rattle.fts_collect.specs.Internals.Collected.{AreHits, HasCounted, HasNumbers, HasRanked, HasSeen, HasValues};
 ghost use Rattle.fts_collect.specs.Internals.Collected.{IsTallyOf, KeysWithin, column_of, hits_at};
-ghost use Rattle.fts_collect.specs.Internals.Walks.{set_in};
 
 use crate::lent::Counted;
 use crate::part::Part;
@@ -21,7 +20,7 @@ use crate::ranks::{Ranking, hits_of, numbers_of};
 use crate::tally::Tally;
 use crate::top_k::TopK;
 use crate::walk::offer_best;
-use fts_cursor::{Cursor, DocSet, cursor_of};
+use fts_cursor::{Cursor, DocSet, HitTest, cursor_of, hit_test};
 use fts_model::{Hit, Query, Refusal, Request, Top};
 use fts_pack::bits::Bits;
 use fts_pack::column::Column;
@@ -236,12 +235,12 @@ fn see_beside(
     Ok(())
 }
 
-/// The same where the hits are those whose bits are set, and a top list is asked for: the first of them are looked for
-/// among the documents with the best numbers.
-fn see_set(
+/// The same where a document's number tells whether it is a hit, and a top list is asked for: the first hits are looked
+/// for among the documents with the best numbers.
+fn see_told(
     alloc: Global,
     segment: &Segment,
-    bits: &Bits,
+    hits: &HitTest,
     request: &Request,
     top: Top,
     cursor: &mut Cursor<'_>,
@@ -249,27 +248,19 @@ fn see_set(
 ) -> Result<(), AllocError>
     requires fits { request_fits segment.now.schema request.now ≡ true }
     requires top { request.now.top ≡ Some top }
-    requires bits { length bits.now ≡ length segment.now.documents }
-    requires hits { cursor.old.remaining ≡ set_in segment.now bits.now }
-    requires within { All (λ doc. doc < length segment.now.documents) cursor.old.remaining }
+    requires told { cursor.old.remaining ≡ hits.now }
+    requires hits { AreHits segment.now cursor.old.remaining }
     requires none { HasSeen segment.now request.now [] seen.old }
     ensures seen { OnOk result (HasSeen segment.now request.now cursor.old.remaining seen.new) }
     ensures end { OnOk result (cursor.new.remaining ≡ []) }
     ensures walked { OnOk result (Walked cursor.old cursor.new) }
 {
     let mut top_k = TopK::new(alloc, top.k as usize);
-    let done = offer_best(alloc, segment, top, bits, &mut top_k)?;
+    let done = offer_best(alloc, segment, top, hits, &mut top_k)?;
     if done {
         return see_beside(segment, request, top, top_k, cursor, seen);
     }
     see_all(segment, request, cursor, seen)
-}
-
-/// Whether a query is that for all documents.
-fn is_all(query: &Query) -> bool
-    ensures { result ≡ true → query_value query.now ≡ every }
-{
-    matches!(query, Query::All)
 }
 
 /// Takes all hits that remain of the cursor of a query.
@@ -284,8 +275,9 @@ fn see_hits(
 ) -> Result<(), AllocError>
     requires fits { request_fits segment.now.schema request.now ≡ true }
     requires bits { length live.now ≡ length segment.now.documents }
-    requires hits { cursor.old.remaining ≡ live_hits segment.now live.now (query_value query.now) }
-    requires within { All (λ doc. doc < length segment.now.documents) cursor.old.remaining }
+    requires query { query_fits segment.now.schema (query_value query.now) ≡ true }
+    requires hits { AreHits segment.now cursor.old.remaining }
+    requires remaining { cursor.old.remaining ≡ live_hits segment.now live.now (query_value query.now) }
     requires none { HasSeen segment.now request.now [] seen.old }
     ensures seen { OnOk result (HasSeen segment.now request.now cursor.old.remaining seen.new) }
     ensures end { OnOk result (cursor.new.remaining ≡ []) }
@@ -294,10 +286,10 @@ fn see_hits(
     let Some(top) = request.top else {
         return see_all(segment, request, cursor, seen);
     };
-    if !is_all(query) {
+    let Some(hits) = hit_test(alloc, segment, live, query)? else {
         return see_all(segment, request, cursor, seen);
-    }
-    see_set(alloc, segment, live, request, top, cursor, seen)
+    };
+    see_told(alloc, segment, &hits, request, top, cursor, seen)
 }
 
 /// What is kept of no hits.
@@ -361,6 +353,7 @@ fn part_of(
     requires fits { request_fits segment.now.schema request.now ≡ true }
     requires documents { HasValues segment.now }
     requires bits { length live.now ≡ length segment.now.documents }
+    requires query { query_fits segment.now.schema (query_value query.now) ≡ true }
     requires hits { AreHits segment.now cursor.old.remaining }
     requires remaining { cursor.old.remaining ≡ live_hits segment.now live.now (query_value query.now) }
     ensures answer { IfOk result (λ part. part.answer
@@ -369,6 +362,10 @@ fn part_of(
     ensures least { IfOk result (λ part. min (2 ^ 64 - 1) cursor.old.openings ≤ part.openings) }
     ensures whole { IfOk result (λ part. cursor.old.whole ≡ true →
         part.openings ≡ min (2 ^ 64 - 1) (most_at cursor.old.bound None)) }
+    ensures openings { IfOk result (λ part. part.openings ≡ min (2 ^ 64 - 1) cursor.new.openings) }
+    ensures within { OnOk result (cursor.new.openings ≤ most_at cursor.new.bound None) }
+    ensures end { OnOk result (cursor.new.remaining ≡ []) }
+    ensures walked { OnOk result (Walked cursor.old cursor.new) }
 {
     let mut seen = nothing_seen(alloc, segment, request)?;
     see_hits(alloc, segment, live, query, request, cursor, &mut seen)?;
@@ -391,8 +388,9 @@ fn musts_of(query: &Query) -> usize
 /// over its live documents in their order, and the openings of a cursor that ran to its end.
 ///
 /// The hits come from a cursor, 128 at a time, and nothing is kept of them but what the request wants: counts by
-/// number, the first keys, and in the end a handle for each document of the top list. Where each live document is a hit,
-/// the first keys are looked for among the documents with the best numbers; the openings don't count the lists of these.
+/// number, the first keys, and in the end a handle for each document of the top list. Where bits and columns tell the
+/// hits, the first keys are looked for among the documents with the best numbers, if these are few enough; the openings
+/// don't count the lists of these.
 /// The only refusal is `Memory`.
 pub fn collect(
     alloc: Global,
@@ -407,6 +405,7 @@ pub fn collect(
     ensures part { IfOk result (λ part. part.answer ≡ answer segment.now.schema
         (query_value query.now) request.now (content_of segment.now live.now)) }
     ensures openings { IfOk result (OpensIn segment.now (query_value query.now)) }
+    ensures walked { IfOk result (λ part. AreWalked segment.now (query_value query.now) part.openings) }
     ensures memory { IsOkUnless result Refusal.Memory }
 {
     // A count of openings has 64 bits: neither the documents nor the musts are more.

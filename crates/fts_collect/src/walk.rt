@@ -1,109 +1,101 @@
 // The first hits of a segment from the sorted end of a column: of the documents with the best numbers, those that are
-// hits. Hits are told by bits, one for each document.
+// hits.
 ghost use Rattle.std.specs.Prelude.{◌≡◌, ◌<◌, ◌≤◌, ◌++◌, ◌∷◌, ◌⊎◌, ℕ, [], true, false, All, Contains, IfOk, IfSome};
 ghost use Rattle.std.specs.Prelude.{OnOk, filter, length};
 ghost use Rattle.fts_model.specs.Queries.{is_number_field};
-ghost use Rattle.fts_cursor.specs.Hits.{is_live};
+ghost use Rattle.fts_postings.specs.Sets.{has};
 ghost use Rattle.fts_segment.specs.Segments.{column};
-ghost use Rattle.fts_collect.specs.Internals.Walks.{IsBetween, IsEnd, RanksMore, hits_between, set_in};
+ghost use Rattle.fts_collect.specs.Internals.Collected.{AreHits};
+ghost use Rattle.fts_collect.specs.Internals.Walks.{IsBetween, IsEnd, RanksMore, hits_between};
 
 use crate::ranks::{Ranking, numbers_of};
 use crate::top_k::TopK;
+use fts_cursor::HitTest;
 use fts_model::{Order, Top};
-use fts_pack::bits::Bits;
 use fts_pack::{Blocks, List};
 use fts_segment::Segment;
 use std::alloc::{AllocError, Global};
 
-/// Whether a document's bit is set. What has no bit isn't a hit.
+/// Adds a document to others, if it is a hit.
 #[inline]
-fn is_set(bits: &Bits, doc: u32) -> bool
-    ensures { result ≡ is_live bits.now doc }
-{
-    let doc = doc as usize;
-    doc < bits.len() && bits.get(doc)
-}
-
-/// Adds a document to others, if its bit is set.
-#[inline]
-fn push_set(bits: &Bits, doc: u32, found: &mut Vec<u32>) -> Result<(), AllocError>
+fn push_hit(hits: &HitTest, doc: u32, found: &mut Vec<u32>) -> Result<(), AllocError>
     ensures { OnOk result (found.new.items
-        ≡ found.old.items ++ filter (is_live bits.now) (doc ∷ [])) }
+        ≡ found.old.items ++ filter (has hits.now) (doc ∷ [])) }
 {
-    if is_set(bits, doc) {
+    if hits.has(doc as usize) {
         found.push(doc)?;
     }
     Ok(())
 }
 
-/// Adds those documents to others whose bits are set.
-fn push_all_set(bits: &Bits, docs: &[u32], found: &mut Vec<u32>) -> Result<(), AllocError>
+/// Adds those of the documents to others that are hits.
+fn push_hits(hits: &HitTest, docs: &[u32], found: &mut Vec<u32>) -> Result<(), AllocError>
     ensures { OnOk result (found.new.items
-        ≡ found.old.items ++ filter (is_live bits.now) docs.now) }
+        ≡ found.old.items ++ filter (has hits.now) docs.now) }
 {
     for doc in docs {
-        push_set(bits, *doc, found)?;
+        push_hit(hits, *doc, found)?;
     }
     Ok(())
 }
 
-/// Adds those documents of a list to others whose bits are set. Its blocks are opened in `open`.
+/// Adds those documents of a list to others that are hits. Its blocks are opened in `open`.
 fn push_list(
-    bits: &Bits,
+    hits: &HitTest,
     list: &List,
     open: &mut [u32; 128],
     found: &mut Vec<u32>,
 ) -> Result<(), AllocError>
     ensures { OnOk result (found.new.items
-        ≡ found.old.items ++ filter (is_live bits.now) list.now) }
+        ≡ found.old.items ++ filter (has hits.now) list.now) }
 {
     let mut source = list.source();
     for block in 0..source.blocks() {
         let len = source.open(block, open);
-        push_all_set(bits, &open[..len], found)?;
+        push_hits(hits, &open[..len], found)?;
     }
     Ok(())
 }
 
-/// The documents whose bits are set and whose numbers in a field are between two, these included, list by list.
-fn set_between(
+/// The hits whose numbers in a field are between two, these included, list by list.
+fn listed_between(
     alloc: Global,
     segment: &Segment,
     field: usize,
-    bits: &Bits,
+    hits: &HitTest,
     low: u64,
     high: u64,
 ) -> Result<Vec<u32>, AllocError>
     requires { is_number_field segment.now.schema field ≡ true }
     ensures sound { IfOk result (λ found.
-        All (IsBetween (column segment.now field) bits.now low high) found.items) }
+        All (IsBetween (column segment.now field) hits.now low high) found.items) }
     ensures whole { IfOk result (λ found. (doc : ℕ) →
-        IsBetween (column segment.now field) bits.now low high doc → Contains found.items doc) }
+        IsBetween (column segment.now field) hits.now low high doc → Contains found.items doc) }
 {
     let mut found = Vec::with_capacity(alloc, segment.documents_between(field, low, high))?;
     let mut open = [0u32; 128];
     let lists = segment.lists_between(field, low, high);
     for list in lists {
-        push_list(bits, list, &mut open, &mut found)?;
+        push_list(hits, list, &mut open, &mut found)?;
     }
     Ok(found)
 }
 
-/// The hits whose numbers in a field are between two, these included.
+/// The same in the order of their documents.
 fn hits_between(
     alloc: Global,
     segment: &Segment,
     field: usize,
-    bits: &Bits,
+    hits: &HitTest,
     low: u64,
     high: u64,
 ) -> Result<Vec<u32>, AllocError>
     requires number { is_number_field segment.now.schema field ≡ true }
-    requires bits { length bits.now ≡ length segment.now.documents }
+    requires hits { AreHits segment.now hits.now }
     ensures { IfOk result
-        (λ found. found.items ≡ hits_between segment.now field bits.now low high) }
+        (λ found. found.items ≡ hits_between segment.now field hits.now low high) }
 {
-    let mut found = set_between(alloc, segment, field, bits, low, high)?;
+    let mut found = listed_between(alloc, segment, field, hits, low, high)?;
     found.sort_unstable();
     found.dedup();
     Ok(found)
@@ -139,8 +131,8 @@ fn place_from_last(lists: &[List], docs: usize) -> Option<usize>
     None
 }
 
-/// A number in a field that this many documents have, or a better one; none where fewer documents have a number. No block
-/// is opened.
+/// A number in a field that this many documents have, or a better one; none where fewer documents have a number. No
+/// block is opened.
 fn number_at_place(segment: &Segment, field: usize, order: Order, docs: usize) -> Option<u64>
     requires { is_number_field segment.now.schema field ≡ true }
 {
@@ -195,13 +187,13 @@ pub(crate) fn offer_best(
     alloc: Global,
     segment: &Segment,
     top: Top,
-    hits: &Bits,
+    hits: &HitTest,
     top_k: &mut TopK,
 ) -> Result<bool, AllocError>
     requires number { is_number_field segment.now.schema top.by ≡ true }
-    requires bits { length hits.now ≡ length segment.now.documents }
+    requires hits { AreHits segment.now hits.now }
     ensures offered { IfOk result (λ done. done ≡ true →
-        RanksMore segment.now top (set_in segment.now hits.now) top_k.old top_k.new) }
+        RanksMore segment.now top hits.now top_k.old top_k.new) }
     ensures kept { IfOk result (λ done. done ≡ false → top_k.new ≡ top_k.old) }
 {
     let ranking = Ranking {
@@ -213,7 +205,7 @@ pub(crate) fn offer_best(
         return Ok(false);
     };
     let range = (least, greatest);
-    let count = hits.count_ones();
+    let count = hits.estimate();
     let docs = docs_for(top.k, count, segment.docs());
     let most = most_docs(top.k, count);
     if docs > most {

@@ -1,5 +1,6 @@
 -- The documents of a Boolean query, by those of the queries in it, and those of which all bits are set.
-use Rattle.std.proofs.Common.{◌≡◌, ℕ, zero, suc, ◌+◌, ◌<◌, ◌≤◌, ◌==◌, Bool, true, false, not, ◌&&◌, ◌||◌, List, [], ◌∷◌, ◌++◌, drop, get_or, length, map, take, refl, sym, ap, ap₂, subst, ◌∙◌, inl, inr, arith}
+use Rattle.std.proofs.Common.{◌≡◌, ℕ, zero, suc, ◌+◌, ◌<◌, ◌≤◌, ◌==◌, Bool, true, false, not, ◌&&◌, ◌||◌, List, [], ◌∷◌, ◌++◌, drop, get_or, length, map, take}
+use Rattle.std.proofs.Common.{refl, sym, ap, ap₂, subst, ◌∙◌, inl, inr, arith}
 use Rattle.std.specs.Prelude.{if◌then◌else◌}
 use Rattle.std.specs.List.{AllZip, count_by, filter, list_all, list_any}
 use Rattle.std.specs.Option.{option_map_or}
@@ -38,7 +39,8 @@ and_late true false false = refl
 and_late false b c = refl
 
 -- the shoulds alone
-pub should_hits : (segment : SegmentValue) (must should : List Query) → must ≡ [] → union (map (hits_of segment) should) ≡ numbers_where (kept_by segment.schema must should) 0 segment.documents
+pub should_hits : (segment : SegmentValue) (must should : List Query) → must ≡ [] →
+    union (map (hits_of segment) should) ≡ numbers_where (kept_by segment.schema must should) 0 segment.documents
 should_hits segment must should none = hits_union segment should ∙ ap (λ qs. numbers_where (kept_by segment.schema qs should) 0 segment.documents) (sym none)
 
 or_false : (b : Bool) → b ≡ (b || false)
@@ -54,18 +56,23 @@ only_one (p ∷ r ∷ qs) q is some few = absurd (omega (arith, few))
 -- one query alone
 pub single_hits : (segment : SegmentValue) (q : Query) → hits_of segment q ≡ union (map (hits_of segment) (q ∷ []))
 single_hits segment q =
-    numbers_where-same (λ (e : Stamped DocumentValue). matches_in segment.schema e.value q) (λ e. list_any (matches_in segment.schema e.value) (q ∷ [])) 0 segment.documents
+    numbers_where-same (λ (e : Stamped DocumentValue). matches_in segment.schema e.value q) (λ e. list_any (matches_in segment.schema e.value) (q ∷ [])) 0
+    segment.documents
     (λ k d inside. or_false (matches_in segment.schema (get_or segment.documents k d).value q)) ∙ sym (hits_union segment (q ∷ []))
 
 -- the documents that all musts find
-pub all_kept : (segment : SegmentValue) (must should : List Query) → 0 < length must → numbers_where (λ e. list_all (matches_in segment.schema e.value) must) 0 segment.documents ≡ numbers_where (kept_by segment.schema must should) 0 segment.documents
+pub all_kept : (segment : SegmentValue) (must should : List Query) → 0 < length must →
+    numbers_where (λ e. list_all (matches_in segment.schema e.value) must) 0 segment.documents ≡ numbers_where (kept_by segment.schema must should) 0
+    segment.documents
 all_kept segment [] should some = absurd (omega (arith, some))
 all_kept segment (q ∷ qs) should some =
-    numbers_where-same (λ (e : Stamped DocumentValue). list_all (matches_in segment.schema e.value) (q ∷ qs)) (kept_by segment.schema (q ∷ qs) should) 0 segment.documents
+    numbers_where-same (λ (e : Stamped DocumentValue). list_all (matches_in segment.schema e.value) (q ∷ qs)) (kept_by segment.schema (q ∷ qs) should) 0
+    segment.documents
     (λ k d inside. and_true (list_all (matches_in segment.schema (get_or segment.documents k d).value) (q ∷ qs)))
 
 -- the musts, and nothing else
-pub must_hits : (segment : SegmentValue) (trees : List TreeValue) (must should : List Query) (out : List ℕ) → remains trees ≡ map (hits_of segment) must → 0 < length must →
+pub must_hits : (segment : SegmentValue) (trees : List TreeValue) (must should : List Query) (out : List ℕ) → remains trees ≡ map (hits_of segment) must →
+    0 < length must →
     ((first : TreeValue) (rest : List TreeValue) → trees ≡ first ∷ rest → out ≡ common first.remaining (remains rest)) →
     out ≡ numbers_where (kept_by segment.schema must should) 0 segment.documents
 must_hits segment trees [] should out are some is = absurd (omega (arith, some))
@@ -76,26 +83,34 @@ must_hits segment (s ∷ rest) (q ∷ qs) should out are some is =
 -- what a Boolean query is
 abbrev pub IsBool : SegmentValue → Query → List Query → List Query → List Query → Type 0
 IsBool segment query must must_not should =
-    (document : DocumentValue) → matches_in segment.schema document query ≡ (list_all (matches_in segment.schema document) must && not (list_any (matches_in segment.schema document) must_not) && (is_nonempty must || list_any (matches_in segment.schema document) should))
+    (document : DocumentValue) →
+    matches_in segment.schema document query
+    ≡ (list_all (matches_in segment.schema document) must && not (list_any (matches_in segment.schema document) must_not) &&
+    (is_nonempty must || list_any (matches_in segment.schema document) should))
 
 -- one without must-nots
-pub bool_kept : (segment : SegmentValue) (query : Query) (must must_not should : List Query) (kept : List ℕ) → IsBool segment query must must_not should → must_not ≡ [] → kept ≡ numbers_where (kept_by segment.schema must should) 0 segment.documents → kept ≡ hits_of segment query
+pub bool_kept : (segment : SegmentValue) (query : Query) (must must_not should : List Query) (kept : List ℕ) → IsBool segment query must must_not should →
+    must_not ≡ [] → kept ≡ numbers_where (kept_by segment.schema must should) 0 segment.documents → kept ≡ hits_of segment query
 bool_kept segment query must must_not should kept bool none is =
     is ∙ numbers_where-same (kept_by segment.schema must should) (λ e. matches_in segment.schema e.value query) 0 segment.documents
     (λ k d inside.
     let document = (get_or segment.documents k d).value in
     ap (λ b. b && (is_nonempty must || list_any (matches_in segment.schema document) should)) (and_true (list_all (matches_in segment.schema document) must))
-    ∙ ap (λ qs. list_all (matches_in segment.schema document) must && not (list_any (matches_in segment.schema document) qs) && (is_nonempty must || list_any (matches_in segment.schema document) should)) (sym none) ∙ sym (bool document))
+    ∙ ap (λ qs. list_all (matches_in segment.schema document) must && not (list_any (matches_in segment.schema document) qs) &&
+    (is_nonempty must || list_any (matches_in segment.schema document) should)) (sym none) ∙ sym (bool document))
 
 -- one with some
-pub bool_apart : (segment : SegmentValue) (query : Query) (must must_not should : List Query) (kept dropped : List ℕ) → IsBool segment query must must_not should → kept ≡ numbers_where (kept_by segment.schema must should) 0 segment.documents → dropped ≡ union (map (hits_of segment) must_not) → without kept dropped ≡ hits_of segment query
+pub bool_apart : (segment : SegmentValue) (query : Query) (must must_not should : List Query) (kept dropped : List ℕ) →
+    IsBool segment query must must_not should → kept ≡ numbers_where (kept_by segment.schema must should) 0 segment.documents →
+    dropped ≡ union (map (hits_of segment) must_not) → without kept dropped ≡ hits_of segment query
 bool_apart segment query must must_not should kept dropped bool is are =
     let q : Stamped DocumentValue → Bool = λ e. list_any (matches_in segment.schema e.value) must_not in
     ap₂ without is (are ∙ hits_union segment must_not) ∙ hits_apart (kept_by segment.schema must should) q segment.documents
     ∙ numbers_where-same (λ e. kept_by segment.schema must should e && not (q e)) (λ e. matches_in segment.schema e.value query) 0 segment.documents
     (λ k d inside.
     let document = (get_or segment.documents k d).value in
-    and_late (list_all (matches_in segment.schema document) must) (list_any (matches_in segment.schema document) must_not) (is_nonempty must || list_any (matches_in segment.schema document) should) ∙ sym (bool document))
+    and_late (list_all (matches_in segment.schema document) must) (list_any (matches_in segment.schema document) must_not)
+    (is_nonempty must || list_any (matches_in segment.schema document) should) ∙ sym (bool document))
 
 -- where all bits are set, each is
 set_all : (bits : List Bool) → length (filter (λ (b : Bool). b) bits) ≡ length bits → (d : ℕ) → d < length bits → get_or bits d false ≡ true
@@ -109,13 +124,18 @@ set_all (false ∷ bits) all d inside =
     absurd (omega (arith, less, length-filter (λ (b : Bool). b) bits, count_by-le-length (λ (b : Bool). b) bits))
 
 -- then all documents are live
-pub all_live : (segment : SegmentValue) (live : List Bool) (query : QueryValue) → length live ≡ length segment.documents → count_by (λ (b : Bool). b) live ≡ length live → segment_hits segment query ≡ live_hits segment live query
+pub all_live : (segment : SegmentValue) (live : List Bool) (query : QueryValue) → length live ≡ length segment.documents →
+    count_by (λ (b : Bool). b) live ≡ length live → segment_hits segment query ≡ live_hits segment live query
 all_live segment live query long all =
     let p : Stamped DocumentValue → Bool = λ e. matches segment.schema e.value query in
-    sym (numbers_are p segment.documents (live_hits segment live query) (Rises-filter 0 (is_live live) (segment_hits segment query) (Rises-numbers p 0 segment.documents))
-    (λ d. has-filter (is_live live) (segment_hits segment query) d ∙ ap (λ b. b && is_live live d) (has-all p segment.documents d) ∙ elim (cases_lt d (length segment.documents)) [
-      | inl inside ↦ ap (λ b. test_at p segment.documents d && b) (set_all live (length-filter (λ (b : Bool). b) live ∙ all) d (omega (arith, inside, long))) ∙ sym (and_true (test_at p segment.documents d))
-      | inr past ↦ ap (λ s. option_map_or p s false && is_live live d) (slice_get_past segment.documents d past) ∙ sym (ap (λ s. option_map_or p s false) (slice_get_past segment.documents d past))
+    sym (numbers_are p segment.documents (live_hits segment live query) (Rises-filter 0 (is_live live) (segment_hits segment query)
+    (Rises-numbers p 0 segment.documents))
+    (λ d. has-filter (is_live live) (segment_hits segment query) d ∙ ap (λ b. b && is_live live d) (has-all p segment.documents d)
+    ∙ elim (cases_lt d (length segment.documents)) [
+      | inl inside ↦ ap (λ b. test_at p segment.documents d && b) (set_all live (length-filter (λ (b : Bool). b) live ∙ all) d (omega (arith, inside, long)))
+          ∙ sym (and_true (test_at p segment.documents d))
+      | inr past ↦ ap (λ s. option_map_or p s false && is_live live d) (slice_get_past segment.documents d past)
+          ∙ sym (ap (λ s. option_map_or p s false) (slice_get_past segment.documents d past))
     ]))
 
 -- lists that go together, with one more
@@ -125,11 +145,15 @@ push_both R [] (w ∷ ws) x y h r = absurd h
 push_both R (v ∷ vs) [] x y h r = absurd h
 push_both R (v ∷ vs) (w ∷ ws) x y h r = (h.0, push_both R vs ws x y h.1 r)
 
-pub more_paired : {A B : Type 0} (R : A → B → Type 0) (xs : List A) (ys : List B) (k : ℕ) (x : A) (y : B) → AllZip R (take k xs) ys → k < length xs → x ≡ get_or xs k x → R x y → AllZip R (take (k + 1) xs) (ys ++ y ∷ [])
-more_paired R xs ys k x y h inside is r = subst (λ zs. AllZip R zs (ys ++ y ∷ [])) (ap (λ z. take k xs ++ z ∷ []) is ∙ sym (take_more xs k x inside)) (push_both R (take k xs) ys x y h r)
+pub more_paired : {A B : Type 0} (R : A → B → Type 0) (xs : List A) (ys : List B) (k : ℕ) (x : A) (y : B) → AllZip R (take k xs) ys → k < length xs →
+    x ≡ get_or xs k x → R x y → AllZip R (take (k + 1) xs) (ys ++ y ∷ [])
+more_paired R xs ys k x y h inside is r = subst (λ zs. AllZip R zs (ys ++ y ∷ [])) (ap (λ z. take k xs ++ z ∷ []) is ∙ sym (take_more xs k x inside))
+    (push_both R (take k xs) ys x y h r)
 
-pub paired_more : {A B : Type 0} (R : A → B → Type 0) (xs : List A) (ys : List B) (k : ℕ) (x : A) (y : B) → AllZip R xs (take k ys) → k < length ys → y ≡ get_or ys k y → R x y → AllZip R (xs ++ x ∷ []) (take (k + 1) ys)
-paired_more R xs ys k x y h inside is r = subst (λ zs. AllZip R (xs ++ x ∷ []) zs) (ap (λ z. take k ys ++ z ∷ []) is ∙ sym (take_more ys k y inside)) (push_both R xs (take k ys) x y h r)
+pub paired_more : {A B : Type 0} (R : A → B → Type 0) (xs : List A) (ys : List B) (k : ℕ) (x : A) (y : B) → AllZip R xs (take k ys) → k < length ys →
+    y ≡ get_or ys k y → R x y → AllZip R (xs ++ x ∷ []) (take (k + 1) ys)
+paired_more R xs ys k x y h inside is r = subst (λ zs. AllZip R (xs ++ x ∷ []) zs) (ap (λ z. take k ys ++ z ∷ []) is ∙ sym (take_more ys k y inside))
+    (push_both R xs (take k ys) x y h r)
 
 pub one_or_none : (b : Bool) (n : ℕ) → n ≡ (if b then 1 else 0) → n < 2
 one_or_none true n is = omega (arith, is)

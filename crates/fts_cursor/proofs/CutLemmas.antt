@@ -1,5 +1,6 @@
 -- Those of what is kept whose bit is set.
-use Rattle.std.proofs.Common.{◌≡◌, ◌&&◌, ℕ, ◌+◌, ◌^◌, ◌<◌, Bool, true, false, cond, ◌==◌, Option, List, [], ◌∷◌, ◌++◌, length, get_or, take, drop, bit_and, refl, sym, ap, ap₂, ◌∙◌, inl, inr}
+use Rattle.std.proofs.Common.{◌≡◌, ◌&&◌, ℕ, ◌+◌, ◌^◌, ◌<◌, Bool, true, false, cond, ◌==◌, Option, List, [], ◌∷◌, ◌++◌, length, get_or, take, drop, bit_and}
+use Rattle.std.proofs.Common.{refl, sym, ap, ap₂, ◌∙◌, inl, inr}
 use Rattle.std.specs.Borrow.{Bor}
 use Rattle.std.specs.Prelude.{not, None}
 use Rattle.std.specs.Int.{bit_at}
@@ -23,7 +24,8 @@ filter-both p q l h [] = refl
 filter-both p q l h (x ∷ xs) = elim (cases_Bool (p x)) [
   | inl live ↦ (
       let kept : filter p (x ∷ xs) ≡ x ∷ filter p xs = ap (λ b. cond b (x ∷ filter p xs) (filter p xs)) live in
-      ap (λ b. cond b (x ∷ filter q xs) (filter q xs)) (h x ∙ ap (λ b. b && l x) live) ∙ ap (λ ys. cond (l x) (x ∷ ys) ys) (filter-both p q l h xs) ∙ sym (ap (filter l) kept)
+      ap (λ b. cond b (x ∷ filter q xs) (filter q xs)) (h x ∙ ap (λ b. b && l x) live) ∙ ap (λ ys. cond (l x) (x ∷ ys) ys) (filter-both p q l h xs)
+      ∙ sym (ap (filter l) kept)
       )
   | inr dead ↦ (
       let kept : filter p (x ∷ xs) ≡ filter p xs = ap (λ b. cond b (x ∷ filter p xs) (filter p xs)) dead in
@@ -50,18 +52,21 @@ dense_more dense all live doc is =
     ∙ and_last some (in_each dense.all.items doc) none (is_live live.now doc)
 
 -- whether the document's bit is set in each, one list of bits more
-pub each_more : (before all : List (Bor (List Bool))) (live : Bor (List Bool)) (doc : ℕ) → all ≡ before ++ live ∷ [] → in_each all doc ≡ (in_each before doc && is_live live.now doc)
+pub each_more : (before all : List (Bor (List Bool))) (live : Bor (List Bool)) (doc : ℕ) → all ≡ before ++ live ∷ [] →
+    in_each all doc ≡ (in_each before doc && is_live live.now doc)
 each_more before all live doc is =
     ap (λ xs. in_each xs doc) is ∙ list_all-append (λ (b : Bor (List Bool)). is_live b.now doc) before (live ∷ [])
     ∙ ap (λ b. in_each before doc && b) (and-true (is_live live.now doc))
 
 -- a word of marks and a word of bits
-pub Tells-within : (low high : ℕ) (column : List (Option ℕ)) (live : List Bool) (from at marks word : ℕ) → at ≡ from → ((k : ℕ) → k < 64 → (bit_at marks k == 1) ≡ is_within low high (get_or column (from + k) None)) → word ≡ number_of (take 64 (drop at live))
+pub Tells-within : (low high : ℕ) (column : List (Option ℕ)) (live : List Bool) (from at marks word : ℕ) → at ≡ from →
+    ((k : ℕ) → k < 64 → (bit_at marks k == 1) ≡ is_within low high (get_or column (from + k) None)) → word ≡ number_of (take 64 (drop at live))
     → Tells (has_within_live low high column live) from (bit_and marks word)
 Tells-within low high column live from at marks word start is word_is k low_k =
     bit_of_and marks word k ∙ ap₂ (λ a b. a && b) (is k low_k) (word_bit live from word k (word_is ∙ ap (λ n. number_of (take 64 (drop n live))) start) low_k)
 
-pub AreTold-within : (low high : ℕ) (column : List (Option ℕ)) (live : List Bool) (from word : ℕ) → Tells (has_within_live low high column live) from word → word < 2 ^ 64 → AreTold (has_within_live low high column live) (length column) from word
+pub AreTold-within : (low high : ℕ) (column : List (Option ℕ)) (live : List Bool) (from word : ℕ) → Tells (has_within_live low high column live) from word →
+    word < 2 ^ 64 → AreTold (has_within_live low high column live) (length column) from word
 AreTold-within low high column live from word tells fits = record {
   tells = tells;
   fits = fits;

@@ -1,5 +1,6 @@
 -- Words of bits, and the documents that they tell.
-use Rattle.std.proofs.Common.{◌≡◌, ◌||◌, ◌&&◌, ℕ, zero, suc, ◌+◌, ◌-◌, ◌^◌, ◌<◌, ◌≤◌, Bool, true, false, ◌==◌, List, [], ◌++◌, length, get_or, take, drop, min, max, bit_and, bit_or, refl, sym, ap, ap₂, subst, ◌∙◌, inl, inr, arith}
+use Rattle.std.proofs.Common.{◌≡◌, ◌||◌, ◌&&◌, ℕ, zero, suc, ◌+◌, ◌-◌, ◌^◌, ◌<◌, ◌≤◌, Bool, true, false, ◌==◌, List, [], ◌++◌, length, get_or, take, drop, min}
+use Rattle.std.proofs.Common.{max, bit_and, bit_or, refl, sym, ap, ap₂, subst, ◌∙◌, inl, inr, arith}
 use Rattle.std.specs.Borrow.{Bor}
 use Rattle.std.specs.Prelude.{not}
 use Rattle.std.specs.Int.{bit_at, bit_not, w64}
@@ -55,15 +56,18 @@ Tells-none list from k inside = ap (λ n. n == 1) (bit_at-zero k)
 pub Tells-every : (list : List (Bor (List Bool))) (from : ℕ) → Tells (in_each (take 0 list)) from (2 ^ 64 - 1)
 Tells-every list from k inside = ap (λ n. n == 1) (bit_at_ones 64 k inside)
 
-module _ (list : List (Bor (List Bool))) (i : ℕ) (bits : Bor (List Bool)) (inside : i < length list) (is : bits ≡ get_or list i bits) (from old word : ℕ) (word_is : word ≡ number_of (take 64 (drop from bits.now))) where
+module _ (list : List (Bor (List Bool))) (i : ℕ) (bits : Bor (List Bool)) (inside : i < length list) (is : bits ≡ get_or list i bits) (from old word : ℕ)
+    (word_is : word ≡ number_of (take 64 (drop from bits.now))) where
   here : (k : ℕ) → k < 64 → (bit_at word k == 1) ≡ is_live (get_or list i bits).now (from + k)
   here k low = word_bit bits.now from word k word_is low ∙ ap (λ (b : Bor (List Bool)). is_live b.now (from + k)) is
 
   pub Tells-or : Tells (in_one (take i list)) from old → Tells (in_one (take (i + 1) list)) from (bit_or old word)
-  Tells-or h k low = bit_of_or old word k ∙ ap₂ (λ a b. a || b) (h k low) (here k low) ∙ sym (list_any_more (λ (b : Bor (List Bool)). is_live b.now (from + k)) list i bits inside)
+  Tells-or h k low = bit_of_or old word k ∙ ap₂ (λ a b. a || b) (h k low) (here k low)
+      ∙ sym (list_any_more (λ (b : Bor (List Bool)). is_live b.now (from + k)) list i bits inside)
 
   pub Tells-and : Tells (in_each (take i list)) from old → Tells (in_each (take (i + 1) list)) from (bit_and old word)
-  Tells-and h k low = bit_of_and old word k ∙ ap₂ (λ a b. a && b) (h k low) (here k low) ∙ sym (list_all_more (λ (b : Bor (List Bool)). is_live b.now (from + k)) list i bits inside)
+  Tells-and h k low = bit_of_and old word k ∙ ap₂ (λ a b. a && b) (h k low) (here k low)
+      ∙ sym (list_all_more (λ (b : Bor (List Bool)). is_live b.now (from + k)) list i bits inside)
 
 -- what a word tells of documents that pass; none behind the last does
 pub record AreTold (test : ℕ → Bool) (docs from word : ℕ) : Type 0 where
@@ -102,11 +106,15 @@ module _ (test : ℕ → Bool) (docs : ℕ) where
       sym (append-nil (passing test from n)) ∙ ap (λ ys. passing test from n ++ ys) (sym none) ∙ sym (passing-append test from n m)
       ∙ ap (passing test from) whole ∙ passing-append test from a b
       ∙ ap₂ (λ xs ys. xs ++ ys)
-      (passing-same test (is_marked from first) from a (λ d up down. let e : from + (d - from) ≡ d = omega (arith, up) in subst (λ x. test x ≡ is_marked from first x) e (at from first here.tells (d - from) (omega (arith, up, down)))))
-      (ap (λ s. passing test s b) start ∙ passing-same test (is_marked (from + 64) second) (from + 64) b (λ d up down. let e : from + 64 + (d - (from + 64)) ≡ d = omega (arith, up) in subst (λ x. test x ≡ is_marked (from + 64) second x) e (at (from + 64) second there.tells (d - (from + 64)) (omega (arith, up, down)))))
+      (passing-same test (is_marked from first) from a (λ d up down. let e : from + (d - from) ≡ d = omega (arith, up) in
+      subst (λ x. test x ≡ is_marked from first x) e (at from first here.tells (d - from) (omega (arith, up, down)))))
+      (ap (λ s. passing test s b) start ∙ passing-same test (is_marked (from + 64) second) (from + 64) b (λ d up down. let e : from + 64 + (d - (from + 64))
+      ≡ d = omega (arith, up) in
+      subst (λ x. test x ≡ is_marked (from + 64) second x) e (at (from + 64) second there.tells (d - (from + 64)) (omega (arith, up, down)))))
 
 -- the word of documents that some have, and all, and none
-pub Tells-dense : (some all none : List (Bor (List Bool))) (from a b x : ℕ) → Tells (in_one some) from a → Tells (in_each all) from b → Tells (in_one none) from x → x < 2 ^ 64 →
+pub Tells-dense : (some all none : List (Bor (List Bool))) (from a b x : ℕ) → Tells (in_one some) from a → Tells (in_each all) from b →
+    Tells (in_one none) from x → x < 2 ^ 64 →
     Tells (λ doc. (in_one some doc && in_each all doc) && not (in_one none doc)) from (bit_and (bit_and a b) (bit_not w64 x))
 Tells-dense some all none from a b x a_is b_is x_is fits k low =
     bit_of_and (bit_and a b) (bit_not w64 x) k
@@ -116,12 +124,16 @@ Tells-dense some all none from a b x a_is b_is x_is fits k low =
 
 -- behind the last document none has a bit
 none_behind : (list : List (Bor (List Bool))) (docs d : ℕ) → All (λ b. length b.now ≤ docs) list → docs ≤ d → in_one list d ≡ false
-none_behind list docs d within past = list_any_none (λ (b : Bor (List Bool)). is_live b.now d) list (λ k b low. get_or_past (get_or list k b).now d false (let e = within k b low in omega (arith, e, past)))
+none_behind list docs d within past =
+    list_any_none (λ (b : Bor (List Bool)). is_live b.now d) list (λ k b low. get_or_past (get_or list k b).now d false
+    (let e = within k b low in omega (arith, e, past)))
 
 pub past_dense : (dense : Dense) (docs : ℕ) → AreWithin dense docs → (d : ℕ) → docs ≤ d → is_dense dense d ≡ false
-past_dense dense docs within d up = ap (λ a. (a && in_each dense.all.items d) && not (in_one dense.none.items d)) (none_behind dense.some.items docs d within up)
+past_dense dense docs within d up =
+    ap (λ a. (a && in_each dense.all.items d) && not (in_one dense.none.items d)) (none_behind dense.some.items docs d within up)
 
-pub AreTold-dense : (dense : Dense) (docs from word : ℕ) → AreWithin dense docs → Tells (is_dense dense) from word → word < 2 ^ 64 → AreTold (is_dense dense) docs from word
+pub AreTold-dense : (dense : Dense) (docs from word : ℕ) → AreWithin dense docs → Tells (is_dense dense) from word → word < 2 ^ 64 →
+    AreTold (is_dense dense) docs from word
 AreTold-dense dense docs from word within tells fits = record {
   tells = tells;
   fits = fits;

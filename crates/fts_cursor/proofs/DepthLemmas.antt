@@ -28,7 +28,8 @@ depth_of qs = depth_all (query_list (map query_value qs))
 pub parts_fall : (t : ℕ) (query : Query) (must must_not should : _) → query ≡ views.Bool must must_not should → 3 * depth (query_value query) + 0 ≡ t →
     (3 * depth_of must.items + 2 < t) × (3 * depth_of must_not.items + 2 < t) × (3 * depth_of should.items + 2 < t)
 parts_fall t query must must_not should is size =
-    let whole : depth (query_value query) ≡ suc (max (depth_of must.items) (max (depth_of must_not.items) (depth_of should.items))) = ap depth (ap query_value is ∙ value_at_bool must must_not should) in
+    let whole : depth (query_value query) ≡ suc (max (depth_of must.items) (max (depth_of must_not.items) (depth_of should.items))) =
+    ap depth (ap query_value is ∙ value_at_bool must must_not should) in
     (omega (arith, whole, size), omega (arith, whole, size), omega (arith, whole, size))
 
 -- none of some queries is deeper than all

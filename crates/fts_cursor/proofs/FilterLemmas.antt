@@ -1,10 +1,12 @@
 -- Documents of lists that bits tell too, a stretch at a time.
-use Rattle.std.proofs.Common.{◌≡◌, ◌&&◌, ℕ, zero, suc, ◌+◌, ◌<◌, ◌≤◌, Bool, true, cond, get_or, None, List, [], ◌∷◌, ◌++◌, length, take, drop, refl, sym, ap, ap₂, ◌∙◌, inl, inr, arith}
+use Rattle.std.proofs.Common.{◌≡◌, ◌&&◌, ℕ, zero, suc, ◌+◌, ◌<◌, ◌≤◌, Bool, true, cond, get_or, None, List, [], ◌∷◌, ◌++◌, length, take, drop, refl, sym, ap}
+use Rattle.std.proofs.Common.{ap₂, ◌∙◌, inl, inr, arith}
 use Rattle.std.specs.Borrow.{Bor}
 use Rattle.std.specs.List.{filter, slice_get}
 use Rattle.std.proofs.Math.Seq.{drop-append_seam, take-append_seam}
 use Rattle.std.proofs.lemmas.Bool.{and_parts, cases_Bool, cases_lt}
-use Rattle.std.proofs.lemmas.List.{drop-drop, drop-take, length-append, length-drop, length-take-le, nil_from_length, take-append-drop, take-append-le, take-take}
+use Rattle.std.proofs.lemmas.List.{drop-drop, drop-take, length-append, length-drop, length-take-le, nil_from_length, take-append-drop, take-append-le}
+use Rattle.std.proofs.lemmas.List.{take-take}
 use Rattle.std.proofs.lemmas.List.Elements.{filter-append}
 use Rattle.std.proofs.lemmas.List.Folds.{list_all-append, list_all_more}
 use Rattle.fts_postings.specs.Fills.{IsStretch}
@@ -28,7 +30,8 @@ filter-again p (x ∷ xs) zero = refl
 filter-again p (x ∷ xs) (suc n) = elim (cases_Bool (p x)) [
   | inl live ↦ (
       let kept : filter p (x ∷ xs) ≡ x ∷ filter p xs = ap (λ b. cond b (x ∷ filter p xs) (filter p xs)) live in
-      ap (λ ys. filter p (take (suc n) ys)) kept ∙ ap (λ b. cond b (x ∷ filter p (take n (filter p xs))) (filter p (take n (filter p xs)))) live ∙ ap (λ ys. x ∷ ys) (filter-again p xs n) ∙ sym (ap (take (suc n)) kept)
+      ap (λ ys. filter p (take (suc n) ys)) kept ∙ ap (λ b. cond b (x ∷ filter p (take n (filter p xs))) (filter p (take n (filter p xs)))) live
+      ∙ ap (λ ys. x ∷ ys) (filter-again p xs n) ∙ sym (ap (take (suc n)) kept)
       )
   | inr dead ↦ (
       let kept : filter p (x ∷ xs) ≡ filter p xs = ap (λ b. cond b (x ∷ filter p xs) (filter p xs)) dead in
@@ -48,12 +51,14 @@ module _ (p : ℕ → Bool) (whole left out : List ℕ) (filled : ℕ) (h : Take
   pub Taken-front_same : (next written : List ℕ) (count : ℕ) → IsStretch left next out written filled count → take filled written ≡ take filled out
   Taken-front_same next written count s =
       let long : length (take filled out) ≡ filled = ap length h.front ∙ length-take-le filled (filter p whole) h.within in
-      sym (take-take filled (filled + count) written (omega arith)) ∙ ap (take filled) s.front ∙ take-append-le filled (take filled out) (take count left) (omega (arith, long)) ∙ take-take filled filled out (omega arith)
+      sym (take-take filled (filled + count) written (omega arith)) ∙ ap (take filled) s.front ∙ take-append-le filled (take filled out) (take count left)
+      (omega (arith, long)) ∙ take-take filled filled out (omega arith)
 
   pub Taken-still : (next written : List ℕ) (count : ℕ) → IsStretch left next out written filled count → filter p (take filled written) ≡ take filled written
   Taken-still next written count s = let e = Taken-front_same next written count s in ap (filter p) e ∙ Taken-passed ∙ sym e
 
-  pub Taken-ended : (next written : List ℕ) (count : ℕ) → IsStretch left next out written filled count → count ≡ 0 → Taken (filter p whole) (filter p next) written filled
+  pub Taken-ended : (next written : List ℕ) (count : ℕ) → IsStretch left next out written filled count → count ≡ 0 →
+      Taken (filter p whole) (filter p next) written filled
   Taken-ended next written count s none = record {
     left_is = ap (filter p) (s.left_is ∙ ap (λ n. drop n left) none) ∙ h.left_is;
     front = Taken-front_same next written count s ∙ h.front;
@@ -62,23 +67,30 @@ module _ (p : ℕ → Bool) (whole left out : List ℕ) (filled : ℕ) (h : Take
 
   pub ended : (next written : List ℕ) (count : ℕ) → IsStretch left next out written filled count → count ≡ 0 → None ≡ slice_get (filter p next) 0
   ended next written count s none =
-      let gone : length left ≡ 0 = elim (cases_lt 0 (length left)) [ inl some ↦ absurd (omega (arith, none, s.some some)) | inr empty ↦ omega (arith, empty) ] in
+      let gone : length left ≡ 0 =
+      elim (cases_lt 0 (length left)) [ inl some ↦ absurd (omega (arith, none, s.some some)) | inr empty ↦ omega (arith, empty) ] in
       ap (λ xs. slice_get (filter p xs) 0) (sym (nil_from_length next (omega (arith, gone, ap length s.left_is, length-drop count left))))
 
-  pub Taken-kept : (next written docs : List ℕ) (count kept : ℕ) → IsStretch left next out written filled count → take kept docs ≡ filter p (take (filled + count) written) → kept ≡ length (filter p (take (filled + count) written)) → Taken (filter p whole) (filter p next) docs kept
+  pub Taken-kept : (next written docs : List ℕ) (count kept : ℕ) → IsStretch left next out written filled count →
+      take kept docs ≡ filter p (take (filled + count) written) → kept ≡ length (filter p (take (filled + count) written)) →
+      Taken (filter p whole) (filter p next) docs kept
   Taken-kept next written docs count kept s lies size =
       let w = filter p whole in
       let front = take filled out in
       let more = filter p (take count left) in
       let rest = filter p (drop count left) in
-      let all : filter p (take (filled + count) written) ≡ front ++ more = ap (filter p) s.front ∙ filter-append p front (take count left) ∙ ap (λ xs. xs ++ more) Taken-passed in
-      let split : drop filled w ≡ more ++ rest = sym h.left_is ∙ sym (ap (filter p) (take-append-drop count left)) ∙ filter-append p (take count left) (drop count left) in
+      let all : filter p (take (filled + count) written) ≡ front ++ more = ap (filter p) s.front ∙ filter-append p front (take count left)
+      ∙ ap (λ xs. xs ++ more) Taken-passed in
+      let split : drop filled w ≡ more ++ rest = sym h.left_is ∙ sym (ap (filter p) (take-append-drop count left))
+      ∙ filter-append p (take count left) (drop count left) in
       let long : length front ≡ filled = ap length h.front ∙ length-take-le filled w h.within in
       let sum : kept ≡ filled + length more = omega (arith, size, ap length all, length-append front more, long) in
-      let left_is : filter p next ≡ drop kept w = ap (filter p) s.left_is ∙ sym (drop-append_seam more rest) ∙ sym (ap (drop (length more)) split) ∙ drop-drop (length more) filled w ∙ ap (λ n. drop n w) (omega (arith, sum)) in
+      let left_is : filter p next ≡ drop kept w = ap (filter p) s.left_is ∙ sym (drop-append_seam more rest) ∙ sym (ap (drop (length more)) split)
+      ∙ drop-drop (length more) filled w ∙ ap (λ n. drop n w) (omega (arith, sum)) in
       record {
         left_is = left_is;
-        front = lies ∙ all ∙ sym (ap (λ n. take n w) sum ∙ take-add filled (length more) w ∙ ap₂ (λ xs ys. xs ++ take (length more) ys) (sym h.front) split ∙ ap (λ ys. front ++ ys) (take-append_seam more rest));
+        front = lies ∙ all ∙ sym (ap (λ n. take n w) sum ∙ take-add filled (length more) w ∙ ap₂ (λ xs ys. xs ++ take (length more) ys) (sym h.front) split
+            ∙ ap (λ ys. front ++ ys) (take-append_seam more rest));
         within = omega (arith, sum, ap length split, length-append more rest, length-drop filled w, h.within);
       }
 
@@ -98,7 +110,8 @@ filter-weaker p q (x ∷ xs) all weaker = elim (cases_Bool (p x)) [
 ]
 
 -- of what a test left the front is what it was
-pub front_left : (p : ℕ → Bool) (before now : List ℕ) (from end n : ℕ) → take end now ≡ filter p (take n before) → filter p (take from before) ≡ take from before → from ≤ n → from ≤ end → from ≤ length before → take from now ≡ take from before
+pub front_left : (p : ℕ → Bool) (before now : List ℕ) (from end n : ℕ) → take end now ≡ filter p (take n before) →
+    filter p (take from before) ≡ take from before → from ≤ n → from ≤ end → from ≤ length before → take from now ≡ take from before
 front_left p before now from end n left passed few within inside =
     let front = take from before in
     let rest = filter p (drop from (take n before)) in
@@ -111,24 +124,29 @@ front_left p before now from end n left passed few within inside =
 -- what each of the first lists of bits has, and one list of bits more
 module _ (bits : List (Bor (List Bool))) (i : ℕ) (one : Bor (List Bool)) (inside : i < length bits) (is : one ≡ get_or bits i one) where
   pub each_next : (d : ℕ) → in_each (take (i + 1) bits) d ≡ (in_each (take i bits) d && is_live one.now d)
-  each_next d = list_all_more (λ (b : Bor (List Bool)). is_live b.now d) bits i one inside ∙ ap (λ (b : Bor (List Bool)). in_each (take i bits) d && is_live b.now d) (sym is)
+  each_next d = list_all_more (λ (b : Bor (List Bool)). is_live b.now d) bits i one inside
+      ∙ ap (λ (b : Bor (List Bool)). in_each (take i bits) d && is_live b.now d) (sym is)
 
   each_first : (k : ℕ) (d : ℕ) → in_each bits d ≡ true → in_each (take k bits) d ≡ true
   each_first k d all =
       let test : Bor (List Bool) → Bool = λ b. is_live b.now d in
-      (and_parts (in_each (take k bits) d) (in_each (drop k bits) d) (sym (list_all-append test (take k bits) (drop k bits)) ∙ ap (λ bs. in_each bs d) (take-append-drop k bits) ∙ all)).0
+      (and_parts (in_each (take k bits) d) (in_each (drop k bits) d) (sym (list_all-append test (take k bits) (drop k bits)) ∙ ap (λ bs. in_each bs d)
+      (take-append-drop k bits) ∙ all)).0
 
-  module _ (from count end : ℕ) (before now : List ℕ) (passed : filter (in_each bits) (take from before) ≡ take from before) (left : take end now ≡ filter (in_each (take i bits)) (take (from + count) before)) (low : from ≤ end) (room : from ≤ length before) where
+  module _ (from count end : ℕ) (before now : List ℕ) (passed : filter (in_each bits) (take from before) ≡ take from before)
+      (left : take end now ≡ filter (in_each (take i bits)) (take (from + count) before)) (low : from ≤ end) (room : from ≤ length before) where
     pub passed_next : filter (is_live one.now) (take from now) ≡ take from now
     passed_next =
         let first = filter-weaker (in_each bits) (in_each (take i bits)) (take from before) passed (each_first i) in
-        let front : take from now ≡ take from before = front_left (in_each (take i bits)) before now from end (from + count) left first (omega arith) low room in
+        let front : take from now ≡ take from before = front_left (in_each (take i bits)) before now from end (from + count) left first (omega arith) low
+        room in
         let here : filter (is_live one.now) (take from before) ≡ take from before =
         filter-weaker (in_each bits) (is_live one.now) (take from before) passed
         (λ d all. (and_parts (in_each (take i bits) d) (is_live one.now d) (sym (each_next d) ∙ each_first (i + 1) d all)).1) in
         ap (filter (is_live one.now)) front ∙ here ∙ sym front
 
-    pub left_next : (next : List ℕ) (kept : ℕ) → take kept next ≡ filter (is_live one.now) (take end now) → take kept next ≡ filter (in_each (take (i + 1) bits)) (take (from + count) before)
+    pub left_next : (next : List ℕ) (kept : ℕ) → take kept next ≡ filter (is_live one.now) (take end now) →
+        take kept next ≡ filter (in_each (take (i + 1) bits)) (take (from + count) before)
     left_next next kept is_kept =
         is_kept ∙ ap (filter (is_live one.now)) left
         ∙ sym (filter-both (in_each (take i bits)) (in_each (take (i + 1) bits)) (is_live one.now) each_next (take (from + count) before))
@@ -139,7 +157,8 @@ filter-every [] = refl
 filter-every (x ∷ xs) = ap (λ ys. x ∷ ys) (filter-every xs)
 
 -- a cursor later on
-pub filter-continues : (c d : Conjoined) (opened : ℕ) (before after : List ℕ) → AllFollow c d → AreTied c → Continues (filtered c opened before) (filtered d opened after)
+pub filter-continues : (c d : Conjoined) (opened : ℕ) (before after : List ℕ) → AllFollow c d → AreTied c →
+    Continues (filtered c opened before) (filtered d opened after)
 filter-continues c d opened before after follows tied =
     let on = (terms-continue c d follows tied).0 before after in
     record {

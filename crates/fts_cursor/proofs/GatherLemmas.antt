@@ -1,5 +1,6 @@
 -- A disjunction: the documents of its window, and what remains of its parts after it.
-use Rattle.std.proofs.Common.{◌≡◌, ℕ, zero, suc, ◌+◌, ◌-◌, ◌<◌, ◌≤◌, All, Bool, true, false, cond, ◌||◌, ◌&&◌, ◌==◌, nat_le, Option, Some, None, List, [], ◌∷◌, ◌++◌, length, get_or, set, take, drop, refl, sym, ap, ap₂, subst, ◌∙◌, inl, inr, arith}
+use Rattle.std.proofs.Common.{◌≡◌, ℕ, zero, suc, ◌+◌, ◌-◌, ◌<◌, ◌≤◌, All, Bool, true, false, cond, ◌||◌, ◌&&◌, ◌==◌, nat_le, Option, Some, None, List, [], ◌∷◌}
+use Rattle.std.proofs.Common.{◌++◌, length, get_or, set, take, drop, refl, sym, ap, ap₂, subst, ◌∙◌, inl, inr, arith}
 use Rattle.std.specs.List.{AllZip, filter, slice_get}
 use Rattle.std.specs.List.Sorted.{IsStrictlyIncreasing}
 use Rattle.std.proofs.lemmas.Bool.{cases_Bool, cases_lt, le-leb, lt-leb, false≢true}
@@ -19,11 +20,13 @@ use Rattle.fts_cursor.specs.declared.tree.buffered_union.BufferedUnion.{Buffered
 use Rattle.fts_cursor.specs.declared.tree.Node.TheVariants.{Or}
 use Rattle.fts_postings.specs.declared.window.Window.{Window}
 use Rattle.fts_postings.proofs.RemainingLemmas.{at_least_all, first-at_least, increasing-from_Rises, nothing_first}
-use Rattle.fts_postings.proofs.SetLemmas.{Rises-lower, above_is_other, below_is_other, has-at_least, has-before_first, has-below, has-first, has-none, is_itself}
+use Rattle.fts_postings.proofs.SetLemmas.{Rises-lower, above_is_other, below_is_other, has-at_least, has-before_first, has-below, has-first, has-none}
+use Rattle.fts_postings.proofs.SetLemmas.{is_itself}
 use Rattle.fts_postings.proofs.MarkingLemmas.{at_least_behind, at_least_each, at_least_kept}
 use Rattle.fts_postings.proofs.PassingLemmas.{Rises-passing}
 use Rattle.fts_cursor.proofs.PartsLemmas.{TreeContinues-beside, TreeContinues-same, TreeContinues-together, UpTo, UpTo-next, UpTo-none, union-left}
-use Rattle.fts_postings.proofs.UnionLemmas.{Rises-union, at_least-with_all, by_order, first_of, has-union, has-with_one, in_some-append, leaves, union_first, with_one-front}
+use Rattle.fts_postings.proofs.UnionLemmas.{Rises-union, at_least-with_all, by_order, first_of, has-union, has-with_one, in_some-append, leaves, union_first}
+use Rattle.fts_postings.proofs.UnionLemmas.{with_one-front}
 use Rattle.fts_cursor.proofs.TreeLemmas.{IsNow-first, drop_first, from_union, parts_from, stays_from_first}
 use Rattle.fts_pack.proofs.DocumentsLemmas.{Rises-from_increasing}
 
@@ -37,7 +40,8 @@ same_from next (x ∷ xs) (y ∷ ys) up down h = by_order (x ∷ xs ≡ y ∷ ys
     (λ eq.
     let later : Rises (suc x) ys = subst (λ z. Rises (suc z) ys) (sym eq) down.1 in
     let rest : xs ≡ ys = same_from (suc x) xs ys up.1 later (λ d high.
-    ap (λ b. b || has xs d) (sym (above_is_other x d (omega (arith, high)))) ∙ h d (omega (arith, high, up.0)) ∙ ap (λ b. b || has ys d) (above_is_other y d (omega (arith, high, eq)))) in
+    ap (λ b. b || has xs d) (sym (above_is_other x d (omega (arith, high)))) ∙ h d (omega (arith, high, up.0))
+    ∙ ap (λ b. b || has ys d) (above_is_other y d (omega (arith, high, eq)))) in
     ap₂ (λ z zs. z ∷ zs) eq rest)
     (λ gt. absurd (false≢true (sym (has-below x (x ∷ xs) y (omega arith, up.1) gt) ∙ h y down.0 ∙ ap (λ b. b || has ys y) (is_itself y))))
 
@@ -57,7 +61,8 @@ passing-behind p a zero d high = refl
 passing-behind p a (suc n) d high =
     let rest = passing-behind p (a + 1) n d (omega (arith, high)) in
     elim (cases_Bool (p a)) [
-      | inl kept ↦ ap (λ b. has (cond b (a ∷ passing p (a + 1) n) (passing p (a + 1) n)) d) kept ∙ ap₂ (λ x y. x || y) (above_is_other a d (omega (arith, high))) rest
+      | inl kept ↦ ap (λ b. has (cond b (a ∷ passing p (a + 1) n) (passing p (a + 1) n)) d) kept
+          ∙ ap₂ (λ x y. x || y) (above_is_other a d (omega (arith, high))) rest
       | inr other ↦ ap (λ b. has (cond b (a ∷ passing p (a + 1) n) (passing p (a + 1) n)) d) other ∙ rest
     ]
 
@@ -68,7 +73,8 @@ found_behind w d high = elim (cases_lt w.last w.from) [
 ]
 
 found_rises : (w : Window) → Rises 0 (found w)
-found_rises w = Rises-from_increasing (found w) (increasing-from_Rises w.from (found w) (Rises-passing (is_found w.base w.marks.items) w.from (suc w.last - w.from)))
+found_rises w = Rises-from_increasing (found w)
+    (increasing-from_Rises w.from (found w) (Rises-passing (is_found w.base w.marks.items) w.from (suc w.last - w.from)))
 
 found_first : (w : Window) (doc : ℕ) → Some doc ≡ slice_get (found w) 0 → doc ≤ w.last
 found_first w doc first = elim (cases_lt w.last doc) [
@@ -126,7 +132,8 @@ module _ (initial now : List ℕ) (old new : Window) (h : IsMarking initial now 
       omega (arith, first-at_least old.from now doc (first ∙ ap (λ xs. slice_get xs 0) h.up), h.place.0)
 
   -- one document more
-  pub IsMarking-next : (doc : ℕ) → Some doc ≡ slice_get now 0 → doc ≤ new.last → (later : List ℕ) (w : Window) → later ≡ drop 1 now → (w.from ≡ new.from) × (w.last ≡ new.last) → found w ≡ with_one doc (found new) → IsMarking initial later old w
+  pub IsMarking-next : (doc : ℕ) → Some doc ≡ slice_get now 0 → doc ≤ new.last → (later : List ℕ) (w : Window) → later ≡ drop 1 now →
+      (w.from ≡ new.from) × (w.last ≡ new.last) → found w ≡ with_one doc (found new) → IsMarking initial later old w
   IsMarking-next doc first within later w is place marked = record {
     place = (place.0 ∙ h.place.0, place.1 ∙ h.place.1);
     up =
@@ -146,7 +153,8 @@ module _ (initial now : List ℕ) (old new : Window) (h : IsMarking initial now 
   marking_up = subst (λ n. now ≡ at_least n now) (sym h.place.0) h.up
 
   -- a stretch more
-  pub IsMarking-stretch : (count : ℕ) (later : List ℕ) (w : Window) → later ≡ drop count now → (w.from ≡ new.from) × (w.last ≡ new.last) → All (λ d. d ≤ new.last) (take count now)
+  pub IsMarking-stretch : (count : ℕ) (later : List ℕ) (w : Window) → later ≡ drop count now → (w.from ≡ new.from) × (w.last ≡ new.last) →
+      All (λ d. d ≤ new.last) (take count now)
       → ((d : ℕ) → has (found w) d ≡ (has (found new) d || has (take count now) d)) → IsMarking initial later old w
   IsMarking-stretch count later w is place places marked =
       let low : All (λ d. old.from ≤ d) now = subst (λ xs. All (λ d. old.from ≤ d) xs) (sym h.up) (at_least_each old.from now) in
@@ -158,7 +166,8 @@ module _ (initial now : List ℕ) (old new : Window) (h : IsMarking initial now 
         same = λ d.
             ap₂ (λ b ys. b || has ys d) (marked d) is
             ∙ or_assoc (has (found new) d) (has (take count now) d) (has (drop count now) d)
-            ∙ ap (λ b. has (found new) d || b) (sym (list_any-append (λ x. x == d) (take count now) (drop count now)) ∙ ap (λ xs. has xs d) (take-append-drop count now))
+            ∙ ap (λ b. has (found new) d || b) (sym (list_any-append (λ x. x == d) (take count now) (drop count now)) ∙ ap (λ xs. has xs d)
+            (take-append-drop count now))
             ∙ h.same d;
       }
 
@@ -194,14 +203,16 @@ MarkedUpTo-none parts w = record {
 }
 
 module _ (initial now : List TreeValue) (old new : Window) (index : ℕ) (h : MarkedUpTo initial now old new index) where
-  pub MarkedUpTo-next : (d₀ q : TreeValue) (w : Window) → index < length now → Left (new.last + 1) (get_or now index d₀) q → (w.from ≡ new.from) × (w.last ≡ new.last) → AreMarked (has (get_or now index d₀).remaining) new w → MarkedUpTo initial (set now index q) old w (index + 1)
+  pub MarkedUpTo-next : (d₀ q : TreeValue) (w : Window) → index < length now → Left (new.last + 1) (get_or now index d₀) q →
+      (w.from ≡ new.from) × (w.last ≡ new.last) → AreMarked (has (get_or now index d₀).remaining) new w → MarkedUpTo initial (set now index q) old w (index + 1)
   MarkedUpTo-next d₀ q w inside left place marked =
       let p = get_or now index d₀ in
       let same : p ≡ get_or initial index d₀ = h.up_to.rest index d₀ (omega arith) in
       let moved : Left (old.last + 1) p q = subst (λ n. Left (n + 1) p q) h.place.1 left in
       let there : index < length initial = omega (arith, inside, h.up_to.size) in
       let more : remains (take (index + 1) initial) ≡ remains (take index initial) ++ p.remaining ∷ [] =
-      ap remains (take_more initial index d₀ there) ∙ map-append (λ s. s.remaining) (take index initial) (get_or initial index d₀ ∷ []) ∙ ap (λ (s : TreeValue). remains (take index initial) ++ s.remaining ∷ []) (sym same) in
+      ap remains (take_more initial index d₀ there) ∙ map-append (λ s. s.remaining) (take index initial) (get_or initial index d₀ ∷ [])
+      ∙ ap (λ (s : TreeValue). remains (take index initial) ++ s.remaining ∷ []) (sym same) in
       record {
         up_to = UpTo-next (Left (old.last + 1)) initial now index h.up_to d₀ q inside moved;
         place = (place.0 ∙ h.place.0, place.1 ∙ h.place.1);
@@ -209,7 +220,8 @@ module _ (initial now : List TreeValue) (old new : Window) (index : ℕ) (h : Ma
             marked d
             ∙ ap₂ (λ a n. a || (nat_le d n && has p.remaining d)) (h.marked d) h.place.1
             ∙ either (has (found old) d) (nat_le d old.last) (in_some (remains (take index initial)) d) (has p.remaining d)
-            ∙ ap (λ b. has (found old) d || (nat_le d old.last && b)) (sym (ap (λ lists. in_some lists d) more ∙ in_some-append (remains (take index initial)) p.remaining d));
+            ∙ ap (λ b. has (found old) d || (nat_le d old.last && b))
+            (sym (ap (λ lists. in_some lists d) more ∙ in_some-append (remains (take index initial)) p.remaining d));
       }
 
   pub MarkedUpTo-all : length now ≤ index → AreMarked (in_some (remains initial)) old new
@@ -219,7 +231,8 @@ module _ (initial now : List TreeValue) (old new : Window) (index : ℕ) (h : Ma
 gathered_least : (doc : ℕ) (w : Window) (lists : List (List ℕ)) → IsBuffered (Some doc) w lists → IsLeast (Some doc) (found w ∷ lists)
 gathered_least doc w lists h = (
   ap (λ b. b || in_some lists doc) (has-first (found w) doc h.first),
-  λ d low. ap₂ (λ a b. a || b) (has-before_first (found w) doc d (increasing-from_Rises 0 (found w) (found_rises w)) h.first low) (h.beyond d (omega (arith, low, found_first w doc h.first))),
+  λ d low. ap₂ (λ a b. a || b) (has-before_first (found w) doc d (increasing-from_Rises 0 (found w) (found_rises w)) h.first low)
+      (h.beyond d (omega (arith, low, found_first w doc h.first))),
 )
 
 module _ (b : BufferedUnion) (remaining : List ℕ) (is : gathered b ≡ remaining) where
@@ -230,7 +243,8 @@ module _ (b : BufferedUnion) (remaining : List ℕ) (is : gathered b ≡ remaini
   rises_all = increasing-from_Rises 0 (gathered b) (Rises-union (found b.window ∷ lists))
 
   pub IsNow-some : (doc : ℕ) → IsBuffered (Some doc) b.window lists → IsNow (Some doc) (Or b) remaining
-  IsNow-some doc h = IsNow-first (Some doc) (Or b) remaining (union_first (Some doc) (found b.window ∷ lists) (gathered_least doc b.window lists h)) rises_all h tt is
+  IsNow-some doc h = IsNow-first (Some doc) (Or b) remaining (union_first (Some doc) (found b.window ∷ lists) (gathered_least doc b.window lists h)) rises_all h
+      tt is
 
   pub IsNow-none : None ≡ slice_get (found b.window) 0 → IsLeast None lists → IsNow None (Or b) remaining
   IsNow-none none h =
@@ -239,26 +253,30 @@ module _ (b : BufferedUnion) (remaining : List ℕ) (is : gathered b ≡ remaini
       IsNow-first None (Or b) remaining (union_first None (found b.window ∷ lists) nowhere) rises_all buffered tt is
 
 -- a target up to the window's end is one for its documents alone
-narrowed : (target : ℕ) (w : Window) (lists : List (List ℕ)) → target ≤ w.last + 1 → AreBeyond w lists → union (at_least target (found w) ∷ lists) ≡ at_least target (union (found w ∷ lists))
+narrowed : (target : ℕ) (w : Window) (lists : List (List ℕ)) → target ≤ w.last + 1 → AreBeyond w lists →
+    union (at_least target (found w) ∷ lists) ≡ at_least target (union (found w ∷ lists))
 narrowed target w lists le beyond =
     let stay = from_union target (union lists) lists (λ d low. has-union lists d ∙ beyond d (omega (arith, low, le))) in
     ap (with_all (at_least target (found w))) stay ∙ sym (at_least-with_all target (found w) (union lists))
 
 -- a search within the window
-pub gathered_within : (target doc : ℕ) (old new : Window) (lists : List (List ℕ)) → AreBeyond old lists → found new ≡ at_least target (found old) → new.last ≡ old.last → Some doc ≡ slice_get (found new) 0 → union (found new ∷ lists) ≡ at_least target (union (found old ∷ lists))
+pub gathered_within : (target doc : ℕ) (old new : Window) (lists : List (List ℕ)) → AreBeyond old lists → found new ≡ at_least target (found old) →
+    new.last ≡ old.last → Some doc ≡ slice_get (found new) 0 → union (found new ∷ lists) ≡ at_least target (union (found old ∷ lists))
 gathered_within target doc old new lists beyond is last first =
     let up = first-at_least target (found old) doc (first ∙ ap (λ xs. slice_get xs 0) is) in
     let within = found_first new doc first in
     ap (λ xs. union (xs ∷ lists)) is ∙ narrowed target old lists (omega (arith, up, within, last)) beyond
 
 -- the step over the window's first
-pub gathered_next : (doc : ℕ) (old new : Window) (lists : List (List ℕ)) → IsBuffered (Some doc) old lists → found new ≡ drop 1 (found old) → at_least 0 (union (found new ∷ lists)) ≡ drop 1 (union (found old ∷ lists))
+pub gathered_next : (doc : ℕ) (old new : Window) (lists : List (List ℕ)) → IsBuffered (Some doc) old lists → found new ≡ drop 1 (found old) →
+    at_least 0 (union (found new ∷ lists)) ≡ drop 1 (union (found old ∷ lists))
 gathered_next doc old new lists h is =
     let within = found_first old doc h.first in
     at_least_all 0 0 (union (found new ∷ lists)) (Rises-union (found new ∷ lists)) (omega arith)
     ∙ ap (λ xs. union (xs ∷ lists)) (is ∙ drop_first doc (found old) (increasing-from_Rises 0 (found old) (found_rises old)) h.first)
     ∙ narrowed (doc + 1) old lists (omega (arith, within)) h.beyond
-    ∙ sym (drop_first doc (union (found old ∷ lists)) (increasing-from_Rises 0 (union (found old ∷ lists)) (Rises-union (found old ∷ lists))) (union_first (Some doc) (found old ∷ lists) (gathered_least doc old lists h)))
+    ∙ sym (drop_first doc (union (found old ∷ lists)) (increasing-from_Rises 0 (union (found old ∷ lists)) (Rises-union (found old ∷ lists)))
+    (union_first (Some doc) (found old ∷ lists) (gathered_least doc old lists h)))
 
 -- a list that begins behind another lies behind it in both
 Rises-beyond : (next : ℕ) (xs : List ℕ) → Rises 0 xs → ((d : ℕ) → d < next → has xs d ≡ false) → Rises next xs
@@ -275,7 +293,8 @@ abbrev AreUpTo : ℕ → List ℕ → Type 0
 AreUpTo last [] = Unit {0}
 AreUpTo last (x ∷ xs) = (x ≤ last) × AreUpTo last xs
 
-put_behind : (n last : ℕ) (xs ys : List ℕ) → Rises n xs → AreUpTo last xs → Rises (suc last) ys → n ≤ suc last → (with_all xs ys ≡ xs ++ ys) × Rises n (xs ++ ys)
+put_behind : (n last : ℕ) (xs ys : List ℕ) → Rises n xs → AreUpTo last xs → Rises (suc last) ys → n ≤ suc last →
+    (with_all xs ys ≡ xs ++ ys) × Rises n (xs ++ ys)
 put_behind n last [] ys up within behind low = (refl, Rises-lower (suc last) n ys low behind)
 put_behind n last (x ∷ xs) ys up within behind low =
     let more = put_behind (suc x) last xs ys up.1 within.1 behind (omega (arith, within.0)) in
@@ -293,7 +312,8 @@ passing-up_to p a (suc n) last h =
 
 found_up_to : (w : Window) → AreUpTo w.last (found w)
 found_up_to w = elim (cases_lt w.last w.from) [
-  | inl over ↦ let none : suc w.last - w.from ≡ 0 = omega (arith, over) in subst (λ n. AreUpTo w.last (passing (is_found w.base w.marks.items) w.from n)) (sym none) tt
+  | inl over ↦ let none : suc w.last - w.from ≡ 0 = omega (arith, over) in
+      subst (λ n. AreUpTo w.last (passing (is_found w.base w.marks.items) w.from n)) (sym none) tt
   | inr stands ↦ passing-up_to (is_found w.base w.marks.items) w.from (suc w.last - w.from) w.last (omega (arith, stands))
 ]
 
@@ -304,25 +324,40 @@ apart w lists beyond =
     (put_behind 0 w.last (found w) (union lists) (found_rises w) (found_up_to w) behind (omega arith)).0
 
 -- those of the window are some, and with those of the parts all
-pub gathered_count : (doc : ℕ) (next : Option ℕ) (w : Window) (lists : List (List ℕ)) (later : List ℕ) (count : ℕ) → next ≡ Some doc → IsBuffered next w lists → count ≡ length (found w) → later ≡ at_least 0 (union lists)
+pub gathered_count : (doc : ℕ) (next : Option ℕ) (w : Window) (lists : List (List ℕ)) (later : List ℕ) (count : ℕ) → next ≡ Some doc → IsBuffered next w lists →
+    count ≡ length (found w) → later ≡ at_least 0 (union lists)
     → (0 < count) × (count + length later ≡ length (union (found w ∷ lists)))
 gathered_count doc next w lists later count is h counted left =
     let some : 0 < length (found w) = slice_get_within (found w) 0 doc (sym h.first ∙ is) in
-    let all : length (union (found w ∷ lists)) ≡ length (found w) + length (union lists) = ap length (apart w lists h.beyond) ∙ length-append (found w) (union lists) in
+    let all : length (union (found w ∷ lists)) ≡ length (found w) + length (union lists) =
+    ap length (apart w lists h.beyond) ∙ length-append (found w) (union lists) in
     let behind : length later ≡ length (union lists) = ap length (left ∙ at_least_all 0 0 (union lists) (Rises-union lists) (omega arith)) in
     (omega (arith, some, counted), omega (arith, all, behind, counted))
 
 -- of these those that pass are as many as of the window and of the parts
-pub gathered_passing : (p : ℕ → Bool) (doc : ℕ) (next : Option ℕ) (w : Window) (lists : List (List ℕ)) (later : List ℕ) (count : ℕ) → next ≡ Some doc → IsBuffered next w lists → count ≡ length (filter p (found w)) → later ≡ at_least 0 (union lists)
+pub gathered_passing : (p : ℕ → Bool) (doc : ℕ) (next : Option ℕ) (w : Window) (lists : List (List ℕ)) (later : List ℕ) (count : ℕ) → next ≡ Some doc →
+    IsBuffered next w lists → count ≡ length (filter p (found w)) → later ≡ at_least 0 (union lists)
     → (length later < length (union (found w ∷ lists))) × (count + length (filter p later) ≡ length (filter p (union (found w ∷ lists))))
 gathered_passing p doc next w lists later count is h counted left =
     let whole = gathered_count doc next w lists later (length (found w)) is h refl left in
     let behind : later ≡ union lists = left ∙ at_least_all 0 0 (union lists) (Rises-union lists) (omega arith) in
-    let all : filter p (union (found w ∷ lists)) ≡ filter p (found w) ++ filter p (union lists) = ap (filter p) (apart w lists h.beyond) ∙ filter-append p (found w) (union lists) in
-    (omega (arith, whole.0, whole.1), omega (arith, counted, ap (λ xs. length (filter p xs)) behind, ap length all, length-append (filter p (found w)) (filter p (union lists))))
+    let all : filter p (union (found w ∷ lists)) ≡ filter p (found w) ++ filter p (union lists) =
+    ap (filter p) (apart w lists h.beyond) ∙ filter-append p (found w) (union lists) in (
+      omega (arith, whole.0, whole.1),
+      omega (
+        arith,
+        counted,
+        ap (λ xs. length (filter p xs)) behind,
+        ap length all,
+        length-append (filter p (found w))
+            (filter p (union lists)),
+      ),
+    )
 
 -- what is taken of the window is taken of all
-pub gathered_stretch : (doc : ℕ) (old new : Window) (lists : List (List ℕ)) (out written : List ℕ) (filled count : ℕ) → IsBuffered (Some doc) old lists → new.last ≡ old.last → IsStretch (found old) (found new) out written filled count → IsStretch (union (found old ∷ lists)) (union (found new ∷ lists)) out written filled count
+pub gathered_stretch : (doc : ℕ) (old new : Window) (lists : List (List ℕ)) (out written : List ℕ) (filled count : ℕ) → IsBuffered (Some doc) old lists →
+    new.last ≡ old.last → IsStretch (found old) (found new) out written filled count →
+    IsStretch (union (found old ∷ lists)) (union (found new ∷ lists)) out written filled count
 gathered_stretch doc old new lists out written filled count h last s =
     let before = apart old lists h.beyond in
     let after = apart new lists (λ d within. h.beyond d (omega (arith, within, last))) in
@@ -340,7 +375,8 @@ pub gathered_all : (b : BufferedUnion) → at_least 0 (gathered b) ≡ gathered 
 gathered_all b = at_least_all 0 0 (gathered b) (Rises-union (found b.window ∷ remains b.parts.items)) (omega arith)
 
 -- where the window has none from the target on, the parts have all
-pub gathered_from : (target : ℕ) (old new : Window) (lists : List (List ℕ)) → found new ≡ at_least target (found old) → found new ≡ [] → at_least target (union lists) ≡ at_least target (union (found old ∷ lists))
+pub gathered_from : (target : ℕ) (old new : Window) (lists : List (List ℕ)) → found new ≡ at_least target (found old) → found new ≡ [] →
+    at_least target (union lists) ≡ at_least target (union (found old ∷ lists))
 gathered_from target old new lists is none =
     ap (λ xs. with_all xs (at_least target (union lists))) (sym none ∙ is) ∙ sym (at_least-with_all target (found old) (union lists))
 
@@ -349,7 +385,8 @@ module _ (parts : List TreeValue) (least : ℕ) (h : IsLeast (Some least) (remai
   pub fill_ahead : (k : ℕ) (e : TreeValue) → k < length parts → (get_or parts k e).remaining ≡ at_least least (get_or parts k e).remaining
   fill_ahead = parts_from parts least (sym (union_first (Some least) (remains parts) h))
 
-  module _ (after : List TreeValue) (old new : Window) (reaches : least ≤ old.last) (nothing : found old ≡ []) (last : new.last ≡ old.last) (each : AllZip (Left (old.last + 1)) parts after) (marked : AreMarked (in_some (remains parts)) old new) where
+  module _ (after : List TreeValue) (old new : Window) (reaches : least ≤ old.last) (nothing : found old ≡ []) (last : new.last ≡ old.last)
+      (each : AllZip (Left (old.last + 1)) parts after) (marked : AreMarked (in_some (remains parts)) old new) where
     lies : (d : ℕ) → has (found new) d ≡ (nat_le d old.last && in_some (remains parts) d)
     lies d = marked d ∙ ap (λ xs. has xs d || (nat_le d old.last && in_some (remains parts) d)) nothing
 
@@ -364,12 +401,13 @@ module _ (parts : List TreeValue) (least : ℕ) (h : IsLeast (Some least) (remai
         ∙ has-at_least (old.last + 1) (union (remains parts)) d (omega (arith, past))
 
     pub filled : union (found new ∷ remains after) ≡ union (remains parts)
-    filled = same_from 0 (union (found new ∷ remains after)) (union (remains parts)) (Rises-union (found new ∷ remains after)) (Rises-union (remains parts)) (λ d high. has-union (found new ∷ remains after) d ∙ elim (cases_lt old.last d) [
-      | inl past ↦ ap₂ (λ a b. a || b) (lies d ∙ ap (λ b. b && in_some (remains parts) d) (lt-leb d old.last past)) (after_high d past)
-      | inr within ↦
-          ap₂ (λ a b. a || b) (lies d ∙ ap (λ b. b && in_some (remains parts) d) (le-leb d old.last within)) (after_low d within)
-          ∙ or-false (in_some (remains parts) d) ∙ sym (has-union (remains parts) d)
-    ])
+    filled = same_from 0 (union (found new ∷ remains after)) (union (remains parts)) (Rises-union (found new ∷ remains after)) (Rises-union (remains parts))
+        (λ d high. has-union (found new ∷ remains after) d ∙ elim (cases_lt old.last d) [
+          | inl past ↦ ap₂ (λ a b. a || b) (lies d ∙ ap (λ b. b && in_some (remains parts) d) (lt-leb d old.last past)) (after_high d past)
+          | inr within ↦
+              ap₂ (λ a b. a || b) (lies d ∙ ap (λ b. b && in_some (remains parts) d) (le-leb d old.last within)) (after_low d within)
+              ∙ or-false (in_some (remains parts) d) ∙ sym (has-union (remains parts) d)
+        ])
 
     pub filled_buffered : IsBuffered (Some least) new (remains after)
     filled_buffered = record {
@@ -380,6 +418,8 @@ module _ (parts : List TreeValue) (least : ℕ) (h : IsLeast (Some least) (remai
     }
 
 -- parts that were moved one after the other
-pub TreeContinues-parts : (target : ℕ) (parts after : List TreeValue) (before remaining : List ℕ) → AllZip (Left target) parts after → TreeContinues (beside (together parts) (together []) before) (beside (together after) (together []) remaining)
+pub TreeContinues-parts : (target : ℕ) (parts after : List TreeValue) (before remaining : List ℕ) → AllZip (Left target) parts after →
+    TreeContinues (beside (together parts) (together []) before) (beside (together after) (together []) remaining)
 TreeContinues-parts target parts after before remaining each =
-    TreeContinues-beside (together parts) (together []) (together after) (together []) before remaining (TreeContinues-together (Left target) (λ p q h. h.continues) parts after each) (TreeContinues-same (together []))
+    TreeContinues-beside (together parts) (together []) (together after) (together []) before remaining
+    (TreeContinues-together (Left target) (λ p q h. h.continues) parts after each) (TreeContinues-same (together []))

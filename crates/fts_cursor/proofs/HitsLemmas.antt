@@ -1,5 +1,6 @@
 -- The documents that match, as the members of rising lists.
-use Rattle.std.proofs.Common.{◌≡◌, ℕ, zero, suc, ◌+◌, ◌<◌, ◌≤◌, Bool, true, false, not, cond, ◌&&◌, ◌||◌, ◌==◌, Option, Some, None, List, [], ◌∷◌, length, map, refl, sym, ap, ap₂, subst, ◌∙◌, inl, inr, arith}
+use Rattle.std.proofs.Common.{◌≡◌, ℕ, zero, suc, ◌+◌, ◌<◌, ◌≤◌, Bool, true, false, not, cond, ◌&&◌, ◌||◌, ◌==◌, Option, Some, None, List, [], ◌∷◌, length, map}
+use Rattle.std.proofs.Common.{refl, sym, ap, ap₂, subst, ◌∙◌, inl, inr, arith}
 use Rattle.std.specs.List.{filter, list_all, list_any, range_with_len, slice_get}
 use Rattle.std.specs.Option.{option_map_or}
 use Rattle.std.proofs.lemmas.Bool.{cases_lt, cases_Bool, eqb-true, false≢true}
@@ -69,7 +70,8 @@ has-filter p (x ∷ xs) d =
             | inl passes ↦
                 ap (λ b. has (cond b (x ∷ filter p xs) (filter p xs)) d) (ap p same ∙ passes) ∙ ap (λ b. b || has (filter p xs) d) here ∙ sym (all ∙ passes)
             | inr fails ↦
-                ap (λ b. has (cond b (x ∷ filter p xs) (filter p xs)) d) (ap p same ∙ fails) ∙ rest ∙ ap (λ b. has xs d && b) fails ∙ and-false (has xs d) ∙ sym (all ∙ fails)
+                ap (λ b. has (cond b (x ∷ filter p xs) (filter p xs)) d) (ap p same ∙ fails) ∙ rest ∙ ap (λ b. has xs d && b) fails ∙ and-false (has xs d)
+                ∙ sym (all ∙ fails)
           ]
       | inr other ↦
           let all : (has xs d && p d) ≡ (has (x ∷ xs) d && p d) = ap (λ b. (b || has xs d) && p d) (sym other) in
@@ -96,7 +98,8 @@ same_members next (x ∷ xs) (y ∷ ys) h k same = by_order ((x ∷ xs) ≡ (y �
     (λ lt. absurd (false≢true (sym (has-below y (y ∷ ys) x (omega arith, k.1) lt) ∙ sym (same x) ∙ ap (λ b. b || has xs x) (is_itself x))))
     (λ eq.
     let over : Rises (suc x) ys = subst (λ n. Rises (suc n) ys) (sym eq) k.1 in
-    ap (λ zs. x ∷ zs) (same_members (suc x) xs ys h.1 over (λ d. behind x d xs ys h.1 over (same d ∙ ap (λ z. (z == d) || has ys d) (sym eq)))) ∙ ap (λ z. z ∷ ys) eq)
+    ap (λ zs. x ∷ zs) (same_members (suc x) xs ys h.1 over (λ d. behind x d xs ys h.1 over (same d ∙ ap (λ z. (z == d) || has ys d) (sym eq))))
+    ∙ ap (λ z. z ∷ ys) eq)
     (λ gt. absurd (false≢true (sym (has-below x (x ∷ xs) y (omega arith, h.1) gt) ∙ same y ∙ ap (λ b. b || has ys y) (is_itself y))))
 
 -- the documents of a segment that a query of the code finds
@@ -133,7 +136,8 @@ pub numbers_are : {X : Type 0} (p : X → Bool) (xs : List X) (ys : List ℕ) �
 numbers_are p xs ys up is = same_members 0 ys (numbers_where p 0 xs) up (Rises-numbers p 0 xs) (λ d. is d ∙ sym (has-all p xs d))
 
 pub at_all : (schema : List Field) (s : Option (Stamped DocumentValue)) (first : Query) (rest : List Query) →
-    (option_map_or (λ e. matches_in schema e.value first) s false && list_all (λ q. option_map_or (λ e. matches_in schema e.value q) s false) rest) ≡ option_map_or (λ e. list_all (matches_in schema e.value) (first ∷ rest)) s false
+    (option_map_or (λ e. matches_in schema e.value first) s false && list_all (λ q. option_map_or (λ e. matches_in schema e.value q) s false) rest)
+    ≡ option_map_or (λ e. list_all (matches_in schema e.value) (first ∷ rest)) s false
 at_all schema None first rest = refl
 at_all schema (Some e) first rest = refl
 
@@ -146,41 +150,52 @@ at_any : (schema : List Field) (s : Option (Stamped DocumentValue)) (queries : L
 at_any schema None queries = none_any queries
 at_any schema (Some e) queries = refl
 
-at_apart : {X : Type 0} (p q : X → Bool) (s : Option X) → (option_map_or p s false && not (option_map_or q s false)) ≡ option_map_or (λ e. p e && not (q e)) s false
+at_apart : {X : Type 0} (p q : X → Bool) (s : Option X) → (option_map_or p s false && not (option_map_or q s false))
+    ≡ option_map_or (λ e. p e && not (q e)) s false
 at_apart p q None = refl
 at_apart p q (Some e) = refl
 
 -- the hits of all of some queries
-pub hits_common : (segment : SegmentValue) (first : Query) (rest : List Query) → common (hits_of segment first) (map (hits_of segment) rest) ≡ numbers_where (λ e. list_all (matches_in segment.schema e.value) (first ∷ rest)) 0 segment.documents
+pub hits_common : (segment : SegmentValue) (first : Query) (rest : List Query) → common (hits_of segment first) (map (hits_of segment) rest)
+    ≡ numbers_where (λ e. list_all (matches_in segment.schema e.value) (first ∷ rest)) 0 segment.documents
 hits_common segment first rest =
-    numbers_are _ segment.documents (common (hits_of segment first) (map (hits_of segment) rest)) (Rises-filter 0 (in_all (map (hits_of segment) rest)) (hits_of segment first) (Rises-hits segment first))
-    (λ d. has-filter (in_all (map (hits_of segment) rest)) (hits_of segment first) d ∙ ap₂ (λ a b. a && b) (has-hits segment first d) (in_all-hits segment rest d) ∙ at_all segment.schema (slice_get segment.documents d) first rest)
+    numbers_are _ segment.documents (common (hits_of segment first) (map (hits_of segment) rest)) (Rises-filter 0 (in_all (map (hits_of segment) rest))
+    (hits_of segment first) (Rises-hits segment first))
+    (λ d. has-filter (in_all (map (hits_of segment) rest)) (hits_of segment first) d ∙ ap₂ (λ a b. a && b) (has-hits segment first d)
+    (in_all-hits segment rest d) ∙ at_all segment.schema (slice_get segment.documents d) first rest)
 
 -- the hits of some of some queries
-pub hits_union : (segment : SegmentValue) (queries : List Query) → union (map (hits_of segment) queries) ≡ numbers_where (λ e. list_any (matches_in segment.schema e.value) queries) 0 segment.documents
+pub hits_union : (segment : SegmentValue) (queries : List Query) →
+    union (map (hits_of segment) queries) ≡ numbers_where (λ e. list_any (matches_in segment.schema e.value) queries) 0 segment.documents
 hits_union segment queries =
     numbers_are _ segment.documents (union (map (hits_of segment) queries)) (Rises-union (map (hits_of segment) queries))
     (λ d. has-union (map (hits_of segment) queries) d ∙ in_some-hits segment queries d ∙ at_any segment.schema (slice_get segment.documents d) queries)
 
 -- the hits of one test without those of another
-pub hits_apart : {X : Type 0} (p q : X → Bool) (xs : List X) → without (numbers_where p 0 xs) (numbers_where q 0 xs) ≡ numbers_where (λ e. p e && not (q e)) 0 xs
+pub hits_apart : {X : Type 0} (p q : X → Bool) (xs : List X) → without (numbers_where p 0 xs) (numbers_where q 0 xs)
+    ≡ numbers_where (λ e. p e && not (q e)) 0 xs
 hits_apart p q xs =
-    numbers_are _ xs (without (numbers_where p 0 xs) (numbers_where q 0 xs)) (Rises-filter 0 (lacks (numbers_where q 0 xs)) (numbers_where p 0 xs) (Rises-numbers p 0 xs))
-    (λ d. has-filter (lacks (numbers_where q 0 xs)) (numbers_where p 0 xs) d ∙ ap₂ (λ a b. a && not b) (has-all p xs d) (has-all q xs d) ∙ at_apart p q (slice_get xs d))
+    numbers_are _ xs (without (numbers_where p 0 xs) (numbers_where q 0 xs)) (Rises-filter 0 (lacks (numbers_where q 0 xs)) (numbers_where p 0 xs)
+    (Rises-numbers p 0 xs))
+    (λ d. has-filter (lacks (numbers_where q 0 xs)) (numbers_where p 0 xs) d ∙ ap₂ (λ a b. a && not b) (has-all p xs d) (has-all q xs d) ∙ at_apart p q
+    (slice_get xs d))
 
 pub has-range : (a n d : ℕ) → a ≤ d → d < a + n → has (range_with_len a n) d ≡ true
 has-range a zero d low high = absurd (omega (arith, low, high))
 has-range a (suc n) d low high = elim (cases_lt a d) [
   | inl above ↦ ap (λ b. b || has (range_with_len (a + 1) n) d) (above_is_other a d above) ∙ has-range (a + 1) n d (omega (arith, above)) (omega (arith, high))
-  | inr here ↦ let same : a ≡ d = omega (arith, low, here) in ap (λ y. (y == d) || has (range_with_len (a + 1) n) d) same ∙ ap (λ b. b || has (range_with_len (a + 1) n) d) (is_itself d)
+  | inr here ↦ let same : a ≡ d = omega (arith, low, here) in ap (λ y. (y == d) || has (range_with_len (a + 1) n) d) same
+      ∙ ap (λ b. b || has (range_with_len (a + 1) n) d) (is_itself d)
 ]
 
 pub past-range : (a n d : ℕ) → a + n ≤ d → has (range_with_len a n) d ≡ false
 past-range a zero d past = refl
-past-range a (suc n) d past = ap (λ b. b || has (range_with_len (a + 1) n) d) (above_is_other a d (omega (arith, past))) ∙ past-range (a + 1) n d (omega (arith, past))
+past-range a (suc n) d past = ap (λ b. b || has (range_with_len (a + 1) n) d) (above_is_other a d (omega (arith, past)))
+    ∙ past-range (a + 1) n d (omega (arith, past))
 
 -- those of a range of numbers that pass
-pub passing_are : {X : Type 0} (p : X → Bool) (xs : List X) (test : ℕ → Bool) → ((d : ℕ) → d < length xs → test d ≡ test_at p xs d) → passing test 0 (length xs) ≡ numbers_where p 0 xs
+pub passing_are : {X : Type 0} (p : X → Bool) (xs : List X) (test : ℕ → Bool) → ((d : ℕ) → d < length xs → test d ≡ test_at p xs d) →
+    passing test 0 (length xs) ≡ numbers_where p 0 xs
 passing_are p xs test is =
     numbers_are p xs (passing test 0 (length xs)) (Rises-passing test 0 (length xs))
     (λ d. has-filter test (range_with_len 0 (length xs)) d ∙ elim (cases_lt d (length xs)) [

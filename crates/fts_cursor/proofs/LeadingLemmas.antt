@@ -1,5 +1,6 @@
 -- Lists of which the shortest leads: what a conjunction over them finds, and what it opens.
-use Rattle.std.proofs.Common.{◌≡◌, ◌≢◌, ℕ, zero, suc, ◌+◌, ◌-◌, ◌<◌, ◌≤◌, Bool, true, false, cond, ◌&&◌, ◌||◌, nat_lt, List, [], ◌∷◌, ◌++◌, length, map, take, get_or, refl, sym, ap, ap₂, subst, ◌∙◌, inl, inr, arith}
+use Rattle.std.proofs.Common.{◌≡◌, ◌≢◌, ℕ, zero, suc, ◌+◌, ◌-◌, ◌<◌, ◌≤◌, Bool, true, false, cond, ◌&&◌, ◌||◌, nat_lt, List, [], ◌∷◌, ◌++◌, length, map, take}
+use Rattle.std.proofs.Common.{get_or, refl, sym, ap, ap₂, subst, ◌∙◌, inl, inr, arith}
 use Rattle.std.specs.Borrow.{Bor}
 use Rattle.std.specs.List.{All, AllZip, list_all, slice_get, sum_by}
 use Rattle.std.proofs.lemmas.Bool.{and_parts, cases_lt, false≢true, le-ltb, lt-ltb}
@@ -52,13 +53,15 @@ pub IsLed-more : (lists : List (List ℕ)) (shortest x shorter longer : List ℕ
     IsLed (lists ++ x ∷ []) shorter (others ++ longer ∷ [])
 IsLed-more [] shortest x shorter longer others h rises is other = absurd (omega (arith, h.count))
 IsLed-more (y ∷ lists) shortest x shorter longer others h rises is other =
-    let count : length ((y ∷ lists) ++ x ∷ []) ≡ suc (length (others ++ longer ∷ [])) = omega (arith, h.count, length-append (y ∷ lists) (x ∷ []), length-append others (longer ∷ [])) in
+    let count : length ((y ∷ lists) ++ x ∷ []) ≡ suc (length (others ++ longer ∷ [])) =
+    omega (arith, h.count, length-append (y ∷ lists) (x ∷ []), length-append others (longer ∷ [])) in
     let before : (d : ℕ) → in_all ((y ∷ lists) ++ x ∷ []) d ≡ ((has shortest d && in_all others d) && has x d) = λ d.
     list_all-append (λ documents. has documents d) (y ∷ lists) (x ∷ []) ∙ ap₂ (λ a b. a && b) (sym (h.same d)) (and-true (has x d)) in
     let least : shortest_of ((y ∷ lists) ++ x ∷ []) ≡ shorter =
     fold-append (λ (zs : List ℕ) (ys : List ℕ). if nat_lt (length ys) (length zs) then ys else zs) y lists (x ∷ [])
     ∙ ap (λ zs. if nat_lt (length x) (length zs) then x else zs) h.least ∙ sym is in
-    let rest : (zs : List ℕ) (d : ℕ) → in_all (others ++ zs ∷ []) d ≡ (in_all others d && (has zs d && true)) = λ zs d. list_all-append (λ documents. has documents d) others (zs ∷ []) in
+    let rest : (zs : List ℕ) (d : ℕ) → in_all (others ++ zs ∷ []) d ≡ (in_all others d && (has zs d && true)) =
+    λ zs d. list_all-append (λ documents. has documents d) others (zs ∷ []) in
     elim (cases_lt (length x) (length shortest)) [
       | inl less ↦
           let test : nat_lt (length x) (length shortest) ≡ true = lt-ltb (length x) (length shortest) less in
@@ -66,7 +69,8 @@ IsLed-more (y ∷ lists) shortest x shorter longer others h rises is other =
           let second : longer ≡ shortest = other ∙ ap (λ b. cond b shortest x) test in
           record {
             count = count;
-            same = λ d. ap₂ (λ a b. has a d && in_all (others ++ b ∷ []) d) first second ∙ ap (λ b. has x d && b) (rest shortest d) ∙ and_around (has shortest d) (in_all others d) (has x d) ∙ sym (before d);
+            same = λ d. ap₂ (λ a b. has a d && in_all (others ++ b ∷ []) d) first second ∙ ap (λ b. has x d && b) (rest shortest d)
+                ∙ and_around (has shortest d) (in_all others d) (has x d) ∙ sym (before d);
             least = least;
             rises = subst (Rises 0) (sym first) rises;
           }
@@ -76,7 +80,8 @@ IsLed-more (y ∷ lists) shortest x shorter longer others h rises is other =
           let second : longer ≡ x = other ∙ ap (λ b. cond b shortest x) test in
           record {
             count = count;
-            same = λ d. ap₂ (λ a b. has a d && in_all (others ++ b ∷ []) d) first second ∙ ap (λ b. has shortest d && b) (rest x d) ∙ and_last (has shortest d) (in_all others d) (has x d) ∙ sym (before d);
+            same = λ d. ap₂ (λ a b. has a d && in_all (others ++ b ∷ []) d) first second ∙ ap (λ b. has shortest d && b) (rest x d)
+                ∙ and_last (has shortest d) (in_all others d) (has x d) ∙ sym (before d);
             least = least;
             rises = subst (Rises 0) (sym first) h.rises;
           }
@@ -95,13 +100,15 @@ one_where_some n documents is some =
 abbrev pub all_hits : SegmentValue → List Query → List ℕ
 all_hits segment queries = numbers_where (λ e. list_all (matches_in segment.schema e.value) queries) 0 segment.documents
 
-pub led_hits : (segment : SegmentValue) (queries : List Query) (shortest : List ℕ) (others : List (List ℕ)) → IsLed (map (hits_of segment) queries) shortest others → common shortest others ≡ all_hits segment queries
+pub led_hits : (segment : SegmentValue) (queries : List Query) (shortest : List ℕ) (others : List (List ℕ)) →
+    IsLed (map (hits_of segment) queries) shortest others → common shortest others ≡ all_hits segment queries
 led_hits segment [] shortest others h = absurd (omega (arith, h.count))
 led_hits segment (q ∷ qs) shortest others h =
     numbers_are _ segment.documents (common shortest others) (Rises-filter 0 (in_all others) shortest h.rises)
     (λ d. has-filter (in_all others) shortest d ∙ h.same d ∙ in_all-hits segment (q ∷ qs) d ∙ at_all segment.schema (slice_get segment.documents d) q qs)
 
-pub no_hits : (segment : SegmentValue) (queries : List Query) → 0 < length queries → ((d : ℕ) → in_all (map (hits_of segment) queries) d ≡ false) → [] ≡ all_hits segment queries
+pub no_hits : (segment : SegmentValue) (queries : List Query) → 0 < length queries → ((d : ℕ) → in_all (map (hits_of segment) queries) d ≡ false) →
+    [] ≡ all_hits segment queries
 no_hits segment [] some none = absurd (omega (arith, some))
 no_hits segment (q ∷ qs) some none =
     numbers_are _ segment.documents [] tt (λ d. sym (none d) ∙ in_all-hits segment (q ∷ qs) d ∙ at_all segment.schema (slice_get segment.documents d) q qs)
@@ -158,15 +165,18 @@ length_lists : (ls : List (Bor (List ℕ))) → length (lists_of ls) ≡ length 
 length_lists [] = refl
 length_lists (l ∷ ls) = omega (arith, length_lists ls)
 
-pub is_fresh : (lists : List (List ℕ)) (shortest : List ℕ) (ls : List (Bor (List ℕ))) (lead : Posting) (ps : List Posting) → IsLed lists shortest (lists_of ls) → IsOver lead shortest → AllZip (λ p l. IsOver p l.now) ps ls →
+pub is_fresh : (lists : List (List ℕ)) (shortest : List ℕ) (ls : List (Bor (List ℕ))) (lead : Posting) (ps : List Posting) →
+    IsLed lists shortest (lists_of ls) → IsOver lead shortest → AllZip (λ p l. IsOver p l.now) ps ls →
     IsFresh lists shortest (lists_of ls) (record { lead = lead; others = ps })
 is_fresh lists shortest ls lead ps led over zip =
     let rest = are_over ps ls zip in
-    let many : length ps ≡ length lists - 1 = omega (arith, length_zip (λ (p : Posting) (l : Bor (List ℕ)). IsOver p l.now) ps ls zip, length_lists ls, led.count) in
+    let many : length ps ≡ length lists - 1 =
+    omega (arith, length_zip (λ (p : Posting) (l : Bor (List ℕ)). IsOver p l.now) ps ls zip, length_lists ls, led.count) in
     let bound : List ℕ → ℕ → Bound = λ xs n. record { blocks = block_count (length xs); lead = xs; others = n } in
     let lead_is : bound_of (record { lead = lead; others = ps }) ≡ bound shortest (length ps) =
     ap (λ (bs : List (List ℕ)). bound_of (record { lead = record lead { blocks = bs }; others = ps })) over.blocks
-    ∙ ap₂ (λ (n : ℕ) (xs : List ℕ). let b : Bound = record { blocks = n; lead = xs; others = length ps } in b) (length-blocks_of shortest) (blocks_joined shortest) in
+    ∙ ap₂ (λ (n : ℕ) (xs : List ℕ). let b : Bound = record { blocks = n; lead = xs; others = length ps } in b) (length-blocks_of shortest)
+    (blocks_joined shortest) in
     record {
       fresh = rest.opened;
       tied = (over.tied, rest.tied);
@@ -179,12 +189,14 @@ is_fresh lists shortest ls lead ps led over zip =
     }
 
 -- the lists of queries, one after the other
-pub led_first : (segment : SegmentValue) (queries : List Query) (q : Query) (xs : List ℕ) → 0 < length queries → q ≡ get_or queries 0 q → xs ≡ hits_of segment q → IsLed (map (hits_of segment) (take 1 queries)) xs []
+pub led_first : (segment : SegmentValue) (queries : List Query) (q : Query) (xs : List ℕ) → 0 < length queries → q ≡ get_or queries 0 q →
+    xs ≡ hits_of segment q → IsLed (map (hits_of segment) (take 1 queries)) xs []
 led_first segment [] q xs some is hits = absurd (omega (arith, some))
 led_first segment (w ∷ ws) q xs some is hits =
     subst (λ ys. IsLed (ys ∷ []) xs []) (hits ∙ ap (hits_of segment) is) (IsLed-one xs (subst (Rises 0) (sym hits) (Rises-hits segment q)))
 
-pub led_next : (segment : SegmentValue) (queries : List Query) (k : ℕ) (q : Query) (shortest x shorter longer : List ℕ) (others : List (List ℕ)) → IsLed (map (hits_of segment) (take k queries)) shortest others →
+pub led_next : (segment : SegmentValue) (queries : List Query) (k : ℕ) (q : Query) (shortest x shorter longer : List ℕ) (others : List (List ℕ)) →
+    IsLed (map (hits_of segment) (take k queries)) shortest others →
     k < length queries → q ≡ get_or queries k q → x ≡ hits_of segment q →
     shorter ≡ (if nat_lt (length x) (length shortest) then x else shortest) → longer ≡ (if nat_lt (length x) (length shortest) then shortest else x) →
     IsLed (map (hits_of segment) (take (k + 1) queries)) shorter (others ++ longer ∷ [])
@@ -195,7 +207,8 @@ led_next segment queries k q shortest x shorter longer others h inside is hits f
     subst (λ lists. IsLed lists shorter (others ++ longer ∷ [])) more
     (IsLed-more (map (hits_of segment) (take k queries)) shortest x shorter longer others h (subst (Rises 0) (sym hits) (Rises-hits segment q)) first second)
 
-pub none_in : (segment : SegmentValue) (queries : List Query) (k : ℕ) (q : Query) → k < length queries → q ≡ get_or queries k q → hits_of segment q ≡ [] → (d : ℕ) → in_all (map (hits_of segment) queries) d ≡ false
+pub none_in : (segment : SegmentValue) (queries : List Query) (k : ℕ) (q : Query) → k < length queries → q ≡ get_or queries k q → hits_of segment q ≡ [] →
+    (d : ℕ) → in_all (map (hits_of segment) queries) d ≡ false
 none_in segment [] k q inside is none d = absurd (omega (arith, inside))
 none_in segment (w ∷ ws) zero q inside is none d = ap (λ xs. has xs d && in_all (map (hits_of segment) ws) d) (ap (hits_of segment) (sym is) ∙ none)
 none_in segment (w ∷ ws) (suc k) q inside is none d =
@@ -208,7 +221,8 @@ pub record Conjoins (segment : SegmentValue) (queries : List Query) (c : Conjoin
   pub bound : bound_of c ≡ bound_of_all (map (hits_of segment) queries)
   pub opened : common_of c ≢ [] → length queries ≤ counts_of c
 
-pub conjoins : (segment : SegmentValue) (queries : List Query) (shortest : List ℕ) (ls : List (Bor (List ℕ))) (lead : Posting) (ps : List Posting) (c : Conjoined) →
+pub conjoins : (segment : SegmentValue) (queries : List Query) (shortest : List ℕ) (ls : List (Bor (List ℕ))) (lead : Posting) (ps : List Posting)
+    (c : Conjoined) →
     IsLed (map (hits_of segment) queries) shortest (lists_of ls) → IsOver lead shortest → AllZip (λ p l. IsOver p l.now) ps ls →
     AllFollow (record { lead = lead; others = ps }) c → common_of c ≡ common (remaining_of lead) (each_remaining ps) → Conjoins segment queries c
 conjoins segment queries shortest ls lead ps c led over zip follows same =
@@ -233,7 +247,8 @@ pub record IsConjoinedOver (shortest : List ℕ) (others : List (List ℕ)) (c :
 pub fresh_others : (ps : List Posting) (ls : List (Bor (List ℕ))) → AllZip (λ p l. IsOver p l.now) ps ls → All (λ p. p.opened ≤ 1) ps
 fresh_others ps ls zip = (are_over ps ls zip).opened
 
-pub conjoined_over : (shortest : List ℕ) (ls : List (Bor (List ℕ))) (lead : Posting) (ps : List Posting) (c : Conjoined) → IsOver lead shortest → AllZip (λ p l. IsOver p l.now) ps ls →
+pub conjoined_over : (shortest : List ℕ) (ls : List (Bor (List ℕ))) (lead : Posting) (ps : List Posting) (c : Conjoined) → IsOver lead shortest →
+    AllZip (λ p l. IsOver p l.now) ps ls →
     AllFollow (record { lead = lead; others = ps }) c → common_of c ≡ common (remaining_of lead) (each_remaining ps) → IsConjoinedOver shortest (lists_of ls) c
 conjoined_over shortest ls lead ps c over zip follows same =
     let rest = are_over ps ls zip in
@@ -242,7 +257,8 @@ conjoined_over shortest ls lead ps c over zip follows same =
     let many : length ps ≡ length (lists_of ls) = omega (arith, length_zip (λ (p : Posting) (l : Bor (List ℕ)). IsOver p l.now) ps ls zip, length_lists ls) in
     let lead_is : bound_of (record { lead = lead; others = ps }) ≡ bound_over shortest (length ps) =
     ap (λ (bs : List (List ℕ)). bound_of (record { lead = record lead { blocks = bs }; others = ps })) over.blocks
-    ∙ ap₂ (λ (n : ℕ) (xs : List ℕ). let b : Bound = record { blocks = n; lead = xs; others = length ps } in b) (length-blocks_of shortest) (blocks_joined shortest) in
+    ∙ ap₂ (λ (n : ℕ) (xs : List ℕ). let b : Bound = record { blocks = n; lead = xs; others = length ps } in b) (length-blocks_of shortest)
+    (blocks_joined shortest) in
     record {
       fresh = on.1;
       remaining = same ∙ ap₂ common over.remaining rest.remaining;

@@ -12,10 +12,12 @@ pub mod WalkLemmas
 pub mod HitsLemmas
 pub mod BoolHits
 pub mod LeadingLemmas
+pub mod MostLemmas
 pub mod OpensLemmas
 pub mod DepthLemmas
 pub mod PhraseHits
 pub mod RangeLemmas
+pub mod BoundsLemmas
 pub mod KeywordRangeLemmas
 pub mod CostLemmas
 pub mod ListedLemmas
@@ -25,3 +27,4 @@ pub mod CutLemmas
 pub mod RowLemmas
 pub mod FilterLemmas
 pub mod SplitLemmas
+pub mod TestsLemmas

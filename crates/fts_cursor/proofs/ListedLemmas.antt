@@ -1,5 +1,6 @@
 -- Documents that are in memory: what is left of them, and which of lists they are.
-use Rattle.std.proofs.Common.{◌≡◌, ℕ, zero, suc, ◌+◌, ◌-◌, ◌<◌, ◌≤◌, true, ◌==◌, ◌&&◌, ◌||◌, nat_le, Option, Some, None, List, [], ◌∷◌, Contains, length, drop, get_or, refl, sym, ap, ap₂, subst, ◌∙◌, inl, inr, arith}
+use Rattle.std.proofs.Common.{◌≡◌, ℕ, zero, suc, ◌+◌, ◌-◌, ◌<◌, ◌≤◌, true, ◌==◌, ◌&&◌, ◌||◌, nat_le, Option, Some, None, List, [], ◌∷◌, Contains, length, drop}
+use Rattle.std.proofs.Common.{get_or, refl, sym, ap, ap₂, subst, ◌∙◌, inl, inr, arith}
 use Rattle.std.specs.List.{flat_map, range_with_len, slice_get}
 use Rattle.std.specs.List.Sorted.{IsStrictlyIncreasing}
 use Rattle.std.proofs.lemmas.Bool.{and_parts, cases_Bool, cases_lt, eqb-true, false≢true, le-leb, leb-true}
@@ -7,12 +8,13 @@ use Rattle.std.proofs.lemmas.List.Folds.{list_any-append}
 use Rattle.std.proofs.lemmas.List.{drop-drop, get_or-drop, length-drop}
 use Rattle.std.proofs.lemmas.Option.{get_or_from_slice_get, slice_get-get_or, slice_get_within}
 use Rattle.std.proofs.Math.Bool.{or-true}
-use Rattle.fts_postings.specs.Sets.{has, in_some}
+use Rattle.fts_postings.specs.Sets.{has, in_some, union}
 use Rattle.fts_postings.specs.Remaining.{IsPlaceOf, at_least}
 use Rattle.fts_postings.specs.Windows.{passing}
 use Rattle.fts_postings.proofs.SetLemmas.{is_itself}
 use Rattle.fts_postings.proofs.PassingLemmas.{Rises-drop, Rises-passing}
 use Rattle.fts_postings.proofs.RemainingLemmas.{at_least_place, increasing-from_Rises}
+use Rattle.fts_postings.proofs.UnionLemmas.{Rises-union, has-union}
 use Rattle.fts_segment.specs.Between.{AreBetween}
 use Rattle.fts_pack.specs.column.Column.{is_within}
 use Rattle.fts_cursor.specs.Scans.{has_within}
@@ -24,7 +26,8 @@ pub rises_left : (at : ℕ) (xs : List ℕ) → IsStrictlyIncreasing xs → IsSt
 rises_left at xs up = let r = Rises-drop at 0 xs (Rises-from_increasing xs up) in increasing-from_Rises r.0 (drop at xs) r.1
 
 -- what is left from a target on begins at its place
-pub left_from : (xs : List ℕ) (at to target place : ℕ) → IsStrictlyIncreasing xs → to ≡ length xs → at < length xs → IsPlaceOf (λ k. get_or xs k 0) at to target place → drop place xs ≡ at_least target (drop at xs)
+pub left_from : (xs : List ℕ) (at to target place : ℕ) → IsStrictlyIncreasing xs → to ≡ length xs → at < length xs →
+    IsPlaceOf (λ k. get_or xs k 0) at to target place → drop place xs ≡ at_least target (drop at xs)
 left_from xs at to target place up end inside is =
     let k = place - at in
     let e : at + k ≡ place = omega (arith, is.low_within) in
@@ -74,16 +77,35 @@ within_there low high (Some x) h = let both = and_parts (nat_le low x) (nat_le x
 there_within : (low high x : ℕ) → low ≤ x → x ≤ high → is_within low high (Some x) ≡ true
 there_within low high x from to = ap₂ (λ a b. a && b) (le-leb low x from) (le-leb x high to)
 
+-- the documents of lists are what these have together
+pub lists_union : (documents : List ℕ) (lists : List (List ℕ)) → IsStrictlyIncreasing documents →
+    ((d : ℕ) → Contains documents d → Contains (flat_map (λ list. list) lists) d) →
+    ((d : ℕ) → Contains (flat_map (λ list. list) lists) d → Contains documents d) →
+    documents ≡ union lists
+lists_union documents lists up sound whole =
+    same_members 0 documents (union lists) (Rises-from_increasing documents up) (Rises-union lists)
+    (λ d. elim (cases_Bool (has documents d)) [
+      | inl there ↦ there ∙ sym (has-union lists d ∙ sym (has-joined lists d) ∙ has-from_Contains (flat_map (λ list. list) lists) d
+          (sound d (Contains-from_has documents d there)))
+      | inr not_there ↦ elim (cases_Bool (in_some lists d)) [
+        | inl some ↦ absurd (false≢true
+            (sym not_there ∙ has-from_Contains documents d (whole d (Contains-from_has (flat_map (λ list. list) lists) d (has-joined lists d ∙ some)))))
+        | inr none ↦ not_there ∙ sym (has-union lists d ∙ none)
+      ]
+    ])
+
 module _ (column : List (Option ℕ)) (low high : ℕ) (lists : List (List ℕ)) (are : AreBetween column low high lists) where
   in_passing : (d x : ℕ) → slice_get column d ≡ Some (Some x) → low ≤ x → x ≤ high → has (passing (has_within low high column) 0 (length column)) d ≡ true
   in_passing d x is from to =
       let inside = slice_get_within column d (Some x) is in
       has-filter (has_within low high column) (range_with_len 0 (length column)) d
-      ∙ ap₂ (λ a b. a && b) (has-range 0 (length column) d (omega arith) (omega (arith, inside))) (ap (is_within low high) (get_or_from_slice_get column d (Some x) None is) ∙ there_within low high x from to)
+      ∙ ap₂ (λ a b. a && b) (has-range 0 (length column) d (omega arith) (omega (arith, inside)))
+      (ap (is_within low high) (get_or_from_slice_get column d (Some x) None is) ∙ there_within low high x from to)
 
   from_passing : (d : ℕ) → has (passing (has_within low high column) 0 (length column)) d ≡ true → in_some lists d ≡ true
   from_passing d h =
-      let both = and_parts (has (range_with_len 0 (length column)) d) (has_within low high column d) (sym (has-filter (has_within low high column) (range_with_len 0 (length column)) d) ∙ h) in
+      let both = and_parts (has (range_with_len 0 (length column)) d) (has_within low high column d)
+      (sym (has-filter (has_within low high column) (range_with_len 0 (length column)) d) ∙ h) in
       let number = within_there low high (get_or column d None) both.1 in
       let inside : d < length column = elim (cases_lt d (length column)) [
         | inl less ↦ less
@@ -93,13 +115,16 @@ module _ (column : List (Option ℕ)) (low high : ℕ) (lists : List (List ℕ))
       with_list lists d found.0 found.1 found.2
 
   -- the documents of the lists are those within the bounds
-  pub lists_within : (documents : List ℕ) → IsStrictlyIncreasing documents → ((d : ℕ) → Contains documents d → Contains (flat_map (λ list. list) lists) d) → ((d : ℕ) → Contains (flat_map (λ list. list) lists) d → Contains documents d) →
+  pub lists_within : (documents : List ℕ) → IsStrictlyIncreasing documents → ((d : ℕ) → Contains documents d → Contains (flat_map (λ list. list) lists) d) →
+      ((d : ℕ) → Contains (flat_map (λ list. list) lists) d → Contains documents d) →
       documents ≡ passing (has_within low high column) 0 (length column)
   lists_within documents up sound whole =
-      same_members 0 documents (passing (has_within low high column) 0 (length column)) (Rises-from_increasing documents up) (Rises-passing (has_within low high column) 0 (length column))
+      same_members 0 documents (passing (has_within low high column) 0 (length column)) (Rises-from_increasing documents up)
+      (Rises-passing (has_within low high column) 0 (length column))
       (λ d. elim (cases_Bool (has documents d)) [
         | inl there ↦
-            let list = list_with lists d (sym (has-joined lists d) ∙ has-from_Contains (flat_map (λ list. list) lists) d (sound d (Contains-from_has documents d there))) in
+            let list = list_with lists d (sym (has-joined lists d) ∙ has-from_Contains (flat_map (λ list. list) lists) d
+            (sound d (Contains-from_has documents d there))) in
             let number = are.sound list.0 d list.1 list.2 in
             there ∙ sym (in_passing d number.0 number.1 number.2 number.3)
         | inr not_there ↦ elim (cases_Bool (has (passing (has_within low high column) 0 (length column)) d)) [

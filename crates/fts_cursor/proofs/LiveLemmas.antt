@@ -1,5 +1,6 @@
 -- Those of some documents that are live, at the front of what they lay in.
-use Rattle.std.proofs.Common.{◌≡◌, ℕ, ◌+◌, ◌<◌, ◌≤◌, Bool, true, false, cond, List, [], ◌∷◌, ◌++◌, length, get_or, set, take, drop, refl, sym, ap, ap₂, ◌∙◌, inl, inr, arith}
+use Rattle.std.proofs.Common.{◌≡◌, ℕ, ◌+◌, ◌<◌, ◌≤◌, Bool, true, false, cond, List, [], ◌∷◌, ◌++◌, length, get_or, set, take, drop, refl, sym, ap, ap₂, ◌∙◌}
+use Rattle.std.proofs.Common.{inl, inr, arith}
 use Rattle.std.specs.List.{filter}
 use Rattle.std.proofs.Math.Seq.{drop-append_seam, take-append_seam}
 use Rattle.std.proofs.lemmas.Bool.{cases_Bool}
@@ -19,7 +20,8 @@ byte_few true = omega arith
 byte_few false = omega arith
 
 -- one more, which is written in any case
-pub kept_more : (p : ℕ → Bool) (xs ys : List ℕ) (k i x more : ℕ) (b : Bool) → FiltersInPlace p xs ys k i → i < length ys → x ≡ get_or ys i 0 → b ≡ p x → more ≡ k + bool_byte b → FiltersInPlace p xs (set ys k x) more (i + 1)
+pub kept_more : (p : ℕ → Bool) (xs ys : List ℕ) (k i x more : ℕ) (b : Bool) → FiltersInPlace p xs ys k i → i < length ys → x ≡ get_or ys i 0 → b ≡ p x →
+    more ≡ k + bool_byte b → FiltersInPlace p xs (set ys k x) more (i + 1)
 kept_more p xs ys k i x more b h inside is test adds =
     let more_is : more ≡ k + cond (p x) 1 0 = adds ∙ ap (λ n. k + n) (byte_is b) ∙ ap (λ c. k + cond c 1 0) test in
     let read : x ≡ get_or ys i x = is ∙ sym (get_or_default_zero ys i x inside) in
@@ -47,11 +49,13 @@ module _ (p : ℕ → Bool) (xs ys : List ℕ) (k i count : ℕ) (h : FiltersInP
   kept_size = sym (length-take-le k ys (omega (arith, h.behind, h.within, h.long))) ∙ ap length kept_all
 
 -- of the next documents those that are live were taken
-pub Taken-live : (p : ℕ → Bool) (whole next front out : List ℕ) (n kept : ℕ) → front ≡ take n whole → filter p next ≡ filter p (drop n whole) → take kept out ≡ filter p front → kept ≡ length (filter p front) → Taken (filter p whole) (filter p next) out kept
+pub Taken-live : (p : ℕ → Bool) (whole next front out : List ℕ) (n kept : ℕ) → front ≡ take n whole → filter p next ≡ filter p (drop n whole) →
+    take kept out ≡ filter p front → kept ≡ length (filter p front) → Taken (filter p whole) (filter p next) out kept
 Taken-live p whole next front out n kept front_is next_is written size =
     let taken = filter p front in
     let left = filter p (drop n whole) in
-    let split : filter p whole ≡ taken ++ left = sym (ap (filter p) (take-append-drop n whole)) ∙ filter-append p (take n whole) (drop n whole) ∙ ap (λ xs. filter p xs ++ left) (sym front_is) in
+    let split : filter p whole ≡ taken ++ left = sym (ap (filter p) (take-append-drop n whole)) ∙ filter-append p (take n whole) (drop n whole)
+    ∙ ap (λ xs. filter p xs ++ left) (sym front_is) in
     record {
       left_is = next_is ∙ sym (ap₂ (λ k xs. drop k xs) size split ∙ drop-append_seam taken left);
       front = written ∙ sym (ap₂ (λ k xs. take k xs) size split ∙ take-append_seam taken left);
@@ -61,11 +65,13 @@ Taken-live p whole next front out n kept front_is next_is written size =
 -- as many of some documents are live as of the first and of the others
 pub live_split : (p : ℕ → Bool) (n : ℕ) (xs : List ℕ) → length (filter p (take n xs)) + length (filter p (drop n xs)) ≡ length (filter p xs)
 live_split p n xs =
-    let split : filter p xs ≡ filter p (take n xs) ++ filter p (drop n xs) = sym (ap (filter p) (take-append-drop n xs)) ∙ filter-append p (take n xs) (drop n xs) in
+    let split : filter p xs ≡ filter p (take n xs) ++ filter p (drop n xs) =
+    sym (ap (filter p) (take-append-drop n xs)) ∙ filter-append p (take n xs) (drop n xs) in
     omega (arith, ap length split, length-append (filter p (take n xs)) (filter p (drop n xs)))
 
 -- one document more is counted
-pub live_more : (p : ℕ → Bool) (docs : List ℕ) (i x count more : ℕ) (b : Bool) → i < length docs → x ≡ get_or docs i x → b ≡ p x → count ≡ length (filter p (take i docs)) → more ≡ count + bool_byte b → more ≡ length (filter p (take (i + 1) docs))
+pub live_more : (p : ℕ → Bool) (docs : List ℕ) (i x count more : ℕ) (b : Bool) → i < length docs → x ≡ get_or docs i x → b ≡ p x →
+    count ≡ length (filter p (take i docs)) → more ≡ count + bool_byte b → more ≡ length (filter p (take (i + 1) docs))
 live_more p docs i x count more b inside is test counted adds =
     let whole : take (i + 1) docs ≡ take i docs ++ x ∷ [] = take_more docs i x inside ∙ ap (λ d. take i docs ++ d ∷ []) (sym is) in
     let one : length (filter p (x ∷ [])) ≡ bool_byte b = elim (cases_Bool (p x)) [

@@ -1,6 +1,8 @@
 -- What the cursor of a query opens, by the queries in it.
-use Rattle.std.proofs.Common.{◌≡◌, ◌≢◌, ℕ, ◌+◌, ◌<◌, ◌≤◌, Bool, true, false, ◌&&◌, Option, None, List, [], ◌∷◌, ◌++◌, length, map, take, get_or, refl, sym, ap, ap₂, subst, ◌∙◌, inl, inr, arith}
-use Rattle.std.specs.List.{filter, list_all}
+use Rattle.std.proofs.Common.{◌≡◌, ◌≢◌, ℕ, ◌+◌, ◌<◌, ◌≤◌, Bool, true, false, ◌&&◌, Option, None, List, [], ◌∷◌, ◌++◌, length, map, take, get_or, refl, sym, ap}
+use Rattle.std.proofs.Common.{ap₂, subst, ◌∙◌, inl, inr, arith}
+use Rattle.std.specs.Prelude.{if◌then◌else◌}
+use Rattle.std.specs.List.{AllZip, filter, list_all}
 use Rattle.std.proofs.lemmas.Bool.{and_parts, false≢true}
 use Rattle.std.proofs.lemmas.List.{length-map, map-append, take_more}
 use Rattle.fts_model.specs.declared.operation.Term.{Term}
@@ -16,16 +18,18 @@ use Rattle.fts_model.proofs.QueriesBoolean.{fits_in, query_fits_at_bool}
 use Rattle.fts_pack.specs.Documents.{block_count}
 use Rattle.fts_segment.proofs.HoldingLemmas.{numbers_where-none}
 use Rattle.fts_segment.specs.Segments.{SegmentValue, numbers_where, postings}
-use Rattle.fts_cursor.specs.Builds.{Opens, is_term}
+use Rattle.fts_cursor.specs.Builds.{is_term}
+use Rattle.fts_cursor.specs.Most.{Opens, are_terms, hits_each, least_for, most_for, most_for_all}
 use Rattle.fts_cursor.specs.Hits.{segment_hits}
 use Rattle.fts_cursor.specs.Openings.{blocks_with, bound_for_musts, bound_of_all}
 use Rattle.fts_cursor.specs.Standing.{Standing, Walked, at_most}
-use Rattle.fts_cursor.specs.TreeValues.{TreeValue, remains}
+use Rattle.fts_cursor.specs.TreeValues.{TreeValue, all_most, remains}
 use Rattle.fts_postings.specs.Bounds.{Bound, most_at}
 use Rattle.fts_postings.specs.Sets.{common, union}
 use Rattle.fts_cursor.proofs.BoolHits.{all_kept, kept_by, must_hits, should_hits}
 use Rattle.fts_cursor.proofs.HitsLemmas.{hits_of}
 use Rattle.fts_cursor.proofs.LeadingLemmas.{all_hits}
+use Rattle.fts_cursor.proofs.MostLemmas.{all_most-for, are_all_terms, hits_are_each}
 
 -- whether nothing is said of the openings of a query
 pub is_plain : QueryValue → Bool
@@ -33,16 +37,22 @@ is_plain (term t) = false
 is_plain (boolean must must_not should) = false
 is_plain query = true
 
-pub opens_plain : (segment : SegmentValue) (query : QueryValue) (s : Standing) → is_plain query ≡ true → Opens segment query s
+pub opens_plain : (segment : SegmentValue) (query : QueryValue) (s : Standing) → is_plain query ≡ true → most_at s.bound None ≤ most_for segment query →
+    least_for segment query ≤ s.openings → Opens segment query s
 unfolding is_plain
-opens_plain segment query s plain = record {
+opens_plain segment query s plain most least = record {
+  most = most;
+  least = least;
   one_term = λ t h. elim h [ inl e ↦ absurd (false≢true (ap is_plain (sym e) ∙ plain)) | inr e ↦ absurd (false≢true (ap is_plain (sym e) ∙ plain)) ];
   musts = λ terms e doc. absurd (false≢true (ap is_plain (sym e) ∙ plain));
   opened = λ terms e some. absurd (false≢true (ap is_plain (sym e) ∙ plain));
 }
 
-pub opens_term : (segment : SegmentValue) (query : QueryValue) (t : Term) (s : Standing) → query ≡ term t → s.whole ≡ true → most_at s.bound None ≡ block_count (length (postings segment t)) → Opens segment query s
+pub opens_term : (segment : SegmentValue) (query : QueryValue) (t : Term) (s : Standing) → query ≡ term t → s.whole ≡ true →
+    most_at s.bound None ≡ block_count (length (postings segment t)) → Opens segment query s
 opens_term segment query t s is whole most = record {
+  most = subst (λ q. most_at s.bound None ≤ most_for segment q) (sym is) (omega (arith, most));
+  least = subst (λ q. least_for segment q ≤ s.openings) (sym is) (omega arith);
   one_term = λ u h. elim h [
     | inl e ↦ let same : t ≡ u = cc in (whole, most ∙ ap (blocks_with segment) same)
     | inr e ↦ absurd (cc)
@@ -52,9 +62,13 @@ opens_term segment query t s is whole most = record {
 }
 
 -- one with must-nots
-pub opens_without : (segment : SegmentValue) (query : QueryValue) (must should : QueryValues) (dropped : List Query) (s : Standing) → query ≡ boolean must (query_list (map query_value dropped)) should → 0 < length dropped → Opens segment query s
-opens_without segment query must should [] s is some = absurd (omega (arith, some))
-opens_without segment query must should (q ∷ qs) s is some = record {
+pub opens_without : (segment : SegmentValue) (query : QueryValue) (must should : QueryValues) (dropped : List Query) (s : Standing) →
+    query ≡ boolean must (query_list (map query_value dropped)) should → 0 < length dropped → most_at s.bound None ≤ most_for segment query →
+    Opens segment query s
+opens_without segment query must should [] s is some most = absurd (omega (arith, some))
+opens_without segment query must should (q ∷ qs) s is some most = record {
+  most = most;
+  least = subst (λ v. least_for segment v ≤ s.openings) (sym is) (omega arith);
   one_term = λ u h. elim h [ inl e ↦ absurd (cc) | inr e ↦ absurd (cc) ];
   musts = λ terms e doc. absurd (cc);
   opened = λ terms e more. absurd (cc);
@@ -82,7 +96,8 @@ as_many : (qs : List Query) (terms : List Term) → map query_value qs ≡ map t
 as_many qs terms e = omega (arith, ap length e, length-map qs query_value, length-map terms term)
 
 -- the documents that they find are those with the terms
-lists_are : (segment : SegmentValue) (qs : List Query) (terms : List Term) → map query_value qs ≡ map term terms → map (hits_of segment) qs ≡ map (postings segment) terms
+lists_are : (segment : SegmentValue) (qs : List Query) (terms : List Term) → map query_value qs ≡ map term terms →
+    map (hits_of segment) qs ≡ map (postings segment) terms
 lists_are segment [] [] e = refl
 lists_are segment [] (t ∷ ts) e = absurd (cc)
 lists_are segment (q ∷ qs) [] e = absurd (cc)
@@ -95,15 +110,32 @@ lists_are segment (q ∷ qs) (t ∷ ts) e =
 abbrev pub kept_value : List Query → List Query → QueryValue
 kept_value must should = boolean (query_list (map query_value must)) no_queries (query_list (map query_value should))
 
+-- what musts are allowed, terms or not
+most_kept : (segment : SegmentValue) (must : List Query) (n : ℕ) (all : Bool) → are_terms (query_list (map query_value must)) ≡ all →
+    n ≤ (if all then most_at (bound_of_all (hits_each segment (query_list (map query_value must)))) None else most_for_all segment
+    (query_list (map query_value must))) →
+    n ≤ (if are_terms (query_list (map query_value must)) then most_at (bound_of_all (hits_each segment (query_list (map query_value must)))) None else
+    most_for_all segment (query_list (map query_value must))) + 0
+most_kept segment must n all is less =
+    let qs = query_list (map query_value must) in
+    let most : Bool → ℕ = λ b. if b then most_at (bound_of_all (hits_each segment qs)) None else most_for_all segment qs in
+    omega (arith, less, ap most is)
+
 -- one of shoulds alone
-pub opens_shoulds : (segment : SegmentValue) (must should : List Query) (s : TreeValue) → must ≡ [] → ((q : Query) → should ≡ q ∷ [] → Opens segment (query_value q) s.standing) → (should ≡ [] → s.bound ≡ at_most 0) → Opens segment (kept_value must should) s.standing
-opens_shoulds segment (m ∷ ms) should s empty alone none = absurd (cc)
-opens_shoulds segment [] [] s empty alone none = record {
+pub opens_shoulds : (segment : SegmentValue) (must should : List Query) (s : TreeValue) → must ≡ [] →
+    ((q : Query) → should ≡ q ∷ [] → Opens segment (query_value q) s.standing) → (should ≡ [] → s.bound ≡ at_most 0) →
+    most_at s.bound None ≤ most_for_all segment (query_list (map query_value should)) → Opens segment (kept_value must should) s.standing
+opens_shoulds segment (m ∷ ms) should s empty alone none most = absurd (cc)
+opens_shoulds segment [] [] s empty alone none most = record {
+  most = omega (arith, most);
+  least = omega arith;
   one_term = λ u h. elim h [ inl e ↦ absurd (cc) | inr e ↦ absurd (cc) ];
   musts = λ terms e doc. subst (λ (b : Bound). most_at b doc ≤ most_at (bound_for_musts segment terms) doc) (sym (none refl)) (omega arith);
   opened = λ terms e some. omega (arith, as_many [] terms (terms_are [] terms (cc)));
 }
-opens_shoulds segment [] (q ∷ []) s empty alone none = record {
+opens_shoulds segment [] (q ∷ []) s empty alone none most = record {
+  most = omega (arith, most);
+  least = omega arith;
   one_term = λ u h. elim h [
     | inl e ↦ absurd (cc)
     | inr e ↦
@@ -113,34 +145,47 @@ opens_shoulds segment [] (q ∷ []) s empty alone none = record {
   musts = λ terms e doc. absurd (cc);
   opened = λ terms e some. absurd (cc);
 }
-opens_shoulds segment [] (q ∷ (w ∷ qs)) s empty alone none = record {
+opens_shoulds segment [] (q ∷ (w ∷ qs)) s empty alone none most = record {
+  most = omega (arith, most);
+  least = omega arith;
   one_term = λ u h. elim h [ inl e ↦ absurd (cc) | inr e ↦ absurd (cc) ];
   musts = λ terms e doc. absurd (cc);
   opened = λ terms e some. absurd (cc);
 }
 
 -- one with musts, of which some are no terms
-pub opens_mixed : (segment : SegmentValue) (must should : List Query) (s : Standing) → list_all (λ q. is_term (query_value q)) must ≡ false → Opens segment (kept_value must should) s
-opens_mixed segment [] should s mixed = absurd (false≢true (sym mixed))
-opens_mixed segment (q ∷ qs) should s mixed = record {
+pub opens_mixed : (segment : SegmentValue) (must should : List Query) (s : Standing) → list_all (λ q. is_term (query_value q)) must ≡ false →
+    most_at s.bound None ≤ most_for_all segment (query_list (map query_value must)) → Opens segment (kept_value must should) s
+opens_mixed segment [] should s mixed most = absurd (false≢true (sym mixed))
+opens_mixed segment (q ∷ qs) should s mixed most = record {
+  most = most_kept segment (q ∷ qs) (most_at s.bound None) false (are_all_terms (q ∷ qs) ∙ mixed) most;
+  least = omega arith;
   one_term = λ u h. elim h [ inl e ↦ absurd (cc) | inr e ↦ absurd (cc) ];
   musts = λ terms e doc. absurd (false≢true (sym mixed ∙ are_all (q ∷ qs) terms (terms_are (q ∷ qs) terms (cc))));
   opened = λ terms e some. absurd (false≢true (sym mixed ∙ are_all (q ∷ qs) terms (terms_are (q ∷ qs) terms (cc))));
 }
 
 -- one whose musts are terms
-pub opens_terms : (segment : SegmentValue) (must should : List Query) (s : Standing) → 0 < length must →
-    ((doc : Option ℕ) → most_at s.bound doc ≤ most_at (bound_of_all (map (hits_of segment) must)) doc) → (s.remaining ≢ [] → length must ≤ s.openings) → Opens segment (kept_value must should) s
-opens_terms segment [] should s some most opened = absurd (omega (arith, some))
-opens_terms segment (q ∷ qs) should s some most opened = record {
+pub opens_terms : (segment : SegmentValue) (must should : List Query) (s : Standing) → 0 < length must → list_all (λ q. is_term (query_value q)) must ≡ true →
+    ((doc : Option ℕ) → most_at s.bound doc ≤ most_at (bound_of_all (map (hits_of segment) must)) doc) → (s.remaining ≢ [] → length must ≤ s.openings) →
+    Opens segment (kept_value must should) s
+opens_terms segment [] should s some terms_all most opened = absurd (omega (arith, some))
+opens_terms segment (q ∷ qs) should s some terms_all most opened = record {
+  most = most_kept segment (q ∷ qs) (most_at s.bound None) true (are_all_terms (q ∷ qs) ∙ terms_all)
+      (subst (λ lists. most_at s.bound None ≤ most_at (bound_of_all lists) None) (sym (hits_are_each segment (q ∷ qs))) (most None));
+  least = omega arith;
   one_term = λ u h. elim h [ inl e ↦ absurd (cc) | inr e ↦ absurd (cc) ];
-  musts = λ terms e doc. subst (λ lists. most_at s.bound doc ≤ most_at (bound_of_all lists) doc) (lists_are segment (q ∷ qs) terms (terms_are (q ∷ qs) terms (cc))) (most doc);
+  musts = λ terms e doc. subst (λ lists. most_at s.bound doc ≤ most_at (bound_of_all lists) doc)
+      (lists_are segment (q ∷ qs) terms (terms_are (q ∷ qs) terms (cc))) (most doc);
   opened = λ terms e more. omega (arith, as_many (q ∷ qs) terms (terms_are (q ∷ qs) terms (cc)), opened more);
 }
 
 -- a cursor that walked on
-pub opens_walked : (segment : SegmentValue) (query : QueryValue) (p : ℕ → Bool) (s t : Standing) → Opens segment query s → Walked s t → t.remaining ≡ filter p s.remaining → Opens segment query t
+pub opens_walked : (segment : SegmentValue) (query : QueryValue) (p : ℕ → Bool) (s t : Standing) → Opens segment query s → Walked s t →
+    t.remaining ≡ filter p s.remaining → Opens segment query t
 opens_walked segment query p s t h walked is = record {
+  most = subst (λ (b : Bound). most_at b None ≤ most_for segment query) (sym walked.continues.bound) h.most;
+  least = omega (arith, h.least, walked.continues.more);
   one_term = λ u e. let o = h.one_term u e in (walked.whole o.0, ap (λ b. most_at b None) walked.continues.bound ∙ o.1);
   musts = λ terms e doc. subst (λ (b : Bound). most_at b doc ≤ most_at (bound_for_musts segment terms) doc) (sym walked.continues.bound) (h.musts terms e doc);
   opened = λ terms e some. omega (arith, h.opened terms e (λ none. some (is ∙ ap (filter p) none)), walked.continues.more);
@@ -152,41 +197,61 @@ pub record Keeps (segment : SegmentValue) (must should : List Query) (s : TreeVa
   pub opens : Opens segment (kept_value must should) s.standing
 
 pub keeps_shoulds : (segment : SegmentValue) (must should : List Query) (s : TreeValue) → must ≡ [] → s.remaining ≡ union (map (hits_of segment) should) →
-    ((q : Query) → should ≡ q ∷ [] → Opens segment (query_value q) s.standing) → (should ≡ [] → s.bound ≡ at_most 0) → Keeps segment must should s
-keeps_shoulds segment must should s empty is alone none = record {
+    ((q : Query) → should ≡ q ∷ [] → Opens segment (query_value q) s.standing) → (should ≡ [] → s.bound ≡ at_most 0) →
+    most_at s.bound None ≤ most_for_all segment (query_list (map query_value should)) → Keeps segment must should s
+keeps_shoulds segment must should s empty is alone none most = record {
   hits = is ∙ should_hits segment must should empty;
-  opens = opens_shoulds segment must should s empty alone none;
+  opens = opens_shoulds segment must should s empty alone none most;
 }
 
-pub keeps_terms : (segment : SegmentValue) (must should : List Query) (s : TreeValue) → 0 < length must → s.remaining ≡ all_hits segment must →
-    ((doc : Option ℕ) → most_at s.bound doc ≤ most_at (bound_of_all (map (hits_of segment) must)) doc) → (s.remaining ≢ [] → length must ≤ s.openings) → Keeps segment must should s
-keeps_terms segment must should s some is most opened = record {
+pub keeps_terms : (segment : SegmentValue) (must should : List Query) (s : TreeValue) → 0 < length must → list_all (λ q. is_term (query_value q)) must ≡ true →
+    s.remaining ≡ all_hits segment must →
+    ((doc : Option ℕ) → most_at s.bound doc ≤ most_at (bound_of_all (map (hits_of segment) must)) doc) → (s.remaining ≢ [] → length must ≤ s.openings) →
+    Keeps segment must should s
+keeps_terms segment must should s some terms_all is most opened = record {
   hits = is ∙ all_kept segment must should some;
-  opens = opens_terms segment must should s.standing some most opened;
+  opens = opens_terms segment must should s.standing some terms_all most opened;
 }
 
-pub keeps_mixed : (segment : SegmentValue) (must should : List Query) (trees : List TreeValue) (s : TreeValue) → 0 < length must → list_all (λ q. is_term (query_value q)) must ≡ false → remains trees ≡ map (hits_of segment) must →
-    ((first : TreeValue) (rest : List TreeValue) → trees ≡ first ∷ rest → s.remaining ≡ common first.remaining (remains rest)) → Keeps segment must should s
-keeps_mixed segment must should trees s some mixed are is = record {
+pub keeps_mixed : (segment : SegmentValue) (must should : List Query) (trees : List TreeValue) (s : TreeValue) → 0 < length must →
+    list_all (λ q. is_term (query_value q)) must ≡ false → remains trees ≡ map (hits_of segment) must →
+    ((first : TreeValue) (rest : List TreeValue) → trees ≡ first ∷ rest → s.remaining ≡ common first.remaining (remains rest)) →
+    AllZip (λ t q. Opens segment (query_value q) t.standing) trees must → most_at s.bound None ≡ all_most trees → Keeps segment must should s
+keeps_mixed segment must should trees s some mixed are is each most = record {
   hits = must_hits segment trees must should s.remaining are some is;
-  opens = opens_mixed segment must should s.standing mixed;
+  opens = opens_mixed segment must should s.standing mixed (omega (arith, most, all_most-for segment trees must each));
 }
 
 -- a Boolean query of the code, with its must-nots or without
-module _ (segment : SegmentValue) (query : Query) (must must_not should : List Query) (s : TreeValue) (value : query_value query ≡ boolean (query_list (map query_value must)) (query_list (map query_value must_not)) (query_list (map query_value should))) where
-  pub opens_kept : must_not ≡ [] → Keeps segment must should s → Opens segment (query_value query) s.standing
-  opens_kept none h =
-      subst (λ v. Opens segment v s.standing) (sym (value ∙ ap (λ qs. boolean (query_list (map query_value must)) (query_list (map query_value qs)) (query_list (map query_value should))) none)) h.opens
+module _ (segment : SegmentValue) (query : Query) (must must_not should : List Query) (s : TreeValue)
+    (value : query_value query ≡ boolean (query_list (map query_value must)) (query_list (map query_value must_not)) (query_list (map query_value should)))
+  where
+    pub opens_kept : must_not ≡ [] → Keeps segment must should s → Opens segment (query_value query) s.standing
+    opens_kept none h =
+        subst (λ v. Opens segment v s.standing)
+        (sym (value ∙ ap (λ qs. boolean (query_list (map query_value must)) (query_list (map query_value qs)) (query_list (map query_value should))) none))
+        h.opens
 
-  pub opens_apart : 0 < length must_not → Opens segment (query_value query) s.standing
-  opens_apart some = opens_without segment (query_value query) (query_list (map query_value must)) (query_list (map query_value should)) must_not s.standing value some
+    pub opens_told : 0 < length must_not → s.bound ≡ at_most 0 → Opens segment (query_value query) s.standing
+    opens_told some none =
+        opens_without segment (query_value query) (query_list (map query_value must)) (query_list (map query_value should)) must_not s.standing value some
+        (subst (λ (b : Bound). most_at b None ≤ most_for segment (query_value query)) (sym none) (omega arith))
+
+    pub opens_apart : 0 < length must_not → (kept dropped : TreeValue) → Keeps segment must should kept →
+        most_at dropped.bound None ≤ most_for_all segment (query_list (map query_value must_not)) →
+        most_at s.bound None ≡ most_at kept.bound None + most_at dropped.bound None →
+        Opens segment (query_value query) s.standing
+    opens_apart some kept dropped keeps less most =
+        opens_without segment (query_value query) (query_list (map query_value must)) (query_list (map query_value should)) must_not s.standing value some
+        (subst (λ v. most_at s.bound None ≤ most_for segment v) (sym value) (omega (arith, keeps.opens.most, less, most)))
 
 -- the queries in a Boolean query fit where it does
 pub parts_fit : (schema : List Field) (query : Query) (must must_not should : _) → query ≡ views.Bool must must_not should → fits_in schema query ≡ true →
     (list_all (fits_in schema) must.items ≡ true) × (list_all (fits_in schema) must_not.items ≡ true) × (list_all (fits_in schema) should.items ≡ true)
 parts_fit schema query must must_not should is fits =
     let all = list_all (fits_in schema) in
-    let whole : (all must.items && all must_not.items && all should.items) ≡ true = sym (ap (fits_in schema) is ∙ query_fits_at_bool schema must must_not should) ∙ fits in
+    let whole : (all must.items && all must_not.items && all should.items) ≡ true =
+    sym (ap (fits_in schema) is ∙ query_fits_at_bool schema must must_not should) ∙ fits in
     let parts = and_parts (all must.items && all must_not.items) (all should.items) whole in
     let first = and_parts (all must.items) (all must_not.items) parts.0 in
     (first.0, first.1, parts.1)
@@ -197,10 +262,12 @@ value_of_none = ap query_value (sym variants.rolls-None) ∙ fold-roll-Query Que
 
 pub nothing_found : (segment : SegmentValue) (query : Query) → query ≡ variants.None → [] ≡ hits_of segment query
 nothing_found segment query is =
-    sym (numbers_where-none (λ e. matches segment.schema e.value nothing) 0 segment.documents (λ k d inside. refl)) ∙ ap (segment_hits segment) (sym (ap query_value is ∙ value_of_none))
+    sym (numbers_where-none (λ e. matches segment.schema e.value nothing) 0 segment.documents (λ k d inside. refl))
+    ∙ ap (segment_hits segment) (sym (ap query_value is ∙ value_of_none))
 
 -- one cursor more
-pub remains_more : (segment : SegmentValue) (trees : List TreeValue) (qs : List Query) (k : ℕ) (s : TreeValue) (q : Query) → remains trees ≡ map (hits_of segment) (take k qs) → k < length qs → q ≡ get_or qs k q → s.remaining ≡ hits_of segment q →
+pub remains_more : (segment : SegmentValue) (trees : List TreeValue) (qs : List Query) (k : ℕ) (s : TreeValue) (q : Query) →
+    remains trees ≡ map (hits_of segment) (take k qs) → k < length qs → q ≡ get_or qs k q → s.remaining ≡ hits_of segment q →
     remains (trees ++ s ∷ []) ≡ map (hits_of segment) (take (k + 1) qs)
 remains_more segment trees qs k s q are inside is hits =
     map-append (λ (p : TreeValue). p.remaining) trees (s ∷ []) ∙ ap₂ (λ xs x. xs ++ x ∷ []) are hits ∙ sym (map-append (hits_of segment) (take k qs) (q ∷ []))

@@ -1,5 +1,6 @@
 -- The documents with a phrase, by the lists of its terms.
-use Rattle.std.proofs.Common.{◌≡◌, ℕ, zero, suc, ◌+◌, ◌^◌, ◌<◌, ◌≤◌, ◌==◌, nat_lt, cond, Bool, true, false, ◌&&◌, ◌||◌, Option, Some, None, option_map, List, [], ◌∷◌, map, length, get_or, refl, sym, ap, ap₂, subst, ◌∙◌, inl, inr, arith}
+use Rattle.std.proofs.Common.{◌≡◌, ℕ, zero, suc, ◌+◌, ◌^◌, ◌<◌, ◌≤◌, ◌==◌, nat_lt, cond, Bool, true, false, ◌&&◌, ◌||◌, Option, Some, None, option_map, List}
+use Rattle.std.proofs.Common.{[], ◌∷◌, map, length, get_or, refl, sym, ap, ap₂, subst, ◌∙◌, inl, inr, arith}
 use Rattle.std.specs.List.{AllZip, filter, list_all, list_any, remove, slice_get}
 use Rattle.std.specs.Option.{option_map_or}
 use Rattle.std.specs.Str.{bytes_eq}
@@ -51,7 +52,8 @@ list_all-same p q (x ∷ xs) same = ap₂ (λ a b. a && b) (same x) (list_all-sa
 any_position : (f : ℕ → Bool) (text : List ℕ) (ts : List (ℕ × List ℕ)) → list_any f (positions_among text ts) ≡ list_any (λ t. f t.0 && bytes_eq t.1 text) ts
 any_position f text [] = refl
 any_position f text (t ∷ ts) =
-    elim (bytes_eq t.1 text) as (λ b. list_any f (map (λ (x : ℕ × List ℕ). x.0) (cond b (t ∷ filter (is_token text) ts) (filter (is_token text) ts))) ≡ ((f t.0 && b) || list_any (λ x. f x.0 && bytes_eq x.1 text) ts)) [
+    elim (bytes_eq t.1 text) as (λ b. list_any f (map (λ (x : ℕ × List ℕ). x.0) (cond b (t ∷ filter (is_token text) ts) (filter (is_token text) ts)))
+    ≡ ((f t.0 && b) || list_any (λ x. f x.0 && bytes_eq x.1 text) ts)) [
       | true ↦ ap₂ (λ a b. a || b) (sym (and-true (f t.0))) (any_position f text ts)
       | false ↦ any_position f text ts ∙ ap (λ b. b || list_any (λ x. f x.0 && bytes_eq x.1 text) ts) (sym (and-false (f t.0)))
     ]
@@ -62,7 +64,8 @@ token_in ts text = list_any (λ t. bytes_eq t.1 text) ts
 
 -- the members of a pattern stand at their offsets, by positions
 abbrev by_positions : List (ℕ × List ℕ) → ℕ × List ℕ → List (ℕ × List ℕ) → Bool
-by_positions ts first others = list_any (λ p. list_all (λ m. list_any (λ q. q + first.0 == p + m.0) (positions_among m.1 ts)) others) (positions_among first.1 ts)
+by_positions ts first others = list_any (λ p. list_all (λ m. list_any (λ q. q + first.0 == p + m.0) (positions_among m.1 ts)) others)
+    (positions_among first.1 ts)
 
 positions_lead : (ts : List (ℕ × List ℕ)) (first : ℕ × List ℕ) (others : List (ℕ × List ℕ)) → by_positions ts first others ≡ list_any (leads ts first others) ts
 positions_lead ts first others =
@@ -80,30 +83,40 @@ any_const p b (x ∷ xs) imp h = elim (cases_Bool (p x)) [
 ]
 
 -- the terms of a phrase that stands are tokens
-terms_stand : (ts : List (ℕ × List ℕ)) (first : ℕ × List ℕ) (others : List (ℕ × List ℕ)) → list_any (leads ts first others) ts ≡ true → list_all (λ m. token_in ts m.1) (first ∷ others) ≡ true
+terms_stand : (ts : List (ℕ × List ℕ)) (first : ℕ × List ℕ) (others : List (ℕ × List ℕ)) → list_any (leads ts first others) ts ≡ true →
+    list_all (λ m. token_in ts m.1) (first ∷ others) ≡ true
 terms_stand ts first others h = ap₂ (λ a b. a && b)
-    (any_some (leads ts first others) (λ t. bytes_eq t.1 first.1) ts (λ t k. (and_parts (bytes_eq t.1 first.1) (list_all (stands_with ts first t) others) k).0) h)
+    (any_some (leads ts first others) (λ t. bytes_eq t.1 first.1) ts (λ t k. (and_parts (bytes_eq t.1 first.1) (list_all (stands_with ts first t) others) k).0)
+    h)
     (any_const (leads ts first others) (list_all (λ m. token_in ts m.1) others) ts (λ t k.
-    all_each (stands_with ts first t) (λ m. token_in ts m.1) others (λ m j. any_some (λ x. (x.0 + first.0 == t.0 + m.0) && bytes_eq x.1 m.1) (λ x. bytes_eq x.1 m.1) ts (λ x i. (and_parts (x.0 + first.0 == t.0 + m.0) (bytes_eq x.1 m.1) i).1) j)
+    all_each (stands_with ts first t) (λ m. token_in ts m.1) others (λ m j. any_some (λ x. (x.0 + first.0 == t.0 + m.0) && bytes_eq x.1 m.1)
+    (λ x. bytes_eq x.1 m.1) ts (λ x i. (and_parts (x.0 + first.0 == t.0 + m.0) (bytes_eq x.1 m.1) i).1) j)
     (and_parts (bytes_eq t.1 first.1) (list_all (stands_with ts first t) others) k).1) h)
 
 -- the place of a document among those that pass
-ranked : {X : Type 0} (p : X → Bool) (f : X → List ℕ) (k : ℕ) (xs : List X) (n : ℕ) (e : X) → slice_get xs n ≡ Some e → p e ≡ true → get_or (map f (filter p xs)) (rank (numbers_where p k xs) (k + n)) [] ≡ f e
+ranked : {X : Type 0} (p : X → Bool) (f : X → List ℕ) (k : ℕ) (xs : List X) (n : ℕ) (e : X) → slice_get xs n ≡ Some e → p e ≡ true →
+    get_or (map f (filter p xs)) (rank (numbers_where p k xs) (k + n)) [] ≡ f e
 ranked p f k [] n e is passes = absurd (let h : None ≡ Some e = is in cc)
 ranked p f k (x ∷ xs) zero e is passes =
     let same : x ≡ e = cc in
     let here : k + 0 ≡ k = omega arith in
     let first : p x ≡ true = ap p same ∙ passes in
     let none : rank (cond true (k ∷ numbers_where p (k + 1) xs) (numbers_where p (k + 1) xs)) k ≡ 0 =
-    ap length (ap (λ b. cond b (k ∷ filter (λ d. nat_lt d k) (numbers_where p (k + 1) xs)) (filter (λ d. nat_lt d k) (numbers_where p (k + 1) xs))) (le-ltb k k (omega arith)) ∙ none_below k (k + 1) (numbers_where p (k + 1) xs) (Rises-numbers p (k + 1) xs) (omega arith)) in
-    ap₂ (λ b ns. get_or (map f (cond b (x ∷ filter p xs) (filter p xs))) (rank ns (k + 0)) []) first (numbers_where-cons p k x xs ∙ ap (λ b. cond b (k ∷ numbers_where p (k + 1) xs) (numbers_where p (k + 1) xs)) first)
+    ap length (ap (λ b. cond b (k ∷ filter (λ d. nat_lt d k) (numbers_where p (k + 1) xs)) (filter (λ d. nat_lt d k) (numbers_where p (k + 1) xs)))
+    (le-ltb k k (omega arith)) ∙ none_below k (k + 1) (numbers_where p (k + 1) xs) (Rises-numbers p (k + 1) xs) (omega arith)) in
+    ap₂ (λ b ns. get_or (map f (cond b (x ∷ filter p xs) (filter p xs))) (rank ns (k + 0)) []) first
+    (numbers_where-cons p k x xs ∙ ap (λ b. cond b (k ∷ numbers_where p (k + 1) xs) (numbers_where p (k + 1) xs)) first)
     ∙ ap (λ r. get_or (map f (x ∷ filter p xs)) r []) (ap (rank (k ∷ numbers_where p (k + 1) xs)) here ∙ none) ∙ ap f same
 ranked p f k (x ∷ xs) (suc n) e is passes =
     let there : k + suc n ≡ k + 1 + n = omega arith in
-    let rest : get_or (map f (filter p xs)) (rank (numbers_where p (k + 1) xs) (k + suc n)) [] ≡ f e = ap (λ d. get_or (map f (filter p xs)) (rank (numbers_where p (k + 1) xs) d) []) there ∙ ranked p f (k + 1) xs n e is passes in
+    let rest : get_or (map f (filter p xs)) (rank (numbers_where p (k + 1) xs) (k + suc n)) [] ≡ f e =
+    ap (λ d. get_or (map f (filter p xs)) (rank (numbers_where p (k + 1) xs) d) []) there ∙ ranked p f (k + 1) xs n e is passes in
     ap (λ ns. get_or (map f (filter p (x ∷ xs))) (rank ns (k + suc n)) []) (numbers_where-cons p k x xs)
-    ∙ elim (p x) as (λ b. get_or (map f (cond b (x ∷ filter p xs) (filter p xs))) (rank (cond b (k ∷ numbers_where p (k + 1) xs) (numbers_where p (k + 1) xs)) (k + suc n)) [] ≡ f e) [
-      | true ↦ ap (λ b. get_or (map f (x ∷ filter p xs)) (length (cond b (k ∷ filter (λ d. nat_lt d (k + suc n)) (numbers_where p (k + 1) xs)) (filter (λ d. nat_lt d (k + suc n)) (numbers_where p (k + 1) xs)))) []) (lt-ltb k (k + suc n) (omega arith)) ∙ rest
+    ∙ elim (p x) as (λ b. get_or (map f (cond b (x ∷ filter p xs) (filter p xs))) (rank (cond b (k ∷ numbers_where p (k + 1) xs) (numbers_where p (k + 1) xs))
+    (k + suc n)) [] ≡ f e) [
+      | true ↦ ap (λ b. get_or (map f (x ∷ filter p xs))
+          (length (cond b (k ∷ filter (λ d. nat_lt d (k + suc n)) (numbers_where p (k + 1) xs))
+          (filter (λ d. nat_lt d (k + suc n)) (numbers_where p (k + 1) xs)))) []) (lt-ltb k (k + suc n) (omega arith)) ∙ rest
       | false ↦ rest
     ]
 
@@ -113,14 +126,16 @@ value_token (values.Text t) text = refl
 value_token (values.Texts ts) text = refl
 value_token (values.Number n) text = refl
 
-field_token : (s : Option Field) (v : Option FieldValue) (text : List ℕ) → option_map (λ f. f.kind) s ≡ Some kinds.Text → field_has s v (values.Text text) ≡ token_in (tokens_of kinds.Text v) text
+field_token : (s : Option Field) (v : Option FieldValue) (text : List ℕ) → option_map (λ f. f.kind) s ≡ Some kinds.Text →
+    field_has s v (values.Text text) ≡ token_in (tokens_of kinds.Text v) text
 field_token None v text is = absurd (let e : None ≡ Some kinds.Text = is in cc)
 field_token (Some f) None text is = refl
 field_token (Some f) (Some v) text is =
     let same : f.kind ≡ kinds.Text = cc in
     ap (λ k. value_has k v (values.Text text)) same ∙ value_token v text
 
-phrase_lead : (v : Option FieldValue) (first : ℕ × List ℕ) (others : List (ℕ × List ℕ)) → option_map_or (value_has_phrase (first ∷ others)) v false ≡ list_any (leads (tokens_of kinds.Text v) first others) (tokens_of kinds.Text v)
+phrase_lead : (v : Option FieldValue) (first : ℕ × List ℕ) (others : List (ℕ × List ℕ)) → option_map_or (value_has_phrase (first ∷ others)) v false
+    ≡ list_any (leads (tokens_of kinds.Text v) first others) (tokens_of kinds.Text v)
 phrase_lead None first others = refl
 phrase_lead (Some (values.Text text)) first others = refl
 phrase_lead (Some (values.Texts ts)) first others = refl
@@ -139,10 +154,12 @@ module _ (segment : SegmentValue) (field : ℕ) (kind : kind_at segment.schema f
     member_has : (wanted : ℕ × List ℕ) (m : Member) → IsMemberFor segment field wanted m → has (documents_in m.list) d ≡ token_in (tokens_at e.value) wanted.1
     member_has wanted m h =
         ap (λ ds. has ds d) h.documents ∙ has-all (λ x. has_term segment.schema x.value (text_term field wanted.1)) segment.documents d
-        ∙ ap (λ s. option_map_or (λ (x : Stamped DocumentValue). has_term segment.schema x.value (text_term field wanted.1)) s false) at ∙ has_token_at e.value wanted.1
+        ∙ ap (λ s. option_map_or (λ (x : Stamped DocumentValue). has_term segment.schema x.value (text_term field wanted.1)) s false) at
+        ∙ has_token_at e.value wanted.1
 
     -- and there its positions are those of the token
-    member_positions : (wanted : ℕ × List ℕ) (m : Member) → IsMemberFor segment field wanted m → token_in (tokens_at e.value) wanted.1 ≡ true → positions_at m d ≡ positions_among wanted.1 (tokens_at e.value)
+    member_positions : (wanted : ℕ × List ℕ) (m : Member) → IsMemberFor segment field wanted m → token_in (tokens_at e.value) wanted.1 ≡ true →
+        positions_at m d ≡ positions_among wanted.1 (tokens_at e.value)
     member_positions wanted m h there =
         let p : Stamped DocumentValue → Bool = λ x. has_term segment.schema x.value (text_term field wanted.1) in
         let f : Stamped DocumentValue → List ℕ = λ x. positions_among wanted.1 (document_tokens segment.schema field x.value) in
@@ -152,24 +169,29 @@ module _ (segment : SegmentValue) (field : ℕ) (kind : kind_at segment.schema f
         ∙ ranked p f 0 segment.documents d e at (has_token_at e.value wanted.1 ∙ there)
         ∙ ap (λ k. positions_among wanted.1 (option_map_or (λ kind. tokens_of kind (value_in_field e.value field)) k [])) kind
 
-    members_have : (pattern : List (ℕ × List ℕ)) (ms : List Member) → AllZip (IsMemberFor segment field) pattern ms → in_all (map (λ m. documents_in m.list) ms) d ≡ list_all (λ w. token_in (tokens_at e.value) w.1) pattern
+    members_have : (pattern : List (ℕ × List ℕ)) (ms : List Member) → AllZip (IsMemberFor segment field) pattern ms →
+        in_all (map (λ m. documents_in m.list) ms) d ≡ list_all (λ w. token_in (tokens_at e.value) w.1) pattern
     members_have [] [] h = refl
     members_have [] (m ∷ ms) h = absurd h
     members_have (w ∷ ws) [] h = absurd h
     members_have (w ∷ ws) (m ∷ ms) h = ap₂ (λ a b. a && b) (member_has w m h.0) (members_have ws ms h.1)
 
-    behind_each : (offset p : ℕ) (pattern : List (ℕ × List ℕ)) (ms : List Member) → AllZip (IsMemberFor segment field) pattern ms → list_all (λ w. token_in (tokens_at e.value) w.1) pattern ≡ true →
+    behind_each : (offset p : ℕ) (pattern : List (ℕ × List ℕ)) (ms : List Member) → AllZip (IsMemberFor segment field) pattern ms →
+        list_all (λ w. token_in (tokens_at e.value) w.1) pattern ≡ true →
         list_all (is_behind offset p d) ms ≡ list_all (λ w. list_any (λ q. q + offset == p + w.0) (positions_among w.1 (tokens_at e.value))) pattern
     behind_each offset p [] [] h there = refl
     behind_each offset p [] (m ∷ ms) h there = absurd h
     behind_each offset p (w ∷ ws) [] h there = absurd h
     behind_each offset p (w ∷ ws) (m ∷ ms) h there =
         let both = and_parts (token_in (tokens_at e.value) w.1) (list_all (λ w. token_in (tokens_at e.value) w.1) ws) there in
-        ap₂ (λ a b. a && b) (ap₂ (λ (o : ℕ) (ps : List ℕ). list_any (λ q. q + offset == p + o) ps) h.0.offset (member_positions w m h.0 both.0)) (behind_each offset p ws ms h.1 both.1)
+        ap₂ (λ a b. a && b) (ap₂ (λ (o : ℕ) (ps : List ℕ). list_any (λ q. q + offset == p + o) ps) h.0.offset (member_positions w m h.0 both.0))
+        (behind_each offset p ws ms h.1 both.1)
 
     -- the phrase stands in the document where its positions say so
-    phrase_here : (first : ℕ × List ℕ) (others : List (ℕ × List ℕ)) (m : Member) (ms : List Member) → IsMemberFor segment field first m → AllZip (IsMemberFor segment field) others ms →
-        (in_all (map (λ m. documents_in m.list) (m ∷ ms)) d && phrase_at (m ∷ ms) d) ≡ option_map_or (value_has_phrase (first ∷ others)) (value_in_field e.value field) false
+    phrase_here : (first : ℕ × List ℕ) (others : List (ℕ × List ℕ)) (m : Member) (ms : List Member) → IsMemberFor segment field first m →
+        AllZip (IsMemberFor segment field) others ms →
+        (in_all (map (λ m. documents_in m.list) (m ∷ ms)) d && phrase_at (m ∷ ms) d) ≡ option_map_or (value_has_phrase (first ∷ others))
+        (value_in_field e.value field) false
     phrase_here first others m ms h hs =
         let all = members_have (first ∷ others) (m ∷ ms) (h, hs) in
         let stands = phrase_lead (value_in_field e.value field) first others in
@@ -180,18 +202,22 @@ module _ (segment : SegmentValue) (field : ℕ) (kind : kind_at segment.schema f
               ap₂ (λ (o : ℕ) (ps : List ℕ). list_any (λ p. list_all (is_behind o p d) ms) ps) h.offset (member_positions first m h both.0)
               ∙ list_any-same _ _ (positions_among first.1 (tokens_at e.value)) (λ p. behind_each first.0 p others ms hs both.1) in
               ap (λ b. b && phrase_at (m ∷ ms) d) (all ∙ there) ∙ same ∙ positions_lead (tokens_at e.value) first others ∙ sym stands
-          | inr missing ↦ ap (λ b. b && phrase_at (m ∷ ms) d) (all ∙ missing) ∙ sym (elim (cases_Bool (option_map_or (value_has_phrase (first ∷ others)) (value_in_field e.value field) false)) [
-            | inl is ↦ absurd (false≢true (sym missing ∙ terms_stand (tokens_at e.value) first others (sym stands ∙ is)))
-            | inr not ↦ not
-          ])
+          | inr missing ↦ ap (λ b. b && phrase_at (m ∷ ms) d) (all ∙ missing)
+              ∙ sym (elim (cases_Bool (option_map_or (value_has_phrase (first ∷ others)) (value_in_field e.value field) false)) [
+                | inl is ↦ absurd (false≢true (sym missing ∙ terms_stand (tokens_at e.value) first others (sym stands ∙ is)))
+                | inr not ↦ not
+              ])
         ]
 
 Rises-member : (segment : SegmentValue) (field : ℕ) (wanted : ℕ × List ℕ) (m : Member) → IsMemberFor segment field wanted m → Rises 0 (documents_in m.list)
-Rises-member segment field wanted m h = subst (Rises 0) (sym h.documents) (Rises-numbers (λ x. has_term segment.schema x.value (text_term field wanted.1)) 0 segment.documents)
+Rises-member segment field wanted m h =
+    subst (Rises 0) (sym h.documents) (Rises-numbers (λ x. has_term segment.schema x.value (text_term field wanted.1)) 0 segment.documents)
 
-at_document : (segment : SegmentValue) (field : ℕ) (kind : kind_at segment.schema field ≡ Some kinds.Text) (first : ℕ × List ℕ) (others : List (ℕ × List ℕ)) (m : Member) (ms : List Member) → IsMemberFor segment field first m → AllZip (IsMemberFor segment field) others ms →
+at_document : (segment : SegmentValue) (field : ℕ) (kind : kind_at segment.schema field ≡ Some kinds.Text) (first : ℕ × List ℕ) (others : List (ℕ × List ℕ))
+    (m : Member) (ms : List Member) → IsMemberFor segment field first m → AllZip (IsMemberFor segment field) others ms →
     (d : ℕ) (s : Option (Stamped DocumentValue)) → slice_get segment.documents d ≡ s →
-    (in_all (map (λ n. documents_in n.list) (m ∷ ms)) d && phrase_at (m ∷ ms) d) ≡ option_map_or (λ (e : Stamped DocumentValue). option_map_or (value_has_phrase (first ∷ others)) (value_in_field e.value field) false) s false
+    (in_all (map (λ n. documents_in n.list) (m ∷ ms)) d && phrase_at (m ∷ ms) d)
+    ≡ option_map_or (λ (e : Stamped DocumentValue). option_map_or (value_has_phrase (first ∷ others)) (value_in_field e.value field) false) s false
 at_document segment field kind first others m ms h hs d None at =
     let none : has (documents_in m.list) d ≡ false =
     ap (λ ds. has ds d) h.documents ∙ has-all (λ x. has_term segment.schema x.value (text_term field first.1)) segment.documents d
@@ -200,9 +226,13 @@ at_document segment field kind first others m ms h hs d None at =
 at_document segment field kind first others m ms h hs d (Some e) at = phrase_here segment field kind d e at first others m ms h hs
 
 -- the documents of all terms in which the phrase stands are those that match, whichever member leads
-phrase_hits : (segment : SegmentValue) (field : ℕ) → kind_at segment.schema field ≡ Some kinds.Text → (first : ℕ × List ℕ) (others : List (ℕ × List ℕ)) (m : Member) (ms : List Member) → IsMemberFor segment field first m → AllZip (IsMemberFor segment field) others ms →
+phrase_hits : (segment : SegmentValue) (field : ℕ) → kind_at segment.schema field ≡ Some kinds.Text →
+    (first : ℕ × List ℕ) (others : List (ℕ × List ℕ)) (m : Member) (ms : List Member) → IsMemberFor segment field first m →
+    AllZip (IsMemberFor segment field) others ms →
     (k : ℕ) (e : Member) → k < length (m ∷ ms) → Rises 0 (documents_in (get_or (m ∷ ms) k e).list) →
-    filter (phrase_at (get_or (m ∷ ms) k e ∷ remove (m ∷ ms) k)) (common (documents_in (get_or (m ∷ ms) k e).list) (map (λ n. documents_in n.list) (remove (m ∷ ms) k))) ≡ segment_hits segment (phrase field (first ∷ others))
+    filter (phrase_at (get_or (m ∷ ms) k e ∷ remove (m ∷ ms) k))
+    (common (documents_in (get_or (m ∷ ms) k e).list) (map (λ n. documents_in n.list) (remove (m ∷ ms) k)))
+    ≡ segment_hits segment (phrase field (first ∷ others))
 phrase_hits segment field kind first others m ms h hs k e inside rises =
     let lead = get_or (m ∷ ms) k e in
     let rest = remove (m ∷ ms) k in
@@ -211,8 +241,10 @@ phrase_hits segment field kind first others m ms h hs k e inside rises =
     let here : (d : ℕ) → (in_all (documents_in lead.list ∷ lists) d && phrase_at (lead ∷ rest) d) ≡ test_at p segment.documents d = λ d.
     ap₂ (λ a b. a && b) (documents-led (m ∷ ms) k e d inside) (phrase-led (m ∷ ms) k e d inside)
     ∙ at_document segment field kind first others m ms h hs d (slice_get segment.documents d) refl in
-    numbers_are p segment.documents _ (Rises-filter 0 (phrase_at (lead ∷ rest)) (common (documents_in lead.list) lists) (Rises-filter 0 (in_all lists) (documents_in lead.list) rises))
-    (λ d. has-filter (phrase_at (lead ∷ rest)) (common (documents_in lead.list) lists) d ∙ ap (λ b. b && phrase_at (lead ∷ rest) d) (has-filter (in_all lists) (documents_in lead.list) d) ∙ here d)
+    numbers_are p segment.documents _ (Rises-filter 0 (phrase_at (lead ∷ rest)) (common (documents_in lead.list) lists)
+    (Rises-filter 0 (in_all lists) (documents_in lead.list) rises))
+    (λ d. has-filter (phrase_at (lead ∷ rest)) (common (documents_in lead.list) lists) d ∙ ap (λ b. b && phrase_at (lead ∷ rest) d)
+    (has-filter (in_all lists) (documents_in lead.list) d) ∙ here d)
 
 at_each : {X : Type 0} (p : X → Bool) (xs : List X) (k : ℕ) (x : X) → list_all p xs ≡ true → slice_get xs k ≡ Some x → p x ≡ true
 at_each p [] k x all is = absurd (let e : None ≡ Some x = is in cc)
@@ -220,35 +252,44 @@ at_each p (y ∷ ys) zero x all is = let same : y ≡ x = cc in ap p (sym same) 
 at_each p (y ∷ ys) (suc k) x all is = at_each p ys k x (and_parts (p y) (list_all p ys) all).1 is
 
 -- where one of the terms has no documents, none match
-lacking_at : (segment : SegmentValue) (field : ℕ) → kind_at segment.schema field ≡ Some kinds.Text → (first : ℕ × List ℕ) (others : List (ℕ × List ℕ)) (k : ℕ) (w : ℕ × List ℕ) → slice_get (first ∷ others) k ≡ Some w → postings segment (text_term field w.1) ≡ [] →
-    (d : ℕ) (s : Option (Stamped DocumentValue)) → slice_get segment.documents d ≡ s → false ≡ option_map_or (λ (e : Stamped DocumentValue). option_map_or (value_has_phrase (first ∷ others)) (value_in_field e.value field) false) s false
+lacking_at : (segment : SegmentValue) (field : ℕ) → kind_at segment.schema field ≡ Some kinds.Text →
+    (first : ℕ × List ℕ) (others : List (ℕ × List ℕ)) (k : ℕ) (w : ℕ × List ℕ) → slice_get (first ∷ others) k ≡ Some w →
+    postings segment (text_term field w.1) ≡ [] →
+    (d : ℕ) (s : Option (Stamped DocumentValue)) → slice_get segment.documents d ≡ s →
+    false ≡ option_map_or (λ (e : Stamped DocumentValue). option_map_or (value_has_phrase (first ∷ others)) (value_in_field e.value field) false) s false
 lacking_at segment field kind first others k w is none d None at = refl
-lacking_at segment field kind first others k w is none d (Some e) at = elim (cases_Bool (option_map_or (value_has_phrase (first ∷ others)) (value_in_field e.value field) false)) [
-  | inl matched ↦
-      let all = terms_stand (tokens_of kinds.Text (value_in_field e.value field)) first others (sym (phrase_lead (value_in_field e.value field) first others) ∙ matched) in
-      let token = at_each (λ x. token_in (tokens_of kinds.Text (value_in_field e.value field)) x.1) (first ∷ others) k w all is in
-      let there : has (postings segment (text_term field w.1)) d ≡ true =
-      has-all (λ x. has_term segment.schema x.value (text_term field w.1)) segment.documents d
-      ∙ ap (λ s. option_map_or (λ (x : Stamped DocumentValue). has_term segment.schema x.value (text_term field w.1)) s false) at
-      ∙ has_token_at segment field kind e.value w.1 ∙ token in
-      absurd (false≢true (sym (ap (λ ds. has ds d) none) ∙ there))
-  | inr not ↦ sym not
-]
+lacking_at segment field kind first others k w is none d (Some e) at =
+    elim (cases_Bool (option_map_or (value_has_phrase (first ∷ others)) (value_in_field e.value field) false)) [
+      | inl matched ↦
+          let all = terms_stand (tokens_of kinds.Text (value_in_field e.value field)) first others (sym (phrase_lead (value_in_field e.value field) first others)
+          ∙ matched) in
+          let token = at_each (λ x. token_in (tokens_of kinds.Text (value_in_field e.value field)) x.1) (first ∷ others) k w all is in
+          let there : has (postings segment (text_term field w.1)) d ≡ true =
+          has-all (λ x. has_term segment.schema x.value (text_term field w.1)) segment.documents d
+          ∙ ap (λ s. option_map_or (λ (x : Stamped DocumentValue). has_term segment.schema x.value (text_term field w.1)) s false) at
+          ∙ has_token_at segment field kind e.value w.1 ∙ token in
+          absurd (false≢true (sym (ap (λ ds. has ds d) none) ∙ there))
+      | inr not ↦ sym not
+    ]
 
-pub lacking_hits : (segment : SegmentValue) (field : ℕ) → kind_at segment.schema field ≡ Some kinds.Text → (first : ℕ × List ℕ) (others : List (ℕ × List ℕ)) → LacksTerm segment field (first ∷ others) → [] ≡ segment_hits segment (phrase field (first ∷ others))
+pub lacking_hits : (segment : SegmentValue) (field : ℕ) → kind_at segment.schema field ≡ Some kinds.Text → (first : ℕ × List ℕ) (others : List (ℕ × List ℕ)) →
+    LacksTerm segment field (first ∷ others) → [] ≡ segment_hits segment (phrase field (first ∷ others))
 lacking_hits segment field kind first others lacks =
     numbers_are (λ e. option_map_or (value_has_phrase (first ∷ others)) (value_in_field e.value field) false) segment.documents [] tt
     (λ d. lacking_at segment field kind first others lacks.0 lacks.1 lacks.2 lacks.3 d (slice_get segment.documents d) refl)
 
-pub members_few : (segment : SegmentValue) (field : ℕ) (pattern : List (ℕ × List ℕ)) (ms : List Member) → length segment.documents ≤ 2 ^ 32 → AllZip (IsMemberFor segment field) pattern ms →
+pub members_few : (segment : SegmentValue) (field : ℕ) (pattern : List (ℕ × List ℕ)) (ms : List Member) → length segment.documents ≤ 2 ^ 32 →
+    AllZip (IsMemberFor segment field) pattern ms →
     All (λ m. IsStrictlyIncreasing (documents_in m.list)) ms × All (λ m. length (documents_in m.list) ≤ 2 ^ 32) ms
 members_few segment field [] [] few h = (All-nil (λ m. IsStrictlyIncreasing (documents_in m.list)), All-nil (λ m. length (documents_in m.list) ≤ 2 ^ 32))
 members_few segment field [] (m ∷ ms) few h = absurd h
 members_few segment field (w ∷ ws) [] few h = absurd h
 members_few segment field (w ∷ ws) (m ∷ ms) few h =
     let rest = members_few segment field ws ms few h.1 in
-    let here : length (documents_in m.list) ≤ 2 ^ 32 = omega (arith, ap length h.0.documents, length-numbers_where (λ x. has_term segment.schema x.value (text_term field w.1)) 0 segment.documents, few) in (
-      All-cons (λ n. IsStrictlyIncreasing (documents_in n.list)) m ms (increasing-from_Rises 0 (documents_in m.list) (Rises-member segment field w m h.0)) rest.0,
+    let here : length (documents_in m.list) ≤ 2 ^ 32 =
+    omega (arith, ap length h.0.documents, length-numbers_where (λ x. has_term segment.schema x.value (text_term field w.1)) 0 segment.documents, few) in (
+      All-cons (λ n. IsStrictlyIncreasing (documents_in n.list)) m ms (increasing-from_Rises 0 (documents_in m.list) (Rises-member segment field w m h.0))
+          rest.0,
       All-cons (λ n. length (documents_in n.list) ≤ 2 ^ 32) m ms here rest.1,
     )
 
@@ -280,22 +321,28 @@ text_kind (Some kinds.Keyword) h = absurd (false≢true h)
 text_kind (Some kinds.U64) h = absurd (false≢true h)
 text_kind (Some kinds.I64) h = absurd (false≢true h)
 
-pub phrase_kind : (segment : SegmentValue) (field : ℕ) (pattern : List (ℕ × List ℕ)) → query_fits segment.schema (phrase field pattern) ≡ true → kind_at segment.schema field ≡ Some kinds.Text
-phrase_kind segment field pattern fits = text_kind (kind_at segment.schema field) (and_parts (option_map_or holds_phrases (kind_at segment.schema field) false) (is_nonempty pattern) fits).0
+pub phrase_kind : (segment : SegmentValue) (field : ℕ) (pattern : List (ℕ × List ℕ)) → query_fits segment.schema (phrase field pattern) ≡ true →
+    kind_at segment.schema field ≡ Some kinds.Text
+phrase_kind segment field pattern fits =
+    text_kind (kind_at segment.schema field) (and_parts (option_map_or holds_phrases (kind_at segment.schema field) false) (is_nonempty pattern) fits).0
 
-pub lacking : (segment : SegmentValue) (field : ℕ) (pattern : List (ℕ × List ℕ)) → query_fits segment.schema (phrase field pattern) ≡ true → LacksTerm segment field pattern → [] ≡ segment_hits segment (phrase field pattern)
+pub lacking : (segment : SegmentValue) (field : ℕ) (pattern : List (ℕ × List ℕ)) → query_fits segment.schema (phrase field pattern) ≡ true →
+    LacksTerm segment field pattern → [] ≡ segment_hits segment (phrase field pattern)
 lacking segment field [] fits lacks = absurd (let e : None ≡ Some lacks.1 = lacks.2 in cc)
 lacking segment field (w ∷ ws) fits lacks = lacking_hits segment field (phrase_kind segment field (w ∷ ws) fits) w ws lacks
 
 -- what the cursors of a phrase are, as they were made
-pub record Made (segment : SegmentValue) (field : ℕ) (pattern : List (ℕ × List ℕ)) (lead : Posting) (rest : List Posting) (first : Member) (others : List Member) : Type 0 where
+pub record Made (segment : SegmentValue) (field : ℕ) (pattern : List (ℕ × List ℕ)) (lead : Posting) (rest : List Posting) (first : Member)
+    (others : List Member) : Type 0 where
   pub fresh : All (λ p. p.opened ≤ 1) rest
   pub tied : AreTied (record { lead = lead; others = rest })
   pub members : AreMembersOf (record { lead = lead; others = rest }) (first ∷ others)
   pub hits : filter (phrase_at (first ∷ others)) (common (remaining_of lead) (each_remaining rest)) ≡ segment_hits segment (phrase field pattern)
 
-made_from : (segment : SegmentValue) (field : ℕ) (w : ℕ × List ℕ) (ws : List (ℕ × List ℕ)) (ps : List Posting) (ms : List Member) (k : ℕ) (p : Posting) (m : Member) → kind_at segment.schema field ≡ Some kinds.Text → length segment.documents ≤ 2 ^ 32 →
-    AllZip (IsMemberFor segment field) (w ∷ ws) ms → AllZip IsCursorOf ps ms → k < length ms → Made segment field (w ∷ ws) (get_or ps k p) (remove ps k) (get_or ms k m) (remove ms k)
+made_from : (segment : SegmentValue) (field : ℕ) (w : ℕ × List ℕ) (ws : List (ℕ × List ℕ)) (ps : List Posting) (ms : List Member) (k : ℕ) (p : Posting)
+    (m : Member) → kind_at segment.schema field ≡ Some kinds.Text → length segment.documents ≤ 2 ^ 32 →
+    AllZip (IsMemberFor segment field) (w ∷ ws) ms → AllZip IsCursorOf ps ms → k < length ms →
+    Made segment field (w ∷ ws) (get_or ps k p) (remove ps k) (get_or ms k m) (remove ms k)
 made_from segment field w ws ps [] k p m kind few zip h inside = absurd zip
 made_from segment field w ws ps (n ∷ ns) k p m kind few zip h inside =
     let lead = AllZip-at IsCursorOf ps (n ∷ ns) k p m inside h in
@@ -309,16 +356,22 @@ made_from segment field w ws ps (n ∷ ns) k p m kind few zip h inside =
       tied = (lead.tied, rest.tied);
       members = record {
         paired = (lead.blocks, rest.paired);
-        rise = All-cons (λ x. IsStrictlyIncreasing (documents_in x.list)) first others rise (All-removed (λ x. IsStrictlyIncreasing (documents_in x.list)) (n ∷ ns) k each.0);
-        few = All-cons (λ x. length (documents_in x.list) ≤ 2 ^ 32) first others (each.1 k m inside) (All-removed (λ x. length (documents_in x.list) ≤ 2 ^ 32) (n ∷ ns) k each.1);
+        rise = All-cons (λ x. IsStrictlyIncreasing (documents_in x.list)) first others rise (All-removed (λ x. IsStrictlyIncreasing (documents_in x.list))
+            (n ∷ ns) k each.0);
+        few = All-cons (λ x. length (documents_in x.list) ≤ 2 ^ 32) first others (each.1 k m inside) (All-removed (λ x. length (documents_in x.list) ≤ 2 ^ 32)
+            (n ∷ ns) k each.1);
       };
       hits = ap₂ (λ a b. filter (phrase_at (first ∷ others)) (common a b)) lead.remaining rest.remaining
           ∙ phrase_hits segment field kind w ws n ns zip.0 zip.1 k m inside (Rises-from_increasing (documents_in first.list) rise);
     }
 
-pub made : (segment : SegmentValue) (field : ℕ) (pattern : List (ℕ × List ℕ)) (ps : List Posting) (ms : List Member) (k : ℕ) (lead : Posting) (rest : List Posting) (first : Member) (others : List Member) → query_fits segment.schema (phrase field pattern) ≡ true → length segment.documents ≤ 2 ^ 32 →
-    AllZip (IsMemberFor segment field) pattern ms → AllZip IsCursorOf ps ms → k < length ms → lead ≡ get_or ps k lead → rest ≡ remove ps k → first ≡ get_or ms k first → others ≡ remove ms k → Made segment field pattern lead rest first others
-made segment field [] ps ms k lead rest first others fits few zip h inside l r f o = absurd (false≢true (and_parts (option_map_or holds_phrases (kind_at segment.schema field) false) false fits).1)
+pub made : (segment : SegmentValue) (field : ℕ) (pattern : List (ℕ × List ℕ)) (ps : List Posting) (ms : List Member) (k : ℕ) (lead : Posting)
+    (rest : List Posting) (first : Member) (others : List Member) → query_fits segment.schema (phrase field pattern) ≡ true →
+    length segment.documents ≤ 2 ^ 32 →
+    AllZip (IsMemberFor segment field) pattern ms → AllZip IsCursorOf ps ms → k < length ms → lead ≡ get_or ps k lead → rest ≡ remove ps k →
+    first ≡ get_or ms k first → others ≡ remove ms k → Made segment field pattern lead rest first others
+made segment field [] ps ms k lead rest first others fits few zip h inside l r f o =
+    absurd (false≢true (and_parts (option_map_or holds_phrases (kind_at segment.schema field) false) false fits).1)
 made segment field (w ∷ ws) ps ms k lead rest first others fits few zip h inside l r f o =
     subst (λ x. Made segment field (w ∷ ws) x rest first others) (sym l)
     (subst (λ x. Made segment field (w ∷ ws) (get_or ps k lead) x first others) (sym r)
@@ -326,12 +379,14 @@ made segment field (w ∷ ws) ps ms k lead rest first others fits few zip h insi
     (subst (λ x. Made segment field (w ∷ ws) (get_or ps k lead) (remove ps k) (get_or ms k first) x) (sym o)
     (made_from segment field w ws ps ms k lead first (phrase_kind segment field (w ∷ ws) fits) few zip h inside))))
 
-pub fresh_rest : (ps : List Posting) (ms : List Member) (k : ℕ) (rest : List Posting) → AllZip IsCursorOf ps ms → rest ≡ remove ps k → All (λ p. p.opened ≤ 1) rest
+pub fresh_rest : (ps : List Posting) (ms : List Member) (k : ℕ) (rest : List Posting) → AllZip IsCursorOf ps ms → rest ≡ remove ps k →
+    All (λ p. p.opened ≤ 1) rest
 fresh_rest ps ms k rest h is =
     subst (All (λ (p : Posting). p.opened ≤ 1)) (sym is) (are_cursors (remove ps k) (remove ms k) (AllZip-removed IsCursorOf ps ms k h)).opened
 
 -- a phrase that fits has a member
-pub some_members : (segment : SegmentValue) (field : ℕ) (pattern : List (ℕ × List ℕ)) (ms : List Member) → query_fits segment.schema (phrase field pattern) ≡ true → AllZip (IsMemberFor segment field) pattern ms → 0 < length ms
+pub some_members : (segment : SegmentValue) (field : ℕ) (pattern : List (ℕ × List ℕ)) (ms : List Member) → query_fits segment.schema (phrase field pattern)
+    ≡ true → AllZip (IsMemberFor segment field) pattern ms → 0 < length ms
 some_members segment field [] ms fits zip = absurd (false≢true (and_parts (option_map_or holds_phrases (kind_at segment.schema field) false) false fits).1)
 some_members segment field (w ∷ ws) [] fits zip = absurd zip
 some_members segment field (w ∷ ws) (m ∷ ms) fits zip = omega arith

@@ -1,5 +1,6 @@
 -- Any member of a phrase may lead: where it is doesn't depend on which one does.
-use Rattle.std.proofs.Common.{◌≡◌, ℕ, zero, suc, ◌+◌, ◌<◌, ◌==◌, Bool, true, false, ◌&&◌, ◌||◌, List, [], ◌∷◌, map, length, get_or, refl, sym, ap, ap₂, ◌∙◌, inl, inr, arith}
+use Rattle.std.proofs.Common.{◌≡◌, ℕ, zero, suc, ◌+◌, ◌<◌, ◌==◌, Bool, true, false, ◌&&◌, ◌||◌, List, [], ◌∷◌, map, length, get_or, refl, sym, ap, ap₂, ◌∙◌}
+use Rattle.std.proofs.Common.{inl, inr, arith}
 use Rattle.std.specs.List.{All, AllZip, list_all, list_any, remove}
 use Rattle.std.proofs.lemmas.Bool.{and_parts, cases_Bool, eq-eqb, eqb-true, false≢true, or_right}
 use Rattle.std.proofs.lemmas.List.Elements.{All-cons, All-head, All-tail}
@@ -59,11 +60,14 @@ all-led f (x ∷ xs) (suc k) e inside =
     and_swap (f (get_or xs k e)) (f x) (list_all f (remove xs k)) ∙ ap (λ b. f x && b) (all-led f xs k e (omega (arith, inside)))
 
 -- members of which each is one of the others stand where these do
-stand_as_well : (d : ℕ) (m n : Member) (ms ns : List Member) → ((f : Member → Bool) → list_all f (m ∷ ms) ≡ true → list_all f (n ∷ ns) ≡ true) → phrase_at (m ∷ ms) d ≡ true → phrase_at (n ∷ ns) d ≡ true
+stand_as_well : (d : ℕ) (m n : Member) (ms ns : List Member) → ((f : Member → Bool) → list_all f (m ∷ ms) ≡ true → list_all f (n ∷ ns) ≡ true) →
+    phrase_at (m ∷ ms) d ≡ true → phrase_at (n ∷ ns) d ≡ true
 stand_as_well d m n ms ns each h =
     let at = one_passes (λ p. list_all (is_behind m.offset p d) ms) (positions_at m d) h in
     let behind : Member → Bool = is_behind m.offset at.number d in
-    let itself : behind m ≡ true = passes_at (λ q. q + m.offset == at.number + m.offset) (positions_at m d) at.number at.there (eq-eqb (at.number + m.offset) (at.number + m.offset) refl) in
+    let itself : behind m ≡ true =
+    passes_at (λ q. q + m.offset == at.number + m.offset) (positions_at m d) at.number at.there (eq-eqb (at.number + m.offset) (at.number + m.offset)
+    refl) in
     let all = each behind (ap₂ (λ a b. a && b) itself at.passes) in
     let both = and_parts (behind n) (list_all behind ns) all in
     let lead = one_passes (λ q. q + m.offset == at.number + n.offset) (positions_at n d) both.0 in
@@ -71,7 +75,8 @@ stand_as_well d m n ms ns each h =
     passes_at (λ p. list_all (is_behind n.offset p d) ns) (positions_at n d) lead.number lead.there
     (all_each behind (is_behind n.offset lead.number d) ns (λ x there.
     any_some (λ q. q + m.offset == at.number + x.offset) (λ q. q + n.offset == lead.number + x.offset) (positions_at x d) (λ q is.
-    eq-eqb (q + n.offset) (lead.number + x.offset) (let q_is = eqb-true (q + m.offset) (at.number + x.offset) is in omega (arith, q_is, lead_is))) there) both.1)
+    eq-eqb (q + n.offset) (lead.number + x.offset) (let q_is = eqb-true (q + m.offset) (at.number + x.offset) is in omega (arith, q_is, lead_is))) there)
+    both.1)
 
 -- which member leads doesn't matter
 pub phrase-led : (ms : List Member) (k : ℕ) (e : Member) (d : ℕ) → k < length ms → phrase_at (get_or ms k e ∷ remove ms k) d ≡ phrase_at ms d
@@ -82,7 +87,8 @@ phrase-led (m ∷ ms) k e d inside =
     (stand_as_well d m (get_or (m ∷ ms) k e) ms (remove (m ∷ ms) k) (λ f h. all-led f (m ∷ ms) k e inside ∙ h))
 
 -- nor does it for the documents that all have
-pub documents-led : (ms : List Member) (k : ℕ) (e : Member) (d : ℕ) → k < length ms → in_all (map (λ m. documents_in m.list) (get_or ms k e ∷ remove ms k)) d ≡ in_all (map (λ m. documents_in m.list) ms) d
+pub documents-led : (ms : List Member) (k : ℕ) (e : Member) (d : ℕ) → k < length ms → in_all (map (λ m. documents_in m.list) (get_or ms k e ∷ remove ms k)) d
+    ≡ in_all (map (λ m. documents_in m.list) ms) d
 documents-led [] k e d inside = absurd (omega (arith, inside))
 documents-led (m ∷ ms) zero e d inside = refl
 documents-led (m ∷ ms) (suc k) e d inside =
@@ -105,7 +111,8 @@ AllZip-removed R (x ∷ xs) [] k h = absurd h
 AllZip-removed R (x ∷ xs) (y ∷ ys) zero h = h.1
 AllZip-removed R (x ∷ xs) (y ∷ ys) (suc k) h = (h.0, AllZip-removed R xs ys k h.1)
 
-pub AllZip-at : {X Y : Type 0} (R : X → Y → Type 0) (xs : List X) (ys : List Y) (k : ℕ) (x : X) (y : Y) → k < length ys → AllZip R xs ys → R (get_or xs k x) (get_or ys k y)
+pub AllZip-at : {X Y : Type 0} (R : X → Y → Type 0) (xs : List X) (ys : List Y) (k : ℕ) (x : X) (y : Y) → k < length ys → AllZip R xs ys →
+    R (get_or xs k x) (get_or ys k y)
 AllZip-at R xs [] k x y inside h = absurd (omega (arith, inside))
 AllZip-at R [] (b ∷ ys) k x y inside h = absurd h
 AllZip-at R (a ∷ xs) (b ∷ ys) zero x y inside h = h.0

@@ -1,5 +1,6 @@
 -- Where a phrase stands.
-use Rattle.std.proofs.Common.{◌≡◌, ℕ, zero, suc, ◌+◌, ◌^◌, ◌<◌, ◌≤◌, nat_lt, cond, Bool, ◌&&◌, Some, None, List, [], ◌∷◌, All, length, get_or, set, drop, refl, sym, subst, ap, ap₂, ◌∙◌, arith}
+use Rattle.std.proofs.Common.{◌≡◌, ℕ, zero, suc, ◌+◌, ◌^◌, ◌<◌, ◌≤◌, nat_lt, cond, Bool, ◌&&◌, Some, None, List, [], ◌∷◌, All, length, get_or, set, drop, refl}
+use Rattle.std.proofs.Common.{sym, subst, ap, ap₂, ◌∙◌, arith}
 use Rattle.std.specs.List.{AllZip, filter, list_all, slice_get}
 use Rattle.std.specs.List.Sorted.{IsStrictlyIncreasing}
 use Rattle.std.proofs.lemmas.Bool.{le-ltb, lt-ltb}
@@ -40,7 +41,8 @@ rank-drop (x ∷ xs) next (suc k) doc h is =
     let at : get_or xs k 0 ≡ doc = ap (λ n. get_or xs n 0) (sym start) ∙ sym (get_or-drop k xs 0 0) ∙ there in
     let inside : k < length xs = omega (arith, slice_get_within (drop k xs) 0 doc is, length-drop k xs) in
     let above : x < doc = omega (arith, Rises-get_or (suc x) xs k h.1 inside, at) in
-    ap (λ b. length (cond b (x ∷ filter (λ d. nat_lt d doc) xs) (filter (λ d. nat_lt d doc) xs))) (lt-ltb x doc above) ∙ ap suc (rank-drop xs (suc x) k doc h.1 is)
+    ap (λ b. length (cond b (x ∷ filter (λ d. nat_lt d doc) xs) (filter (λ d. nat_lt d doc) xs))) (lt-ltb x doc above)
+    ∙ ap suc (rank-drop xs (suc x) k doc h.1 is)
 
 pub rank_is : (documents : List ℕ) (k doc : ℕ) → IsStrictlyIncreasing documents → slice_get (drop k documents) 0 ≡ Some doc → rank documents doc ≡ k
 rank_is documents k doc rise is = rank-drop documents 0 k doc (Rises-from_increasing documents rise) is
@@ -70,9 +72,12 @@ pub record PhraseMoved (old between new : Conjoined) (members after : List Membe
   pub continues : (before now : List ℕ) → Continues (of_terms old before) (of_terms new now)
 
 -- its members are lent, and come back as they were
-pub phrase-moved : (old between new : Conjoined) (first lent back : Member) (others lent_others back_others : List Member) → lent ≡ first → lent_others ≡ others → back ≡ lent → back_others ≡ lent_others →
-    AllFollow old between → AllFollow between new → AreMembersOf old (first ∷ others) → AreTied old → FirstPasses (phrase_at (lent ∷ lent_others)) (common_of new) →
-    filter (phrase_at (lent ∷ lent_others)) (common_of new) ≡ filter (phrase_at (lent ∷ lent_others)) (common_of between) → PhraseMoved old between new (first ∷ others) (back ∷ back_others)
+pub phrase-moved : (old between new : Conjoined) (first lent back : Member) (others lent_others back_others : List Member) → lent ≡ first →
+    lent_others ≡ others → back ≡ lent → back_others ≡ lent_others →
+    AllFollow old between → AllFollow between new → AreMembersOf old (first ∷ others) → AreTied old →
+    FirstPasses (phrase_at (lent ∷ lent_others)) (common_of new) →
+    filter (phrase_at (lent ∷ lent_others)) (common_of new) ≡ filter (phrase_at (lent ∷ lent_others)) (common_of between) →
+    PhraseMoved old between new (first ∷ others) (back ∷ back_others)
 phrase-moved old between new first lent back others lent_others back_others lent_is lent_are back_is back_are follows on are tied passes is =
     let P : List Member → Type 0 = IsPhrase new in
     let here = ap₂ (λ (m : Member) (ms : List Member). m ∷ ms) lent_is lent_are in
@@ -85,7 +90,8 @@ phrase-moved old between new first lent back others lent_others back_others lent
         settled = subst (λ (ms : List Member). FirstPasses (phrase_at ms) (common_of new)) here passes;
         tied = moved.1;
       });
-      same = ap (λ (ms : List Member). filter (phrase_at ms) (common_of new)) after ∙ is ∙ ap (λ (ms : List Member). filter (phrase_at ms) (common_of between)) here;
+      same = ap (λ (ms : List Member). filter (phrase_at ms) (common_of new)) after ∙ is ∙ ap (λ (ms : List Member). filter (phrase_at ms) (common_of between))
+          here;
       continues = moved.0;
     }
 
@@ -97,7 +103,8 @@ put_back ms k d back same = ap (set ms k) same ∙ set-get_or ms k d
 few_blocks : (p : Posting) (m : Member) → IsPaired p m → length (documents_in m.list) ≤ 2 ^ 32 → length p.blocks ≤ 2 ^ 32
 few_blocks p m is few = omega (arith, ap length is, length-blocks_of (documents_in m.list), few)
 
-pub blocks_few : (ps : List Posting) (ms : List Member) → AllZip IsPaired ps ms → All (λ m. length (documents_in m.list) ≤ 2 ^ 32) ms → All (λ p. length p.blocks ≤ 2 ^ 32) ps
+pub blocks_few : (ps : List Posting) (ms : List Member) → AllZip IsPaired ps ms → All (λ m. length (documents_in m.list) ≤ 2 ^ 32) ms →
+    All (λ p. length p.blocks ≤ 2 ^ 32) ps
 blocks_few [] [] paired few = All-nil (λ p. length p.blocks ≤ 2 ^ 32)
 blocks_few [] (m ∷ ms) paired few = absurd paired
 blocks_few (p ∷ ps) [] paired few = absurd paired
@@ -111,7 +118,8 @@ paired_length [] (m ∷ ms) h = absurd h
 paired_length (p ∷ ps) [] h = absurd h
 paired_length (p ∷ ps) (m ∷ ms) h = ap suc (paired_length ps ms h.1)
 
-paired_at : (ps : List Posting) (ms : List Member) (k : ℕ) (p : Posting) (m : Member) → AllZip IsPaired ps ms → k < length ps → IsPaired (get_or ps k p) (get_or ms k m)
+paired_at : (ps : List Posting) (ms : List Member) (k : ℕ) (p : Posting) (m : Member) → AllZip IsPaired ps ms → k < length ps →
+    IsPaired (get_or ps k p) (get_or ms k m)
 paired_at [] ms k p m h inside = absurd (omega (arith, inside))
 paired_at (q ∷ qs) [] k p m h inside = absurd h
 paired_at (q ∷ qs) (n ∷ ns) zero p m h inside = h.0
@@ -129,29 +137,35 @@ lead_few c first ms h = few_blocks c.lead first h.paired.0 (All-head (λ n. leng
 
 -- the positions of the first member where all stand
 pub first_positions : (c : Conjoined) (first : Member) (ms : List Member) (n doc : ℕ) → AreMembersOf c (first ∷ ms) →
-    ((documents : List ℕ) → c.lead.blocks ≡ blocks_of documents → slice_get (drop n documents) 0 ≡ slice_get (common_of c) 0) → slice_get (common_of c) 0 ≡ Some doc →
+    ((documents : List ℕ) → c.lead.blocks ≡ blocks_of documents → slice_get (drop n documents) 0 ≡ slice_get (common_of c) 0) →
+    slice_get (common_of c) 0 ≡ Some doc →
     get_or (first.positions) n [] ≡ positions_at first doc
 first_positions c first ms n doc h at here =
     let rise = All-head (λ m. IsStrictlyIncreasing (documents_in m.list)) first ms h.rise in
     ap (λ r. get_or (first.positions) r []) (sym (rank_is (documents_in first.list) n doc rise (at (documents_in first.list) h.paired.0 ∙ here)))
 
 -- those of another one
-pub other_positions : (c : Conjoined) (first : Member) (ms : List Member) (k n doc : ℕ) (m : Member) → AreMembersOf c (first ∷ ms) → m ≡ get_or ms k m → k < length ms →
-    ((documents : List ℕ) (p : Posting) → (get_or c.others k p).blocks ≡ blocks_of documents → slice_get (drop n documents) 0 ≡ slice_get (common_of c) 0) → slice_get (common_of c) 0 ≡ Some doc →
+pub other_positions : (c : Conjoined) (first : Member) (ms : List Member) (k n doc : ℕ) (m : Member) → AreMembersOf c (first ∷ ms) → m ≡ get_or ms k m →
+    k < length ms →
+    ((documents : List ℕ) (p : Posting) → (get_or c.others k p).blocks ≡ blocks_of documents → slice_get (drop n documents) 0 ≡ slice_get (common_of c) 0) →
+    slice_get (common_of c) 0 ≡ Some doc →
     get_or (m.positions) n [] ≡ positions_at m doc
 other_positions c first ms k n doc m h is inside at here =
     let within : k < length c.others = omega (arith, as_many c first ms h, inside) in
     let paired : IsPaired (get_or c.others k c.lead) (get_or ms k m) = paired_at c.others ms k c.lead m h.paired.1 within in
     let blocks : (get_or c.others k c.lead).blocks ≡ blocks_of (documents_in m.list) = paired ∙ ap (λ (x : Member). blocks_of (documents_in x.list)) (sym is) in
-    let rises : IsStrictlyIncreasing (documents_in (get_or ms k m).list) = All-tail (λ x. IsStrictlyIncreasing (documents_in x.list)) first ms h.rise k m inside in
+    let rises : IsStrictlyIncreasing (documents_in (get_or ms k m).list) =
+    All-tail (λ x. IsStrictlyIncreasing (documents_in x.list)) first ms h.rise k m inside in
     let rise : IsStrictlyIncreasing (documents_in m.list) = subst (λ (x : Member). IsStrictlyIncreasing (documents_in x.list)) (sym is) rises in
     ap (λ r. get_or (m.positions) r []) (sym (rank_is (documents_in m.list) n doc rise (at (documents_in m.list) c.lead blocks ∙ here)))
 
-all_dropped : {X : Type 0} (f : X → Bool) (xs : List X) (k : ℕ) (x : X) → k < length xs → x ≡ get_or xs k x → list_all f (drop k xs) ≡ (f x && list_all f (drop (suc k) xs))
+all_dropped : {X : Type 0} (f : X → Bool) (xs : List X) (k : ℕ) (x : X) → k < length xs → x ≡ get_or xs k x →
+    list_all f (drop k xs) ≡ (f x && list_all f (drop (suc k) xs))
 all_dropped f [] k x inside is = absurd (omega (arith, inside))
 all_dropped f (y ∷ ys) zero x inside is = ap (λ z. f z && list_all f ys) (sym is)
 all_dropped f (y ∷ ys) (suc k) x inside is = all_dropped f ys k x (omega (arith, inside)) is
 
 -- a test of all members from one on
-pub all_drop : {X : Type 0} (f : X → Bool) (xs : List X) (k : ℕ) (x : X) → k < length xs → x ≡ get_or xs k x → list_all f (drop k xs) ≡ (f x && list_all f (drop (k + 1) xs))
+pub all_drop : {X : Type 0} (f : X → Bool) (xs : List X) (k : ℕ) (x : X) → k < length xs → x ≡ get_or xs k x →
+    list_all f (drop k xs) ≡ (f x && list_all f (drop (k + 1) xs))
 all_drop f xs k x inside is = let on : suc k ≡ k + 1 = omega arith in all_dropped f xs k x inside is ∙ ap (λ n. f x && list_all f (drop n xs)) on

@@ -1,5 +1,6 @@
 -- A range over a column is one over the documents.
-use Rattle.std.proofs.Common.{◌≡◌, ℕ, ◌+◌, ◌-◌, ◌^◌, ◌<◌, ◌≤◌, ℤ, pos, negsuc, Bool, true, false, not, ◌&&◌, ◌||◌, nat_le, nat_lt, int_lt, is_some, Option, Some, None, IfSome, unwrap_or, option_map, List, [], length, get_or, map, refl, sym, ap, ap₂, subst, ◌∙◌, inl, inr, arith}
+use Rattle.std.proofs.Common.{◌≡◌, ℕ, ◌+◌, ◌-◌, ◌^◌, ◌<◌, ◌≤◌, ℤ, pos, negsuc, Bool, true, false, not, ◌&&◌, ◌||◌, nat_le, nat_lt, int_lt, is_some, Option}
+use Rattle.std.proofs.Common.{Some, None, IfSome, unwrap_or, option_map, List, [], length, get_or, map, refl, sym, ap, ap₂, subst, ◌∙◌, inl, inr, arith}
 use Rattle.std.specs.List.{slice_get}
 use Rattle.std.specs.Option.{option_map_or, option_and_then}
 use Rattle.std.specs.declared.ops.Bound.{Bound}
@@ -67,19 +68,22 @@ placed_u64 (values.Text t) n ok = absurd (false≢true ok)
 placed_u64 (values.Texts ts) n ok = absurd (false≢true ok)
 
 placed_i64 : (b : FieldValue) (z : ℤ) → is_term_of kinds.I64 b ≡ true → IsWhole b → fits_i64 z ≡ true → IsPlaced b (values.Number (numbers.I64 z)) (u64_of z)
-placed_i64 (values.Number (numbers.I64 b)) z ok whole fits = record { le = int_order_le b z whole fits; lt = int_order b z whole fits; ge = int_order_le z b fits whole; gt = int_order z b fits whole }
+placed_i64 (values.Number (numbers.I64 b)) z ok whole fits =
+    record { le = int_order_le b z whole fits; lt = int_order b z whole fits; ge = int_order_le z b fits whole; gt = int_order z b fits whole }
 placed_i64 (values.Number (numbers.U64 b)) z ok whole fits = absurd (false≢true ok)
 placed_i64 (values.Text t) z ok whole fits = absurd (false≢true ok)
 placed_i64 (values.Texts ts) z ok whole fits = absurd (false≢true ok)
 
 -- bounds of a kind admit a number of that kind by its place
-by_u64 : (bound : Bound FieldValue) (n : ℕ) → is_bound_of kinds.U64 bound ≡ true → (admits_from bound (values.Number (numbers.U64 n)) ≡ key_from bound n) × (admits_to bound (values.Number (numbers.U64 n)) ≡ key_to bound n)
+by_u64 : (bound : Bound FieldValue) (n : ℕ) → is_bound_of kinds.U64 bound ≡ true → (admits_from bound (values.Number (numbers.U64 n)) ≡ key_from bound n)
+    × (admits_to bound (values.Number (numbers.U64 n)) ≡ key_to bound n)
 by_u64 (Included b) n ok = let h = placed_u64 b n ok in (h.le, h.ge)
 by_u64 (Excluded b) n ok = let h = placed_u64 b n ok in (h.lt, h.gt)
 by_u64 Unbounded n ok = (refl, refl)
 
 by_i64 : (bound : Bound FieldValue) (z : ℤ) → is_bound_of kinds.I64 bound ≡ true → IsWholeBound bound → fits_i64 z ≡ true →
-    (admits_from bound (values.Number (numbers.I64 z)) ≡ key_from bound (u64_of z)) × (admits_to bound (values.Number (numbers.I64 z)) ≡ key_to bound (u64_of z))
+    (admits_from bound (values.Number (numbers.I64 z)) ≡ key_from bound (u64_of z))
+    × (admits_to bound (values.Number (numbers.I64 z)) ≡ key_to bound (u64_of z))
 by_i64 (Included b) z ok whole fits = let h = placed_i64 b z ok whole fits in (h.le, h.ge)
 by_i64 (Excluded b) z ok whole fits = let h = placed_i64 b z ok whole fits in (h.lt, h.gt)
 by_i64 Unbounded z ok whole fits = (refl, refl)
@@ -117,13 +121,15 @@ apart kinds.Text b v ok holds none = absurd (false≢true holds)
 apart kinds.Keyword b v ok holds none = absurd (false≢true holds)
 
 -- a bound of a kind admits nothing of another
-none_of : (kind : Kind) (bound : Bound FieldValue) (v : FieldValue) → is_bound_of kind bound ≡ true → holds_numbers kind ≡ true → number_in kind v ≡ None → is_bounded bound ≡ true → (admits_from bound v ≡ false) × (admits_to bound v ≡ false)
+none_of : (kind : Kind) (bound : Bound FieldValue) (v : FieldValue) → is_bound_of kind bound ≡ true → holds_numbers kind ≡ true → number_in kind v ≡ None →
+    is_bounded bound ≡ true → (admits_from bound v ≡ false) × (admits_to bound v ≡ false)
 none_of kind (Included b) v ok holds none some = let h = apart kind b v ok holds none in (h.le, h.ge)
 none_of kind (Excluded b) v ok holds none some = let h = apart kind b v ok holds none in (h.lt, h.gt)
 none_of kind Unbounded v ok holds none some = absurd (false≢true some)
 
 -- bounds, of which one is one, admit nothing of another kind
-other : (kind : Kind) (lower upper : Bound FieldValue) (v : FieldValue) → is_bound_of kind lower ≡ true → is_bound_of kind upper ≡ true → holds_numbers kind ≡ true → number_in kind v ≡ None → (is_bounded lower || is_bounded upper) ≡ true → admits lower upper v ≡ false
+other : (kind : Kind) (lower upper : Bound FieldValue) (v : FieldValue) → is_bound_of kind lower ≡ true → is_bound_of kind upper ≡ true →
+    holds_numbers kind ≡ true → number_in kind v ≡ None → (is_bounded lower || is_bounded upper) ≡ true → admits lower upper v ≡ false
 other kind lower upper v low high holds none some = elim (cases_Bool (is_bounded lower)) [
   | inl bounded ↦ ap (λ b. b && admits_to upper v) (none_of kind lower v low holds none bounded).0
   | inr open_below ↦
@@ -132,16 +138,23 @@ other kind lower upper v low high holds none some = elim (cases_Bool (is_bounded
 ]
 
 -- what bounds say of a value is what they say of its number
-pub admits_by_key : (kind : Kind) (lower upper : Bound FieldValue) (v : FieldValue) → is_bound_of kind lower ≡ true → is_bound_of kind upper ≡ true → holds_numbers kind ≡ true → IsWholeBound lower → IsWholeBound upper → Fits64 kind v → (is_bounded lower || is_bounded upper) ≡ true →
+pub admits_by_key : (kind : Kind) (lower upper : Bound FieldValue) (v : FieldValue) → is_bound_of kind lower ≡ true → is_bound_of kind upper ≡ true →
+    holds_numbers kind ≡ true → IsWholeBound lower → IsWholeBound upper → Fits64 kind v → (is_bounded lower || is_bounded upper) ≡ true →
     admits lower upper v ≡ option_map_or (key_admits lower upper) (number_in kind v) false
-admits_by_key kinds.U64 lower upper (values.Number (numbers.U64 n)) low high holds whole below fits some = ap₂ (λ a b. a && b) (by_u64 lower n low).0 (by_u64 upper n high).1
-admits_by_key kinds.U64 lower upper (values.Number (numbers.I64 z)) low high holds whole below fits some = other kinds.U64 lower upper (values.Number (numbers.I64 z)) low high holds refl some
+admits_by_key kinds.U64 lower upper (values.Number (numbers.U64 n)) low high holds whole below fits some =
+    ap₂ (λ a b. a && b) (by_u64 lower n low).0 (by_u64 upper n high).1
+admits_by_key kinds.U64 lower upper (values.Number (numbers.I64 z)) low high holds whole below fits some =
+    other kinds.U64 lower upper (values.Number (numbers.I64 z)) low high holds refl some
 admits_by_key kinds.U64 lower upper (values.Text t) low high holds whole below fits some = other kinds.U64 lower upper (values.Text t) low high holds refl some
-admits_by_key kinds.U64 lower upper (values.Texts ts) low high holds whole below fits some = other kinds.U64 lower upper (values.Texts ts) low high holds refl some
-admits_by_key kinds.I64 lower upper (values.Number (numbers.I64 z)) low high holds whole below fits some = ap₂ (λ a b. a && b) (by_i64 lower z low whole fits).0 (by_i64 upper z high below fits).1
-admits_by_key kinds.I64 lower upper (values.Number (numbers.U64 n)) low high holds whole below fits some = other kinds.I64 lower upper (values.Number (numbers.U64 n)) low high holds refl some
+admits_by_key kinds.U64 lower upper (values.Texts ts) low high holds whole below fits some =
+    other kinds.U64 lower upper (values.Texts ts) low high holds refl some
+admits_by_key kinds.I64 lower upper (values.Number (numbers.I64 z)) low high holds whole below fits some =
+    ap₂ (λ a b. a && b) (by_i64 lower z low whole fits).0 (by_i64 upper z high below fits).1
+admits_by_key kinds.I64 lower upper (values.Number (numbers.U64 n)) low high holds whole below fits some =
+    other kinds.I64 lower upper (values.Number (numbers.U64 n)) low high holds refl some
 admits_by_key kinds.I64 lower upper (values.Text t) low high holds whole below fits some = other kinds.I64 lower upper (values.Text t) low high holds refl some
-admits_by_key kinds.I64 lower upper (values.Texts ts) low high holds whole below fits some = other kinds.I64 lower upper (values.Texts ts) low high holds refl some
+admits_by_key kinds.I64 lower upper (values.Texts ts) low high holds whole below fits some =
+    other kinds.I64 lower upper (values.Texts ts) low high holds refl some
 admits_by_key kinds.Text lower upper v low high holds whole below fits some = absurd (false≢true holds)
 admits_by_key kinds.Keyword lower upper v low high holds whole below fits some = absurd (false≢true holds)
 
@@ -152,8 +165,11 @@ Hit lower upper field e = option_map_or (admits lower upper) (value_in_field e.v
 abbrev number_at : List Field → ℕ → Stamped DocumentValue → Option ℕ
 number_at schema field e = option_and_then (λ kind. number_of kind (value_in_field e.value field)) (kind_at schema field)
 
-module _ (schema : List Field) (field : ℕ) (kind : Kind) (lower upper : Bound FieldValue) (is : kind_at schema field ≡ Some kind) (low : is_bound_of kind lower ≡ true) (high : is_bound_of kind upper ≡ true) (holds : holds_numbers kind ≡ true) (whole : IsWholeBound lower) (below : IsWholeBound upper) (some : (is_bounded lower || is_bounded upper) ≡ true) where
-  by_value : (o : Option FieldValue) → IfSome o (Fits64 kind) → option_map_or (admits lower upper) o false ≡ option_map_or (key_admits lower upper) (number_of kind o) false
+module _ (schema : List Field) (field : ℕ) (kind : Kind) (lower upper : Bound FieldValue) (is : kind_at schema field ≡ Some kind)
+    (low : is_bound_of kind lower ≡ true) (high : is_bound_of kind upper ≡ true) (holds : holds_numbers kind ≡ true) (whole : IsWholeBound lower)
+    (below : IsWholeBound upper) (some : (is_bounded lower || is_bounded upper) ≡ true) where
+  by_value : (o : Option FieldValue) → IfSome o (Fits64 kind) →
+      option_map_or (admits lower upper) o false ≡ option_map_or (key_admits lower upper) (number_of kind o) false
   by_value None fits = refl
   by_value (Some v) fits = admits_by_key kind lower upper v low high holds whole below fits some
 
@@ -170,21 +186,28 @@ module _ (schema : List Field) (field : ℕ) (kind : Kind) (lower upper : Bound 
   hit_by_key documents fit d =
       let fits : (e : Stamped DocumentValue) → slice_get documents d ≡ Some e → IfSome (value_in_field e.value field) (Fits64 kind) = λ e at.
       let inside = slice_get_within documents d e at in
-      let value : get_or (values_in field documents) d None ≡ value_in_field e.value field = get_or-map (λ (x : Stamped DocumentValue). value_in_field x.value field) documents d e None inside ∙ ap (λ x. value_in_field x.value field) (get_or_from_slice_get documents d e e at) in
-      subst (λ (o : Option FieldValue). IfSome o (Fits64 kind)) value (fit d None (omega (arith, inside, length-map documents (λ x. value_in_field x.value field)))) in
+      let value : get_or (values_in field documents) d None ≡ value_in_field e.value field =
+      get_or-map (λ (x : Stamped DocumentValue). value_in_field x.value field) documents d e None inside
+      ∙ ap (λ x. value_in_field x.value field) (get_or_from_slice_get documents d e e at) in
+      subst (λ (o : Option FieldValue). IfSome o (Fits64 kind)) value
+      (fit d None (omega (arith, inside, length-map documents (λ x. value_in_field x.value field)))) in
       by_document (slice_get documents d) fits
-      ∙ ap (λ o. option_map_or (key_admits lower upper) o false) (ap (λ o. unwrap_or o None) (sym (slice_get-map (number_at schema field) documents d)) ∙ unwrap_or-slice_get (map (number_at schema field) documents) d None)
+      ∙ ap (λ o. option_map_or (key_admits lower upper) o false) (ap (λ o. unwrap_or o None) (sym (slice_get-map (number_at schema field) documents d))
+      ∙ unwrap_or-slice_get (map (number_at schema field) documents) d None)
 
 -- the numbers of 64 bits within bounds
-pub within_key : (lower upper : Bound FieldValue) (low high : ℕ) (o : Option ℕ) → IsLeastOf lower (Some low) → IsGreatestOf upper (Some high) → IfSome o (λ x. x < 2 ^ 64) → is_within low high o ≡ option_map_or (key_admits lower upper) o false
+pub within_key : (lower upper : Bound FieldValue) (low high : ℕ) (o : Option ℕ) → IsLeastOf lower (Some low) → IsGreatestOf upper (Some high) →
+    IfSome o (λ x. x < 2 ^ 64) → is_within low high o ≡ option_map_or (key_admits lower upper) o false
 within_key lower upper low high None least greatest small = refl
 within_key lower upper low high (Some x) least greatest small = ap₂ (λ a b. a && b) (least x small) (greatest x small)
 
-pub none_from : (lower upper : Bound FieldValue) (o : Option ℕ) → IsLeastOf lower None → IfSome o (λ x. x < 2 ^ 64) → option_map_or (key_admits lower upper) o false ≡ false
+pub none_from : (lower upper : Bound FieldValue) (o : Option ℕ) → IsLeastOf lower None → IfSome o (λ x. x < 2 ^ 64) →
+    option_map_or (key_admits lower upper) o false ≡ false
 none_from lower upper None least small = refl
 none_from lower upper (Some x) least small = ap (λ b. b && key_to upper x) (sym (least x small))
 
-pub none_to : (lower upper : Bound FieldValue) (o : Option ℕ) → IsGreatestOf upper None → IfSome o (λ x. x < 2 ^ 64) → option_map_or (key_admits lower upper) o false ≡ false
+pub none_to : (lower upper : Bound FieldValue) (o : Option ℕ) → IsGreatestOf upper None → IfSome o (λ x. x < 2 ^ 64) →
+    option_map_or (key_admits lower upper) o false ≡ false
 none_to lower upper None greatest small = refl
 none_to lower upper (Some x) greatest small = ap (λ b. key_from lower x && b) (sym (greatest x small)) ∙ and-false (key_from lower x)
 
@@ -199,7 +222,8 @@ there column d x is = elim (cases_lt d (length column)) [
   | inr past ↦ absurd (let e : None ≡ Some x = sym (get_or_past column d None past) ∙ is in cc)
 ]
 
-pub small_some : (column : List (Option ℕ)) (range : ℕ × ℕ) (d x : ℕ) → IsRangeOf column (Some range) → range.1 < 2 ^ 64 → get_or column d None ≡ Some x → x < 2 ^ 64
+pub small_some : (column : List (Option ℕ)) (range : ℕ × ℕ) (d x : ℕ) → IsRangeOf column (Some range) → range.1 < 2 ^ 64 → get_or column d None ≡ Some x →
+    x < 2 ^ 64
 small_some column range d x is small at = omega (arith, within_range (get_or column d None) x range at (is.2 d None (there column d x at)), small)
 
 pub small_none : (column : List (Option ℕ)) (d x : ℕ) → IsRangeOf column None → get_or column d None ≡ Some x → x < 2 ^ 64
@@ -218,7 +242,8 @@ open_all Unbounded v is = (refl, refl)
 open_all (Included b) v is = absurd (false≢true (sym is))
 open_all (Excluded b) v is = absurd (false≢true (sym is))
 
-valued : (lower upper : Bound FieldValue) → is_bounded lower ≡ false → is_bounded upper ≡ false → (o : Option FieldValue) → is_some o ≡ option_map_or (admits lower upper) o false
+valued : (lower upper : Bound FieldValue) → is_bounded lower ≡ false → is_bounded upper ≡ false → (o : Option FieldValue) →
+    is_some o ≡ option_map_or (admits lower upper) o false
 valued lower upper low high None = refl
 valued lower upper low high (Some v) = sym (ap₂ (λ a b. a && b) (open_all lower v low).0 (open_all upper v high).1)
 
@@ -228,8 +253,10 @@ valued_at lower upper field low high None = refl
 valued_at lower upper field low high (Some e) = valued lower upper low high (value_in_field e.value field)
 
 -- a range without bounds finds the documents with a value
-pub open_hits : (documents : List (Stamped DocumentValue)) (field : ℕ) (lower upper : Bound FieldValue) → is_bounded lower ≡ false → is_bounded upper ≡ false → passing (has_value documents field) 0 (length documents) ≡ numbers_where (Hit lower upper field) 0 documents
-open_hits documents field lower upper low high = passing_are (Hit lower upper field) documents (has_value documents field) (λ d inside. valued_at lower upper field low high (slice_get documents d))
+pub open_hits : (documents : List (Stamped DocumentValue)) (field : ℕ) (lower upper : Bound FieldValue) → is_bounded lower ≡ false → is_bounded upper ≡ false →
+    passing (has_value documents field) 0 (length documents) ≡ numbers_where (Hit lower upper field) 0 documents
+open_hits documents field lower upper low high =
+    passing_are (Hit lower upper field) documents (has_value documents field) (λ d inside. valued_at lower upper field low high (slice_get documents d))
 
 -- the kind of a field that fits
 pub kind_of : (o : Option Kind) (f : Kind → Bool) → option_map_or f o false ≡ true → (kind : Kind) × (o ≡ Some kind) × (f kind ≡ true)
@@ -266,7 +293,8 @@ module _ (segment : SegmentValue) (field : ℕ) (lower upper : Bound FieldValue)
       passing (has_within low high (column segment field)) 0 (length segment.documents) ≡ numbers_where (Hit lower upper field) 0 segment.documents
   within_hits low high least greatest =
       passing_are (Hit lower upper field) segment.documents (has_within low high (column segment field))
-      (λ d inside. within_key lower upper low high (get_or (column segment field) d None) least greatest (small_at (column segment field) h.small d) ∙ sym (key_hit d))
+      (λ d inside. within_key lower upper low high (get_or (column segment field) d None) least greatest (small_at (column segment field) h.small d)
+      ∙ sym (key_hit d))
 
   pub no_least : IsLeastOf lower None → [] ≡ numbers_where (Hit lower upper field) 0 segment.documents
   no_least none =

@@ -1,5 +1,6 @@
 -- 16 words of bits, a word after the other.
-use Rattle.std.proofs.Common.{◌≡◌, ◌≢◌, ℕ, suc, ◌+◌, ◌-◌, ◌*◌, ◌^◌, ◌<◌, ◌≤◌, Bool, false, List, [], ◌++◌, length, min, get_or, set, count_ones, refl, sym, ap, ◌∙◌, inl, inr, arith}
+use Rattle.std.proofs.Common.{◌≡◌, ◌≢◌, ℕ, suc, ◌+◌, ◌-◌, ◌*◌, ◌^◌, ◌<◌, ◌≤◌, Bool, false, List, [], ◌++◌, length, min, get_or, set, count_ones, refl, sym, ap}
+use Rattle.std.proofs.Common.{◌∙◌, inl, inr, arith}
 use Rattle.std.proofs.lemmas.Bool.{cases_lt}
 use Rattle.std.proofs.lemmas.List.{append-nil, get_or-set_other, length-append, length-set}
 use Rattle.std.proofs.lemmas.Grind.{get_or-set_at}
@@ -18,7 +19,8 @@ pub record MadeUpTo (f : ℕ → ℕ → ℕ) (old row : List ℕ) (place : ℕ)
 pub MadeUpTo-none : (f : ℕ → ℕ → ℕ) (old : List ℕ) → MadeUpTo f old old 0
 MadeUpTo-none f old = record { done = λ k low. absurd (omega (arith, low)); left = λ k up. refl; long = refl }
 
-pub MadeUpTo-more : (f : ℕ → ℕ → ℕ) (old row : List ℕ) (place v : ℕ) → MadeUpTo f old row place → place < length row → v ≡ f place (get_or row place 0) → MadeUpTo f old (set row place v) (place + 1)
+pub MadeUpTo-more : (f : ℕ → ℕ → ℕ) (old row : List ℕ) (place v : ℕ) → MadeUpTo f old row place → place < length row → v ≡ f place (get_or row place 0) →
+    MadeUpTo f old (set row place v) (place + 1)
 MadeUpTo-more f old row place v h inside is = record {
   done = λ k low. elim (cases_lt k place) [
     | inl below ↦ let other : k ≢ place = omega (arith, below) in get_or-set_other row place k v 0 other ∙ h.done k below
@@ -40,23 +42,28 @@ length-word test from word tells fits =
     let at : from + k ≡ d = omega (arith, up) in
     sym (tells k (omega (arith, up, down)) ∙ ap test at))) ∙ ap (λ n. length (passing (is_marked from word) from n)) whole ∙ marked-ones from word fits
 
-pub length-more : (test : ℕ → Bool) (from place word : ℕ) → Tells test (from + 64 * place) word → word < 2 ^ 64 → length (passing test from (64 * (place + 1))) ≡ length (passing test from (64 * place)) + count_ones word
+pub length-more : (test : ℕ → Bool) (from place word : ℕ) → Tells test (from + 64 * place) word → word < 2 ^ 64 →
+    length (passing test from (64 * (place + 1))) ≡ length (passing test from (64 * place)) + count_ones word
 length-more test from place word tells fits =
     let size : 64 * (place + 1) ≡ 64 * place + 64 = omega arith in
-    ap (λ n. length (passing test from n)) size ∙ ap length (passing-append test from (64 * place) 64) ∙ length-append (passing test from (64 * place)) (passing test (from + 64 * place) 64)
+    ap (λ n. length (passing test from n)) size ∙ ap length (passing-append test from (64 * place) 64) ∙ length-append (passing test from (64 * place))
+    (passing test (from + 64 * place) 64)
     ∙ ap (λ n. length (passing test from (64 * place)) + n) (length-word test (from + 64 * place) word tells fits)
 
 -- behind the last document nothing passes
-pub length-row : (test : ℕ → Bool) (docs from m : ℕ) → ((d : ℕ) → docs ≤ d → test d ≡ false) → m ≡ 1024 → length (passing test from m) ≡ length (passing test from (min 1024 (docs - from)))
+pub length-row : (test : ℕ → Bool) (docs from m : ℕ) → ((d : ℕ) → docs ≤ d → test d ≡ false) → m ≡ 1024 →
+    length (passing test from m) ≡ length (passing test from (min 1024 (docs - from)))
 length-row test docs from m past is =
     let n = min 1024 (docs - from) in
     let k = m - n in
     let whole : m ≡ n + k = omega (arith, is) in
     let none : passing test (from + n) k ≡ [] = nothing test (from + n) k (λ d up down. past d (omega (arith, up, down, is))) in
-    ap (λ j. length (passing test from j)) whole ∙ ap length (passing-append test from n k ∙ ap (λ ys. passing test from n ++ ys) none ∙ append-nil (passing test from n))
+    ap (λ j. length (passing test from j)) whole
+    ∙ ap length (passing-append test from n k ∙ ap (λ ys. passing test from n ++ ys) none ∙ append-nil (passing test from n))
 
 -- the first 1,024 documents, and the others
-pub rows_more : (p : ℕ → Bool) (from docs m : ℕ) → m ≡ 1024 → length (passing p from (docs - from)) ≡ length (passing p from (min m (docs - from))) + length (passing p (from + m) (docs - (from + m)))
+pub rows_more : (p : ℕ → Bool) (from docs m : ℕ) → m ≡ 1024 →
+    length (passing p from (docs - from)) ≡ length (passing p from (min m (docs - from))) + length (passing p (from + m) (docs - (from + m)))
 rows_more p from docs m is = elim (cases_lt (docs - from) m) [
   | inl short ↦ (
       let none : docs - (from + m) ≡ 0 = omega (arith, short) in
@@ -68,6 +75,8 @@ rows_more p from docs m is = elim (cases_lt (docs - from) m) [
   | inr long ↦ (
       let e : docs - from ≡ m + (docs - (from + m)) = omega (arith, long) in
       let all : m ≡ min m (docs - from) = omega (arith, long) in
-      ap (λ n. length (passing p from n)) e ∙ ap length (passing-append p from m (docs - (from + m))) ∙ length-append (passing p from m) (passing p (from + m) (docs - (from + m))) ∙ ap (λ n. length (passing p from n) + length (passing p (from + m) (docs - (from + m)))) all
+      ap (λ n. length (passing p from n)) e ∙ ap length (passing-append p from m (docs - (from + m)))
+      ∙ length-append (passing p from m) (passing p (from + m) (docs - (from + m)))
+      ∙ ap (λ n. length (passing p from n) + length (passing p (from + m) (docs - (from + m)))) all
       )
 ]

@@ -1,10 +1,12 @@
 -- The documents of a range that pass a test, stretch by stretch.
-use Rattle.std.proofs.Common.{◌≡◌, ℕ, zero, suc, ◌+◌, ◌-◌, ◌<◌, ◌≤◌, Bool, true, false, cond, Option, Some, None, is_some, option_map, Bor, List, [], ◌∷◌, ◌++◌, length, get_or, set, take, drop, min, refl, sym, ap, ap₂, subst, ◌∙◌, inl, inr, arith}
+use Rattle.std.proofs.Common.{◌≡◌, ℕ, zero, suc, ◌+◌, ◌-◌, ◌<◌, ◌≤◌, Bool, true, false, cond, Option, Some, None, is_some, option_map, Bor, List, [], ◌∷◌, ◌++◌}
+use Rattle.std.proofs.Common.{length, get_or, set, take, drop, min, refl, sym, ap, ap₂, subst, ◌∙◌, inl, inr, arith}
 use Rattle.std.specs.List.{filter, range_with_len, slice_get}
 use Rattle.std.specs.Option.{option_copied, option_map_or}
 use Rattle.std.proofs.lemmas.Option.{slice_get-get_or}
 use Rattle.std.proofs.lemmas.Bool.{cases_lt, lt-leb}
-use Rattle.std.proofs.lemmas.List.{append-nil, take_more_set, length-append, length-drop, get_or-drop, get_or-take, get_or_append_left, drop-append-le, drop-drop, drop_all}
+use Rattle.std.proofs.lemmas.List.{append-nil, take_more_set, length-append, length-drop, get_or-drop, get_or-take, get_or_append_left, drop-append-le}
+use Rattle.std.proofs.lemmas.List.{drop-drop, drop_all}
 use Rattle.fts_pack.specs.Documents.{Rises}
 use Rattle.fts_postings.specs.Remaining.{at_least, IsPlaceOf}
 use Rattle.fts_model.specs.declared.operation.Stamped.{Stamped}
@@ -31,7 +33,8 @@ KeptUpTo-none p from out = record { front = refl; size = refl; behind = omega ar
 one : (p : ℕ → Bool) (from place : ℕ) (b : Bool) → p (from + place) ≡ b → passing p from (place + 1) ≡ passing p from place ++ cond b ((from + place) ∷ []) []
 one p from place b is = passing-append p from place 1 ∙ ap (λ b. passing p from place ++ cond b ((from + place) ∷ []) []) is
 
-pub KeptUpTo-kept : (p : ℕ → Bool) (from : ℕ) (out : List ℕ) (place count : ℕ) → KeptUpTo p from out place count → p (from + place) ≡ true → count < length out →
+pub KeptUpTo-kept : (p : ℕ → Bool) (from : ℕ) (out : List ℕ) (place count : ℕ) → KeptUpTo p from out place count → p (from + place) ≡ true →
+    count < length out →
     KeptUpTo p from (set out count (from + place)) (place + 1) (count + 1)
 KeptUpTo-kept p from out place count h passes room =
     let more = one p from place true passes in
@@ -48,7 +51,8 @@ KeptUpTo-passed p from out place count h fails =
     record { front = h.front ∙ sym more; size = h.size ∙ ap length (sym more); behind = omega (arith, h.behind) }
 
 -- the first stretch, and the others
-pub passing-stretch : (p : ℕ → Bool) (from docs : ℕ) → passing p from (docs - from) ≡ passing p from (min 128 (docs - from)) ++ passing p (from + 128) (docs - (from + 128))
+pub passing-stretch : (p : ℕ → Bool) (from docs : ℕ) → passing p from (docs - from) ≡ passing p from (min 128 (docs - from))
+    ++ passing p (from + 128) (docs - (from + 128))
 passing-stretch p from docs = elim (cases_lt (docs - from) 128) [
   | inl short ↦
       let none : docs - (from + 128) ≡ 0 = omega (arith, short) in
@@ -66,8 +70,10 @@ length-every a zero = refl
 length-every a (suc n) = omega (arith, length-every (a + 1) n)
 
 -- how many are kept in the first stretch, and in the others
-pub length-stretch : (p : ℕ → Bool) (from docs : ℕ) → length (passing p from (docs - from)) ≡ length (passing p from (min 128 (docs - from))) + length (passing p (from + 128) (docs - (from + 128)))
-length-stretch p from docs = ap length (passing-stretch p from docs) ∙ length-append (passing p from (min 128 (docs - from))) (passing p (from + 128) (docs - (from + 128)))
+pub length-stretch : (p : ℕ → Bool) (from docs : ℕ) →
+    length (passing p from (docs - from)) ≡ length (passing p from (min 128 (docs - from))) + length (passing p (from + 128) (docs - (from + 128)))
+length-stretch p from docs =
+    ap length (passing-stretch p from docs) ∙ length-append (passing p from (min 128 (docs - from))) (passing p (from + 128) (docs - (from + 128)))
 
 -- behind the last document there is none
 pub none_behind : (p : ℕ → Bool) (from docs : ℕ) → docs ≤ from → passing p from (docs - from) ≡ []
@@ -77,7 +83,8 @@ pub none_in_stretch : (p : ℕ → Bool) (from docs : ℕ) → docs ≤ from →
 none_in_stretch p from docs past = let none : min 128 (docs - from) ≡ 0 = omega (arith, past) in ap (passing p from) none
 
 -- how many are left, of the stretch and behind it
-pub length-left : (p : ℕ → Bool) (from docs at len : ℕ) → len ≡ length (passing p from (min 128 (docs - from))) → (from < docs → at < len) → length (drop at (passing p from (docs - from))) ≡ (len - at) + length (passing p (from + 128) (docs - (from + 128)))
+pub length-left : (p : ℕ → Bool) (from docs at len : ℕ) → len ≡ length (passing p from (min 128 (docs - from))) → (from < docs → at < len) →
+    length (drop at (passing p from (docs - from))) ≡ (len - at) + length (passing p (from + 128) (docs - (from + 128)))
 length-left p from docs at len size stands =
     let whole = passing p from (docs - from) in
     let rest = passing p (from + 128) (docs - (from + 128)) in
@@ -104,7 +111,8 @@ low_range target a (suc n) low =
     ∙ low_range target (a + 1) n (omega (arith, low))
 
 -- what lies before `to` is below the target
-pub passing-skipped : (p : ℕ → Bool) (from to docs target : ℕ) → from ≤ to → to ≤ target → at_least target (passing p from (docs - from)) ≡ at_least target (passing p to (docs - to))
+pub passing-skipped : (p : ℕ → Bool) (from to docs target : ℕ) → from ≤ to → to ≤ target →
+    at_least target (passing p from (docs - from)) ≡ at_least target (passing p to (docs - to))
 passing-skipped p from to docs target up low =
     let n = docs - from - (docs - to) in
     let e : docs - from ≡ n + (docs - to) = omega (arith, up) in
@@ -113,11 +121,14 @@ passing-skipped p from to docs target up low =
       | inr past ↦ let none : docs - to ≡ 0 = omega (arith, past) in ap (range_with_len (from + n)) none ∙ sym (ap (range_with_len to) none)
     ] in
     sym (filter-at_least target p (range_with_len from (docs - from)))
-    ∙ ap (filter p) (ap (λ m. at_least target (range_with_len from m)) e ∙ ap (at_least target) (range-append from n (docs - to)) ∙ at_least-append target (range_with_len from n) (range_with_len (from + n) (docs - to)) ∙ ap₂ (λ xs ys. xs ++ at_least target ys) (low_range target from n (omega (arith, up, low))) there)
+    ∙ ap (filter p) (ap (λ m. at_least target (range_with_len from m)) e ∙ ap (at_least target) (range-append from n (docs - to)) ∙ at_least-append target
+    (range_with_len from n) (range_with_len (from + n) (docs - to))
+    ∙ ap₂ (λ xs ys. xs ++ at_least target ys) (low_range target from n (omega (arith, up, low))) there)
     ∙ filter-at_least target p (range_with_len to (docs - to))
 
 -- a document has a value of a field
-valued_at : (s : Option (Stamped DocumentValue)) (d : DocumentValue) (field : ℕ) → option_map (λ e. e.value) s ≡ Some d → option_map_or (λ e. is_some (value_in_field e.value field)) s false ≡ is_some (value_in_field d field)
+valued_at : (s : Option (Stamped DocumentValue)) (d : DocumentValue) (field : ℕ) → option_map (λ e. e.value) s ≡ Some d →
+    option_map_or (λ e. is_some (value_in_field e.value field)) s false ≡ is_some (value_in_field d field)
 valued_at None d field is = absurd (let e : None ≡ Some d = is in cc)
 valued_at (Some s) d field is = let same : s.value ≡ d = cc in ap (λ e. is_some (value_in_field e field)) same
 
@@ -125,32 +136,39 @@ copied_some : {X : Type 0} (o : Option (Bor X)) (v : Option X) → option_copied
 copied_some None v is = ap is_some (sym is)
 copied_some (Some x) v is = ap is_some (sym is)
 
-pub has_value-is : (documents : List (Stamped DocumentValue)) (field doc : ℕ) (d : DocumentValue) (o : Option (Bor FieldValue)) → option_map (λ e. e.value) (slice_get documents doc) ≡ Some d → option_copied o ≡ value_in_field d field →
+pub has_value-is : (documents : List (Stamped DocumentValue)) (field doc : ℕ) (d : DocumentValue) (o : Option (Bor FieldValue)) →
+    option_map (λ e. e.value) (slice_get documents doc) ≡ Some d → option_copied o ≡ value_in_field d field →
     has_value documents field doc ≡ is_some o
 has_value-is documents field doc d o is value = valued_at (slice_get documents doc) d field is ∙ copied_some o (value_in_field d field) value
 
 -- a stretch of which the last is below the target is passed over
-pub stretch_below : (p : ℕ → Bool) (from docs target len : ℕ) (numbers : List ℕ) → len ≡ length (passing p from (min 128 (docs - from))) → take len numbers ≡ passing p from (min 128 (docs - from)) → (0 < len → get_or numbers (len - 1) 0 < target) →
+pub stretch_below : (p : ℕ → Bool) (from docs target len : ℕ) (numbers : List ℕ) → len ≡ length (passing p from (min 128 (docs - from))) →
+    take len numbers ≡ passing p from (min 128 (docs - from)) → (0 < len → get_or numbers (len - 1) 0 < target) →
     at_least target (passing p (from + 128) (docs - (from + 128))) ≡ at_least target (passing p from (docs - from))
 stretch_below p from docs target len numbers size is low =
     let here = passing p from (min 128 (docs - from)) in
     let rest = passing p (from + 128) (docs - (from + 128)) in
     let last : 0 < length here → get_or here (length here - 1) 0 < target = λ some.
     let inside : len - 1 < len = omega (arith, size, some) in
-    let e : get_or here (length here - 1) 0 ≡ get_or numbers (len - 1) 0 = ap₂ (λ (n : ℕ) (xs : List ℕ). get_or xs (n - 1) 0) (sym size) (sym is) ∙ get_or-take len numbers (len - 1) 0 inside in
+    let e : get_or here (length here - 1) 0 ≡ get_or numbers (len - 1) 0 = ap₂ (λ (n : ℕ) (xs : List ℕ). get_or xs (n - 1) 0) (sym size) (sym is)
+    ∙ get_or-take len numbers (len - 1) 0 inside in
     subst (λ x. x < target) (sym e) (low (omega (arith, size, some))) in
-    sym (ap (at_least target) (passing-stretch p from docs) ∙ at_least-append target here rest ∙ ap (λ xs. xs ++ at_least target rest) (all_below target from here (Rises-passing p from (min 128 (docs - from))) last))
+    sym (ap (at_least target) (passing-stretch p from docs) ∙ at_least-append target here rest ∙ ap (λ xs. xs ++ at_least target rest)
+    (all_below target from here (Rises-passing p from (min 128 (docs - from))) last))
 
 -- with no target nothing is passed over
 pub same_all : (p : ℕ → Bool) (a m b n : ℕ) → at_least 0 (passing p a m) ≡ at_least 0 (passing p b n) → passing p a m ≡ passing p b n
-same_all p a m b n is = sym (at_least_all 0 a (passing p a m) (Rises-passing p a m) (omega arith)) ∙ is ∙ at_least_all 0 b (passing p b n) (Rises-passing p b n) (omega arith)
+same_all p a m b n is = sym (at_least_all 0 a (passing p a m) (Rises-passing p a m) (omega arith)) ∙ is ∙ at_least_all 0 b (passing p b n) (Rises-passing p b n)
+    (omega arith)
 
 -- where the documents of the stretch lie at the front of an array
-module _ (p : ℕ → Bool) (from docs at len : ℕ) (numbers here rest : List ℕ) (all : passing p from (docs - from) ≡ here ++ rest) (size : len ≡ length here) (is : take len numbers ≡ here) where
+module _ (p : ℕ → Bool) (from docs at len : ℕ) (numbers here rest : List ℕ) (all : passing p from (docs - from) ≡ here ++ rest) (size : len ≡ length here)
+    (is : take len numbers ≡ here) where
   read : (i : ℕ) → at + i < len → get_or (drop at (passing p from (docs - from))) i 0 ≡ get_or numbers (at + i) 0
   read i inside =
       get_or-drop at (passing p from (docs - from)) i 0 ∙ ap (λ xs. get_or xs (at + i) 0) all
-      ∙ get_or_append_left here rest 0 (at + i) (omega (arith, size, inside)) ∙ ap (λ xs. get_or xs (at + i) 0) (sym is) ∙ get_or-take len numbers (at + i) 0 inside
+      ∙ get_or_append_left here rest 0 (at + i) (omega (arith, size, inside)) ∙ ap (λ xs. get_or xs (at + i) 0) (sym is)
+      ∙ get_or-take len numbers (at + i) 0 inside
 
   long : length (passing p from (docs - from)) ≡ len + length rest
   long = ap length all ∙ length-append here rest ∙ ap (λ n. n + length rest) (sym size)
@@ -159,11 +177,13 @@ module _ (p : ℕ → Bool) (from docs at len : ℕ) (numbers here rest : List �
   scan_first inside =
       let e : at + 0 ≡ at = omega arith in
       let some : 0 < length (drop at (passing p from (docs - from))) = omega (arith, long, inside, length-drop at (passing p from (docs - from))) in
-      sym (slice_get-get_or (drop at (passing p from (docs - from))) 0 0 some ∙ ap (λ x. Some x) (read 0 (omega (arith, inside)) ∙ ap (λ k. get_or numbers k 0) e))
+      sym (slice_get-get_or (drop at (passing p from (docs - from))) 0 0 some ∙ ap (λ x. Some x) (read 0 (omega (arith, inside)) ∙ ap (λ k. get_or numbers k 0)
+      e))
 
   pub scan_over : at + 1 ≡ len → rest ≡ drop 1 (drop at (passing p from (docs - from)))
   scan_over end =
-      sym (drop-drop 1 at (passing p from (docs - from)) ∙ ap₂ (λ (n : ℕ) (xs : List ℕ). drop n xs) end all ∙ drop-append-le len here rest (omega (arith, size)) ∙ ap (λ xs. xs ++ rest) (drop_all len here (omega (arith, size))))
+      sym (drop-drop 1 at (passing p from (docs - from)) ∙ ap₂ (λ (n : ℕ) (xs : List ℕ). drop n xs) end all ∙ drop-append-le len here rest (omega (arith, size))
+      ∙ ap (λ xs. xs ++ rest) (drop_all len here (omega (arith, size))))
 
   -- what is left, in the stretch and behind it
   pub scan_left : at < len → drop at here ++ rest ≡ drop at (passing p from (docs - from))
@@ -171,21 +191,26 @@ module _ (p : ℕ → Bool) (from docs at len : ℕ) (numbers here rest : List �
 
   pub scan_behind : (count : ℕ) → at < len → at + count ≡ len → rest ≡ drop count (drop at here ++ rest)
   scan_behind count inside end =
-      sym (drop-append-le count (drop at here) rest (omega (arith, length-drop at here, size, end)) ∙ ap (λ xs. xs ++ rest) (drop_all count (drop at here) (omega (arith, length-drop at here, size, end))))
+      sym (drop-append-le count (drop at here) rest (omega (arith, length-drop at here, size, end)) ∙ ap (λ xs. xs ++ rest)
+      (drop_all count (drop at here) (omega (arith, length-drop at here, size, end))))
 
   -- what is left of the stretch is below the target
-  pub scan_below : (target : ℕ) → at < len → get_or numbers (len - 1) 0 < target → at_least target (drop at (passing p from (docs - from))) ≡ at_least target rest
+  pub scan_below : (target : ℕ) → at < len → get_or numbers (len - 1) 0 < target → at_least target (drop at (passing p from (docs - from)))
+      ≡ at_least target rest
   scan_below target inside low =
       let left = drop at here in
       let size_left = length-drop at here in
       let up = Rises-drop at from here (Rises-front from here rest (subst (Rises from) all (Rises-passing p from (docs - from)))) in
       let last : get_or left (length left - 1) 0 ≡ get_or numbers (len - 1) 0 =
       let e : at + (length left - 1) ≡ len - 1 = omega (arith, size_left, size, inside) in
-      get_or-drop at here (length left - 1) 0 ∙ ap (λ k. get_or here k 0) e ∙ ap (λ xs. get_or xs (len - 1) 0) (sym is) ∙ get_or-take len numbers (len - 1) 0 (omega (arith, inside)) in
+      get_or-drop at here (length left - 1) 0 ∙ ap (λ k. get_or here k 0) e ∙ ap (λ xs. get_or xs (len - 1) 0) (sym is)
+      ∙ get_or-take len numbers (len - 1) 0 (omega (arith, inside)) in
       ap (λ xs. at_least target (drop at xs)) all ∙ ap (at_least target) (drop-append-le at here rest (omega (arith, size, inside)))
-      ∙ at_least-append target left rest ∙ ap (λ xs. xs ++ at_least target rest) (all_below target up.0 left up.1 (λ some. subst (λ x. x < target) (sym last) low))
+      ∙ at_least-append target left rest
+      ∙ ap (λ xs. xs ++ at_least target rest) (all_below target up.0 left up.1 (λ some. subst (λ x. x < target) (sym last) low))
 
-  pub scan_place : (target place : ℕ) → (from < docs → at < len) → (from < docs → target ≤ get_or numbers (len - 1) 0) → IsPlaceOf (λ k. get_or numbers k 0) at len target place →
+  pub scan_place : (target place : ℕ) → (from < docs → at < len) → (from < docs → target ≤ get_or numbers (len - 1) 0) →
+      IsPlaceOf (λ k. get_or numbers k 0) at len target place →
       drop place (passing p from (docs - from)) ≡ at_least target (drop at (passing p from (docs - from)))
   scan_place target place stands reaches h =
       let whole = passing p from (docs - from) in
@@ -208,10 +233,12 @@ module _ (p : ℕ → Bool) (from docs at len : ℕ) (numbers here rest : List �
               absurd (omega (arith, some, size_left, ap (λ n. length (passing p from n)) none))
         ]
       ] in
-      sym (at_least_place target up.0 (drop at whole) k up.1 (omega (arith, size_left, long, h.high_within)) before there ∙ drop-drop k at whole ∙ ap (λ n. drop n whole) e)
+      sym (at_least_place target up.0 (drop at whole) k up.1 (omega (arith, size_left, long, h.high_within)) before there ∙ drop-drop k at whole
+      ∙ ap (λ n. drop n whole) e)
 
 -- the stretch of the target, or the next, has what is left
-pub scan_jump : (p : ℕ → Bool) (from next docs target : ℕ) → from ≤ next → (from < next → next ≤ target) → at_least target (passing p from (docs - from)) ≡ at_least target (passing p next (docs - next))
+pub scan_jump : (p : ℕ → Bool) (from next docs target : ℕ) → from ≤ next → (from < next → next ≤ target) →
+    at_least target (passing p from (docs - from)) ≡ at_least target (passing p next (docs - next))
 scan_jump p from next docs target up low = elim (cases_lt from next) [
   | inl far ↦ passing-skipped p from next docs target up (low far)
   | inr near ↦ ap (λ n. at_least target (passing p n (docs - n))) (let e : from ≡ next = omega (arith, up, near) in e)
@@ -225,7 +252,9 @@ pub record Reached (kept : Kept) (docs target : ℕ) (left : List ℕ) (from at 
   pub stands : from < docs → at < len
   pub reaches : from < docs → target ≤ get_or numbers (len - 1) 0
 
-pub Reached-place : (kept : Kept) (docs target : ℕ) (left : List ℕ) (from at len : ℕ) (numbers : List ℕ) (place : ℕ) → Reached kept docs target left from at len numbers → IsPlaceOf (λ k. get_or numbers k 0) at len target place →
+pub Reached-place : (kept : Kept) (docs target : ℕ) (left : List ℕ) (from at len : ℕ) (numbers : List ℕ) (place : ℕ) →
+    Reached kept docs target left from at len numbers → IsPlaceOf (λ k. get_or numbers k 0) at len target place →
     drop place (kept_from kept from docs) ≡ at_least target left
 Reached-place kept docs target left from at len numbers place h is =
-    scan_place (keeps kept) from docs at len numbers _ _ (passing-stretch (keeps kept) from docs) h.size h.numbers_are target place h.stands h.reaches is ∙ h.same
+    scan_place (keeps kept) from docs at len numbers _ _ (passing-stretch (keeps kept) from docs) h.size h.numbers_are target place h.stands h.reaches is
+    ∙ h.same

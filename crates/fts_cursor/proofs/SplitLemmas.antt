@@ -1,5 +1,6 @@
 -- Lists some of which have bits: what is told, and what is opened.
-use Rattle.std.proofs.Common.{◌≡◌, ◌≢◌, ℕ, ◌+◌, ◌-◌, ◌*◌, ◌^◌, ◌<◌, ◌≤◌, Bool, true, false, ◌&&◌, ◌||◌, List, [], ◌∷◌, ◌++◌, length, map, take, get_or, refl, sym, ap, ap₂, ◌∙◌, inl, inr, arith}
+use Rattle.std.proofs.Common.{◌≡◌, ◌≢◌, ℕ, ◌+◌, ◌-◌, ◌*◌, ◌^◌, ◌<◌, ◌≤◌, Bool, true, false, ◌&&◌, ◌||◌, List, [], ◌∷◌, ◌++◌, length, map, take, get_or, refl}
+use Rattle.std.proofs.Common.{sym, ap, ap₂, ◌∙◌, inl, inr, arith}
 use Rattle.std.specs.Prelude.{Option, Result, Ok, Err, IfOk, All, not}
 use Rattle.std.specs.Borrow.{Bor}
 use Rattle.std.specs.List.{filter, range_with_len, slice_get}
@@ -53,7 +54,8 @@ some_there [] d h = (let e : false ≡ true = h in absurd (cc))
 some_there (x ∷ xs) d h = omega arith
 
 -- one list more, with bits
-pub IsSplit-told : (lists : List (List ℕ)) (bits : List (Bor (List Bool))) (rest : List (List ℕ)) (opened : ℕ) (x : List ℕ) (b : Bor (List Bool)) (one after : ℕ) → IsSplit lists bits rest opened → ((d : ℕ) → is_live b.now d ≡ has x d) →
+pub IsSplit-told : (lists : List (List ℕ)) (bits : List (Bor (List Bool))) (rest : List (List ℕ)) (opened : ℕ) (x : List ℕ) (b : Bor (List Bool))
+    (one after : ℕ) → IsSplit lists bits rest opened → ((d : ℕ) → is_live b.now d ≡ has x d) →
     one ≤ 1 → (0 < length x → one ≡ 1) → after ≡ opened + one → IsSplit (lists ++ x ∷ []) (bits ++ b ∷ []) rest after
 IsSplit-told lists bits rest opened x b one after h tells few enters sum = record {
   same = λ d.
@@ -68,16 +70,19 @@ IsSplit-told lists bits rest opened x b one after h tells few enters sum = recor
 }
 
 -- and without
-pub IsSplit-rest : (lists : List (List ℕ)) (bits : List (Bor (List Bool))) (rest : List (List ℕ)) (opened : ℕ) (x : List ℕ) → IsSplit lists bits rest opened → IsSplit (lists ++ x ∷ []) bits (rest ++ x ∷ []) opened
+pub IsSplit-rest : (lists : List (List ℕ)) (bits : List (Bor (List Bool))) (rest : List (List ℕ)) (opened : ℕ) (x : List ℕ) → IsSplit lists bits rest opened →
+    IsSplit (lists ++ x ∷ []) bits (rest ++ x ∷ []) opened
 IsSplit-rest lists bits rest opened x h = record {
-  same = λ d. in_all-more lists x d ∙ ap (λ a. a && (has x d && true)) (h.same d) ∙ and_behind (in_each bits d) (in_all rest d) (has x d) ∙ ap (λ c. in_each bits d && c) (sym (in_all-more rest x d));
+  same = λ d. in_all-more lists x d ∙ ap (λ a. a && (has x d && true)) (h.same d) ∙ and_behind (in_each bits d) (in_all rest d) (has x d)
+      ∙ ap (λ c. in_each bits d && c) (sym (in_all-more rest x d));
   count = omega (arith, h.count, length-append lists (x ∷ []), length-append rest (x ∷ []));
   few = h.few;
   enters = λ d at. h.enters d (and_parts (in_all lists d) (has x d && true) (sym (in_all-more lists x d) ∙ at)).0;
 }
 
 -- a conjunction finds all
-pub FindsAll-conjoined : (shortest : List ℕ) (others : List (List ℕ)) (c : Conjoined) (t : Standing) → IsConjoinedOver shortest others c → t.remaining ≡ common_of c → t.openings ≡ counts_of c → t.bound ≡ bound_of c → FindsAll shortest others t
+pub FindsAll-conjoined : (shortest : List ℕ) (others : List (List ℕ)) (c : Conjoined) (t : Standing) → IsConjoinedOver shortest others c →
+    t.remaining ≡ common_of c → t.openings ≡ counts_of c → t.bound ≡ bound_of c → FindsAll shortest others t
 FindsAll-conjoined shortest others c t h remaining openings bound = record {
   remaining = remaining ∙ h.remaining;
   bound = λ doc. omega (arith, ap (λ (b : Bound). most_at b doc) (bound ∙ h.bound));
@@ -96,7 +101,8 @@ told_twice true false = refl
 told_twice false b = refl
 
 -- by words: all lists have bits
-module _ (shortest : List ℕ) (lists : List (List ℕ)) (first : Bor (List Bool)) (bits : List (Bor (List Bool))) (opened one : ℕ) (rises : Rises 0 shortest) (tells : (d : ℕ) → is_live first.now d ≡ has shortest d) (split : IsSplit lists bits [] opened) where
+module _ (shortest : List ℕ) (lists : List (List ℕ)) (first : Bor (List Bool)) (bits : List (Bor (List Bool))) (opened one : ℕ) (rises : Rises 0 shortest)
+    (tells : (d : ℕ) → is_live first.now d ≡ has shortest d) (split : IsSplit lists bits [] opened) where
   abbrev pub test : ℕ → Bool
   test d = ((is_live first.now d || false) && in_each bits d) && true
 
@@ -117,7 +123,8 @@ module _ (shortest : List ℕ) (lists : List (List ℕ)) (first : Bor (List Bool
             )
       ]) ∙ sym (has-filter (in_all lists) shortest d))
 
-  pub FindsAll-told : (t : Standing) (sum : ℕ) → one ≤ block_count (length shortest) → (0 < length shortest → one ≡ 1) → sum ≡ opened + one → t.remaining ≡ passing test 0 (length first.now) → t.openings ≡ sum → t.bound ≡ at_most sum → FindsAll shortest lists t
+  pub FindsAll-told : (t : Standing) (sum : ℕ) → one ≤ block_count (length shortest) → (0 < length shortest → one ≡ 1) → sum ≡ opened + one →
+      t.remaining ≡ passing test 0 (length first.now) → t.openings ≡ sum → t.bound ≡ at_most sum → FindsAll shortest lists t
   FindsAll-told t sum few enters is remaining openings bound = record {
     remaining = remaining ∙ told_all;
     bound = λ doc.
@@ -129,7 +136,8 @@ module _ (shortest : List ℕ) (lists : List (List ℕ)) (first : Bor (List Bool
   }
 
 -- cut by bits: some of the lists have bits
-module _ (shortest : List ℕ) (lists : List (List ℕ)) (bits : List (Bor (List Bool))) (rest : List (List ℕ)) (opened : ℕ) (rises : Rises 0 shortest) (split : IsSplit lists bits rest opened) where
+module _ (shortest : List ℕ) (lists : List (List ℕ)) (bits : List (Bor (List Bool))) (rest : List (List ℕ)) (opened : ℕ) (rises : Rises 0 shortest)
+    (split : IsSplit lists bits rest opened) where
   and_swap : (a b c : Bool) → ((a && b) && c) ≡ (a && (c && b))
   and_swap true true true = refl
   and_swap true true false = refl
@@ -139,11 +147,14 @@ module _ (shortest : List ℕ) (lists : List (List ℕ)) (bits : List (Bor (List
 
   pub cut_all : filter (in_each bits) (common shortest rest) ≡ common shortest lists
   cut_all =
-      same_members 0 (filter (in_each bits) (common shortest rest)) (common shortest lists) (Rises-filter 0 (in_each bits) (common shortest rest) (Rises-filter 0 (in_all rest) shortest rises)) (Rises-filter 0 (in_all lists) shortest rises)
-      (λ d. has-filter (in_each bits) (common shortest rest) d ∙ ap (λ a. a && in_each bits d) (has-filter (in_all rest) shortest d) ∙ and_swap (has shortest d) (in_all rest d) (in_each bits d)
+      same_members 0 (filter (in_each bits) (common shortest rest)) (common shortest lists) (Rises-filter 0 (in_each bits) (common shortest rest)
+      (Rises-filter 0 (in_all rest) shortest rises)) (Rises-filter 0 (in_all lists) shortest rises)
+      (λ d. has-filter (in_each bits) (common shortest rest) d ∙ ap (λ a. a && in_each bits d) (has-filter (in_all rest) shortest d) ∙ and_swap (has shortest d)
+      (in_all rest d) (in_each bits d)
       ∙ ap (λ b. has shortest d && b) (sym (split.same d)) ∙ sym (has-filter (in_all lists) shortest d))
 
-  pub FindsAll-cut : (c : Conjoined) (t : Standing) → IsConjoinedOver shortest rest c → t.remaining ≡ filter (in_each bits) (common_of c) → counts_of c + opened ≤ t.openings → ((doc : Option ℕ) → most_at t.bound doc ≡ most_at (bound_of c) doc + opened) → FindsAll shortest lists t
+  pub FindsAll-cut : (c : Conjoined) (t : Standing) → IsConjoinedOver shortest rest c → t.remaining ≡ filter (in_each bits) (common_of c) →
+      counts_of c + opened ≤ t.openings → ((doc : Option ℕ) → most_at t.bound doc ≡ most_at (bound_of c) doc + opened) → FindsAll shortest lists t
   FindsAll-cut c t h remaining openings bound = record {
     remaining = remaining ∙ ap (filter (in_each bits)) h.remaining ∙ cut_all;
     bound = λ doc.
@@ -167,7 +178,8 @@ pub record FindsHits (segment : SegmentValue) (queries : List Query) (t : Standi
   pub bound : (doc : Option ℕ) → most_at t.bound doc ≤ most_at (bound_of_all (map (hits_of segment) queries)) doc
   pub opened : t.remaining ≢ [] → length queries ≤ t.openings
 
-pub FindsHits-led : (segment : SegmentValue) (queries : List Query) (shortest : List ℕ) (others : List (List ℕ)) (t : Standing) → IsLed (map (hits_of segment) queries) shortest others → FindsAll shortest others t → FindsHits segment queries t
+pub FindsHits-led : (segment : SegmentValue) (queries : List Query) (shortest : List ℕ) (others : List (List ℕ)) (t : Standing) →
+    IsLed (map (hits_of segment) queries) shortest others → FindsAll shortest others t → FindsHits segment queries t
 FindsHits-led segment queries shortest others t led h =
     let lists = map (hits_of segment) queries in
     let many : length lists ≡ length queries = length-map queries (hits_of segment) in
@@ -179,7 +191,8 @@ FindsHits-led segment queries shortest others t led h =
           omega (arith, h.bound doc, ap (λ (b : Bound). most_at b doc) same);
       opened = λ some.
           let found = first_in t.remaining some in
-          let both = and_parts (has shortest found.0) (in_all others found.0) (sym (has-filter (in_all others) shortest found.0) ∙ ap (λ xs. has xs found.0) (sym h.remaining) ∙ found.1) in
+          let both = and_parts (has shortest found.0) (in_all others found.0) (sym (has-filter (in_all others) shortest found.0) ∙ ap (λ xs. has xs found.0)
+          (sym h.remaining) ∙ found.1) in
           omega (arith, many, led.count, h.opened found.0 both.0 both.1);
     }
 
@@ -201,17 +214,20 @@ or_behind false false = refl
 pub AreToldBy-none : AreToldBy [] []
 AreToldBy-none = record { same = λ d. refl; each = λ d. refl; count = refl; few = All-nil (λ (b : Bor (List Bool)). length b.now ≤ 2 ^ 32) }
 
-pub AreToldBy-more : (lists : List (List ℕ)) (bits : List (Bor (List Bool))) (x : List ℕ) (b : Bor (List Bool)) → AreToldBy lists bits → ((d : ℕ) → is_live b.now d ≡ has x d) → length b.now ≤ 2 ^ 32 → AreToldBy (lists ++ x ∷ []) (bits ++ b ∷ [])
+pub AreToldBy-more : (lists : List (List ℕ)) (bits : List (Bor (List Bool))) (x : List ℕ) (b : Bor (List Bool)) → AreToldBy lists bits →
+    ((d : ℕ) → is_live b.now d ≡ has x d) → length b.now ≤ 2 ^ 32 → AreToldBy (lists ++ x ∷ []) (bits ++ b ∷ [])
 AreToldBy-more lists bits x b h tells few = record {
   same = λ d.
       list_any-append (λ documents. has documents d) lists (x ∷ []) ∙ ap₂ (λ p q. p || (q || false)) (h.same d) (sym (tells d))
       ∙ sym (list_any-append (λ (c : Bor (List Bool)). is_live c.now d) bits (b ∷ []));
   each = λ d. in_all-more lists x d ∙ ap₂ (λ p q. p && (q && true)) (h.each d) (sym (tells d)) ∙ sym (in_each-more bits b d);
   count = omega (arith, h.count, length-append lists (x ∷ []), length-append bits (b ∷ []));
-  few = All-append (λ (c : Bor (List Bool)). length c.now ≤ 2 ^ 32) bits (b ∷ []) h.few (All-cons (λ (c : Bor (List Bool)). length c.now ≤ 2 ^ 32) b [] few (All-nil (λ (c : Bor (List Bool)). length c.now ≤ 2 ^ 32)));
+  few = All-append (λ (c : Bor (List Bool)). length c.now ≤ 2 ^ 32) bits (b ∷ []) h.few (All-cons (λ (c : Bor (List Bool)). length c.now ≤ 2 ^ 32) b [] few
+      (All-nil (λ (c : Bor (List Bool)). length c.now ≤ 2 ^ 32)));
 }
 
-pub told_any : (lists : List (List ℕ)) (bits : List (Bor (List Bool))) (docs : ℕ) → AreToldBy lists bits → All (λ b. length b.now ≤ docs) bits → passing (λ d. (in_one bits d && true) && true) 0 docs ≡ union lists
+pub told_any : (lists : List (List ℕ)) (bits : List (Bor (List Bool))) (docs : ℕ) → AreToldBy lists bits → All (λ b. length b.now ≤ docs) bits →
+    passing (λ d. (in_one bits d && true) && true) 0 docs ≡ union lists
 told_any lists bits docs h long =
     let test : ℕ → Bool = λ d. (in_one bits d && true) && true in
     let plain : (b : Bool) → ((b && true) && true) ≡ b = elim [ true ↦ refl | false ↦ refl ] in
@@ -219,21 +235,28 @@ told_any lists bits docs h long =
     (λ d. has-filter test (range_with_len 0 docs) d ∙ (elim (cases_lt d docs) [
       | inl inside ↦ (ap (λ b. b && test d) (has-range 0 docs d (omega arith) (omega (arith, inside))) ∙ plain (in_one bits d) ∙ sym (h.same d))
       | inr past ↦ (
-          let gone : in_one bits d ≡ false = list_any_none (λ (b : Bor (List Bool)). is_live b.now d) bits (λ k b low. get_or_past (get_or bits k b).now d false (let e = long k b low in omega (arith, e, past))) in
+          let gone : in_one bits d ≡ false =
+          list_any_none (λ (b : Bor (List Bool)). is_live b.now d) bits (λ k b low. get_or_past (get_or bits k b).now d false
+          (let e = long k b low in omega (arith, e, past))) in
           ap (λ b. b && test d) (past-range 0 docs d (omega (arith, past))) ∙ sym (h.same d ∙ gone)
           )
     ]) ∙ sym (has-union lists d))
 
-pub hits_more : (segment : SegmentValue) (queries : List Query) (i : ℕ) (q : Query) → i < length queries → q ≡ get_or queries i q → map (hits_of segment) (take i queries) ++ hits_of segment q ∷ [] ≡ map (hits_of segment) (take (i + 1) queries)
+pub hits_more : (segment : SegmentValue) (queries : List Query) (i : ℕ) (q : Query) → i < length queries → q ≡ get_or queries i q →
+    map (hits_of segment) (take i queries) ++ hits_of segment q ∷ [] ≡ map (hits_of segment) (take (i + 1) queries)
 hits_more segment queries i q inside is =
-    ap (λ (p : Query). map (hits_of segment) (take i queries) ++ hits_of segment p ∷ []) is ∙ sym (map-append (hits_of segment) (take i queries) (get_or queries i q ∷ [])) ∙ ap (map (hits_of segment)) (sym (take_more queries i q inside))
+    ap (λ (p : Query). map (hits_of segment) (take i queries) ++ hits_of segment p ∷ []) is
+    ∙ sym (map-append (hits_of segment) (take i queries) (get_or queries i q ∷ [])) ∙ ap (map (hits_of segment)) (sym (take_more queries i q inside))
 
 -- by words: each of some lists has it, and none of others
-has_all_hits : (segment : SegmentValue) (queries : List Query) (d : ℕ) → 0 < length queries → has (all_hits segment queries) d ≡ in_all (map (hits_of segment) queries) d
+has_all_hits : (segment : SegmentValue) (queries : List Query) (d : ℕ) → 0 < length queries →
+    has (all_hits segment queries) d ≡ in_all (map (hits_of segment) queries) d
 has_all_hits segment [] d some = absurd (omega (arith, some))
-has_all_hits segment (q ∷ qs) d some = has-all _ segment.documents d ∙ sym (in_all-hits segment (q ∷ qs) d ∙ at_all segment.schema (slice_get segment.documents d) q qs)
+has_all_hits segment (q ∷ qs) d some =
+    has-all _ segment.documents d ∙ sym (in_all-hits segment (q ∷ qs) d ∙ at_all segment.schema (slice_get segment.documents d) q qs)
 
-first_twice : (bs : List (Bor (List Bool))) (b : Bor (List Bool)) (d : ℕ) → b ≡ get_or bs 0 b → 0 < length bs → ((is_live b.now d || false) && in_each bs d) ≡ in_each bs d
+first_twice : (bs : List (Bor (List Bool))) (b : Bor (List Bool)) (d : ℕ) → b ≡ get_or bs 0 b → 0 < length bs →
+    ((is_live b.now d || false) && in_each bs d) ≡ in_each bs d
 first_twice [] b d same there = absurd (omega (arith, there))
 first_twice (x ∷ bs) b d same there =
     let twice : (p q : Bool) → ((p || false) && (p && q)) ≡ (p && q) = elim [ true ↦ elim [ true ↦ refl | false ↦ refl ] | false ↦ λ q. refl ] in
@@ -244,8 +267,10 @@ first_gone [] b d same there past = absurd (omega (arith, there))
 first_gone (x ∷ bs) b d same there past =
     ap (λ c. c && in_each bs d) (ap (λ (c : Bor (List Bool)). is_live c.now d) (sym same) ∙ get_or_past b.now d false past)
 
-pub told_apart : (segment : SegmentValue) (must must_not : List Query) (bits none : List (Bor (List Bool))) (first : Bor (List Bool)) → 0 < length must → AreToldBy (map (hits_of segment) must) bits → AreToldBy (map (hits_of segment) must_not) none → first ≡ get_or bits 0 first →
-    passing (λ d. ((is_live first.now d || false) && in_each bits d) && not (in_one none d)) 0 (length first.now) ≡ without (all_hits segment must) (union (map (hits_of segment) must_not))
+pub told_apart : (segment : SegmentValue) (must must_not : List Query) (bits none : List (Bor (List Bool))) (first : Bor (List Bool)) → 0 < length must →
+    AreToldBy (map (hits_of segment) must) bits → AreToldBy (map (hits_of segment) must_not) none → first ≡ get_or bits 0 first →
+    passing (λ d. ((is_live first.now d || false) && in_each bits d) && not (in_one none d)) 0 (length first.now)
+    ≡ without (all_hits segment must) (union (map (hits_of segment) must_not))
 told_apart segment must must_not bits none first some told gone is =
     let test : ℕ → Bool = λ d. ((is_live first.now d || false) && in_each bits d) && not (in_one none d) in
     let n = length first.now in
@@ -255,7 +280,8 @@ told_apart segment must must_not bits none first some told gone is =
     let each : (d : ℕ) → in_each bits d ≡ has kept d = λ d. sym (has_all_hits segment must d some ∙ told.each d) in
     let apart : (d : ℕ) → test d ≡ (has kept d && not (has dropped d)) = λ d.
     ap₂ (λ a b. a && not b) (first_twice bits first d is there ∙ each d) (sym (has-union (map (hits_of segment) must_not) d ∙ gone.same d)) in
-    same_members 0 (passing test 0 n) (without kept dropped) (Rises-passing test 0 n) (Rises-filter 0 (lacks dropped) kept (Rises-numbers _ 0 segment.documents))
+    same_members 0 (passing test 0 n) (without kept dropped) (Rises-passing test 0 n)
+    (Rises-filter 0 (lacks dropped) kept (Rises-numbers _ 0 segment.documents))
     (λ d. has-filter test (range_with_len 0 n) d ∙ (elim (cases_lt d n) [
       | inl inside ↦ (ap (λ b. b && test d) (has-range 0 n d (omega arith) (omega (arith, inside))) ∙ apart d)
       | inr past ↦ (

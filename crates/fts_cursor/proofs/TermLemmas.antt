@@ -1,5 +1,5 @@
 -- The terms that queries are, alone or as their only should.
-use Rattle.std.proofs.Common.{◌≡◌, ◌≢◌, ℕ, false, Some, None, List, [], ◌∷◌, length, get_or, map, arith, refl, sym, ap, ◌∙◌, inl, inr}
+use Rattle.std.proofs.Common.{◌≡◌, ◌≢◌, false, Some, None, List, [], ◌∷◌, length, get_or, map, arith, refl, sym, ap, ◌∙◌, inl, inr}
 use Rattle.std.specs.Prelude.{◌⊎◌}
 use Rattle.std.specs.List.{slice_get}
 use Rattle.std.specs.Option.{option_map_or}
@@ -76,16 +76,20 @@ one_alone [] q one is = absurd (omega (arith, one))
 one_alone (x ∷ []) q one is = ap (λ y. queries (query_value y) no_queries) (sym is)
 one_alone (x ∷ (y ∷ qs)) q one is = absurd (omega (arith, one))
 
-pub with_musts : (must must_not should : List Query) → length must ≢ 0 → term_in (boolean (query_list (map query_value must)) (query_list (map query_value must_not)) (query_list (map query_value should))) ≡ None
+pub with_musts : (must must_not should : List Query) → length must ≢ 0 →
+    term_in (boolean (query_list (map query_value must)) (query_list (map query_value must_not)) (query_list (map query_value should))) ≡ None
 with_musts [] must_not should some = absurd (some refl)
 with_musts (q ∷ qs) must_not should some = refl
 
-pub with_must_nots : (must must_not should : List Query) → length must ≡ 0 → length must_not ≢ 0 → term_in (boolean (query_list (map query_value must)) (query_list (map query_value must_not)) (query_list (map query_value should))) ≡ None
+pub with_must_nots : (must must_not should : List Query) → length must ≡ 0 → length must_not ≢ 0 →
+    term_in (boolean (query_list (map query_value must)) (query_list (map query_value must_not)) (query_list (map query_value should))) ≡ None
 with_must_nots [] [] should none some = absurd (some refl)
 with_must_nots [] (q ∷ qs) should none some = refl
 with_must_nots (q ∷ qs) must_not should none some = absurd (omega (arith, none))
 
-pub shoulds_alone : (must must_not should : List Query) → length must ≡ 0 → length must_not ≡ 0 → term_in (boolean (query_list (map query_value must)) (query_list (map query_value must_not)) (query_list (map query_value should))) ≡ only_term_in (query_list (map query_value should))
+pub shoulds_alone : (must must_not should : List Query) → length must ≡ 0 → length must_not ≡ 0 →
+    term_in (boolean (query_list (map query_value must)) (query_list (map query_value must_not)) (query_list (map query_value should)))
+    ≡ only_term_in (query_list (map query_value should))
 shoulds_alone [] [] should none gone = refl
 shoulds_alone [] (q ∷ qs) should none gone = absurd (omega (arith, gone))
 shoulds_alone (q ∷ qs) must_not should none gone = absurd (omega (arith, none))

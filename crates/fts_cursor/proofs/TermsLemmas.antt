@@ -13,7 +13,8 @@ use Rattle.fts_cursor.specs.Terms.{AreTied, IsTied, of_terms}
 tied-follows : (p q : Posting) → Follows p q → IsTied p → IsTied q
 tied-follows p q h tied = let e : q.count ≡ q.opened = omega (arith, h.counted, tied) in e
 
-counts-follow : (ps qs : List Posting) → AllZip Follows ps qs → All IsTied ps → sum_by (λ p. p.count) ps ≤ sum_by (λ p. p.count) qs × All IsTied qs × (length qs ≡ length ps)
+counts-follow : (ps qs : List Posting) → AllZip Follows ps qs → All IsTied ps → sum_by (λ p. p.count) ps ≤ sum_by (λ p. p.count) qs × All IsTied qs
+    × (length qs ≡ length ps)
 counts-follow [] [] h tied = (omega arith, tied, refl)
 counts-follow [] (q ∷ qs) h tied = absurd h
 counts-follow (p ∷ ps) [] h tied = absurd h
@@ -42,7 +43,8 @@ terms-continue c d h tied =
 counts-tied : (ps : List Posting) → All IsTied ps → sum_by (λ p. p.count) ps ≡ sum_by (λ p. p.opened) ps
 counts-tied [] tied = refl
 counts-tied (p ∷ ps) tied =
-    sum_by-cons (λ q. q.count) p ps ∙ ap₂ (λ (m : ℕ) (n : ℕ). m + n) (All-head IsTied p ps tied) (counts-tied ps (All-tail IsTied p ps tied)) ∙ sym (sum_by-cons (λ q. q.opened) p ps)
+    sum_by-cons (λ q. q.count) p ps ∙ ap₂ (λ (m : ℕ) (n : ℕ). m + n) (All-head IsTied p ps tied) (counts-tied ps (All-tail IsTied p ps tied))
+    ∙ sym (sum_by-cons (λ q. q.opened) p ps)
 
 pub terms-tied : (c : Conjoined) → AreTied c → counts_of c ≡ openings_of c
 terms-tied c tied = ap₂ (λ (m : ℕ) (n : ℕ). m + n) tied.0 (counts-tied c.others tied.1)

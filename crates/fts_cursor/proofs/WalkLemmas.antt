@@ -1,5 +1,6 @@
 -- Positions that are gone through forward only.
-use Rattle.std.proofs.Common.{◌≡◌, ℕ, suc, ◌+◌, ◌<◌, ◌≤◌, ◌==◌, nat_le, cond, Bool, false, ◌||◌, Option, Some, None, List, [], ◌∷◌, refl, sym, ap, ap₂, ◌∙◌, inl, inr, arith}
+use Rattle.std.proofs.Common.{◌≡◌, ℕ, suc, ◌+◌, ◌<◌, ◌≤◌, ◌==◌, nat_le, cond, Bool, false, ◌||◌, Option, Some, None, List, [], ◌∷◌, refl, sym, ap, ap₂, ◌∙◌}
+use Rattle.std.proofs.Common.{inl, inr, arith}
 use Rattle.std.specs.Prelude.{MatchOption, slice_range}
 use Rattle.std.specs.List.{list_any}
 use Rattle.std.specs.List.Sorted.{IsStrictlyIncreasing}
@@ -28,7 +29,8 @@ positions_rise p =
     increasing-from_Rises p.next (positions_left p) (Rises-documents_at p.next (slice_range (numbers_behind p.gaps) p.at p.end))
 
 -- a position that is taken from others is the first of them, with those that it leaves behind it
-pub left_from-next : (first : Option ℕ) (before later : List ℕ) → MatchOption first ((before ≡ []) × (later ≡ [])) (λ x. before ≡ x ∷ later) → left_from first later ≡ before
+pub left_from-next : (first : Option ℕ) (before later : List ℕ) → MatchOption first ((before ≡ []) × (later ≡ [])) (λ x. before ≡ x ∷ later) →
+    left_from first later ≡ before
 left_from-next None before later h = sym h.0
 left_from-next (Some x) before later h = sym h
 
@@ -74,7 +76,8 @@ pub record Found (position : ℕ) (old now : List ℕ) (found : Bool) : Type 0 w
   pub found_is : found ≡ has old position
   pub left : now ≡ at_least position old
 
-pub sought-first : (position first : ℕ) (old later : List ℕ) → Sought position old (first ∷ later) → position ≤ first → Found position old (first ∷ later) (first == position)
+pub sought-first : (position first : ℕ) (old later : List ℕ) → Sought position old (first ∷ later) → position ≤ first →
+    Found position old (first ∷ later) (first == position)
 sought-first position first old later h le =
     let rises = (Rises-from_increasing (first ∷ later) h.rises).1 in
     let here : Rises first (first ∷ later) = (omega arith, rises) in

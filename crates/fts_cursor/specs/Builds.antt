@@ -1,5 +1,5 @@
 -- What a cursor is made of.
-use Rattle.std.specs.Prelude.{◌≡◌, ◌≢◌, ℕ, ◌≤◌, Bool, true, false, List, [], length, slice_get, Option, None, Some, is_some}
+use Rattle.std.specs.Prelude.{◌≡◌, ℕ, Bool, List, [], slice_get, Option, None, Some, is_some}
 use Rattle.fts_model.specs.declared.operation.Term.{Term}
 use Rattle.fts_model.specs.declared.value.FieldValue.TheVariants as values
 use Rattle.fts_model.specs.QueryValues.{QueryValue, QueryValues, boolean, no_queries, queries, term}
@@ -7,10 +7,7 @@ use Rattle.fts_segment.specs.ListIds.{documents_in}
 use Rattle.fts_segment.specs.Segments.{SegmentValue, positions, postings}
 use Rattle.fts_cursor.specs.declared.phrase.Member.{Member}
 use Rattle.fts_cursor.specs.Leading.{IsOver}
-use Rattle.fts_cursor.specs.Openings.{HasMusts, IsOfOneTerm, blocks_with, bound_for_musts}
-use Rattle.fts_postings.specs.Bounds.{most_at}
 use Rattle.fts_postings.specs.Posting.{Posting}
-use Rattle.fts_cursor.specs.Standing.{Standing}
 
 -- a text as a term
 abbrev pub text_term : ℕ → List ℕ → Term
@@ -45,13 +42,3 @@ term_in query = None
 -- whether a query is a term
 abbrev pub is_term : QueryValue → Bool
 is_term query = is_some (term_in query)
-
--- what the cursor of a query opens, if it is of one term, or all musts are terms and nothing else is asked: wherever
--- it is, no more than the blocks of the shortest list, and of each other list one, and one for each document of the
--- shortest up to there
-pub record Opens (segment : SegmentValue) (query : QueryValue) (cursor : Standing) : Type 0 where
-  pub one_term : (t : Term) → IsOfOneTerm query t →
-      (cursor.whole ≡ true) × (most_at cursor.bound None ≡ blocks_with segment t)
-  pub musts : (terms : List Term) → HasMusts query terms → (doc : Option ℕ) →
-      most_at cursor.bound doc ≤ most_at (bound_for_musts segment terms) doc
-  pub opened : (terms : List Term) → HasMusts query terms → cursor.remaining ≢ [] → length terms ≤ cursor.openings

@@ -4,7 +4,8 @@ use Rattle.std.proofs.Common.{arith}
 use Rattle.fts_cursor.specs.TreeValues.{most-heights}
 use Rattle.fts_cursor.specs.Trees.{tree_value, value_of}
 use Rattle.fts_cursor.specs.declared.tree.Node.{Node}
-use Rattle.fts_cursor.specs.declared.tree.Node.TheVariants.{Scan, Listed, Postings, Terms, Filter, Phrase, And, Or, Without}
+use Rattle.fts_cursor.specs.declared.tree.Node.TheVariants.{Scan, Listed, Postings, Terms, Filter, Phrase, And, Or}
+use Rattle.fts_cursor.specs.declared.tree.Node.TheVariants.{Without}
 use Rattle.fts_cursor.specs.declared.tree.Source.{Source}
 use Rattle.fts_cursor.specs.declared.tree.Source.TheVariants as sources
 use Rattle.fts_cursor.specs.declared.tree.Tree.TheDeep.{deep-Node, deep-Source}

@@ -15,3 +15,5 @@ pub mod Live
 pub mod Dense
 pub mod Filters
 pub mod Splits
+pub mod Tests
+pub mod Most

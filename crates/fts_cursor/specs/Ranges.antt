@@ -1,5 +1,6 @@
 -- Bounds on numbers, by the places of these in a column.
-use Rattle.std.specs.Prelude.{◌≡◌, ℕ, ◌^◌, ◌<◌, Bool, true, false, nat_le, nat_lt, List, Option}
+use Rattle.std.specs.Prelude.{◌≡◌, ℕ, ◌^◌, ◌<◌, Bool, true, false, nat_le, nat_lt, List, [], Option, MatchOption}
+use Rattle.std.specs.Prelude.{if◌then◌else◌, length}
 use Rattle.std.specs.Option.{option_map_or}
 use Rattle.std.specs.declared.ops.Bound.{Bound}
 use Rattle.std.specs.declared.ops.Bound.TheVariants.{Included, Excluded, Unbounded}
@@ -8,7 +9,13 @@ use Rattle.fts_model.specs.declared.value.FieldValue.TheVariants as values
 use Rattle.fts_model.specs.declared.value.Number.TheVariants as numbers
 use Rattle.fts_model.specs.Documents.{fits_i64}
 use Rattle.fts_pack.specs.bits.Signed.{u64_of}
+use Rattle.fts_model.specs.Queries.{is_number_field}
+use Rattle.fts_model.specs.QueryValues.{QueryValue}
+use Rattle.fts_postings.specs.Windows.{passing}
 use Rattle.fts_segment.specs.Keywords.{before, up_to}
+use Rattle.fts_segment.specs.Segments.{SegmentValue, column, ordinals}
+use Rattle.fts_cursor.specs.Hits.{segment_hits}
+use Rattle.fts_cursor.specs.Scans.{has_within}
 
 -- a number as a column keeps it; a text is 0
 abbrev pub key_of : FieldValue → ℕ
@@ -67,3 +74,13 @@ IsLastOrdinal texts bound last =
 abbrev pub is_bounded : Bound FieldValue → Bool
 is_bounded Unbounded = false
 is_bounded bound = true
+
+-- what the column of a field keeps for each document: numbers, or the ordinals of keywords
+abbrev pub values_of : SegmentValue → ℕ → List (Option ℕ)
+values_of segment field = if is_number_field segment.schema field then column segment field else ordinals segment field
+
+-- the hits of a query are the documents with a number between two, or there are none
+abbrev pub AreBoundsOf : SegmentValue → QueryValue → List (Option ℕ) → Option (ℕ × ℕ) → Type 0
+AreBoundsOf segment query numbers bounds =
+    MatchOption bounds (segment_hits segment query ≡ [])
+    (λ b. passing (has_within b.0 b.1 numbers) 0 (length segment.documents) ≡ segment_hits segment query)

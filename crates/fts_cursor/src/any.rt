@@ -7,6 +7,7 @@ ghost use Rattle.fts_model.specs.QueryValues.{query_value};
 ghost use Rattle.fts_segment.specs.Segments.{numbers_where};
 ghost use Rattle.fts_cursor.specs.Hits.{segment_hits};
 ghost use Rattle.fts_cursor.specs.Splits.{AreToldBy};
+ghost use Rattle.fts_cursor.specs.Standing.{at_most};
 ghost use Rattle.fts_postings.specs.Sets.{union, without};
 
 use crate::dense::Dense;
@@ -25,8 +26,9 @@ pub(crate) fn by_words<'a>(
     segment: &'a Segment,
     queries: &[Query],
 ) -> Result<Option<Tree<'a>>, AllocError>
-    ensures { IfOk result (λ found. IfSome found (λ t. t.remaining
+    ensures remaining { IfOk result (λ found. IfSome found (λ t. t.remaining
         ≡ union (map (λ q. segment_hits segment.now (query_value q)) queries.now))) }
+    ensures bound { IfOk result (λ found. IfSome found (λ t. t.bound ≡ at_most 0)) }
 {
     if !are_terms(queries) {
         return Ok(None);
@@ -44,19 +46,23 @@ pub(crate) fn by_words<'a>(
     Ok(Some(tree))
 }
 
-/// The documents that have each of some terms and none of others, where these are terms whose lists all have bits.
+/// The documents that have each of some terms and none of others, where these are terms whose lists all have bits, and
+/// there are some of both. No block is opened for it.
 pub(crate) fn apart_by_words<'a>(
     alloc: Global,
     segment: &'a Segment,
     must: &[Query],
     must_not: &[Query],
 ) -> Result<Option<Tree<'a>>, AllocError>
-    ensures { IfOk result (λ found. IfSome found (λ t. (0 < length must.now) × (t.remaining ≡ without
+    ensures some { IfOk result (λ found. IfSome found (λ _.
+        (0 < length must.now) × (0 < length must_not.now))) }
+    ensures remaining { IfOk result (λ found. IfSome found (λ t. t.remaining ≡ without
         (numbers_where (λ d. list_all (λ q. matches segment.now.schema d.value (query_value q)) must.now)
         0 segment.now.documents)
-        (union (map (λ q. segment_hits segment.now (query_value q)) must_not.now))))) }
+        (union (map (λ q. segment_hits segment.now (query_value q)) must_not.now)))) }
+    ensures bound { IfOk result (λ found. IfSome found (λ t. t.bound ≡ at_most 0)) }
 {
-    if must.is_empty() || !are_terms(must) || !are_terms(must_not) {
+    if must.is_empty() || must_not.is_empty() || !are_terms(must) || !are_terms(must_not) {
         return Ok(None);
     }
     let Some(all) = bits_of(alloc, segment, must)? else {

@@ -1,5 +1,6 @@
 // Documents that are told by bits: 64 at once, by words.
-ghost use Rattle.std.specs.Prelude.{◌≡◌, ℕ, true, false, ◌+◌, ◌-◌, ◌%◌, ◌*◌, ◌^◌, ◌<◌, ◌≤◌, bit_and, bit_or, length, min};
+ghost use Rattle.std.specs.Prelude.{◌≡◌, ℕ, true, false, ◌+◌, ◌-◌, ◌%◌, ◌*◌, ◌^◌, ◌<◌, ◌≤◌, bit_and, bit_or, length};
+ghost use Rattle.std.specs.Prelude.{min};
 ghost use Rattle.std.specs.Prelude.{slice_index_or};
 ghost use Rattle.fts_cursor.specs.Dense.{AreWithin, HoldsRow, IsRow, Tells, in_each, in_one, is_dense, word_of};
 ghost use Rattle.fts_cursor.specs.Hits.{is_live};
@@ -94,8 +95,8 @@ impl Row {
         self.read = false;
     }
 
-    /// Which of the 64 documents from `from` on are some, and which of the next 64. Where they weren't read yet, the words
-    /// after them are read too.
+    /// Which of the 64 documents from `from` on are some, and which of the next 64. Where they weren't read yet, the
+    /// words after them are read too.
     #[inline]
     pub(crate) fn words(&mut self, dense: &Dense, from: usize) -> (u64, u64)
         requires aligned { from % 64 ≡ 0 }

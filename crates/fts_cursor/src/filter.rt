@@ -1,5 +1,6 @@
 // A cursor over the documents of lists that bits tell too.
-ghost use Rattle.std.specs.Prelude.{◌≡◌, ℕ, ◌+◌, ◌-◌, ◌^◌, ◌≤◌, IfErr, IfOk, Option, drop, filter, length, min, slice_get, take};
+ghost use Rattle.std.specs.Prelude.{◌≡◌, ℕ, ◌+◌, ◌-◌, ◌^◌, ◌≤◌, IfErr, IfOk, Option, drop, filter, length, min};
+ghost use Rattle.std.specs.Prelude.{slice_get, take};
 ghost use Rattle.fts_postings.specs.Bounds.{most_at};
 ghost use Rattle.fts_postings.specs.Conjoined.{AllFollow, bound_of, common_of, counts_of};
 ghost use Rattle.fts_postings.specs.Remaining.{at_least};
@@ -161,7 +162,8 @@ fn keep(bits: &[&Bits], from: usize, count: usize, docs: &mut [u32; 128]) -> usi
     end
 }
 
-/// Keeps those of the first `end` documents whose bit is set, as it is of the first `from`, and gives how many these are.
+/// Keeps those of the first `end` documents whose bit is set, as it is of the first `from`, and gives how many these
+/// are.
 #[inline]
 fn keep_set(bits: &Bits, from: usize, end: usize, docs: &mut [u32; 128]) -> usize
     requires order { from ≤ end }

@@ -22,7 +22,9 @@
 mod any;
 mod cursor;
 mod dense;
+mod doc_test;
 mod filter;
+mod hit_tests;
 mod list_union;
 mod phrase;
 mod position_cursor;
@@ -37,4 +39,5 @@ mod walk;
 
 pub use cursor::Cursor;
 pub use fts_postings::{Conjunction, DocSet, PostingCursor};
+pub use hit_tests::{HitTest, hit_test};
 pub use query_tree::cursor_of;

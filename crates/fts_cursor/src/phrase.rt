@@ -6,7 +6,7 @@ ghost use Rattle.fts_model.specs.Queries.{query_fits};
 ghost use Rattle.fts_model.specs.QueryValues.{phrase};
 ghost use Rattle.fts_cursor.specs.declared.phrase.Member.{Member};
 ghost use Rattle.fts_postings.specs.Bounds.{most_at};
-ghost use Rattle.fts_postings.specs.Conjoined.{AllFollow, common_of};
+ghost use Rattle.fts_postings.specs.Conjoined.{AllFollow, bound_of, common_of};
 ghost use Rattle.fts_postings.specs.Sets.{FirstPasses};
 ghost use Rattle.fts_cursor.specs.Phrases.{AreMembersOf, is_behind, phrase_at};
 ghost use Rattle.fts_postings.specs.Remaining.{at_least};
@@ -61,8 +61,9 @@ impl<'a> PhraseCursor<'a> {
     ) -> PhraseCursor<'a>
         requires tied { AreTied terms }
         requires members { AreMembersOf terms (first.value ∷ others.items) }
-        ensures { result.remaining
+        ensures remaining { result.remaining
             ≡ filter (phrase_at (first.entry.value ∷ others.entry.items)) (common_of terms.entry) }
+        ensures bound { result.bound ≡ bound_of terms.entry }
     {
         let mut terms = terms;
         let mut first = first;

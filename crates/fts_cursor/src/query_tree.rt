@@ -1,18 +1,20 @@
 // The cursor of a query: a tree of cursors, one for each query within it.
-ghost use Rattle.std.specs.Prelude.{◌≡◌, ◌-◌, ◌^◌, ◌≤◌, ◌<◌, true, count_by, IfOk, IsOkUnless, MatchOption};
+ghost use Rattle.std.specs.Prelude.{◌≡◌, ◌-◌, ◌^◌, ◌≤◌, ◌<◌, true, count_by, IfOk, IsOkUnless, MatchOption, None};
 ghost use Rattle.std.specs.Prelude.{All, EachIndex, List, [], ◌∷◌, length, map, min, slice_index};
 ghost use Rattle.std.specs.List.{AllZip, list_all};
 ghost use Rattle.std.specs.List.Sorted.{IsStrictlyIncreasing};
 ghost use Rattle.fts_model.specs.Queries.{query_fits};
-ghost use Rattle.fts_model.specs.QueryValues.{every, phrase, query_value};
+ghost use Rattle.fts_model.specs.QueryValues.{every, phrase, query_list, query_value};
 ghost use Rattle.fts_pack.specs.Documents.{block_count};
 ghost use Rattle.fts_segment.specs.Segments.{positions, postings};
 ghost use Rattle.fts_cursor.specs.Hits.{live_hits, segment_hits};
+ghost use Rattle.fts_postings.specs.Bounds.{most_at};
 ghost use Rattle.fts_postings.specs.Sets.{common, union};
-ghost use Rattle.fts_cursor.specs.Builds.{IsCursorOf, IsMemberFor, LacksTerm, Opens, text_term};
+ghost use Rattle.fts_cursor.specs.Builds.{IsCursorOf, IsMemberFor, LacksTerm, text_term};
+ghost use Rattle.fts_cursor.specs.Most.{Opens, most_for, most_for_all};
 ghost use Rattle.fts_segment.specs.ListIds.{documents_in, positions_in};
 ghost use Rattle.fts_cursor.specs.Standing.{at_most};
-ghost use Rattle.fts_cursor.specs.TreeValues.{TreeValue, remains};
+ghost use Rattle.fts_cursor.specs.TreeValues.{TreeValue, all_most, remains};
 
 use crate::any::{apart_by_words, by_words};
 use crate::cursor::Cursor;
@@ -91,6 +93,9 @@ fn tree_of<'a>(alloc: Global, segment: &'a Segment, query: &Query) -> Result<Tre
             must_not,
             should,
         } => {
+            if let Some(tree) = apart_by_words(alloc, segment, must, must_not)? {
+                return Ok(tree);
+            }
             let kept = if must.is_empty() {
                 any_of(alloc, segment, should)?
             } else if are_terms(must) {
@@ -100,9 +105,6 @@ fn tree_of<'a>(alloc: Global, segment: &'a Segment, query: &Query) -> Result<Tre
             };
             if must_not.is_empty() {
                 return Ok(kept);
-            }
-            if let Some(tree) = apart_by_words(alloc, segment, must, must_not)? {
-                return Ok(tree);
             }
             let dropped = any_of(alloc, segment, must_not)?;
             let kept = Box::new(alloc, kept)?;
@@ -126,6 +128,8 @@ fn any_of<'a>(
     ensures alone { IfOk result (λ t. (q : Query) → queries.now ≡ q ∷ []
         → Opens segment.now (query_value q) t.standing) }
     ensures none { IfOk result (λ t. queries.now ≡ [] → t.bound ≡ at_most 0) }
+    ensures most { IfOk result (λ t. most_at t.bound None
+        ≤ most_for_all segment.now (query_list (map query_value queries.now))) }
 {
     match queries {
         [] => Ok(Tree::nothing()),
@@ -164,9 +168,10 @@ fn trees_of<'a>(
 /// What all have in common. The part of the least cost leads.
 fn all<'a>(alloc: Global, parts: Vec<Tree<'a>>) -> Result<Tree<'a>, AllocError>
     requires { 0 < length parts.items }
-    ensures { IfOk result (λ t. (first : TreeValue) (rest : List TreeValue) →
+    ensures remaining { IfOk result (λ t. (first : TreeValue) (rest : List TreeValue) →
         parts.entry.items ≡ first ∷ rest
         → t.remaining ≡ common first.remaining (remains rest)) }
+    ensures most { IfOk result (λ t. most_at t.bound None ≡ all_most parts.entry.items) }
 {
     let mut parts = parts;
     let costs = costs_of(alloc, &parts)?;
@@ -209,7 +214,8 @@ fn place_of_least(numbers: &[usize]) -> usize
 /// Every document.
 #[inline(never)]
 fn of_all(alloc: Global, segment: &Segment) -> Result<Tree<'_>, AllocError>
-    ensures { IfOk result (λ t. t.remaining ≡ segment_hits segment.now every) }
+    ensures remaining { IfOk result (λ t. t.remaining ≡ segment_hits segment.now every) }
+    ensures bound { IfOk result (λ t. t.bound ≡ at_most 0) }
 {
     let docs = segment.docs();
     Tree::scan(alloc, ScanCursor::new(Kept::Every, docs, Some(docs)))
@@ -237,7 +243,8 @@ fn of_phrase<'a>(
     pattern: &[(u32, Text)],
 ) -> Result<Tree<'a>, AllocError>
     requires { query_fits segment.now.schema (phrase field pattern.now) ≡ true }
-    ensures { IfOk result (λ t. t.remaining ≡ segment_hits segment.now (phrase field pattern.now)) }
+    ensures remaining { IfOk result (λ t. t.remaining ≡ segment_hits segment.now (phrase field pattern.now)) }
+    ensures most { IfOk result (λ t. most_at t.bound None ≤ most_for segment.now (phrase field pattern.now)) }
 {
     let Some(members) = members_of(alloc, segment, field, pattern)? else {
         return Ok(Tree::nothing());

@@ -4,13 +4,14 @@ ghost use Rattle.std.specs.Prelude.{slice_index_or, true};
 ghost use Rattle.std.specs.Option.{option_map_or};
 ghost use Rattle.fts_model.specs.Operations.{kind_at};
 ghost use Rattle.fts_model.specs.declared.schema.Kind.TheVariants as kinds;
-ghost use Rattle.fts_model.specs.Queries.{is_number_field, is_range_of};
+ghost use Rattle.fts_model.specs.Queries.{is_number_field, is_ordered_field, is_range_of};
 ghost use Rattle.fts_model.specs.QueryValues.{range};
 ghost use Rattle.fts_cursor.specs.Hits.{segment_hits};
-ghost use Rattle.fts_segment.specs.Segments.{keywords};
-ghost use Rattle.fts_cursor.specs.Ranges.{IsGreatestOf, IsLastOrdinal, IsLeastOf, IsWhole, IsWholeBound, is_bounded};
-ghost use Rattle.fts_cursor.specs.Ranges.{key_of};
-ghost use Rattle.fts_cursor.specs.Ranges.{ordinal_from};
+ghost use Rattle.fts_cursor.specs.Most.{OpensRange, least_for, most_for};
+ghost use Rattle.fts_postings.specs.Bounds.{most_at};
+ghost use Rattle.fts_segment.specs.Segments.{column, keywords, ordinals};
+ghost use Rattle.fts_cursor.specs.Ranges.{AreBoundsOf, IsGreatestOf, IsLastOrdinal, IsLeastOf, IsWhole, IsWholeBound};
+ghost use Rattle.fts_cursor.specs.Ranges.{is_bounded, key_of, ordinal_from, values_of};
 ghost use Rattle.fts_cursor.specs.Scans.{has_within};
 ghost use Rattle.fts_postings.specs.Windows.{passing};
 ghost use Rattle.fts_segment.specs.Between.{AreBetween, count_between};
@@ -38,70 +39,100 @@ pub(crate) fn of_range<'a>(
 ) -> Result<Tree<'a>, AllocError>
     requires { option_map_or (is_range_of lower.now upper.now) (kind_at segment.now.schema field)
         false ≡ true }
-    ensures { IfOk result (λ t. t.remaining ≡ segment_hits segment.now (range field lower.now upper.now)) }
+    ensures remaining { IfOk result
+        (λ t. t.remaining ≡ segment_hits segment.now (range field lower.now upper.now)) }
+    ensures most { IfOk result (λ t. most_at t.bound None
+        ≤ most_for segment.now (range field lower.now upper.now)) }
+    ensures least { IfOk result (λ t. least_for segment.now (range field lower.now upper.now) ≤ t.openings) }
 {
     if is_open(lower) && is_open(upper) {
         let kept = Kept::Valued { segment, field };
         return Tree::scan(alloc, ScanCursor::new(kept, segment.docs(), None));
     }
-    if segment.schema().kind(field).holds_numbers() {
-        of_numbers(alloc, segment, field, lower, upper)
-    } else {
-        of_keywords(alloc, segment, field, lower, upper)
+    match bounds_of(segment, field, lower, upper) {
+        None => Ok(Tree::nothing()),
+        Some((low, high)) => of_bounds(alloc, segment, field, low, high),
     }
 }
 
-/// The documents with a number within bounds, of which one is one at least.
-fn of_numbers<'a>(
-    alloc: Global,
-    segment: &'a Segment,
+/// Between which numbers of the column of a keyword or number field a range lies that isn't open at both ends, these
+/// included; none where it admits no value.
+pub(crate) fn bounds_of(
+    segment: &Segment,
     field: usize,
     lower: &Bound<FieldValue>,
     upper: &Bound<FieldValue>,
-) -> Result<Tree<'a>, AllocError>
+) -> Option<(u64, u64)>
+    requires range { option_map_or (is_range_of lower.now upper.now) (kind_at segment.now.schema field)
+        false ≡ true }
+    requires bounded { (is_bounded lower.now || is_bounded upper.now) ≡ true }
+    ensures { AreBoundsOf segment.now (range field lower.now upper.now) (values_of segment.now field) result }
+{
+    if segment.schema().kind(field).holds_numbers() {
+        number_bounds(segment, field, lower, upper)
+    } else {
+        keyword_bounds(segment, field, lower, upper)
+    }
+}
+
+/// The same of a number field.
+fn number_bounds(
+    segment: &Segment,
+    field: usize,
+    lower: &Bound<FieldValue>,
+    upper: &Bound<FieldValue>,
+) -> Option<(u64, u64)>
     requires range { option_map_or (is_range_of lower.now upper.now) (kind_at segment.now.schema field)
         false ≡ true }
     requires numbers { is_number_field segment.now.schema field ≡ true }
     requires bounded { (is_bounded lower.now || is_bounded upper.now) ≡ true }
-    ensures { IfOk result (λ t. t.remaining ≡ segment_hits segment.now (range field lower.now upper.now)) }
+    ensures { AreBoundsOf segment.now (range field lower.now upper.now) (column segment.now field) result }
 {
     let column = segment.column(field);
     // Shows the proof that its numbers have 64 bits.
     let _ = most_of(column);
-    let (Some(low), Some(high)) = (least(lower), greatest(upper)) else {
-        return Ok(Tree::nothing());
-    };
-    let lists = segment.lists_between(field, low, high);
-    let documents = segment.documents_between(field, low, high);
-    let tree = between(alloc, column, segment.docs(), lists, documents, low, high)?;
-    Ok(tree)
+    let low = least(lower);
+    let high = greatest(upper);
+    Some((low?, high?))
 }
 
-/// The documents with a text within bounds, of which one is one at least: those with an ordinal among the ordinals of
-/// these texts.
-fn of_keywords<'a>(
-    alloc: Global,
-    segment: &'a Segment,
+/// The same of a keyword field: the ordinals of the texts within the range.
+fn keyword_bounds(
+    segment: &Segment,
     field: usize,
     lower: &Bound<FieldValue>,
     upper: &Bound<FieldValue>,
-) -> Result<Tree<'a>, AllocError>
+) -> Option<(u64, u64)>
     requires range { is_range_of lower.now upper.now kinds.Keyword ≡ true }
     requires keyword { kind_at segment.now.schema field ≡ Some kinds.Keyword }
     requires bounded { (is_bounded lower.now || is_bounded upper.now) ≡ true }
-    ensures { IfOk result (λ t. t.remaining ≡ segment_hits segment.now (range field lower.now upper.now)) }
+    ensures { AreBoundsOf segment.now (range field lower.now upper.now) (ordinals segment.now field) result }
 {
     let column = segment.column(field);
     // Shows the proof that its ordinals have 64 bits.
     let _ = most_of(column);
     let low = first_ordinal(segment, field, lower);
-    let Some(high) = last_ordinal(segment, field, upper) else {
-        return Ok(Tree::nothing());
-    };
+    let high = last_ordinal(segment, field, upper)?;
+    Some((low, high))
+}
+
+/// The documents with a number between two in the column of a keyword or number field.
+fn of_bounds(
+    alloc: Global,
+    segment: &Segment,
+    field: usize,
+    low: u64,
+    high: u64,
+) -> Result<Tree<'_>, AllocError>
+    requires { is_ordered_field segment.now.schema field ≡ true }
+    ensures remaining { IfOk result (λ t. t.remaining
+        ≡ passing (has_within low high (values_of segment.now field)) 0 (length segment.now.documents)) }
+    ensures opens { IfOk result (λ t. OpensRange (length segment.now.documents) t.standing) }
+{
+    let column = segment.column(field);
     let lists = segment.lists_between(field, low, high);
     let documents = segment.documents_between(field, low, high);
-    let tree = between(alloc, column, segment.docs(), lists, documents, low, high)?;
-    Ok(tree)
+    between(alloc, column, segment.docs(), lists, documents, low, high)
 }
 
 /// The documents with a number of a column between two, which are in these lists, and how many they are: where they are
@@ -119,11 +150,13 @@ fn between<'a>(
     requires size { length column.now ≡ docs }
     requires lists { AreBetween column.now low high lists.now }
     requires documents { documents ≡ count_between low high column.now }
-    ensures { IfOk result (λ t. t.remaining ≡ passing (has_within low high column.now) 0 docs) }
+    ensures remaining { IfOk result (λ t. t.remaining ≡ passing (has_within low high column.now) 0 docs) }
+    ensures opens { IfOk result (λ t. OpensRange docs t.standing) }
 {
     if documents <= docs / 256 {
         let (listed, opened) = ListedCursor::of_lists(alloc, lists)?;
-        return Tree::listed(alloc, listed, opened);
+        // No document is in two lists, so the blocks are no more than the documents.
+        return Tree::listed(alloc, listed, opened.min(documents as u64));
     }
     let kept = Kept::Within { column, low, high };
     Tree::scan(alloc, ScanCursor::new(kept, docs, Some(documents)))
@@ -172,7 +205,7 @@ fn most_of(column: &Column) -> Option<u64>
 }
 
 /// Whether a bound admits everything.
-fn is_open(bound: &Bound<FieldValue>) -> bool
+pub(crate) fn is_open(bound: &Bound<FieldValue>) -> bool
     ensures { result ≡ not (is_bounded bound.now) }
 {
     matches!(bound, Bound::Unbounded)

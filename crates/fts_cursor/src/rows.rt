@@ -1,5 +1,6 @@
 // Which documents are kept by their number alone: they are looked at in stretches of 128.
-ghost use Rattle.std.specs.Prelude.{◌≡◌, ℕ, ◌+◌, ◌%◌, ◌-◌, ◌^◌, ◌<◌, ◌≤◌, ◌&&◌, IfErr, IfOk, true, false, length, min, take};
+ghost use Rattle.std.specs.Prelude.{◌≡◌, ℕ, ◌+◌, ◌%◌, ◌-◌, ◌^◌, ◌<◌, ◌≤◌, ◌&&◌, IfErr, IfOk, true, false, length, min};
+ghost use Rattle.std.specs.Prelude.{take};
 ghost use Rattle.fts_cursor.specs.Dense.{AreWithin, HoldsRow, Tells, is_dense};
 ghost use Rattle.fts_cursor.specs.Hits.{is_live};
 ghost use Rattle.fts_cursor.specs.Scans.{AreFor, has_value, has_within, has_within_live, keeps, kept_in};

@@ -113,7 +113,8 @@ fn some_told<'a>(
     opened: u64,
 ) -> Result<Tree<'a>, AllocError>
     requires { Rises 0 shortest.now }
-    ensures { IfOk result (λ t. FindsSplit shortest.now bits.entry.items (map (λ l. l.now) rest.now) opened t.standing) }
+    ensures { IfOk result (λ t. FindsSplit shortest.now bits.entry.items
+        (map (λ l. l.now) rest.now) opened t.standing) }
 {
     let lead = cursor_over(shortest);
     let others = cursors_over(alloc, rest)?;

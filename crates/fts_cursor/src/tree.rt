@@ -1,5 +1,6 @@
 // Cursors of queries within one another, each of which knows the first document that remains of it.
-ghost use Rattle.std.specs.Prelude.{◌≡◌, ℕ, ◌-◌, ◌^◌, ◌<◌, ◌≤◌, All, IfOk, [], MatchOption, true, false, drop, filter, length};
+ghost use Rattle.std.specs.Prelude.{◌≡◌, ℕ, ◌+◌, ◌-◌, ◌^◌, ◌<◌, ◌≤◌, All, IfOk, [], MatchOption, true, false, drop};
+ghost use Rattle.std.specs.Prelude.{filter, length};
 ghost use Rattle.std.specs.Prelude.{min, slice_get, take};
 ghost use Rattle.std.specs.List.Sorted.{IsStrictlyIncreasing};
 ghost use Rattle.fts_postings.specs.Bounds.{most_at};
@@ -171,7 +172,8 @@ impl<'a> Tree<'a> {
 
     /// Of a phrase.
     pub(crate) fn phrase(alloc: Global, phrase: PhraseCursor<'a>) -> Result<Tree<'a>, AllocError>
-        ensures { IfOk result (λ t. t.remaining ≡ phrase.entry.remaining) }
+        ensures remaining { IfOk result (λ t. t.remaining ≡ phrase.entry.remaining) }
+        ensures bound { IfOk result (λ t. t.bound ≡ phrase.entry.bound) }
     {
         Tree::of(alloc, phrase.doc(), Node::Phrase(phrase))
     }
@@ -182,8 +184,10 @@ impl<'a> Tree<'a> {
         lead: Box<Tree<'a>>,
         others: Vec<Tree<'a>>,
     ) -> Result<Tree<'a>, AllocError>
-        ensures { IfOk result
+        ensures remaining { IfOk result
             (λ t. t.remaining ≡ common lead.entry.value.remaining (remains others.entry.items)) }
+        ensures most { IfOk result (λ t. most_at t.bound None
+            ≡ most_at lead.entry.value.bound None + all_most others.entry.items) }
     {
         let mut parts = Intersection { lead, others };
         let doc = align(&mut parts);
@@ -193,7 +197,8 @@ impl<'a> Tree<'a> {
     /// Of what one of them has.
     #[inline(never)]
     pub(crate) fn or(alloc: Global, parts: Vec<Tree<'a>>) -> Result<Tree<'a>, AllocError>
-        ensures { IfOk result (λ t. t.remaining ≡ union (remains parts.entry.items)) }
+        ensures remaining { IfOk result (λ t. t.remaining ≡ union (remains parts.entry.items)) }
+        ensures most { IfOk result (λ t. most_at t.bound None ≡ all_most parts.entry.items) }
     {
         let window = Window::new(alloc)?;
         let mut buffered = BufferedUnion { parts, window };
@@ -207,8 +212,10 @@ impl<'a> Tree<'a> {
         kept: Box<Tree<'a>>,
         dropped: Box<Tree<'a>>,
     ) -> Result<Tree<'a>, AllocError>
-        ensures { IfOk result (λ t. t.remaining
+        ensures remaining { IfOk result (λ t. t.remaining
             ≡ without kept.entry.value.remaining dropped.entry.value.remaining) }
+        ensures most { IfOk result (λ t. most_at t.bound None
+            ≡ most_at kept.entry.value.bound None + most_at dropped.entry.value.bound None) }
     {
         let mut parts = Exclusion { kept, dropped };
         let doc = settle(&mut parts);

@@ -1,5 +1,6 @@
 -- The cursors of a conjunction, step by step.
-use Rattle.std.proofs.Common.{◌≡◌, ◌≢◌, ℕ, zero, suc, ◌+◌, ◌-◌, ◌*◌, ◌<◌, ◌≤◌, nat_le, cond, true, false, ◌&&◌, Option, Some, None, List, [], ◌∷◌, ◌++◌, length, get_or, set, drop, refl, sym, ap, ap₂, subst, ◌∙◌, inl, inr, arith}
+use Rattle.std.proofs.Common.{◌≡◌, ◌≢◌, ℕ, zero, suc, ◌+◌, ◌-◌, ◌*◌, ◌<◌, ◌≤◌, nat_le, cond, true, false, ◌&&◌, Option, Some, None, List, [], ◌∷◌, ◌++◌, length}
+use Rattle.std.proofs.Common.{get_or, set, drop, refl, sym, ap, ap₂, subst, ◌∙◌, inl, inr, arith}
 use Rattle.std.specs.List.{All, AllZip, filter, flat_map, slice_get}
 use Rattle.std.specs.List.Sorted.{IsStrictlyIncreasing}
 use Rattle.std.proofs.lemmas.Bool.{cases_lt, le-leb, lt-leb}
@@ -12,9 +13,11 @@ use Rattle.fts_postings.specs.Bounds.{Bound, most_at, reached}
 use Rattle.fts_postings.specs.Posting.{Follows, Posting, members_of, remaining_of}
 use Rattle.fts_postings.specs.Remaining.{at_least}
 use Rattle.fts_postings.specs.Sets.{FirstPasses, has, in_all, common}
-use Rattle.fts_postings.specs.Conjoined.{AllFollow, Conjoined, Sought, StandAt, StandTogether, Brought, IsAhead, IsConjoined, MayBeBrought, AreFew, common_of, bound_of, each_remaining, members_reached, openings_of}
+use Rattle.fts_postings.specs.Conjoined.{AllFollow, Conjoined, Sought, StandAt, StandTogether, Brought, IsAhead, IsConjoined, MayBeBrought, AreFew, common_of}
+use Rattle.fts_postings.specs.Conjoined.{bound_of, each_remaining, members_reached, openings_of}
 use Rattle.fts_postings.proofs.RemainingLemmas.{at_least-at_least, first-at_least, fewer-at_least}
-use Rattle.fts_postings.proofs.SetLemmas.{has-before_first, has-first, has-none, in_all-lacking, in_all-each, has-at_least, filter-first, filter-same, filter-ahead, filter-none, Rises-from_first}
+use Rattle.fts_postings.proofs.SetLemmas.{has-before_first, has-first, has-none, in_all-lacking, in_all-each, has-at_least, filter-first, filter-same}
+use Rattle.fts_postings.proofs.SetLemmas.{filter-ahead, filter-none, Rises-from_first}
 use Rattle.fts_postings.proofs.PostingLemmas.{Follows-same, Follows-trans, members-split, remaining_within}
 use Rattle.fts_pack.proofs.DocumentsLemmas.{Rises-from_increasing}
 
@@ -35,7 +38,8 @@ Sought-seek doc p q is follows once = record {
   once = once;
 }
 
-pub AllZip-from_places : {X : Type 0} (R : X → X → Type 0) (xs ys : List X) → length ys ≡ length xs → ((k : ℕ) (d : X) → k < length xs → R (get_or xs k d) (get_or ys k d)) → AllZip R xs ys
+pub AllZip-from_places : {X : Type 0} (R : X → X → Type 0) (xs ys : List X) → length ys ≡ length xs →
+    ((k : ℕ) (d : X) → k < length xs → R (get_or xs k d) (get_or ys k d)) → AllZip R xs ys
 AllZip-from_places R [] [] size h = tt
 AllZip-from_places R [] (y ∷ ys) size h = absurd (omega (arith, size))
 AllZip-from_places R (x ∷ xs) [] size h = absurd (omega (arith, size))
@@ -43,7 +47,8 @@ AllZip-from_places R (x ∷ xs) (y ∷ ys) size h =
     (h 0 x (omega arith), AllZip-from_places R xs ys (omega (arith, size)) (λ k d inside. h (suc k) d (omega (arith, inside))))
 
 -- what holds of what remains of a cursor holds at its place in the list of these
-each_at : (now : List Posting) (k : ℕ) (xs : List ℕ) → k < length now → (P : List ℕ → Type 0) → ((d : Posting) → P (remaining_of (get_or now k d))) → P (get_or (each_remaining now) k xs)
+each_at : (now : List Posting) (k : ℕ) (xs : List ℕ) → k < length now → (P : List ℕ → Type 0) → ((d : Posting) → P (remaining_of (get_or now k d))) →
+    P (get_or (each_remaining now) k xs)
 each_at [] k xs inside P h = absurd (omega arith)
 each_at (p ∷ ps) zero xs inside P h = h p
 each_at (p ∷ ps) (suc k) xs inside P h = each_at ps k xs (omega (arith, inside)) P h
@@ -54,7 +59,9 @@ module _ (doc : ℕ) (initial now : List Posting) (index : ℕ) (h : BroughtUpTo
   Brought-all all = AllZip-from_places (Sought doc) initial now h.size (λ k d inside. h.moved k d (omega (arith, inside, all, h.size)))
 
   pub IsAhead-all : length now ≤ index → in_all (each_remaining now) doc ≡ true
-  IsAhead-all all = in_all-each (each_remaining now) doc (λ k inside. each_at now k [] (omega (arith, inside, length-map now remaining_of)) (λ xs. has xs doc ≡ true) (λ d. has-first (remaining_of (get_or now k d)) doc (sym (h.stand k d (omega (arith, inside, all, length-map now remaining_of))))))
+  IsAhead-all all = in_all-each (each_remaining now) doc (λ k inside. each_at now k [] (omega (arith, inside, length-map now remaining_of))
+      (λ xs. has xs doc ≡ true)
+      (λ d. has-first (remaining_of (get_or now k d)) doc (sym (h.stand k d (omega (arith, inside, all, length-map now remaining_of))))))
 
   pub StandAt-all : length now ≤ index → StandAt doc now
   StandAt-all all = λ k d inside. h.stand k d (omega (arith, inside, all))
@@ -101,12 +108,14 @@ module _ (now : List Posting) (index : ℕ) (q : Posting) (inside : index < leng
   lacking : (d : ℕ) → has (remaining_of q) d ≡ false → in_all (each_remaining (set now index q)) d ≡ false
   lacking d lacks =
       let there : index < length (set now index q) = omega (arith, inside, length-set now index q) in
-      in_all-lacking (each_remaining (set now index q)) index d (omega (arith, there, length-map (set now index q) remaining_of)) (each_at (set now index q) index [] there (λ xs. has xs d ≡ false) (λ e. rw get_or-set_same lacks))
+      in_all-lacking (each_remaining (set now index q)) index d (omega (arith, there, length-map (set now index q) remaining_of))
+      (each_at (set now index q) index [] there (λ xs. has xs d ≡ false) (λ e. rw get_or-set_same lacks))
 
   pub IsAhead-none : (doc : ℕ) → None ≡ slice_get (remaining_of q) 0 → IsAhead doc (each_remaining (set now index q)) None
   IsAhead-none doc none d high = lacking d (has-none (remaining_of q) d none)
 
-  pub IsAhead-later : (doc next : ℕ) (xs : List ℕ) → remaining_of q ≡ at_least doc xs → IsStrictlyIncreasing (remaining_of q) → Some next ≡ slice_get (remaining_of q) 0 → next ≢ doc → IsAhead doc (each_remaining (set now index q)) (Some next)
+  pub IsAhead-later : (doc next : ℕ) (xs : List ℕ) → remaining_of q ≡ at_least doc xs → IsStrictlyIncreasing (remaining_of q) →
+      Some next ≡ slice_get (remaining_of q) 0 → next ≢ doc → IsAhead doc (each_remaining (set now index q)) (Some next)
   IsAhead-later doc next xs is rises first other = (
     first-at_least doc xs next (first ∙ ap (λ ys. slice_get ys 0) is),
     λ same. absurd (other same),
@@ -142,7 +151,8 @@ in_all-brought doc [] [] h d high = refl
 in_all-brought doc [] (q ∷ qs) h d high = absurd h
 in_all-brought doc (p ∷ ps) [] h d high = absurd h
 in_all-brought doc (p ∷ ps) (q ∷ qs) h d high =
-    ap₂ (λ a b. a && b) (sym (has-at_least doc (remaining_of q) d high) ∙ ap (λ xs. has xs d) h.0.same ∙ has-at_least doc (remaining_of p) d high) (in_all-brought doc ps qs h.1 d high)
+    ap₂ (λ a b. a && b) (sym (has-at_least doc (remaining_of q) d high) ∙ ap (λ xs. has xs d) h.0.same ∙ has-at_least doc (remaining_of p) d high)
+    (in_all-brought doc ps qs h.1 d high)
 
 few-brought : (doc : ℕ) (lead : Posting) (ps qs : List Posting) → All (λ p. p.opened ≤ members_reached lead) ps → Brought doc ps qs → AreFew lead qs
 few-brought doc lead ps qs few h k d inside =
@@ -151,7 +161,8 @@ few-brought doc lead ps qs few h k d inside =
     omega (arith, at.once, few k d (omega (arith, inside, same)))
 
 -- the leading cursor moved on: each of the others may open one block more
-pub MayBeBrought-moved : (lead moved : Posting) (others : List Posting) → moved.blocks ≡ lead.blocks → length (remaining_of moved) < length (remaining_of lead) → AreFew lead others → MayBeBrought moved others
+pub MayBeBrought-moved : (lead moved : Posting) (others : List Posting) → moved.blocks ≡ lead.blocks →
+    length (remaining_of moved) < length (remaining_of lead) → AreFew lead others → MayBeBrought moved others
 MayBeBrought-moved lead moved others blocks less few =
     let whole : length (members_of moved) ≡ length (members_of lead) = ap (λ bs. length (flat_map (λ block. block) bs)) blocks in
     let within = remaining_within lead in
@@ -160,7 +171,8 @@ MayBeBrought-moved lead moved others blocks less few =
       fewer = λ some k d inside. omega (arith, some, whole, within, less, few k d inside);
     }
 
-module _ (lead : Posting) (others : List Posting) (now next : Posting) (before after : List Posting) (doc : ℕ) (h : Aligning lead others now before) (rises : IsStrictlyIncreasing (remaining_of now)) (first : Some doc ≡ slice_get (remaining_of now) 0) (brought : Brought doc before after) where
+module _ (lead : Posting) (others : List Posting) (now next : Posting) (before after : List Posting) (doc : ℕ) (h : Aligning lead others now before)
+    (rises : IsStrictlyIncreasing (remaining_of now)) (first : Some doc ≡ slice_get (remaining_of now) 0) (brought : Brought doc before after) where
   up : Rises doc (remaining_of now)
   up = Rises-from_first (remaining_of now) doc rises first
 
@@ -169,7 +181,8 @@ module _ (lead : Posting) (others : List Posting) (now next : Posting) (before a
   some_left (x ∷ xs) is = omega arith
 
   pub common-brought : common (remaining_of now) (each_remaining after) ≡ common (remaining_of lead) (each_remaining others)
-  common-brought = filter-same doc (in_all (each_remaining after)) (in_all (each_remaining before)) (remaining_of now) up (in_all-brought doc before after brought) ∙ h.same
+  common-brought = filter-same doc (in_all (each_remaining after)) (in_all (each_remaining before)) (remaining_of now) up
+      (in_all-brought doc before after brought) ∙ h.same
 
   pub AreFew-brought : AreFew now after
   AreFew-brought = few-brought doc now before after (h.few.fewer (some_left (remaining_of now) first)) brought
@@ -177,12 +190,15 @@ module _ (lead : Posting) (others : List Posting) (now next : Posting) (before a
   pub others-brought : AllZip Follows others after
   others-brought = all_follow-trans others before after h.others_follow (all_follow-brought doc before after brought)
 
-  pub fewer_left : (target : ℕ) → IsAhead doc (each_remaining after) (Some target) → target ≢ doc → remaining_of next ≡ at_least target (remaining_of now) → length (remaining_of next) < length (remaining_of now)
+  pub fewer_left : (target : ℕ) → IsAhead doc (each_remaining after) (Some target) → target ≢ doc → remaining_of next ≡ at_least target (remaining_of now) →
+      length (remaining_of next) < length (remaining_of now)
   fewer_left target ahead other is = rw is (fewer-at_least target (remaining_of now) doc first (omega (arith, ahead.0, other)))
 
-  pub Aligning-sought : (target : ℕ) → IsAhead doc (each_remaining after) (Some target) → target ≢ doc → remaining_of next ≡ at_least target (remaining_of now) → Follows now next → Aligning lead others next after
+  pub Aligning-sought : (target : ℕ) → IsAhead doc (each_remaining after) (Some target) → target ≢ doc →
+      remaining_of next ≡ at_least target (remaining_of now) → Follows now next → Aligning lead others next after
   Aligning-sought target ahead other is follows = record {
-    same = ap (λ xs. common xs (each_remaining after)) is ∙ filter-ahead doc target (in_all (each_remaining after)) (remaining_of now) up ahead.2 ∙ common-brought;
+    same = ap (λ xs. common xs (each_remaining after)) is ∙ filter-ahead doc target (in_all (each_remaining after)) (remaining_of now) up ahead.2
+        ∙ common-brought;
     few = MayBeBrought-moved now next after follows.blocks (fewer_left target ahead other is) AreFew-brought;
     lead_follows = Follows-trans lead now next h.lead_follows follows;
     others_follow = others-brought;
@@ -191,7 +207,8 @@ module _ (lead : Posting) (others : List Posting) (now next : Posting) (before a
   pub Aligning-finished : IsAhead doc (each_remaining after) None → remaining_of next ≡ [] → Follows now next → Aligning lead others next after
   Aligning-finished none is follows = record {
     same = ap (λ xs. common xs (each_remaining after)) is ∙ sym (filter-none doc (in_all (each_remaining after)) (remaining_of now) up none) ∙ common-brought;
-    few = MayBeBrought-moved now next after follows.blocks (let less : length (remaining_of next) < length (remaining_of now) = omega (arith, ap length is, some_left (remaining_of now) first) in less) AreFew-brought;
+    few = MayBeBrought-moved now next after follows.blocks (let less : length (remaining_of next) < length (remaining_of now) =
+        omega (arith, ap length is, some_left (remaining_of now) first) in less) AreFew-brought;
     lead_follows = Follows-trans lead now next h.lead_follows follows;
     others_follow = others-brought;
   }
@@ -215,7 +232,8 @@ fewer_stepped : (xs ys : List ℕ) → ys ≡ drop 1 xs → 0 < length xs → le
 fewer_stepped [] ys is some = absurd (omega arith)
 fewer_stepped (x ∷ xs) ys is some = omega (arith, ap length is)
 
-pub MayBeBrought-advanced : (lead moved : Posting) (others : List Posting) → AreFew lead others → Follows lead moved → remaining_of moved ≡ drop 1 (remaining_of lead) → MayBeBrought moved others
+pub MayBeBrought-advanced : (lead moved : Posting) (others : List Posting) → AreFew lead others → Follows lead moved →
+    remaining_of moved ≡ drop 1 (remaining_of lead) → MayBeBrought moved others
 MayBeBrought-advanced lead moved others few follows is = elim (cases_lt 0 (length (remaining_of lead))) [
   | inl some ↦ MayBeBrought-moved lead moved others follows.blocks (fewer_stepped (remaining_of lead) (remaining_of moved) is some) few
   | inr none ↦
@@ -227,7 +245,8 @@ MayBeBrought-advanced lead moved others few follows is = elim (cases_lt 0 (lengt
       }
 ]
 
-pub MayBeBrought-sought : (lead moved : Posting) (others : List Posting) (first target : ℕ) → AreFew lead others → Follows lead moved → remaining_of moved ≡ at_least target (remaining_of lead) → Some first ≡ slice_get (remaining_of lead) 0 → first < target → MayBeBrought moved others
+pub MayBeBrought-sought : (lead moved : Posting) (others : List Posting) (first target : ℕ) → AreFew lead others → Follows lead moved →
+    remaining_of moved ≡ at_least target (remaining_of lead) → Some first ≡ slice_get (remaining_of lead) 0 → first < target → MayBeBrought moved others
 MayBeBrought-sought lead moved others first target few follows is first_is low =
     MayBeBrought-moved lead moved others follows.blocks (rw is (fewer-at_least target (remaining_of lead) first first_is low)) few
 
@@ -238,10 +257,12 @@ AllFollow-same c = record { lead = Follows-same c.lead; others = all_follow-same
 in_all-stand : (doc : ℕ) (others : List Posting) → StandAt doc others → in_all (each_remaining others) doc ≡ true
 in_all-stand doc [] h = refl
 in_all-stand doc (p ∷ ps) h =
-    ap₂ (λ a b. a && b) (has-first (remaining_of p) doc (sym (All-head (λ q. slice_get (remaining_of q) 0 ≡ Some doc) p ps h))) (in_all-stand doc ps (All-tail (λ q. slice_get (remaining_of q) 0 ≡ Some doc) p ps h))
+    ap₂ (λ a b. a && b) (has-first (remaining_of p) doc (sym (All-head (λ q. slice_get (remaining_of q) 0 ≡ Some doc) p ps h)))
+    (in_all-stand doc ps (All-tail (λ q. slice_get (remaining_of q) 0 ≡ Some doc) p ps h))
 
 -- where all stand together, the first document is one of all
-first_passes : (others : List Posting) (xs : List ℕ) → ((doc : ℕ) → slice_get xs 0 ≡ Some doc → StandAt doc others) → FirstPasses (in_all (each_remaining others)) xs
+first_passes : (others : List Posting) (xs : List ℕ) → ((doc : ℕ) → slice_get xs 0 ≡ Some doc → StandAt doc others) →
+    FirstPasses (in_all (each_remaining others)) xs
 first_passes others [] h = tt
 first_passes others (x ∷ xs) h = in_all-stand x others (h x refl)
 
@@ -249,7 +270,8 @@ pub together-passes : (lead : Posting) (others : List Posting) → StandTogether
 together-passes lead others h = first_passes others (remaining_of lead) h
 
 -- where something is left in common, all stand at its first
-standing_at : (others : List Posting) (xs : List ℕ) → ((doc : ℕ) → slice_get xs 0 ≡ Some doc → StandAt doc others) → 0 < length (common xs (each_remaining others)) → (doc : ℕ) × (slice_get (common xs (each_remaining others)) 0 ≡ Some doc) × StandAt doc others
+standing_at : (others : List Posting) (xs : List ℕ) → ((doc : ℕ) → slice_get xs 0 ≡ Some doc → StandAt doc others) →
+    0 < length (common xs (each_remaining others)) → (doc : ℕ) × (slice_get (common xs (each_remaining others)) 0 ≡ Some doc) × StandAt doc others
 standing_at others [] h some = absurd (omega (arith, some))
 standing_at others (x ∷ xs) h some = (x, sym (filter-first (in_all (each_remaining others)) (x ∷ xs) (in_all-stand x others (h x refl))), h x refl)
 
@@ -258,13 +280,18 @@ pub stand_at : (lead : Posting) (others : List Posting) → StandTogether lead o
 stand_at lead others h some = standing_at others (remaining_of lead) h some
 
 pub AllFollow-trans : (c d e : Conjoined) → AllFollow c d → AllFollow d e → AllFollow c e
-AllFollow-trans c d e h k = record { lead = Follows-trans c.lead d.lead e.lead h.lead k.lead; others = all_follow-trans c.others d.others e.others h.others k.others }
+AllFollow-trans c d e h k =
+    record { lead = Follows-trans c.lead d.lead e.lead h.lead k.lead; others = all_follow-trans c.others d.others e.others h.others k.others }
 
 -- the members up to the first that remains
-reached_front : (next : ℕ) (front : List ℕ) (r : ℕ) (rest : List ℕ) → Rises next (front ++ r ∷ rest) → (next ≤ r) × (reached (front ++ r ∷ rest) (Some r) ≡ length front + 1)
+reached_front : (next : ℕ) (front : List ℕ) (r : ℕ) (rest : List ℕ) → Rises next (front ++ r ∷ rest) →
+    (next ≤ r) × (reached (front ++ r ∷ rest) (Some r) ≡ length front + 1)
 reached_front next [] r rest h =
-    let none : filter (λ d. nat_le d r) rest ≡ [] = filter-none (suc r) (λ d. nat_le d r) rest h.1 (λ d high. lt-leb d r high) in
-    (h.0, ap (λ b. length (cond b (r ∷ filter (λ d. nat_le d r) rest) (filter (λ d. nat_le d r) rest))) (le-leb r r (omega arith)) ∙ omega (arith, ap length none))
+    let none : filter (λ d. nat_le d r) rest ≡ [] = filter-none (suc r) (λ d. nat_le d r) rest h.1 (λ d high. lt-leb d r high) in (
+      h.0,
+      ap (λ b. length (cond b (r ∷ filter (λ d. nat_le d r) rest) (filter (λ d. nat_le d r) rest))) (le-leb r r (omega arith))
+          ∙ omega (arith, ap length none),
+    )
 reached_front next (f ∷ front) r rest h =
     let below = filter (λ d. nat_le d r) (front ++ r ∷ rest) in
     let later = reached_front (suc f) front r rest h.1 in
@@ -285,17 +312,22 @@ reached_first lead others rises together =
     ∙ ap₂ reached (sym split.1) first
 
 -- the bound on the openings of all
-pub openings_bound : (lead : Posting) (others : List Posting) → IsStrictlyIncreasing (members_of lead) → StandTogether lead others → AreFew lead others → lead.opened ≤ length lead.blocks →
-    openings_of (record { lead = lead; others = others }) ≤ most_at (bound_of (record { lead = lead; others = others })) (slice_get (common_of (record { lead = lead; others = others })) 0)
+pub openings_bound : (lead : Posting) (others : List Posting) → IsStrictlyIncreasing (members_of lead) → StandTogether lead others → AreFew lead others →
+    lead.opened ≤ length lead.blocks →
+    openings_of (record { lead = lead; others = others }) ≤ most_at (bound_of (record { lead = lead; others = others }))
+    (slice_get (common_of (record { lead = lead; others = others })) 0)
 openings_bound lead others rises together few within =
-    let all : openings_of (record { lead = lead; others = others }) ≤ length lead.blocks + length others * (members_reached lead + 1) = omega (arith, within, sum_by-le (λ p. p.opened) (members_reached lead + 1) others few) in
-    subst (λ n. openings_of (record { lead = lead; others = others }) ≤ length lead.blocks + length others * (n + 1)) (reached_first lead others rises together) all
+    let all : openings_of (record { lead = lead; others = others }) ≤ length lead.blocks + length others * (members_reached lead + 1) =
+    omega (arith, within, sum_by-le (λ p. p.opened) (members_reached lead + 1) others few) in
+    subst (λ n. openings_of (record { lead = lead; others = others }) ≤ length lead.blocks + length others * (n + 1)) (reached_first lead others rises together)
+    all
 
 -- no more are reached anywhere than at the end
 pub most-at_end : (b : Bound) (doc : Option ℕ) → most_at b doc ≤ most_at b None
 most-at_end b None = omega arith
 most-at_end b (Some doc) =
-    let le : reached b.lead (Some doc) + 1 ≤ length b.lead + 1 = omega (arith, length-filter (λ d. nat_le d doc) b.lead, count_by-le-length (λ d. nat_le d doc) b.lead) in
+    let le : reached b.lead (Some doc) + 1 ≤ length b.lead + 1 =
+    omega (arith, length-filter (λ d. nat_le d doc) b.lead, count_by-le-length (λ d. nat_le d doc) b.lead) in
     let times = mul-le b.others (reached b.lead (Some doc) + 1) b.others (length b.lead + 1) (omega arith) le in
     omega (arith, times)
 
@@ -309,4 +341,8 @@ module _ (lead : Posting) (others : List Posting) (none : others ≡ []) where
   common_alone = ap (λ ps. common (remaining_of lead) (each_remaining ps)) none ∙ all_kept (remaining_of lead)
 
   pub IsConjoined-alone : IsConjoined lead others
-  IsConjoined-alone = subst (IsConjoined lead) (sym none) (record { together = λ doc first. All-nil (λ p. slice_get (remaining_of p) 0 ≡ Some doc); few = All-nil (λ p. p.opened ≤ members_reached lead + 1) })
+  IsConjoined-alone = subst (IsConjoined lead) (sym none) (record {
+    together = λ doc first. All-nil (λ p. slice_get (remaining_of p) 0 ≡ Some doc);
+    few =
+        All-nil (λ p. p.opened ≤ members_reached lead + 1);
+  })

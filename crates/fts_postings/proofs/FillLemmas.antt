@@ -1,8 +1,10 @@
 -- Documents that are taken from the front of a list, one after the other.
-use Rattle.std.proofs.Common.{◌≡◌, ℕ, ◌+◌, ◌-◌, ◌<◌, ◌≤◌, Some, None, List, [], ◌∷◌, ◌++◌, append_assoc, length, get_or, set, take, drop, min, refl, sym, ap, ap₂, subst, ◌∙◌, inl, inr, arith}
+use Rattle.std.proofs.Common.{◌≡◌, ℕ, ◌+◌, ◌-◌, ◌<◌, ◌≤◌, Some, None, List, [], ◌∷◌, ◌++◌, append_assoc, length, get_or, set, take, drop, min, refl, sym, ap}
+use Rattle.std.proofs.Common.{ap₂, subst, ◌∙◌, inl, inr, arith}
 use Rattle.std.specs.List.{slice_get}
 use Rattle.std.proofs.lemmas.Bool.{cases_lt}
-use Rattle.std.proofs.lemmas.List.{append-nil, drop-take, length-append, nil_from_length, take-append-drop, take-append-le, take-take, take_more, take_more_set, take_all, drop_all, drop-drop, get_or-drop, length-drop}
+use Rattle.std.proofs.lemmas.List.{append-nil, drop-take, length-append, nil_from_length, take-append-drop, take-append-le, take-take, take_more, take_more_set}
+use Rattle.std.proofs.lemmas.List.{take_all, drop_all, drop-drop, get_or-drop, length-drop}
 use Rattle.std.proofs.lemmas.Option.{get_or_from_slice_get, slice_get_within}
 use Rattle.fts_postings.specs.Fills.{IsStretch}
 
@@ -18,12 +20,14 @@ Taken-none whole out = record { left_is = refl; front = refl; within = omega ari
 first_within : (xs : List ℕ) (d : ℕ) → Some d ≡ slice_get xs 0 → 0 < length xs
 first_within xs d is = slice_get_within xs 0 d (sym is)
 
-pub Taken-more : (whole left out next : List ℕ) (count d : ℕ) → Taken whole left out count → Some d ≡ slice_get left 0 → count < length out → next ≡ drop 1 left → Taken whole next (set out count d) (count + 1)
+pub Taken-more : (whole left out next : List ℕ) (count d : ℕ) → Taken whole left out count → Some d ≡ slice_get left 0 → count < length out →
+    next ≡ drop 1 left → Taken whole next (set out count d) (count + 1)
 Taken-more whole left out next count d h is room step =
     let some : 0 < length left = first_within left d is in
     let inside : count < length whole = omega (arith, ap length h.left_is, length-drop count whole, some) in
     let start : count + 0 ≡ count = omega arith in
-    let here : get_or whole count 0 ≡ d = ap (λ n. get_or whole n 0) (sym start) ∙ sym (get_or-drop count whole 0 0) ∙ ap (λ xs. get_or xs 0 0) (sym h.left_is) ∙ get_or_from_slice_get left 0 d 0 (sym is) in
+    let here : get_or whole count 0 ≡ d = ap (λ n. get_or whole n 0) (sym start) ∙ sym (get_or-drop count whole 0 0) ∙ ap (λ xs. get_or xs 0 0) (sym h.left_is)
+    ∙ get_or_from_slice_get left 0 d 0 (sym is) in
     record {
       left_is = step ∙ ap (drop 1) h.left_is ∙ drop-drop 1 count whole ∙ ap (λ n. drop n whole) (omega arith);
       front = take_more_set out count d room ∙ ap₂ (λ xs x. xs ++ x ∷ []) h.front (sym here) ∙ sym (take_more whole count 0 inside);
@@ -59,7 +63,8 @@ take-add n m xs =
     sym (take-append-drop n (take (n + m) xs)) ∙ ap₂ (λ ys zs. ys ++ zs) (take-take n (n + m) xs (omega arith)) (drop-take n m xs)
 
 -- a stretch more
-pub Taken-stretch : (whole left next out written : List ℕ) (filled count : ℕ) → Taken whole left out filled → IsStretch left next out written filled count → Taken whole next written (filled + count)
+pub Taken-stretch : (whole left next out written : List ℕ) (filled count : ℕ) → Taken whole left out filled → IsStretch left next out written filled count →
+    Taken whole next written (filled + count)
 Taken-stretch whole left next out written filled count h s = record {
   left_is = s.left_is ∙ ap (drop count) h.left_is ∙ drop-drop count filled whole;
   front = s.front ∙ ap₂ (λ xs ys. xs ++ take count ys) h.front h.left_is ∙ sym (take-add filled count whole);
@@ -67,13 +72,16 @@ Taken-stretch whole left next out written filled count h s = record {
 }
 
 -- a stretch of nothing
-module _ (whole left next out written : List ℕ) (filled count : ℕ) (h : Taken whole left out filled) (s : IsStretch left next out written filled count) (none : count ≡ 0) where
+module _ (whole left next out written : List ℕ) (filled count : ℕ) (h : Taken whole left out filled) (s : IsStretch left next out written filled count)
+    (none : count ≡ 0) where
   pub Taken-rest : Taken whole next written filled
-  Taken-rest = subst (Taken whole next written) (let e : filled + count ≡ filled = omega (arith, none) in e) (Taken-stretch whole left next out written filled count h s)
+  Taken-rest = subst (Taken whole next written) (let e : filled + count ≡ filled = omega (arith, none) in e)
+      (Taken-stretch whole left next out written filled count h s)
 
   pub none_left : None ≡ slice_get next 0
   none_left =
-      let gone : length left ≡ 0 = elim (cases_lt 0 (length left)) [ inl some ↦ absurd (omega (arith, none, s.some some)) | inr empty ↦ omega (arith, empty) ] in
+      let gone : length left ≡ 0 =
+      elim (cases_lt 0 (length left)) [ inl some ↦ absurd (omega (arith, none, s.some some)) | inr empty ↦ omega (arith, empty) ] in
       ap (λ xs. slice_get xs 0) (sym (nil_from_length next (omega (arith, gone, ap length s.left_is, length-drop count left))))
 
 -- where nothing is left, nothing is taken
@@ -87,18 +95,22 @@ no_stretch left out filled none room = record {
 }
 
 -- a stretch out of an array at whose front lies what is open
-pub stretch_copied : (numbers here rest next out written : List ℕ) (at len filled count : ℕ) → take len numbers ≡ here → len ≡ length here → at < len → filled < 128 → count ≡ min (len - at) (128 - filled) →
-    take (filled + count) written ≡ take filled out ++ take count (drop at numbers) → next ≡ drop count (drop at here ++ rest) → IsStretch (drop at here ++ rest) next out written filled count
+pub stretch_copied : (numbers here rest next out written : List ℕ) (at len filled count : ℕ) → take len numbers ≡ here → len ≡ length here → at < len →
+    filled < 128 → count ≡ min (len - at) (128 - filled) →
+    take (filled + count) written ≡ take filled out ++ take count (drop at numbers) → next ≡ drop count (drop at here ++ rest) →
+    IsStretch (drop at here ++ rest) next out written filled count
 stretch_copied numbers here rest next out written at len filled count is size inside room most copied left =
     let long : length (drop at here ++ rest) ≡ len - at + length rest = omega (arith, length-append (drop at here) rest, length-drop at here, size) in
     let fits : count ≤ len - at = omega (arith, most) in
     let whole : at + (len - at) ≡ len = omega (arith, inside) in
-    let front : take (len - at) (drop at numbers) ≡ drop at here = sym (drop-take at (len - at) numbers) ∙ ap (λ n. drop at (take n numbers)) whole ∙ ap (drop at) is in
+    let front : take (len - at) (drop at numbers) ≡ drop at here = sym (drop-take at (len - at) numbers) ∙ ap (λ n. drop at (take n numbers)) whole
+    ∙ ap (drop at) is in
     record {
       some = λ _. omega (arith, most, inside, room);
       within = omega (arith, long, fits);
       room = omega (arith, most, room);
-      front = copied ∙ ap (λ xs. take filled out ++ xs) (sym (take-take count (len - at) (drop at numbers) fits) ∙ ap (take count) front ∙ sym (take-append-le count (drop at here) rest (omega (arith, fits, length-drop at here, size))));
+      front = copied ∙ ap (λ xs. take filled out ++ xs) (sym (take-take count (len - at) (drop at numbers) fits) ∙ ap (take count) front
+          ∙ sym (take-append-le count (drop at here) rest (omega (arith, fits, length-drop at here, size))));
       left_is = left;
     }
 
@@ -122,7 +134,8 @@ IsTakenBehind-none left out filled room =
     }
 
 -- a stretch more
-pub IsTakenBehind-more : (left mid next out written later : List ℕ) (filled end count : ℕ) → IsTakenBehind left mid out written filled end → IsStretch mid next written later end count → IsTakenBehind left next out later filled (end + count)
+pub IsTakenBehind-more : (left mid next out written later : List ℕ) (filled end count : ℕ) → IsTakenBehind left mid out written filled end →
+    IsStretch mid next written later end count → IsTakenBehind left next out later filled (end + count)
 IsTakenBehind-more left mid next out written later filled end count h s =
     let taken = end - filled in
     let more : end + count - filled ≡ taken + count = omega (arith, h.order) in
@@ -138,7 +151,8 @@ IsTakenBehind-more left mid next out written later filled end count h s =
     }
 
 -- as many as there is room for, or all
-pub IsStretch-behind : (left next out written : List ℕ) (filled end count : ℕ) → IsTakenBehind left next out written filled end → count ≡ end - filled → (0 < length left → filled < end) → IsStretch left next out written filled count
+pub IsStretch-behind : (left next out written : List ℕ) (filled end count : ℕ) → IsTakenBehind left next out written filled end → count ≡ end - filled →
+    (0 < length left → filled < end) → IsStretch left next out written filled count
 IsStretch-behind left next out written filled end count h is some =
     let whole : filled + count ≡ end = omega (arith, h.order, is) in
     record {
@@ -150,19 +164,27 @@ IsStretch-behind left next out written filled end count h is some =
     }
 
 -- where a stretch of nothing follows, something was taken if there was any
-pub behind_some : (left mid out written : List ℕ) (filled end : ℕ) → IsTakenBehind left mid out written filled end → (0 < length mid → ⊥) → 0 < length left → filled < end
+pub behind_some : (left mid out written : List ℕ) (filled end : ℕ) → IsTakenBehind left mid out written filled end → (0 < length mid → ⊥) → 0 < length left →
+    filled < end
 behind_some left mid out written filled end h none some =
     elim (cases_lt filled end) [
       | inl more ↦ more
-      | inr all ↦ absurd (none (let none_taken : end - filled ≡ 0 = omega (arith, all) in omega (arith, some, ap length h.left_is, length-drop (end - filled) left, none_taken)))
+      | inr all ↦ absurd (none (let none_taken : end - filled ≡ 0 = omega (arith, all) in
+          omega (arith, some, ap length h.left_is, length-drop (end - filled) left, none_taken)))
     ]
 
 -- one document is a stretch
-pub stretch_of_one : (left next out : List ℕ) (filled d : ℕ) → Some d ≡ slice_get left 0 → filled < 128 → length out ≡ 128 → next ≡ drop 1 left → IsStretch left next out (set out filled d) filled 1
+pub stretch_of_one : (left next out : List ℕ) (filled d : ℕ) → Some d ≡ slice_get left 0 → filled < 128 → length out ≡ 128 → next ≡ drop 1 left →
+    IsStretch left next out (set out filled d) filled 1
 stretch_of_one left next out filled d is room long step =
     let some : 0 < length left = first_within left d is in
     let inside : filled < length out = omega (arith, room, long) in
-    let one : take 1 left ≡ d ∷ [] = elim left as (λ xs. Some d ≡ slice_get xs 0 → take 1 xs ≡ d ∷ []) [ [] ↦ λ e. absurd (let f : Some d ≡ None = e in cc) | x ∷ xs ↦ λ e. (let f : Some d ≡ Some x = e in let g : x ≡ d = cc in ap (λ y. y ∷ []) g) ] is in
+    let one : take 1 left ≡ d ∷ [] =
+    elim left as (λ xs. Some d ≡ slice_get xs 0 → take 1 xs ≡ d ∷ []) [
+      | [] ↦ λ e. absurd (let f : Some d ≡ None = e in cc)
+      | x ∷ xs ↦ λ e.
+          (let f : Some d ≡ Some x = e in let g : x ≡ d = cc in ap (λ y. y ∷ []) g)
+    ] is in
     record {
       some = λ _. omega arith;
       within = omega (arith, some);

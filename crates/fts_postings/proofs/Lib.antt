@@ -12,5 +12,4 @@ pub mod MarksLemmas
 pub mod MarkingLemmas
 pub mod TakingLemmas
 pub mod WindowBitsLemmas
-pub mod BitMarksLemmas
 mod PlacesLemmas

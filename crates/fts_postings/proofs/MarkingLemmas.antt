@@ -1,9 +1,11 @@
 -- Documents that are marked a stretch at a time.
-use Rattle.std.proofs.Common.{◌≡◌, ℕ, zero, suc, ◌+◌, ◌-◌, ◌<◌, ◌≤◌, All, Bool, true, false, ◌||◌, ◌==◌, List, [], ◌∷◌, ◌++◌, length, get_or, take, drop, refl, sym, ap, subst, ◌∙◌, inl, inr, arith}
+use Rattle.std.proofs.Common.{◌≡◌, ℕ, zero, suc, ◌+◌, ◌-◌, ◌<◌, ◌≤◌, All, Bool, true, false, ◌||◌, ◌==◌, List, [], ◌∷◌, ◌++◌, length, get_or, take, drop, refl}
+use Rattle.std.proofs.Common.{sym, ap, subst, ◌∙◌, inl, inr, arith}
 use Rattle.std.specs.List.{flat_map}
 use Rattle.std.specs.List.Sorted.{IsStrictlyIncreasing}
 use Rattle.std.proofs.lemmas.Bool.{cases_lt}
-use Rattle.std.proofs.lemmas.List.{drop-take, get_or-take, get_or_append_left, get_or_default, length-append, length-drop, length-take-le, take-append-drop, take-append-le, take_more}
+use Rattle.std.proofs.lemmas.List.{drop-take, get_or-take, get_or_append_left, get_or_default, length-append, length-drop, length-take-le, take-append-drop}
+use Rattle.std.proofs.lemmas.List.{take-append-le, take_more}
 use Rattle.std.proofs.lemmas.List.Elements.{All-cons, All-nil}
 use Rattle.std.proofs.lemmas.List.Folds.{list_any-append}
 use Rattle.fts_pack.specs.Documents.{Rises}
@@ -27,7 +29,8 @@ pub at_least_each : (target : ℕ) (xs : List ℕ) → All (λ d. target ≤ d) 
 at_least_each target [] = All-nil (λ d. target ≤ d)
 at_least_each target (x ∷ xs) = elim (cases_lt x target) [
   | inl low ↦ subst (λ ys. All (λ d. target ≤ d) ys) (sym (leaves target x xs low)) (at_least_each target xs)
-  | inr up ↦ subst (λ ys. All (λ d. target ≤ d) ys) (sym (stays target x xs up)) (All-cons (λ d. target ≤ d) x (at_least target xs) up (at_least_each target xs))
+  | inr up ↦ subst (λ ys. All (λ d. target ≤ d) ys) (sym (stays target x xs up)) (All-cons (λ d. target ≤ d) x (at_least target xs) up
+      (at_least_each target xs))
 ]
 
 -- what lies from a target on is left, and what lies below it isn't
@@ -43,10 +46,12 @@ at_least_gone target (x ∷ xs) h =
 
 pub at_least_behind : (target count : ℕ) (xs : List ℕ) → All (λ d. d < target) (take count xs) → at_least target (drop count xs) ≡ at_least target xs
 at_least_behind target count xs h =
-    sym (ap (at_least target) (sym (take-append-drop count xs)) ∙ at_least-append target (take count xs) (drop count xs) ∙ ap (λ ys. ys ++ at_least target (drop count xs)) (at_least_gone target (take count xs) h))
+    sym (ap (at_least target) (sym (take-append-drop count xs)) ∙ at_least-append target (take count xs) (drop count xs)
+    ∙ ap (λ ys. ys ++ at_least target (drop count xs)) (at_least_gone target (take count xs) h))
 
 -- one document more
-pub marked_more : (old mid new docs : List ℕ) (index doc : ℕ) → index < length docs → doc ≡ get_or docs index 0 → new ≡ with_one doc mid → ((d : ℕ) → has mid d ≡ (has old d || has (take index docs) d)) → (d : ℕ) → has new d ≡ (has old d || has (take (index + 1) docs) d)
+pub marked_more : (old mid new docs : List ℕ) (index doc : ℕ) → index < length docs → doc ≡ get_or docs index 0 → new ≡ with_one doc mid →
+    ((d : ℕ) → has mid d ≡ (has old d || has (take index docs) d)) → (d : ℕ) → has new d ≡ (has old d || has (take (index + 1) docs) d)
 marked_more old mid new docs index doc inside is more before d =
     let front = take index docs in
     let whole : take (index + 1) docs ≡ front ++ doc ∷ [] = take_more docs index 0 inside ∙ ap (λ x. front ++ x ∷ []) (sym is) in
@@ -62,7 +67,8 @@ rises_up xs at (suc more) h inside =
     omega (arith, rises_up xs at more h (omega (arith, inside)), rw e at (h (at + more) (omega (arith, inside))))
 
 -- where the last of them has a place, each has
-pub places_first : (last : ℕ) (docs : List ℕ) (count : ℕ) → IsStrictlyIncreasing docs → count ≤ length docs → (0 < count → get_or docs (count - 1) 0 ≤ last) → All (λ d. d ≤ last) (take count docs)
+pub places_first : (last : ℕ) (docs : List ℕ) (count : ℕ) → IsStrictlyIncreasing docs → count ≤ length docs → (0 < count → get_or docs (count - 1) 0 ≤ last) →
+    All (λ d. d ≤ last) (take count docs)
 places_first last docs count rises within reached k d inside =
     let few : k < count = omega (arith, inside, length-take-le count docs within) in
     let same : get_or (take count docs) k d ≡ get_or docs k 0 = get_or-take count docs k d few ∙ get_or_default docs k d 0 (omega (arith, few, within)) in
@@ -71,7 +77,8 @@ places_first last docs count rises within reached k d inside =
     omega (arith, same, rw e at up, reached (omega (arith, few)))
 
 -- the rest of the open block, with which what remains begins
-module _ (p q : Posting) (same : p ≡ q) (len : ℕ) (numbers mid : List ℕ) (h : IsPosting p.blocks p.block p.at len p.opened numbers) (some : 0 < length (remaining_of q)) (mid_is : mid ≡ take (len - p.at) (drop p.at numbers)) where
+module _ (p q : Posting) (same : p ≡ q) (len : ℕ) (numbers mid : List ℕ) (h : IsPosting p.blocks p.block p.at len p.opened numbers)
+    (some : 0 < length (remaining_of q)) (mid_is : mid ≡ take (len - p.at) (drop p.at numbers)) where
   abbrev rest : List ℕ
   rest = flat_map (λ block. block) (drop (suc p.block) p.blocks)
 

@@ -1,5 +1,6 @@
 -- Documents as the bits of a word: what is left once the lowest bit is gone.
-use Rattle.std.proofs.Common.{◌≡◌, ℕ, zero, suc, ◌+◌, ◌-◌, ◌/◌, ◌%◌, ◌^◌, ◌<◌, ◌≤◌, Bool, true, false, ◌==◌, List, [], ◌∷◌, ◌++◌, length, take, set, drop, sym, ap, ◌∙◌, inl, inr, arith}
+use Rattle.std.proofs.Common.{◌≡◌, ℕ, zero, suc, ◌+◌, ◌-◌, ◌/◌, ◌%◌, ◌^◌, ◌<◌, ◌≤◌, Bool, true, false, ◌==◌, List, [], ◌∷◌, ◌++◌, length, take, set, drop, sym}
+use Rattle.std.proofs.Common.{ap, ◌∙◌, inl, inr, arith}
 use Rattle.std.specs.Int.{bit_at, w64, trailing_zeros}
 use Rattle.std.specs.Int.RustNames.{bit_and}
 use Rattle.std.proofs.lemmas.Bool.{cases_Bool, cases_lt}
@@ -74,7 +75,8 @@ module _ (from last marks : ℕ) (some : 0 < marks) (fits : marks < 2 ^ 64) wher
 
   rest : (d : ℕ) → from + suc lowest ≤ d → is_marked from later d ≡ is_marked from marks d
   rest d up =
-      let same : bit_at later (d - from) ≡ bit_at marks (d - from) = omega (arith, bit_at_and marks (marks - 1) (d - from), above_stay lowest marks (d - from) place.1 place.2 (omega (arith, up))) in
+      let same : bit_at later (d - from) ≡ bit_at marks (d - from) =
+      omega (arith, bit_at_and marks (marks - 1) (d - from), above_stay lowest marks (d - from) place.1 place.2 (omega (arith, up))) in
       ap (λ b. b == 1) same
 
   -- the first that is marked, and the others
@@ -90,11 +92,14 @@ module _ (from last marks : ℕ) (some : 0 < marks) (fits : marks < 2 ^ 64) wher
   lowest_below bound few = few lowest place.1
 
 -- what is left has no other marks
-pub others_below : (from marks bound : ℕ) → ((k : ℕ) → bit_at marks k ≡ 1 → from + k < bound) → (k : ℕ) → bit_at (bit_and marks (marks - 1)) k ≡ 1 → from + k < bound
+pub others_below : (from marks bound : ℕ) → ((k : ℕ) → bit_at marks k ≡ 1 → from + k < bound) → (k : ℕ) → bit_at (bit_and marks (marks - 1)) k ≡ 1 →
+    from + k < bound
 others_below from marks bound few k is = few k (omega (arith, is, bit_at_and marks (marks - 1) k, bit_at-lt marks k))
 
 -- the lowest is written behind the others
-pub lowest_written : (out : List ℕ) (count from last marks : ℕ) → 0 < marks → marks < 2 ^ 64 → from + 63 ≤ last → count < length out → take (count + 1) (set out count (from + trailing_zeros w64 marks)) ++ marked from last (bit_and marks (marks - 1)) ≡ take count out ++ marked from last marks
+pub lowest_written : (out : List ℕ) (count from last marks : ℕ) → 0 < marks → marks < 2 ^ 64 → from + 63 ≤ last → count < length out →
+    take (count + 1) (set out count (from + trailing_zeros w64 marks)) ++ marked from last (bit_and marks (marks - 1)) ≡ take count out
+    ++ marked from last marks
 lowest_written out count from last marks some fits long room =
     let x = from + trailing_zeros w64 marks in
     let left = marked from last (bit_and marks (marks - 1)) in

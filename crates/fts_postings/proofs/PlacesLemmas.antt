@@ -5,19 +5,22 @@ use Rattle.std.specs.List.{prefix_len}
 use Rattle.std.proofs.lemmas.Bool.{cases_lt, leb-false, leb-true, ne_eqb}
 use Rattle.std.proofs.lemmas.List.{length-map}
 use Rattle.std.proofs.lemmas.Nat.Bits.{bit_at_above, bit_at-trailing_zeros}
-use Rattle.std.proofs.lemmas.Simd.{first_set_mask_l, length-chunk, mask_l-lt, mask_l-mod, none_from_empty_mask, run_in_chunk_fails, run_in_chunk_stops, tops_compared, zip2_splat_left}
+use Rattle.std.proofs.lemmas.Simd.{first_set_mask_l, length-chunk, mask_l-lt, mask_l-mod, none_from_empty_mask, run_in_chunk_fails, run_in_chunk_stops}
+use Rattle.std.proofs.lemmas.Simd.{tops_compared, zip2_splat_left}
 use lib.Count.{count_trailing_zeros}
 use lib.Dec.{leb}
 use lib.Lanes.{chunk, mask_l, top, zip2}
 use lib.ListN.{replicate}
 use Rattle.fts_postings.specs.Remaining.{IsPlaceOf}
 
-pub reached-are : (numbers : List ℕ) (target : ℕ) → length numbers ≡ 16 → mask_l (map (top 31) (zip2 (λ a b. cond (leb a b) (2 ^ 32 - 1) 0) (replicate 16 target) numbers)) % 2 ^ 64 ≡ mask_l (map (leb target) numbers)
+pub reached-are : (numbers : List ℕ) (target : ℕ) → length numbers ≡ 16 →
+    mask_l (map (top 31) (zip2 (λ a b. cond (leb a b) (2 ^ 32 - 1) 0) (replicate 16 target) numbers)) % 2 ^ 64 ≡ mask_l (map (leb target) numbers)
 reached-are numbers target size =
     ap (λ ms. mask_l ms % 2 ^ 64) (tops_compared w32 leb (replicate 16 target) numbers ∙ zip2_splat_left leb target 16 numbers size)
     ∙ mask_l-mod (map (leb target) numbers) 64 (omega (arith, length-map numbers (leb target), size))
 
-module _ (numbers : List ℕ) (from to target m : ℕ) (room : from + 16 ≤ to) (within : to ≤ length numbers) (is : m ≡ mask_l (map (leb target) (chunk from 16 numbers))) where
+module _ (numbers : List ℕ) (from to target m : ℕ) (room : from + 16 ≤ to) (within : to ≤ length numbers)
+    (is : m ≡ mask_l (map (leb target) (chunk from 16 numbers))) where
   abbrev part : List ℕ
   part = chunk from 16 numbers
 
@@ -28,7 +31,9 @@ module _ (numbers : List ℕ) (from to target m : ℕ) (room : from + 16 ≤ to)
   pub reached_place : 0 < m → IsPlaceOf (λ k. get_or numbers k 0) from to target (from + count_trailing_zeros 64 m)
   reached_place some =
       let r = count_trailing_zeros 64 m in
-      let few : m < 2 ^ 16 = subst (λ n. n < 2 ^ 16) (sym is) (subst (λ n. mask_l (map (leb target) part) < 2 ^ n) (length-map part (leb target) ∙ size) (mask_l-lt (map (leb target) part))) in
+      let few : m < 2 ^ 16 =
+      subst (λ n. n < 2 ^ 16) (sym is) (subst (λ n. mask_l (map (leb target) part) < 2 ^ n) (length-map part (leb target) ∙ size)
+      (mask_l-lt (map (leb target) part))) in
       let lowest = bit_at-trailing_zeros w64 m some (omega (arith, few)) in
       let near : r < 16 = elim (cases_lt r 16) [
         | inl low ↦ low
@@ -42,18 +47,21 @@ module _ (numbers : List ℕ) (from to target m : ℕ) (room : from + 16 ≤ to)
       record {
         low_within = omega arith;
         high_within = omega (arith, near, room);
-        before = λ behind. leb-false target (get_or numbers (from + r - 1) 0) (run_in_chunk_fails (leb target) numbers from 16 r 0 long counted (from + r - 1) (omega (arith, behind)) (omega (arith, behind)));
+        before = λ behind. leb-false target (get_or numbers (from + r - 1) 0) (run_in_chunk_fails (leb target) numbers from 16 r 0 long counted (from + r - 1)
+            (omega (arith, behind)) (omega (arith, behind)));
         here = λ _. leb-true target (get_or numbers (from + r) 0) (run_in_chunk_stops (leb target) numbers from 16 r 0 long counted near);
       }
 
   -- where none is reached, the place lies behind all of them
-  pub none_reached : m ≡ 0 → (place : ℕ) → IsPlaceOf (λ k. get_or numbers k 0) (from + 16) to target place → IsPlaceOf (λ k. get_or numbers k 0) from to target place
+  pub none_reached : m ≡ 0 → (place : ℕ) → IsPlaceOf (λ k. get_or numbers k 0) (from + 16) to target place →
+      IsPlaceOf (λ k. get_or numbers k 0) from to target place
   none_reached none place h = record {
     low_within = omega (arith, h.low_within);
     high_within = h.high_within;
     before = λ behind. elim (cases_lt (from + 16) place) [
       | inl over ↦ h.before over
-      | inr at ↦ leb-false target (get_or numbers (place - 1) 0) (none_from_empty_mask (leb target) numbers from 16 0 (omega (arith, room, within)) (sym is ∙ none) (place - 1) (omega (arith, h.low_within)) (omega (arith, at, h.low_within)))
+      | inr at ↦ leb-false target (get_or numbers (place - 1) 0) (none_from_empty_mask (leb target) numbers from 16 0 (omega (arith, room, within))
+          (sym is ∙ none) (place - 1) (omega (arith, h.low_within)) (omega (arith, at, h.low_within)))
     ];
     here = h.here;
   }

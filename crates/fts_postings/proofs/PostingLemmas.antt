@@ -1,10 +1,12 @@
 -- A posting cursor's steps: from one place of its blocks to another.
-use Rattle.std.proofs.Common.{◌≡◌, ℕ, zero, suc, ◌+◌, ◌-◌, ◌*◌, ◌<◌, ◌≤◌, List, [], ◌∷◌, ◌++◌, All, length, get_or, take, drop, refl, sym, ap, ap₂, subst, ◌∙◌, inl, inr, arith, append_assoc}
+use Rattle.std.proofs.Common.{◌≡◌, ℕ, zero, suc, ◌+◌, ◌-◌, ◌*◌, ◌<◌, ◌≤◌, List, [], ◌∷◌, ◌++◌, All, length, get_or, take, drop, refl, sym, ap, ap₂, subst, ◌∙◌}
+use Rattle.std.proofs.Common.{inl, inr, arith, append_assoc}
 use Rattle.std.specs.List.{flat_map}
 use Rattle.std.specs.List.Sorted.{IsStrictlyIncreasing}
 use Rattle.std.proofs.lemmas.Grind.{flat_map-append}
 use Rattle.std.proofs.lemmas.Bool.{cases_lt}
-use Rattle.std.proofs.lemmas.List.{take-append-drop, drop-drop, drop-append-le, drop_all, length-drop, length-append, append-nil, take_more, get_or-append-add, get_or-drop, get_or-take, get_or_append_left, get_or_past}
+use Rattle.std.proofs.lemmas.List.{take-append-drop, drop-drop, drop-append-le, drop_all, length-drop, length-append, append-nil, take_more, get_or-append-add}
+use Rattle.std.proofs.lemmas.List.{get_or-drop, get_or-take, get_or_append_left, get_or_past}
 use Rattle.fts_pack.specs.Documents.{Rises, block_count, blocks_of, last_of}
 use Rattle.fts_pack.specs.SourceLaws.{blocks_joined, get_or-blocks_of, length-blocks_of}
 use Rattle.fts_postings.specs.Remaining.{at_least, IsPlaceOf}
@@ -31,17 +33,20 @@ get_first i xs = get_or xs i 0
 -- blocks of which the last has a number have one
 front_some : (blocks rest : List (List ℕ)) (k n : ℕ) → n ≡ k + 1 → k < length rest → 0 < length (get_or rest k []) → 0 < length (flat (take n rest))
 front_some blocks rest k n more inside some =
-    let e : flat (take n rest) ≡ flat (take k rest) ++ get_or rest k [] = ap (λ m. flat (take m rest)) more ∙ ap flat (take_more rest k [] inside) ∙ flat_map-append (λ block. block) (take k rest) (get_or rest k [] ∷ []) ∙ ap (λ xs. flat (take k rest) ++ xs) (append-nil (get_or rest k [])) in
+    let e : flat (take n rest) ≡ flat (take k rest) ++ get_or rest k [] = ap (λ m. flat (take m rest)) more ∙ ap flat (take_more rest k [] inside)
+    ∙ flat_map-append (λ block. block) (take k rest) (get_or rest k [] ∷ []) ∙ ap (λ xs. flat (take k rest) ++ xs) (append-nil (get_or rest k [])) in
     omega (arith, ap length e, length-append (flat (take k rest)) (get_or rest k []), some)
 
 -- what remains at a place rises
-pub Rises-place : (blocks : List (List ℕ)) (block at : ℕ) → IsStrictlyIncreasing (flat blocks) → (from : ℕ) × Rises from (drop at (get_or blocks block []) ++ flat (drop (suc block) blocks))
+pub Rises-place : (blocks : List (List ℕ)) (block at : ℕ) → IsStrictlyIncreasing (flat blocks) →
+    (from : ℕ) × Rises from (drop at (get_or blocks block []) ++ flat (drop (suc block) blocks))
 Rises-place blocks block at h =
     let here = get_or blocks block [] in
     let rest = flat (drop (suc block) blocks) in
     let whole = Rises-from_increasing (flat blocks) h in
     let back = Rises-tail 0 (flat (take block blocks)) (flat (drop block blocks)) (subst (Rises 0) (split_at blocks block) whole) in
-    let e : here ++ rest ≡ take at here ++ (drop at here ++ rest) = ap (λ xs. xs ++ rest) (sym (take-append-drop at here)) ∙ append_assoc (take at here) (drop at here) rest in
+    let e : here ++ rest ≡ take at here ++ (drop at here ++ rest) = ap (λ xs. xs ++ rest) (sym (take-append-drop at here))
+    ∙ append_assoc (take at here) (drop at here) rest in
     Rises-tail back.0 (take at here) (drop at here ++ rest) (subst (Rises back.0) (split_block blocks block ∙ e) back.1)
 
 pub remaining_rises : (p : Posting) (blocks : List (List ℕ)) → blocks ≡ p.blocks → IsStrictlyIncreasing (flat blocks) → IsStrictlyIncreasing (remaining_of p)
@@ -58,7 +63,8 @@ pub step_within : (here rest : List ℕ) (at : ℕ) → at < length here → dro
 step_within here rest at inside = leave_within here rest at 1 (omega (arith, inside))
 
 -- steps to its end
-pub leave_over : (p q : Posting) (count : ℕ) → q.blocks ≡ p.blocks → q.block ≡ p.block + 1 → q.at ≡ 0 → length (here p) ≡ p.at + count → remaining_of q ≡ drop count (remaining_of p)
+pub leave_over : (p q : Posting) (count : ℕ) → q.blocks ≡ p.blocks → q.block ≡ p.block + 1 → q.at ≡ 0 → length (here p) ≡ p.at + count →
+    remaining_of q ≡ drop count (remaining_of p)
 leave_over p q count blocks block at end =
     let rest = flat (drop (suc p.block) p.blocks) in
     let next : q.block ≡ suc p.block = omega (arith, block) in
@@ -82,23 +88,30 @@ all_below target next xs h last =
     at_least_place target next xs (length xs) h (omega arith) (λ some. last some) (λ some. absurd (omega arith)) ∙ drop_all (length xs) xs (omega arith)
 
 -- the last number of the first blocks is that of the last of them
-last_of-flat : (blocks : List (List ℕ)) (k : ℕ) → k < length blocks → 0 < length (get_or blocks k []) → last_of (flat (take (k + 1) blocks)) ≡ last_of (get_or blocks k [])
+last_of-flat : (blocks : List (List ℕ)) (k : ℕ) → k < length blocks → 0 < length (get_or blocks k []) →
+    last_of (flat (take (k + 1) blocks)) ≡ last_of (get_or blocks k [])
 last_of-flat blocks k inside some =
-    ap last_of (ap flat (take_more blocks k [] inside) ∙ flat_map-append (λ block. block) (take k blocks) (get_or blocks k [] ∷ []) ∙ ap (λ xs. flat (take k blocks) ++ xs) (append-nil (get_or blocks k [])))
+    ap last_of (ap flat (take_more blocks k [] inside) ∙ flat_map-append (λ block. block) (take k blocks) (get_or blocks k [] ∷ [])
+    ∙ ap (λ xs. flat (take k blocks) ++ xs) (append-nil (get_or blocks k [])))
     ∙ last_of-append (flat (take k blocks)) (get_or blocks k []) some
 
 abbrev Sized : List (List ℕ) → Type 0
 Sized blocks = All (λ block. (0 < length block) × (length block ≤ 128)) blocks
 
 -- blocks that end below the target are passed over
-pub skipped : (blocks : List (List ℕ)) (block at to target : ℕ) → IsStrictlyIncreasing (flat blocks) → Sized blocks → last_of (get_or blocks block []) < target → at < length (get_or blocks block []) → IsPlaceOf (λ k. last_of (get_or blocks k [])) (block + 1) (length blocks) target to → at_least target (drop at (get_or blocks block []) ++ flat (drop (suc block) blocks)) ≡ at_least target (flat (drop to blocks))
+pub skipped : (blocks : List (List ℕ)) (block at to target : ℕ) → IsStrictlyIncreasing (flat blocks) → Sized blocks →
+    last_of (get_or blocks block []) < target → at < length (get_or blocks block []) →
+    IsPlaceOf (λ k. last_of (get_or blocks k [])) (block + 1) (length blocks) target to →
+    at_least target (drop at (get_or blocks block []) ++ flat (drop (suc block) blocks)) ≡ at_least target (flat (drop to blocks))
 skipped blocks block at to target rises sized low inside place =
     let here = drop at (get_or blocks block []) in
     let rest = drop (suc block) blocks in
     let n = to - suc block in
     let front = flat (take n rest) in
     let whole : here ++ flat rest ≡ (here ++ front) ++ flat (drop to blocks) =
-    ap (λ xs. here ++ xs) (split_at rest n ∙ ap (λ bs. front ++ flat bs) (drop-drop n (suc block) blocks ∙ ap (λ k. drop k blocks) (let e : suc block + n ≡ to = omega (arith, place.low_within) in e)))
+    ap (λ xs. here ++ xs)
+    (split_at rest n ∙ ap (λ bs. front ++ flat bs) (drop-drop n (suc block) blocks ∙ ap (λ k. drop k blocks)
+    (let e : suc block + n ≡ to = omega (arith, place.low_within) in e)))
     ∙ sym (append_assoc here front (flat (drop to blocks))) in
     let up = Rises-place blocks block at rises in
     let front_rises = Rises-front up.0 (here ++ front) (flat (drop to blocks)) (subst (Rises up.0) whole up.1) in
@@ -106,7 +119,8 @@ skipped blocks block at to target rises sized low inside place =
     let here_last : last_of here ≡ last_of (get_or blocks block []) =
     ap (λ k. get_or here k 0) (let e : length here - 1 ≡ length (get_or blocks block []) - 1 - at = omega (arith, length-drop at (get_or blocks block [])) in e)
     ∙ get_or-drop at (get_or blocks block []) (length (get_or blocks block []) - 1 - at) 0
-    ∙ ap (λ k. get_or (get_or blocks block []) k 0) (let e : at + (length (get_or blocks block []) - 1 - at) ≡ length (get_or blocks block []) - 1 = omega (arith, inside) in e) in
+    ∙ ap (λ k. get_or (get_or blocks block []) k 0) (let e : at + (length (get_or blocks block []) - 1 - at) ≡ length (get_or blocks block []) - 1 =
+    omega (arith, inside) in e) in
     let last_low : last_of (here ++ front) < target = elim (cases_lt (suc block) to) [
       | inl far ↦
           let k = n - 1 in
@@ -115,17 +129,22 @@ skipped blocks block at to target rises sized low inside place =
           let long : k < length rest = omega (arith, length-drop (suc block) blocks, far, place.high_within) in
           let is : get_or rest k [] ≡ get_or blocks (to - 1) [] = get_or-drop (suc block) blocks k [] ∙ ap (λ i. get_or blocks i []) at_k in
           let full : 0 < length (get_or rest k []) = subst (λ b. 0 < length b) (sym is) (sized (to - 1) [] (omega (arith, far, place.high_within))).0 in
-          let end : last_of front ≡ last_of (get_or blocks (to - 1) []) = ap (λ m. last_of (flat (take m rest))) more ∙ last_of-flat rest k long full ∙ ap last_of is in
+          let end : last_of front ≡ last_of (get_or blocks (to - 1) []) = ap (λ m. last_of (flat (take m rest))) more ∙ last_of-flat rest k long full
+          ∙ ap last_of is in
           let some : 0 < length front = front_some blocks rest k n more long full in
           subst (λ x. x < target) (sym (last_of-append here front some ∙ end)) (place.before (omega (arith, far)))
       | inr near ↦
           let none : n ≡ 0 = omega (arith, near) in
           subst (λ x. x < target) (sym (ap (λ m. last_of (here ++ flat (take m rest))) none ∙ ap last_of (append-nil here) ∙ here_last)) low
     ] in
-    ap (at_least target) whole ∙ at_least-append target (here ++ front) (flat (drop to blocks)) ∙ ap (λ xs. xs ++ at_least target (flat (drop to blocks))) (all_below target up.0 (here ++ front) front_rises (λ _. last_low))
+    ap (at_least target) whole ∙ at_least-append target (here ++ front) (flat (drop to blocks)) ∙ ap (λ xs. xs ++ at_least target (flat (drop to blocks)))
+    (all_below target up.0 (here ++ front) front_rises (λ _. last_low))
 
 -- the target's place in the open block is that of what remains
-pub found : (blocks : List (List ℕ)) (block at len place target : ℕ) (numbers : List ℕ) → IsStrictlyIncreasing (flat blocks) → len ≡ length (get_or blocks block []) → take len numbers ≡ get_or blocks block [] → (block < length blocks → at < len) → (block < length blocks → target ≤ last_of (get_or blocks block [])) → IsPlaceOf (λ k. get_or numbers k 0) at len target place → drop place (get_or blocks block []) ++ flat (drop (suc block) blocks) ≡ at_least target (drop at (get_or blocks block []) ++ flat (drop (suc block) blocks))
+pub found : (blocks : List (List ℕ)) (block at len place target : ℕ) (numbers : List ℕ) → IsStrictlyIncreasing (flat blocks) →
+    len ≡ length (get_or blocks block []) → take len numbers ≡ get_or blocks block [] → (block < length blocks → at < len) →
+    (block < length blocks → target ≤ last_of (get_or blocks block [])) → IsPlaceOf (λ k. get_or numbers k 0) at len target place →
+    drop place (get_or blocks block []) ++ flat (drop (suc block) blocks) ≡ at_least target (drop at (get_or blocks block []) ++ flat (drop (suc block) blocks))
 found blocks block at len place target numbers rises size is stands reaches h =
     let here = get_or blocks block [] in
     let rest = flat (drop (suc block) blocks) in
@@ -134,7 +153,8 @@ found blocks block at len place target numbers rises size is stands reaches h =
     let long = length-drop at here in
     let whole = length-append (drop at here) rest in
     let same : (i : ℕ) → at + i < len → get_or (drop at here ++ rest) i 0 ≡ get_or numbers (at + i) 0 = λ i inside.
-    get_or_append_left (drop at here) rest 0 i (omega (arith, long, size, inside)) ∙ get_or-drop at here i 0 ∙ ap (λ xs. get_or xs (at + i) 0) (sym is) ∙ get_or-take len numbers (at + i) 0 inside in
+    get_or_append_left (drop at here) rest 0 i (omega (arith, long, size, inside)) ∙ get_or-drop at here i 0 ∙ ap (λ xs. get_or xs (at + i) 0) (sym is)
+    ∙ get_or-take len numbers (at + i) 0 inside in
     let fits : k ≤ length (drop at here ++ rest) = omega (arith, long, whole, size, h.high_within) in
     let before : 0 < k → get_or (drop at here ++ rest) (k - 1) 0 < target = λ some.
     let e : at + (k - 1) ≡ place - 1 = omega (arith, some, h.low_within) in
@@ -146,7 +166,8 @@ found blocks block at len place target numbers rises size is stands reaches h =
       | inr past ↦ elim (cases_lt block (length blocks)) [
         | inl stood ↦
             let e : length here - 1 ≡ place - 1 = omega (arith, size, past, h.high_within) in
-            let last : last_of here ≡ get_or numbers (place - 1) 0 = ap₂ get_first e (sym is) ∙ get_or-take len numbers (place - 1) 0 (omega (arith, stands stood, past, h.high_within)) in
+            let last : last_of here ≡ get_or numbers (place - 1) 0 =
+            ap₂ get_first e (sym is) ∙ get_or-take len numbers (place - 1) 0 (omega (arith, stands stood, past, h.high_within)) in
             absurd (omega (arith, reaches stood, last, h.before (omega (arith, stands stood, past))))
         | inr over ↦
             let none : rest ≡ [] = ap flat (drop_all (suc block) blocks (omega (arith, over))) in
@@ -166,31 +187,39 @@ pub record Nearer (p q : Posting) (target : ℕ) : Type 0 where
   pub reaches : q.block < length q.blocks → target ≤ last_of (here q)
 
 -- the open block's last number lies at the end of what was unpacked
-last_unpacked : (blocks : List (List ℕ)) (block at len opened : ℕ) (numbers : List ℕ) → IsPosting blocks block at len opened numbers → 0 < len → last_of (get_or blocks block []) ≡ get_or numbers (len - 1) 0
+last_unpacked : (blocks : List (List ℕ)) (block at len opened : ℕ) (numbers : List ℕ) → IsPosting blocks block at len opened numbers → 0 < len →
+    last_of (get_or blocks block []) ≡ get_or numbers (len - 1) 0
 last_unpacked blocks block at len opened numbers h some =
     ap₂ get_first (let e : length (get_or blocks block []) - 1 ≡ len - 1 = omega (arith, h.size) in e) (sym h.numbers_are)
     ∙ get_or-take len numbers (len - 1) 0 (omega arith)
 
-pub Nearer-here : (p : Posting) (len target : ℕ) (numbers : List ℕ) → IsPosting p.blocks p.block p.at len p.opened numbers → p.at < len → target ≤ get_or numbers (len - 1) 0 → Nearer p p target
+pub Nearer-here : (p : Posting) (len target : ℕ) (numbers : List ℕ) → IsPosting p.blocks p.block p.at len p.opened numbers → p.at < len →
+    target ≤ get_or numbers (len - 1) 0 → Nearer p p target
 Nearer-here p len target numbers h inside reached = record {
   blocks = refl;
   same = refl;
   reaches = λ _. omega (arith, reached, last_unpacked p.blocks p.block p.at len p.opened numbers h (omega arith));
 }
 
-pub Nearer-there : (p q : Posting) (len to target : ℕ) (numbers : List ℕ) → IsPosting p.blocks p.block p.at len p.opened numbers → p.at < len → IsStrictlyIncreasing (flat p.blocks) → Sized p.blocks → get_or numbers (len - 1) 0 < target → IsPlaceOf (λ k. last_of (get_or p.blocks k [])) (p.block + 1) (length p.blocks) target to → q.blocks ≡ p.blocks → q.block ≡ to → q.at ≡ 0 → Nearer p q target
+pub Nearer-there : (p q : Posting) (len to target : ℕ) (numbers : List ℕ) → IsPosting p.blocks p.block p.at len p.opened numbers → p.at < len →
+    IsStrictlyIncreasing (flat p.blocks) → Sized p.blocks → get_or numbers (len - 1) 0 < target →
+    IsPlaceOf (λ k. last_of (get_or p.blocks k [])) (p.block + 1) (length p.blocks) target to → q.blocks ≡ p.blocks → q.block ≡ to → q.at ≡ 0 →
+    Nearer p q target
 Nearer-there p q len to target numbers h inside rises sized low place blocks block at =
     let last = last_unpacked p.blocks p.block p.at len p.opened numbers h (omega arith) in
     record {
       blocks = blocks;
       same =
           skipped p.blocks p.block p.at to target rises sized (omega (arith, low, last)) (omega (arith, inside, h.size)) place
-          ∙ ap (at_least target) (ap₂ (λ bs n. flat (drop n bs)) (sym blocks) (sym block) ∙ split_block q.blocks q.block ∙ ap (λ n. drop n (here q) ++ flat (drop (suc q.block) q.blocks)) (sym at));
+          ∙ ap (at_least target) (ap₂ (λ bs n. flat (drop n bs)) (sym blocks) (sym block) ∙ split_block q.blocks q.block
+          ∙ ap (λ n. drop n (here q) ++ flat (drop (suc q.block) q.blocks)) (sym at));
       reaches = λ some. rw (blocks, block) (place.here (omega (arith, some, ap length blocks, block)));
     }
 
 -- the target's place in the block that was reached
-pub found_near : (p : Posting) (len place target : ℕ) (numbers : List ℕ) → IsPosting p.blocks p.block p.at len p.opened numbers → IsStrictlyIncreasing (flat p.blocks) → (p.block < length p.blocks → target ≤ last_of (here p)) → IsPlaceOf (λ k. get_or numbers k 0) p.at len target place → drop place (here p) ++ flat (drop (suc p.block) p.blocks) ≡ at_least target (remaining_of p)
+pub found_near : (p : Posting) (len place target : ℕ) (numbers : List ℕ) → IsPosting p.blocks p.block p.at len p.opened numbers →
+    IsStrictlyIncreasing (flat p.blocks) → (p.block < length p.blocks → target ≤ last_of (here p)) → IsPlaceOf (λ k. get_or numbers k 0) p.at len target place →
+    drop place (here p) ++ flat (drop (suc p.block) p.blocks) ≡ at_least target (remaining_of p)
 found_near p len place target numbers h rises reaches at =
     found p.blocks p.block p.at len place target numbers rises h.size h.numbers_are h.stands reaches at
 
@@ -201,7 +230,8 @@ members-split p =
     let rest = flat (drop (suc p.block) p.blocks) in (
       before ++ take p.at (here p),
       split_at p.blocks p.block
-          ∙ ap (λ xs. before ++ xs) (split_block p.blocks p.block ∙ ap (λ xs. xs ++ rest) (sym (take-append-drop p.at (here p))) ∙ append_assoc (take p.at (here p)) (drop p.at (here p)) rest)
+          ∙ ap (λ xs. before ++ xs) (split_block p.blocks p.block ∙ ap (λ xs. xs ++ rest) (sym (take-append-drop p.at (here p))) ∙ append_assoc
+          (take p.at (here p)) (drop p.at (here p)) rest)
           ∙ sym (append_assoc before (take p.at (here p)) (remaining_of p)),
     )
 
@@ -219,9 +249,17 @@ pub Walks-trans : (p q r : Posting) → Walks p q → Walks q r → Walks p r
 Walks-trans p q r h k = record { follows = Follows-trans p q r h.follows k.follows; each = omega (arith, h.each, k.each) }
 
 -- where nothing remains, all blocks were reached
-pub reached_all : (p : Posting) → p.block ≤ length p.blocks → (p.block < length p.blocks → p.at < length (here p)) → remaining_of p ≡ [] → blocks_reached p ≡ length p.blocks
+pub reached_all : (p : Posting) → p.block ≤ length p.blocks → (p.block < length p.blocks → p.at < length (here p)) → remaining_of p ≡ [] →
+    blocks_reached p ≡ length p.blocks
 reached_all p within stands none = elim (cases_lt p.block (length p.blocks)) [
-  | inl inside ↦ absurd (omega (arith, stands inside, length-drop p.at (here p), length-append (drop p.at (here p)) (flat (drop (suc p.block) p.blocks)), ap length none))
+  | inl inside ↦ absurd (omega (
+    arith,
+    stands inside,
+    length-drop p.at (here p),
+    length-append (drop p.at (here p)) (flat (drop (suc p.block) p.blocks)),
+    ap
+        length none,
+  ))
   | inr past ↦ omega (arith, within, past)
 ]
 
@@ -234,7 +272,8 @@ blocks_behind documents (suc more) k all =
     let rest = drop (k * 128) documents in
     let next : k * 128 + 128 ≡ suc k * 128 = omega arith in
     split_block (blocks_of documents) k
-    ∙ ap₂ (λ xs ys. xs ++ ys) (get_or-blocks_of documents k [] (omega (arith, all))) (blocks_behind documents more (suc k) (omega (arith, all)) ∙ ap (λ n. drop n documents) (sym next) ∙ sym (drop-drop 128 (k * 128) documents))
+    ∙ ap₂ (λ xs ys. xs ++ ys) (get_or-blocks_of documents k [] (omega (arith, all))) (blocks_behind documents more (suc k) (omega (arith, all))
+    ∙ ap (λ n. drop n documents) (sym next) ∙ sym (drop-drop 128 (k * 128) documents))
     ∙ take-append-drop 128 rest
 
 -- a place in a block is one in the list
@@ -253,15 +292,26 @@ stands_within p some = elim (cases_lt p.block (length p.blocks)) [
   | inr past ↦
       let rest : flat (drop (suc p.block) p.blocks) ≡ [] = ap flat (drop_all (suc p.block) p.blocks (omega (arith, past))) in
       let none : here p ≡ [] = get_or_past p.blocks p.block [] past in
-      absurd (omega (arith, some, length-append (drop p.at (here p)) (flat (drop (suc p.block) p.blocks)), length-drop p.at (here p), ap length rest, ap length none))
+      absurd (omega (
+        arith,
+        some,
+        length-append (drop p.at (here p)) (flat (drop (suc p.block) p.blocks)),
+        length-drop p.at (here p),
+        ap length rest,
+        ap length
+            none,
+      ))
 ]
 
-pub posting_place : (p : Posting) (documents : List ℕ) → 0 < length (remaining_of p) → p.at ≤ length (here p) → p.blocks ≡ blocks_of documents → drop (p.block * 128 + p.at) documents ≡ remaining_of p
+pub posting_place : (p : Posting) (documents : List ℕ) → 0 < length (remaining_of p) → p.at ≤ length (here p) → p.blocks ≡ blocks_of documents →
+    drop (p.block * 128 + p.at) documents ≡ remaining_of p
 posting_place p documents some within is =
-    place_in_list documents p.block p.at (omega (arith, stands_within p some, ap length is, length-blocks_of documents)) (omega (arith, within, ap (λ bs. length (get_or bs p.block [])) is))
+    place_in_list documents p.block p.at (omega (arith, stands_within p some, ap length is, length-blocks_of documents))
+    (omega (arith, within, ap (λ bs. length (get_or bs p.block [])) is))
     ∙ ap (λ bs. drop p.at (get_or bs p.block []) ++ flat (drop (suc p.block) bs)) (sym is)
 
 -- a cursor as it was made
 pub posting_new : (p : Posting) (documents : List ℕ) → p.blocks ≡ blocks_of documents → p.block ≡ 0 → p.at ≡ 0 → remaining_of p ≡ documents
 posting_new p documents is block at =
-    ap₂ (λ (n : ℕ) (k : ℕ). drop n (get_or p.blocks k []) ++ flat (drop (suc k) p.blocks)) at block ∙ sym (split_block p.blocks 0) ∙ ap flat is ∙ blocks_joined documents
+    ap₂ (λ (n : ℕ) (k : ℕ). drop n (get_or p.blocks k []) ++ flat (drop (suc k) p.blocks)) at block ∙ sym (split_block p.blocks 0) ∙ ap flat is
+    ∙ blocks_joined documents

@@ -1,5 +1,6 @@
 -- Strictly rising lists, and what is left of them from a target on.
-use Rattle.std.proofs.Common.{◌≡◌, ℕ, zero, suc, ◌+◌, ◌-◌, ◌<◌, ◌≤◌, cond, List, [], ◌∷◌, ◌++◌, length, get_or, drop, Some, None, refl, ap, ◌∙◌, inl, inr, arith}
+use Rattle.std.proofs.Common.{◌≡◌, ℕ, zero, suc, ◌+◌, ◌-◌, ◌<◌, ◌≤◌, cond, List, [], ◌∷◌, ◌++◌, length, get_or, drop, Some, None, refl, ap, ◌∙◌, inl, inr}
+use Rattle.std.proofs.Common.{arith}
 use Rattle.std.specs.List.{slice_get}
 use Rattle.std.specs.List.Sorted.{IsStrictlyIncreasing}
 use Rattle.std.proofs.lemmas.Bool.{le-leb, lt-leb, cases_lt}
@@ -37,7 +38,8 @@ at_least_all target next (x ∷ xs) h low =
     ∙ ap (λ ys. x ∷ ys) (at_least_all target (suc x) xs h.1 (omega (arith, h.0)))
 
 -- what is left from a target on begins at the target's place
-pub at_least_place : (target next : ℕ) (xs : List ℕ) (k : ℕ) → Rises next xs → k ≤ length xs → (0 < k → get_or xs (k - 1) 0 < target) → (k < length xs → target ≤ get_or xs k 0) → at_least target xs ≡ drop k xs
+pub at_least_place : (target next : ℕ) (xs : List ℕ) (k : ℕ) → Rises next xs → k ≤ length xs → (0 < k → get_or xs (k - 1) 0 < target) →
+    (k < length xs → target ≤ get_or xs k 0) → at_least target xs ≡ drop k xs
 at_least_place target next [] zero h inside before here = refl
 at_least_place target next [] (suc k) h inside before here = refl
 at_least_place target next (x ∷ xs) zero h inside before here =

@@ -1,5 +1,6 @@
 -- What rising lists keep under a test, and what lists have.
-use Rattle.std.proofs.Common.{◌≡◌, ℕ, zero, suc, ◌<◌, ◌≤◌, Bool, true, false, cond, ◌||◌, ◌&&◌, ◌==◌, Some, None, List, [], ◌∷◌, length, get_or, drop, nat_le, refl, sym, ap, ap₂, subst, ◌∙◌, inl, inr, arith}
+use Rattle.std.proofs.Common.{◌≡◌, ℕ, zero, suc, ◌<◌, ◌≤◌, Bool, true, false, cond, ◌||◌, ◌&&◌, ◌==◌, Some, None, List, [], ◌∷◌, length, get_or, drop, nat_le}
+use Rattle.std.proofs.Common.{refl, sym, ap, ap₂, subst, ◌∙◌, inl, inr, arith}
 use Rattle.std.specs.List.{filter, slice_get}
 use Rattle.std.specs.List.Sorted.{IsStrictlyIncreasing}
 use Rattle.std.proofs.lemmas.Bool.{le-leb, lt-leb, cases_lt, cases_Bool}
@@ -74,7 +75,8 @@ filter-same next p q (x ∷ xs) h same =
     ap₂ (λ b ys. cond b (x ∷ ys) ys) (same x h.0) (filter-same (suc x) p q xs h.1 (λ d high. same d (omega (arith, high, h.0))))
 
 -- what doesn't pass may be passed over
-pub filter-ahead : (from next : ℕ) (p : ℕ → Bool) (xs : List ℕ) → Rises from xs → ((d : ℕ) → from ≤ d → d < next → p d ≡ false) → filter p (at_least next xs) ≡ filter p xs
+pub filter-ahead : (from next : ℕ) (p : ℕ → Bool) (xs : List ℕ) → Rises from xs → ((d : ℕ) → from ≤ d → d < next → p d ≡ false) →
+    filter p (at_least next xs) ≡ filter p xs
 filter-ahead from next p [] h lack = refl
 filter-ahead from next p (x ∷ xs) h lack =
     let rest = filter-ahead (suc x) next p xs h.1 (λ d high low. lack d (omega (arith, high, h.0)) low) in
@@ -158,7 +160,8 @@ Rises-filter next p (x ∷ xs) h = elim (cases_Bool (p x)) [
 ]
 
 -- where the first is the target or more, nothing is left behind
-pub filter-stays : (target first : ℕ) (p : ℕ → Bool) (xs : List ℕ) → IsStrictlyIncreasing xs → Some first ≡ slice_get xs 0 → target ≤ first → filter p xs ≡ at_least target (filter p xs)
+pub filter-stays : (target first : ℕ) (p : ℕ → Bool) (xs : List ℕ) → IsStrictlyIncreasing xs → Some first ≡ slice_get xs 0 → target ≤ first →
+    filter p xs ≡ at_least target (filter p xs)
 filter-stays target first p xs h is le =
     sym (at_least_all target first (filter p xs) (Rises-filter first p xs (Rises-from_first xs first h is)) le)
 
@@ -170,7 +173,8 @@ filter-past test (x ∷ xs) doc is fails =
     sym (ap (λ b. cond b (x ∷ filter test xs) (filter test xs)) (ap test (sym same) ∙ fails))
 
 -- a document that isn't live is passed over
-pub dead_passed : (test : ℕ → Bool) (xs next : List ℕ) (doc : ℕ) → Some doc ≡ slice_get xs 0 → test doc ≡ false → next ≡ drop 1 xs → filter test next ≡ filter test xs
+pub dead_passed : (test : ℕ → Bool) (xs next : List ℕ) (doc : ℕ) → Some doc ≡ slice_get xs 0 → test doc ≡ false → next ≡ drop 1 xs →
+    filter test next ≡ filter test xs
 dead_passed test xs next doc first fails is = ap (filter test) is ∙ filter-past test xs doc first fails
 
 pub FirstPasses-none : (test : ℕ → Bool) (xs : List ℕ) → None ≡ slice_get xs 0 → FirstPasses test xs
@@ -180,7 +184,8 @@ FirstPasses-none test (x ∷ xs) is = absurd (let e : None ≡ Some x = is in cc
 -- where none passes, the first not even, there is none
 pub none_left : (test : ℕ → Bool) (xs : List ℕ) → FirstPasses test xs → filter test xs ≡ [] → xs ≡ []
 none_left test [] passes none = refl
-none_left test (x ∷ xs) passes none = absurd (let e : x ∷ filter test xs ≡ [] = sym (ap (λ b. cond b (x ∷ filter test xs) (filter test xs)) passes) ∙ none in cc)
+none_left test (x ∷ xs) passes none =
+    absurd (let e : x ∷ filter test xs ≡ [] = sym (ap (λ b. cond b (x ∷ filter test xs) (filter test xs)) passes) ∙ none in cc)
 
 pub fewer_behind : (xs next : List ℕ) (doc : ℕ) → Some doc ≡ slice_get xs 0 → next ≡ drop 1 xs → length next < length xs
 fewer_behind [] next doc is step = absurd (let e : Some doc ≡ None = is in cc)

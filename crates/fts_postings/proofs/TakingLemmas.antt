@@ -1,5 +1,6 @@
 -- The marked documents of a word that are taken at once.
-use Rattle.std.proofs.Common.{◌≡◌, ℕ, zero, suc, ◌+◌, ◌-◌, ◌*◌, ◌/◌, ◌%◌, ◌^◌, ◌<◌, ◌≤◌, Bool, cond, ◌==◌, count_ones, List, [], ◌∷◌, ◌++◌, length, take, drop, refl, sym, ap, ap₂, subst, ◌∙◌, inl, inr, arith}
+use Rattle.std.proofs.Common.{◌≡◌, ℕ, zero, suc, ◌+◌, ◌-◌, ◌*◌, ◌/◌, ◌%◌, ◌^◌, ◌<◌, ◌≤◌, Bool, cond, ◌==◌, count_ones, List, [], ◌∷◌, ◌++◌, length, take, drop}
+use Rattle.std.proofs.Common.{refl, sym, ap, ap₂, subst, ◌∙◌, inl, inr, arith}
 use Rattle.std.specs.Int.{bit_at}
 use Rattle.std.specs.Int.RustNames.{bit_and}
 use Rattle.std.proofs.Math.Seq.{take-append_seam}
@@ -22,7 +23,8 @@ ones_passing (suc n) a m p small same =
     let start : a + 0 ≡ a = omega arith in
     let first : p a ≡ (m % 2 == 1) = ap p (sym start) ∙ same 0 (omega arith) ∙ ap (λ b. b == 1) (bit_at_lowest m) in
     let half : m / 2 < 2 ^ n = omega (arith, small) in
-    let more = ones_passing n (a + 1) (m / 2) p half (λ k lt. let e : a + 1 + k ≡ a + suc k = omega arith in ap p e ∙ same (suc k) (omega (arith, lt)) ∙ ap (λ b. b == 1) (bit_at-suc m k)) in
+    let more = ones_passing n (a + 1) (m / 2) p half (λ k lt. let e : a + 1 + k ≡ a + suc k = omega arith in ap p e ∙ same (suc k) (omega (arith, lt))
+    ∙ ap (λ b. b == 1) (bit_at-suc m k)) in
     elim (cases_Bool (p a)) [
       | inl kept ↦
           let odd : m % 2 ≡ 1 = eqb-true (m % 2) 1 (sym first ∙ kept) in
@@ -41,8 +43,10 @@ marked-ones from marks fits =
     ∙ ones_passing 64 from marks (is_marked from marks) fits (λ k lt. let at : from + k - from ≡ k = omega arith in ap (λ j. bit_at marks j == 1) at)
 
 -- as many are found of a word's documents, from a place up to the last, as there are bits
-pub counted_word : (bytes : List ℕ) (base from word : ℕ) (order : base ≤ from) (of : AreMarksFrom (from - (from - base) % 64) base bytes word) (marks : ℕ) (is : marks ≡ bit_and word (2 ^ 64 - 2 ^ ((from - base) % 64))) (last mask : ℕ)
-    → from ≤ last → mask ≡ 2 ^ (64 - (from - (from - base) % 64 + 63 - last)) - 1 → count_ones (bit_and marks mask) + length (found_in base (from - (from - base) % 64 + 64) last bytes) ≡ length (found_in base from last bytes)
+pub counted_word : (bytes : List ℕ) (base from word : ℕ) (order : base ≤ from) (of : AreMarksFrom (from - (from - base) % 64) base bytes word) (marks : ℕ)
+    (is : marks ≡ bit_and word (2 ^ 64 - 2 ^ ((from - base) % 64))) (last mask : ℕ)
+    → from ≤ last → mask ≡ 2 ^ (64 - (from - (from - base) % 64 + 63 - last)) - 1 →
+    count_ones (bit_and marks mask) + length (found_in base (from - (from - base) % 64 + 64) last bytes) ≡ length (found_in base from last bytes)
 counted_word bytes base from word order of marks is last mask within mask_is =
     let at = (from - base) % 64 in
     let start = from - at in
@@ -54,10 +58,12 @@ counted_word bytes base from word order of marks is last mask within mask_is =
     let fits : inside < 2 ^ places = omega (arith, and_le_r marks mask, mask_is, pow_pos places) in
     let same : (k : ℕ) → k < places → is_marked start marks (start + k) ≡ (bit_at inside k == 1) = λ k lt.
     let e : start + k - start ≡ k = omega arith in
-    let b : bit_at marks k ≡ bit_at inside k = omega (arith, bit_at_and marks mask k, bit_at_ones places k lt, ap (λ n. bit_at n k) mask_is, bit_at-lt marks k) in
+    let b : bit_at marks k ≡ bit_at inside k =
+    omega (arith, bit_at_and marks mask k, bit_at_ones places k lt, ap (λ n. bit_at n k) mask_is, bit_at-lt marks k) in
     ap (λ j. bit_at marks j == 1) e ∙ ap (λ x. x == 1) b in
     let here : length (passing test from (places - at)) ≡ count_ones inside =
-    ap length (word_part bytes base from word order of marks is places some (omega arith)) ∙ ones_passing places start inside (is_marked start marks) fits same in
+    ap length (word_part bytes base from word order of marks is places some (omega arith)) ∙ ones_passing places start inside (is_marked start marks) fits
+    same in
     let all : suc last - from ≡ (places - at) + more = omega (arith, order, within) in
     let rest : length (passing test (from + (places - at)) more) ≡ length (passing test (start + 64) more) = elim (cases_lt last (start + 63)) [
       | inl short ↦
@@ -66,11 +72,13 @@ counted_word bytes base from word order of marks is last mask within mask_is =
       | inr long ↦ let next : from + (places - at) ≡ start + 64 = omega (arith, order, long) in ap (λ a. length (passing test a more)) next
     ] in
     let split : length (found_in base from last bytes) ≡ length (passing test from (places - at)) + length (passing test (from + (places - at)) more) =
-    ap length (ap (passing test from) all ∙ passing-append test from (places - at) more) ∙ length-append (passing test from (places - at)) (passing test (from + (places - at)) more) in
+    ap length (ap (passing test from) all ∙ passing-append test from (places - at) more) ∙ length-append (passing test from (places - at))
+    (passing test (from + (places - at)) more) in
     omega (arith, split, here, rest)
 
 -- as many are found of 64 documents as their word has bits
-pub whole_word : (bytes : List ℕ) (base index last word : ℕ) → AreMarksFrom (base + index * 64) base bytes word → word < 2 ^ 64 → base + index * 64 + 63 ≤ last →
+pub whole_word : (bytes : List ℕ) (base index last word : ℕ) → AreMarksFrom (base + index * 64) base bytes word → word < 2 ^ 64 →
+    base + index * 64 + 63 ≤ last →
     count_ones word + length (found_in base (base + (index + 1) * 64) last bytes) ≡ length (found_in base (base + index * 64) last bytes)
 whole_word bytes base index last word of fits long =
     let from = base + index * 64 in
@@ -91,21 +99,26 @@ marked_few from marks bound fits high k is = elim (cases_lt k 64) [
 ]
 
 -- those of a word are taken, of which one is the first that is left
-pub taken_word : (left next out written : List ℕ) (base start doc last marks filled total count : ℕ) (words rest : List ℕ) → left ≡ doc ∷ rest → doc < start + 64 → next ≡ found_in base (start + 64) last words → left ≡ marked start (start + 63) marks ++ next
-    → length (marked start (start + 63) marks) ≡ count → filled + count ≤ 128 → total ≡ filled + length (marked start (start + 63) marks) → take total written ≡ take filled out ++ marked start (start + 63) marks → IsStretch left next out written filled count
+pub taken_word : (left next out written : List ℕ) (base start doc last marks filled total count : ℕ) (words rest : List ℕ) → left ≡ doc ∷ rest →
+    doc < start + 64 → next ≡ found_in base (start + 64) last words → left ≡ marked start (start + 63) marks ++ next
+    → length (marked start (start + 63) marks) ≡ count → filled + count ≤ 128 → total ≡ filled + length (marked start (start + 63) marks) →
+    take total written ≡ take filled out ++ marked start (start + 63) marks → IsStretch left next out written filled count
 taken_word left next out written base start doc last marks filled total count words rest is low next_is split size room total_is front =
     let here = marked start (start + 63) marks in
     let first : (length here ≡ 0) → ⊥ = λ none.
     let empty : here ≡ [] = (elim here as (λ xs. length xs ≡ 0 → xs ≡ []) [ [] ↦ λ e. refl | x ∷ xs ↦ λ e. absurd (omega (arith, e)) ] none) in
     let behind : found_in base (start + 64) last words ≡ doc ∷ rest = sym next_is ∙ sym (split ∙ ap (λ xs. xs ++ next) empty) ∙ is in
-    let rises : Rises (start + 64) (doc ∷ rest) = subst (Rises (start + 64)) behind (Rises-passing (is_found base words) (start + 64) (suc last - (start + 64))) in
+    let rises : Rises (start + 64) (doc ∷ rest) =
+    subst (Rises (start + 64)) behind (Rises-passing (is_found base words) (start + 64) (suc last - (start + 64))) in
     omega (arith, rises.0, low) in
     let taken : take count left ≡ here = ap₂ (λ n xs. take n xs) (sym size) split ∙ take-append_seam here next in
-    let gone : drop count left ≡ next = ap₂ (λ n xs. drop n xs) (sym size) split ∙ drop-append-le (length here) here next (omega arith) ∙ ap (λ xs. xs ++ next) (drop_all (length here) here (omega arith)) in
+    let gone : drop count left ≡ next = ap₂ (λ n xs. drop n xs) (sym size) split ∙ drop-append-le (length here) here next (omega arith)
+    ∙ ap (λ xs. xs ++ next) (drop_all (length here) here (omega arith)) in
     record {
       some = λ _. elim (cases_lt 0 count) [ inl some ↦ some | inr none ↦ absurd (first (omega (arith, size, none))) ];
       within = omega (arith, ap length split, length-append here next, size);
       room = room;
-      front = ap (λ n. take n written) (let e : filled + count ≡ total = omega (arith, total_is, size) in e) ∙ front ∙ ap (λ xs. take filled out ++ xs) (sym taken);
+      front = ap (λ n. take n written) (let e : filled + count ≡ total = omega (arith, total_is, size) in e) ∙ front
+          ∙ ap (λ xs. take filled out ++ xs) (sym taken);
       left_is = sym gone;
     }

@@ -1,5 +1,6 @@
 -- The members of several rising lists.
-use Rattle.std.proofs.Common.{◌≡◌, ℕ, suc, ◌<◌, ◌≤◌, Option, Some, None, Bool, true, false, cond, ◌||◌, ◌==◌, List, [], ◌∷◌, ◌++◌, refl, sym, ap, subst, ◌∙◌, inl, inr, arith}
+use Rattle.std.proofs.Common.{◌≡◌, ℕ, suc, ◌<◌, ◌≤◌, Option, Some, None, Bool, true, false, cond, ◌||◌, ◌==◌, List, [], ◌∷◌, ◌++◌, refl, sym, ap, subst, ◌∙◌}
+use Rattle.std.proofs.Common.{inl, inr, arith}
 use Rattle.std.specs.List.{slice_get}
 use Rattle.std.specs.List.Sorted.{IsStrictlyIncreasing}
 use Rattle.std.proofs.lemmas.Bool.{cases_lt, lt-ltb, le-ltb, le-leb, lt-leb, false≢true, or_from}
@@ -138,7 +139,8 @@ IsLeast-none (Some first) lists xs h none = (
 )
 
 -- one list more, with a document
-pub IsLeast-some : (least : Option ℕ) (lists : List (List ℕ)) (xs : List ℕ) (first : ℕ) → IsLeast least lists → IsStrictlyIncreasing xs → Some first ≡ slice_get xs 0 → IsLeast (lesser_of least first) (lists ++ xs ∷ [])
+pub IsLeast-some : (least : Option ℕ) (lists : List (List ℕ)) (xs : List ℕ) (first : ℕ) → IsLeast least lists → IsStrictlyIncreasing xs →
+    Some first ≡ slice_get xs 0 → IsLeast (lesser_of least first) (lists ++ xs ∷ [])
 IsLeast-some None lists xs first h rises is = (
   in_some-append lists xs first ∙ ap (λ b. in_some lists first || b) (has-first xs first is) ∙ or-true (in_some lists first),
   λ d low. in_some-append lists xs d ∙ or_from (in_some lists d) (has xs d) (h d) (has-before_first xs first d rises is low),

@@ -1,5 +1,6 @@
 -- The documents of a window that have a bit that is set: those that other marks have.
-use Rattle.std.proofs.Common.{◌≡◌, ◌&&◌, ℕ, zero, suc, ◌+◌, ◌-◌, ◌<◌, ◌≤◌, ◌==◌, Bool, true, false, cond, nat_lt, List, ◌∷◌, length, get_or, map, min, bit_and, refl, sym, ap, ◌∙◌, inl, inr, arith}
+use Rattle.std.proofs.Common.{◌≡◌, ◌&&◌, ℕ, zero, suc, ◌+◌, ◌-◌, ◌<◌, ◌≤◌, ◌==◌, Bool, true, false, cond, nat_lt, List, ◌∷◌, length, get_or, map, min, bit_and}
+use Rattle.std.proofs.Common.{refl, sym, ap, ◌∙◌, inl, inr, arith}
 use Rattle.std.specs.Int.{bit_at}
 use Rattle.std.specs.List.{filter, range_with_len}
 use Rattle.std.proofs.Math.Bool.{and-false, and-true}
@@ -45,7 +46,8 @@ left_where : (b : Bool) (x : ℕ) → nat_lt 0 (cond b x 0) ≡ (nat_lt 0 x && b
 left_where true x = sym (and-true (nat_lt 0 x))
 left_where false x = sym (and-false (nat_lt 0 x))
 
-pub is_found-of : (test : ℕ → Bool) (base : ℕ) (marks : List ℕ) (d : ℕ) → base ≤ d → is_found base (marks_of test base marks) d ≡ (is_found base marks d && test d)
+pub is_found-of : (test : ℕ → Bool) (base : ℕ) (marks : List ℕ) (d : ℕ) → base ≤ d →
+    is_found base (marks_of test base marks) d ≡ (is_found base marks d && test d)
 is_found-of test base marks d up =
     let one : ℕ → ℕ = λ k. cond (test (base + k)) (get_or marks k 0) 0 in
     let k = d - base in
@@ -61,7 +63,8 @@ is_found-of test base marks d up =
           ∙ sym (ap (λ x. nat_lt 0 x && test d) (get_or_past marks k 0 past))
     ]
 
-pub found-of : (test : ℕ → Bool) (base from last : ℕ) (marks : List ℕ) → base ≤ from → found_in base from last (marks_of test base marks) ≡ filter test (found_in base from last marks)
+pub found-of : (test : ℕ → Bool) (base from last : ℕ) (marks : List ℕ) → base ≤ from → found_in base from last (marks_of test base marks)
+    ≡ filter test (found_in base from last marks)
 found-of test base from last marks order =
     passing-same (is_found base (marks_of test base marks)) (λ d. is_found base marks d && test d) from (suc last - from)
     (λ d up down. is_found-of test base marks d (omega (arith, up, order)))

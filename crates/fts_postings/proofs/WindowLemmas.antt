@@ -1,5 +1,6 @@
 -- Documents as bits: one more, the first of them, and those from a target on.
-use Rattle.std.proofs.Common.{◌≡◌, ◌≢◌, ℕ, zero, suc, ◌+◌, ◌-◌, ◌%◌, ◌^◌, ◌<◌, ◌≤◌, Bool, true, false, cond, ◌==◌, ◌&&◌, nat_le, nat_lt, max, List, [], ◌∷◌, ◌++◌, drop, get_or, length, replicate, set, refl, sym, ap, ap₂, subst, ◌∙◌, inl, inr, arith}
+use Rattle.std.proofs.Common.{◌≡◌, ◌≢◌, ℕ, zero, suc, ◌+◌, ◌-◌, ◌%◌, ◌^◌, ◌<◌, ◌≤◌, Bool, true, false, cond, ◌==◌, ◌&&◌, nat_le, nat_lt, max, List, [], ◌∷◌}
+use Rattle.std.proofs.Common.{◌++◌, drop, get_or, length, replicate, set, refl, sym, ap, ap₂, subst, ◌∙◌, inl, inr, arith}
 use Rattle.std.specs.Int.{bit_at, w64, trailing_zeros}
 use Rattle.std.proofs.lemmas.Bool.{cases_Bool, cases_lt, le-leb, lt-leb}
 use Rattle.std.proofs.lemmas.List.{get_or-replicate, get_or-set_other, get_or-set_same, get_or_past, length-replicate}
@@ -35,7 +36,8 @@ passing-ahead p a (suc k) n h =
     ∙ ap (λ b. passing p b n) f
 
 -- the first that passes, and what follows it
-pub passing-at : (p : ℕ → Bool) (a k n : ℕ) → k < n → ((d : ℕ) → a ≤ d → d < a + k → p d ≡ false) → p (a + k) ≡ true → passing p a n ≡ (a + k) ∷ passing p (a + suc k) (n - suc k)
+pub passing-at : (p : ℕ → Bool) (a k n : ℕ) → k < n → ((d : ℕ) → a ≤ d → d < a + k → p d ≡ false) → p (a + k) ≡ true →
+    passing p a n ≡ (a + k) ∷ passing p (a + suc k) (n - suc k)
 passing-at p a k n inside lack there =
     let m = n - suc k in
     let e : n ≡ k + suc m = omega (arith, inside) in
@@ -45,7 +47,8 @@ passing-at p a k n inside lack there =
     ∙ ap (λ b. (a + k) ∷ passing p b m) f
 
 -- the same without it
-pub passing-next : (p q : ℕ → Bool) (a k n : ℕ) → k < n → ((d : ℕ) → a ≤ d → d < a + k → p d ≡ false) → p (a + k) ≡ true → ((d : ℕ) → a ≤ d → d < a + suc k → q d ≡ false) → ((d : ℕ) → a + suc k ≤ d → d < a + n → q d ≡ p d) → passing q a n ≡ drop 1 (passing p a n)
+pub passing-next : (p q : ℕ → Bool) (a k n : ℕ) → k < n → ((d : ℕ) → a ≤ d → d < a + k → p d ≡ false) → p (a + k) ≡ true →
+    ((d : ℕ) → a ≤ d → d < a + suc k → q d ≡ false) → ((d : ℕ) → a + suc k ≤ d → d < a + n → q d ≡ p d) → passing q a n ≡ drop 1 (passing p a n)
 passing-next p q a k n inside lack there gone rest =
     let m = n - suc k in
     let e : n ≡ suc k + m = omega (arith, inside) in
@@ -54,16 +57,19 @@ passing-next p q a k n inside lack there gone rest =
     ∙ ap (drop 1) (sym (passing-at p a k n inside lack there))
 
 -- one more passes
-passing-mark : (p q : ℕ → Bool) (a n doc : ℕ) → a ≤ doc → doc < a + n → p doc ≡ true → ((d : ℕ) → a ≤ d → d < a + n → d ≢ doc → p d ≡ q d) → passing p a n ≡ with_one doc (passing q a n)
+passing-mark : (p q : ℕ → Bool) (a n doc : ℕ) → a ≤ doc → doc < a + n → p doc ≡ true → ((d : ℕ) → a ≤ d → d < a + n → d ≢ doc → p d ≡ q d) →
+    passing p a n ≡ with_one doc (passing q a n)
 passing-mark p q a zero doc low high now others = absurd (omega (arith, low, high))
 passing-mark p q a (suc n) doc low high now others =
     let R = passing q (a + 1) n in
     elim (cases_lt a doc) [
       | inl before ↦
-          let more = passing-mark p q (a + 1) n doc (omega (arith, before)) (omega (arith, high)) now (λ d up down other. others d (omega (arith, up)) (omega (arith, down)) other) in
+          let more = passing-mark p q (a + 1) n doc (omega (arith, before)) (omega (arith, high)) now
+          (λ d up down other. others d (omega (arith, up)) (omega (arith, down)) other) in
           let start : p a ≡ q a = others a (omega arith) (omega arith) (λ e. absurd (omega (arith, e, before))) in
           ap₂ (λ b ys. cond b (a ∷ ys) ys) start more ∙ elim (cases_Bool (q a)) [
-            | inl kept ↦ ap (λ b. cond b (a ∷ with_one doc R) (with_one doc R)) kept ∙ sym (ap (λ b. with_one doc (cond b (a ∷ R) R)) kept ∙ above doc a R before)
+            | inl kept ↦ ap (λ b. cond b (a ∷ with_one doc R) (with_one doc R)) kept
+                ∙ sym (ap (λ b. with_one doc (cond b (a ∷ R) R)) kept ∙ above doc a R before)
             | inr other ↦ ap (λ b. cond b (a ∷ with_one doc R) (with_one doc R)) other ∙ sym (ap (λ b. with_one doc (cond b (a ∷ R) R)) other)
           ]
       | inr here ↦
@@ -78,11 +84,13 @@ passing-mark p q a (suc n) doc low high now others =
     ]
 
 -- those from a target on
-passing-at_least : (p q : ℕ → Bool) (a n t : ℕ) → ((d : ℕ) → a ≤ d → d < a + n → d < t → q d ≡ false) → ((d : ℕ) → a ≤ d → d < a + n → t ≤ d → q d ≡ p d) → passing q a n ≡ at_least t (passing p a n)
+passing-at_least : (p q : ℕ → Bool) (a n t : ℕ) → ((d : ℕ) → a ≤ d → d < a + n → d < t → q d ≡ false) → ((d : ℕ) → a ≤ d → d < a + n → t ≤ d → q d ≡ p d) →
+    passing q a n ≡ at_least t (passing p a n)
 passing-at_least p q a zero t gone rest = refl
 passing-at_least p q a (suc n) t gone rest =
     let R = passing p (a + 1) n in
-    let more = passing-at_least p q (a + 1) n t (λ d up down low. gone d (omega (arith, up)) (omega (arith, down)) low) (λ d up down high. rest d (omega (arith, up)) (omega (arith, down)) high) in
+    let more = passing-at_least p q (a + 1) n t (λ d up down low. gone d (omega (arith, up)) (omega (arith, down)) low)
+    (λ d up down high. rest d (omega (arith, up)) (omega (arith, down)) high) in
     elim (cases_lt a t) [
       | inl low ↦
           ap₂ (λ b ys. cond b (a ∷ ys) ys) (gone a (omega arith) (omega arith) low) more ∙ sym (elim (cases_Bool (p a)) [
@@ -104,25 +112,29 @@ is_set n k is = ap (λ b. b == 1) is
 
 pub nothing : (p : ℕ → Bool) (a n : ℕ) → ((d : ℕ) → a ≤ d → d < a + n → p d ≡ false) → passing p a n ≡ []
 nothing p a zero none = refl
-nothing p a (suc n) none = ap₂ (λ b ys. cond b (a ∷ ys) ys) (none a (omega arith) (omega arith)) (nothing p (a + 1) n (λ d up down. none d (omega (arith, up)) (omega (arith, down))))
+nothing p a (suc n) none =
+    ap₂ (λ b ys. cond b (a ∷ ys) ys) (none a (omega arith) (omega arith)) (nothing p (a + 1) n (λ d up down. none d (omega (arith, up)) (omega (arith, down))))
 
 pub marked-nothing : (from last : ℕ) → marked from last 0 ≡ []
 marked-nothing from last = nothing (is_marked from 0) from (suc last - from) (λ d up down. unset 0 (d - from) (bit_at-zero (d - from)))
 
 -- no place has a mark where the marks are 0
-pub found-nothing : (base from last : ℕ) (marks : List ℕ) → base ≤ from → ((k : ℕ) → k ≤ last - base → get_or marks k 0 ≡ 0) → found_in base from last marks ≡ []
+pub found-nothing : (base from last : ℕ) (marks : List ℕ) → base ≤ from → ((k : ℕ) → k ≤ last - base → get_or marks k 0 ≡ 0) →
+    found_in base from last marks ≡ []
 found-nothing base from last marks order clear =
     nothing (is_found base marks) from (suc last - from) (λ d up down. ap (nat_lt 0) (clear (d - base) (omega (arith, down, order, up))))
 
 -- one more is marked, and the others stay
-pub found-set : (base from last doc : ℕ) (marks : List ℕ) → base ≤ from → from ≤ doc → doc ≤ last → doc - base < length marks → found_in base from last (set marks (doc - base) 1) ≡ with_one doc (found_in base from last marks)
+pub found-set : (base from last doc : ℕ) (marks : List ℕ) → base ≤ from → from ≤ doc → doc ≤ last → doc - base < length marks →
+    found_in base from last (set marks (doc - base) 1) ≡ with_one doc (found_in base from last marks)
 found-set base from last doc marks order low high room =
     passing-mark (is_found base (set marks (doc - base) 1)) (is_found base marks) from (suc last - from) doc low (omega (arith, high, low))
     (ap (nat_lt 0) (get_or-set_same marks (doc - base) 1 0 room))
     (λ d up down other. ap (nat_lt 0) (get_or-set_other marks (doc - base) (d - base) 1 0 (λ e. other (omega (arith, e, up, order, low)))))
 
 -- what has no mark is left behind
-pub found-ahead : (base from to last : ℕ) (words : List ℕ) → from ≤ to → ((d : ℕ) → from ≤ d → d < to → is_found base words d ≡ false) → found_in base from last words ≡ found_in base to last words
+pub found-ahead : (base from to last : ℕ) (words : List ℕ) → from ≤ to → ((d : ℕ) → from ≤ d → d < to → is_found base words d ≡ false) →
+    found_in base from last words ≡ found_in base to last words
 found-ahead base from to last words up none = elim (cases_lt last to) [
   | inl past ↦
       let zero_left : suc last - to ≡ 0 = omega (arith, past) in
@@ -137,11 +149,13 @@ found-ahead base from to last words up none = elim (cases_lt last to) [
 ]
 
 -- the first that is marked, and what follows it
-pub found-first : (base doc last : ℕ) (words : List ℕ) → doc ≤ last → is_found base words doc ≡ true → found_in base doc last words ≡ doc ∷ found_in base (doc + 1) last words
+pub found-first : (base doc last : ℕ) (words : List ℕ) → doc ≤ last → is_found base words doc ≡ true →
+    found_in base doc last words ≡ doc ∷ found_in base (doc + 1) last words
 found-first base doc last words within here =
     let n = suc last - (doc + 1) in
     let e : suc last - doc ≡ suc n = omega (arith, within) in
-    ap (passing (is_found base words) doc) e ∙ ap (λ b. cond b (doc ∷ passing (is_found base words) (doc + 1) n) (passing (is_found base words) (doc + 1) n)) here
+    ap (passing (is_found base words) doc) e ∙ ap (λ b. cond b (doc ∷ passing (is_found base words) (doc + 1) n) (passing (is_found base words) (doc + 1) n))
+    here
 
 -- behind the last there is nothing
 pub found-past : (base from last : ℕ) (words : List ℕ) → last < from → found_in base from last words ≡ []
@@ -163,13 +177,16 @@ found-at_least base from target last words =
           let e : suc last - from ≡ (to - from) + (suc last - to) = omega (arith, within) in
           let f : from + (to - from) ≡ to = omega arith in
           ap (passing test from) e
-          ∙ passing-ahead test from (to - from) (suc last - to) (λ d high low. ap (λ b. b && is_found base words d) (lt-leb target d (omega (arith, low, high))))
+          ∙ passing-ahead test from (to - from) (suc last - to)
+          (λ d high low. ap (λ b. b && is_found base words d) (lt-leb target d (omega (arith, low, high))))
           ∙ ap (λ a. passing test a (suc last - to)) f
-          ∙ passing-same test (is_found base words) to (suc last - to) (λ d high low. ap (λ b. b && is_found base words d) (le-leb target d (omega (arith, high))))
+          ∙ passing-same test (is_found base words) to (suc last - to)
+          (λ d high low. ap (λ b. b && is_found base words d) (le-leb target d (omega (arith, high))))
     ])
 
 -- the marks of 64 documents from a place among them on
-module _ (bytes : List ℕ) (base from word : ℕ) (order : base ≤ from) (of : AreMarksFrom (from - (from - base) % 64) base bytes word) (marks : ℕ) (is : marks ≡ bit_and word (2 ^ 64 - 2 ^ ((from - base) % 64))) where
+module _ (bytes : List ℕ) (base from word : ℕ) (order : base ≤ from) (of : AreMarksFrom (from - (from - base) % 64) base bytes word) (marks : ℕ)
+    (is : marks ≡ bit_and word (2 ^ 64 - 2 ^ ((from - base) % 64))) where
   abbrev at : ℕ
   at = (from - base) % 64
 
@@ -188,19 +205,22 @@ module _ (bytes : List ℕ) (base from word : ℕ) (order : base ≤ from) (of :
       found_at k d (omega (arith, up)) (omega (arith, down, up)) (omega (arith, up)) ∙ ap (λ n. bit_at n k == 1) zero_marks ∙ unset 0 k (bit_at-zero k)
 
   -- up to a place of the word, it marks what the word does
-  pub word_part : (places : ℕ) → at ≤ places → places ≤ 64 → passing (is_found base bytes) from (places - at) ≡ passing (is_marked (from - at) marks) (from - at) places
+  pub word_part : (places : ℕ) → at ≤ places → places ≤ 64 → passing (is_found base bytes) from (places - at)
+      ≡ passing (is_marked (from - at) marks) (from - at) places
   word_part places more few =
       let start = from - at in
       let n = places - at in
       let begin : start + at ≡ from = omega (arith, order) in
       let whole : places ≡ at + n = omega (arith, more) in
-      passing-same (is_found base bytes) (is_marked start marks) from n (λ d up down. found_at (d - start) d (omega (arith, up, order)) (omega (arith, down, order, up, few, more)) (omega (arith, up, order)))
+      passing-same (is_found base bytes) (is_marked start marks) from n (λ d up down. found_at (d - start) d (omega (arith, up, order))
+      (omega (arith, down, order, up, few, more)) (omega (arith, up, order)))
       ∙ sym (ap (passing (is_marked start marks) start) whole
       ∙ passing-ahead (is_marked start marks) start at n (λ d up down. unset marks (d - start) (below (d - start) (omega (arith, down, up))))
       ∙ ap (λ a. passing (is_marked start marks) a n) begin)
 
   -- what it marks, and what the words behind it do
-  pub word_split : (last : ℕ) → from - at + 63 ≤ last → found_in base from last bytes ≡ marked (from - at) (from - at + 63) marks ++ found_in base (from - at + 64) last bytes
+  pub word_split : (last : ℕ) → from - at + 63 ≤ last → found_in base from last bytes ≡ marked (from - at) (from - at + 63) marks
+      ++ found_in base (from - at + 64) last bytes
   word_split last long =
       let start = from - at in
       let n = 64 - at in
@@ -209,7 +229,8 @@ module _ (bytes : List ℕ) (base from word : ℕ) (order : base ≤ from) (of :
       let all : suc last - from ≡ n + more = omega (arith, order, long) in
       let next : from + n ≡ start + 64 = omega (arith, order) in
       let whole : 64 ≡ suc (start + 63) - start = omega arith in
-      let here : passing test from n ≡ marked start (start + 63) marks = word_part 64 (omega arith) (omega arith) ∙ ap (passing (is_marked start marks) start) whole in
+      let here : passing test from n ≡ marked start (start + 63) marks =
+      word_part 64 (omega arith) (omega arith) ∙ ap (passing (is_marked start marks) start) whole in
       ap (passing test from) all ∙ passing-append test from n more ∙ ap₂ (λ xs a. xs ++ passing test a more) here next
 
   module _ (some : 0 < marks) (fits : marks < 2 ^ 64) where

@@ -1,5 +1,5 @@
 -- Documents as bits, from a number on.
-use Rattle.std.specs.Prelude.{◌≡◌, ℕ, suc, ◌+◌, ◌-◌, ◌<◌, ◌==◌, ◌&&◌, nat_le, nat_lt, Bool, false, List, filter, slice_index_or}
+use Rattle.std.specs.Prelude.{◌≡◌, ℕ, suc, ◌+◌, ◌-◌, ◌<◌, ◌==◌, nat_lt, Bool, false, List, filter, slice_index_or}
 use Rattle.std.specs.Int.{bit_at}
 use Rattle.std.specs.List.{range_with_len}
 
@@ -10,10 +10,6 @@ passing test from count = filter test (range_with_len from count)
 -- whether a document's bit is set
 abbrev pub is_marked : ℕ → ℕ → ℕ → Bool
 is_marked from marks d = bit_at marks (d - from) == 1
-
--- whether a document is one of 64 from one on, and its bit is set
-abbrev pub in_word : ℕ → ℕ → ℕ → Bool
-in_word from marks d = nat_le from d && is_marked from marks d
 
 -- the documents of from..=last whose bits are set
 abbrev pub marked : ℕ → ℕ → ℕ → List ℕ

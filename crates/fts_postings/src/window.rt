@@ -43,8 +43,8 @@ impl Window {
         })
     }
 
-    /// Begins anew with nothing marked, for a document and those after it that are no more than this many above the first
-    /// of the 64 in which it lies: so words of bits lie as those of the window do.
+    /// Begins anew with nothing marked, for a document and those after it that are no more than this many above the
+    /// first of the 64 in which it lies: so words of bits lie as those of the window do.
     pub fn begin(&mut self, doc: u32, reach: u32)
         requires { reach ≤ 4095 }
         ensures from { self.new.from ≡ doc }

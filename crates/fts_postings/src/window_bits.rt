@@ -1,31 +1,12 @@
 // The documents of a window that have a bit that is set.
-ghost use Rattle.std.specs.Prelude.{◌≡◌, ℕ, ◌+◌, ◌%◌, ◌<◌, ◌≤◌, ◌==◌, ◌&&◌, ◌||◌, [], filter, length};
+ghost use Rattle.std.specs.Prelude.{◌≡◌, ℕ, ◌+◌, ◌%◌, ◌<◌, ◌≤◌, ◌==◌, ◌&&◌, [], filter, length};
 ghost use Rattle.std.specs.Int.{bit_at};
-ghost use Rattle.fts_postings.specs.Sets.{has};
-ghost use Rattle.fts_postings.specs.Windows.{found_in, in_word, is_found, is_set};
+ghost use Rattle.fts_postings.specs.Windows.{found_in, is_found, is_set};
 
-use crate::bytes;
 use crate::window::Window;
 use fts_pack::bits::Bits;
 
 impl Window {
-    /// Marks those of 64 documents from one on whose bits are set in a word, the lowest that of the first. What has no
-    /// place isn't marked.
-    #[inline]
-    pub fn mark_bits(&mut self, start: u64, word: u64)
-        requires low { self.old.base ≤ start }
-        requires high { start ≤ self.old.last }
-        requires aligned { start % 64 ≡ 0 }
-        ensures place { (self.new.base ≡ self.old.base) × (self.new.from ≡ self.old.from) × (self.new.last ≡ self.old.last) }
-        ensures marked { (d : ℕ) → self.old.from ≤ d → d ≤ self.old.last →
-            has (found_in self.new.base self.new.from self.new.last self.new.marks.items) d
-            ≡ (has (found_in self.old.base self.old.from self.old.last self.old.marks.items) d
-            || in_word start word d) }
-    {
-        let place = (start - self.base as u64) as usize;
-        bytes::mark_bits(&mut self.marks, place, word);
-    }
-
     /// How many documents are marked and have a bit that is set. Passes all.
     pub fn count_set(&mut self, bits: &Bits) -> usize
         ensures count { result ≡ length (filter (is_set bits.now)

@@ -13,8 +13,13 @@ loop-token-init c =
 
 pub span-requires : goal.span-requires
 span-requires c =
-    (IsPlaceIn-first c.args.text.now c.in-Some.token (places_left c.loop-token.token-iterator) (places_left c.next.new.self) c.in-Some.ensures.steps c.loop-token.invariant.2).0
+    (IsPlaceIn-first c.args.text.now c.in-Some.token (places_left c.loop-token.token-iterator) (places_left c.next.new.self) c.in-Some.ensures.steps.0
+    c.loop-token.invariant.2).0
 
 pub loop-token-preserved : goal.loop-token-preserved
-loop-token-preserved c =
-    (tt, tt, (IsPlaceIn-first c.args.text.now c.in-Some.token (places_left c.loop-token.token-iterator) (places_left c.next.new.self) c.in-Some.ensures.steps c.loop-token.invariant.2).1)
+loop-token-preserved c = (
+  tt,
+  tt,
+  (IsPlaceIn-first c.args.text.now c.in-Some.token (places_left c.loop-token.token-iterator) (places_left c.next.new.self) c.in-Some.ensures.steps.0
+      c.loop-token.invariant.2).1,
+)

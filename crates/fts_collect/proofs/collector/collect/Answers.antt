@@ -7,7 +7,7 @@ use Rattle.fts_model.specs.Answers.{answer_of}
 use Rattle.fts_collect.specs.Internals.Collected.{AreHits, hits_at}
 use Rattle.fts_collect.proofs.FitLemmas.{has_values}
 use Rattle.fts_collect.proofs.LiveLemmas.{live_hits-at, hits_are}
-use Rattle.fts_collect.proofs.OpeningsLemmas.{at_most, blocks-few, some_hits, where_some}
+use Rattle.fts_collect.proofs.OpeningsLemmas.{at_most, blocks-few, least-few, some_hits, where_some}
 use Rattle.fts_collect.proofs.collector.collect.Goals as goal
 
 pub part_of-requires-clause-documents : goal.part_of-requires-clause-documents
@@ -30,6 +30,14 @@ returns-clause-part c =
 
 pub returns-clause-openings : goal.returns-clause-openings
 returns-clause-openings c = record {
+  from = omega (
+    arith,
+    c.in_ok-cursor.ensures.opens.least,
+    c.in_ok-part.ensures.least,
+    least-few c.args.segment.now (query_value c.args.query.now)
+        (omega arith),
+  );
+  up_to = at_most _ _ _ c.in_ok-part.ensures.most c.in_ok-cursor.ensures.opens.most;
   one_term = λ t is.
       let whole = c.in_ok-cursor.ensures.opens.one_term t is in
       c.in_ok-part.ensures.whole whole.0 ∙ ap (min (2 ^ 64 - 1)) whole.1 ∙ blocks-few c.args.segment.now t (omega arith);
@@ -37,4 +45,15 @@ returns-clause-openings c = record {
       let ne : c.in_ok-cursor.cursor.remaining ≢ [] = some_hits c.args.segment.now c.args.request.now _ _ c.in_ok-part.ensures.answer some in
       omega (arith, c.in_ok-cursor.ensures.opens.opened terms has ne, c.in_ok-part.ensures.least, c.musts_of-musts.ensures terms has));
   musts = λ terms has. at_most _ _ _ c.in_ok-part.ensures.most (c.in_ok-cursor.ensures.opens.musts terms has None);
+}
+
+pub returns-clause-walked : goal.returns-clause-walked
+returns-clause-walked c = record {
+  cursor = c.in_ok-cursor.cursor;
+  opens = c.in_ok-cursor.ensures.opens;
+  end = c.part_of.new.cursor;
+  walked = c.in_ok-part.ensures.walked;
+  none = c.in_ok-part.ensures.end;
+  within = c.in_ok-part.ensures.within;
+  told = c.in_ok-part.ensures.openings;
 }

@@ -18,6 +18,7 @@ returns-in_ok-new-in-Some c = λ docs counted few.
     let column = column_of segment f in
     ap Some (
     c.in_ok-new-in-Some.ensures
-    ∙ ap (named_by (value_at segment f)) (c.in_ok-counts-in-Some.ensures (present_at column docs) here (omega (arith, few, length-filter_map (λ doc. slice_index_or column doc None) docs)))
+    ∙ ap (named_by (value_at segment f)) (c.in_ok-counts-in-Some.ensures (present_at column docs) here
+    (omega (arith, few, length-filter_map (λ doc. slice_index_or column doc None) docs)))
     ∙ groups_at segment f docs c.requires.documents (subst Q c.in-Some.is c.requires.fits))
     ∙ ap (λ (o : Option ℕ). option_map (λ f. groups f (hits_at segment docs)) o) (sym c.in-Some.is)

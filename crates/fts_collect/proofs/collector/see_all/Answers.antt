@@ -19,7 +19,8 @@ loop-len-init c =
 
 pub see-requires-clause-within : goal.see-requires-clause-within
 see-requires-clause-within c =
-    under_way-all (λ doc. doc < length c.args.segment.now.documents) c.args.segment.now c.args.request.now c.args.cursor.now.remaining _ _ _ c.loop-len.invariant.under_way c.requires.within
+    under_way-all (λ doc. doc < length c.args.segment.now.documents) c.args.segment.now c.args.request.now c.args.cursor.now.remaining _ _ _
+    c.loop-len.invariant.under_way c.requires.within
 
 pub loop-len-smaller : goal.loop-len-smaller
 loop-len-smaller c =
@@ -32,7 +33,8 @@ pub loop-len-preserved : goal.loop-len-preserved
 loop-len-preserved c =
     let filled = c.fill-len-in-loop-len.ensures in
     record {
-      under_way = under_way-next c.args.segment.now c.args.request.now c.args.cursor.now.remaining _ _ _ _ _ _ c.loop-len.invariant.under_way c.in_ok-see.ensures filled.taken filled.remaining;
+      under_way = under_way-next c.args.segment.now c.args.request.now c.args.cursor.now.remaining _ _ _ _ _ _ c.loop-len.invariant.under_way
+          c.in_ok-see.ensures filled.taken filled.remaining;
       within = omega (arith, filled.count);
       walked = Walked-trans _ _ _ c.loop-len.invariant.walked filled.walked;
     }

@@ -10,4 +10,5 @@ see_all-requires-clause-none c =
 
 pub returns-clause-seen : goal.returns-clause-seen
 returns-clause-seen c =
-    seen-beside c.args.segment.now c.args.request.now c.args.top c.args.cursor.now.remaining c.see_all.new.seen c.args.top_k c.requires.top c.in_ok-see_all.ensures.seen c.requires.ranked
+    seen-beside c.args.segment.now c.args.request.now c.args.top c.args.cursor.now.remaining c.see_all.new.seen c.args.top_k c.requires.top
+    c.in_ok-see_all.ensures.seen c.requires.ranked

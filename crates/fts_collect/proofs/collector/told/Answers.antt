@@ -13,4 +13,5 @@ pub returns-clause-answer : goal.returns-clause-answer
 returns-clause-answer c = λ docs seen are.
     let segment = c.args.segment.now in
     let count : c.args.seen.count ≡ length (hits_at segment docs) = omega (arith, seen.count, are.few, length-hits_at segment docs are.within) in
-    same_answer _ (answer_of c.args.request.now (hits_at segment docs)) count (c.in_ok-groups.ensures docs seen.groups are.few) (c.in_ok-top.ensures docs seen.top are)
+    same_answer _ (answer_of c.args.request.now (hits_at segment docs)) count (c.in_ok-groups.ensures docs seen.groups are.few)
+    (c.in_ok-top.ensures docs seen.top are)

@@ -20,7 +20,8 @@ returns-in_ok-hits_of-in-Some c = λ docs ranked are.
     let P : Option Top → Type 0 = λ o. HasRanked segment o docs c.args.top_k in
     let Q : Option Top → Type 0 = λ o. IfSome o (λ t. is_number_field segment.schema t.by ≡ true) in
     let here = subst P c.in-Some.is ranked in
-    let known : kind_at segment.schema t.by ≡ Some kind = ap (λ (s : List Field). option_map (λ g. g.kind) (slice_get s t.by)) (sym c.schema.ensures) ∙ c.kind-kind.ensures in
+    let known : kind_at segment.schema t.by ≡ Some kind = ap (λ (s : List Field). option_map (λ g. g.kind) (slice_get s t.by)) (sym c.schema.ensures)
+    ∙ c.kind-kind.ensures in
     let is = number_field segment t.by kind c.requires.documents known (subst Q c.in-Some.is c.requires.fits) in
     ap Some (
     c.in_ok-hits_of-in-Some.ensures

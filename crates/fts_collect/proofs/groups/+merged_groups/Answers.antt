@@ -20,12 +20,15 @@ returns-in_ok-back-in_default t c = λ field lists are few.
     let P : List PartValue → Type 0 = AreGroupsOf field (take n lists) in
     let R : List PartValue → Type 0 = AreGroupsOf field (drop n lists) in
     let halves = few-halves n lists in
-    let front = c.in_ok-front-in_default.ensures field (take n lists) (subst P (sym c.split_at.ensures.front) (AreGroupsOf-take field n lists parts are)) (omega (arith, halves, few)) in
-    let back = c.in_ok-back-in_default.ensures field (drop n lists) (subst R (sym c.split_at.ensures.back) (AreGroupsOf-drop field n lists parts are)) (omega (arith, halves, few)) in
+    let front = c.in_ok-front-in_default.ensures field (take n lists) (subst P (sym c.split_at.ensures.front) (AreGroupsOf-take field n lists parts are))
+    (omega (arith, halves, few)) in
+    let back = c.in_ok-back-in_default.ensures field (drop n lists) (subst R (sym c.split_at.ensures.back) (AreGroupsOf-drop field n lists parts are))
+    (omega (arith, halves, few)) in
     let first = c.deref.ensures.value ∙ front in
     let second = c.deref-in_default.ensures.value ∙ back in
     let S : List (GroupValue × ℕ) → Type 0 = GroupsRise in
     let Q : List (GroupValue × ℕ) → Type 0 = λ xs. IfOk c.merged.result (λ list. list.items ≡ xs) in
     subst Q
-    (ap (λ xs. fold add_group xs c.deref-in_default.result.now) first ∙ ap (fold add_group (groups field (joined (take n lists)))) second ∙ groups-halves field n lists few)
+    (ap (λ xs. fold add_group xs c.deref-in_default.result.now) first ∙ ap (fold add_group (groups field (joined (take n lists)))) second ∙ groups-halves field
+    n lists few)
     (c.merged.ensures (subst S (sym second) (groups-rise field (joined (drop n lists)))))

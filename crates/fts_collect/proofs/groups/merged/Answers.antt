@@ -27,10 +27,13 @@ loop-i-preserved-in-Less c = record {
       let a : GroupValue × ℕ = c.index-front-i.result in
       let b : GroupValue × ℕ = c.index-back-j.result in
       let rest = fold add_group (drop c.loop-i.i front) (drop (c.loop-i.j + 1) back) in
-      let less = compared a b (value_of c.value.result) (value_of c.value-in-loop-i.result) Less c.compare.result c.value.ensures c.value-in-loop-i.ensures c.compare.ensures c.in-Less.is in
+      let less = compared a b (value_of c.value.result) (value_of c.value-in-loop-i.result) Less c.compare.result c.value.ensures c.value-in-loop-i.ensures
+      c.compare.ensures c.in-Less.is in
       ap (λ xs. xs ++ rest) (c.in_ok-push-in-Less.ensures.items
-      ∙ ap (λ g. c.loop-i.list.items ++ g ∷ []) (again b c.new.result (value_of c.value-in-Less.result) c.count.result c.new.ensures c.value-in-Less.ensures c.count.ensures))
-      ∙ merged-less front back c.loop-i.list.items c.loop-i.i c.loop-i.j a b (fold add_group front back) c.loop-i-test.true c.if-j-back.true c.index-front-i.is c.index-back-j.is less rising (c.loop-i.invariant.so_far rising);
+      ∙ ap (λ g. c.loop-i.list.items ++ g ∷ []) (again b c.new.result (value_of c.value-in-Less.result) c.count.result c.new.ensures c.value-in-Less.ensures
+      c.count.ensures))
+      ∙ merged-less front back c.loop-i.list.items c.loop-i.i c.loop-i.j a b (fold add_group front back) c.loop-i-test.true c.if-j-back.true c.index-front-i.is
+      c.index-back-j.is less rising (c.loop-i.invariant.so_far rising);
 }
 
 pub loop-i-preserved-in-Equal : goal.loop-i-preserved-in-Equal
@@ -43,13 +46,17 @@ loop-i-preserved-in-Equal c = record {
       let a : GroupValue × ℕ = c.index-front-i.result in
       let b : GroupValue × ℕ = c.index-back-j.result in
       let rest = fold add_group (drop (c.loop-i.i + 1) front) (drop (c.loop-i.j + 1) back) in
-      let equal = compared a b (value_of c.value.result) (value_of c.value-in-loop-i.result) Equal c.compare.result c.value.ensures c.value-in-loop-i.ensures c.compare.ensures c.in-Equal.is in
+      let equal = compared a b (value_of c.value.result) (value_of c.value-in-loop-i.result) Equal c.compare.result c.value.ensures c.value-in-loop-i.ensures
+      c.compare.ensures c.in-Equal.is in
       let counts : c.saturating_add-in-Equal.result ≡ counts_added a.1 b.1 =
-      c.saturating_add-in-Equal.ensures ∙ ap (λ n. counts_added n c.count-in-Equal-2.result) c.count-in-Equal.ensures ∙ ap (counts_added a.1) c.count-in-Equal-2.ensures in
+      c.saturating_add-in-Equal.ensures ∙ ap (λ n. counts_added n c.count-in-Equal-2.result) c.count-in-Equal.ensures
+      ∙ ap (counts_added a.1) c.count-in-Equal-2.ensures in
       ap (λ xs. xs ++ rest) (c.in_ok-push-in-Equal.ensures.items
       ∙ ap (λ g. c.loop-i.list.items ++ g ∷ [])
-      (again (a.0, counts_added a.1 b.1) c.new-in-Equal.result (value_of c.value-in-Equal.result) c.saturating_add-in-Equal.result c.new-in-Equal.ensures c.value-in-Equal.ensures counts))
-      ∙ merged-equal front back c.loop-i.list.items c.loop-i.i c.loop-i.j a b (fold add_group front back) c.loop-i-test.true c.if-j-back.true c.index-front-i.is c.index-back-j.is equal rising (c.loop-i.invariant.so_far rising);
+      (again (a.0, counts_added a.1 b.1) c.new-in-Equal.result (value_of c.value-in-Equal.result) c.saturating_add-in-Equal.result c.new-in-Equal.ensures
+      c.value-in-Equal.ensures counts))
+      ∙ merged-equal front back c.loop-i.list.items c.loop-i.i c.loop-i.j a b (fold add_group front back) c.loop-i-test.true c.if-j-back.true c.index-front-i.is
+      c.index-back-j.is equal rising (c.loop-i.invariant.so_far rising);
 }
 
 pub loop-i-preserved : goal.loop-i-preserved
@@ -62,10 +69,13 @@ loop-i-preserved c = record {
       let a : GroupValue × ℕ = c.index-front-i.result in
       let b : GroupValue × ℕ = c.index-back-j.result in
       let rest = fold add_group (drop (c.loop-i.i + 1) front) (drop c.loop-i.j back) in
-      let greater = compared a b (value_of c.value.result) (value_of c.value-in-loop-i.result) Greater c.compare.result c.value.ensures c.value-in-loop-i.ensures c.compare.ensures c.in-Greater.is in
+      let greater = compared a b (value_of c.value.result) (value_of c.value-in-loop-i.result) Greater c.compare.result c.value.ensures
+      c.value-in-loop-i.ensures c.compare.ensures c.in-Greater.is in
       ap (λ xs. xs ++ rest) (c.in_ok-push-in-Greater.ensures.items
-      ∙ ap (λ g. c.loop-i.list.items ++ g ∷ []) (again a c.new-in-Greater.result (value_of c.value-in-Greater.result) c.count-in-Greater.result c.new-in-Greater.ensures c.value-in-Greater.ensures c.count-in-Greater.ensures))
-      ∙ merged-greater front back c.loop-i.list.items c.loop-i.i c.loop-i.j a b (fold add_group front back) c.loop-i-test.true c.if-j-back.true c.index-front-i.is c.index-back-j.is greater rising (c.loop-i.invariant.so_far rising);
+      ∙ ap (λ g. c.loop-i.list.items ++ g ∷ []) (again a c.new-in-Greater.result (value_of c.value-in-Greater.result) c.count-in-Greater.result
+      c.new-in-Greater.ensures c.value-in-Greater.ensures c.count-in-Greater.ensures))
+      ∙ merged-greater front back c.loop-i.list.items c.loop-i.i c.loop-i.j a b (fold add_group front back) c.loop-i-test.true c.if-j-back.true
+      c.index-front-i.is c.index-back-j.is greater rising (c.loop-i.invariant.so_far rising);
 }
 
 pub returns : goal.returns
@@ -76,4 +86,5 @@ returns c = λ rising.
     c.in_ok-lend_rest-2.ensures
     ∙ ap (λ xs. xs ++ drop c.loop-i.j back) c.in_ok-lend_rest.ensures
     ∙ merged-end front back list c.loop-i.i c.loop-i.j (fold add_group front back)
-    (elim c.loop-i-test.branch [ then-loop-i-test+else-j-back w ↦ inr w.if-j-back.false | else-loop-i-test w ↦ inl w.loop-i-test.false ]) rising (c.loop-i.invariant.so_far rising)
+    (elim c.loop-i-test.branch [ then-loop-i-test+else-j-back w ↦ inr w.if-j-back.false | else-loop-i-test w ↦ inl w.loop-i-test.false ]) rising
+    (c.loop-i.invariant.so_far rising)

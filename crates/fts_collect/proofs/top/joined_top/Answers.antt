@@ -17,8 +17,18 @@ loop-part-preserved c =
     let P : List PartValue → Type 0 = λ parts. IsPermutation all (all_hits parts ++ c.loop-part.list.items) in
     let Q : List Hit → Type 0 = λ hits. IsPermutation all (all_hits rest ++ hits) in
     record {
-      moved = subst Q (sym c.move_hits.ensures.items) (all_hits-moved all rest part c.loop-part.list.items (subst P c.in-Some.ensures.items c.loop-part.invariant.moved));
-      room = omega (arith, c.move_hits.ensures.len, c.move_hits.ensures.room, c.loop-part.invariant.room, ap (λ parts. length (all_hits parts)) c.in-Some.ensures.items, ap length (all_hits-push rest part), length-append (all_hits rest) (hits_in part));
+      moved = subst Q (sym c.move_hits.ensures.items)
+          (all_hits-moved all rest part c.loop-part.list.items (subst P c.in-Some.ensures.items c.loop-part.invariant.moved));
+      room = omega (
+        arith,
+        c.move_hits.ensures.len,
+        c.move_hits.ensures.room,
+        c.loop-part.invariant.room,
+        ap (λ parts. length (all_hits parts))
+            c.in-Some.ensures.items,
+        ap length (all_hits-push rest part),
+        length-append (all_hits rest) (hits_in part),
+      );
     }
 
 pub returns : goal.returns

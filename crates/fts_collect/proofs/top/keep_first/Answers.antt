@@ -13,4 +13,5 @@ returns c = λ apart.
     let order = c.args.wanted.order in
     c.truncate.ensures.items
     ∙ first_of-sorted c.args.wanted.k order c.args.list.now.items c.sort_unstable_by.new.self.items apart c.sort_unstable_by.ensures.permutation
-    (c.sort_unstable_by.ensures.sorted (λ a b. is_lt (rank order a b)) (ranks_by (rank_total order) (λ (h : Hit). h)) (always_returns_same _ _ _ (λ a r g k. search rules)))
+    (c.sort_unstable_by.ensures.sorted (λ a b. is_lt (rank order a b)) (ranks_by (rank_total order) (λ (h : Hit). h))
+    (always_returns_same _ _ _ (λ a r g k. search rules)))

@@ -12,4 +12,5 @@ returns-clause-room c =
     let f = λ (part : PartValue). length (hits_in part) in
     let whole = take_all c.loop-part.part-index parts c.loop-part-test.false in
     let count = c.loop-part.invariant ∙ ap (sum_by f) whole ∙ sym (length-flat_map hits_in parts) in
-    IfOk-weaker c.with_capacity.result (λ v. vec_capacity v ≡ c.loop-part.count) (λ v. length (all_hits parts) ≤ vec_capacity v) (λ v h. omega (arith, count, h)) c.with_capacity.ensures.exact
+    IfOk-weaker c.with_capacity.result (λ v. vec_capacity v ≡ c.loop-part.count) (λ v. length (all_hits parts) ≤ vec_capacity v)
+    (λ v h. omega (arith, count, h)) c.with_capacity.ensures.exact

@@ -3,11 +3,11 @@ use Rattle.std.proofs.Common.{◌≡◌, ◌++◌, filter, take}
 use Rattle.std.specs.List.{flat_map}
 use Rattle.fts_pack.specs.Documents.{blocks_of}
 use Rattle.fts_pack.specs.ListSource.{documents_in}
-use Rattle.fts_cursor.specs.Hits.{is_live}
+use Rattle.fts_postings.specs.Sets.{has}
 use Rattle.fts_collect.proofs.walk.push_list.Given as goal
 
 abbrev pub invariant-loop-block : goal.invariant-loop-block
 invariant-loop-block l = record {
   list : blocks_of (documents_in l.source) ≡ blocks_of l.list;
-  found : l.found.items ≡ l.initial.found.items ++ filter (is_live l.bits) (flat_map (λ block. block) (take l.block (blocks_of l.list)));
+  found : l.found.items ≡ l.initial.found.items ++ filter (has l.hits) (flat_map (λ block. block) (take l.block (blocks_of l.list)));
 }

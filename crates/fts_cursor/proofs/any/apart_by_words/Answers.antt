@@ -18,8 +18,8 @@ index-first-requires c =
     let some : 0 < length c.args.must.now = grind (arith, c.is_empty.ensures, c.if-is_empty.false) in
     omega (arith, told.count, some, length-map c.args.must.now (hits_of c.args.segment.now))
 
-pub returns : goal.returns
-returns c =
+pub returns-clause-remaining : goal.returns-clause-remaining
+returns-clause-remaining c =
     let told = rw c.in-Some.is at c.in_ok-all.ensures in
     let gone = rw c.in-Some-2.is at c.in_ok-none.ensures in
     let all = c.in-Some.all.items in
@@ -28,8 +28,6 @@ returns c =
     let docs = c.len-docs.result in
     let some : 0 < length c.args.must.now = grind (arith, c.is_empty.ensures, c.if-is_empty.false) in
     let pushed : c.push.new.self.items ≡ first ∷ [] = c.in_ok-push.ensures.items ∙ ap (λ xs. xs ++ first ∷ []) c.in_ok-some.ensures.items in
-    let start : docs - 0 ≡ length first.now = omega (arith, c.len-docs.ensures) in (
-      some,
-      c.in_ok-tree.ensures.remaining ∙ c.new.ensures ∙ ap (λ some. by_some none all some (docs - 0)) pushed ∙ ap (by_some none all (first ∷ [])) start
-          ∙ told_apart c.args.segment.now c.args.must.now c.args.must_not.now all none first some told gone c.index-first.ensures,
-    )
+    let start : docs - 0 ≡ length first.now = omega (arith, c.len-docs.ensures) in
+    c.in_ok-tree.ensures.remaining ∙ c.new.ensures ∙ ap (λ some. by_some none all some (docs - 0)) pushed ∙ ap (by_some none all (first ∷ [])) start
+    ∙ told_apart c.args.segment.now c.args.must.now c.args.must_not.now all none first some told gone c.index-first.ensures

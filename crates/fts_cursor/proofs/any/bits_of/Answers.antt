@@ -17,10 +17,12 @@ loop-query-preserved c =
     let i = c.loop-query.query-index in
     let q = c.query-item.result in
     let same = c.in-Some.ensures in
-    rw c.in_ok-push.ensures.items (subst (λ lists. AreToldBy lists (c.loop-query.all.items ++ c.in-Some-bits.bits ∷ [])) (hits_more segment queries i q c.loop-query-test.true c.query-item.is)
+    rw c.in_ok-push.ensures.items (subst (λ lists. AreToldBy lists (c.loop-query.all.items ++ c.in-Some-bits.bits ∷ []))
+    (hits_more segment queries i q c.loop-query-test.true c.query-item.is)
     (AreToldBy-more (map (hits_of segment) (take i queries)) c.loop-query.all.items (hits_of segment q) c.in-Some-bits.bits c.loop-query.invariant
     (λ d. c.in-Some-bits.ensures.tells d ∙ ap (list_any (λ x. x == d)) same) c.in-Some-bits.ensures.few))
 
 pub returns : goal.returns
 returns c =
-    subst (λ qs. AreToldBy (map (hits_of c.args.segment.now) qs) c.loop-query.all.items) (take_all c.loop-query.query-index c.args.queries.now c.loop-query-test.false) c.loop-query.invariant
+    subst (λ qs. AreToldBy (map (hits_of c.args.segment.now) qs) c.loop-query.all.items) (take_all c.loop-query.query-index c.args.queries.now
+    c.loop-query-test.false) c.loop-query.invariant

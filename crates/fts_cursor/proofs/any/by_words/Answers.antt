@@ -17,14 +17,16 @@ longest-docs-requires c =
     subst (All (λ (b : Bor (List Bool)). length b.now ≤ 2 ^ 32)) (sym c.deref.ensures.value) told.few
 
 pub new-requires-3-clause-are_for : goal.new-requires-3-clause-are_for
-new-requires-3-clause-are_for c = subst (All (λ (b : Bor (List Bool)). length b.now ≤ c.longest-docs.result)) c.deref.ensures.value c.longest-docs.ensures.longest
+new-requires-3-clause-are_for c = subst (All (λ (b : Bor (List Bool)). length b.now ≤ c.longest-docs.result)) c.deref.ensures.value
+    c.longest-docs.ensures.longest
 
-pub returns : goal.returns
-returns c =
+pub returns-clause-remaining : goal.returns-clause-remaining
+returns-clause-remaining c =
     let told = rw c.in-Some.is at c.in_ok-some.ensures in
     let some = c.in-Some.some.items in
     let docs = c.longest-docs.result in
     let start : docs - 0 ≡ docs = omega arith in
     let long = subst (All (λ (b : Bor (List Bool)). length b.now ≤ docs)) c.deref.ensures.value c.longest-docs.ensures.longest in
-    c.in_ok-tree.ensures.remaining ∙ c.new-3.ensures ∙ ap₂ (λ all none. by_all some all none (docs - 0)) c.new.ensures.items c.new-2.ensures.items ∙ ap (by_all some [] []) start
+    c.in_ok-tree.ensures.remaining ∙ c.new-3.ensures ∙ ap₂ (λ all none. by_all some all none (docs - 0)) c.new.ensures.items c.new-2.ensures.items
+    ∙ ap (by_all some [] []) start
     ∙ told_any (map (hits_of c.args.segment.now) c.args.queries.now) some docs told long

@@ -14,7 +14,8 @@ loop-filled-init c =
     let kept = c.keep_live-kept in
     record {
       taken =
-          Taken-live test c.args.tree.now.remaining c.settle.new.tree.remaining (take c.fill-taken.result c.fill-taken.new.out) kept.new.docs 128 kept.result c.fill-taken.ensures.taken
+          Taken-live test c.args.tree.now.remaining c.settle.new.tree.remaining (take c.fill-taken.result c.fill-taken.new.out) kept.new.docs 128 kept.result
+          c.fill-taken.ensures.taken
           (c.settle.ensures.remaining ∙ ap (filter test) c.fill-taken.ensures.remaining) kept.ensures.kept kept.ensures.size;
       settled = c.settle.ensures.settled;
       room = omega (arith, kept.ensures.few, c.fill-taken.ensures.count);
@@ -27,7 +28,8 @@ loop-filled-preserved c =
     let left = c.loop-filled.tree.remaining in
     record {
       taken =
-          Taken-more _ (filter test left) c.loop-filled.out _ c.loop-filled.filled c.in-Some.doc c.loop-filled.invariant.taken (c.in-Some.ensures.first ∙ filter-first test left c.loop-filled.invariant.settled) (omega arith)
+          Taken-more _ (filter test left) c.loop-filled.out _ c.loop-filled.filled c.in-Some.doc c.loop-filled.invariant.taken
+          (c.in-Some.ensures.first ∙ filter-first test left c.loop-filled.invariant.settled) (omega arith)
           (c.settle-in-loop-filled.ensures.remaining ∙ ap (filter test) c.advance.ensures.remaining ∙ filter-step test left c.loop-filled.invariant.settled);
       settled = c.settle-in-loop-filled.ensures.settled;
       room = omega arith;

@@ -19,4 +19,5 @@ loop-bits-preserved c = λ k low.
     let at = 64 * c.args.index + 64 * k in
     let start : 64 * (c.args.index + k) ≡ at = omega arith in
     subst (Tells (in_each (take (l.bits-index + 1) list)) at) (sym (c.keep.ensures k low))
-    (Tells-and list l.bits-index bits c.loop-bits-test.true c.bits-item.is at (get_or l.row k 0) (word_of bits.now (c.args.index + k)) (ap (λ n. number_of (take 64 (drop n bits.now))) start) (l.invariant k low))
+    (Tells-and list l.bits-index bits c.loop-bits-test.true c.bits-item.is at (get_or l.row k 0) (word_of bits.now (c.args.index + k))
+    (ap (λ n. number_of (take 64 (drop n bits.now))) start) (l.invariant k low))

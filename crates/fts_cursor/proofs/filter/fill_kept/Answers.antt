@@ -14,13 +14,18 @@ loop-filled-init c = record { taken = Taken-none _ c.args.out.now; follows = All
 pub keep-filled-requires : goal.keep-filled-requires
 keep-filled-requires c = record {
   room = c.take_stretch-count.ensures.taken.room;
-  passed = Taken-still (in_each c.args.bits.now) (common_of c.args.terms.now) (common_of c.loop-filled.terms) c.loop-filled.out c.loop-filled.filled c.loop-filled.invariant.taken (common_of c.take_stretch-count.new.self) c.take_stretch-count.new.out c.take_stretch-count.result c.take_stretch-count.ensures.taken;
+  passed = Taken-still (in_each c.args.bits.now) (common_of c.args.terms.now) (common_of c.loop-filled.terms) c.loop-filled.out c.loop-filled.filled
+      c.loop-filled.invariant.taken (common_of c.take_stretch-count.new.self) c.take_stretch-count.new.out c.take_stretch-count.result
+      c.take_stretch-count.ensures.taken;
 }
 
 pub loop-filled-preserved : goal.loop-filled-preserved
 loop-filled-preserved c = record {
-  taken = Taken-kept (in_each c.args.bits.now) (common_of c.args.terms.now) (common_of c.loop-filled.terms) c.loop-filled.out c.loop-filled.filled c.loop-filled.invariant.taken (common_of c.take_stretch-count.new.self) c.take_stretch-count.new.out c.keep-filled.new.docs c.take_stretch-count.result c.keep-filled.result c.take_stretch-count.ensures.taken c.keep-filled.ensures.kept c.keep-filled.ensures.size;
-  follows = AllFollow-trans c.args.terms.now c.loop-filled.terms c.take_stretch-count.new.self c.loop-filled.invariant.follows c.take_stretch-count.ensures.follows;
+  taken = Taken-kept (in_each c.args.bits.now) (common_of c.args.terms.now) (common_of c.loop-filled.terms) c.loop-filled.out c.loop-filled.filled
+      c.loop-filled.invariant.taken (common_of c.take_stretch-count.new.self) c.take_stretch-count.new.out c.keep-filled.new.docs c.take_stretch-count.result
+      c.keep-filled.result c.take_stretch-count.ensures.taken c.keep-filled.ensures.kept c.keep-filled.ensures.size;
+  follows = AllFollow-trans c.args.terms.now c.loop-filled.terms c.take_stretch-count.new.self c.loop-filled.invariant.follows
+      c.take_stretch-count.ensures.follows;
   room = omega (arith, c.keep-filled.ensures.few, c.take_stretch-count.ensures.taken.room);
 }
 
@@ -38,8 +43,10 @@ returns-then-count-eq0-clause-taken c =
     let next = common_of c.take_stretch-count.new.self in
     let out = c.take_stretch-count.new.out in
     let s = c.take_stretch-count.ensures.taken in
-    let rest = Taken-ended p before left c.loop-filled.out c.loop-filled.filled c.loop-filled.invariant.taken next out c.take_stretch-count.result s c.if-count-eq0.true in
-    let none = ended p before left c.loop-filled.out c.loop-filled.filled c.loop-filled.invariant.taken next out c.take_stretch-count.result s c.if-count-eq0.true in
+    let rest = Taken-ended p before left c.loop-filled.out c.loop-filled.filled c.loop-filled.invariant.taken next out c.take_stretch-count.result s
+    c.if-count-eq0.true in
+    let none = ended p before left c.loop-filled.out c.loop-filled.filled c.loop-filled.invariant.taken next out c.take_stretch-count.result s
+    c.if-count-eq0.true in
     Taken-front _ _ _ c.loop-filled.filled 128 rest c.loop-filled.invariant.room none
 
 pub returns-then-count-eq0-clause-count : goal.returns-then-count-eq0-clause-count
@@ -50,8 +57,10 @@ returns-then-count-eq0-clause-count c =
     let next = common_of c.take_stretch-count.new.self in
     let out = c.take_stretch-count.new.out in
     let s = c.take_stretch-count.ensures.taken in
-    let rest = Taken-ended p before left c.loop-filled.out c.loop-filled.filled c.loop-filled.invariant.taken next out c.take_stretch-count.result s c.if-count-eq0.true in
-    let none = ended p before left c.loop-filled.out c.loop-filled.filled c.loop-filled.invariant.taken next out c.take_stretch-count.result s c.if-count-eq0.true in
+    let rest = Taken-ended p before left c.loop-filled.out c.loop-filled.filled c.loop-filled.invariant.taken next out c.take_stretch-count.result s
+    c.if-count-eq0.true in
+    let none = ended p before left c.loop-filled.out c.loop-filled.filled c.loop-filled.invariant.taken next out c.take_stretch-count.result s
+    c.if-count-eq0.true in
     Taken-count _ _ _ c.loop-filled.filled 128 rest c.loop-filled.invariant.room none
 
 pub returns-then-count-eq0-clause-remaining : goal.returns-then-count-eq0-clause-remaining
@@ -62,18 +71,25 @@ returns-then-count-eq0-clause-remaining c =
     let next = common_of c.take_stretch-count.new.self in
     let out = c.take_stretch-count.new.out in
     let s = c.take_stretch-count.ensures.taken in
-    let rest = Taken-ended p before left c.loop-filled.out c.loop-filled.filled c.loop-filled.invariant.taken next out c.take_stretch-count.result s c.if-count-eq0.true in
-    let none = ended p before left c.loop-filled.out c.loop-filled.filled c.loop-filled.invariant.taken next out c.take_stretch-count.result s c.if-count-eq0.true in
+    let rest = Taken-ended p before left c.loop-filled.out c.loop-filled.filled c.loop-filled.invariant.taken next out c.take_stretch-count.result s
+    c.if-count-eq0.true in
+    let none = ended p before left c.loop-filled.out c.loop-filled.filled c.loop-filled.invariant.taken next out c.take_stretch-count.result s
+    c.if-count-eq0.true in
     Taken-left _ _ _ c.loop-filled.filled 128 rest c.loop-filled.invariant.room none
 
 pub returns-then-count-eq0-clause-follows : goal.returns-then-count-eq0-clause-follows
-returns-then-count-eq0-clause-follows c = AllFollow-trans c.args.terms.now c.loop-filled.terms c.take_stretch-count.new.self c.loop-filled.invariant.follows c.take_stretch-count.ensures.follows
+returns-then-count-eq0-clause-follows c = AllFollow-trans c.args.terms.now c.loop-filled.terms c.take_stretch-count.new.self c.loop-filled.invariant.follows
+    c.take_stretch-count.ensures.follows
 
 pub returns-clause-count : goal.returns-clause-count
 returns-clause-count c = omega (arith, c.loop-filled.invariant.taken.within, c.loop-filled.invariant.room, c.loop-filled-test.false)
 
 pub returns-clause-taken : goal.returns-clause-taken
-returns-clause-taken c = full-front _ _ c.loop-filled.out c.loop-filled.filled 128 c.loop-filled.invariant.taken (omega (arith, c.loop-filled.invariant.room, c.loop-filled-test.false))
+returns-clause-taken c =
+    full-front _ _ c.loop-filled.out c.loop-filled.filled 128 c.loop-filled.invariant.taken
+    (omega (arith, c.loop-filled.invariant.room, c.loop-filled-test.false))
 
 pub returns-clause-remaining : goal.returns-clause-remaining
-returns-clause-remaining c = full-left _ _ c.loop-filled.out c.loop-filled.filled 128 c.loop-filled.invariant.taken (omega (arith, c.loop-filled.invariant.room, c.loop-filled-test.false))
+returns-clause-remaining c =
+    full-left _ _ c.loop-filled.out c.loop-filled.filled 128 c.loop-filled.invariant.taken
+    (omega (arith, c.loop-filled.invariant.room, c.loop-filled-test.false))

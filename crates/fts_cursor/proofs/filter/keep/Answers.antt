@@ -20,7 +20,8 @@ keep_set-end-requires c =
     record {
       order = l.invariant.low;
       room = omega (arith, l.invariant.high, c.requires.room);
-      passed = passed_next c.args.bits.now l.one-index c.one-item.result c.loop-one-test.true c.one-item.is c.args.from c.args.count l.end c.args.docs.now l.docs c.requires.passed l.invariant.left l.invariant.low (omega (arith, c.requires.room));
+      passed = passed_next c.args.bits.now l.one-index c.one-item.result c.loop-one-test.true c.one-item.is c.args.from c.args.count l.end c.args.docs.now
+          l.docs c.requires.passed l.invariant.left l.invariant.low (omega (arith, c.requires.room));
     }
 
 pub loop-one-preserved : goal.loop-one-preserved
@@ -28,7 +29,8 @@ loop-one-preserved c =
     let l = c.loop-one in
     let k = c.keep_set-end.ensures in
     record {
-      left = left_next c.args.bits.now l.one-index c.one-item.result c.loop-one-test.true c.one-item.is c.args.from c.args.count l.end c.args.docs.now l.docs c.requires.passed l.invariant.left l.invariant.low (omega (arith, c.requires.room)) c.keep_set-end.new.docs c.keep_set-end.result k.kept;
+      left = left_next c.args.bits.now l.one-index c.one-item.result c.loop-one-test.true c.one-item.is c.args.from c.args.count l.end c.args.docs.now l.docs
+          c.requires.passed l.invariant.left l.invariant.low (omega (arith, c.requires.room)) c.keep_set-end.new.docs c.keep_set-end.result k.kept;
       size = k.size ∙ ap length (sym k.kept);
       low = k.more;
       high = omega (arith, k.few, l.invariant.high);

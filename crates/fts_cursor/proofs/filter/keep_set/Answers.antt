@@ -14,15 +14,18 @@ pub loop-index-preserved : goal.loop-index-preserved
 loop-index-preserved c =
     let l = c.loop-index in
     record {
-      places = kept_more (is_live c.args.bits.now) c.args.docs.now l.docs l.kept l.index (get_or l.docs l.index 0) _ c.has_bit.result l.invariant.places (omega arith) refl c.has_bit.ensures (ap (λ n. l.kept + n) c.from-kept.ensures);
+      places = kept_more (is_live c.args.bits.now) c.args.docs.now l.docs l.kept l.index (get_or l.docs l.index 0) _ c.has_bit.result l.invariant.places
+          (omega arith) refl c.has_bit.ensures (ap (λ n. l.kept + n) c.from-kept.ensures);
       low = omega (arith, l.invariant.low);
     }
 
 pub returns-clause-kept : goal.returns-clause-kept
-returns-clause-kept c = kept_all (is_live c.args.bits.now) c.args.docs.now c.loop-index.docs c.loop-index.kept c.loop-index.index c.args.end c.loop-index.invariant.places (omega (arith, c.loop-index-test.false))
+returns-clause-kept c = kept_all (is_live c.args.bits.now) c.args.docs.now c.loop-index.docs c.loop-index.kept c.loop-index.index c.args.end
+    c.loop-index.invariant.places (omega (arith, c.loop-index-test.false))
 
 pub returns-clause-size : goal.returns-clause-size
-returns-clause-size c = kept_size (is_live c.args.bits.now) c.args.docs.now c.loop-index.docs c.loop-index.kept c.loop-index.index c.args.end c.loop-index.invariant.places (omega (arith, c.loop-index-test.false))
+returns-clause-size c = kept_size (is_live c.args.bits.now) c.args.docs.now c.loop-index.docs c.loop-index.kept c.loop-index.index c.args.end
+    c.loop-index.invariant.places (omega (arith, c.loop-index-test.false))
 
 pub returns-clause-more : goal.returns-clause-more
 returns-clause-more c = c.loop-index.invariant.low

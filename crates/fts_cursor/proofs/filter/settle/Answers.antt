@@ -14,6 +14,7 @@ loop-doc-preserved c =
     let test = in_each c.args.bits.now in
     let passed : test c.in-Some.doc ≡ false = sym c.in_each.ensures ∙ c.if-in_each.false in
     record {
-      same = dead_passed test (common_of c.loop-doc.terms) (common_of c.advance.new.self) c.in-Some.doc c.in-Some.ensures.first passed c.advance.ensures.remaining ∙ c.loop-doc.invariant.same;
+      same = dead_passed test (common_of c.loop-doc.terms) (common_of c.advance.new.self) c.in-Some.doc c.in-Some.ensures.first passed
+          c.advance.ensures.remaining ∙ c.loop-doc.invariant.same;
       follows = AllFollow-trans c.args.terms.now c.loop-doc.terms c.advance.new.self c.loop-doc.invariant.follows c.advance.ensures.follows;
     }

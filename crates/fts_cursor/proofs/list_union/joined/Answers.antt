@@ -31,7 +31,14 @@ loop-list-preserved c =
           c.in_ok-opened.ensures.documents ∙ ap (λ ds. ds ++ x) c.loop-list.invariant.documents
           ∙ sym (ap all (take_more lists i x c.loop-list-test.true) ∙ flat_map-append (λ list. list) (take i lists) (get_or lists i x ∷ [])
           ∙ ap (λ ys. all (take i lists) ++ ys) (append-nil (get_or lists i x) ∙ sym c.list-item.is));
-      opened = omega (arith, c.loop-list.invariant.opened, c.in_ok-opened.ensures.opened, sum_by_more blocks lists i x c.loop-list-test.true, ap blocks c.list-item.is);
+      opened = omega (
+        arith,
+        c.loop-list.invariant.opened,
+        c.in_ok-opened.ensures.opened,
+        sum_by_more blocks lists i x c.loop-list-test.true,
+        ap blocks
+            c.list-item.is,
+      );
       few = few c;
     }
 

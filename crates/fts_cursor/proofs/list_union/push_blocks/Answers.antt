@@ -17,7 +17,8 @@ loop-block-preserved c =
     let blocks = blocks_of (documents_in c.args.source.now) in
     let i = c.loop-block.block in
     let inside : i < length blocks = omega (arith, c.loop-block-test.true, c.blocks-blocks.ensures) in
-    let more = ap all (take_more blocks i [] inside) ∙ flat_map-append (λ block. block) (take i blocks) (get_or blocks i [] ∷ []) ∙ ap (λ ys. all (take i blocks) ++ ys) (append-nil (get_or blocks i [])) in
+    let more = ap all (take_more blocks i [] inside) ∙ flat_map-append (λ block. block) (take i blocks) (get_or blocks i [] ∷ [])
+    ∙ ap (λ ys. all (take i blocks) ++ ys) (append-nil (get_or blocks i [])) in
     record {
       list = c.open-count.ensures.same ∙ c.loop-block.invariant.list;
       documents =

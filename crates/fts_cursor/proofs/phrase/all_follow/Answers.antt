@@ -16,13 +16,16 @@ other_posting-requires-clause-few c = others_few c.args.terms.now c.requires.mem
 
 -- the next of the members that are left
 next : (c : After-follows) (doc : ℕ) → slice_get (common_of c.args.terms.now) 0 ≡ Some doc →
-    list_all (is_behind c.args.offset c.args.position doc) (drop c.loop-k.k c.args.others.now) ≡ (c.follows.result && list_all (is_behind c.args.offset c.args.position doc) (drop (c.loop-k.k + 1) c.args.others.now))
+    list_all (is_behind c.args.offset c.args.position doc) (drop c.loop-k.k c.args.others.now)
+    ≡ (c.follows.result && list_all (is_behind c.args.offset c.args.position doc) (drop (c.loop-k.k + 1) c.args.others.now))
 next c doc here =
     let f = is_behind c.args.offset c.args.position doc in
     let m = c.index-others-k.result in
     let is : m ≡ get_or c.args.others.now c.loop-k.k m = c.index-others-k.is ∙ ap (λ (ms : List Member). get_or ms c.loop-k.k m) c.loop-k.invariant.same in
-    let at = other_positions c.args.terms.now c.requires.members.0 c.args.others.now c.loop-k.k c.other_posting.result doc m c.requires.members.1 is c.loop-k-test.true c.other_posting.ensures here in
-    let stands = ap (λ (x : Member). list_any (λ q. q + c.args.offset == c.args.position + x.offset) (get_or x.positions c.other_posting.result [])) (sym c.index-others-k.is) in
+    let at = other_positions c.args.terms.now c.requires.members.0 c.args.others.now c.loop-k.k c.other_posting.result doc m c.requires.members.1 is
+    c.loop-k-test.true c.other_posting.ensures here in
+    let stands = ap (λ (x : Member). list_any (λ q. q + c.args.offset == c.args.position + x.offset) (get_or x.positions c.other_posting.result []))
+    (sym c.index-others-k.is) in
     let behind : f m ≡ c.follows.result = sym (c.follows.ensures.follows ∙ stands ∙ ap (list_any (λ q. q + c.args.offset == c.args.position + m.offset)) at) in
     all_drop f c.args.others.now c.loop-k.k m c.loop-k-test.true is ∙ ap (λ b. b && list_all f (drop (c.loop-k.k + 1) c.args.others.now)) behind
 
@@ -30,7 +33,8 @@ pub loop-k-preserved : goal.loop-k-preserved
 loop-k-preserved c = record {
   follow = λ doc here.
       let f = is_behind c.args.offset c.args.position doc in
-      sym (next (goal.at.loop-k-preserved c).After-follows doc here ∙ ap (λ b. b && list_all f (drop (c.loop-k.k + 1) c.args.others.now)) c.if-not-follows.false)
+      sym (next (goal.at.loop-k-preserved c).After-follows doc here ∙ ap (λ b. b && list_all f (drop (c.loop-k.k + 1) c.args.others.now))
+      c.if-not-follows.false)
       ∙ c.loop-k.invariant.follow doc here;
   same = put_back c.loop-k.others c.loop-k.k c.index-others-k.result c.follows.new.member c.follows.ensures.same ∙ c.loop-k.invariant.same;
 }
@@ -42,4 +46,5 @@ returns-then-not-follows-clause-follow c = λ doc here.
     ∙ ap (λ b. b && list_all f (drop (c.loop-k.k + 1) c.args.others.now)) c.if-not-follows.true)
 
 pub returns-then-not-follows-clause-same : goal.returns-then-not-follows-clause-same
-returns-then-not-follows-clause-same c = put_back c.loop-k.others c.loop-k.k c.index-others-k.result c.follows.new.member c.follows.ensures.same ∙ c.loop-k.invariant.same
+returns-then-not-follows-clause-same c = put_back c.loop-k.others c.loop-k.k c.index-others-k.result c.follows.new.member c.follows.ensures.same
+    ∙ c.loop-k.invariant.same

@@ -7,7 +7,8 @@ use Rattle.fts_cursor.proofs.phrase.settle.Given as goal
 
 abbrev pub invariant-loop-doc : goal.invariant-loop-doc
 invariant-loop-doc l = record {
-  same : filter (phrase_at (l.initial.first ∷ l.initial.others)) (common_of l.terms) ≡ filter (phrase_at (l.initial.first ∷ l.initial.others)) (common_of l.initial.terms);
+  same : filter (phrase_at (l.initial.first ∷ l.initial.others)) (common_of l.terms) ≡ filter (phrase_at (l.initial.first ∷ l.initial.others))
+      (common_of l.initial.terms);
   follows : AllFollow l.initial.terms l.terms;
   first : l.first ≡ l.initial.first;
   others : l.others ≡ l.initial.others;

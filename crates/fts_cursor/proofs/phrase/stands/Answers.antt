@@ -16,7 +16,8 @@ pub loop-position-preserved : goal.loop-position-preserved
 loop-position-preserved c = record {
   left = λ doc here.
       let f : ℕ → Bool = λ p. list_all (is_behind c.args.first.now.offset p doc) c.args.others.now in
-      let follows : c.all_follow.result ≡ f c.in-Some.position = c.all_follow.ensures.follow doc here ∙ ap (list_all (is_behind c.args.first.now.offset c.in-Some.position doc)) c.loop-position.invariant.others in
+      let follows : c.all_follow.result ≡ f c.in-Some.position =
+      c.all_follow.ensures.follow doc here ∙ ap (list_all (is_behind c.args.first.now.offset c.in-Some.position doc)) c.loop-position.invariant.others in
       sym (ap (list_any f) c.in-Some.ensures.steps ∙ ap (λ b. b || list_any f (positions_left c.next.new.self)) (sym follows ∙ c.if-all_follow.false))
       ∙ c.loop-position.invariant.left doc here;
   others = c.all_follow.ensures.same ∙ c.loop-position.invariant.others;
@@ -25,13 +26,16 @@ loop-position-preserved c = record {
 pub returns-then-all_follow-clause-stands : goal.returns-then-all_follow-clause-stands
 returns-then-all_follow-clause-stands c = λ doc here.
     let f : ℕ → Bool = λ p. list_all (is_behind c.args.first.now.offset p doc) c.args.others.now in
-    let at = c.get-positions.ensures.positions ∙ first_positions c.args.terms.now c.args.first.now c.args.others.now c.lead_posting.result doc c.requires.members c.lead_posting.ensures here in
-    let follows : c.all_follow.result ≡ f c.in-Some.position = c.all_follow.ensures.follow doc here ∙ ap (list_all (is_behind c.args.first.now.offset c.in-Some.position doc)) c.loop-position.invariant.others in
+    let at = c.get-positions.ensures.positions ∙ first_positions c.args.terms.now c.args.first.now c.args.others.now c.lead_posting.result doc
+    c.requires.members c.lead_posting.ensures here in
+    let follows : c.all_follow.result ≡ f c.in-Some.position =
+    c.all_follow.ensures.follow doc here ∙ ap (list_all (is_behind c.args.first.now.offset c.in-Some.position doc)) c.loop-position.invariant.others in
     sym (sym (ap (list_any f) at) ∙ sym (c.loop-position.invariant.left doc here) ∙ ap (list_any f) c.in-Some.ensures.steps
     ∙ ap (λ b. b || list_any f (positions_left c.next.new.self)) (sym follows ∙ c.if-all_follow.true))
 
 pub returns-clause-stands : goal.returns-clause-stands
 returns-clause-stands c = λ doc here.
     let f : ℕ → Bool = λ p. list_all (is_behind c.args.first.now.offset p doc) c.args.others.now in
-    let at = c.get-positions.ensures.positions ∙ first_positions c.args.terms.now c.args.first.now c.args.others.now c.lead_posting.result doc c.requires.members c.lead_posting.ensures here in
+    let at = c.get-positions.ensures.positions ∙ first_positions c.args.terms.now c.args.first.now c.args.others.now c.lead_posting.result doc
+    c.requires.members c.lead_posting.ensures here in
     sym (sym (ap (list_any f) at) ∙ sym (c.loop-position.invariant.left doc here) ∙ ap (list_any f) c.in_default.ensures.steps.0)

@@ -1,5 +1,5 @@
 -- What a Boolean query is, by the queries in it.
-use Rattle.std.proofs.Common.{◌≡◌, ℕ, ◌+◌, ◌*◌, ◌<◌, false, true, List, length, map, refl, rules, sym, ap, subst, ◌∙◌, arith}
+use Rattle.std.proofs.Common.{◌≡◌, ℕ, ◌+◌, ◌*◌, ◌<◌, false, true, List, length, map, refl, rules, sym, ap, subst, ◌∙◌, ap₂, None, arith}
 use Rattle.std.specs.List.{list_all}
 use Rattle.std.proofs.lemmas.Bool.{eqb-true}
 use Rattle.std.proofs.lemmas.List.{nil_from_length}
@@ -8,14 +8,20 @@ use Rattle.fts_model.specs.declared.query.Query.{Query}
 use Rattle.fts_model.specs.declared.schema.Field.{Field}
 use Rattle.fts_model.specs.QueryValues.{query_value}
 use Rattle.fts_model.proofs.QueriesBoolean.{fits_in, matches_at_bool, matches_in, value_at_bool}
-use Rattle.fts_cursor.specs.Builds.{Opens, is_term}
+use Rattle.fts_cursor.specs.Builds.{is_term}
+use Rattle.fts_cursor.specs.Most.{Opens}
+use Rattle.fts_postings.specs.Bounds.{most_at}
 use Rattle.fts_postings.specs.Sets.{union}
 use Rattle.fts_cursor.specs.TreeValues.{TreeValue}
 use Rattle.fts_cursor.proofs.BoolHits.{IsBool, all_kept, bool_apart, bool_kept, only_one, paired_more, single_hits, some_from}
 use Rattle.fts_cursor.proofs.DepthLemmas.{depth, depth_at, depth_of, one_of_all, parts_fall}
 use Rattle.fts_cursor.proofs.HitsLemmas.{hits_of}
-use Rattle.fts_cursor.proofs.OpensLemmas.{Keeps, keeps_mixed, keeps_shoulds, keeps_terms, nothing_found, opens_apart, opens_kept, parts_fit, remains_more}
-use Rattle.fts_cursor.proofs.query_tree.+build.Goals.{tree_of-then-is_empty+in_ok-kept-in-Bool, tree_of-else-is_empty+then-are_terms+in_ok-kept-in-Bool-2, tree_of-else-is_empty+else-are_terms+in_ok-trees_of-in-Bool+in_ok-kept-in-Bool-3, tree_of-In-Bool, tree_of-Joined-is_empty}
+use Rattle.fts_cursor.proofs.MostLemmas.{all_most-for}
+use Rattle.fts_cursor.proofs.OpensLemmas.{Keeps, keeps_mixed, keeps_shoulds, keeps_terms, nothing_found, opens_apart, opens_kept, opens_told, parts_fit}
+use Rattle.fts_cursor.proofs.OpensLemmas.{remains_more}
+use Rattle.fts_cursor.proofs.query_tree.+build.Goals.{tree_of-then-is_empty+in_ok-kept-in-Bool, tree_of-else-is_empty+then-are_terms+in_ok-kept-in-Bool-2}
+use Rattle.fts_cursor.proofs.query_tree.+build.Goals.{tree_of-else-is_empty+else-are_terms+in_ok-trees_of-in-Bool+in_ok-kept-in-Bool-3, tree_of-In-Bool}
+use Rattle.fts_cursor.proofs.query_tree.+build.Goals.{tree_of-Joined-is_empty}
 use Rattle.fts_cursor.proofs.query_tree.+build.Goals as goal
 
 -- what lies in a Boolean query is less deep, and fits
@@ -23,7 +29,8 @@ record Lies (t : ℕ) (schema : List Field) (queries : List Query) : Type 0 wher
   falls : 3 * depth_of queries + 2 < t
   fits : list_all (fits_in schema) queries ≡ true
 
-lie : (t : _) (c : tree_of-In-Bool t) → Lies t c.args.segment.now.schema c.in-Bool.must.items × Lies t c.args.segment.now.schema c.in-Bool.must_not.items × Lies t c.args.segment.now.schema c.in-Bool.should.items
+lie : (t : _) (c : tree_of-In-Bool t) → Lies t c.args.segment.now.schema c.in-Bool.must.items × Lies t c.args.segment.now.schema c.in-Bool.must_not.items
+    × Lies t c.args.segment.now.schema c.in-Bool.should.items
 lie t c =
     let falls = parts_fall t c.args.query.now c.in-Bool.must c.in-Bool.must_not c.in-Bool.should c.in-Bool.is (omega (arith, c.decreases)) in
     let fit = parts_fit c.args.segment.now.schema c.args.query.now c.in-Bool.must c.in-Bool.must_not c.in-Bool.should c.in-Bool.is c.requires.fits in
@@ -48,8 +55,11 @@ tree_of-any_of-requires-in-Bool t c =
 pub trees_of-tree_of-requires : goal.trees_of-tree_of-requires
 trees_of-tree_of-requires t c =
     let falls = depth_at c.args.queries.now c.loop-query.query-index c.query-item.result c.loop-query-test.true c.query-item.is in
-    let less : 3 * depth (query_value c.query-item.result) + 0 < t = omega (arith, falls, c.decreases) in
-    (less, one_of_all (fits_in c.args.segment.now.schema) c.args.queries.now c.loop-query.query-index c.query-item.result c.requires.fits c.loop-query-test.true c.query-item.is)
+    let less : 3 * depth (query_value c.query-item.result) + 0 < t = omega (arith, falls, c.decreases) in (
+      less,
+      one_of_all (fits_in c.args.segment.now.schema) c.args.queries.now c.loop-query.query-index c.query-item.result c.requires.fits c.loop-query-test.true
+          c.query-item.is,
+    )
 
 keeps : (t : _) (c : tree_of-Joined-is_empty t) → Keeps c.args.segment.now c.in-Bool.must.items c.in-Bool.should.items c.if-is_empty.kept
 keeps t c =
@@ -61,59 +71,86 @@ keeps t c =
           let count : length must ≡ 0 = omega (arith, eqb-true c.in-Bool.must.len 0 (sym c.is_empty.ensures ∙ w.if-is_empty.true)) in
           let made = rw w.deref-then-is_empty.ensures.value at w.in_ok-kept-in-Bool.ensures in
           subst (Keeps segment must should) (sym w.kept-is)
-          (keeps_shoulds segment must should w.in_ok-kept-in-Bool.kept (nil_from_length must count) made.hits made.alone made.none)
+          (keeps_shoulds segment must should w.in_ok-kept-in-Bool.kept (nil_from_length must count) made.hits made.alone made.none made.most)
       | tree_of-else-is_empty+then-are_terms+in_ok-kept-in-Bool-2 w ↦
           let some : 0 < length must = omega (arith, some_from c.in-Bool.must.len (sym c.is_empty.ensures ∙ w.if-is_empty.false)) in
           let made = rw w.deref-then-are_terms.ensures.value at w.in_ok-kept-in-Bool-2.ensures in
-          subst (Keeps segment must should) (sym w.kept-is) (keeps_terms segment must should w.in_ok-kept-in-Bool-2.kept some made.remaining made.bound made.opened)
+          let terms : list_all (λ q. is_term (query_value q)) must ≡ true =
+          ap (list_all (λ q. is_term (query_value q))) (sym w.deref-else-is_empty.ensures.value) ∙ sym w.are_terms.ensures ∙ w.if-are_terms.true in
+          subst (Keeps segment must should) (sym w.kept-is) (keeps_terms segment must should w.in_ok-kept-in-Bool-2.kept some terms made.remaining made.bound
+          made.opened)
       | tree_of-else-is_empty+else-are_terms+in_ok-trees_of-in-Bool+in_ok-kept-in-Bool-3 w ↦
           let some : 0 < length must = omega (arith, some_from c.in-Bool.must.len (sym c.is_empty.ensures ∙ w.if-is_empty.false)) in
           let trees = rw w.deref-else-are_terms.ensures.value at w.in_ok-trees_of-in-Bool.ensures in
-          let mixed : list_all (λ q. is_term (query_value q)) must ≡ false = ap (list_all (λ q. is_term (query_value q))) (sym w.deref-else-is_empty.ensures.value) ∙ sym w.are_terms.ensures ∙ w.if-are_terms.false in
-          subst (Keeps segment must should) (sym w.kept-is) (keeps_mixed segment must should w.in_ok-trees_of-in-Bool.field-0.items w.in_ok-kept-in-Bool-3.kept some mixed trees.hits w.in_ok-kept-in-Bool-3.ensures)
+          let mixed : list_all (λ q. is_term (query_value q)) must ≡ false =
+          ap (list_all (λ q. is_term (query_value q))) (sym w.deref-else-is_empty.ensures.value) ∙ sym w.are_terms.ensures ∙ w.if-are_terms.false in
+          subst (Keeps segment must should) (sym w.kept-is) (keeps_mixed segment must should w.in_ok-trees_of-in-Bool.field-0.items w.in_ok-kept-in-Bool-3.kept
+          some mixed trees.hits w.in_ok-kept-in-Bool-3.ensures.remaining trees.opens w.in_ok-kept-in-Bool-3.ensures.most)
     ]
 
 pub tree_of-returns-then-is_empty-2-clause-hits : goal.tree_of-returns-then-is_empty-2-clause-hits
 tree_of-returns-then-is_empty-2-clause-hits t c =
     let segment = c.args.segment.now in
-    let bool : IsBool segment c.args.query.now c.in-Bool.must.items c.in-Bool.must_not.items c.in-Bool.should.items = λ document. ap (matches_in segment.schema document) c.in-Bool.is ∙ matches_at_bool segment.schema document c.in-Bool.must c.in-Bool.must_not c.in-Bool.should in
-    let count : length c.in-Bool.must_not.items ≡ 0 = omega (arith, eqb-true c.in-Bool.must_not.len 0 (sym c.is_empty-in-Bool.ensures ∙ c.if-is_empty-2.true)) in
-    bool_kept segment c.args.query.now c.in-Bool.must.items c.in-Bool.must_not.items c.in-Bool.should.items c.if-is_empty.kept.remaining bool (nil_from_length c.in-Bool.must_not.items count) (keeps t (goal.at.tree_of-returns-then-is_empty-2-clause-hits t c).Joined-is_empty).hits
+    let bool : IsBool segment c.args.query.now c.in-Bool.must.items c.in-Bool.must_not.items c.in-Bool.should.items =
+    λ document. ap (matches_in segment.schema document) c.in-Bool.is ∙ matches_at_bool segment.schema document c.in-Bool.must c.in-Bool.must_not
+    c.in-Bool.should in
+    let count : length c.in-Bool.must_not.items ≡ 0 =
+    omega (arith, eqb-true c.in-Bool.must_not.len 0 (sym c.is_empty-in-Bool.ensures ∙ c.if-is_empty-2.true)) in
+    bool_kept segment c.args.query.now c.in-Bool.must.items c.in-Bool.must_not.items c.in-Bool.should.items c.if-is_empty.kept.remaining bool
+    (nil_from_length c.in-Bool.must_not.items count) (keeps t (goal.at.tree_of-returns-then-is_empty-2-clause-hits t c).Joined-is_empty).hits
 
 pub tree_of-returns-then-is_empty-2-clause-opens : goal.tree_of-returns-then-is_empty-2-clause-opens
 tree_of-returns-then-is_empty-2-clause-opens t c =
-    let count : length c.in-Bool.must_not.items ≡ 0 = omega (arith, eqb-true c.in-Bool.must_not.len 0 (sym c.is_empty-in-Bool.ensures ∙ c.if-is_empty-2.true)) in
-    opens_kept c.args.segment.now c.args.query.now c.in-Bool.must.items c.in-Bool.must_not.items c.in-Bool.should.items c.if-is_empty.kept (ap query_value c.in-Bool.is ∙ value_at_bool c.in-Bool.must c.in-Bool.must_not c.in-Bool.should) (nil_from_length c.in-Bool.must_not.items count) (keeps t (goal.at.tree_of-returns-then-is_empty-2-clause-opens t c).Joined-is_empty)
+    let count : length c.in-Bool.must_not.items ≡ 0 =
+    omega (arith, eqb-true c.in-Bool.must_not.len 0 (sym c.is_empty-in-Bool.ensures ∙ c.if-is_empty-2.true)) in
+    opens_kept c.args.segment.now c.args.query.now c.in-Bool.must.items c.in-Bool.must_not.items c.in-Bool.should.items c.if-is_empty.kept
+    (ap query_value c.in-Bool.is ∙ value_at_bool c.in-Bool.must c.in-Bool.must_not c.in-Bool.should) (nil_from_length c.in-Bool.must_not.items count)
+    (keeps t (goal.at.tree_of-returns-then-is_empty-2-clause-opens t c).Joined-is_empty)
 
 pub tree_of-returns-in-None-clause-hits : goal.tree_of-returns-in-None-clause-hits
 tree_of-returns-in-None-clause-hits t c = c.nothing.ensures.remaining ∙ nothing_found c.args.segment.now c.args.query.now c.in-None.is
 
 pub tree_of-returns-in_ok-dropped-in-Bool-2-clause-opens : goal.tree_of-returns-in_ok-dropped-in-Bool-2-clause-opens
 tree_of-returns-in_ok-dropped-in-Bool-2-clause-opens t c =
-    IfOk-weaker c.without.result _ _ (λ tree is. opens_apart c.args.segment.now c.args.query.now c.in-Bool.must.items c.in-Bool.must_not.items c.in-Bool.should.items tree (ap query_value c.in-Bool.is ∙ value_at_bool c.in-Bool.must c.in-Bool.must_not c.in-Bool.should)
-    (omega (arith, some_from c.in-Bool.must_not.len (sym c.is_empty-in-Bool.ensures ∙ c.if-is_empty-2.false)))) c.without.ensures
+    let segment = c.args.segment.now in
+    let kept_is : c.in_ok-kept-in-Bool-4.kept.value ≡ c.if-is_empty.kept = search rules in
+    let dropped_is : c.in_ok-dropped-in-Bool-2.dropped.value ≡ c.in_ok-dropped-in-Bool.dropped = search rules in
+    let dropped = rw c.deref-in-Bool-3.ensures.value at c.in_ok-dropped-in-Bool.ensures.most in
+    IfOk-weaker c.without.result _ _ (λ tree is. opens_apart segment c.args.query.now c.in-Bool.must.items c.in-Bool.must_not.items c.in-Bool.should.items tree
+    (ap query_value c.in-Bool.is ∙ value_at_bool c.in-Bool.must c.in-Bool.must_not c.in-Bool.should)
+    (omega (arith, some_from c.in-Bool.must_not.len (sym c.is_empty-in-Bool.ensures ∙ c.if-is_empty-2.false))) c.if-is_empty.kept
+    c.in_ok-dropped-in-Bool.dropped (keeps t (goal.at.tree_of-returns-in_ok-dropped-in-Bool-2-clause-opens t c).Joined-is_empty) dropped
+    (is ∙ ap₂ (λ (a b : TreeValue). most_at a.bound None + most_at b.bound None) kept_is dropped_is)) c.without.ensures.most
 
 pub trees_of-loop-query-preserved : goal.trees_of-loop-query-preserved
 trees_of-loop-query-preserved t c =
     rw c.in_ok-push.ensures.items (
-      remains_more c.args.segment.now c.loop-query.trees.items c.args.queries.now c.loop-query.query-index c.in_ok-tree_of.field-0 c.query-item.result c.loop-query.invariant.0 c.loop-query-test.true c.query-item.is c.in_ok-tree_of.ensures.hits,
-      paired_more (λ t q. Opens c.args.segment.now (query_value q) t.standing) c.loop-query.trees.items c.args.queries.now c.loop-query.query-index c.in_ok-tree_of.field-0 c.query-item.result c.loop-query.invariant.1 c.loop-query-test.true c.query-item.is c.in_ok-tree_of.ensures.opens,
+      remains_more c.args.segment.now c.loop-query.trees.items c.args.queries.now c.loop-query.query-index c.in_ok-tree_of.field-0 c.query-item.result
+          c.loop-query.invariant.0 c.loop-query-test.true c.query-item.is c.in_ok-tree_of.ensures.hits,
+      paired_more (λ t q. Opens c.args.segment.now (query_value q) t.standing) c.loop-query.trees.items c.args.queries.now c.loop-query.query-index
+          c.in_ok-tree_of.field-0 c.query-item.result c.loop-query.invariant.1 c.loop-query-test.true c.query-item.is c.in_ok-tree_of.ensures.opens,
     )
 
 pub tree_of-returns-in_ok-dropped-in-Bool-2-clause-hits : goal.tree_of-returns-in_ok-dropped-in-Bool-2-clause-hits
 tree_of-returns-in_ok-dropped-in-Bool-2-clause-hits t c =
     let segment = c.args.segment.now in
-    let bool : IsBool segment c.args.query.now c.in-Bool.must.items c.in-Bool.must_not.items c.in-Bool.should.items = λ document. ap (matches_in segment.schema document) c.in-Bool.is ∙ matches_at_bool segment.schema document c.in-Bool.must c.in-Bool.must_not c.in-Bool.should in
+    let bool : IsBool segment c.args.query.now c.in-Bool.must.items c.in-Bool.must_not.items c.in-Bool.should.items =
+    λ document. ap (matches_in segment.schema document) c.in-Bool.is ∙ matches_at_bool segment.schema document c.in-Bool.must c.in-Bool.must_not
+    c.in-Bool.should in
     let kept_is : c.in_ok-kept-in-Bool-4.kept.value ≡ c.if-is_empty.kept = search rules in
     let dropped_is : c.in_ok-dropped-in-Bool-2.dropped.value ≡ c.in_ok-dropped-in-Bool.dropped = search rules in
-    let dropped = ap (λ (s : TreeValue). s.remaining) dropped_is ∙ c.in_ok-dropped-in-Bool.ensures.hits ∙ ap union (ap (map (hits_of segment)) c.deref-in-Bool-3.ensures.value) in
-    IfOk-weaker c.without.result _ _ (λ tree is. is ∙ bool_apart segment c.args.query.now c.in-Bool.must.items c.in-Bool.must_not.items c.in-Bool.should.items c.in_ok-kept-in-Bool-4.kept.value.remaining c.in_ok-dropped-in-Bool-2.dropped.value.remaining bool (ap (λ (s : TreeValue). s.remaining) kept_is ∙ (keeps t (goal.at.tree_of-returns-in_ok-dropped-in-Bool-2-clause-hits t c).Joined-is_empty).hits) dropped) c.without.ensures
+    let dropped = ap (λ (s : TreeValue). s.remaining) dropped_is ∙ c.in_ok-dropped-in-Bool.ensures.hits
+    ∙ ap union (ap (map (hits_of segment)) c.deref-in-Bool-3.ensures.value) in
+    IfOk-weaker c.without.result _ _ (λ tree is. is ∙ bool_apart segment c.args.query.now c.in-Bool.must.items c.in-Bool.must_not.items c.in-Bool.should.items
+    c.in_ok-kept-in-Bool-4.kept.value.remaining c.in_ok-dropped-in-Bool-2.dropped.value.remaining bool (ap (λ (s : TreeValue). s.remaining) kept_is
+    ∙ (keeps t (goal.at.tree_of-returns-in_ok-dropped-in-Bool-2-clause-hits t c).Joined-is_empty).hits) dropped) c.without.ensures.remaining
 
 pub any_of-returns-in-len1-clause-hits : goal.any_of-returns-in-len1-clause-hits
 any_of-returns-in-len1-clause-hits t c =
     let segment = c.args.segment.now in
     let one = only_one c.args.queries.now c.query-item.result c.query-item.is c.in-len1.len_at_least c.in-len1.len_below in
-    IfOk-weaker c.tree_of.result _ _ (λ tree is. is ∙ single_hits segment c.query-item.result ∙ ap (λ qs. union (map (hits_of segment) qs)) (sym one)) c.tree_of.ensures.hits
+    IfOk-weaker c.tree_of.result _ _ (λ tree is. is ∙ single_hits segment c.query-item.result ∙ ap (λ qs. union (map (hits_of segment) qs)) (sym one))
+    c.tree_of.ensures.hits
 
 pub tree_of-returns-in-Some-clause-hits : goal.tree_of-returns-in-Some-clause-hits
 tree_of-returns-in-Some-clause-hits t c =
@@ -121,12 +158,21 @@ tree_of-returns-in-Some-clause-hits t c =
     let must = c.in-Bool.must.items in
     let must_not = c.in-Bool.must_not.items in
     let should = c.in-Bool.should.items in
-    let bool : IsBool segment c.args.query.now must must_not should = λ document. ap (matches_in segment.schema document) c.in-Bool.is ∙ matches_at_bool segment.schema document c.in-Bool.must c.in-Bool.must_not c.in-Bool.should in
+    let bool : IsBool segment c.args.query.now must must_not should = λ document. ap (matches_in segment.schema document) c.in-Bool.is
+    ∙ matches_at_bool segment.schema document c.in-Bool.must c.in-Bool.must_not c.in-Bool.should in
     let told = rw c.in-Some.is at c.in_ok-tree-in-Bool.ensures in
     let found = rw (c.deref-in-Bool.ensures.value, c.deref-in-Bool-2.ensures.value) at told in
-    found.1 ∙ bool_apart segment c.args.query.now must must_not should _ (union (map (hits_of segment) must_not)) bool (all_kept segment must should found.0) refl
+    found.remaining ∙ bool_apart segment c.args.query.now must must_not should _ (union (map (hits_of segment) must_not)) bool
+    (all_kept segment must should found.some.0) refl
 
 pub tree_of-returns-in-Some-clause-opens : goal.tree_of-returns-in-Some-clause-opens
 tree_of-returns-in-Some-clause-opens t c =
-    opens_apart c.args.segment.now c.args.query.now c.in-Bool.must.items c.in-Bool.must_not.items c.in-Bool.should.items c.in-Some.tree (ap query_value c.in-Bool.is ∙ value_at_bool c.in-Bool.must c.in-Bool.must_not c.in-Bool.should)
-    (omega (arith, some_from c.in-Bool.must_not.len (sym c.is_empty-in-Bool.ensures ∙ c.if-is_empty-2.false)))
+    let told = rw c.in-Some.is at c.in_ok-tree-in-Bool.ensures in
+    let found = rw (c.deref-in-Bool.ensures.value, c.deref-in-Bool-2.ensures.value) at told in
+    opens_told c.args.segment.now c.args.query.now c.in-Bool.must.items c.in-Bool.must_not.items c.in-Bool.should.items c.in-Some.tree
+    (ap query_value c.in-Bool.is ∙ value_at_bool c.in-Bool.must c.in-Bool.must_not c.in-Bool.should) found.some.1 found.bound
+
+pub any_of-returns-in_ok-trees_of-in-None-clause-most : goal.any_of-returns-in_ok-trees_of-in-None-clause-most
+any_of-returns-in_ok-trees_of-in-None-clause-most t c =
+    IfOk-weaker c.or.result _ _ (λ tree is. omega (arith, is, all_most-for c.args.segment.now _ c.args.queries.now c.in_ok-trees_of-in-None.ensures.opens))
+    c.or.ensures.most

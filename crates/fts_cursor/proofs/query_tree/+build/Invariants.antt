@@ -2,7 +2,7 @@
 use Rattle.std.proofs.Common.{◌≡◌, ◌+◌, ◌*◌, map, take}
 use Rattle.std.specs.List.{AllZip}
 use Rattle.fts_model.specs.QueryValues.{query_value}
-use Rattle.fts_cursor.specs.Builds.{Opens}
+use Rattle.fts_cursor.specs.Most.{Opens}
 use Rattle.fts_cursor.specs.TreeValues.{remains}
 use Rattle.fts_cursor.proofs.DepthLemmas.{depth, depth_of}
 use Rattle.fts_cursor.proofs.HitsLemmas.{hits_of}

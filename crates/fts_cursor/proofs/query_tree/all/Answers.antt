@@ -1,23 +1,40 @@
 -- Which of the parts leads doesn't change what they have in common.
-use Rattle.std.proofs.Common.{◌≡◌, ℕ, ◌-◌, ◌^◌, ◌<◌, ◌≤◌, All, List, length, min, rules, ap, ap₂, subst, ◌∙◌, arith}
+use Rattle.std.proofs.Common.{◌≡◌, ℕ, ◌+◌, None, ◌-◌, ◌^◌, ◌<◌, ◌≤◌, All, List, length, min, rules, ap, ap₂, subst, ◌∙◌, arith}
 use Rattle.std.proofs.lemmas.Result.{IfOk-weaker}
 use Rattle.std.specs.List.Sorted.{IsStrictlyIncreasing}
 use Rattle.fts_postings.specs.Sets.{common}
-use Rattle.fts_cursor.specs.TreeValues.{TreeValue, remains}
+use Rattle.fts_postings.specs.Bounds.{most_at}
+use Rattle.fts_cursor.specs.TreeValues.{TreeValue, all_most, remains}
 use Rattle.fts_cursor.proofs.LeadingLemmas.{length_zip}
 use Rattle.fts_cursor.proofs.CostLemmas.{common-led}
+use Rattle.fts_cursor.proofs.MostLemmas.{all_most-led}
 use Rattle.fts_cursor.proofs.query_tree.all.Goals as goal
 
 pub remove-lead-requires : goal.remove-lead-requires
 remove-lead-requires c =
-    let many = length_zip (λ (cost : ℕ) (part : TreeValue). min (2 ^ 64 - 1) (length part.remaining) ≤ cost) c.in_ok-costs.costs.items c.deref.result.now c.in_ok-costs.ensures.bounds in
+    let many = length_zip (λ (cost : ℕ) (part : TreeValue). min (2 ^ 64 - 1) (length part.remaining) ≤ cost) c.in_ok-costs.costs.items c.deref.result.now
+    c.in_ok-costs.ensures.bounds in
     omega (arith, many, c.deref.ensures.len, ap length c.deref-2.ensures.value, c.place_of_least.ensures.inside)
 
-pub returns : goal.returns
-returns c = IfOk-weaker c.and.result _ _ (λ t is first rest are.
-    let many = length_zip (λ (cost : ℕ) (part : TreeValue). min (2 ^ 64 - 1) (length part.remaining) ≤ cost) c.in_ok-costs.costs.items c.deref.result.now c.in_ok-costs.ensures.bounds in
-    let inside : c.place_of_least.result < length c.args.parts.items = omega (arith, many, ap length c.deref.ensures.value, ap length c.deref-2.ensures.value, c.place_of_least.ensures.inside) in
+pub returns-clause-remaining : goal.returns-clause-remaining
+returns-clause-remaining c = IfOk-weaker c.and.result _ _ (λ t is first rest are.
+    let many = length_zip (λ (cost : ℕ) (part : TreeValue). min (2 ^ 64 - 1) (length part.remaining) ≤ cost) c.in_ok-costs.costs.items c.deref.result.now
+    c.in_ok-costs.ensures.bounds in
+    let inside : c.place_of_least.result < length c.args.parts.items =
+    omega (arith, many, ap length c.deref.ensures.value, ap length c.deref-2.ensures.value, c.place_of_least.ensures.inside) in
     let rise = subst (λ parts. All (λ part. IsStrictlyIncreasing part.remaining) parts) c.deref.ensures.value c.in_ok-costs.ensures.rise in
     let lead_is : c.in_ok-lead.lead.value ≡ c.remove-lead.result = search rules in
-    is ∙ ap₂ (λ (s : TreeValue) (others : List TreeValue). common s.remaining (remains others)) (lead_is ∙ c.remove-lead.ensures.value) c.remove-lead.ensures.items
-    ∙ common-led c.args.parts.items c.place_of_least.result c.remove-lead.result first rest rise inside are) c.and.ensures
+    is ∙ ap₂ (λ (s : TreeValue) (others : List TreeValue). common s.remaining (remains others)) (lead_is ∙ c.remove-lead.ensures.value)
+    c.remove-lead.ensures.items
+    ∙ common-led c.args.parts.items c.place_of_least.result c.remove-lead.result first rest rise inside are) c.and.ensures.remaining
+
+pub returns-clause-most : goal.returns-clause-most
+returns-clause-most c = IfOk-weaker c.and.result _ _ (λ t is.
+    let many = length_zip (λ (cost : ℕ) (part : TreeValue). min (2 ^ 64 - 1) (length part.remaining) ≤ cost) c.in_ok-costs.costs.items c.deref.result.now
+    c.in_ok-costs.ensures.bounds in
+    let inside : c.place_of_least.result < length c.args.parts.items =
+    omega (arith, many, ap length c.deref.ensures.value, ap length c.deref-2.ensures.value, c.place_of_least.ensures.inside) in
+    let lead_is : c.in_ok-lead.lead.value ≡ c.remove-lead.result = search rules in
+    is ∙ ap₂ (λ (s : TreeValue) (others : List TreeValue). most_at s.bound None + all_most others) (lead_is ∙ c.remove-lead.ensures.value)
+    c.remove-lead.ensures.items
+    ∙ all_most-led c.args.parts.items c.place_of_least.result c.remove-lead.result inside) c.and.ensures.most

@@ -7,8 +7,10 @@ use Rattle.fts_cursor.proofs.query_tree.costs_of.Goals as goal
 pub loop-part-preserved : goal.loop-part-preserved
 loop-part-preserved c = record {
   bounds =
-      rw c.in_ok-push.ensures.items (paired_more (λ cost part. min (2 ^ 64 - 1) (length part.remaining) ≤ cost) c.loop-part.costs.items c.args.parts.now c.loop-part.part-index c.cost.result c.part-item.result c.loop-part.invariant.bounds c.loop-part-test.true c.part-item.is c.cost.ensures.bound);
-  rise = rise_more c.args.parts.now c.loop-part.part-index c.part-item.result c.loop-part.invariant.rise c.loop-part-test.true c.part-item.is c.cost.ensures.rises;
+      rw c.in_ok-push.ensures.items (paired_more (λ cost part. min (2 ^ 64 - 1) (length part.remaining) ≤ cost) c.loop-part.costs.items c.args.parts.now
+      c.loop-part.part-index c.cost.result c.part-item.result c.loop-part.invariant.bounds c.loop-part-test.true c.part-item.is c.cost.ensures.bound);
+  rise = rise_more c.args.parts.now c.loop-part.part-index c.part-item.result c.loop-part.invariant.rise c.loop-part-test.true c.part-item.is
+      c.cost.ensures.rises;
 }
 
 pub returns-clause-rise : goal.returns-clause-rise

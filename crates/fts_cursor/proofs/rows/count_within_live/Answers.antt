@@ -12,7 +12,9 @@ pub returns : goal.returns
 returns c =
     let from = c.args.from in
     let test = has_within_live c.args.low c.args.high c.args.column.now c.args.live.now in
-    let words = two_told test (length c.args.column.now) from _ _ c.requires.inside (AreTold-within c.args.low c.args.high c.args.column.now c.args.live.now c.args.from _ c.words_within_live-first.ensures.first c.words_within_live-first.ensures.fits.0) (AreTold-within c.args.low c.args.high c.args.column.now c.args.live.now (c.args.from + 64) _ c.words_within_live-first.ensures.second c.words_within_live-first.ensures.fits.1) in
+    let words = two_told test (length c.args.column.now) from _ _ c.requires.inside (AreTold-within c.args.low c.args.high c.args.column.now c.args.live.now
+    c.args.from _ c.words_within_live-first.ensures.first c.words_within_live-first.ensures.fits.0) (AreTold-within c.args.low c.args.high c.args.column.now
+    c.args.live.now (c.args.from + 64) _ c.words_within_live-first.ensures.second c.words_within_live-first.ensures.fits.1) in
     let first = marked from (from + 63) c.words_within_live-first.result.0 in
     let second = marked (from + 64) (from + 64 + 63) c.words_within_live-first.result.1 in
     omega (

@@ -8,8 +8,12 @@ use Rattle.fts_cursor.proofs.rows.write_valued.Goals.{then-is_some, else-is_some
 pub loop-place-preserved : goal.loop-place-preserved
 loop-place-preserved c =
     let test = has_value c.args.segment.now.documents c.args.field in
-    let passes : test (c.args.from + c.loop-place.place) ≡ c.is_some.result = has_value-is c.args.segment.now.documents c.args.field (c.args.from + c.loop-place.place) c.document.result.now c.value.result c.document.ensures c.value.ensures.value ∙ sym c.is_some.ensures in
+    let passes : test (c.args.from + c.loop-place.place) ≡ c.is_some.result =
+    has_value-is c.args.segment.now.documents c.args.field (c.args.from + c.loop-place.place) c.document.result.now c.value.result c.document.ensures
+    c.value.ensures.value ∙ sym c.is_some.ensures in
     elim c.if-is_some.branch [
-      | then-is_some w ↦ rw (w.out-is, w.count-is) (KeptUpTo-kept test c.args.from c.loop-place.out c.loop-place.place c.loop-place.count c.loop-place.invariant (passes ∙ w.if-is_some.true) (omega arith))
-      | else-is_some w ↦ rw (w.out-is, w.count-is) (KeptUpTo-passed test c.args.from c.loop-place.out c.loop-place.place c.loop-place.count c.loop-place.invariant (passes ∙ w.if-is_some.false))
+      | then-is_some w ↦ rw (w.out-is, w.count-is) (KeptUpTo-kept test c.args.from c.loop-place.out c.loop-place.place c.loop-place.count c.loop-place.invariant
+          (passes ∙ w.if-is_some.true) (omega arith))
+      | else-is_some w ↦ rw (w.out-is, w.count-is) (KeptUpTo-passed test c.args.from c.loop-place.out c.loop-place.place c.loop-place.count
+          c.loop-place.invariant (passes ∙ w.if-is_some.false))
     ]

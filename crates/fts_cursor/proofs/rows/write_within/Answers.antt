@@ -16,7 +16,13 @@ write-count-requires-clause-room c = omega (arith, length-marked c.args.from (c.
 
 pub write-requires-clause-room : goal.write-requires-clause-room
 write-requires-clause-room c =
-    omega (arith, c.write-count.ensures.count, length-marked c.args.from (c.args.from + 63) c.marks_within-first.result, length-marked (c.args.from + 64) (c.args.from + 64 + 63) c.marks_within-second.result)
+    omega (
+      arith,
+      c.write-count.ensures.count,
+      length-marked c.args.from (c.args.from + 63) c.marks_within-first.result,
+      length-marked (c.args.from + 64)
+          (c.args.from + 64 + 63) c.marks_within-second.result,
+    )
 
 pub write-requires-clause-few : goal.write-requires-clause-few
 write-requires-clause-few c k is =

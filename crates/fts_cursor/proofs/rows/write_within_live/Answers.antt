@@ -10,24 +10,44 @@ use Rattle.fts_cursor.proofs.rows.write_within_live.Goals as goal
 
 pub write-count-requires-clause-few : goal.write-count-requires-clause-few
 write-count-requires-clause-few c k is =
-    omega (arith, c.requires.few, told_inside (has_within_live c.args.low c.args.high c.args.column.now c.args.live.now) (length c.args.column.now) c.args.from _ (AreTold-within c.args.low c.args.high c.args.column.now c.args.live.now c.args.from _ c.words_within_live-first.ensures.first c.words_within_live-first.ensures.fits.0) k is)
+    omega (
+      arith,
+      c.requires.few,
+      told_inside (has_within_live c.args.low c.args.high c.args.column.now c.args.live.now) (length c.args.column.now) c.args.from
+          _ (AreTold-within c.args.low c.args.high c.args.column.now c.args.live.now c.args.from _ c.words_within_live-first.ensures.first
+          c.words_within_live-first.ensures.fits.0) k is,
+    )
 
 pub write-count-requires-clause-room : goal.write-count-requires-clause-room
 write-count-requires-clause-room c = omega (arith, length-marked c.args.from (c.args.from + 63) c.words_within_live-first.result.0)
 
 pub write-requires-clause-room : goal.write-requires-clause-room
 write-requires-clause-room c =
-    omega (arith, c.write-count.ensures.count, length-marked c.args.from (c.args.from + 63) c.words_within_live-first.result.0, length-marked (c.args.from + 64) (c.args.from + 64 + 63) c.words_within_live-first.result.1)
+    omega (
+      arith,
+      c.write-count.ensures.count,
+      length-marked c.args.from (c.args.from + 63) c.words_within_live-first.result.0,
+      length-marked (c.args.from + 64)
+          (c.args.from + 64 + 63) c.words_within_live-first.result.1,
+    )
 
 pub write-requires-clause-few : goal.write-requires-clause-few
 write-requires-clause-few c k is =
-    omega (arith, c.requires.few, told_inside (has_within_live c.args.low c.args.high c.args.column.now c.args.live.now) (length c.args.column.now) (c.args.from + 64) _ (AreTold-within c.args.low c.args.high c.args.column.now c.args.live.now (c.args.from + 64) _ c.words_within_live-first.ensures.second c.words_within_live-first.ensures.fits.1) k is)
+    omega (
+      arith,
+      c.requires.few,
+      told_inside (has_within_live c.args.low c.args.high c.args.column.now c.args.live.now) (length c.args.column.now)
+          (c.args.from + 64) _ (AreTold-within c.args.low c.args.high c.args.column.now c.args.live.now (c.args.from + 64) _
+          c.words_within_live-first.ensures.second c.words_within_live-first.ensures.fits.1) k is,
+    )
 
 pub returns-clause-count : goal.returns-clause-count
 returns-clause-count c =
     let from = c.args.from in
     let test = has_within_live c.args.low c.args.high c.args.column.now c.args.live.now in
-    let words = two_told test (length c.args.column.now) from _ _ c.requires.inside (AreTold-within c.args.low c.args.high c.args.column.now c.args.live.now c.args.from _ c.words_within_live-first.ensures.first c.words_within_live-first.ensures.fits.0) (AreTold-within c.args.low c.args.high c.args.column.now c.args.live.now (c.args.from + 64) _ c.words_within_live-first.ensures.second c.words_within_live-first.ensures.fits.1) in
+    let words = two_told test (length c.args.column.now) from _ _ c.requires.inside (AreTold-within c.args.low c.args.high c.args.column.now c.args.live.now
+    c.args.from _ c.words_within_live-first.ensures.first c.words_within_live-first.ensures.fits.0) (AreTold-within c.args.low c.args.high c.args.column.now
+    c.args.live.now (c.args.from + 64) _ c.words_within_live-first.ensures.second c.words_within_live-first.ensures.fits.1) in
     let first = marked from (from + 63) c.words_within_live-first.result.0 in
     let second = marked (from + 64) (from + 64 + 63) c.words_within_live-first.result.1 in
     omega (arith, c.write.ensures.count, c.write-count.ensures.count, ap length words, length-append first second)
@@ -36,7 +56,9 @@ pub returns-clause-written : goal.returns-clause-written
 returns-clause-written c =
     let from = c.args.from in
     let test = has_within_live c.args.low c.args.high c.args.column.now c.args.live.now in
-    let words = two_told test (length c.args.column.now) from _ _ c.requires.inside (AreTold-within c.args.low c.args.high c.args.column.now c.args.live.now c.args.from _ c.words_within_live-first.ensures.first c.words_within_live-first.ensures.fits.0) (AreTold-within c.args.low c.args.high c.args.column.now c.args.live.now (c.args.from + 64) _ c.words_within_live-first.ensures.second c.words_within_live-first.ensures.fits.1) in
+    let words = two_told test (length c.args.column.now) from _ _ c.requires.inside (AreTold-within c.args.low c.args.high c.args.column.now c.args.live.now
+    c.args.from _ c.words_within_live-first.ensures.first c.words_within_live-first.ensures.fits.0) (AreTold-within c.args.low c.args.high c.args.column.now
+    c.args.live.now (c.args.from + 64) _ c.words_within_live-first.ensures.second c.words_within_live-first.ensures.fits.1) in
     let first = marked from (from + 63) c.words_within_live-first.result.0 in
     let second = marked (from + 64) (from + 64 + 63) c.words_within_live-first.result.1 in
     c.write.ensures.written ∙ ap (λ xs. xs ++ second) c.write-count.ensures.written ∙ sym words

@@ -8,7 +8,15 @@ use Rattle.fts_cursor.proofs.scan.count_from.Goals as goal
 pub overflow_add-count : goal.overflow_add-count
 overflow_add-count c =
     let p = keeps c.args.kept.now in
-    omega (arith, c.requires.few, c.loop-from.invariant.sum, length-stretch p c.loop-from.from c.args.docs, c.count-count.ensures, scan_cost p c.args.from (c.args.docs - c.args.from) 0)
+    omega (
+      arith,
+      c.requires.few,
+      c.loop-from.invariant.sum,
+      length-stretch p c.loop-from.from c.args.docs,
+      c.count-count.ensures,
+      scan_cost p c.args.from
+          (c.args.docs - c.args.from) 0,
+    )
 
 pub loop-from-preserved : goal.loop-from-preserved
 loop-from-preserved c = record {
@@ -17,4 +25,9 @@ loop-from-preserved c = record {
 }
 
 pub returns : goal.returns
-returns c = omega (arith, c.loop-from.invariant.sum, ap length (none_behind (keeps c.args.kept.now) c.loop-from.from c.args.docs (omega (arith, c.loop-from-test.false))))
+returns c = omega (
+  arith,
+  c.loop-from.invariant.sum,
+  ap length (none_behind (keeps c.args.kept.now) c.loop-from.from c.args.docs
+      (omega (arith, c.loop-from-test.false))),
+)

@@ -14,6 +14,7 @@ loop-from-preserved c =
     record {
       aligned = omega (arith, c.loop-from.invariant.aligned);
       near = omega (arith, c.requires.few);
-      same = stretch_below (keeps c.args.kept.now) c.loop-from.from c.args.docs c.args.target c.write-len.result c.write-len.new.out c.write-len.ensures.count c.write-len.ensures.written low ∙ c.loop-from.invariant.same;
+      same = stretch_below (keeps c.args.kept.now) c.loop-from.from c.args.docs c.args.target c.write-len.result c.write-len.new.out c.write-len.ensures.count
+          c.write-len.ensures.written low ∙ c.loop-from.invariant.same;
       held = c.write-len.ensures.held;
     }

@@ -8,4 +8,5 @@ use Rattle.fts_cursor.proofs.term_lists.cursors_over.Goals as goal
 
 pub loop-list-preserved : goal.loop-list-preserved
 loop-list-preserved c =
-    rw c.in_ok-push.ensures.items (paired_more (λ (p : Posting) (l : Bor (List ℕ)). IsOver p l.now) c.loop-list.cursors.items c.args.lists.now c.loop-list.list-index c.cursor_over.result c.list-item.result c.loop-list.invariant c.loop-list-test.true c.list-item.is c.cursor_over.ensures)
+    rw c.in_ok-push.ensures.items (paired_more (λ (p : Posting) (l : Bor (List ℕ)). IsOver p l.now) c.loop-list.cursors.items c.args.lists.now
+    c.loop-list.list-index c.cursor_over.result c.list-item.result c.loop-list.invariant c.loop-list-test.true c.list-item.is c.cursor_over.ensures)

@@ -12,7 +12,8 @@ pub returns : goal.returns
 returns c =
     let s = c.in_ok-bits.field-0 in
     IfOk-weaker c.some_told.result _ (λ (t : TreeValue). FindsAll c.args.shortest.now (lists_of c.args.others.now) t.standing)
-    (λ (t : TreeValue) h. subst (λ rest. FindsSplit c.args.shortest.now s.bits.items (lists_of rest) s.opened t.standing) c.deref.ensures.value h (lists_of c.args.others.now) c.in_ok-bits.ensures) c.some_told.ensures
+    (λ (t : TreeValue) h. subst (λ rest. FindsSplit c.args.shortest.now s.bits.items (lists_of rest) s.opened t.standing) c.deref.ensures.value h
+    (lists_of c.args.others.now) c.in_ok-bits.ensures) c.some_told.ensures
 
 pub returns-then-is_empty : goal.returns-then-is_empty
 returns-then-is_empty c = c.untold.ensures
@@ -23,7 +24,8 @@ returns-in-Some c =
     let size : length s.rest.items ≡ 0 = search (rules, eqb-true) in
     let none : s.rest.items ≡ [] = nil_from_length s.rest.items size in
     IfOk-weaker c.all_told.result _ (λ (t : TreeValue). FindsAll c.args.shortest.now (lists_of c.args.others.now) t.standing)
-    (λ (t : TreeValue) h. h (lists_of c.args.others.now) (subst (λ rest. IsSplit (lists_of c.args.others.now) s.bits.items (lists_of rest) s.opened) none c.in_ok-bits.ensures)) c.all_told.ensures
+    (λ (t : TreeValue) h. h (lists_of c.args.others.now) (subst (λ rest. IsSplit (lists_of c.args.others.now) s.bits.items (lists_of rest) s.opened) none
+    c.in_ok-bits.ensures)) c.all_told.ensures
 
 pub all_told-requires : goal.all_told-requires
 all_told-requires c = record { rises = c.requires; few = c.in-Some.ensures.few; tells = c.in-Some.ensures.tells }

@@ -9,12 +9,22 @@ use Rattle.fts_cursor.proofs.term_lists.split_of.Goals as goal
 use Rattle.fts_cursor.proofs.term_lists.split_of.Goals.{in-Some+in_ok-push-in-Some, in-None+in_ok-push-in-None}
 
 -- the lists so far with one more
-more : (ls : List (Bor (List ℕ))) (i : ℕ) (l : Bor (List ℕ)) → i < length ls → l ≡ get_or ls i l → lists_of (take i ls) ++ l.now ∷ [] ≡ lists_of (take (i + 1) ls)
-more ls i l inside is = ap (λ (m : Bor (List ℕ)). lists_of (take i ls) ++ m.now ∷ []) is ∙ sym (map-append (λ (m : Bor (List ℕ)). m.now) (take i ls) (get_or ls i l ∷ [])) ∙ ap (map (λ (m : Bor (List ℕ)). m.now)) (sym (take_more ls i l inside))
+more : (ls : List (Bor (List ℕ))) (i : ℕ) (l : Bor (List ℕ)) → i < length ls → l ≡ get_or ls i l →
+    lists_of (take i ls) ++ l.now ∷ [] ≡ lists_of (take (i + 1) ls)
+more ls i l inside is = ap (λ (m : Bor (List ℕ)). lists_of (take i ls) ++ m.now ∷ []) is
+    ∙ sym (map-append (λ (m : Bor (List ℕ)). m.now) (take i ls) (get_or ls i l ∷ [])) ∙ ap (map (λ (m : Bor (List ℕ)). m.now)) (sym (take_more ls i l inside))
 
 pub overflow_add-opened : goal.overflow_add-opened
 overflow_add-opened c =
-    omega (arith, c.loop-list.invariant.few, c.loop-list.bits.small, c.loop-list.bits.ok, c.openings-opened.ensures.opened, c.cursor_over.ensures.opened, c.cursor_over.ensures.tied)
+    omega (
+      arith,
+      c.loop-list.invariant.few,
+      c.loop-list.bits.small,
+      c.loop-list.bits.ok,
+      c.openings-opened.ensures.opened,
+      c.cursor_over.ensures.opened,
+      c.cursor_over.ensures.tied,
+    )
 
 pub loop-list-preserved : goal.loop-list-preserved
 loop-list-preserved c =
@@ -22,10 +32,14 @@ loop-list-preserved c =
     let all = more c.args.lists.now i c.list-item.result c.loop-list-test.true c.list-item.is in
     elim c.match-bits.branch [
       | in-Some+in_ok-push-in-Some w ↦ rw (w.bits-is, w.rest-is, w.opened-is, w.in_ok-push-in-Some.ensures.items)
-          (subst (λ ls. IsSplit ls (c.loop-list.bits.items ++ w.in-Some.told ∷ []) (lists_of c.loop-list.rest.items) (c.loop-list.opened + w.openings-opened.result)) all
-          (IsSplit-told (lists_of (take i c.args.lists.now)) c.loop-list.bits.items (lists_of c.loop-list.rest.items) c.loop-list.opened c.list-item.result.now w.in-Some.told w.openings-opened.result _ c.loop-list.invariant w.in-Some.ensures.tells
-          (omega (arith, w.openings-opened.ensures.opened, w.cursor_over.ensures.opened, w.cursor_over.ensures.tied)) (λ some. omega (arith, w.openings-opened.ensures.opened, w.cursor_over.ensures.enters some)) refl))
+          (subst (λ ls. IsSplit ls (c.loop-list.bits.items ++ w.in-Some.told ∷ []) (lists_of c.loop-list.rest.items)
+          (c.loop-list.opened + w.openings-opened.result)) all
+          (IsSplit-told (lists_of (take i c.args.lists.now)) c.loop-list.bits.items (lists_of c.loop-list.rest.items) c.loop-list.opened c.list-item.result.now
+          w.in-Some.told w.openings-opened.result _ c.loop-list.invariant w.in-Some.ensures.tells
+          (omega (arith, w.openings-opened.ensures.opened, w.cursor_over.ensures.opened, w.cursor_over.ensures.tied))
+          (λ some. omega (arith, w.openings-opened.ensures.opened, w.cursor_over.ensures.enters some)) refl))
       | in-None+in_ok-push-in-None w ↦ rw (w.bits-is, w.rest-is, w.opened-is, w.in_ok-push-in-None.ensures.items, map-append)
           (subst (λ ls. IsSplit ls c.loop-list.bits.items (lists_of c.loop-list.rest.items ++ c.list-item.result.now ∷ []) c.loop-list.opened) all
-          (IsSplit-rest (lists_of (take i c.args.lists.now)) c.loop-list.bits.items (lists_of c.loop-list.rest.items) c.loop-list.opened c.list-item.result.now c.loop-list.invariant))
+          (IsSplit-rest (lists_of (take i c.args.lists.now)) c.loop-list.bits.items (lists_of c.loop-list.rest.items) c.loop-list.opened c.list-item.result.now
+          c.loop-list.invariant))
     ]

@@ -8,7 +8,8 @@ pub new-requires : goal.new-requires
 new-requires c = record { fresh = fresh_others c.in_ok-others.others.items c.args.others.now c.in_ok-others.ensures }
 
 made : (c : goal.After-new) → IsConjoinedOver c.args.shortest.now (lists_of c.args.others.now) c.new.result
-made c = conjoined_over c.args.shortest.now c.args.others.now c.cursor_over-lead.result c.in_ok-others.others.items c.new.result c.cursor_over-lead.ensures c.in_ok-others.ensures c.new.ensures.follows c.new.ensures.remaining
+made c = conjoined_over c.args.shortest.now c.args.others.now c.cursor_over-lead.result c.in_ok-others.others.items c.new.result c.cursor_over-lead.ensures
+    c.in_ok-others.ensures c.new.ensures.follows c.new.ensures.remaining
 
 pub terms-requires-clause-lead : goal.terms-requires-clause-lead
 terms-requires-clause-lead c = (made c).fresh.0
@@ -18,5 +19,7 @@ terms-requires-clause-others c = (made c).fresh.1
 
 pub returns : goal.returns
 returns c =
-    let m = conjoined_over c.args.shortest.now c.args.others.now c.cursor_over-lead.result c.in_ok-others.others.items c.new.result c.cursor_over-lead.ensures c.in_ok-others.ensures c.new.ensures.follows c.new.ensures.remaining in
-    all_three c.terms.result _ _ _ _ (λ (t : TreeValue) remaining openings bound. FindsAll-conjoined c.args.shortest.now (lists_of c.args.others.now) c.new.result t.standing m remaining openings bound) c.terms.ensures.remaining c.terms.ensures.openings c.terms.ensures.bound
+    let m = conjoined_over c.args.shortest.now c.args.others.now c.cursor_over-lead.result c.in_ok-others.others.items c.new.result c.cursor_over-lead.ensures
+    c.in_ok-others.ensures c.new.ensures.follows c.new.ensures.remaining in
+    all_three c.terms.result _ _ _ _ (λ (t : TreeValue) remaining openings bound. FindsAll-conjoined c.args.shortest.now (lists_of c.args.others.now)
+    c.new.result t.standing m remaining openings bound) c.terms.ensures.remaining c.terms.ensures.openings c.terms.ensures.bound

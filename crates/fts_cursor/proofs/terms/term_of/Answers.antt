@@ -15,14 +15,16 @@ pub returns-then-not-is_empty : goal.returns-then-not-is_empty
 returns-then-not-is_empty c =
     let b = c.in-Bool in
     let some : 0 < length b.must.items = omega (arith, some_from b.must.len (sym c.is_empty.ensures ∙ c.if-not-is_empty.true)) in
-    ap term_in (ap query_value b.is ∙ value_at_bool b.must b.must_not b.should) ∙ with_musts b.must.items b.must_not.items b.should.items (λ e. omega (arith, some, e))
+    ap term_in (ap query_value b.is ∙ value_at_bool b.must b.must_not b.should) ∙ with_musts b.must.items b.must_not.items b.should.items
+    (λ e. omega (arith, some, e))
 
 pub returns-then-not-is_empty-2 : goal.returns-then-not-is_empty-2
 returns-then-not-is_empty-2 c =
     let b = c.in-Bool in
     let none : length b.must.items ≡ 0 = omega (arith, eqb-true b.must.len 0 (sym c.is_empty.ensures ∙ c.if-not-is_empty.false)) in
     let some : 0 < length b.must_not.items = omega (arith, some_from b.must_not.len (sym c.is_empty-in-Bool.ensures ∙ c.if-not-is_empty-2.true)) in
-    ap term_in (ap query_value b.is ∙ value_at_bool b.must b.must_not b.should) ∙ with_must_nots b.must.items b.must_not.items b.should.items none (λ e. omega (arith, some, e))
+    ap term_in (ap query_value b.is ∙ value_at_bool b.must b.must_not b.should) ∙ with_must_nots b.must.items b.must_not.items b.should.items none
+    (λ e. omega (arith, some, e))
 
 pub returns-else-not-is_empty-2 : goal.returns-else-not-is_empty-2
 returns-else-not-is_empty-2 c =
@@ -31,5 +33,6 @@ returns-else-not-is_empty-2 c =
     let gone : length b.must_not.items ≡ 0 = omega (arith, eqb-true b.must_not.len 0 (sym c.is_empty-in-Bool.ensures ∙ c.if-not-is_empty-2.false)) in
     let value = ap query_value b.is ∙ value_at_bool b.must b.must_not b.should in
     subst (λ v. MatchOption c.only_term.result (v ≡ None) (λ (t : Bor Term). v ≡ Some t.now))
-    (ap (λ qs. only_term_in (query_list (map query_value qs))) c.deref.ensures.value ∙ sym (ap term_in value ∙ shoulds_alone b.must.items b.must_not.items b.should.items none gone))
+    (ap (λ qs. only_term_in (query_list (map query_value qs))) c.deref.ensures.value ∙ sym (ap term_in value ∙ shoulds_alone b.must.items b.must_not.items
+    b.should.items none gone))
     c.only_term.ensures

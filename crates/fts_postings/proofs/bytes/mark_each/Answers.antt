@@ -11,6 +11,7 @@ loop-doc-preserved c from last order low high =
     let docs = c.args.docs.now in
     let base = c.args.base in
     let doc = get_or docs l.doc-index 0 in
-    marked_more (found_in base from last c.args.marks.now) (found_in base from last l.marks) (found_in base from last (set l.marks (doc - base) 1)) docs l.doc-index doc (omega arith) refl
+    marked_more (found_in base from last c.args.marks.now) (found_in base from last l.marks) (found_in base from last (set l.marks (doc - base) 1)) docs
+    l.doc-index doc (omega arith) refl
     (found-set base from last doc l.marks order (low l.doc-index 0 (omega arith)) (high l.doc-index 0 (omega arith)) (omega arith))
     (l.invariant from last order low high)

@@ -5,24 +5,29 @@ use Rattle.fts_postings.proofs.conjunction.bring.Goals as goal
 
 pub returns-in_err-next-clause-each : goal.returns-in_err-next-clause-each
 returns-in_err-next-clause-each g c =
-    Brought-next c.args.doc c.args.others.now c.loop-other.others c.loop-other.other-index c.loop-other.invariant _ c.seek.new.self (omega arith) (Sought-seek c.args.doc _ c.seek.new.self c.seek.ensures.remaining c.seek.ensures.follows c.seek.ensures.once)
+    Brought-next c.args.doc c.args.others.now c.loop-other.others c.loop-other.other-index c.loop-other.invariant _ c.seek.new.self (omega arith)
+    (Sought-seek c.args.doc _ c.seek.new.self c.seek.ensures.remaining c.seek.ensures.follows c.seek.ensures.once)
 
 pub returns-in_err-next-clause-next : goal.returns-in_err-next-clause-next
 returns-in_err-next-clause-next g c =
-    rw c.from_residual.ensures (IsAhead-none c.loop-other.others c.loop-other.other-index c.seek.new.self (omega arith) c.args.doc (sym c.in_err-next.was ∙ c.doc.ensures.first))
+    rw c.from_residual.ensures (IsAhead-none c.loop-other.others c.loop-other.other-index c.seek.new.self (omega arith) c.args.doc
+    (sym c.in_err-next.was ∙ c.doc.ensures.first))
 
 pub returns-then-next-doc-clause-each : goal.returns-then-next-doc-clause-each
 returns-then-next-doc-clause-each g c =
-    Brought-next c.args.doc c.args.others.now c.loop-other.others c.loop-other.other-index c.loop-other.invariant _ c.seek.new.self (omega arith) (Sought-seek c.args.doc _ c.seek.new.self c.seek.ensures.remaining c.seek.ensures.follows c.seek.ensures.once)
+    Brought-next c.args.doc c.args.others.now c.loop-other.others c.loop-other.other-index c.loop-other.invariant _ c.seek.new.self (omega arith)
+    (Sought-seek c.args.doc _ c.seek.new.self c.seek.ensures.remaining c.seek.ensures.follows c.seek.ensures.once)
 
 pub returns-then-next-doc-clause-next : goal.returns-then-next-doc-clause-next
 returns-then-next-doc-clause-next g c =
-    IsAhead-later c.loop-other.others c.loop-other.other-index c.seek.new.self (omega arith) c.args.doc c.in_ok-next.next _ c.seek.ensures.remaining c.doc.ensures.rises (sym c.in_ok-next.was ∙ c.doc.ensures.first) c.if-next-doc.true
+    IsAhead-later c.loop-other.others c.loop-other.other-index c.seek.new.self (omega arith) c.args.doc c.in_ok-next.next _ c.seek.ensures.remaining
+    c.doc.ensures.rises (sym c.in_ok-next.was ∙ c.doc.ensures.first) c.if-next-doc.true
 
 pub loop-other-preserved : goal.loop-other-preserved
 loop-other-preserved g c =
     let first = sym c.in_ok-next.was ∙ c.doc.ensures.first in
-    BroughtUpTo-next c.args.doc c.args.others.now c.loop-other.others c.loop-other.other-index c.loop-other.invariant _ c.seek.new.self (omega arith) (Sought-seek c.args.doc _ c.seek.new.self c.seek.ensures.remaining c.seek.ensures.follows c.seek.ensures.once) (rw c.if-next-doc.false at first)
+    BroughtUpTo-next c.args.doc c.args.others.now c.loop-other.others c.loop-other.other-index c.loop-other.invariant _ c.seek.new.self (omega arith)
+    (Sought-seek c.args.doc _ c.seek.new.self c.seek.ensures.remaining c.seek.ensures.follows c.seek.ensures.once) (rw c.if-next-doc.false at first)
 
 pub returns-clause-each : goal.returns-clause-each
 returns-clause-each g c =

@@ -11,7 +11,8 @@ loop-left-preserved c =
     let up : c.block_start-start.result ≤ left = omega (arith, size, c.block_start-start.ensures.start) in
     record {
       kept =
-          Offers-part c.args.self.now docs c.block_start-start.result left c.args.top_k.now c.loop-left.top_k _ up c.loop-left.invariant.within c.loop-left.invariant.kept
+          Offers-part c.args.self.now docs c.block_start-start.result left c.args.top_k.now c.loop-left.top_k _ up c.loop-left.invariant.within
+          c.loop-left.invariant.kept
           (rw (take_rest (take left docs) c.block_start-start.result) at c.in_ok-offer_block.ensures);
       within = omega (arith, up, c.loop-left.invariant.within);
     }

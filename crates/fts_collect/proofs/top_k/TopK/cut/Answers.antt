@@ -6,7 +6,8 @@ use Rattle.fts_collect.proofs.top_k.TopK.cut.Goals as goal
 pub invariant_of-self : goal.invariant_of-self
 invariant_of-self c =
     let kept = c.keep_least.new.keys in
-    top_k-last c.self.inside.k c.self.inside.held.items kept.items c.copied-self-inside.result c.keep_least.ensures (sym kept.ok.0 ∙ sym c.len.ensures ∙ c.if-len-self.true)
+    top_k-last c.self.inside.k c.self.inside.held.items kept.items c.copied-self-inside.result c.keep_least.ensures
+    (sym kept.ok.0 ∙ sym c.len.ensures ∙ c.if-len-self.true)
     (c.copied-self-inside.ensures ∙ c.last.ensures.value ∙ ap (λ ks. slice_get ks (length ks - 1)) c.deref.ensures.value)
 
 pub returns-then-len-self : goal.returns-then-len-self

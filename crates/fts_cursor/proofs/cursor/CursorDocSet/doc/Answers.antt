@@ -6,4 +6,5 @@ use Rattle.fts_cursor.proofs.TreeLemmas.{live_rises}
 use Rattle.fts_cursor.proofs.cursor.CursorDocSet.doc.Goals as goal
 
 pub returns-clause-rises : goal.returns-clause-rises
-returns-clause-rises c = subst (λ (s : Standing). IsStrictlyIncreasing s.remaining) c.self.view_is (live_rises c.self.inside.live c.self.inside.tree.standing c.doc.ensures.rises)
+returns-clause-rises c =
+    subst (λ (s : Standing). IsStrictlyIncreasing s.remaining) c.self.view_is (live_rises c.self.inside.live c.self.inside.tree.standing c.doc.ensures.rises)

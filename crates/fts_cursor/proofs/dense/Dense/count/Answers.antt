@@ -10,7 +10,12 @@ pub overflow_add-count : goal.overflow_add-count
 overflow_add-count c =
     let p = is_dense c.args.self.now in
     let l = c.loop-place in
-    omega (arith, l.invariant, length-more p c.args.from l.place (get_or c.row-row.result l.place 0) (c.row-row.ensures l.place (omega arith)) (omega arith), scan_cost p c.args.from (64 * (l.place + 1)) 0)
+    omega (
+      arith,
+      l.invariant,
+      length-more p c.args.from l.place (get_or c.row-row.result l.place 0) (c.row-row.ensures l.place (omega arith)) (omega arith),
+      scan_cost p c.args.from (64 * (l.place + 1)) 0,
+    )
 
 pub loop-place-preserved : goal.loop-place-preserved
 loop-place-preserved c =

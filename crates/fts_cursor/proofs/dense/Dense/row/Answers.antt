@@ -15,7 +15,8 @@ returns c = λ k low.
     let none = subst (λ xs. IsRow (in_one xs) base c.row_of_some-none.result) c.deref-3.ensures.value c.row_of_some-none.ensures in
     subst (λ b. Tells (is_dense d) (b + 64 * k) (get_or c.loop-place.row k 0)) start
     (subst (Tells (is_dense d) (base + 64 * k)) (sym (c.loop-place.invariant.made.done k (omega (arith, low))))
-    (Tells-dense d.some.items d.all.items d.none.items (base + 64 * k) _ _ _ (some k low) (all k low) (none k low) (c.loop-place.invariant.small k (omega (arith, low)))))
+    (Tells-dense d.some.items d.all.items d.none.items (base + 64 * k) _ _ _ (some k low) (all k low) (none k low)
+    (c.loop-place.invariant.small k (omega (arith, low)))))
 
 pub loop-place-preserved : goal.loop-place-preserved
 loop-place-preserved c = record {

@@ -21,12 +21,18 @@ pub returns-clause-cut : goal.returns-clause-cut
 returns-clause-cut c =
     let s = c.self.inside in
     let test = is_live c.args.live.now in
-    let same = subst (λ bits. filter (in_each bits) (common_of c.settle.new.terms) ≡ filter (in_each bits) (common_of s.terms)) c.deref.ensures.value c.settle.ensures.same in
+    let same = subst (λ bits. filter (in_each bits) (common_of c.settle.new.terms) ≡ filter (in_each bits) (common_of s.terms)) c.deref.ensures.value
+    c.settle.ensures.same in
     same
-    ∙ filter-both (in_each s.bits.items) (in_each c.push.new.self.items) test (λ doc. each_more s.bits.items c.push.new.self.items c.args.live doc c.in_ok-push.ensures.items) (common_of s.terms)
+    ∙ filter-both (in_each s.bits.items) (in_each c.push.new.self.items) test (λ doc. each_more s.bits.items c.push.new.self.items c.args.live doc
+    c.in_ok-push.ensures.items) (common_of s.terms)
     ∙ ap (λ (s : Standing). filter test s.remaining) c.self.view_is
 
 pub returns-clause-walked : goal.returns-clause-walked
 returns-clause-walked c =
     let s = c.self.inside in
-    rw (← c.self.view_is) (record { continues = filter-continues s.terms c.settle.new.terms s.opened _ _ c.settle.ensures.follows c.self.invariant.tied; whole = λ h. h })
+    rw (← c.self.view_is) (record {
+      continues = filter-continues s.terms c.settle.new.terms s.opened _ _ c.settle.ensures.follows c.self.invariant.tied;
+      whole =
+          λ h. h;
+    })

@@ -17,5 +17,6 @@ returns-clause-bound c =
     let terms = c.self.inside.terms in
     let test = in_each c.self.inside.bits.items in
     let at : counts_of terms ≤ most_at (bound_of terms) (slice_get (filter test (common_of terms)) 0) =
-    subst (λ doc. counts_of terms ≤ most_at (bound_of terms) doc) (filter-first test (common_of terms) c.self.invariant.settled) (omega (arith, terms-tied terms c.self.invariant.tied, c.openings.ensures.bound)) in
+    subst (λ doc. counts_of terms ≤ most_at (bound_of terms) doc) (filter-first test (common_of terms) c.self.invariant.settled)
+    (omega (arith, terms-tied terms c.self.invariant.tied, c.openings.ensures.bound)) in
     rw (← c.self.view_is) (omega (arith, at))

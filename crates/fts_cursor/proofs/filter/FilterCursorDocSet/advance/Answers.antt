@@ -27,5 +27,7 @@ pub returns-clause-remaining : goal.returns-clause-remaining
 returns-clause-remaining c =
     let s = c.self.inside in
     let test = in_each s.bits.items in
-    let same = subst (λ bits. filter (in_each bits) (common_of c.settle.new.terms) ≡ filter (in_each bits) (common_of c.advance.new.self)) c.deref.ensures.value c.settle.ensures.same in
-    same ∙ ap (filter test) c.advance.ensures.remaining ∙ filter-step test (common_of s.terms) c.self.invariant.settled ∙ ap (λ s. drop 1 s.remaining) c.self.view_is
+    let same = subst (λ bits. filter (in_each bits) (common_of c.settle.new.terms) ≡ filter (in_each bits) (common_of c.advance.new.self)) c.deref.ensures.value
+    c.settle.ensures.same in
+    same ∙ ap (filter test) c.advance.ensures.remaining ∙ filter-step test (common_of s.terms) c.self.invariant.settled
+    ∙ ap (λ s. drop 1 s.remaining) c.self.view_is

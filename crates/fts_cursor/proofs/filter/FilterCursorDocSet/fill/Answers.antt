@@ -25,6 +25,8 @@ returns-clause-walked c =
 pub returns-clause-remaining : goal.returns-clause-remaining
 returns-clause-remaining c =
     let s = c.self.inside in
-    let same = subst (λ bits. filter (in_each bits) (common_of c.settle.new.terms) ≡ filter (in_each bits) (common_of c.fill_kept-filled.new.terms)) c.deref-2.ensures.value c.settle.ensures.same in
-    let left = subst (λ bits. filter (in_each bits) (common_of c.fill_kept-filled.new.terms) ≡ drop 128 (filter (in_each bits) (common_of s.terms))) c.deref.ensures.value c.fill_kept-filled.ensures.remaining in
+    let same = subst (λ bits. filter (in_each bits) (common_of c.settle.new.terms) ≡ filter (in_each bits) (common_of c.fill_kept-filled.new.terms))
+    c.deref-2.ensures.value c.settle.ensures.same in
+    let left = subst (λ bits. filter (in_each bits) (common_of c.fill_kept-filled.new.terms) ≡ drop 128 (filter (in_each bits) (common_of s.terms)))
+    c.deref.ensures.value c.fill_kept-filled.ensures.remaining in
     same ∙ left ∙ ap (λ s. drop 128 s.remaining) c.self.view_is

@@ -28,5 +28,7 @@ pub returns-clause-remaining : goal.returns-clause-remaining
 returns-clause-remaining c =
     let s = c.self.inside in
     let test = in_each s.bits.items in
-    let same = subst (λ bits. filter (in_each bits) (common_of c.settle.new.terms) ≡ filter (in_each bits) (common_of c.seek.new.self)) c.deref.ensures.value c.settle.ensures.same in
-    same ∙ ap (filter test) c.seek.ensures.remaining ∙ filter-at_least c.args.target test (common_of s.terms) ∙ ap (λ s. at_least c.args.target s.remaining) c.self.view_is
+    let same = subst (λ bits. filter (in_each bits) (common_of c.settle.new.terms) ≡ filter (in_each bits) (common_of c.seek.new.self)) c.deref.ensures.value
+    c.settle.ensures.same in
+    same ∙ ap (filter test) c.seek.ensures.remaining ∙ filter-at_least c.args.target test (common_of s.terms)
+    ∙ ap (λ s. at_least c.args.target s.remaining) c.self.view_is

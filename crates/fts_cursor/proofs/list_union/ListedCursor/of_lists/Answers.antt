@@ -28,11 +28,13 @@ returns-clause-sound c d there =
     let joined = c.in_ok-documents.documents.items in
     let P : ℕ → Type 0 = Contains joined in
     let Q : List ℕ → Type 0 = All P in
-    subst (λ xs. Contains xs d) c.in_ok-documents.ensures.documents (All-contains P c.dedup.new.self.items d (subst Q (sym (left c)) (All-dedup nat_eq P c.sort_unstable.new.self.items
+    subst (λ xs. Contains xs d) c.in_ok-documents.ensures.documents
+    (All-contains P c.dedup.new.self.items d (subst Q (sym (left c)) (All-dedup nat_eq P c.sort_unstable.new.self.items
     (All-permutation P joined c.sort_unstable.new.self.items c.sort_unstable.ensures.permutation (All-contains_itself joined)))) there)
 
 pub returns-clause-whole : goal.returns-clause-whole
 returns-clause-whole c d there =
     let P : List ℕ → Type 0 = λ xs. Contains xs d in
     subst P (sym (left c)) (Contains-dedup_nat c.sort_unstable.new.self.items d
-    (Contains-permutation c.in_ok-documents.documents.items c.sort_unstable.new.self.items d c.sort_unstable.ensures.permutation (subst P (sym c.in_ok-documents.ensures.documents) there)))
+    (Contains-permutation c.in_ok-documents.documents.items c.sort_unstable.new.self.items d c.sort_unstable.ensures.permutation
+    (subst P (sym c.in_ok-documents.ensures.documents) there)))

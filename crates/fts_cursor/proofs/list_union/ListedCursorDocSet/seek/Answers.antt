@@ -15,4 +15,7 @@ pub returns : goal.returns
 returns c =
     let s = c.self.inside in
     let is = rw c.deref.ensures.value at c.place_of-self-inside.ensures in
-    record { remaining = left_from s.documents.items s.at c.len-2.result c.args.target c.place_of-self-inside.result c.self.invariant (omega (arith, c.len-2.ensures)) (omega (arith, c.len.ensures, c.if-self-len.false)) is ∙ ap (at_least c.args.target) c.self.view_is }
+    record {
+      remaining = left_from s.documents.items s.at c.len-2.result c.args.target c.place_of-self-inside.result c.self.invariant
+          (omega (arith, c.len-2.ensures)) (omega (arith, c.len.ensures, c.if-self-len.false)) is ∙ ap (at_least c.args.target) c.self.view_is;
+    }

@@ -9,4 +9,5 @@ use Rattle.fts_cursor.proofs.phrase.PhraseCursorDocSet.doc.Goals as goal
 
 pub returns-clause-rises : goal.returns-clause-rises
 returns-clause-rises c =
-    subst (λ (s : Standing). IsStrictlyIncreasing s.remaining) c.self.view_is (IsStrictlyIncreasing-filter (phrase_at (c.self.inside.first.value ∷ c.self.inside.others.items)) (common_of c.self.inside.terms) c.doc.ensures.rises)
+    subst (λ (s : Standing). IsStrictlyIncreasing s.remaining) c.self.view_is
+    (IsStrictlyIncreasing-filter (phrase_at (c.self.inside.first.value ∷ c.self.inside.others.items)) (common_of c.self.inside.terms) c.doc.ensures.rises)

@@ -12,13 +12,18 @@ use Rattle.fts_cursor.proofs.phrase.PhraseCursorDocSet.seek.Goals.{After-settle}
 use Rattle.fts_cursor.proofs.phrase.PhraseCursorDocSet.seek.Goals as goal
 
 pub settle-requires : goal.settle-requires
-settle-requires c = rw (c.deref_mut.ensures.value, c.deref_mut-2.ensures.value) (members-follow c.self.inside.terms c.seek.new.self (c.self.inside.first.value ∷ c.self.inside.others.items) c.seek.ensures.follows c.self.invariant.members_are)
+settle-requires c = rw (c.deref_mut.ensures.value, c.deref_mut-2.ensures.value)
+    (members-follow c.self.inside.terms c.seek.new.self (c.self.inside.first.value ∷ c.self.inside.others.items) c.seek.ensures.follows
+    c.self.invariant.members_are)
 
-moved : (c : After-settle) (others : List Member) → others ≡ c.settle.new.others → PhraseMoved c.self.inside.terms c.seek.new.self c.settle.new.terms (c.self.inside.first.value ∷ c.self.inside.others.items) (c.settle.new.first ∷ others)
+moved : (c : After-settle) (others : List Member) → others ≡ c.settle.new.others →
+    PhraseMoved c.self.inside.terms c.seek.new.self c.settle.new.terms (c.self.inside.first.value ∷ c.self.inside.others.items) (c.settle.new.first ∷ others)
 moved c others is =
     let s = c.self.inside in
-    phrase-moved s.terms c.seek.new.self c.settle.new.terms s.first.value c.deref_mut.result.now c.settle.new.first s.others.items c.deref_mut-2.result.now others c.deref_mut.ensures.value c.deref_mut-2.ensures.value
-    c.settle.ensures.first (is ∙ c.settle.ensures.others) c.seek.ensures.follows c.settle.ensures.follows c.self.invariant.members_are c.self.invariant.tied c.settle.ensures.settled c.settle.ensures.same
+    phrase-moved s.terms c.seek.new.self c.settle.new.terms s.first.value c.deref_mut.result.now c.settle.new.first s.others.items c.deref_mut-2.result.now
+    others c.deref_mut.ensures.value c.deref_mut-2.ensures.value
+    c.settle.ensures.first (is ∙ c.settle.ensures.others) c.seek.ensures.follows c.settle.ensures.follows c.self.invariant.members_are c.self.invariant.tied
+    c.settle.ensures.settled c.settle.ensures.same
 
 pub invariant_of-self : goal.invariant_of-self
 invariant_of-self c = (moved (goal.at.invariant_of-self c).After-settle _ (with_items_is c.self.inside.others c.settle.new.others (omega arith))).is
@@ -31,4 +36,5 @@ returns-clause-remaining c =
     let s = c.self.inside in
     let test = phrase_at (s.first.value ∷ s.others.items) in
     (moved (goal.at.returns-clause-remaining c).After-settle _ (with_items_is s.others c.settle.new.others (omega arith))).same
-    ∙ ap (filter test) c.seek.ensures.remaining ∙ filter-at_least c.args.target test (common_of s.terms) ∙ ap (λ s. at_least c.args.target s.remaining) c.self.view_is
+    ∙ ap (filter test) c.seek.ensures.remaining ∙ filter-at_least c.args.target test (common_of s.terms)
+    ∙ ap (λ s. at_least c.args.target s.remaining) c.self.view_is

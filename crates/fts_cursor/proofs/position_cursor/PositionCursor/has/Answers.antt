@@ -12,20 +12,23 @@ record Stands (reader lists : List (List ℕ)) (at posting position : ℕ) (left
   posting_is : at ≡ posting
   same : at_least position left ≡ at_least position (get_or lists posting [])
 
-stands : (c : Joined-posting-self) → Stands c.if-posting-self.self-inside.reader c.args.self.now c.if-posting-self.self-inside.posting c.args.posting c.args.position c.if-posting-self.self-inside.left
+stands : (c : Joined-posting-self) → Stands c.if-posting-self.self-inside.reader c.args.self.now c.if-posting-self.self-inside.posting c.args.posting
+    c.args.position c.if-posting-self.self-inside.left
 stands c =
     let P : Inside → Type 0 = λ s. Stands s.reader c.args.self.now s.posting c.args.posting c.args.position s.left in
     elim c.if-posting-self.branch [
       | then-posting-self w ↦ subst P (sym w.self-inside-is) (record {
         reader_is = w.get.ensures.same ∙ c.self.view_is;
         posting_is = refl;
-        same = ap (at_least c.args.position) (w.new-self-inside.ensures ∙ w.get.ensures.positions ∙ ap (λ lists. get_or lists c.args.posting []) c.self.view_is);
+        same = ap (at_least c.args.position) (w.new-self-inside.ensures ∙ w.get.ensures.positions ∙ ap (λ lists. get_or lists c.args.posting [])
+            c.self.view_is);
       })
       | else-posting-self+else-position-self w ↦ subst P (sym w.self-inside-is) (record {
         reader_is = c.self.view_is;
         posting_is = sym w.if-posting-self.false;
         same =
-            ap (at_least c.args.position) (c.self.invariant ∙ ap₂ (λ lists at. at_least c.self.inside.from (get_or lists at [])) c.self.view_is (sym w.if-posting-self.false))
+            ap (at_least c.args.position) (c.self.invariant ∙ ap₂ (λ lists at. at_least c.self.inside.from (get_or lists at [])) c.self.view_is
+            (sym w.if-posting-self.false))
             ∙ at_least-later c.self.inside.from c.args.position (get_or c.args.self.now c.args.posting []) w.if-position-self.false;
       })
     ]

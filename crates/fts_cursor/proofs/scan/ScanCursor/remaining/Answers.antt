@@ -9,9 +9,23 @@ pub overflow_add-result : goal.overflow_add-result
 overflow_add-result c =
     let s = c.self.inside in
     let p = keeps s.kept in
-    omega (arith, c.self.invariant.few, length-left p s.from s.docs s.at s.len c.self.invariant.size c.self.invariant.stands, scan_cost p s.from (s.docs - s.from) s.at, c.count_from.ensures, c.saturating_sub-here.ensures)
+    omega (
+      arith,
+      c.self.invariant.few,
+      length-left p s.from s.docs s.at s.len c.self.invariant.size c.self.invariant.stands,
+      scan_cost p s.from
+          (s.docs - s.from) s.at,
+      c.count_from.ensures,
+      c.saturating_sub-here.ensures,
+    )
 
 pub returns-in-None : goal.returns-in-None
 returns-in-None c =
     let s = c.self.inside in
-    omega (arith, length-left (keeps s.kept) s.from s.docs s.at s.len c.self.invariant.size c.self.invariant.stands, c.count_from.ensures, c.saturating_sub-here.ensures, ap length c.self.view_is)
+    omega (
+      arith,
+      length-left (keeps s.kept) s.from s.docs s.at s.len c.self.invariant.size c.self.invariant.stands,
+      c.count_from.ensures,
+      c.saturating_sub-here.ensures,
+      ap length c.self.view_is,
+    )

@@ -21,9 +21,12 @@ returns-then-self-count c =
     let count = c.min-count.result in
     let all = passing-stretch (keeps s.kept) s.from s.docs in
     let left = scan_left (keeps s.kept) s.from s.docs s.at s.len s.numbers _ _ all c.self.invariant.size c.self.invariant.numbers_are c.if-self.false in
-    subst (λ before. IsStretch before (drop (s.at + count) (kept_from s.kept s.from s.docs)) c.args.out.now c.copy_part.new.out c.args.filled count) (left ∙ c.self.view_is)
-    (stretch_copied s.numbers (kept_in s.kept s.from s.docs) (kept_from s.kept (s.from + 128) s.docs) _ c.args.out.now c.copy_part.new.out s.at s.len c.args.filled count
-    c.self.invariant.numbers_are c.self.invariant.size c.if-self.false c.requires c.min-count.ensures c.copy_part.ensures (sym (drop-drop count s.at (kept_from s.kept s.from s.docs)) ∙ ap (drop count) (sym left)))
+    subst (λ before. IsStretch before (drop (s.at + count) (kept_from s.kept s.from s.docs)) c.args.out.now c.copy_part.new.out c.args.filled count)
+    (left ∙ c.self.view_is)
+    (stretch_copied s.numbers (kept_in s.kept s.from s.docs) (kept_from s.kept (s.from + 128) s.docs) _ c.args.out.now c.copy_part.new.out s.at s.len
+    c.args.filled count
+    c.self.invariant.numbers_are c.self.invariant.size c.if-self.false c.requires c.min-count.ensures c.copy_part.ensures
+    (sym (drop-drop count s.at (kept_from s.kept s.from s.docs)) ∙ ap (drop count) (sym left)))
 
 pub returns-else-self-count : goal.returns-else-self-count
 returns-else-self-count c =
@@ -33,8 +36,10 @@ returns-else-self-count c =
     let all = passing-stretch (keeps s.kept) s.from s.docs in
     let left = scan_left (keeps s.kept) s.from s.docs s.at s.len s.numbers _ _ all c.self.invariant.size c.self.invariant.numbers_are c.if-self.false in
     let end : s.at + count ≡ s.len = omega (arith, c.if-self-count.false, c.min-count.ensures, c.if-self.false) in
-    let behind = scan_behind (keeps s.kept) s.from s.docs s.at s.len s.numbers (kept_in s.kept s.from s.docs) (kept_from s.kept (s.from + 128) s.docs) all c.self.invariant.size c.self.invariant.numbers_are count c.if-self.false end in
+    let behind = scan_behind (keeps s.kept) s.from s.docs s.at s.len s.numbers (kept_in s.kept s.from s.docs) (kept_from s.kept (s.from + 128) s.docs) all
+    c.self.invariant.size c.self.invariant.numbers_are count c.if-self.false end in
     subst (λ before. IsStretch before (kept_from s.kept next s.docs) c.args.out.now c.copy_part.new.out c.args.filled count) (left ∙ c.self.view_is)
-    (stretch_copied s.numbers (kept_in s.kept s.from s.docs) (kept_from s.kept (s.from + 128) s.docs) _ c.args.out.now c.copy_part.new.out s.at s.len c.args.filled count
+    (stretch_copied s.numbers (kept_in s.kept s.from s.docs) (kept_from s.kept (s.from + 128) s.docs) _ c.args.out.now c.copy_part.new.out s.at s.len
+    c.args.filled count
     c.self.invariant.numbers_are c.self.invariant.size c.if-self.false c.requires c.min-count.ensures c.copy_part.ensures
     (same_all (keeps s.kept) next (s.docs - next) (s.from + 128) (s.docs - (s.from + 128)) c.find-from.ensures.same ∙ behind))

@@ -17,6 +17,7 @@ returns-else-self-2 c =
     record {
       remaining =
           same_all (keeps s.kept) next (s.docs - next) (s.from + 128) (s.docs - (s.from + 128)) c.find-from.ensures.same
-          ∙ scan_over (keeps s.kept) s.from s.docs s.at s.len s.numbers _ _ (passing-stretch (keeps s.kept) s.from s.docs) c.self.invariant.size c.self.invariant.numbers_are (omega arith)
+          ∙ scan_over (keeps s.kept) s.from s.docs s.at s.len s.numbers _ _ (passing-stretch (keeps s.kept) s.from s.docs) c.self.invariant.size
+          c.self.invariant.numbers_are (omega arith)
           ∙ ap (drop 1) c.self.view_is;
     }

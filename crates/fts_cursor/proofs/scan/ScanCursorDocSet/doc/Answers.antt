@@ -21,7 +21,8 @@ bounds-self-inside-self-inside c =
 pub returns-then-self-clause-first : goal.returns-then-self-clause-first
 returns-then-self-clause-first c =
     let s = c.self.inside in
-    scan_first (keeps s.kept) s.from s.docs s.at s.len s.numbers _ _ (passing-stretch (keeps s.kept) s.from s.docs) c.self.invariant.size c.self.invariant.numbers_are c.if-self.true ∙ ap (λ xs. slice_get xs 0) c.self.view_is
+    scan_first (keeps s.kept) s.from s.docs s.at s.len s.numbers _ _ (passing-stretch (keeps s.kept) s.from s.docs) c.self.invariant.size
+    c.self.invariant.numbers_are c.if-self.true ∙ ap (λ xs. slice_get xs 0) c.self.view_is
 
 pub returns-then-self-clause-rises : goal.returns-then-self-clause-rises
 returns-then-self-clause-rises c =

@@ -11,14 +11,18 @@ loop-filled-preserved c = record {
 
 pub returns-then-count-eq0-clause-taken : goal.returns-then-count-eq0-clause-taken
 returns-then-count-eq0-clause-taken c =
-    let rest = Taken-rest _ _ _ c.loop-filled.out _ c.loop-filled.filled c.take_stretch-count.result c.loop-filled.invariant.taken c.take_stretch-count.ensures c.if-count-eq0.true in
-    let none = none_left _ _ _ c.loop-filled.out _ c.loop-filled.filled c.take_stretch-count.result c.loop-filled.invariant.taken c.take_stretch-count.ensures c.if-count-eq0.true in
+    let rest = Taken-rest _ _ _ c.loop-filled.out _ c.loop-filled.filled c.take_stretch-count.result c.loop-filled.invariant.taken c.take_stretch-count.ensures
+    c.if-count-eq0.true in
+    let none = none_left _ _ _ c.loop-filled.out _ c.loop-filled.filled c.take_stretch-count.result c.loop-filled.invariant.taken c.take_stretch-count.ensures
+    c.if-count-eq0.true in
     Taken-front _ _ _ c.loop-filled.filled 128 rest c.loop-filled.invariant.room none
 
 pub returns-then-count-eq0-clause-remaining : goal.returns-then-count-eq0-clause-remaining
 returns-then-count-eq0-clause-remaining c =
-    let rest = Taken-rest _ _ _ c.loop-filled.out _ c.loop-filled.filled c.take_stretch-count.result c.loop-filled.invariant.taken c.take_stretch-count.ensures c.if-count-eq0.true in
-    let none = none_left _ _ _ c.loop-filled.out _ c.loop-filled.filled c.take_stretch-count.result c.loop-filled.invariant.taken c.take_stretch-count.ensures c.if-count-eq0.true in
+    let rest = Taken-rest _ _ _ c.loop-filled.out _ c.loop-filled.filled c.take_stretch-count.result c.loop-filled.invariant.taken c.take_stretch-count.ensures
+    c.if-count-eq0.true in
+    let none = none_left _ _ _ c.loop-filled.out _ c.loop-filled.filled c.take_stretch-count.result c.loop-filled.invariant.taken c.take_stretch-count.ensures
+    c.if-count-eq0.true in
     Taken-left _ _ _ c.loop-filled.filled 128 rest c.loop-filled.invariant.room none
 
 pub returns-clause-taken : goal.returns-clause-taken

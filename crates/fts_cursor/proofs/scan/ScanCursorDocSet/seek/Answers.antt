@@ -16,8 +16,10 @@ returns c =
       | then-self-target w ↦ rw w.self-inside-is (record {
         same =
             w.find-from.ensures.same
-            ∙ sym (scan_below (keeps s.kept) s.from s.docs s.at s.len s.numbers _ _ (passing-stretch (keeps s.kept) s.from s.docs) kept.size kept.numbers_are target c.if-self.false w.if-self-target.true
-            ∙ scan_jump (keeps s.kept) (s.from + 128) w.max-next.result s.docs target (omega (arith, w.max-next.ensures)) (λ far. omega (arith, far, w.max-next.ensures)))
+            ∙ sym (scan_below (keeps s.kept) s.from s.docs s.at s.len s.numbers _ _ (passing-stretch (keeps s.kept) s.from s.docs) kept.size kept.numbers_are
+            target c.if-self.false w.if-self-target.true
+            ∙ scan_jump (keeps s.kept) (s.from + 128) w.max-next.result s.docs target (omega (arith, w.max-next.ensures))
+            (λ far. omega (arith, far, w.max-next.ensures)))
             ∙ ap (at_least target) c.self.view_is;
         size = w.find-from.ensures.count;
         numbers_are = w.find-from.ensures.written;
@@ -32,4 +34,7 @@ returns c =
         reaches = λ _. w.if-self-target.false;
       })
     ] in
-    record { remaining = Reached-place t.kept t.docs target c.args.self.now t.from t.at t.len t.numbers c.place_of-self-inside.result reached c.place_of-self-inside.ensures }
+    record {
+      remaining = Reached-place t.kept t.docs target c.args.self.now t.from t.at t.len t.numbers c.place_of-self-inside.result reached
+          c.place_of-self-inside.ensures;
+    }

@@ -15,7 +15,8 @@ returns-clause-remaining c =
     let p = c.new-postings.result in
     let is : p.blocks ≡ blocks_of c.args.list.now = c.new-postings.ensures.blocks ∙ ap blocks_of c.source.ensures.documents in
     IfOk-weaker c.of.result (λ (t : TreeValue). t ≡ tree_value (Postings p)) (λ t. t.remaining ≡ c.args.list.now)
-    (λ t made. ap (λ (s : TreeValue). s.remaining) made ∙ posting_new p c.args.list.now is c.new-postings.ensures.first.0 c.new-postings.ensures.first.1) c.of.ensures
+    (λ t made. ap (λ (s : TreeValue). s.remaining) made ∙ posting_new p c.args.list.now is c.new-postings.ensures.first.0 c.new-postings.ensures.first.1)
+    c.of.ensures
 
 pub returns-clause-bound : goal.returns-clause-bound
 returns-clause-bound c =

@@ -9,10 +9,12 @@ use Rattle.fts_cursor.proofs.TreeLemmas.{Walked-trans}
 use Rattle.fts_cursor.proofs.tree.buffered_union.count_gathered.Goals as goal
 
 -- what is counted, and what remains then
-counted : (c : goal.After-refill-next) → (0 < c.count-here.result) × (c.count-here.result + length (gathered c.refill-next.new.buffered) ≡ length (gathered c.loop-next.buffered))
+counted : (c : goal.After-refill-next) →
+    (0 < c.count-here.result) × (c.count-here.result + length (gathered c.refill-next.new.buffered) ≡ length (gathered c.loop-next.buffered))
 counted c =
     let b = c.loop-next.buffered in
-    gathered_count c.in-Some._first c.loop-next.next b.window (remains b.parts.items) (gathered c.refill-next.new.buffered) c.count-here.result c.in-Some.is c.loop-next.invariant.stands.parts c.count-here.ensures.count c.refill-next.ensures.now.is
+    gathered_count c.in-Some._first c.loop-next.next b.window (remains b.parts.items) (gathered c.refill-next.new.buffered) c.count-here.result c.in-Some.is
+    c.loop-next.invariant.stands.parts c.count-here.ensures.count c.refill-next.ensures.now.is
 
 pub loop-next-preserved : goal.loop-next-preserved
 loop-next-preserved c =

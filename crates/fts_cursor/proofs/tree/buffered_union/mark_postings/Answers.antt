@@ -9,17 +9,25 @@ use Rattle.fts_postings.proofs.PostingLemmas.{Follows-same, Follows-trans}
 use Rattle.fts_cursor.proofs.tree.buffered_union.mark_postings.Goals as goal
 
 pub loop-doc-init : goal.loop-doc-init
-loop-doc-init c = record { follows = Follows-same c.args.postings.now; marking = IsMarking-none (remaining_of c.args.postings.now) c.args.window.now c.requires }
+loop-doc-init c = record {
+  follows = Follows-same c.args.postings.now;
+  marking = IsMarking-none (remaining_of c.args.postings.now) c.args.window.now c.requires;
+}
 
 pub mark_open-requires-clause-some : goal.mark_open-requires-clause-some
 mark_open-requires-clause-some c = slice_get_within (remaining_of c.loop-doc.postings) 0 c.in-Some.doc (sym (sym c.in-Some.is ∙ c.doc.ensures.first))
 
 pub mark_open-requires-clause-low : goal.mark_open-requires-clause-low
-mark_open-requires-clause-low c = marking_up (remaining_of c.args.postings.now) (remaining_of c.loop-doc.postings) c.args.window.now c.loop-doc.window c.loop-doc.invariant.marking c.doc.ensures.rises
+mark_open-requires-clause-low c = marking_up (remaining_of c.args.postings.now) (remaining_of c.loop-doc.postings) c.args.window.now c.loop-doc.window
+    c.loop-doc.invariant.marking c.doc.ensures.rises
 
 pub mark_open-requires-clause-place : goal.mark_open-requires-clause-place
 mark_open-requires-clause-place c =
-    omega (arith, get_or_from_slice_get (remaining_of c.loop-doc.postings) 0 c.in-Some.doc 0 (sym (sym c.in-Some.is ∙ c.doc.ensures.first)), c.if-not-covers.ensures)
+    omega (
+      arith,
+      get_or_from_slice_get (remaining_of c.loop-doc.postings) 0 c.in-Some.doc 0 (sym (sym c.in-Some.is ∙ c.doc.ensures.first)),
+      c.if-not-covers.ensures,
+    )
 
 pub loop-doc-smaller : goal.loop-doc-smaller
 loop-doc-smaller c =
@@ -31,23 +39,30 @@ loop-doc-preserved c =
     let e = c.mark_open.ensures in
     record {
       follows = Follows-trans _ _ _ c.loop-doc.invariant.follows e.walks.follows;
-      marking = IsMarking-stretch (remaining_of c.args.postings.now) (remaining_of c.loop-doc.postings) c.args.window.now c.loop-doc.window c.loop-doc.invariant.marking c.doc.ensures.rises c.mark_open.result (remaining_of c.mark_open.new.self) c.mark_open.new.window e.remaining e.place e.places e.marked;
+      marking = IsMarking-stretch (remaining_of c.args.postings.now) (remaining_of c.loop-doc.postings) c.args.window.now c.loop-doc.window
+          c.loop-doc.invariant.marking c.doc.ensures.rises c.mark_open.result (remaining_of c.mark_open.new.self) c.mark_open.new.window e.remaining e.place
+          e.places e.marked;
     }
 
 past : (c : goal.Then-not-covers) → remaining_of c.loop-doc.postings ≡ at_least (c.args.window.now.last + 1) (remaining_of c.loop-doc.postings)
-past c = marking_past (remaining_of c.args.postings.now) (remaining_of c.loop-doc.postings) c.args.window.now c.loop-doc.window c.loop-doc.invariant.marking c.doc.ensures.rises c.in-Some.doc (sym c.in-Some.is ∙ c.doc.ensures.first) c.if-not-covers.ensures
+past c = marking_past (remaining_of c.args.postings.now) (remaining_of c.loop-doc.postings) c.args.window.now c.loop-doc.window c.loop-doc.invariant.marking
+    c.doc.ensures.rises c.in-Some.doc (sym c.in-Some.is ∙ c.doc.ensures.first) c.if-not-covers.ensures
 
 pub returns-then-not-covers-clause-remaining : goal.returns-then-not-covers-clause-remaining
-returns-then-not-covers-clause-remaining c = marking_left (remaining_of c.args.postings.now) (remaining_of c.loop-doc.postings) c.args.window.now c.loop-doc.window c.loop-doc.invariant.marking c.doc.ensures.rises (past c)
+returns-then-not-covers-clause-remaining c = marking_left (remaining_of c.args.postings.now) (remaining_of c.loop-doc.postings) c.args.window.now
+    c.loop-doc.window c.loop-doc.invariant.marking c.doc.ensures.rises (past c)
 
 pub returns-then-not-covers-clause-marked : goal.returns-then-not-covers-clause-marked
-returns-then-not-covers-clause-marked c = marking_done (remaining_of c.args.postings.now) (remaining_of c.loop-doc.postings) c.args.window.now c.loop-doc.window c.loop-doc.invariant.marking c.doc.ensures.rises (past c)
+returns-then-not-covers-clause-marked c = marking_done (remaining_of c.args.postings.now) (remaining_of c.loop-doc.postings) c.args.window.now c.loop-doc.window
+    c.loop-doc.invariant.marking c.doc.ensures.rises (past c)
 
 ended : (c : goal.In_default) → remaining_of c.loop-doc.postings ≡ at_least (c.args.window.now.last + 1) (remaining_of c.loop-doc.postings)
 ended c = marking_ended (remaining_of c.loop-doc.postings) (c.args.window.now.last + 1) (sym c.in_default.is ∙ c.doc.ensures.first)
 
 pub returns-clause-remaining : goal.returns-clause-remaining
-returns-clause-remaining c = marking_left (remaining_of c.args.postings.now) (remaining_of c.loop-doc.postings) c.args.window.now c.loop-doc.window c.loop-doc.invariant.marking c.doc.ensures.rises (ended c)
+returns-clause-remaining c = marking_left (remaining_of c.args.postings.now) (remaining_of c.loop-doc.postings) c.args.window.now c.loop-doc.window
+    c.loop-doc.invariant.marking c.doc.ensures.rises (ended c)
 
 pub returns-clause-marked : goal.returns-clause-marked
-returns-clause-marked c = marking_done (remaining_of c.args.postings.now) (remaining_of c.loop-doc.postings) c.args.window.now c.loop-doc.window c.loop-doc.invariant.marking c.doc.ensures.rises (ended c)
+returns-clause-marked c = marking_done (remaining_of c.args.postings.now) (remaining_of c.loop-doc.postings) c.args.window.now c.loop-doc.window
+    c.loop-doc.invariant.marking c.doc.ensures.rises (ended c)

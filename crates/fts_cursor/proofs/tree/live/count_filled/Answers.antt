@@ -1,5 +1,5 @@
 -- Each turn counts what is taken.
-use Rattle.std.proofs.Common.{◌≡◌, ◌+◌, [], length, take, drop, sym, ap, ◌∙◌, arith}
+use Rattle.std.proofs.Common.{◌≡◌, [], length, take, sym, ap, ◌∙◌, arith}
 use Rattle.std.specs.List.{filter}
 use Rattle.std.proofs.lemmas.List.{length-drop}
 use Rattle.std.proofs.lemmas.Option.{slice_get_within}
@@ -16,7 +16,14 @@ loop-first-preserved c =
     let f = c.fill-taken.ensures in
     let here : c.count_among-here.result ≡ length (filter test (take 128 before)) = c.count_among-here.ensures ∙ ap (λ xs. length (filter test xs)) f.taken in
     record {
-      sum = omega (arith, c.loop-first.invariant.sum, here, live_split test 128 before, ap (λ xs. length (filter test xs)) f.remaining, c.saturating_add-count.ensures);
+      sum = omega (
+        arith,
+        c.loop-first.invariant.sum,
+        here,
+        live_split test 128 before,
+        ap (λ xs. length (filter test xs)) f.remaining,
+        c.saturating_add-count.ensures,
+      );
       fits = omega (arith, c.saturating_add-count.ensures);
       walked = Walked-trans _ _ _ c.loop-first.invariant.walked f.walked;
     }
@@ -24,14 +31,21 @@ loop-first-preserved c =
 pub loop-first-smaller : goal.loop-first-smaller
 loop-first-smaller c =
     let before = c.loop-first.tree.remaining in
-    omega (arith, ap length c.fill-taken.ensures.remaining, length-drop 128 before, slice_get_within before 0 c.in-Some._first (sym (sym c.in-Some.is ∙ c.doc.ensures.first)))
+    omega (
+      arith,
+      ap length c.fill-taken.ensures.remaining,
+      length-drop 128 before,
+      slice_get_within before 0 c.in-Some._first
+          (sym (sym c.in-Some.is ∙ c.doc.ensures.first)),
+    )
 
 -- nothing remains
 behind : (c : goal.In_default) → c.loop-first.tree.remaining ≡ []
 behind c = nothing_first c.loop-first.tree.remaining (sym c.in_default.is ∙ c.doc.ensures.first)
 
 pub returns-clause-count : goal.returns-clause-count
-returns-clause-count c = omega (arith, c.loop-first.invariant.sum, ap (λ xs. length (filter (is_live c.args.live.now) xs)) (behind c), c.loop-first.invariant.fits)
+returns-clause-count c =
+    omega (arith, c.loop-first.invariant.sum, ap (λ xs. length (filter (is_live c.args.live.now) xs)) (behind c), c.loop-first.invariant.fits)
 
 pub returns-clause-none : goal.returns-clause-none
 returns-clause-none c = behind c

@@ -7,7 +7,8 @@ use Rattle.fts_cursor.proofs.tree.live.count_filled.Given as goal
 
 abbrev pub invariant-loop-first : goal.invariant-loop-first
 invariant-loop-first l = record {
-  sum : min (2 ^ 64 - 1) (l.count + length (filter (is_live l.live) l.tree.remaining)) ≡ min (2 ^ 64 - 1) (length (filter (is_live l.live) l.initial.tree.remaining));
+  sum : min (2 ^ 64 - 1) (l.count + length (filter (is_live l.live) l.tree.remaining))
+      ≡ min (2 ^ 64 - 1) (length (filter (is_live l.live) l.initial.tree.remaining));
   fits : l.count ≤ 2 ^ 64 - 1;
   walked : Walked l.initial.tree.standing l.tree.standing;
 }

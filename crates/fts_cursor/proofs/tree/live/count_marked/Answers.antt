@@ -11,10 +11,13 @@ use Rattle.fts_cursor.proofs.TreeLemmas.{Walked-trans}
 use Rattle.fts_cursor.proofs.tree.live.count_marked.Goals as goal
 
 -- what is counted, and what remains then
-counted : (c : goal.After-refill-next) → (length (gathered c.refill-next.new.buffered) < length (gathered c.loop-next.buffered)) × (c.count_set-here.result + length (filter (is_live c.args.live.now) (gathered c.refill-next.new.buffered)) ≡ length (filter (is_live c.args.live.now) (gathered c.loop-next.buffered)))
+counted : (c : goal.After-refill-next) → (length (gathered c.refill-next.new.buffered) < length (gathered c.loop-next.buffered))
+    × (c.count_set-here.result + length (filter (is_live c.args.live.now) (gathered c.refill-next.new.buffered))
+    ≡ length (filter (is_live c.args.live.now) (gathered c.loop-next.buffered)))
 counted c =
     let b = c.loop-next.buffered in
-    gathered_passing (is_live c.args.live.now) c.in-Some._first c.loop-next.next b.window (remains b.parts.items) (gathered c.refill-next.new.buffered) c.count_set-here.result c.in-Some.is c.loop-next.invariant.stands.parts c.count_set-here.ensures.count c.refill-next.ensures.now.is
+    gathered_passing (is_live c.args.live.now) c.in-Some._first c.loop-next.next b.window (remains b.parts.items) (gathered c.refill-next.new.buffered)
+    c.count_set-here.result c.in-Some.is c.loop-next.invariant.stands.parts c.count_set-here.ensures.count c.refill-next.ensures.now.is
 
 pub loop-next-preserved : goal.loop-next-preserved
 loop-next-preserved c =
@@ -34,7 +37,8 @@ behind : (c : goal.In_default) → gathered c.loop-next.buffered ≡ []
 behind c = nothing_first (gathered c.loop-next.buffered) (sym c.in_default.is ∙ c.loop-next.invariant.stands.first)
 
 pub returns-clause-count : goal.returns-clause-count
-returns-clause-count c = omega (arith, c.loop-next.invariant.sum, ap (λ xs. length (filter (is_live c.args.live.now) xs)) (behind c), c.loop-next.invariant.fits)
+returns-clause-count c =
+    omega (arith, c.loop-next.invariant.sum, ap (λ xs. length (filter (is_live c.args.live.now) xs)) (behind c), c.loop-next.invariant.fits)
 
 pub returns-clause-now : goal.returns-clause-now
 returns-clause-now c = record {

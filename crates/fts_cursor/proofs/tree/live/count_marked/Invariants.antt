@@ -9,7 +9,8 @@ use Rattle.fts_cursor.proofs.tree.live.count_marked.Given as goal
 
 abbrev pub invariant-loop-next : goal.invariant-loop-next
 invariant-loop-next l = record {
-  sum : min (2 ^ 64 - 1) (l.count + length (filter (is_live l.live) (gathered l.buffered))) ≡ min (2 ^ 64 - 1) (length (filter (is_live l.live) (gathered l.initial.buffered)));
+  sum : min (2 ^ 64 - 1) (l.count + length (filter (is_live l.live) (gathered l.buffered)))
+      ≡ min (2 ^ 64 - 1) (length (filter (is_live l.live) (gathered l.initial.buffered)));
   fits : l.count ≤ 2 ^ 64 - 1;
   stands : StandsAt l.next (Or l.buffered);
   walked : Walked (tree_value (Or l.initial.buffered)).standing (tree_value (Or l.buffered)).standing;

@@ -9,13 +9,18 @@ use Rattle.fts_cursor.proofs.walk.Walk.seek.Goals.{After-from-first}
 use Rattle.fts_cursor.proofs.walk.Walk.seek.Goals as goal
 
 -- what is left is the first and those behind it
-some_left : (c : After-from-first) → Sought c.args.position (left_from c.self.inside.first (positions_left c.self.inside.later)) (c.in-Some.first ∷ positions_left c.loop-self.self-inside.later)
+some_left : (c : After-from-first) →
+    Sought c.args.position (left_from c.self.inside.first (positions_left c.self.inside.later)) (c.in-Some.first ∷ positions_left c.loop-self.self-inside.later)
 some_left c =
-    subst (λ (first : Option ℕ). Sought c.args.position (left_from c.self.inside.first (positions_left c.self.inside.later)) (left_from first (positions_left c.loop-self.self-inside.later))) c.in-Some.is c.loop-self.invariant
+    subst (λ (first : Option ℕ). Sought c.args.position (left_from c.self.inside.first (positions_left c.self.inside.later))
+    (left_from first (positions_left c.loop-self.self-inside.later))) c.in-Some.is c.loop-self.invariant
 
-at_first : (c : After-from-first) → c.args.position ≤ c.from-first.result → Found c.args.position (left_from c.self.inside.first (positions_left c.self.inside.later)) (c.in-Some.first ∷ positions_left c.loop-self.self-inside.later) (c.in-Some.first == c.args.position)
+at_first : (c : After-from-first) → c.args.position ≤ c.from-first.result →
+    Found c.args.position (left_from c.self.inside.first (positions_left c.self.inside.later)) (c.in-Some.first ∷ positions_left c.loop-self.self-inside.later)
+    (c.in-Some.first == c.args.position)
 at_first c le =
-    sought-first c.args.position c.in-Some.first (left_from c.self.inside.first (positions_left c.self.inside.later)) (positions_left c.loop-self.self-inside.later) (some_left c) (omega (arith, le, c.from-first.ensures))
+    sought-first c.args.position c.in-Some.first (left_from c.self.inside.first (positions_left c.self.inside.later))
+    (positions_left c.loop-self.self-inside.later) (some_left c) (omega (arith, le, c.from-first.ensures))
 
 pub returns-then-position-first-clause-has : goal.returns-then-position-first-clause-has
 returns-then-position-first-clause-has c =
@@ -33,11 +38,14 @@ pub loop-self-preserved : goal.loop-self-preserved
 loop-self-preserved c =
     let old = left_from c.self.inside.first (positions_left c.self.inside.later) in
     let later = positions_left c.loop-self.self-inside.later in
-    subst (Sought c.args.position old) (sym (left_from-next c.next-self-inside.result later (positions_left c.next-self-inside.new.self) c.next-self-inside.ensures.steps))
-    (sought-past c.args.position c.in-Some.first old later (some_left (goal.at.loop-self-preserved c).After-from-first) (omega (arith, c.from-first.ensures, c.if-position-first.false)))
+    subst (Sought c.args.position old)
+    (sym (left_from-next c.next-self-inside.result later (positions_left c.next-self-inside.new.self) c.next-self-inside.ensures.steps))
+    (sought-past c.args.position c.in-Some.first old later (some_left (goal.at.loop-self-preserved c).After-from-first)
+    (omega (arith, c.from-first.ensures, c.if-position-first.false)))
 
 pub returns-clause-has : goal.returns-clause-has
 returns-clause-has c =
     let old = left_from c.self.inside.first (positions_left c.self.inside.later) in
-    let none = subst (λ (first : Option ℕ). Sought c.args.position old (left_from first (positions_left c.loop-self.self-inside.later))) c.in_default.is c.loop-self.invariant in
+    let none = subst (λ (first : Option ℕ). Sought c.args.position old (left_from first (positions_left c.loop-self.self-inside.later))) c.in_default.is
+    c.loop-self.invariant in
     (sought-end c.args.position old none).found_is ∙ ap (λ xs. has xs c.args.position) c.self.view_is

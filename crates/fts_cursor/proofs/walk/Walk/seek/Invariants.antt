@@ -6,7 +6,8 @@ use Rattle.fts_cursor.proofs.WalkLemmas.{Sought}
 use Rattle.fts_cursor.proofs.walk.Walk.seek.Given as goal
 
 abbrev pub invariant-loop-self : goal.invariant-loop-self
-invariant-loop-self l = Sought l.position (left_from l.initial.self-inside.first (positions_left l.initial.self-inside.later)) (left_from l.self-inside.first (positions_left l.self-inside.later))
+invariant-loop-self l = Sought l.position (left_from l.initial.self-inside.first (positions_left l.initial.self-inside.later))
+    (left_from l.self-inside.first (positions_left l.self-inside.later))
 
 abbrev pub decreases-loop-self : goal.decreases-loop-self
 decreases-loop-self l = length (left_from l.self-inside.first (positions_left l.self-inside.later))

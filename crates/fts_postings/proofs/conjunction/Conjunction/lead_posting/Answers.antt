@@ -12,4 +12,5 @@ pub returns : goal.returns
 returns g c =
     let lead = c.self.inside.lead in
     let others = c.self.inside.others.items in
-    rw (← c.self.view_is) (λ documents is. ap (λ xs. slice_get xs 0) (c.posting.ensures documents is) ∙ filter-first (in_all (each_remaining others)) (remaining_of lead) (together-passes lead others c.self.invariant.together))
+    rw (← c.self.view_is) (λ documents is. ap (λ xs. slice_get xs 0) (c.posting.ensures documents is) ∙ filter-first (in_all (each_remaining others))
+    (remaining_of lead) (together-passes lead others c.self.invariant.together))

@@ -23,10 +23,13 @@ returns-then-is_empty-clause-taken g c =
     rw (before, common_alone c.take_block.new.self others none) c.take_block.ensures.taken
 
 pub returns-in_default-clause-taken : goal.returns-in_default-clause-taken
-returns-in_default-clause-taken g c = no_stretch (common_of c.args.self.now) c.args.out.now c.args.filled (no_first (common_of c.args.self.now) (sym c.in_default.is ∙ c.doc.ensures.first)) c.requires
+returns-in_default-clause-taken g c =
+    no_stretch (common_of c.args.self.now) c.args.out.now c.args.filled (no_first (common_of c.args.self.now) (sym c.in_default.is ∙ c.doc.ensures.first))
+    c.requires
 
 pub returns-in_default-clause-follows : goal.returns-in_default-clause-follows
 returns-in_default-clause-follows g c = AllFollow-same c.args.self.now
 
 pub returns-clause-taken : goal.returns-clause-taken
-returns-clause-taken g c = stretch_of_one (common_of c.args.self.now) (common_of c.advance.new.self) c.args.out.now c.args.filled c.in-Some.doc c.in-Some.ensures.first c.requires (omega arith) c.advance.ensures.remaining
+returns-clause-taken g c = stretch_of_one (common_of c.args.self.now) (common_of c.advance.new.self) c.args.out.now c.args.filled c.in-Some.doc
+    c.in-Some.ensures.first c.requires (omega arith) c.advance.ensures.remaining

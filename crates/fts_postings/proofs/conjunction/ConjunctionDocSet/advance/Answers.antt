@@ -10,7 +10,8 @@ use Rattle.fts_postings.proofs.conjunction.ConjunctionDocSet.advance.Goals as go
 
 pub align-requires : goal.align-requires
 align-requires g c = record {
-  few = rw c.deref_mut.ensures.value (MayBeBrought-advanced c.self.inside.lead c.advance.new.self c.self.inside.others.items c.self.invariant.few c.advance.ensures.walks.follows c.advance.ensures.remaining);
+  few = rw c.deref_mut.ensures.value (MayBeBrought-advanced c.self.inside.lead c.advance.new.self c.self.inside.others.items c.self.invariant.few
+      c.advance.ensures.walks.follows c.advance.ensures.remaining);
 }
 
 pub invariant_of-self : goal.invariant_of-self
@@ -24,5 +25,6 @@ returns-clause-remaining g c =
     ap (λ os. common (remaining_of c.align.new.lead) (each_remaining os)) items
     ∙ c.align.ensures.common
     ∙ ap₂ (λ xs os. common xs (each_remaining os)) c.advance.ensures.remaining c.deref_mut.ensures.value
-    ∙ filter-step (in_all (each_remaining c.self.inside.others.items)) (remaining_of c.self.inside.lead) (together-passes c.self.inside.lead c.self.inside.others.items c.self.invariant.together)
+    ∙ filter-step (in_all (each_remaining c.self.inside.others.items)) (remaining_of c.self.inside.lead)
+    (together-passes c.self.inside.lead c.self.inside.others.items c.self.invariant.together)
     ∙ ap (λ p. drop 1 (common_of p)) c.self.view_is

@@ -14,8 +14,10 @@ pub returns-clause-first : goal.returns-clause-first
 returns-clause-first g c =
     let lead = c.self.inside.lead in
     let others = c.self.inside.others.items in
-    c.doc.ensures.first ∙ filter-first (in_all (each_remaining others)) (remaining_of lead) (together-passes lead others c.self.invariant.together) ∙ ap (λ p. slice_get (common_of p) 0) c.self.view_is
+    c.doc.ensures.first ∙ filter-first (in_all (each_remaining others)) (remaining_of lead) (together-passes lead others c.self.invariant.together)
+    ∙ ap (λ p. slice_get (common_of p) 0) c.self.view_is
 
 pub returns-clause-rises : goal.returns-clause-rises
 returns-clause-rises g c =
-    subst (λ (p : Conjoined). IsStrictlyIncreasing (common_of p)) c.self.view_is (IsStrictlyIncreasing-filter (in_all (each_remaining c.self.inside.others.items)) (remaining_of c.self.inside.lead) c.doc.ensures.rises)
+    subst (λ (p : Conjoined). IsStrictlyIncreasing (common_of p)) c.self.view_is
+    (IsStrictlyIncreasing-filter (in_all (each_remaining c.self.inside.others.items)) (remaining_of c.self.inside.lead) c.doc.ensures.rises)

@@ -9,7 +9,8 @@ loop-filled-init g c = record { taken = Taken-none _ c.args.out.now; follows = A
 
 pub loop-filled-preserved : goal.loop-filled-preserved
 loop-filled-preserved g c = record {
-  taken = Taken-more _ _ c.loop-filled.out _ c.loop-filled.filled c.in-Some.doc c.loop-filled.invariant.taken c.in-Some.ensures.first (omega arith) c.advance.ensures.remaining;
+  taken = Taken-more _ _ c.loop-filled.out _ c.loop-filled.filled c.in-Some.doc c.loop-filled.invariant.taken c.in-Some.ensures.first (omega arith)
+      c.advance.ensures.remaining;
   follows = AllFollow-trans _ _ _ c.loop-filled.invariant.follows c.advance.ensures.follows;
 }
 

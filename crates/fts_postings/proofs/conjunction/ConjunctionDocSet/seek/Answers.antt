@@ -13,7 +13,8 @@ use Rattle.fts_postings.proofs.conjunction.ConjunctionDocSet.seek.Goals as goal
 
 pub align-requires : goal.align-requires
 align-requires g c = record {
-  few = rw c.deref_mut.ensures.value (MayBeBrought-sought c.self.inside.lead c.seek.new.self c.self.inside.others.items c.in-Some.doc c.args.target c.self.invariant.few c.seek.ensures.follows c.seek.ensures.remaining (sym c.in-Some.is ∙ c.doc.ensures.first) c.if-doc-target.true);
+  few = rw c.deref_mut.ensures.value (MayBeBrought-sought c.self.inside.lead c.seek.new.self c.self.inside.others.items c.in-Some.doc c.args.target
+      c.self.invariant.few c.seek.ensures.follows c.seek.ensures.remaining (sym c.in-Some.is ∙ c.doc.ensures.first) c.if-doc-target.true);
 }
 
 pub invariant_of-self : goal.invariant_of-self
@@ -32,7 +33,8 @@ returns-then-doc-target-clause-remaining g c =
 
 pub returns-else-doc-target-clause-remaining : goal.returns-else-doc-target-clause-remaining
 returns-else-doc-target-clause-remaining g c =
-    rw (← c.self.view_is) (filter-stays c.args.target c.in-Some.doc (in_all (each_remaining c.self.inside.others.items)) (remaining_of c.self.inside.lead) c.doc.ensures.rises (sym c.in-Some.is ∙ c.doc.ensures.first) c.if-doc-target.false)
+    rw (← c.self.view_is) (filter-stays c.args.target c.in-Some.doc (in_all (each_remaining c.self.inside.others.items)) (remaining_of c.self.inside.lead)
+    c.doc.ensures.rises (sym c.in-Some.is ∙ c.doc.ensures.first) c.if-doc-target.false)
 
 pub returns-else-doc-target-clause-follows : goal.returns-else-doc-target-clause-follows
 returns-else-doc-target-clause-follows g c = AllFollow-same c.args.self.now

@@ -4,7 +4,8 @@ use Rattle.fts_postings.proofs.FillLemmas.{Taken-front, Taken-left, Taken-more, 
 use Rattle.fts_postings.proofs.doc_set.DocSet.fill.Goals as goal
 
 pub loop-filled-preserved : goal.loop-filled-preserved
-loop-filled-preserved g c = Taken-more _ _ c.loop-filled.out _ c.loop-filled.filled c.in-Some.doc c.loop-filled.invariant c.in-Some.ensures.first (omega arith) c.advance.ensures.remaining
+loop-filled-preserved g c = Taken-more _ _ c.loop-filled.out _ c.loop-filled.filled c.in-Some.doc c.loop-filled.invariant c.in-Some.ensures.first (omega arith)
+    c.advance.ensures.remaining
 
 pub returns-in-None-clause-taken : goal.returns-in-None-clause-taken
 returns-in-None-clause-taken g c = Taken-front _ _ _ c.loop-filled.filled 128 c.loop-filled.invariant (omega arith) c.in-None.ensures.first

@@ -39,7 +39,8 @@ leave-requires-clause-some g c =
     let p : Posting = record { blocks = g.B.Blocks.contents s.source; block = s.block; at = s.at; opened = s.opened; count = g.B.Blocks.openings s.source } in
     let mid = mid_of s.at (s.len - s.at) s.numbers in
     let mid_is : mid ≡ take (s.len - s.at) (drop s.at s.numbers) = search rules in
-    c.mark_some-count.ensures.some (open_some p c.args.self.now c.self.view_is s.len s.numbers mid c.self.invariant c.requires.some mid_is) (open_first p c.args.self.now c.self.view_is s.len s.numbers mid c.self.invariant c.requires.some mid_is c.args.window.now.last c.requires.place)
+    c.mark_some-count.ensures.some (open_some p c.args.self.now c.self.view_is s.len s.numbers mid c.self.invariant c.requires.some mid_is)
+    (open_first p c.args.self.now c.self.view_is s.len s.numbers mid c.self.invariant c.requires.some mid_is c.args.window.now.last c.requires.place)
 
 pub returns-clause-some : goal.returns-clause-some
 returns-clause-some g c =
@@ -47,7 +48,8 @@ returns-clause-some g c =
     let p : Posting = record { blocks = g.B.Blocks.contents s.source; block = s.block; at = s.at; opened = s.opened; count = g.B.Blocks.openings s.source } in
     let mid = mid_of s.at (s.len - s.at) s.numbers in
     let mid_is : mid ≡ take (s.len - s.at) (drop s.at s.numbers) = search rules in
-    c.mark_some-count.ensures.some (open_some p c.args.self.now c.self.view_is s.len s.numbers mid c.self.invariant c.requires.some mid_is) (open_first p c.args.self.now c.self.view_is s.len s.numbers mid c.self.invariant c.requires.some mid_is c.args.window.now.last c.requires.place)
+    c.mark_some-count.ensures.some (open_some p c.args.self.now c.self.view_is s.len s.numbers mid c.self.invariant c.requires.some mid_is)
+    (open_first p c.args.self.now c.self.view_is s.len s.numbers mid c.self.invariant c.requires.some mid_is c.args.window.now.last c.requires.place)
 
 pub returns-clause-within : goal.returns-clause-within
 returns-clause-within g c =
@@ -55,7 +57,8 @@ returns-clause-within g c =
     let p : Posting = record { blocks = g.B.Blocks.contents s.source; block = s.block; at = s.at; opened = s.opened; count = g.B.Blocks.openings s.source } in
     let mid = mid_of s.at (s.len - s.at) s.numbers in
     let mid_is : mid ≡ take (s.len - s.at) (drop s.at s.numbers) = search rules in
-    open_within p c.args.self.now c.self.view_is s.len s.numbers mid c.self.invariant c.requires.some mid_is c.mark_some-count.result c.mark_some-count.ensures.within
+    open_within p c.args.self.now c.self.view_is s.len s.numbers mid c.self.invariant c.requires.some mid_is c.mark_some-count.result
+    c.mark_some-count.ensures.within
 
 pub returns-clause-places : goal.returns-clause-places
 returns-clause-places g c =
@@ -63,7 +66,8 @@ returns-clause-places g c =
     let p : Posting = record { blocks = g.B.Blocks.contents s.source; block = s.block; at = s.at; opened = s.opened; count = g.B.Blocks.openings s.source } in
     let mid = mid_of s.at (s.len - s.at) s.numbers in
     let mid_is : mid ≡ take (s.len - s.at) (drop s.at s.numbers) = search rules in
-    subst (λ xs. All (λ d. d ≤ c.args.window.now.last) xs) (open_taken p c.args.self.now c.self.view_is s.len s.numbers mid c.self.invariant c.requires.some mid_is c.mark_some-count.result c.mark_some-count.ensures.within) c.mark_some-count.ensures.places
+    subst (λ xs. All (λ d. d ≤ c.args.window.now.last) xs) (open_taken p c.args.self.now c.self.view_is s.len s.numbers mid c.self.invariant c.requires.some
+    mid_is c.mark_some-count.result c.mark_some-count.ensures.within) c.mark_some-count.ensures.places
 
 pub returns-clause-marked : goal.returns-clause-marked
 returns-clause-marked g c d =
@@ -71,4 +75,5 @@ returns-clause-marked g c d =
     let p : Posting = record { blocks = g.B.Blocks.contents s.source; block = s.block; at = s.at; opened = s.opened; count = g.B.Blocks.openings s.source } in
     let mid = mid_of s.at (s.len - s.at) s.numbers in
     let mid_is : mid ≡ take (s.len - s.at) (drop s.at s.numbers) = search rules in
-    c.mark_some-count.ensures.marked d ∙ ap (λ xs. has (found c.args.window.now) d || has xs d) (open_taken p c.args.self.now c.self.view_is s.len s.numbers mid c.self.invariant c.requires.some mid_is c.mark_some-count.result c.mark_some-count.ensures.within)
+    c.mark_some-count.ensures.marked d ∙ ap (λ xs. has (found c.args.window.now) d || has xs d) (open_taken p c.args.self.now c.self.view_is s.len s.numbers mid
+    c.self.invariant c.requires.some mid_is c.mark_some-count.result c.mark_some-count.ensures.within)

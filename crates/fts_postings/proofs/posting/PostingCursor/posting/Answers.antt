@@ -7,7 +7,14 @@ use Rattle.fts_postings.proofs.posting.PostingCursor.posting.Goals as goal
 pub overflow_add-result : goal.overflow_add-result
 overflow_add-result g c =
     let fields = c.self.inside in
-    let p : Posting = record { blocks = g.B.Blocks.contents fields.source; block = fields.block; at = fields.at; opened = fields.opened; count = g.B.Blocks.openings fields.source } in
+    let p : Posting = record {
+      blocks = g.B.Blocks.contents fields.source;
+      block = fields.block;
+      at = fields.at;
+      opened = fields.opened;
+      count =
+          g.B.Blocks.openings fields.source;
+    } in
     let some : 0 < length (remaining_of p) = subst (λ (q : Posting). 0 < length (remaining_of q)) (sym c.self.view_is) c.requires.stands in
     let few : length p.blocks ≤ 4294967296 = subst (λ (q : Posting). length q.blocks ≤ 4294967296) (sym c.self.view_is) c.requires.few in
     let inside = stands_within p some in
@@ -16,6 +23,14 @@ overflow_add-result g c =
 pub returns : goal.returns
 returns g c =
     let fields = c.self.inside in
-    let p : Posting = record { blocks = g.B.Blocks.contents fields.source; block = fields.block; at = fields.at; opened = fields.opened; count = g.B.Blocks.openings fields.source } in
+    let p : Posting = record {
+      blocks = g.B.Blocks.contents fields.source;
+      block = fields.block;
+      at = fields.at;
+      opened = fields.opened;
+      count =
+          g.B.Blocks.openings fields.source;
+    } in
     let some : 0 < length (remaining_of p) = subst (λ (q : Posting). 0 < length (remaining_of q)) (sym c.self.view_is) c.requires.stands in
-    rw (← c.self.view_is) (λ documents is. posting_place p documents some (omega (arith, c.self.invariant.stands (stands_within p some), c.self.invariant.size)) is)
+    rw (← c.self.view_is) (λ documents is. posting_place p documents some (omega (arith, c.self.invariant.stands (stands_within p some), c.self.invariant.size))
+    is)

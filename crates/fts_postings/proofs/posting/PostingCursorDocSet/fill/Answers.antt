@@ -13,14 +13,18 @@ loop-filled-preserved g c = record {
 
 pub returns-then-count-eq0-clause-taken : goal.returns-then-count-eq0-clause-taken
 returns-then-count-eq0-clause-taken g c =
-    let rest = Taken-rest _ _ _ c.loop-filled.out _ c.loop-filled.filled c.take_block-count.result c.loop-filled.invariant.taken c.take_block-count.ensures.taken c.if-count-eq0.true in
-    let none = none_left _ _ _ c.loop-filled.out _ c.loop-filled.filled c.take_block-count.result c.loop-filled.invariant.taken c.take_block-count.ensures.taken c.if-count-eq0.true in
+    let rest = Taken-rest _ _ _ c.loop-filled.out _ c.loop-filled.filled c.take_block-count.result c.loop-filled.invariant.taken
+    c.take_block-count.ensures.taken c.if-count-eq0.true in
+    let none = none_left _ _ _ c.loop-filled.out _ c.loop-filled.filled c.take_block-count.result c.loop-filled.invariant.taken c.take_block-count.ensures.taken
+    c.if-count-eq0.true in
     Taken-front _ _ _ c.loop-filled.filled 128 rest c.loop-filled.invariant.room none
 
 pub returns-then-count-eq0-clause-remaining : goal.returns-then-count-eq0-clause-remaining
 returns-then-count-eq0-clause-remaining g c =
-    let rest = Taken-rest _ _ _ c.loop-filled.out _ c.loop-filled.filled c.take_block-count.result c.loop-filled.invariant.taken c.take_block-count.ensures.taken c.if-count-eq0.true in
-    let none = none_left _ _ _ c.loop-filled.out _ c.loop-filled.filled c.take_block-count.result c.loop-filled.invariant.taken c.take_block-count.ensures.taken c.if-count-eq0.true in
+    let rest = Taken-rest _ _ _ c.loop-filled.out _ c.loop-filled.filled c.take_block-count.result c.loop-filled.invariant.taken
+    c.take_block-count.ensures.taken c.if-count-eq0.true in
+    let none = none_left _ _ _ c.loop-filled.out _ c.loop-filled.filled c.take_block-count.result c.loop-filled.invariant.taken c.take_block-count.ensures.taken
+    c.if-count-eq0.true in
     Taken-left _ _ _ c.loop-filled.filled 128 rest c.loop-filled.invariant.room none
 
 pub returns-clause-taken : goal.returns-clause-taken

@@ -13,4 +13,5 @@ returns-then-count-eq0-clause-places c =
 
 pub returns-clause-places : goal.returns-clause-places
 returns-clause-places c =
-    places_first c.args.self.now.last c.args.docs.now c.place_of.result c.requires c.place_of.ensures.high_within (λ some. omega (arith, c.place_of.ensures.before some))
+    places_first c.args.self.now.last c.args.docs.now c.place_of.result c.requires c.place_of.ensures.high_within
+    (λ some. omega (arith, c.place_of.ensures.before some))

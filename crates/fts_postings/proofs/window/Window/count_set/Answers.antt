@@ -21,7 +21,12 @@ overflow_add-count c =
 pub returns-clause-count : goal.returns-clause-count
 returns-clause-count c =
     let w = c.loop-self.self in
-    omega (arith, c.loop-self.invariant.sum, ap (λ xs. length (filter (is_set c.args.bits.now) xs)) (found-past w.base w.from w.last w.marks.items (omega (arith, c.loop-self-test.false))))
+    omega (
+      arith,
+      c.loop-self.invariant.sum,
+      ap (λ xs. length (filter (is_set c.args.bits.now) xs))
+          (found-past w.base w.from w.last w.marks.items (omega (arith, c.loop-self-test.false))),
+    )
 
 pub returns-clause-none : goal.returns-clause-none
 returns-clause-none c =

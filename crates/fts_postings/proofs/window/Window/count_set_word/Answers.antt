@@ -15,7 +15,8 @@ returns-clause-count c =
     let start = w.from - at in
     let word = c.set_word.result in
     let left = marks_of test w.base w.marks.items in
-    let of : AreMarksFrom start w.base left word = λ k low. c.set_word.ensures k low ∙ sym (is_found-of test w.base w.marks.items (start + k) (omega (arith, w.order))) in
+    let of : AreMarksFrom start w.base left word =
+    λ k low. c.set_word.ensures k low ∙ sym (is_found-of test w.base w.marks.items (start + k) (omega (arith, w.order))) in
     let marks = bit_and word ((2 ^ 64 - 1) * 2 ^ at % 2 ^ 64) in
     let is = ap (bit_and word) (ones_shl 64 at (omega arith)) in
     let mask = ap (λ k. (2 ^ 64 - 1) / 2 ^ k) c.saturating_sub-behind.ensures ∙ ones_shr 64 (start + 63 - w.last) (omega (arith, c.requires)) in

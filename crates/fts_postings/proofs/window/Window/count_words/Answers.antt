@@ -9,12 +9,14 @@ pub overflow_add-count : goal.overflow_add-count
 overflow_add-count c =
     let w = c.args.self.now in
     let fits : c.word.result < 2 ^ 64 = search rules in
-    let long = whole_word w.marks.items w.base c.loop-index.index w.last c.word.result c.word.ensures fits (omega (arith, c.saturating_sub.ensures, c.loop-index-test.true)) in
+    let long = whole_word w.marks.items w.base c.loop-index.index w.last c.word.result c.word.ensures fits
+    (omega (arith, c.saturating_sub.ensures, c.loop-index-test.true)) in
     omega (arith, scan_cost (is_found w.base w.marks.items) w.from (suc w.last - w.from) 0, c.loop-index.invariant, long, w.fits)
 
 pub loop-index-preserved : goal.loop-index-preserved
 loop-index-preserved c =
     let w = c.args.self.now in
     let fits : c.word.result < 2 ^ 64 = search rules in
-    let long = whole_word w.marks.items w.base c.loop-index.index w.last c.word.result c.word.ensures fits (omega (arith, c.saturating_sub.ensures, c.loop-index-test.true)) in
+    let long = whole_word w.marks.items w.base c.loop-index.index w.last c.word.result c.word.ensures fits
+    (omega (arith, c.saturating_sub.ensures, c.loop-index-test.true)) in
     omega (arith, c.loop-index.invariant, long)

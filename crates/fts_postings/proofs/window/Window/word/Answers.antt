@@ -9,5 +9,6 @@ returns c =
     let w = c.args.self.now in
     let place = c.args.start - w.base in
     let long : length c.deref.result.now ≡ 4096 = ap length c.deref.ensures.value ∙ w.room in
-    bytes_from w.marks.items w.base c.args.start place c.word_of.result (length c.deref.result.now - place) c.requires.low refl (omega (arith, c.requires.high, long))
+    bytes_from w.marks.items w.base c.args.start place c.word_of.result (length c.deref.result.now - place) c.requires.low refl
+    (omega (arith, c.requires.high, long))
     (subst (λ xs. AreMarksFrom 0 0 (take (length c.deref.result.now - place) (drop place xs)) c.word_of.result) c.deref.ensures.value c.word_of.ensures)
