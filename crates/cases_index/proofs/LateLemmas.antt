@@ -18,5 +18,6 @@ all_without s ms which all =
 pub all_with : (s : SnapshotValue) (ms : List MergedSegmentValue) (m : MergedSegmentValue) → AllFit s ms → Fits m s → AllFit s (ms ++ m ∷ [])
 all_with s ms m all fits = All-push (λ m. Fits m s) ms m all fits
 
-pub one_fits : (s : SnapshotValue) (ms : List MergedSegmentValue) (which : ℕ) (m : MergedSegmentValue) → which < length ms → m ≡ get_or ms which m → AllFit s ms → Fits m s
+pub one_fits : (s : SnapshotValue) (ms : List MergedSegmentValue) (which : ℕ) (m : MergedSegmentValue) → which < length ms → m ≡ get_or ms which m →
+    AllFit s ms → Fits m s
 one_fits s ms which m inside is all = subst (λ (x : MergedSegmentValue). Fits x s) (sym is) (All-get_or (λ x. Fits x s) ms which m inside all)

@@ -1,4 +1,4 @@
-// Tries cases of an index of many segments: scripts, each over a list of documents and over segments under eight kinds
+// Tries cases of an index of many segments: scripts, each over a list of documents and over segments under ten kinds
 // of options, and walks, which are steps over a new writer.
 #![tactic(auto)]
 

@@ -9,12 +9,14 @@ use std::thread::Threads;
 use testing_cases::{Trial, Trouble};
 
 /// How segments are cut and merged, and by how many workers.
-static WAYS: [(usize, Cut, Merge); 8] = [
+static WAYS: [(usize, Cut, Merge); 10] = [
     (1, Cut::Runs(1), Merge::Off),
     (3, Cut::Runs(1), Merge::Policy),
     (3, Cut::Runs(3), Merge::Off),
     (1, Cut::Runs(3), Merge::Policy),
     (1, Cut::Runs(65_536), Merge::Off),
+    (3, Cut::Runs(65_536), Merge::Policy),
+    (1, Cut::Deal(1), Merge::Off),
     (3, Cut::Deal(2), Merge::Off),
     (1, Cut::Deal(2), Merge::Policy),
     (3, Cut::Deal(7), Merge::Policy),

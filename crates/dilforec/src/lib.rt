@@ -1,4 +1,5 @@
-//! A full-text index over JSON documents, held in memory, that is proved: all that a program needs of it, from one crate.
+//! A full-text index over JSON documents, held in memory, that is proved: all that a program needs of it, from one
+//! crate.
 //!
 //! A [`Schema`] names the fields. A [`Writer`] gives out rounds of lanes, which take adds and deletes, in threads of
 //! their own if you like; a commit makes them findable, and each [`Searcher`] goes on answering for the commit that it
@@ -25,11 +26,11 @@
 //! ```
 //!
 //! - [`script`]: the same index by lines of JSON, as the program `fts` runs them, and the program's command line.
-//! - [`text`], [`pack`], [`segment`], [`cursor`], [`collect`], [`merge`] and [`pool`]: the parts, for those who build on
-//!   them.
+//! - [`text`], [`pack`], [`segment`], [`cursor`], [`collect`], [`merge`] and [`pool`]: the parts, for those who build
+//!   on them.
 //!
-//! `CALLING.md` beside this crate has a whole program. Nothing is defined here: each item, with its contract, is that of
-//! the crate which it is handed on from, and `specs/` hands on the definitions that the contracts cite.
+//! `CALLING.md` beside this crate has a whole program. Nothing is defined here: each item, with its contract, is that
+//! of the crate which it is handed on from, and `specs/` hands on the definitions that the contracts cite.
 #![tactic(auto)]
 
 pub mod collect;

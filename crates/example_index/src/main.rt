@@ -1,4 +1,5 @@
-// An index by the crate dilforec alone: two lanes in two threads, a commit, and a search beside a merge that ends later.
+// An index by the crate dilforec alone: two lanes in two threads, a commit, and a search beside a merge that ends
+// later.
 //
 // It prints how many documents there are, how many have "pearls", and how many segments the merge left.
 #![tactic(auto)]

@@ -1,5 +1,6 @@
 -- One line more of a block, the first that isn't done, and the end.
-use Rattle.std.proofs.Common.{◌≡◌, ◌≢◌, ◌+◌, ◌-◌, ◌<◌, ◌≤◌, ℕ, ℤ, List, [], ◌∷◌, ◌++◌, length, take, drop, get_or, refl, sym, ap, subst, ◌∙◌, append_assoc, append-nil, arith, string_bytes}
+use Rattle.std.proofs.Common.{◌≡◌, ◌≢◌, ◌+◌, ◌-◌, ◌<◌, ◌≤◌, ℕ, ℤ, List, [], ◌∷◌, ◌++◌, length, take, drop, get_or, refl, sym, ap, subst, ◌∙◌, append_assoc}
+use Rattle.std.proofs.Common.{append-nil, arith, string_bytes}
 use Rattle.std.proofs.lemmas.List.{length-drop, take_more, drop_more}
 use Rattle.fts_script.specs.session.Outputs.{SessionValue, after_line, after_lines, replies, reply_to}
 use Rattle.fts_script.specs.session.Text.{lines_of}
@@ -50,7 +51,8 @@ reached_next old now new block rest line later done code r first shorter e ok =
       within = omega (arith, n.within);
       reply = e.reply ok ∙ ap (λ v. v ++ reply_to now.session line) r.reply ∙ ap (λ s. replies old.session (take done ls) ++ reply_to s line) r.session
           ∙ sym (replies-push old.session (take done ls) line) ∙ ap (replies old.session) (sym n.taken);
-      session = e.session ok ∙ ap (λ s. after_line s line) r.session ∙ sym (after_lines-push old.session (take done ls) line) ∙ ap (after_lines old.session) (sym n.taken);
+      session = e.session ok ∙ ap (λ s. after_line s line) r.session ∙ sym (after_lines-push old.session (take done ls) line)
+          ∙ ap (after_lines old.session) (sym n.taken);
     }
 
 pub reached_stop : (old now new : State) (block rest line later : List ℕ) (done : ℕ) (code : ℤ) → Reached old block rest now done →
@@ -58,7 +60,8 @@ pub reached_stop : (old now new : State) (block rest line later : List ℕ) (don
 reached_stop old now new block rest line later done code r first e bad =
     let ls : List (List ℕ) = lines_of block in
     let n : IsNext ls done line (lines_of later) = next_of ls done line (lines_of later) (r.left ∙ first) in
-    let stop : StopsAt new line code = record { code_is = subst (λ s. IsCodeOf s line code) (sym (e.same bad)) e.code_is; not_ok = bad; not_blank = e.not_blank } in record {
+    let stop : StopsAt new line code =
+    record { code_is = subst (λ s. IsCodeOf s line code) (sym (e.same bad)) e.code_is; not_ok = bad; not_blank = e.not_blank } in record {
       reply = e.none bad ∙ r.reply;
       session = e.same bad ∙ r.session;
       all = λ ok. absurd (bad ok);

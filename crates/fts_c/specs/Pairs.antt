@@ -24,8 +24,8 @@ pub record IsFaultOfTwo (s : SessionValue) (delete add : List ℕ) (code : ℤ) 
   pub code_is : IsCodeOfTwo s delete add code
   pub untried : AreTried s delete add → ⊥
 
--- A deletion and an addition were executed as one: the reply is the definition's, and the session goes on as it says. At
--- another code there is no reply, and the session is as it was.
+-- A deletion and an addition were executed as one: the reply is the definition's, and the session goes on as it says.
+-- At another code there is no reply, and the session is as it was.
 pub record Replaces (old : State) (delete add : List ℕ) (new : State) (code : ℤ) : Type 0 where
   pub code_is : IsCodeOfTwo old.session delete add code
   pub reply : code ≡ OK → string_bytes new.reply ≡ reply_to_replace old.session delete add

@@ -1,12 +1,12 @@
 //! An index inside a C program, or in any that calls C: a static library over the session of scripts.
 //!
-//! A handle is a place for a pointer, which one call at a time may use; it is closed while it is null. A line of a script
-//! goes in, and its reply comes out, to the byte that the script's definition says. A searcher is a handle too: a session
-//! of its own over the last commit of another, which another thread may have, and which takes searches alone. What a
-//! caller owes is a handle that was opened or is null, and true lengths. What each call leaves, and which code it
-//! answers, is a definition of `specs/Calls.antt`, `Blocks`, `Pairs` or `CutSearches`, for a place that is open, and of
-//! `specs/Open.antt` or `StatsOf` for one that may be closed. A call that needs no handle tells where a query can't be
-//! read any further (`specs/Syntaxes.antt`).
+//! A handle is a place for a pointer, which one call at a time may use; it is closed while it is null. A line of a
+//! script goes in, and its reply comes out, to the byte that the script's definition says. A searcher is a handle too:
+//! a session of its own over the last commit of another, which another thread may have, and which takes searches alone.
+//! What a caller owes is a handle that was opened or is null, and true lengths. What each call leaves, and which code
+//! it answers, is a definition of `specs/Calls.antt`, `Blocks`, `Pairs` or `CutSearches`, for a place that is open, and
+//! of `specs/Open.antt` or `StatsOf` for one that may be closed. A call that needs no handle tells where a query can't
+//! be read any further (`specs/Syntaxes.antt`).
 #![tactic(auto)]
 
 ghost use Rattle.std.specs.Prelude.{◌≡◌, Option, Some, None, IfOk, MatchOption, MatchResult};

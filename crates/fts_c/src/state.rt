@@ -9,14 +9,9 @@ ghost use Rattle.fts_c.specs.StatsOf.{AreStatsOf};
 
 use crate::codes::{LINE_TOO_LONG, MEMORY, OK, USED_UP};
 use fts_engine_local::{LocalEngine, Stats};
-use fts_script::session::{Session, first_line, is_blank};
+use fts_script::LONGEST;
+use fts_script::session::{MOST_LINES, Session, first_line, is_blank};
 use std::alloc::{AllocError, Global};
-
-/// The most bytes that a line has.
-const LONGEST: usize = 4_194_304;
-
-/// How many lines there may be.
-const MOST_LINES: u64 = 1 << 61;
 
 /// How large an index is that has no schema.
 const NOTHING: Stats = Stats {

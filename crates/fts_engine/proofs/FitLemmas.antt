@@ -1,5 +1,6 @@
 -- What is read under a schema fits it.
-use Rattle.std.proofs.Common.{Bool, ◌≡◌, ◌&&◌, ◌∷◌, ◌∙◌, ℕ, true, false, cond, List, [], length, Option, None, Some, Result, Ok, Err, IfOk, map, refl, ap, subst, option_map, nat_le, nat_lt}
+use Rattle.std.proofs.Common.{Bool, ◌≡◌, ◌&&◌, ◌∷◌, ◌∙◌, ℕ, true, false, cond, List, [], length, Option, None, Some, Result, Ok, Err, IfOk, map, refl, ap}
+use Rattle.std.proofs.Common.{subst, option_map, nat_le, nat_lt}
 use Rattle.std.specs.Option.{ok_or, option_and_then, option_map_or}
 use Rattle.std.proofs.lemmas.Slice.Eq.{bytes_eq-Decides}
 use Rattle.serde_json.specs.Data.{Data, null, boolean, number, string, array, object, Members}
@@ -16,9 +17,11 @@ use Rattle.fts_model.specs.declared.query.Request.{Request}
 use Rattle.fts_model.specs.declared.query.Top.{Top}
 use Rattle.fts_base.specs.declared.refusal.Refusal.{Refusal}
 use Rattle.fts_base.specs.declared.refusal.Refusal.TheVariants.{WrongKind, TextTooLong, KeywordTooLong, TooManyTexts, UnknownField, NotANumberField, BadLimit}
-use Rattle.fts_model.specs.Documents.{DocumentValue, is_of_kind, is_term_of, strings_in, bytes_of, some_texts, list_in, value_in, value_at, members_fault, document_of, may_stand, fits_fields, fits}
+use Rattle.fts_model.specs.Documents.{DocumentValue, is_of_kind, is_term_of, strings_in, bytes_of, some_texts, list_in, value_in, value_at, members_fault}
+use Rattle.fts_model.specs.Documents.{document_of, may_stand, fits_fields, fits}
 use Rattle.fts_model.specs.Operations.{kind_at, term_value, term_at, term_of, term_fits}
-use Rattle.fts_model.specs.Queries.{is_number_field, is_ordered_field, is_limit, field_of, number_field_named, ordered_field_named, groups_of, top_of, request_of, request_fits}
+use Rattle.fts_model.specs.Queries.{is_number_field, is_ordered_field, is_limit, field_of, number_field_named, ordered_field_named, groups_of, top_of}
+use Rattle.fts_model.specs.Queries.{request_of, request_fits}
 use Rattle.fts_base.specs.Results.{Gives, value_if_ok, ok_unless, result_and_then, result_map}
 use Rattle.fts_model.specs.Schemas.{field_named}
 
@@ -36,10 +39,13 @@ some_texts_hold (text ∷ texts) = refl
 lists_hold : (texts : Option (List (List ℕ))) → Holds kinds.Text (flat (value_if_ok (list_in kinds.Text texts)))
 lists_hold None = refl
 lists_hold (Some texts) =
-    elim (nat_lt 1024 (length texts)) as (λ b. Holds kinds.Text (flat (value_if_ok (cond b (Err TooManyTexts) (cond (nat_le (bytes_of texts) 1048576) (Ok (some_texts texts)) (Err TextTooLong)))))) [
+    elim (nat_lt 1024 (length texts)) as
+    (λ b. Holds kinds.Text
+    (flat (value_if_ok (cond b (Err TooManyTexts) (cond (nat_le (bytes_of texts) 1048576) (Ok (some_texts texts)) (Err TextTooLong)))))) [
       | true ↦ refl
       | false ↦
-          elim (nat_le (bytes_of texts) 1048576) as (λ b. Holds kinds.Text (flat (value_if_ok (cond b (Ok (some_texts texts)) (Err TextTooLong))))) [ true ↦ some_texts_hold texts | false ↦ refl ]
+          elim (nat_le (bytes_of texts) 1048576) as (λ b. Holds kinds.Text (flat (value_if_ok (cond b (Ok (some_texts texts)) (Err TextTooLong)))))
+          [ true ↦ some_texts_hold texts | false ↦ refl ]
     ]
 
 values_hold : (kind : Kind) (d : Data) → Holds kind (flat (value_if_ok (value_in kind d)))
@@ -51,21 +57,26 @@ values_hold kinds.Keyword (array items) = refl
 values_hold kinds.U64 (array items) = refl
 values_hold kinds.I64 (array items) = refl
 values_hold kinds.Text (string text) =
-    elim (nat_le (length text) 1048576) as (λ b. Holds kinds.Text (flat (value_if_ok (cond b (Ok (Some (values.Text text))) (Err TextTooLong))))) [ true ↦ refl | false ↦ refl ]
+    elim (nat_le (length text) 1048576) as (λ b. Holds kinds.Text (flat (value_if_ok (cond b (Ok (Some (values.Text text))) (Err TextTooLong)))))
+    [ true ↦ refl | false ↦ refl ]
 values_hold kinds.Keyword (string text) =
-    elim (nat_le (length text) 256) as (λ b. Holds kinds.Keyword (flat (value_if_ok (cond b (Ok (Some (values.Text text))) (Err KeywordTooLong))))) [ true ↦ refl | false ↦ refl ]
+    elim (nat_le (length text) 256) as (λ b. Holds kinds.Keyword (flat (value_if_ok (cond b (Ok (Some (values.Text text))) (Err KeywordTooLong)))))
+    [ true ↦ refl | false ↦ refl ]
 values_hold kinds.U64 (string text) = refl
 values_hold kinds.I64 (string text) = refl
 values_hold kinds.Text (number n) = refl
 values_hold kinds.Keyword (number n) = refl
 values_hold kinds.U64 (number n) =
-    elim (as_u64 n) as (λ o. Holds kinds.U64 (flat (value_if_ok (ok_or (option_map (λ x. Some (values.Number (numbers.U64 x))) o) WrongKind)))) [ None ↦ refl | Some x ↦ refl ]
+    elim (as_u64 n) as (λ o. Holds kinds.U64 (flat (value_if_ok (ok_or (option_map (λ x. Some (values.Number (numbers.U64 x))) o) WrongKind))))
+    [ None ↦ refl | Some x ↦ refl ]
 values_hold kinds.I64 (number n) =
-    elim (as_i64 n) as (λ o. Holds kinds.I64 (flat (value_if_ok (ok_or (option_map (λ x. Some (values.Number (numbers.I64 x))) o) WrongKind)))) [ None ↦ refl | Some x ↦ refl ]
+    elim (as_i64 n) as (λ o. Holds kinds.I64 (flat (value_if_ok (ok_or (option_map (λ x. Some (values.Number (numbers.I64 x))) o) WrongKind))))
+    [ None ↦ refl | Some x ↦ refl ]
 
 values_at_hold : (ms : Members) (f : Field) → Holds f.kind (value_at ms f)
 values_at_hold ms f =
-    elim (get_member f.name ms) as (λ o. Holds f.kind (option_and_then (λ d. flat (value_if_ok (value_in f.kind d))) o)) [ None ↦ refl | Some d ↦ values_hold f.kind d ]
+    elim (get_member f.name ms) as (λ o. Holds f.kind (option_and_then (λ d. flat (value_if_ok (value_in f.kind d))) o))
+    [ None ↦ refl | Some d ↦ values_hold f.kind d ]
 
 stands : (f : Field) (v : Option FieldValue) → Holds f.kind v → may_stand (Some f) f v ≡ true
 stands f None h = refl
@@ -104,7 +115,9 @@ terms_hold kinds.Text (number n) = refl
 terms_hold kinds.Text (array items) = refl
 terms_hold kinds.Text (object ms) = refl
 terms_hold kinds.Keyword (string text) =
-    elim (nat_le (length text) 256) as (λ b. IsTerm kinds.Keyword (value_if_ok (result_and_then (λ v. ok_or v WrongKind) (cond b (Ok (Some (values.Text text))) (Err KeywordTooLong))))) [ true ↦ refl | false ↦ refl ]
+    elim (nat_le (length text) 256) as
+    (λ b. IsTerm kinds.Keyword (value_if_ok (result_and_then (λ v. ok_or v WrongKind) (cond b (Ok (Some (values.Text text))) (Err KeywordTooLong)))))
+    [ true ↦ refl | false ↦ refl ]
 terms_hold kinds.Keyword null = refl
 terms_hold kinds.Keyword (boolean b) = refl
 terms_hold kinds.Keyword (number n) = refl
@@ -114,18 +127,23 @@ terms_hold kinds.U64 (string text) = refl
 terms_hold kinds.U64 null = refl
 terms_hold kinds.U64 (boolean b) = refl
 terms_hold kinds.U64 (number n) =
-    elim (as_u64 n) as (λ o. IsTerm kinds.U64 (value_if_ok (result_and_then (λ v. ok_or v WrongKind) (ok_or (option_map (λ x. Some (values.Number (numbers.U64 x))) o) WrongKind)))) [ None ↦ refl | Some x ↦ refl ]
+    elim (as_u64 n) as (λ o. IsTerm kinds.U64
+    (value_if_ok (result_and_then (λ v. ok_or v WrongKind) (ok_or (option_map (λ x. Some (values.Number (numbers.U64 x))) o) WrongKind))))
+    [ None ↦ refl | Some x ↦ refl ]
 terms_hold kinds.U64 (array items) = refl
 terms_hold kinds.U64 (object ms) = refl
 terms_hold kinds.I64 (string text) = refl
 terms_hold kinds.I64 null = refl
 terms_hold kinds.I64 (boolean b) = refl
 terms_hold kinds.I64 (number n) =
-    elim (as_i64 n) as (λ o. IsTerm kinds.I64 (value_if_ok (result_and_then (λ v. ok_or v WrongKind) (ok_or (option_map (λ x. Some (values.Number (numbers.I64 x))) o) WrongKind)))) [ None ↦ refl | Some x ↦ refl ]
+    elim (as_i64 n) as (λ o. IsTerm kinds.I64
+    (value_if_ok (result_and_then (λ v. ok_or v WrongKind) (ok_or (option_map (λ x. Some (values.Number (numbers.I64 x))) o) WrongKind))))
+    [ None ↦ refl | Some x ↦ refl ]
 terms_hold kinds.I64 (array items) = refl
 terms_hold kinds.I64 (object ms) = refl
 
-made : (schema : List Field) (field : ℕ) (kind : Kind) (value : Result FieldValue Refusal) (term : Term) → kind_at schema field ≡ Some kind → IsTerm kind (value_if_ok value) →
+made : (schema : List Field) (field : ℕ) (kind : Kind) (value : Result FieldValue Refusal) (term : Term) → kind_at schema field ≡ Some kind →
+    IsTerm kind (value_if_ok value) →
     result_map (λ v. record { field = field; value = v }) value ≡ Ok term → term_fits schema term ≡ true
 made schema field kind (Err e) term there h is = cc
 made schema field kind (Ok v) term there h is =
@@ -135,7 +153,8 @@ made schema field kind (Ok v) term there h is =
 
 at_field : (schema : List Field) (field : ℕ) (d : Data) (term : Term) → term_at schema field d ≡ Ok term → term_fits schema term ≡ true
 at_field schema field d term h =
-    elim (kind_at schema field) as (λ k. kind_at schema field ≡ k → option_map_or (λ kind. result_map (λ v. record { field = field; value = v }) (term_value kind d)) k (Err UnknownField) ≡ Ok term → term_fits schema term ≡ true) [
+    elim (kind_at schema field) as (λ k. kind_at schema field ≡ k → option_map_or (λ kind. result_map (λ v. record { field = field; value = v })
+    (term_value kind d)) k (Err UnknownField) ≡ Ok term → term_fits schema term ≡ true) [
       | None ↦ λ _ is. cc
       | Some kind ↦ λ there is. made schema field kind (term_value kind d) term there (terms_hold kind d) is
     ] refl h
@@ -152,7 +171,8 @@ IsOne is_one field = option_map_or is_one field true ≡ true
 
 named_holds : (is_one : ℕ → Bool) (schema : List Field) (name : List ℕ) → IsOne is_one (value_if_ok (field_of is_one schema name))
 named_holds is_one schema name =
-    elim (field_named name schema) as (λ o. IsOne is_one (value_if_ok (option_map_or (λ field. cond (is_one field) (Ok field) (Err NotANumberField)) o (Err UnknownField)))) [
+    elim (field_named name schema) as
+    (λ o. IsOne is_one (value_if_ok (option_map_or (λ field. cond (is_one field) (Ok field) (Err NotANumberField)) o (Err UnknownField)))) [
       | None ↦ refl
       | Some field ↦
           elim (is_one field) as (λ b. is_one field ≡ b → IsOne is_one (value_if_ok (cond b (Ok field) (Err NotANumberField))))
@@ -189,18 +209,22 @@ top_holds schema (Some (name, k, order)) top h =
       | Ok n ↦ λ holds is. limited schema n k order top holds is
     ] (named_holds (is_number_field schema) schema name) h
 
-parts_fit : (schema : List Field) (groups : Option (List ℕ)) (asked : Option (List ℕ × ℕ × Order)) (request : Request) (g : Result (Option ℕ) Refusal) (t : Result (Option Top) Refusal) →
-    groups_of schema groups ≡ g → top_of schema asked ≡ t → result_and_then (λ field. result_map (λ list. record { groups = field; top = list }) t) g ≡ Ok request → request_fits schema request ≡ true
+parts_fit : (schema : List Field) (groups : Option (List ℕ)) (asked : Option (List ℕ × ℕ × Order)) (request : Request) (g : Result (Option ℕ) Refusal)
+    (t : Result (Option Top) Refusal) →
+    groups_of schema groups ≡ g → top_of schema asked ≡ t → result_and_then (λ field. result_map (λ list. record { groups = field; top = list }) t) g
+    ≡ Ok request → request_fits schema request ≡ true
 parts_fit schema groups asked request (Err e) t gs ts h = cc
 parts_fit schema groups asked request (Ok field) (Err e) gs ts h = cc
 parts_fit schema groups asked request (Ok field) (Ok top) gs ts h =
     let here : Request = record { groups = field; top = top } in
     let same : here ≡ request = cc in
     subst (λ r. request_fits schema r ≡ true) same
-    (ap (λ b. b && option_map_or (λ (t : Top). is_number_field schema t.by && is_limit t.k) top true) (groups_hold schema groups field gs) ∙ top_holds schema asked top ts)
+    (ap (λ b. b && option_map_or (λ (t : Top). is_number_field schema t.by && is_limit t.k) top true) (groups_hold schema groups field gs) ∙ top_holds schema
+    asked top ts)
 
 -- a request fits the schema under which it was read
-pub request_of_fits : (schema : List Field) (groups : Option (List ℕ)) (asked : Option (List ℕ × ℕ × Order)) (request : Request) → request_of schema groups asked ≡ Ok request →
+pub request_of_fits : (schema : List Field) (groups : Option (List ℕ)) (asked : Option (List ℕ × ℕ × Order)) (request : Request) →
+    request_of schema groups asked ≡ Ok request →
     request_fits schema request ≡ true
 request_of_fits schema groups asked request h = parts_fit schema groups asked request (groups_of schema groups) (top_of schema asked) refl refl h
 

@@ -1,5 +1,5 @@
 // What a script needs of an index, however it is kept.
-ghost use Rattle.std.specs.Prelude.{◌≡◌, ◌+◌, ◌^◌, ◌≤◌, ℕ, true, Ok, IfOk};
+ghost use Rattle.std.specs.Prelude.{◌≡◌, ◌+◌, ◌^◌, ◌≤◌, ℕ, true, Ok, IfOk, OnOk};
 ghost use Rattle.std.specs.Thread.{IsSync};
 ghost use Rattle.fts_base.specs.Results.{Gives};
 ghost use Rattle.fts_model.specs.QueryValues.{query_value};
@@ -22,6 +22,9 @@ pub trait Engine {
 
     /// A bound on what an engine counts: it rises by at most one in each call that may change the index.
     ghost changes: { Self → ℕ };
+
+    /// How many segments keep the last commit; 0 if it isn't kept in segments.
+    ghost segments: { Self → ℕ };
 
     /// The schema of all documents.
     fn schema(&self) -> &Schema
@@ -79,6 +82,7 @@ pub trait EngineOver<R: AllocGlobal + Sync>: Engine {
         requires { Self.changes self.old ≤ 2 ^ 61 }
         ensures step { Steps (merge indexes (Self.index self.old)) (Self.index self.old)
             (Self.index self.new) result }
+        ensures one { OnOk result (Self.segments self.new ≤ 1) }
         ensures changes { Self.changes self.new ≤ Self.changes self.old + 1 };
 
     /// The answer over the documents of the last commit. The only refusal is `Memory`.

@@ -148,6 +148,8 @@ impl Engine for ListEngine {
 
     ghost changes = { λ e. e.commit_stamp + length e.uncommitted.items };
 
+    ghost segments = { λ e. 0 };
+
     fn schema(&self) -> &Schema {
         &self.schema
     }

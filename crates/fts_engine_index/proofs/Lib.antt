@@ -1,3 +1,2 @@
 pub mod CommitLemmas
 pub mod EngineLemmas
-pub mod MergeLemmas

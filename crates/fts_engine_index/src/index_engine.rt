@@ -3,14 +3,15 @@ ghost use Rattle.std.specs.Prelude.{◌≡◌, IfOk, IsOkUnless};
 ghost use Rattle.fts_index.specs.Publications.{IsOneCommit};
 ghost use Rattle.fts_engine_index.specs.WriterIndexes.{IsReaderOf};
 
-use crate::segments::{merge_all, merge_behind};
 use crate::threads::threads_for;
 use crate::uncommitted;
 use crate::uncommitted::Uncommitted;
 use fts_engine::{Engine, EngineOver, Options};
+use fts_engine_local::merge_after;
 use fts_index::{CommitSeen, Reader, Searcher, SegmentInfo, Writer};
 use fts_model::{Answer, Op, Query, Refusal, Request, Schema, Stamp};
 use fts_pool::Open;
+use fts_snapshots::{MergePolicy, merge_all};
 use std::alloc::Global;
 use std::marker::Model;
 use std::sync::Wait;
@@ -110,9 +111,13 @@ impl IndexEngine {
 }
 
 impl Engine for IndexEngine {
+    ghost use Rattle.std.specs.Prelude.{length};
+
     ghost index = { λ e. e.index };
 
     ghost changes = { λ e. e.calls };
+
+    ghost segments = { λ e. length e.segments };
 
     fn schema(&self) -> &Schema {
         self.writer.schema()
@@ -162,7 +167,13 @@ impl<R: AllocGlobal + Threads + Wait + Sync> EngineOver<R> for IndexEngine {
             options,
         )?;
         self.count = 0;
-        merge_behind(rt, alloc, &mut self.writer, options.merge);
+        let _ = merge_after(
+            rt,
+            alloc,
+            &mut self.writer,
+            options.merge,
+            &MergePolicy::usual(),
+        );
         tell(&mut self.reader, &committed.seen);
         look(&self.writer, &mut self.reader);
         Ok(committed.stamp)

@@ -13,7 +13,6 @@
 #![tactic(auto)]
 
 mod index_engine;
-mod segments;
 mod threads;
 mod uncommitted;
 

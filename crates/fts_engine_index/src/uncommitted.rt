@@ -2,11 +2,12 @@
 ghost use Rattle.std.specs.Prelude.{◌≡◌, ◌≢◌, ◌+◌, ◌*◌, ◌^◌, ◌<◌, ◌≤◌, ◌⊎◌, ◌++◌, [], ◌∷◌, None};
 ghost use Rattle.std.specs.Prelude.{Some, length, IfOk, IfErr, OnOk, OnErr, IsOkUnless};
 ghost use Rattle.fts_rounds.specs.Rounds.{fresh};
+ghost use Rattle.fts_snapshots.specs.Changes.{Commits};
 ghost use Rattle.fts_snapshots.specs.Commits.{misfit};
 ghost use Rattle.fts_engine_index.specs.UncommittedOperations.{HasOneLane, IsBatchOf, IsItsBatch, IsItsEnd};
-ghost use Rattle.fts_engine_index.specs.UncommittedOperations.{IsItsLane, IsOpen, IsUncommittedIn, StayUncommitted, Submits};
+ghost use Rattle.fts_engine_index.specs.UncommittedOperations.{IsItsLane, IsOpen, IsUncommittedIn, StayUncommitted};
+ghost use Rattle.fts_engine_index.specs.UncommittedOperations.{Submits};
 ghost use Rattle.fts_engine_index.specs.UncommittedOperations.{first_ops, ops_of};
-ghost use Rattle.fts_engine_index.specs.WriterIndexes.{Commits};
 
 use fts_engine::{MOST_UNCOMMITTED, Options};
 use fts_index::{Batch, Committed, Lane, LaneEnd, Round, Writer};
@@ -183,8 +184,12 @@ pub fn commit<R: Threads + Wait + Sync>(
     requires rounds { writer.old.rounds ≤ 2 ^ 61 }
     requires numbers { writer.old.front.snapshot.next_id + length (ops_of uncommitted.old) ≤ 2 ^ 62 }
     requires fit { misfit writer.old.front.snapshot.schema (ops_of uncommitted.old) ≡ None }
-    ensures commits { OnOk result (Commits (ops_of uncommitted.old) writer.old writer.new) }
+    ensures commits { OnOk result (Commits (ops_of uncommitted.old)
+        writer.old.front.snapshot writer.new.front.snapshot) }
     ensures stamp { IfOk result (λ c. c.stamp ≡ writer.new.front.stamp) }
+    ensures later { OnOk result (writer.new.front.stamp
+        ≡ writer.old.front.stamp + length (ops_of uncommitted.old) + 1) }
+    ensures of { OnOk result (writer.new.front.seen.of ≡ writer.old.front.seen.of) }
     ensures seen { IfOk result (λ c. c.seen.of ≡ writer.new.front.seen.of) }
     ensures done { OnOk result (uncommitted.new ≡ Uncommitted.Nothing) }
     ensures front { OnErr result (writer.new.front ≡ writer.old.front) }

@@ -1,3 +1,4 @@
 -- The lemmas.
+pub mod CountedLemmas
 pub mod LocalLemmas
 pub mod StatsLemmas

@@ -5,9 +5,7 @@ use Rattle.std.specs.List.{AllByRecursion}
 use Rattle.std.proofs.lemmas.List.Elements.{recursion_from_All}
 use Rattle.std.proofs.lemmas.List.Sums.{sum_by-cons, count_by-le-length}
 use Rattle.fts_snapshots.specs.Entries.{EntryValue, IsEntry, has_live, live_count}
-use Rattle.fts_snapshots.specs.Infos.{info_of}
 use Rattle.fts_snapshots.specs.Snapshots.{SnapshotValue, IsSnapshot, content_of}
-use Rattle.fts_snapshots.specs.declared.entries.entry.SegmentInfo.{SegmentInfo}
 use Rattle.fts_snapshots.proofs.CountLemmas.{live_documents}
 use Rattle.fts_snapshots.proofs.EntryLemmas.{some_counted}
 use Rattle.fts_engine_local.specs.Stats.{capped, documents_in, stats_of}
@@ -42,25 +40,29 @@ capped_rises a b h =
 
 live_or_not : (es : List EntryValue) → AllByRecursion IsEntry es → sum_by live_count es ≤ sum_by documents_in es
 live_or_not [] a = omega arith
-live_or_not (e ∷ es) a = omega (arith, live_or_not es a.1, sum_by-cons live_count e es, sum_by-cons documents_in e es, count_by-le-length (λ bit. bit) e.live, a.0.bits)
+live_or_not (e ∷ es) a =
+    omega (arith, live_or_not es a.1, sum_by-cons live_count e es, sum_by-cons documents_in e es, count_by-le-length (λ bit. bit) e.live, a.0.bits)
 
 each_has_one : (es : List EntryValue) → AllByRecursion (λ e. has_live e ≡ true) es → length es ≤ sum_by live_count es
 each_has_one [] a = omega arith
 each_has_one (e ∷ es) a = omega (arith, each_has_one es a.1, sum_by-cons live_count e es, ltb-true 0 (live_count e) (some_counted e.live ∙ a.0))
 
-sum_of_infos : (es : List EntryValue) → sum_by (λ (info : SegmentInfo). info.live) (map info_of es) ≡ sum_by live_count es
-sum_of_infos [] = refl
-sum_of_infos (e ∷ es) = omega (arith, sum_of_infos es, sum_by-cons (λ (info : SegmentInfo). info.live) (info_of e) (map info_of es), sum_by-cons live_count e es)
-
 module _ (s : SnapshotValue) (i : IsSnapshot s) (few : length (content_of s) < 2 ^ 64) where
   counted : sum_by live_count s.entries ≡ length (content_of s)
-  counted = sym (sum_of_infos s.entries) ∙ live_documents s (map info_of s.entries) i refl
+  counted = live_documents s i
 
   pub live_are_documents : (stats_of s.entries).live ≡ length (content_of s)
   live_are_documents = capped_within (sum_by live_count s.entries) (omega (arith, counted, few)) ∙ counted
 
   pub segments_have_live : (stats_of s.entries).segments ≤ (stats_of s.entries).live
-  segments_have_live = omega (arith, live_are_documents, counted, each_has_one s.entries (recursion_from_All (λ (e : EntryValue). has_live e ≡ true) s.entries i.live))
+  segments_have_live = omega (
+    arith,
+    live_are_documents,
+    counted,
+    each_has_one s.entries (recursion_from_All (λ (e : EntryValue). has_live e ≡ true) s.entries
+        i.live),
+  )
 
   pub live_are_within : (stats_of s.entries).live ≤ (stats_of s.entries).documents
-  live_are_within = capped_rises (sum_by live_count s.entries) (sum_by documents_in s.entries) (live_or_not s.entries (recursion_from_All IsEntry s.entries i.each))
+  live_are_within = capped_rises (sum_by live_count s.entries) (sum_by documents_in s.entries)
+      (live_or_not s.entries (recursion_from_All IsEntry s.entries i.each))

@@ -1,3 +1,4 @@
 -- The definitions that contracts cite.
+pub mod CountedIndexes
 pub mod LocalIndexes
 pub mod Stats

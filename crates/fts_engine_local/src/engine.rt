@@ -1,13 +1,12 @@
 // An index over segments that needs nothing but memory: no other thread, and nothing to wait for.
 ghost use Rattle.std.specs.Prelude.{◌≡◌, ◌+◌, ◌^◌, ◌<◌, ◌++◌, ◌∷◌, [], OnOk, OnErr};
 
-use crate::changes::{merge_all, merge_behind, next_commit};
-use crate::commit::LocalCommit;
+use crate::merges::{merge_after, policy};
+use crate::next_commit::next_commit;
 use crate::stats::{Stats, stats_of};
 use fts_engine::{Engine, EngineOver, Fork, MOST_UNCOMMITTED, Merge, Options, Pairs};
 use fts_model::{Answer, Cut, Op, Query, Refusal, Request, Schema, Stamp, Stamped};
-use fts_snapshots::Snapshot;
-use fts_snapshots::searches::search_alone;
+use fts_snapshots::{Commit, Snapshot, merge_all, search_alone};
 use std::alloc::{AllocError, Global};
 use std::marker::Model;
 use std::sync::Arc;
@@ -61,7 +60,7 @@ pub struct LocalEngine {
     alloc: Global,
     cut: Cut,
     merge: Merge,
-    commit: Arc<LocalCommit>,
+    commit: Arc<Commit>,
     uncommitted: Vec<Stamped<Op>>,
     /// How many calls changed something.
     calls: u64,
@@ -69,13 +68,14 @@ pub struct LocalEngine {
 
 impl Model for LocalEngine {
     ghost use Rattle.std.specs.Arc.{arc_value};
-    ghost use Rattle.fts_engine_local.specs.LocalIndexes.{IsLocalEngine, LocalValue, local_index};
+    ghost use Rattle.fts_engine_local.specs.CountedIndexes.{index_at};
+    ghost use Rattle.fts_engine_local.specs.LocalIndexes.{IsLocalEngine, LocalValue};
     ghost use Rattle.fts_engine_local.specs.Stats.{stats_of};
 
     ghost Value = { LocalValue };
 
     ghost view = { λ e. record {
-      index = local_index (arc_value e.commit) e.uncommitted.items;
+      index = index_at (arc_value e.commit).stamp (arc_value e.commit).snapshot e.uncommitted.items;
       calls = e.calls;
       stats = stats_of (arc_value e.commit).snapshot.entries;
     } };
@@ -116,6 +116,8 @@ impl Engine for LocalEngine {
     ghost index = { λ e. e.index };
 
     ghost changes = { λ e. e.calls };
+
+    ghost segments = { λ e. e.stats.segments };
 
     fn schema(&self) -> &Schema {
         self.commit.snapshot.schema()
@@ -161,7 +163,7 @@ impl<R: AllocGlobal + Sync> EngineOver<R> for LocalEngine {
     fn open(rt: &R, options: Options, schema: Schema) -> Result<Self, Refusal> {
         let alloc = rt.alloc();
         let snapshot = Snapshot::new(alloc, schema);
-        let commit = Arc::new(alloc, LocalCommit { stamp: 0, snapshot })?;
+        let commit = Arc::new(alloc, Commit { stamp: 0, snapshot })?;
         Ok(LocalEngine {
             alloc,
             cut: options.cut,
@@ -172,10 +174,10 @@ impl<R: AllocGlobal + Sync> EngineOver<R> for LocalEngine {
         })
     }
 
-    fn commit(&mut self, _rt: &R) -> Result<Stamp, Refusal> {
+    fn commit(&mut self, rt: &R) -> Result<Stamp, Refusal> {
         self.calls += 1;
         let mut commit = next_commit(self.alloc, &self.commit, &self.uncommitted, self.cut)?;
-        merge_behind(self.alloc, &mut commit, self.merge);
+        let _ = merge_after(rt, self.alloc, &mut commit, self.merge, &policy());
         self.commit = commit;
         let_go(&mut self.uncommitted);
         Ok(self.commit.stamp)
@@ -187,9 +189,9 @@ impl<R: AllocGlobal + Sync> EngineOver<R> for LocalEngine {
         Ok(self.commit.stamp)
     }
 
-    fn merge(&mut self, _rt: &R) -> Result<u64, Refusal> {
+    fn merge(&mut self, rt: &R) -> Result<u64, Refusal> {
         self.calls += 1;
-        merge_all(self.alloc, &mut self.commit)
+        merge_all(rt, self.alloc, &mut self.commit)
     }
 
     fn search(&mut self, rt: &R, query: &Query, request: &Request) -> Result<Answer, Refusal> {

@@ -10,10 +10,11 @@
 //! ```
 #![tactic(auto)]
 
-mod changes;
-mod commit;
 mod engine;
+mod merges;
+mod next_commit;
 mod stats;
 
 pub use engine::LocalEngine;
+pub use merges::merge_after;
 pub use stats::Stats;

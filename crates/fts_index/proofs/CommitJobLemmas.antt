@@ -10,19 +10,22 @@ use Rattle.fts_snapshots.proofs.JobLemmas.{kept_in_turn}
 use Rattle.fts_index.specs.CommitJobs.{AreAnswers}
 
 -- the answer of a job is its own
-answer_at : (jobs : List CommitJob) (results : List (Result EntryValue Refusal)) (k : ℕ) (job : CommitJob) (result : Result EntryValue Refusal) → AreAnswers jobs results → k < length results →
+answer_at : (jobs : List CommitJob) (results : List (Result EntryValue Refusal)) (k : ℕ) (job : CommitJob) (result : Result EntryValue Refusal) →
+    AreAnswers jobs results → k < length results →
     result ≡ get_or results k result → Answers (get_or jobs k job) result
 answer_at jobs results k job result a l e = subst (λ r. Answers (get_or jobs k job) r) (sym e) (a.each k job result (omega (arith, l, a.count)))
 
 -- a job refuses for memory alone
-pub memory_only : (jobs : List CommitJob) (results : List (Result EntryValue Refusal)) (k : ℕ) (result : Result EntryValue Refusal) (refusal : Refusal) → AreAnswers jobs results → k < length results →
+pub memory_only : (jobs : List CommitJob) (results : List (Result EntryValue Refusal)) (k : ℕ) (result : Result EntryValue Refusal) (refusal : Refusal) →
+    AreAnswers jobs results → k < length results →
     result ≡ get_or results k result → result ≡ Err refusal → refusal ≡ Memory
 memory_only [] results k result refusal a l e f = absurd (omega (arith, l, a.count))
 memory_only (job ∷ jobs) results k result refusal a l e f =
     (subst (λ r. Answers (get_or (job ∷ jobs) k job) r) f (answer_at (job ∷ jobs) results k job result a l e)).1
 
 -- one job's segment more
-pub kept_more : (jobs : List CommitJob) (results : List (Result EntryValue Refusal)) (k : ℕ) (result : Result EntryValue Refusal) (entry : EntryValue) (kept : List EntryValue) → AreAnswers jobs results →
+pub kept_more : (jobs : List CommitJob) (results : List (Result EntryValue Refusal)) (k : ℕ) (result : Result EntryValue Refusal) (entry : EntryValue)
+    (kept : List EntryValue) → AreAnswers jobs results →
     k < length results → result ≡ get_or results k result → result ≡ Ok entry → kept ≡ filter has_live (map entry_of (take k jobs)) →
     kept ++ filter has_live (entry ∷ []) ≡ filter has_live (map entry_of (take (k + 1) jobs))
 kept_more [] results k result entry kept a l e f h = absurd (omega (arith, l, a.count))

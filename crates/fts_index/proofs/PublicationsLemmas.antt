@@ -1,5 +1,6 @@
 -- Lists of publications: beginnings of one list, and one publication more.
-use Rattle.std.proofs.Common.{◌≡◌, ℕ, ◌<◌, ◌≤◌, List, [], ◌∷◌, ◌++◌, length, slice_index_or, fold, Some, refl, ap, sym, ◌∙◌, subst, arith, length-append, append-nil, ⊎_elim}
+use Rattle.std.proofs.Common.{◌≡◌, ℕ, ◌<◌, ◌≤◌, List, [], ◌∷◌, ◌++◌, length, slice_index_or, fold, Some, refl, ap, sym, ◌∙◌, subst, arith, length-append}
+use Rattle.std.proofs.Common.{append-nil, ⊎_elim}
 use Rattle.std.specs.Prelude.{AllPairs}
 use Rattle.std.proofs.Math.ListN.{get_or-append}
 use Rattle.std.proofs.Math.Nat.{eq-or-lt_of_le}
@@ -60,8 +61,10 @@ newest_after : (list : List Publication) (k : ℕ) (d : Publication) → AllPair
 newest_after [] k d pairs at = absurd (omega arith)
 newest_after (p ∷ ps) k d pairs at =
     ⊎_elim
-    (λ (same : k ≡ length ps). subst (λ (q : Publication). Follows q (newest (p ∷ ps))) (sym (ap (λ i. slice_index_or (p ∷ ps) i d) same ∙ newest_at p ps d)) (follows_self (newest (p ∷ ps))))
-    (λ (less : k < length ps). subst (λ (q : Publication). Follows (slice_index_or (p ∷ ps) k d) q) (newest_at p ps d) (pairs k (length ps) d less (omega arith)))
+    (λ (same : k ≡ length ps). subst (λ (q : Publication). Follows q (newest (p ∷ ps))) (sym (ap (λ i. slice_index_or (p ∷ ps) i d) same ∙ newest_at p ps d))
+    (follows_self (newest (p ∷ ps))))
+    (λ (less : k < length ps). subst (λ (q : Publication). Follows (slice_index_or (p ∷ ps) k d) q) (newest_at p ps d)
+    (pairs k (length ps) d less (omega arith)))
     (eq-or-lt_of_le (omega arith))
 
 -- the opening may be published
@@ -84,7 +87,8 @@ published_snoc (p ∷ ps) q are next = record {
 rest_follows : (x : Publication) (xs rest : List Publication) → ArePublications ((x ∷ xs) ++ rest) → Follows (newest (x ∷ xs)) (newest ((x ∷ xs) ++ rest))
 rest_follows x xs rest are =
     let here : slice_index_or ((x ∷ xs) ++ rest) (length xs) x ≡ newest (x ∷ xs) = get_or-append (x ∷ xs) rest x (length xs) (omega arith) ∙ newest_at x xs x in
-    subst (λ (q : Publication). Follows q (newest ((x ∷ xs) ++ rest))) here (newest_after ((x ∷ xs) ++ rest) (length xs) x are.follow (omega (arith, length-append xs rest)))
+    subst (λ (q : Publication). Follows q (newest ((x ∷ xs) ++ rest))) here (newest_after ((x ∷ xs) ++ rest) (length xs) x are.follow
+    (omega (arith, length-append xs rest)))
 
 -- of a beginning and the whole, the newest follow one another
 pub newest_follows : (known more : List Publication) → IsPrefix known more → ArePublications known → ArePublications more → Follows (newest known) (newest more)
@@ -98,7 +102,8 @@ pub newest_alike : (xs ys both : List Publication) → IsPrefix xs both → IsPr
 newest_alike xs ys both p q are others =
     ⊎_elim
     (λ (less : length xs < length ys). let f = newest_follows xs ys (prefix_shorter xs ys both p q (omega arith)) are others in (f.schema, f.content))
-    (λ (least : length ys ≤ length xs). let f = newest_follows ys xs (prefix_shorter ys xs both q p least) others are in (sym f.schema, λ same. sym (f.content (sym same))))
+    (λ (least : length ys ≤ length xs). let f = newest_follows ys xs (prefix_shorter ys xs both q p least) others are in
+    (sym f.schema, λ same. sym (f.content (sym same))))
     (cases_lt (length xs) (length ys))
 
 -- the last publication has the schema of the snapshot
@@ -106,7 +111,8 @@ pub front_schema : (f : FrontValue) → IsFront f → f.snapshot.schema ≡ sche
 front_schema f is = sym (ap (λ (n : Publication). n.schema) is.last)
 
 -- two fronts of one list are of one commit where their stamps are equal
-pub one_commit : (a b : FrontValue) (both : List Publication) → IsPrefix a.seen.list both → IsPrefix b.seen.list both → IsFront a → IsFront b → a.stamp ≡ b.stamp → IsOneCommit a b
+pub one_commit : (a b : FrontValue) (both : List Publication) → IsPrefix a.seen.list both → IsPrefix b.seen.list both → IsFront a → IsFront b →
+    a.stamp ≡ b.stamp → IsOneCommit a b
 one_commit a b both p q mine other same =
     let alike = newest_alike a.seen.list b.seen.list both p q mine.legal other.legal in
     record {

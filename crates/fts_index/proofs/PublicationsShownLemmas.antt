@@ -1,5 +1,6 @@
 -- The steps over the shown front keep the rule: a front of one writer is in for another.
-use Rattle.std.proofs.Common.{◌≡◌, ◌≢◌, ℕ, Result, Ok, Err, OnOk, MatchResult, List, [], ◌∷◌, ◌++◌, set, Some, None, Option, refl, ap, ◌∙◌, subst, ⊎_elim, fold, sym}
+use Rattle.std.proofs.Common.{◌≡◌, ◌≢◌, ℕ, Result, Ok, Err, OnOk, MatchResult, List, [], ◌∷◌, ◌++◌, set, Some, None, Option, refl, ap, ◌∙◌, subst, ⊎_elim, fold}
+use Rattle.std.proofs.Common.{sym}
 use mathlib.Core.Option.{some}
 use lib.ListN.{get_elem?}
 use Rattle.logbook.specs.Pages.{Book}
@@ -12,7 +13,8 @@ use Rattle.fts_index.specs.PublicationsShown.{name_of, KnowsName, IsOfOne, Looks
 
 set_knows : (x : FrontValue) (views : List (Option Name)) (seat : ℕ) (w : Option Name) → IsOfOne x views → KnowsName w x.seen.of → IsOfOne x (set views seat w)
 set_knows x views seat w h new j u e =
-    ⊎_elim (λ (t : (j ≡ seat) × (w ≡ u)). subst (λ (v : Option Name). KnowsName v x.seen.of) t.1 new) (λ (t : (j ≢ seat) × (get_elem? views j ≡ some u)). h j u t.1) (at_set views seat j w u e)
+    ⊎_elim (λ (t : (j ≡ seat) × (w ≡ u)). subst (λ (v : Option Name). KnowsName v x.seen.of) t.1 new) (λ (t : (j ≢ seat) × (get_elem? views j ≡ some u)). h j u
+    t.1) (at_set views seat j w u e)
 
 snoc_knows : (x : FrontValue) (views : List (Option Name)) (w : Option Name) → IsOfOne x views → KnowsName w x.seen.of → IsOfOne x (views ++ w ∷ [])
 snoc_knows x views w h new j u e =
@@ -36,7 +38,9 @@ forks seat v x views h at = snoc_knows x (set views seat v) v (set_knows x views
 
 pub merges : (seat : ℕ) (v : Option Name) (other : ℕ) (w : Option Name) → Merges IsOfOne seat v other w w None
 merges seat v other w x views h at apart there =
-    let told : KnowsName w x.seen.of = ⊎_elim (λ (t : (other ≡ seat) × (w ≡ w)). absurd (apart t.0)) (λ (t : (other ≢ seat) × (get_elem? views other ≡ some w)). h other w t.1) (at_set views seat other w w there) in
+    let told : KnowsName w x.seen.of =
+    ⊎_elim (λ (t : (other ≡ seat) × (w ≡ w)). absurd (apart t.0)) (λ (t : (other ≢ seat) × (get_elem? views other ≡ some w)). h other w t.1)
+    (at_set views seat other w w there) in
     set_knows x (set views seat w) other None (set_knows x views seat w h told) tt
 
 -- of pending operations the last is what is shown after them
@@ -44,11 +48,13 @@ last_pending : (old front : FrontValue) (pending before : List FrontValue) → p
 last_pending old front pending before e = ap (fold (λ f o. o) old) e ∙ fold_last old before front
 
 -- what is shown next is of the writer of the front that was appended
-pub of_next : (old next front : FrontValue) (pending before : List FrontValue) → old.seen.of ≡ front.seen.of → pending ≡ before ++ front ∷ [] → next ≡ fold (λ (f : FrontValue) o. o) old pending → old.seen.of ≡ next.seen.of
+pub of_next : (old next front : FrontValue) (pending before : List FrontValue) → old.seen.of ≡ front.seen.of → pending ≡ before ++ front ∷ [] →
+    next ≡ fold (λ (f : FrontValue) o. o) old pending → old.seen.of ≡ next.seen.of
 of_next old next front pending before of e is = of ∙ sym (ap (λ f. f.seen.of) (is ∙ last_pending old front pending before e))
 
 -- whether the step went through or not, the front that is shown is of the writer
-pub of_shown : {A B : Type 0} (P Q : Type 0) (r : Result A B) (new old front : FrontValue) (pending before : List FrontValue) → old.seen.of ≡ front.seen.of → pending ≡ before ++ front ∷ []
+pub of_shown : {A B : Type 0} (P Q : Type 0) (r : Result A B) (new old front : FrontValue) (pending before : List FrontValue) → old.seen.of ≡ front.seen.of →
+    pending ≡ before ++ front ∷ []
     → MatchResult r (λ _. (new ≡ fold (λ (f : FrontValue) o. o) old pending) × P) (λ _. (new ≡ old) × Q) → new.seen.of ≡ front.seen.of
 of_shown P Q (Ok a) new old front pending before of e h = ap (λ f. f.seen.of) (h.0 ∙ last_pending old front pending before e)
 of_shown P Q (Err f) new old front pending before of e h = ap (λ f. f.seen.of) h.0 ∙ of
@@ -60,7 +66,8 @@ is_shown P Q (Ok a) new old front pending before e h = h.0 ∙ last_pending old 
 is_shown P Q (Err f) new old front pending before e h = tt
 
 -- and where it did, the publisher's seat knows the writer
-pub seat_shown : {A B : Type 0} (r : Result A B) (first v w : Option Name) (x y : FrontValue) (b : Book) → v ≡ first → y.seen.of ≡ b → MatchResult r (λ _. Looks v x y w) (λ _. w ≡ v)
+pub seat_shown : {A B : Type 0} (r : Result A B) (first v w : Option Name) (x y : FrontValue) (b : Book) → v ≡ first → y.seen.of ≡ b →
+    MatchResult r (λ _. Looks v x y w) (λ _. w ≡ v)
     → MatchResult r (λ _. w ≡ Some (name_of b)) (λ _. w ≡ first)
 seat_shown (Ok a) first v w x y b same of h = h.1 ∙ ap (λ k. Some (name_of k)) of
 seat_shown (Err f) first v w x y b same of h = h ∙ same

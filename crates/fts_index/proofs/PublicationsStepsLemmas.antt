@@ -1,5 +1,6 @@
 -- The exchange that adds a publication keeps the rule of the book.
-use Rattle.std.proofs.Common.{◌≡◌, ℕ, ◌+◌, ◌<◌, ◌==◌, Bool, true, false, List, [], ◌∷◌, ◌++◌, length, refl, ap, sym, subst, ◌∙◌, arith, inl, length-append, None}
+use Rattle.std.proofs.Common.{◌≡◌, ℕ, ◌+◌, ◌<◌, ◌==◌, Bool, true, false, List, [], ◌∷◌, ◌++◌, length, refl, ap, sym, subst, ◌∙◌, arith, inl, length-append}
+use Rattle.std.proofs.Common.{None}
 use Rattle.std.proofs.lemmas.List.{append-nil}
 use Rattle.std.proofs.lemmas.Bool.Decides.{nat_tests}
 use mathlib.Core.List.{IsPrefix}
@@ -16,7 +17,8 @@ shown list = []
 abbrev pub moved : List Publication → List Publication → ℕ → Type 0
 moved xs ys n = Unit {0}
 
-pub append_goes : (list v : List Publication) (e : Publication) (old new behind : ℕ) → new ≡ old + 1 → length v ≡ old + 1 → ArePublications (v ++ e ∷ []) → length list ≡ behind + 1 → ArePublications list →
+pub append_goes : (list v : List Publication) (e : Publication) (old new behind : ℕ) → new ≡ old + 1 → length v ≡ old + 1 → ArePublications (v ++ e ∷ []) →
+    length list ≡ behind + 1 → ArePublications list →
     IsPrefix v list → (b : Bool) → (behind == old) ≡ b
     → Goes IsKept shown moved 0 (v, (no_nib, None)) (λ n. either (n == old) new n) (Appends (step 0 old new e) (v, (no_nib, None))) ((behind, true) ∷ []) list
 append_goes list v e old new behind more len may count legal pre true is =
@@ -56,5 +58,6 @@ append_goes list v e old new behind more len may count legal pre false is =
 pub append_moves : (v : List Publication) (e : Publication) (old new : ℕ) → new ≡ old + 1 → length v ≡ old + 1 → ArePublications (v ++ e ∷ [])
     → Moves IsKept shown moved 0 (v, (no_nib, None)) (λ n. either (n == old) new n) (Appends (step 0 old new e) (v, (no_nib, None)))
 append_moves v e old new more len may cs list kept pre away =
-    let P : List Cell → Type 0 = λ c. (0 < length c) × ((cell c 0).1 ≡ true) × Goes IsKept shown moved 0 (v, (no_nib, None)) (λ n. either (n == old) new n) (Appends (step 0 old new e) (v, (no_nib, None))) c list in
+    let P : List Cell → Type 0 = λ c. (0 < length c) × ((cell c 0).1 ≡ true) × Goes IsKept shown moved 0 (v, (no_nib, None)) (λ n. either (n == old) new n)
+    (Appends (step 0 old new e) (v, (no_nib, None))) c list in
     subst P (sym kept.words) (omega arith, refl, append_goes list v e old new kept.behind more len may kept.count kept.legal pre (kept.behind == old) refl)

@@ -17,8 +17,10 @@ told_at : (query : QueryValue) (request : Request) (job : SearchJob) (answer : R
 told_at query request job answer entry part h e f = (subst (Tells (asks query request entry)) f (subst (λ (a : Asked). Tells a answer) e h)).0
 
 -- the answers of the jobs are parts of their segments
-pub parts_told : (query : QueryValue) (request : Request) (jobs : List SearchJob) (answers : List (Result PartValue Refusal)) (entries : List EntryValue) (parts : List PartValue) →
-    AllZip AnswersSearch jobs answers → map asked_of jobs ≡ map (asks query request) entries → answers ≡ map (λ part. Ok part) parts → AllZip (IsPartOf query request) entries parts
+pub parts_told : (query : QueryValue) (request : Request) (jobs : List SearchJob) (answers : List (Result PartValue Refusal)) (entries : List EntryValue)
+    (parts : List PartValue) →
+    AllZip AnswersSearch jobs answers → map asked_of jobs ≡ map (asks query request) entries → answers ≡ map (λ part. Ok part) parts →
+    AllZip (IsPartOf query request) entries parts
 parts_told query request [] [] [] [] z e f = tt
 parts_told query request [] [] [] (part ∷ parts) z e f = cc
 parts_told query request [] [] (entry ∷ entries) parts z e f = cc
@@ -34,7 +36,8 @@ parts_told query request (job ∷ jobs) (answer ∷ answers) (entry ∷ entries)
     (told_at query request job answer entry part z.0 first told, parts_told query request jobs answers entries parts z.1 others rest)
 
 -- a job refuses for memory alone
-pub refused_for_memory : (jobs : List SearchJob) (answers : List (Result PartValue Refusal)) (refusal : Refusal) → AllZip AnswersSearch jobs answers → Contains answers (Err refusal) → refusal ≡ Memory
+pub refused_for_memory : (jobs : List SearchJob) (answers : List (Result PartValue Refusal)) (refusal : Refusal) → AllZip AnswersSearch jobs answers →
+    Contains answers (Err refusal) → refusal ≡ Memory
 refused_for_memory [] [] refusal z c = absurd (Contains-none (Err refusal) c)
 refused_for_memory [] (answer ∷ answers) refusal z c = absurd z
 refused_for_memory (job ∷ jobs) [] refusal z c = absurd z

@@ -37,7 +37,7 @@ mod searches;
 mod writer;
 
 pub use fts_model::Cut;
-pub use fts_rounds::{Batch, Lane, LaneEnd, Round, RoundLimits, open_round};
+pub use fts_rounds::{Batch, Lane, LaneEnd, Round, RoundLimits};
 pub use fts_snapshots::{CommitJob, Entry, MergeJob, MergedSegment, SegmentInfo, Snapshot};
 pub use publications::{CommitSeen, Publisher, Reader, Searcher};
 pub use searches::Found;

@@ -25,7 +25,6 @@
 //! ```
 
 mod cells;
-mod commit;
 mod front;
 mod history;
 pub mod laws;

@@ -20,14 +20,11 @@ use crate::publications::{CommitSeen, Publisher, Reader, Searcher};
 use fts_model::{Cut, Op, Refusal, Schema, Stamp, Stamped};
 use fts_pool::Gate;
 use fts_rounds::{Batch, Lane, Round, RoundLimits, open_round};
-use fts_snapshots::{MergeJob, MergedSegment, SegmentInfo, Snapshot};
+use fts_snapshots::{MergeJob, Mergeable, MergedSegment, NUMBERS, SegmentInfo, Snapshot};
 use std::alloc::Global;
 use std::marker::Model;
 use std::sync::Wait;
 use std::thread::Threads;
-
-/// Stamps, rounds and segments have numbers below this one.
-const NUMBERS: u64 = 1 << 62;
 
 /// Writes an index. There is no round or one open round, from `open_round` until `commit` succeeds or `abandon`.
 ///
@@ -113,6 +110,14 @@ impl Writer {
         ensures snapshot { IsSnapshot self.now.front.snapshot }
     {
         self.publisher.snapshot().schema()
+    }
+
+    /// What the last commit left.
+    pub fn snapshot(&self) -> &Snapshot
+        ensures snapshot { result.now ≡ self.now.front.snapshot }
+        ensures front { IsFront self.now.front }
+    {
+        self.publisher.snapshot()
     }
 
     /// The last commit, to search.
@@ -332,4 +337,31 @@ impl Writer {
         } = self;
         publisher.close(rt);
     }
+}
+
+impl<R: Wait> Mergeable<R> for Writer {
+    ghost use Rattle.std.specs.Prelude.{refl};
+    ghost use Rattle.std.proofs.Common.{◌∙◌};
+    ghost use Rattle.fts_index.specs.Writers.{KeepsRounds};
+
+    ghost left = { λ w. w.front.snapshot };
+
+    ghost keeps = { KeepsRounds };
+
+    fn last_commit(&self) -> &Snapshot {
+        self.snapshot()
+    }
+
+    fn merge_segments(&mut self, rt: &R, alloc: Global, ids: &[u64]) -> Result<(), Refusal> {
+        self.merge(rt, alloc, ids)
+    }
+
+    ghost keeps_itself = { λ w. record { stamp = refl; of = refl; rounds = refl; round = refl } };
+
+    ghost keeps_further = { λ a b c ab bc. record {
+      stamp = bc.stamp ∙ ab.stamp;
+      of = bc.of ∙ ab.of;
+      rounds = bc.rounds ∙ ab.rounds;
+      round = bc.round ∙ ab.round;
+    } };
 }

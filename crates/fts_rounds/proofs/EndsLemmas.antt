@@ -10,5 +10,6 @@ below_lanes : (r : Opened) (ends : List Held) → All (IsLaneOf r) ends → AllB
 below_lanes r [] all = tt
 below_lanes r (e ∷ es) all = let head = All-head (IsLaneOf r) e es all in (head.2, below_lanes r es (All-tail (IsLaneOf r) e es all))
 
-pub as_many : (r : Opened) (ends : List Held) → All (IsLaneOf r) ends → ((n : ℕ) → times n (lanes_of ends) ≤ 1) → ((k : ℕ) → k < r.limits.lanes → 0 < times k (lanes_of ends)) → length ends ≡ r.limits.lanes
+pub as_many : (r : Opened) (ends : List Held) → All (IsLaneOf r) ends → ((n : ℕ) → times n (lanes_of ends) ≤ 1) →
+    ((k : ℕ) → k < r.limits.lanes → 0 < times k (lanes_of ends)) → length ends ≡ r.limits.lanes
 as_many r ends all once some = sym (length-map ends (λ h. h.lane)) ∙ length_each_once r.limits.lanes (lanes_of ends) (below_lanes r ends all) once some

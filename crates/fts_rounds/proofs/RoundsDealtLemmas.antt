@@ -12,7 +12,8 @@ use Rattle.fts_rounds.proofs.RoundsOrderLemmas.{times_low}
 run_once : (k a n : ℕ) → times k (range_with_len a n) ≤ 1
 run_once k a zero = omega arith
 run_once k a (suc n) = dite (ℕ_discrete k a)
-    (λ e. subst (λ (j : ℕ). times j (range_with_len a (suc n)) ≤ 1) (sym e) (let h = times_here a (range_with_len (a + 1) n) in let z = times_low a (a + 1) n (omega arith) in omega arith))
+    (λ e. subst (λ (j : ℕ). times j (range_with_len a (suc n)) ≤ 1) (sym e) (let h = times_here a (range_with_len (a + 1) n) in let z = times_low a (a + 1) n
+    (omega arith) in omega arith))
     (λ ne. let h = times_else k a (range_with_len (a + 1) n) ne in let r = run_once k (a + 1) n in omega arith)
 
 numbers_is : (ends : List Held) (a n : ℕ) → length ends ≡ n → ((i : ℕ) (d : Held) → i < n → (get_or ends i d).lane ≡ a + i) → lanes_of ends ≡ range_with_len a n
@@ -24,7 +25,8 @@ numbers_is (x ∷ xs) a (suc n) e f =
     let rest = numbers_is xs (a + 1) n (omega arith) (λ i d lt. f (suc i) d (omega arith) ∙ (let z : a + suc i ≡ (a + 1) + i = omega arith in z)) in
     λ i. head i ∷ rest i
 
-module _ (r : Opened) (lanes ends : List Held) (n : ℕ) (dealt : lanes ≡ map (fresh r) (range_with_len 0 n)) (whole : n ≡ r.limits.lanes) (len : length ends ≡ length lanes)
+module _ (r : Opened) (lanes ends : List Held) (n : ℕ) (dealt : lanes ≡ map (fresh r) (range_with_len 0 n)) (whole : n ≡ r.limits.lanes)
+    (len : length ends ≡ length lanes)
     (same : (i : ℕ) (d : Held) → i < length lanes → SameLane (get_or lanes i d) (get_or ends i d)) where
   count : length lanes ≡ n
   count = ap length dealt ∙ length-map-range_with_len (fresh r) 0 n
@@ -46,4 +48,5 @@ module _ (r : Opened) (lanes ends : List Held) (n : ℕ) (dealt : lanes ≡ map 
 
   pub all_once : (k : ℕ) → times k (lanes_of ends) ≤ 1
   all_once k = let c = count in
-      subst (λ (l : List ℕ). times k l ≤ 1) (sym (numbers_is ends 0 n (len ∙ c) (λ i d lt. (is i d lt).2 ∙ (let z : i ≡ 0 + i = omega arith in z)))) (run_once k 0 n)
+      subst (λ (l : List ℕ). times k l ≤ 1) (sym (numbers_is ends 0 n (len ∙ c) (λ i d lt. (is i d lt).2 ∙ (let z : i ≡ 0 + i = omega arith in z))))
+      (run_once k 0 n)

@@ -26,7 +26,8 @@ pub record Merging (all left : List Held) (merged : List (Stamped Op)) (limits :
   pub seat : me ≡ (drawn limits (length gone) (stamps_of merged), [])
 
 -- nothing is merged yet
-pub starts : (all : List Held) (merged : List (Stamped Op)) (limits : RoundLimits) (me : Me (Unit {0}) Drawn) → merged ≡ [] → me ≡ (drawn limits 0 [], []) → Merging all all merged limits me
+pub starts : (all : List Held) (merged : List (Stamped Op)) (limits : RoundLimits) (me : Me (Unit {0}) Drawn) → merged ≡ [] → me ≡ (drawn limits 0 [], []) →
+    Merging all all merged limits me
 starts all merged limits me none seat = record {
   gone = [];
   whole = sym (append-nil all);
@@ -56,7 +57,8 @@ goes_in all old left end merged new limits me me' mine m is rises more of_lane b
           ∙ ap (λ l. (drawn limits (length (end ∷ m.gone)) l, [])) (sym (ap stamps_of more ∙ map-append (λ (s : Stamped Op). s.stamp) merged end.ops)))));
     }
 
-module _ (all left : List Held) (merged : List (Stamped Op)) (limits : RoundLimits) (me : Me (Unit {0}) Drawn) (m : Merging all left merged limits me) (none : length left ≡ 0) where
+module _ (all left : List Held) (merged : List (Stamped Op)) (limits : RoundLimits) (me : Me (Unit {0}) Drawn) (m : Merging all left merged limits me)
+    (none : length left ≡ 0) where
   all_gone : m.gone ≡ all
   all_gone = sym (m.whole ∙ ap (λ (l : List Held). l ++ m.gone) (nil_from_length left none))
 

@@ -1,11 +1,12 @@
 -- Lists of numbers, how often each is there, and lists of numbers that rise.
-use Rattle.std.proofs.Common.{◌≡◌, ℕ, ◌<◌, ◌≤◌, List, [], ◌∷◌, ◌++◌, length, All, refl, arith}
+use Rattle.std.proofs.Common.{◌≡◌, ℕ, ◌+◌, ◌<◌, ◌≤◌, List, [], ◌∷◌, ◌++◌, length, All, refl, ap, ◌∙◌, length-append, arith}
 use Rattle.std.proofs.lemmas.List.Elements.{All-nil, All-cons}
 use Rattle.fts_model.specs.declared.operation.Op.{Op}
 use Rattle.fts_model.specs.declared.operation.Stamped.{Stamped}
 use Rattle.fts_base.specs.Totals.{times}
 use Rattle.fts_model.specs.Operations.{stamps_of}
 use Rattle.fts_rounds.specs.Rounds.{AllAbove, AllBelow, Rises}
+use Rattle.fts_model.proofs.StampLemmas.{stamps_of-push}
 
 pub AllBelow-more : (n m : ℕ) (xs : List ℕ) → n ≤ m → AllBelow n xs → AllBelow m xs
 AllBelow-more n m [] le b = tt
@@ -35,3 +36,10 @@ times-none x (y ∷ xs) e = absurd (omega arith)
 pub All-from_below : (n : ℕ) (xs : List (Stamped Op)) → AllBelow n (stamps_of xs) → All (λ s. s.stamp < n) xs
 All-from_below n [] b = All-nil (λ s. s.stamp < n)
 All-from_below n (x ∷ xs) b = All-cons (λ s. s.stamp < n) x xs b.0 (All-from_below n xs b.1)
+
+-- one operation more has its stamp after the others', whatever it is
+pub stamps_of-pushed : (ops mid ops' : List (Stamped Op)) (op : Stamped Op) → mid ≡ ops → ops' ≡ mid ++ op ∷ [] →
+    (stamps_of ops' ≡ stamps_of ops ++ op.stamp ∷ []) × (length ops' ≡ length ops + 1)
+stamps_of-pushed ops mid ops' op kept pushed =
+    let items : ops' ≡ ops ++ op ∷ [] = pushed ∙ ap (λ l. l ++ op ∷ []) kept in
+    (stamps_of-push ops ops' op items, ap length items ∙ length-append ops (op ∷ []))

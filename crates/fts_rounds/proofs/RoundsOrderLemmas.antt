@@ -1,5 +1,6 @@
 -- Lists of numbers in order, which are told by how often each number is there.
-use Rattle.std.proofs.Common.{◌≡◌, ℕ, zero, suc, ◌+◌, ◌<◌, ◌≤◌, ◌≢◌, Bool, if◌then◌else◌, nat_lt, ◌==◌, List, [], ◌∷◌, length, sum_by, IsPermutation, sym, refl, ap, ◌∙◌, arith, eq-eqb, ne_eqb}
+use Rattle.std.proofs.Common.{◌≡◌, ℕ, zero, suc, ◌+◌, ◌<◌, ◌≤◌, ◌≢◌, Bool, if◌then◌else◌, nat_lt, ◌==◌, List, [], ◌∷◌, length, sum_by, IsPermutation, sym, refl}
+use Rattle.std.proofs.Common.{ap, ◌∙◌, arith, eq-eqb, ne_eqb}
 use Rattle.std.proofs.lemmas.Bool.Decides.{nat_tests}
 use Rattle.std.proofs.lemmas.List.Sums.{sum_by-cons}
 use Rattle.std.proofs.lemmas.List.Sorted.{sum_by-IsPermutation}

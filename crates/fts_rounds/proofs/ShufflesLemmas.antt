@@ -1,10 +1,13 @@
 -- A list in the order of its stamps that has all submissions is a shuffle of the lanes.
-use Rattle.std.proofs.Common.{◌≡◌, ℕ, zero, suc, ◌<◌, ◌≤◌, ◌⊎◌, inl, inr, ⊎_elim, Bool, true, false, ◌||◌, cond, ◌==◌, eq-eqb, eqb-true, List, [], ◌∷◌, filter, length, get_or, All, Contains, IsPermutation, sym, refl, ap, ◌∙◌, subst, arith}
+use Rattle.std.proofs.Common.{◌≡◌, ℕ, zero, suc, ◌<◌, ◌≤◌, ◌⊎◌, inl, inr, ⊎_elim, Bool, true, false, ◌||◌, cond, ◌==◌, eq-eqb, eqb-true, List, [], ◌∷◌, filter}
+use Rattle.std.proofs.Common.{length, get_or, All, Contains, IsPermutation, sym, refl, ap, ◌∙◌, subst, arith}
 use Rattle.std.specs.List.{list_any}
 use Rattle.std.specs.List.Sorted.{IsNonDecreasingBy}
 use Rattle.std.proofs.lemmas.List.{length-map, append-nil}
-use Rattle.std.proofs.lemmas.List.Elements.{All-nil, All-cons, All-head, All-contains, All-contains_itself, All-filter, filter_passes, Contains-append_left, Contains-append_right}
-use Rattle.std.proofs.lemmas.List.Sorted.{IsPermutation-map, IsPermutation-refl, IsPermutation-trans, IsPermutation-sym, Contains-permutation, length_permutation}
+use Rattle.std.proofs.lemmas.List.Elements.{All-nil, All-cons, All-head, All-contains, All-contains_itself, All-filter, filter_passes, Contains-append_left}
+use Rattle.std.proofs.lemmas.List.Elements.{Contains-append_right}
+use Rattle.std.proofs.lemmas.List.Sorted.{IsPermutation-map, IsPermutation-refl, IsPermutation-trans, IsPermutation-sym, Contains-permutation}
+use Rattle.std.proofs.lemmas.List.Sorted.{length_permutation}
 use Rattle.fts_model.specs.declared.operation.Op.{Op}
 use Rattle.fts_model.specs.declared.operation.Stamped.{Stamped}
 use Rattle.std.specs.List.{range_with_len}
@@ -54,7 +57,8 @@ one_stamp (x ∷ xs) r y z hy hz e = ⊎_elim
     (cases x xs y hy)
 
 -- two rising lists with the same members are one list
-same_list : (xs ys : Listed) → Rises (stamps_of xs) → Rises (stamps_of ys) → ((z : Stamped Op) → Contains xs z → Contains ys z) → ((z : Stamped Op) → Contains ys z → Contains xs z) → xs ≡ ys
+same_list : (xs ys : Listed) → Rises (stamps_of xs) → Rises (stamps_of ys) → ((z : Stamped Op) → Contains xs z → Contains ys z) →
+    ((z : Stamped Op) → Contains ys z → Contains xs z) → xs ≡ ys
 same_list [] [] r s f g = refl
 same_list [] (y ∷ ys) r s f g = absurd (nowhere y (g y (here y ys)))
 same_list (x ∷ xs) [] r s f g = absurd (nowhere x (f x (here x xs)))
@@ -68,8 +72,10 @@ same_list (x ∷ xs) (y ∷ ys) r s f g =
     (cases y ys x (f x (here x xs))) in
     let same : x.stamp ≡ y.stamp = ap (λ (u : Stamped Op). u.stamp) is in
     let rest = same_list xs ys r.1 s.1
-    (λ z h. ⊎_elim (λ e. absurd (let a = above_member x.stamp xs z r.0 h in let b : y.stamp ≡ z.stamp = ap (λ (u : Stamped Op). u.stamp) e in omega arith)) (λ t. t) (cases y ys z (f z (later x xs z h))))
-    (λ z h. ⊎_elim (λ e. absurd (let a = above_member y.stamp ys z s.0 h in let b : x.stamp ≡ z.stamp = ap (λ (u : Stamped Op). u.stamp) e in omega arith)) (λ t. t) (cases x xs z (g z (later y ys z h)))) in
+    (λ z h. ⊎_elim (λ e. absurd (let a = above_member x.stamp xs z r.0 h in let b : y.stamp ≡ z.stamp = ap (λ (u : Stamped Op). u.stamp) e in omega arith))
+    (λ t. t) (cases y ys z (f z (later x xs z h))))
+    (λ z h. ⊎_elim (λ e. absurd (let a = above_member y.stamp ys z s.0 h in let b : x.stamp ≡ z.stamp = ap (λ (u : Stamped Op). u.stamp) e in omega arith))
+    (λ t. t) (cases x xs z (g z (later y ys z h)))) in
     λ i. is i ∷ rest i
 
 module _ (p : Stamped Op → Bool) where
@@ -123,17 +129,21 @@ module _ (p : Stamped Op → Bool) where
   any_found (x ∷ xs) e = found_at (p x) x xs refl (any_found xs) e
 
 -- the members of a rising list that have the stamps of a part of it are that part
-part_is : (list batch : Listed) → Rises (stamps_of list) → Rises (stamps_of batch) → ((z : Stamped Op) → Contains list z → Contains batch z) → list ≡ filter (has_stamp list) batch
+part_is : (list batch : Listed) → Rises (stamps_of list) → Rises (stamps_of batch) → ((z : Stamped Op) → Contains list z → Contains batch z) →
+    list ≡ filter (has_stamp list) batch
 part_is list batch r s inside = same_list list (filter (has_stamp list) batch) r (filter-rises (has_stamp list) batch s)
     (λ z h. filter-keeps (has_stamp list) batch z (inside z h) (any_here (λ x. x.stamp == z.stamp) list z h (eq-eqb z.stamp z.stamp refl)))
     (λ z h.
-    let at : Contains batch z = All-contains (Contains batch) (filter (has_stamp list) batch) z (All-filter (has_stamp list) (Contains batch) batch (All-contains_itself batch)) h in
-    let passes : has_stamp list z ≡ true = All-contains (λ x. has_stamp list x ≡ true) (filter (has_stamp list) batch) z (filter_passes (has_stamp list) batch) h in
+    let at : Contains batch z =
+    All-contains (Contains batch) (filter (has_stamp list) batch) z (All-filter (has_stamp list) (Contains batch) batch (All-contains_itself batch)) h in
+    let passes : has_stamp list z ≡ true = All-contains (λ x. has_stamp list x ≡ true) (filter (has_stamp list) batch) z (filter_passes (has_stamp list) batch)
+    h in
     let found = any_found (λ x. x.stamp == z.stamp) list passes in
     let is : found.0 ≡ z = one_stamp batch s found.0 z (inside found.0 found.1) at (eqb-true found.0.stamp z.stamp found.2) in
     subst (Contains list) is found.1)
 
-all_parts : (batch : Listed) → Rises (stamps_of batch) → (lanes : List Held) → AllRise lanes → ((z : Stamped Op) → Contains (submissions lanes) z → Contains batch z) → All (λ h. h.ops ≡ filter (has_stamp h.ops) batch) lanes
+all_parts : (batch : Listed) → Rises (stamps_of batch) → (lanes : List Held) → AllRise lanes →
+    ((z : Stamped Op) → Contains (submissions lanes) z → Contains batch z) → All (λ h. h.ops ≡ filter (has_stamp h.ops) batch) lanes
 all_parts batch s [] rise inside = All-nil (λ h. h.ops ≡ filter (has_stamp h.ops) batch)
 all_parts batch s (h ∷ hs) rise inside = All-cons (λ h. h.ops ≡ filter (has_stamp h.ops) batch) h hs
     (part_is h.ops batch rise.0 s (λ z m. inside z (Contains-append_left h.ops (submissions hs) z m)))
@@ -145,7 +155,11 @@ all_from n (x ∷ xs) f = (f 0 x (omega arith), all_from n xs (λ j d lt. f (suc
 
 climbs : (xs : Listed) → IsNonDecreasingBy (λ (s : Stamped Op). s.stamp) xs → Climbs (stamps_of xs)
 climbs [] up = tt
-climbs (x ∷ xs) up = (all_from x.stamp xs (λ j d lt. up 0 (suc j) d (omega arith) (omega arith)), climbs xs (λ i j d le lt. up (suc i) (suc j) d (omega arith) (omega arith)))
+climbs (x ∷ xs) up = (
+  all_from x.stamp xs (λ j d lt. up 0 (suc j) d (omega arith) (omega arith)),
+  climbs xs
+      (λ i j d le lt. up (suc i) (suc j) d (omega arith) (omega arith)),
+)
 
 -- a list whose stamps climb, with the submissions of the lanes, where each stamp was drawn once
 shuffled_climbing : (first : ℕ) (lanes : List Held) (merged batch : Listed) → AllRise lanes → IsPermutation (submissions lanes) merged
@@ -156,7 +170,8 @@ shuffled_climbing first lanes merged batch rise members drawn moved up =
     let count : length (stamps_of merged) ≡ length batch = length-map merged stamp ∙ sym (length_permutation merged batch moved) in
     let numbered : stamps_of batch ≡ range_with_len first (length batch)
     = run_from_times first (length batch) (stamps_of batch) up
-    (λ x. times-permutation x (stamps_of merged) (stamps_of batch) (IsPermutation-map stamp merged batch moved) ∙ (drawn x ∙ ap (λ (k : ℕ). times x (range_with_len first k)) count)) in
+    (λ x. times-permutation x (stamps_of merged) (stamps_of batch) (IsPermutation-map stamp merged batch moved)
+    ∙ (drawn x ∙ ap (λ (k : ℕ). times x (range_with_len first k)) count)) in
     let each : IsPermutation (submissions lanes) batch = IsPermutation-trans (submissions lanes) merged batch members moved in
     let rises : Rises (stamps_of batch) = subst Rises (sym numbered) (run-rises first (length batch)) in
     record {
@@ -185,7 +200,8 @@ pub alone_shuffled : (first : ℕ) (h : Held) (batch : Listed) → batch ≡ h.o
 alone_shuffled first h batch is rises drawn =
     let whole : submissions (h ∷ []) ≡ batch = append-nil h.ops ∙ sym is in
     shuffled_climbing first (h ∷ []) batch batch (subst (λ (l : Listed). Rises (stamps_of l)) is rises, tt)
-    (subst (λ (l : Listed). IsPermutation l batch) (sym whole) (IsPermutation-refl batch)) drawn (IsPermutation-refl batch) (climbs_rising (stamps_of batch) rises)
+    (subst (λ (l : Listed). IsPermutation l batch) (sym whole) (IsPermutation-refl batch)) drawn (IsPermutation-refl batch)
+    (climbs_rising (stamps_of batch) rises)
 
 -- the batch of a round of one lane is that lane's list
 pub one_lane_is : (first : ℕ) (batch : Listed) (h : Held) → IsShuffle first batch (h ∷ []) → batch ≡ h.ops

@@ -1,5 +1,6 @@
 -- Answers as JSON.
-use Rattle.std.proofs.Common.{◌≡◌, Bool, false, ◌||◌, List, [], ◌∷◌, map, ℕ, pos, negsuc, Option, Some, None, Ordering, Less, Equal, Greater, refl, option_map, nat_cmp}
+use Rattle.std.proofs.Common.{◌≡◌, Bool, false, ◌||◌, List, [], ◌∷◌, map, ℕ, pos, negsuc, Option, Some, None, Ordering, Less, Equal, Greater, refl, option_map}
+use Rattle.std.proofs.Common.{nat_cmp}
 use Rattle.std.specs.Cmp.Lexicographic.{slice_cmp}
 use Rattle.std.specs.Ordering.{match_ordering}
 use Rattle.std.proofs.lemmas.Bool.{or_parts}
@@ -49,7 +50,8 @@ one_plain : (ms : Members) (field : Field) (value : Option FieldValue) → membe
 one_plain ms field None h = h
 one_plain ms field (Some v) h = put_plain field.name (data_of v) ms (value_plain v) h
 
-all_plain : (ms : Members) (fields : List Field) (vs : List (Option FieldValue)) → members_have_float ms ≡ false → members_have_float (with_values ms fields vs) ≡ false
+all_plain : (ms : Members) (fields : List Field) (vs : List (Option FieldValue)) → members_have_float ms ≡ false →
+    members_have_float (with_values ms fields vs) ≡ false
 all_plain ms [] vs h = h
 all_plain ms (field ∷ fields) [] h = h
 all_plain ms (field ∷ fields) (v ∷ vs) h = all_plain (with_value ms field v) fields vs (one_plain ms field v h)
@@ -66,9 +68,11 @@ groups_plain (group ∷ groups) = neither (neither (group_plain group.0) refl) (
 hits_plain : (hits : List Hit) → items_have_float (hits_data hits) ≡ false
 hits_plain [] = refl
 hits_plain (hit ∷ hits) =
-    neither (neither (all_plain no_members hit.document.schema hit.document.values refl) (neither (value_plain (values.Number hit.value)) refl)) (hits_plain hits)
+    neither (neither (all_plain no_members hit.document.schema hit.document.values refl) (neither (value_plain (values.Number hit.value)) refl))
+    (hits_plain hits)
 
-list_plain : (name : List ℕ) (items : Option Items) (ms : Members) → ((is : Items) → items ≡ Some is → items_have_float is ≡ false) → members_have_float ms ≡ false →
+list_plain : (name : List ℕ) (items : Option Items) (ms : Members) → ((is : Items) → items ≡ Some is → items_have_float is ≡ false) →
+    members_have_float ms ≡ false →
     members_have_float (list_member name items ms) ≡ false
 list_plain name None ms h p = p
 list_plain name (Some is) ms h p = neither (h is refl) p

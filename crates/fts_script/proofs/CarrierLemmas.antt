@@ -1,5 +1,6 @@
 -- Whatever carries an index, a script writes the same.
-use Rattle.std.proofs.Common.{◌≡◌, ℕ, ◌+◌, Bool, true, false, cond, List, [], ◌∷◌, ◌++◌, length, nat_lt, codes, Result, Ok, Err, Option, Some, None, option_map, refl, sym, ap, ◌∙◌}
+use Rattle.std.proofs.Common.{◌≡◌, ℕ, ◌+◌, Bool, true, false, cond, List, [], ◌∷◌, ◌++◌, length, nat_lt, codes, Result, Ok, Err, Option, Some, None, option_map}
+use Rattle.std.proofs.Common.{refl, sym, ap, ◌∙◌}
 use Rattle.serde_json.specs.Data.{Data}
 use Rattle.fts_base.specs.declared.refusal.Refusal.{Refusal}
 use Rattle.fts_base.specs.declared.refusal.Refusal.TheVariants.{TooLarge, LaneFull}
@@ -21,7 +22,8 @@ use Rattle.fts_script.specs.command.Commands.{Command, Schema, Add, Delete, Dele
 use Rattle.fts_engine.specs.Carriers.{Carrier}
 use Rattle.fts_model.specs.Limits.{most_merged}
 use Rattle.fts_engine.specs.Steps.{most_uncommitted, next_stamp, submit, commit, rollback, merge, search_commit}
-use Rattle.fts_script.specs.session.Replies.{number_reply, Outcome, replied, answer_search, execute, execute_line, index_after, text_of, Carried, carried_over, reply_on, replies_on, output_on}
+use Rattle.fts_script.specs.session.Replies.{number_reply, Outcome, replied, answer_search, execute, execute_line, index_after, text_of, Carried, carried_over}
+use Rattle.fts_script.specs.session.Replies.{reply_on, replies_on, output_on}
 use Rattle.fts_script.specs.command.AnswerData.{answer_data}
 
 -- what one carrier holds stands, by a map, for what the other does
@@ -57,7 +59,8 @@ submit_same : {S T : Type 0} (from : Carrier S) (to : Carrier T) (f : S → T) �
 submit_same {S} {T} from to f sim op s =
     ap (λ n. cond (nat_lt n most_uncommitted) (Ok (to.submitted op (f s), next_stamp to (f s))) (Err LaneFull)) (sim.uncommitted s)
     ∙ room (nat_lt (from.uncommitted s) most_uncommitted) where
-      room : (b : Bool) → cond b (Ok (to.submitted op (f s), next_stamp to (f s))) (Err LaneFull) ≡ step_seen f (cond b (Ok (from.submitted op s, next_stamp from s)) (Err LaneFull))
+      room : (b : Bool) → cond b (Ok (to.submitted op (f s), next_stamp to (f s))) (Err LaneFull)
+          ≡ step_seen f (cond b (Ok (from.submitted op s, next_stamp from s)) (Err LaneFull))
       room true = ap Ok (pair _ _ _ _ (sym (sim.submitted op s)) (stamp_same from to f sim s))
       room false = refl
 
@@ -84,7 +87,8 @@ search_same from to f sim query request s =
     ap (λ schema. Ok (f s, answer schema query request (to.documents (f s)))) (sim.schema s)
     ∙ ap (λ ds. Ok (f s, answer (from.schema s) query request ds)) (sim.documents s)
 
-replied_same : {S T X : Type 0} (f : S → T) (print : X → Data) (step : Result (S × X) Refusal) → replied print (step_seen f step) ≡ command_value f (replied print step)
+replied_same : {S T X : Type 0} (f : S → T) (print : X → Data) (step : Result (S × X) Refusal) →
+    replied print (step_seen f step) ≡ command_value f (replied print step)
 replied_same f print (Ok done) = refl
 replied_same f print (Err e) = refl
 
@@ -99,7 +103,8 @@ unless_same f (Some e) x = refl
 
 op_same : {S T : Type 0} (from : Carrier S) (to : Carrier T) (f : S → T) → Simulates from to f → (op : Op) (s : S) →
     replied (number_reply (codes "stamp")) (submit to op (f s)) ≡ command_value f (replied (number_reply (codes "stamp")) (submit from op s))
-op_same from to f sim op s = ap (replied (number_reply (codes "stamp"))) (submit_same from to f sim op s) ∙ replied_same f (number_reply (codes "stamp")) (submit from op s)
+op_same from to f sim op s = ap (replied (number_reply (codes "stamp"))) (submit_same from to f sim op s)
+    ∙ replied_same f (number_reply (codes "stamp")) (submit from op s)
 
 answer_same : {S T : Type 0} (from : Carrier S) (to : Carrier T) (f : S → T) → Simulates from to f → (asked : Search) (s : S) →
     answer_search to asked (f s) ≡ command_value f (answer_search from asked s)
@@ -112,7 +117,8 @@ answer_same from to f sim asked s =
 execute_same : {S T : Type 0} (from : Carrier S) (to : Carrier T) (f : S → T) → Simulates from to f → (index : Option S) (c : Command) →
     execute to (option_map f index) c ≡ command_value f (execute from index c)
 execute_same {S} {T} from to f sim None (Schema fields) =
-    ap (λ i. ok_unless (schema_fault fields) (let o : Outcome T = record { index = Some i; reply = number_reply (codes "fields") (length fields) } in o)) (sym (sim.opened fields))
+    ap (λ i. ok_unless (schema_fault fields) (let o : Outcome T = record { index = Some i; reply = number_reply (codes "fields") (length fields) } in o))
+    (sym (sim.opened fields))
     ∙ unless_same f (schema_fault fields) _
 execute_same from to f sim None (Add value) = refl
 execute_same from to f sim None (Delete name value) = refl
@@ -123,15 +129,20 @@ execute_same from to f sim None Merge = refl
 execute_same from to f sim None (Find asked) = refl
 execute_same from to f sim (Some s) (Schema fields) = refl
 execute_same from to f sim (Some s) (Add value) =
-    ap (λ schema. result_and_then (λ document. replied (number_reply (codes "stamp")) (submit to (ops.Add document) (f s))) (document_of schema value)) (sim.schema s)
+    ap (λ schema. result_and_then (λ document. replied (number_reply (codes "stamp")) (submit to (ops.Add document) (f s))) (document_of schema value))
+    (sim.schema s)
     ∙ then_same f (document_of (from.schema s) value) _ _ (λ document. op_same from to f sim (ops.Add document) s)
 execute_same from to f sim (Some s) (Delete name value) =
-    ap (λ schema. result_and_then (λ term. replied (number_reply (codes "stamp")) (submit to (ops.Delete term) (f s))) (term_of schema name value)) (sim.schema s)
+    ap (λ schema. result_and_then (λ term. replied (number_reply (codes "stamp")) (submit to (ops.Delete term) (f s))) (term_of schema name value))
+    (sim.schema s)
     ∙ then_same f (term_of (from.schema s) name value) _ _ (λ term. op_same from to f sim (ops.Delete term) s)
 execute_same from to f sim (Some s) DeleteAll = op_same from to f sim ops.DeleteAll s
-execute_same from to f sim (Some s) Commit = ap (replied (number_reply (codes "commit"))) (commit_same from to f sim s) ∙ replied_same f (number_reply (codes "commit")) (commit from s)
-execute_same from to f sim (Some s) Rollback = ap (replied (number_reply (codes "rollback"))) (rollback_same from to f sim s) ∙ replied_same f (number_reply (codes "rollback")) (rollback from s)
-execute_same from to f sim (Some s) Merge = ap (replied (number_reply (codes "merged"))) (merge_same from to f sim s) ∙ replied_same f (number_reply (codes "merged")) (merge from s)
+execute_same from to f sim (Some s) Commit = ap (replied (number_reply (codes "commit"))) (commit_same from to f sim s)
+    ∙ replied_same f (number_reply (codes "commit")) (commit from s)
+execute_same from to f sim (Some s) Rollback = ap (replied (number_reply (codes "rollback"))) (rollback_same from to f sim s)
+    ∙ replied_same f (number_reply (codes "rollback")) (rollback from s)
+execute_same from to f sim (Some s) Merge = ap (replied (number_reply (codes "merged"))) (merge_same from to f sim s)
+    ∙ replied_same f (number_reply (codes "merged")) (merge from s)
 execute_same from to f sim (Some s) (Find asked) = answer_same from to f sim asked s
 
 line_same : {S T : Type 0} (from : Carrier S) (to : Carrier T) (f : S → T) → Simulates from to f → (index : Option S) (line : List ℕ) →
@@ -142,7 +153,8 @@ text_same : {S T : Type 0} (f : S → T) (n : ℕ) (r : Result (Outcome S) Refus
 text_same f n (Ok done) = refl
 text_same f n (Err e) = refl
 
-after_same : {S T : Type 0} (f : S → T) (index : Option S) (r : Result (Outcome S) Refusal) → index_after (option_map f index) (command_value f r) ≡ option_map f (index_after index r)
+after_same : {S T : Type 0} (f : S → T) (index : Option S) (r : Result (Outcome S) Refusal) → index_after (option_map f index) (command_value f r)
+    ≡ option_map f (index_after index r)
 after_same f index (Ok done) = refl
 after_same f index (Err e) = refl
 
@@ -157,14 +169,16 @@ reply_same : {S T : Type 0} (from : Carrier S) (to : Carrier T) (f : S → T) �
     reply_on to (carried_seen f s) line ≡ reply_on from s line
 unfolding reply_on
 reply_same from to f sim s line =
-    ap (cond (is_blank line) []) (ap (text_of (s.number + 1)) (line_same from to f sim s.index line) ∙ text_same f (s.number + 1) (execute_line from s.index line))
+    ap (cond (is_blank line) []) (ap (text_of (s.number + 1)) (line_same from to f sim s.index line) ∙ text_same f (s.number + 1)
+    (execute_line from s.index line))
 
 next_same : {S T : Type 0} (from : Carrier S) (to : Carrier T) (f : S → T) → Simulates from to f → (s : Carried S) (line : List ℕ) →
     carried_over to (carried_seen f s) line ≡ carried_seen f (carried_over from s line)
 unfolding carried_over
 next_same {S} {T} from to f sim s line =
     ap (λ (i : Option T). let c : Carried T = record { number = s.number + 1; index = i } in c)
-    (ap (cond (is_blank line) (option_map f s.index)) (ap (index_after (option_map f s.index)) (line_same from to f sim s.index line) ∙ after_same f s.index (execute_line from s.index line))
+    (ap (cond (is_blank line) (option_map f s.index)) (ap (index_after (option_map f s.index)) (line_same from to f sim s.index line) ∙ after_same f s.index
+    (execute_line from s.index line))
     ∙ cond_map f (is_blank line) s.index (index_after s.index (execute_line from s.index line)))
 
 replies_same : {S T : Type 0} (from : Carrier S) (to : Carrier T) (f : S → T) → Simulates from to f → (s : Carried S) (lines : List (List ℕ)) →
@@ -176,5 +190,6 @@ replies_same from to f sim s (line ∷ lines) =
     ∙ ap (λ r. r ++ replies_on from (carried_over from s line) lines) (reply_same from to f sim s line)
 
 -- the output doesn't depend on what carries the index
-pub output_same : {S T : Type 0} (from : Carrier S) (to : Carrier T) (f : S → T) → Simulates from to f → (input : List ℕ) → output_on to input ≡ output_on from input
+pub output_same : {S T : Type 0} (from : Carrier S) (to : Carrier T) (f : S → T) → Simulates from to f → (input : List ℕ) →
+    output_on to input ≡ output_on from input
 output_same from to f sim input = replies_same from to f sim (record { number = 0; index = None }) (lines_of input)

@@ -10,7 +10,8 @@ use Rattle.fts_model.specs.Documents.{DocumentValue}
 use Rattle.fts_model.specs.Operations.{alive, adds}
 use Rattle.fts_model.proofs.OperationsAlive.{alive-history}
 use Rattle.fts_engine.specs.Indexes.{Index, indexes, stamp_after}
-use Rattle.fts_engine.specs.Histories.{Accepted, Submitted, Committed, RolledBack, take_back, Kept, Operation, CommitPoint, kept, is_commit, up_to_commit, since_commit, stamped_from, History, and_then, histories}
+use Rattle.fts_engine.specs.Histories.{Accepted, Submitted, Committed, RolledBack, take_back, Kept, Operation, CommitPoint, kept, is_commit, up_to_commit}
+use Rattle.fts_engine.specs.Histories.{since_commit, stamped_from, History, and_then, histories}
 use Rattle.fts_script.proofs.CarrierLemmas.{Simulates}
 
 -- ---- commits among what is kept
@@ -168,7 +169,8 @@ kept-RolledBack (RolledBack ∷ cs) = kept-RolledBack cs
 
 -- ---- stamps
 
-none_since-one : (b : Bool) (k : Kept) (ks bs : List Kept) → list_any is_commit (k ∷ ks) ≡ b → list_any is_commit bs ≡ false → list_any is_commit (cond b bs (k ∷ ks)) ≡ false
+none_since-one : (b : Bool) (k : Kept) (ks bs : List Kept) → list_any is_commit (k ∷ ks) ≡ b → list_any is_commit bs ≡ false →
+    list_any is_commit (cond b bs (k ∷ ks)) ≡ false
 none_since-one true k ks bs e h = h
 none_since-one false k ks bs e h = e
 
@@ -206,7 +208,8 @@ stamp_by : (schema : List Field) (ks us bs : List Kept) → ks ≡ us ++ bs → 
 stamp_by schema ks us bs e h = omega (arith, length-stamped (length us + 1) bs h, ap length e, length-append us bs)
 
 -- a history whose kept commands are these
-index_kept : (schema : List Field) (ks ls : List Kept) → ks ≡ ls → index_by schema (up_to_commit ks) (since_commit ks) ≡ index_by schema (up_to_commit ls) (since_commit ls)
+index_kept : (schema : List Field) (ks ls : List Kept) → ks ≡ ls → index_by schema (up_to_commit ks) (since_commit ks)
+    ≡ index_by schema (up_to_commit ls) (since_commit ls)
 index_kept schema ks ls e = ap (λ xs. index_by schema (up_to_commit xs) (since_commit xs)) e
 
 one_pending : (schema : List Field) (us bs : List Kept) (op : Op) → list_any is_commit bs ≡ false →
@@ -214,7 +217,13 @@ one_pending : (schema : List Field) (us bs : List Kept) (op : Op) → list_any i
 one_pending schema us bs op h =
     let old = stamped_from (length us + 1) bs in
     let here : (length us + 1) + length bs ≡ stamp_after (index_by schema us bs) = omega (arith, length-stamped (length us + 1) bs h) in
-    ap (λ (uncommitted : List (Stamped Op)). let i : Index = record { schema = schema; documents = alive schema (stamped_from 1 us); commit_stamp = length us; uncommitted = uncommitted } in i)
+    ap (λ (uncommitted : List (Stamped Op)). let i : Index = record {
+      schema = schema;
+      documents = alive schema (stamped_from 1 us);
+      commit_stamp =
+          length us;
+      uncommitted = uncommitted;
+    } in i)
     (stamped-append (length us + 1) bs (Operation op ∷ [])
     ∙ ap (λ n. let o : Stamped Op = record { stamp = n; value = op } in old ++ o ∷ []) here)
 

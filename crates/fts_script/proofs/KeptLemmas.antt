@@ -1,5 +1,6 @@
 -- What is kept of a line is enough for its reply, and grows with it.
-use Rattle.std.proofs.Common.{◌≡◌, ◌<◌, ◌≤◌, ◌+◌, ◌-◌, ℕ, suc, Bool, true, false, cond, ltb, List, [], ◌∷◌, ◌++◌, length, take, drop, refl, sym, ap, ◌∙◌, append_assoc, take-append-drop, zero-add, arith, Option, Some, None, ◌&&◌}
+use Rattle.std.proofs.Common.{◌≡◌, ◌<◌, ◌≤◌, ◌+◌, ◌-◌, ℕ, suc, Bool, true, false, cond, ltb, List, [], ◌∷◌, ◌++◌, length, take, drop, refl, sym, ap, ◌∙◌}
+use Rattle.std.proofs.Common.{append_assoc, take-append-drop, zero-add, arith, Option, Some, None, ◌&&◌}
 use Rattle.std.specs.List.{prefix_len}
 use Rattle.std.proofs.lemmas.Bool.Decides.{nat_tests}
 use Rattle.std.proofs.lemmas.List.{length-append, length-drop, nil_from_length, take_all}
@@ -9,7 +10,8 @@ use Rattle.fts_script.specs.session.Text.{is_white, is_blank}
 use Rattle.fts_script.specs.command.Commands.{longest}
 use Rattle.fts_script.specs.session.Replies.{reply_on, carried_over}
 use Rattle.fts_script.specs.session.Outputs.{SessionValue, after_line, reply_to}
-use Rattle.fts_script.specs.session.KeptLines.{KeptLine, Short, TooLong, indented, kept_line, kept_in, grown, is_blank_kept, reply_to_kept, after_kept, too_long_in, bytes_in}
+use Rattle.fts_script.specs.session.KeptLines.{KeptLine, Short, TooLong, indented, kept_line, kept_in, grown, is_blank_kept, reply_to_kept, after_kept}
+use Rattle.fts_script.specs.session.KeptLines.{too_long_in, bytes_in}
 use Rattle.fts_script.proofs.BlankLemmas.{is_blank-front, reply_to-blank, after_line-blank}
 
 -- one more space, tab or CR
@@ -49,11 +51,13 @@ is_blank_kept-indented w line = is_blank_kept-by (ltb longest (w + length line))
 pub grown-kept_line : (line piece : List ℕ) → grown (kept_line line) piece ≡ kept_line (line ++ piece)
 grown-kept_line line piece = by (ltb longest (0 + length line)) refl
   where
-    by : (t : Bool) → ltb longest (0 + length line) ≡ t → grown (cond t (TooLong (is_blank line)) (Short (0 + prefix_len is_white line) (drop (prefix_len is_white line) line))) piece ≡ kept_line (line ++ piece)
+    by : (t : Bool) → ltb longest (0 + length line) ≡ t →
+        grown (cond t (TooLong (is_blank line)) (Short (0 + prefix_len is_white line) (drop (prefix_len is_white line) line))) piece ≡ kept_line (line ++ piece)
     by true e =
         let long : ltb longest (0 + length (line ++ piece)) ≡ true = grind (arith, nat_tests, length-append line piece) in
         ap TooLong (sym (list_all-append is_white line piece))
-        ∙ sym (ap (λ t. cond t (TooLong (is_blank (line ++ piece))) (Short (0 + prefix_len is_white (line ++ piece)) (drop (prefix_len is_white (line ++ piece)) (line ++ piece)))) long)
+        ∙ sym (ap (λ t. cond t (TooLong (is_blank (line ++ piece)))
+        (Short (0 + prefix_len is_white (line ++ piece)) (drop (prefix_len is_white (line ++ piece)) (line ++ piece)))) long)
     by false e =
         let n = prefix_len is_white line in
         ap (λ m. indented (0 + m) (drop n line ++ piece)) (sym (length-prefix_len is_white line))
@@ -77,7 +81,8 @@ after_line-long s line false long e = rw (e, long) refl
 pub reply_to_kept-kept_line : (s : SessionValue) (line : List ℕ) → reply_to_kept s (kept_line line) ≡ reply_to s line
 reply_to_kept-kept_line s line = by (ltb longest (0 + length line)) refl
   where
-    by : (t : Bool) → ltb longest (0 + length line) ≡ t → reply_to_kept s (cond t (TooLong (is_blank line)) (Short (0 + prefix_len is_white line) (drop (prefix_len is_white line) line))) ≡ reply_to s line
+    by : (t : Bool) → ltb longest (0 + length line) ≡ t →
+        reply_to_kept s (cond t (TooLong (is_blank line)) (Short (0 + prefix_len is_white line) (drop (prefix_len is_white line) line))) ≡ reply_to s line
     by true e = reply_to-long s line (is_blank line) (sym (ap (ltb longest) (zero-add (length line))) ∙ e) refl
     by false e =
         let k = prefix_len is_white line in
@@ -87,7 +92,8 @@ reply_to_kept-kept_line s line = by (ltb longest (0 + length line)) refl
 pub after_kept-kept_line : (s : SessionValue) (line : List ℕ) → after_kept s (kept_line line) ≡ after_line s line
 after_kept-kept_line s line = by (ltb longest (0 + length line)) refl
   where
-    by : (t : Bool) → ltb longest (0 + length line) ≡ t → after_kept s (cond t (TooLong (is_blank line)) (Short (0 + prefix_len is_white line) (drop (prefix_len is_white line) line))) ≡ after_line s line
+    by : (t : Bool) → ltb longest (0 + length line) ≡ t →
+        after_kept s (cond t (TooLong (is_blank line)) (Short (0 + prefix_len is_white line) (drop (prefix_len is_white line) line))) ≡ after_line s line
     by true e = after_line-long s line (is_blank line) (sym (ap (ltb longest) (zero-add (length line))) ∙ e) refl
     by false e =
         let k = prefix_len is_white line in
@@ -98,7 +104,8 @@ after_kept-kept_line s line = by (ltb longest (0 + length line)) refl
 pub kept_line-nothing : (line : List ℕ) → kept_line line ≡ kept_line [] → line ≡ []
 kept_line-nothing line = by (ltb longest (0 + length line))
   where
-    by : (t : Bool) → cond t (TooLong (is_blank line)) (Short (0 + prefix_len is_white line) (drop (prefix_len is_white line) line)) ≡ Short (0 + 0) [] → line ≡ []
+    by : (t : Bool) → cond t (TooLong (is_blank line)) (Short (0 + prefix_len is_white line) (drop (prefix_len is_white line) line)) ≡ Short (0 + 0) [] →
+        line ≡ []
     by true e = cc
     by false e =
         let k = prefix_len is_white line in
@@ -172,7 +179,8 @@ not_blank-unindented (b ∷ bytes) h some = by (is_white b) h
     by true k = absurd (omega (arith, k))
     by false k = refl
 
-indented-short : (w : ℕ) (line : List ℕ) → w + length line ≤ longest → indented w line ≡ Short (w + prefix_len is_white line) (drop (prefix_len is_white line) line)
+indented-short : (w : ℕ) (line : List ℕ) → w + length line ≤ longest →
+    indented w line ≡ Short (w + prefix_len is_white line) (drop (prefix_len is_white line) line)
 indented-short w line h =
     let short : ltb longest (w + length line) ≡ false = grind (arith, nat_tests) in
     ap (λ t. cond t (TooLong (is_blank line)) (Short (w + prefix_len is_white line) (drop (prefix_len is_white line) line))) short
@@ -208,7 +216,8 @@ grown-behind (Some blank) white bytes after piece e bare some is short = cc
 grown-behind None white bytes after piece e bare some is short =
     let none = unindented-append bytes piece bare some in
     let fits : white + length (bytes ++ piece) ≤ longest = omega (arith, short, length-append bytes piece) in
-    let same : Short (white + prefix_len is_white (bytes ++ piece)) (drop (prefix_len is_white (bytes ++ piece)) (bytes ++ piece)) ≡ Short (white + 0) (bytes ++ piece) =
+    let same : Short (white + prefix_len is_white (bytes ++ piece)) (drop (prefix_len is_white (bytes ++ piece)) (bytes ++ piece))
+    ≡ Short (white + 0) (bytes ++ piece) =
     ap (λ n. Short (white + n) (drop n (bytes ++ piece))) none in
     ap (Short white) is ∙ ap (λ n. Short n (bytes ++ piece)) (omega arith) ∙ sym same ∙ sym (indented-short white (bytes ++ piece) fits)
 

@@ -1,5 +1,6 @@
 -- The lines of a text that is cut in two.
-use Rattle.std.proofs.Common.{◌≡◌, ◌≢◌, ◌<◌, ◌≤◌, ◌+◌, ◌-◌, ℕ, zero, suc, Bool, true, false, cond, eqb, List, [], ◌∷◌, ◌++◌, length, take, get_or, refl, ap, subst, ◌∙◌, ⊎_elim, append_assoc, arith, rules, tests, inr, None, Some, eq-eqb}
+use Rattle.std.proofs.Common.{◌≡◌, ◌≢◌, ◌<◌, ◌≤◌, ◌+◌, ◌-◌, ℕ, zero, suc, Bool, true, false, cond, eqb, List, [], ◌∷◌, ◌++◌, length, take, get_or, refl, ap}
+use Rattle.std.proofs.Common.{subst, ◌∙◌, ⊎_elim, append_assoc, arith, rules, tests, inr, None, Some, eq-eqb}
 use Rattle.std.proofs.lemmas.Bool.{eqb-true}
 use Rattle.std.proofs.lemmas.List.{length-append, take_more, take_all}
 use Rattle.memchr.specs.Find.{IsFirstByte, is_byte}

@@ -1,5 +1,6 @@
 -- Two lines as one, and one after the other.
-use Rattle.std.proofs.Common.{◌≡◌, ◌+◌, ℕ, Bool, true, false, cond, ltb, List, [], length, refl, sym, ap, ◌∙◌, append-nil, arith, None, Result, Ok, Err, OnOk, OnErr}
+use Rattle.std.proofs.Common.{◌≡◌, ◌+◌, ℕ, Bool, true, false, cond, ltb, List, [], length, refl, sym, ap, ◌∙◌, append-nil, arith, None, Result, Ok, Err, OnOk}
+use Rattle.std.proofs.Common.{OnErr}
 use Rattle.std.specs.Str.{is_utf8, chars}
 use Rattle.std.specs.Char.{encode_utf8}
 use Rattle.std.specs.Option.{ok_or}
@@ -55,7 +56,8 @@ both_done s delete add name value document d e is-delete is-add first second =
     let next : SessionValue = record { number = s.number + 1; index = d.index } in
     let behind : after_line s delete ≡ next = after_done s delete (Delete name value) d is-delete first in
     let both : replace indexes s.index delete add ≡ Ok e =
-    ap (λ r. result_and_then (λ a. result_and_then (λ b. execute_two indexes s.index a b) (result_and_then addition (command add))) (result_and_then deletion r)) is-delete
+    ap (λ r. result_and_then (λ a. result_and_then (λ b. execute_two indexes s.index a b) (result_and_then addition (command add)))
+    (result_and_then deletion r)) is-delete
     ∙ ap (λ r. result_and_then (λ b. execute_two indexes s.index (Delete name value) b) (result_and_then addition r)) is-add
     ∙ ap (λ r. result_and_then (λ done. execute indexes done.index (Add document)) r) first ∙ second in
     let two : s.number + 1 + 1 ≡ s.number + 2 = omega arith in
@@ -85,7 +87,8 @@ by_add s delete add name value (Ok (Add document)) is-delete is-add =
 by_add s delete add name value _ is-delete is-add = tt
 
 by_delete : (s : SessionValue) (delete add : List ℕ) (r : Result Command Refusal) → command delete ≡ r →
-    OnOk (result_and_then (λ first. result_and_then (λ second. execute_two indexes s.index first second) (result_and_then addition (command add))) (result_and_then deletion r)) (AreDone s delete add)
+    OnOk (result_and_then (λ first. result_and_then (λ second. execute_two indexes s.index first second) (result_and_then addition (command add)))
+    (result_and_then deletion r)) (AreDone s delete add)
 by_delete s delete add (Ok (Delete name value)) is-delete = by_add s delete add name value (command add) is-delete refl
 by_delete s delete add _ is-delete = tt
 

@@ -1,5 +1,6 @@
 -- What a step of a run keeps.
-use Rattle.std.proofs.Common.{inl, ltb, lt-ltb, IfOk, Result, Ok, Err, OnErr, OnOk, ◌≡◌, ◌<◌, ◌≤◌, ◌-◌, Bool, true, false, cond, eqb, ◌&&◌, ℕ, ◌+◌, List, [], ◌∷◌, ◌++◌, length, take, drop, refl, ap, sym, ◌∙◌, append_assoc, append-nil, take-append-drop, subst, arith, rules, tests}
+use Rattle.std.proofs.Common.{inl, ltb, lt-ltb, IfOk, Result, Ok, Err, OnErr, OnOk, ◌≡◌, ◌<◌, ◌≤◌, ◌-◌, Bool, true, false, cond, eqb, ◌&&◌, ℕ, ◌+◌, List, []}
+use Rattle.std.proofs.Common.{◌∷◌, ◌++◌, length, take, drop, refl, ap, sym, ◌∙◌, append_assoc, append-nil, take-append-drop, subst, arith, rules, tests}
 use Rattle.std.proofs.lemmas.List.{length-drop, length-append, length-take-le, take_rest}
 use Rattle.std.proofs.Math.Seq.{take-add}
 use Rattle.fts_script.specs.session.KeptLines.{KeptLine, kept_line, grown, is_blank_kept, reply_to_kept, after_kept}
@@ -94,7 +95,8 @@ Advances-then s t u p q r xs ys a b c first second = record {
 }
 
 -- whatever comes behind them
-abbrev answers_first : (t : SessionValue) (q : KeptLine) (input xs more out : List ℕ) → Answered t q (input ++ xs) out → AnswersFirst (length (xs ++ more)) (input ++ (xs ++ more)) out
+abbrev answers_first : (t : SessionValue) (q : KeptLine) (input xs more out : List ℕ) → Answered t q (input ++ xs) out →
+    AnswersFirst (length (xs ++ more)) (input ++ (xs ++ more)) out
 answers_first t q input xs more out r = record {
   done = r.done;
   rest = r.line ++ more;
@@ -172,14 +174,16 @@ Wrote-begins before now input n w = record {
   so = AnswersFirst-begins n input w.bytes w.so;
 }
 
-pub Wrote-unless : (before now : List ℕ) (input : List ℕ) (ended : Type 0) → Wrote before now (BeginsOutput input) → Wrote before now (BeginsOutputUnless ended input)
+pub Wrote-unless : (before now : List ℕ) (input : List ℕ) (ended : Type 0) → Wrote before now (BeginsOutput input) →
+    Wrote before now (BeginsOutputUnless ended input)
 Wrote-unless before now input ended w = record {
   bytes = w.bytes;
   taken = w.taken;
   so = λ more _. w.so more;
 }
 
-pub Wrote-ended : (before now : List ℕ) (input : List ℕ) (ended : Type 0) → ended → Wrote before now (BeginsWith (output input)) → Wrote before now (BeginsOutputUnless ended input)
+pub Wrote-ended : (before now : List ℕ) (input : List ℕ) (ended : Type 0) → ended → Wrote before now (BeginsWith (output input)) →
+    Wrote before now (BeginsOutputUnless ended input)
 Wrote-ended before now input ended h w = record {
   bytes = w.bytes;
   taken = w.taken;

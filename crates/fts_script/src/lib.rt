@@ -27,6 +27,7 @@ mod streams;
 
 pub use fault::Fault;
 pub use fts_engine::{Cut, Engine, EngineOver, ListEngine, Merge, Options};
+pub use lines::LONGEST;
 pub use run::run_script;
 pub use std_streams::Plain;
 pub use streams::{ScriptIn, ScriptOut, StreamError, Streams};

@@ -1,12 +1,14 @@
 // A run of a script: blocks of the input, until it ends.
 ghost use Rattle.std.specs.Prelude.{◌≡◌, vec_len, IfOk, OnOk, OnErr, IsErrOf};
 ghost use Rattle.std.specs.Io.KnownBytes.{IsAtEnd};
-ghost use Rattle.fts_script.specs.Runs.{FailsNever, FailsRead, FailsWrite, Flushes, FlushesAll, GainsWritten, LosesRead};
+ghost use Rattle.fts_script.specs.Runs.{FailsNever, FailsRead, FailsWrite, Flushes, FlushesAll, GainsWritten};
+ghost use Rattle.fts_script.specs.Runs.{LosesRead};
 ghost use Rattle.fts_script.specs.Runs.{ReadsTooMuch, StopsInLastRead, TellsEnd, WritesBeginning, WritesEnded};
 ghost use Rattle.fts_script.specs.Runs.{WritesOutput};
 
 use crate::fault::Fault;
 use crate::responder::Responder;
+use crate::session::MOST_LINES;
 use crate::streams::{ScriptIn, ScriptOut, Streams};
 use fts_engine::{EngineOver, Options};
 use std::alloc::{AllocError, Global};
@@ -14,8 +16,8 @@ use std::alloc::{AllocError, Global};
 /// How many bytes are read at a time.
 const BLOCK: usize = 65_536;
 
-/// The most bytes that a run reads.
-const MOST: u64 = 1 << 61;
+/// The most bytes that a run reads: as many as there may be lines.
+const MOST_BYTES: u64 = MOST_LINES;
 
 /// A block; its length stays a variable in the proof, which would write a list of 65,536 out.
 fn zeros(alloc: Global, count: usize) -> Result<Vec<u8>, AllocError>
@@ -61,7 +63,7 @@ pub fn run_script<G: AllocGlobal + Sync, E: EngineOver<G>, R: ScriptIn, W: Scrip
         match streams.reader.read(block) {
             Ok(0) => return responder.end(rt, &mut streams.writer),
             Ok(n) => {
-                if n as u64 > MOST - count {
+                if n as u64 > MOST_BYTES - count {
                     responder.close(rt);
                     return Err(Fault::StampsUsedUp);
                 }

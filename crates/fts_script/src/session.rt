@@ -11,5 +11,5 @@ mod reply;
 mod session;
 mod text;
 
-pub use session::Session;
+pub use session::{MOST_LINES, Session};
 pub use text::{first_line, is_blank, is_white};

@@ -16,7 +16,8 @@ use Rattle.fts_snapshots.specs.Entries.{EntryValue, live_in, content}
 use Rattle.fts_model.specs.declared.cut.Cut.{Cut}
 use Rattle.fts_snapshots.specs.Cuts.{groups_of}
 use Rattle.fts_snapshots.specs.Commits.{struck, fresh, fresh_from, committed}
-use Rattle.fts_snapshots.proofs.OrderLemmas.{ByStamp, rises_from_pairs, pairs_from_rises, permutation_in_order, in_stamp_order-permutation, in_stamp_order-rises, filter-in_stamp_order}
+use Rattle.fts_snapshots.proofs.OrderLemmas.{ByStamp, rises_from_pairs, pairs_from_rises, permutation_in_order, in_stamp_order-permutation}
+use Rattle.fts_snapshots.proofs.OrderLemmas.{in_stamp_order-rises, filter-in_stamp_order}
 use Rattle.fts_snapshots.proofs.EntryLemmas.{joined, entry_with, live_in-filter, live_in-struck, live_in-fresh}
 use Rattle.fts_snapshots.proofs.CutLemmas.{groups_permute}
 use Rattle.fts_merge.proofs.BitsLemmas.{bits_where-same}
@@ -33,11 +34,14 @@ no_strike true c = refl
 no_strike false c = refl
 
 -- adds in front of operations strike nothing
-survives-adds : (schema : List Field) (ds : List (Stamped DocumentValue)) (ops : List (Stamped Op)) (d : Stamped DocumentValue) → survives schema (adds ds ++ ops) d ≡ survives schema ops d
+survives-adds : (schema : List Field) (ds : List (Stamped DocumentValue)) (ops : List (Stamped Op)) (d : Stamped DocumentValue) →
+    survives schema (adds ds ++ ops) d ≡ survives schema ops d
 survives-adds schema [] ops d = refl
-survives-adds schema (e ∷ ds) ops d = no_strike (nat_lt d.stamp e.stamp) (list_any (λ op. strikes_later schema op d) (adds ds ++ ops)) ∙ survives-adds schema ds ops d
+survives-adds schema (e ∷ ds) ops d = no_strike (nat_lt d.stamp e.stamp) (list_any (λ op. strikes_later schema op d) (adds ds ++ ops))
+    ∙ survives-adds schema ds ops d
 
-rises_added_by : (stamp : ℕ) (op : Op) (ds : List (Stamped DocumentValue)) → AllByRecursion (λ d. stamp < d.stamp) ds → ByStamp ds → ByStamp (added_by stamp op ++ ds)
+rises_added_by : (stamp : ℕ) (op : Op) (ds : List (Stamped DocumentValue)) → AllByRecursion (λ d. stamp < d.stamp) ds → ByStamp ds →
+    ByStamp (added_by stamp op ++ ds)
 rises_added_by stamp (Add document) ds a r = (a, r)
 rises_added_by stamp (Delete term) ds a r = r
 rises_added_by stamp DeleteAll ds a r = r
@@ -65,7 +69,8 @@ order_of_all cut es batch r =
     ∙ stays
 
 -- what the segments that a commit leaves contain: the survivors of old and new documents
-live_in-committed : (cut : Cut) (schema : List Field) (batch : List (Stamped Op)) (id : ℕ) (es : List EntryValue) → AllByRecursion (λ e. e.segment.schema ≡ schema) es →
+live_in-committed : (cut : Cut) (schema : List Field) (batch : List (Stamped Op)) (id : ℕ) (es : List EntryValue) →
+    AllByRecursion (λ e. e.segment.schema ≡ schema) es →
     flat_map live_in (committed cut schema batch id es) ≡ filter (survives schema batch) (flat_map live_in es ++ joined (groups_of cut (added batch)))
 live_in-committed cut schema batch id es a =
     let groups = groups_of cut (added batch) in
@@ -78,7 +83,8 @@ live_in-committed cut schema batch id es a =
     ∙ sym (filter-append (survives schema batch) (flat_map live_in es) (joined groups))
 
 -- the content after a commit
-pub content-committed : (cut : Cut) (schema : List Field) (batch : List (Stamped Op)) (id : ℕ) (es : List EntryValue) → AllByRecursion (λ e. e.segment.schema ≡ schema) es →
+pub content-committed : (cut : Cut) (schema : List Field) (batch : List (Stamped Op)) (id : ℕ) (es : List EntryValue) →
+    AllByRecursion (λ e. e.segment.schema ≡ schema) es →
     StampsRise (adds (content es) ++ batch) → content (committed cut schema batch id es) ≡ alive schema (adds (content es) ++ batch)
 content-committed cut schema batch id es a rise =
     let history = adds (content es) ++ batch in
@@ -91,22 +97,25 @@ content-committed cut schema batch id es a rise =
     ∙ sym (alive-survives schema history rise)
 
 -- operations that spare the same documents leave the same segments
-pub same_after : (schema : List Field) (ops batch : List (Stamped Op)) → ((s : List Field) (d : Stamped DocumentValue) → survives s ops d ≡ survives s batch d) →
+pub same_after : (schema : List Field) (ops batch : List (Stamped Op)) →
+    ((s : List Field) (d : Stamped DocumentValue) → survives s ops d ≡ survives s batch d) →
     (es : List EntryValue) (id : ℕ) (groups : List (List (Stamped DocumentValue))) →
     map (struck ops) es ++ fresh_from schema ops id groups ≡ map (struck batch) es ++ fresh_from schema batch id groups
-same_after schema ops batch same es id groups = ap (λ fs. fs ++ fresh_from schema ops id groups) (same_struck es) ∙ ap (λ fs. map (struck batch) es ++ fs) (same_fresh id groups) where
-  same_struck : (es : List EntryValue) → map (struck ops) es ≡ map (struck batch) es
-  same_struck [] = refl
-  same_struck (e ∷ es) =
-      ap (λ bits. entry_with e.id e.segment bits ∷ map (struck ops) es) (bits_where-same (survives e.segment.schema ops) (survives e.segment.schema batch) (same e.segment.schema) e.segment.documents e.live)
-      ∙ ap (λ fs. struck batch e ∷ fs) (same_struck es)
+same_after schema ops batch same es id groups = ap (λ fs. fs ++ fresh_from schema ops id groups) (same_struck es)
+    ∙ ap (λ fs. map (struck batch) es ++ fs) (same_fresh id groups) where
+      same_struck : (es : List EntryValue) → map (struck ops) es ≡ map (struck batch) es
+      same_struck [] = refl
+      same_struck (e ∷ es) =
+          ap (λ bits. entry_with e.id e.segment bits ∷ map (struck ops) es) (bits_where-same (survives e.segment.schema ops) (survives e.segment.schema batch)
+          (same e.segment.schema) e.segment.documents e.live)
+          ∙ ap (λ fs. struck batch e ∷ fs) (same_struck es)
 
-  same_bits : (ds : List (Stamped DocumentValue)) → map (survives schema ops) ds ≡ map (survives schema batch) ds
-  same_bits [] = refl
-  same_bits (d ∷ ds) = ap (λ b. b ∷ map (survives schema ops) ds) (same schema d) ∙ ap (λ bs. survives schema batch d ∷ bs) (same_bits ds)
+      same_bits : (ds : List (Stamped DocumentValue)) → map (survives schema ops) ds ≡ map (survives schema batch) ds
+      same_bits [] = refl
+      same_bits (d ∷ ds) = ap (λ b. b ∷ map (survives schema ops) ds) (same schema d) ∙ ap (λ bs. survives schema batch d ∷ bs) (same_bits ds)
 
-  same_fresh : (id : ℕ) (groups : List (List (Stamped DocumentValue))) → fresh_from schema ops id groups ≡ fresh_from schema batch id groups
-  same_fresh id [] = refl
-  same_fresh id (ds ∷ groups) =
-      ap (λ bits. entry_with id (record { schema = schema; documents = ds }) bits ∷ fresh_from schema ops (id + 1) groups) (same_bits ds)
-      ∙ ap (λ fs. fresh schema batch id ds ∷ fs) (same_fresh (id + 1) groups)
+      same_fresh : (id : ℕ) (groups : List (List (Stamped DocumentValue))) → fresh_from schema ops id groups ≡ fresh_from schema batch id groups
+      same_fresh id [] = refl
+      same_fresh id (ds ∷ groups) =
+          ap (λ bits. entry_with id (record { schema = schema; documents = ds }) bits ∷ fresh_from schema ops (id + 1) groups) (same_bits ds)
+          ∙ ap (λ fs. fresh schema batch id ds ∷ fs) (same_fresh (id + 1) groups)

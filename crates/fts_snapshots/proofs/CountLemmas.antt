@@ -1,5 +1,6 @@
 -- How many segments and numbers commits and merges take, and if they can't be refused but for memory.
-use Rattle.std.proofs.Common.{◌≡◌, ◌+◌, ◌*◌, ◌^◌, ◌<◌, ◌≤◌, ◌≢◌, ◌==◌, ◌||◌, ◌⊎◌, inl, inr, ℕ, zero, suc, Bool, true, false, cond, not, Option, None, Some, Err, List, [], ◌∷◌, ◌++◌, length, map, filter, sum_by, nat_lt, refl, sym, ap, subst, ◌∙◌, arith}
+use Rattle.std.proofs.Common.{◌≡◌, ◌+◌, ◌*◌, ◌^◌, ◌<◌, ◌≤◌, ◌≢◌, ◌==◌, ◌||◌, ◌⊎◌, inl, inr, ℕ, zero, suc, Bool, true, false, cond, not, Option, None, Some, Err}
+use Rattle.std.proofs.Common.{List, [], ◌∷◌, ◌++◌, length, map, filter, sum_by, nat_lt, refl, sym, ap, subst, ◌∙◌, arith}
 use Rattle.std.specs.List.{AllByRecursion, flat_map}
 use Rattle.std.proofs.lemmas.Bool.Decides.{nat_tests}
 use Rattle.std.proofs.lemmas.List.{length-append, length-map}
@@ -17,10 +18,8 @@ use Rattle.fts_model.specs.Operations.{added, op_fits}
 use Rattle.fts_snapshots.specs.Commits.{struck, fresh_from, all_after, committed, misfit, new_segments, numbers_fault}
 use Rattle.fts_snapshots.specs.Cuts.{put_into, dealt_from, groups_of, place_of}
 use Rattle.fts_snapshots.specs.Entries.{EntryValue, live_in, live_count, has_live, content}
-use Rattle.fts_snapshots.specs.Infos.{info_of}
-use Rattle.fts_snapshots.specs.declared.entries.entry.SegmentInfo.{SegmentInfo}
 use Rattle.fts_snapshots.specs.LateMerges.{after_merge, ended}
-use Rattle.fts_snapshots.specs.MergedSegments.{merged_of}
+use Rattle.fts_snapshots.specs.MergedSegments.{ids_of, merged_of}
 use Rattle.fts_snapshots.specs.Merges.{is_among, is_there, entry_at, entries_at, without, fault_behind, names_fault, size_fault}
 use Rattle.fts_snapshots.specs.Snapshots.{SnapshotValue, IsSnapshot, after_commit, commit_fault, content_of, merge_fault, segments_and_numbers}
 use Rattle.fts_snapshots.proofs.LateBeginLemmas.{length-live_in, ids_named}
@@ -35,16 +34,19 @@ memory_alone fault e none (inl h) = h
 memory_alone fault e none (inr h) = let bad : None ≡ Some e = sym none ∙ h in cc
 
 -- why a call gives nothing
-pub refused_by : {X : Type 0} (fault : Option Refusal) (wanted : X) (e : Refusal) → (e ≡ Memory) ⊎ (ok_unless fault wanted ≡ Err e) → (e ≡ Memory) ⊎ (fault ≡ Some e)
+pub refused_by : {X : Type 0} (fault : Option Refusal) (wanted : X) (e : Refusal) → (e ≡ Memory) ⊎ (ok_unless fault wanted ≡ Err e) →
+    (e ≡ Memory) ⊎ (fault ≡ Some e)
 refused_by fault wanted e (inl h) = inl h
 refused_by None wanted e (inr h) = cc
 refused_by (Some f) wanted e (inr h) = inr cc
 
 -- one operation more that fits
-pub misfit-push : (schema : List Field) (ops : List (Stamped Op)) (op : Stamped Op) → misfit schema ops ≡ None → op_fits schema op.value ≡ true → misfit schema (ops ++ op ∷ []) ≡ None
+pub misfit-push : (schema : List Field) (ops : List (Stamped Op)) (op : Stamped Op) → misfit schema ops ≡ None → op_fits schema op.value ≡ true →
+    misfit schema (ops ++ op ∷ []) ≡ None
 misfit-push schema [] op h fit = ap (λ b. cond b None (Some (OtherSchema op.stamp))) fit
 misfit-push schema (o ∷ ops) op h fit =
-    elim (op_fits schema o.value) as (λ b. cond b (misfit schema ops) (Some (OtherSchema o.stamp)) ≡ None → cond b (misfit schema (ops ++ op ∷ [])) (Some (OtherSchema o.stamp)) ≡ None)
+    elim (op_fits schema o.value) as (λ b. cond b (misfit schema ops) (Some (OtherSchema o.stamp)) ≡ None → cond b (misfit schema (ops ++ op ∷ []))
+    (Some (OtherSchema o.stamp)) ≡ None)
     [ true ↦ λ k. misfit-push schema ops op k fit | false ↦ λ k. k ] h
 
 length-put_into : {X : Type 0} (k : ℕ) (x : X) (gs : List (List X)) → length (put_into k x gs) ≤ length gs + 1
@@ -60,7 +62,8 @@ length-dealt_from place j gs (x ∷ xs) = omega (arith, length-dealt_from place 
 pub new_segments-le : (cut : Cut) (ops : List (Stamped Op)) → new_segments cut ops ≤ length ops
 new_segments-le cut ops = omega (arith, length-dealt_from (place_of cut) 0 [] (added ops), length-added ops)
 
-length-fresh_from : (schema : List Field) (ops : List (Stamped Op)) (id : ℕ) (gs : List (List (Stamped DocumentValue))) → length (fresh_from schema ops id gs) ≡ length gs
+length-fresh_from : (schema : List Field) (ops : List (Stamped Op)) (id : ℕ) (gs : List (List (Stamped DocumentValue))) →
+    length (fresh_from schema ops id gs) ≡ length gs
 length-fresh_from schema ops id [] = refl
 length-fresh_from schema ops id (g ∷ gs) = omega (arith, length-fresh_from schema ops (id + 1) gs)
 
@@ -78,7 +81,8 @@ length-committed cut schema ops id es =
     )
 
 -- a commit takes at most two for each operation: a segment and its number
-pub commit_counted : (cut : Cut) (ops : List (Stamped Op)) (s : SnapshotValue) → segments_and_numbers (after_commit cut ops s) ≤ segments_and_numbers s + 2 * length ops
+pub commit_counted : (cut : Cut) (ops : List (Stamped Op)) (s : SnapshotValue) →
+    segments_and_numbers (after_commit cut ops s) ≤ segments_and_numbers s + 2 * length ops
 commit_counted cut ops s = omega (arith, length-committed cut s.schema ops s.next_id s.entries, new_segments-le cut ops)
 
 -- there is no fault in operations where there are numbers left for as many segments
@@ -95,7 +99,8 @@ but id es = filter (λ e. not (e.id == id)) es
 
 but-le : (id : ℕ) (es : List EntryValue) → length (but id es) ≤ length es
 but-le id [] = omega arith
-but-le id (e ∷ es) = elim (e.id == id) as (λ b. length (cond (not b) (e ∷ but id es) (but id es)) ≤ length (e ∷ es)) [ true ↦ omega (arith, but-le id es) | false ↦ omega (arith, but-le id es) ]
+but-le id (e ∷ es) = elim (e.id == id) as (λ b. length (cond (not b) (e ∷ but id es) (but id es)) ≤ length (e ∷ es))
+    [ true ↦ omega (arith, but-le id es) | false ↦ omega (arith, but-le id es) ]
 
 but-lt : (id : ℕ) (es : List EntryValue) → is_there es id ≡ true → length (but id es) + 1 ≤ length es
 but-lt id [] h = cc
@@ -106,15 +111,18 @@ but-lt id (e ∷ es) h =
 still_there : (id other : ℕ) (es : List EntryValue) → id ≢ other → is_there es other ≡ true → is_there (but id es) other ≡ true
 still_there id other [] n h = h
 still_there id other (e ∷ es) n h =
-    elim (e.id == id) as (λ b. (e.id == id) ≡ b → ((e.id == other) || is_there es other) ≡ true → is_there (cond (not b) (e ∷ but id es) (but id es)) other ≡ true) [
+    elim (e.id == id) as (λ b. (e.id == id) ≡ b → ((e.id == other) || is_there es other) ≡ true → is_there (cond (not b) (e ∷ but id es) (but id es)) other
+    ≡ true) [
       | true ↦ λ same k.
           let differs : (e.id == other) ≡ false = grind (arith, nat_tests) in
           still_there id other es n (subst (λ b. (b || is_there es other) ≡ true) differs k)
       | false ↦ λ same k.
-          elim (e.id == other) as (λ c. (c || is_there es other) ≡ true → (c || is_there (but id es) other) ≡ true) [ true ↦ λ _. refl | false ↦ λ m. still_there id other es n m ] k
+          elim (e.id == other) as (λ c. (c || is_there es other) ≡ true → (c || is_there (but id es) other) ≡ true)
+          [ true ↦ λ _. refl | false ↦ λ m. still_there id other es n m ] k
     ] refl h
 
-all_still_there : (id : ℕ) (ids : List ℕ) (es : List EntryValue) → AllByRecursion (λ other. id ≢ other) ids → AllByRecursion (λ other. is_there es other ≡ true) ids →
+all_still_there : (id : ℕ) (ids : List ℕ) (es : List EntryValue) → AllByRecursion (λ other. id ≢ other) ids →
+    AllByRecursion (λ other. is_there es other ≡ true) ids →
     AllByRecursion (λ other. is_there (but id es) other ≡ true) ids
 all_still_there id [] es d t = tt
 all_still_there id (other ∷ ids) es d t = (still_there id other es d.0 t.0, all_still_there id ids es d.1 t.1)
@@ -122,7 +130,8 @@ all_still_there id (other ∷ ids) es d t = (still_there id other es d.0 t.0, al
 pub without-more : (id : ℕ) (ids : List ℕ) (es : List EntryValue) → without es (id ∷ ids) ≡ without (but id es) ids
 without-more id ids [] = refl
 without-more id ids (e ∷ es) =
-    elim (e.id == id) as (λ b. cond (not (b || is_among ids e.id)) (e ∷ without es (id ∷ ids)) (without es (id ∷ ids)) ≡ without (cond (not b) (e ∷ but id es) (but id es)) ids) [
+    elim (e.id == id) as (λ b. cond (not (b || is_among ids e.id)) (e ∷ without es (id ∷ ids)) (without es (id ∷ ids))
+    ≡ without (cond (not b) (e ∷ but id es) (but id es)) ids) [
       | true ↦ without-more id ids es
       | false ↦ ap (λ fs. cond (not (is_among ids e.id)) (e ∷ fs) fs) (without-more id ids es)
     ]
@@ -132,7 +141,8 @@ none_without [] = omega arith
 none_without (e ∷ es) = omega (arith, none_without es)
 
 -- without so many different segments that are there, there are so many fewer
-length-without : (ids : List ℕ) (es : List EntryValue) → AllByRecursion (λ id. is_there es id ≡ true) ids → AreDifferent ids → length (without es ids) + length ids ≤ length es
+length-without : (ids : List ℕ) (es : List EntryValue) → AllByRecursion (λ id. is_there es id ≡ true) ids → AreDifferent ids →
+    length (without es ids) + length ids ≤ length es
 length-without [] es t d = omega (arith, none_without es)
 length-without (id ∷ ids) es t d =
     omega (arith, ap length (without-more id ids es), length-without ids (but id es) (all_still_there id ids es d.0 t.1) d.1, but-lt id es t.0)
@@ -141,19 +151,32 @@ length-without (id ∷ ids) es t d =
 pub merge_room : (ids : List ℕ) (s : SnapshotValue) → merge_fault ids s ≡ None → s.next_id + 1 ≤ 2 ^ 62
 merge_room ids s fine =
     let large = size_fault (sum_by live_count (entries_at s.entries ids)) in
-    numbers_room (s.next_id + 1) (first_none large (numbers_fault (s.next_id + 1)) (first_none (names_fault s.entries ids) (first_of large (numbers_fault (s.next_id + 1))) fine).1).1
+    numbers_room (s.next_id + 1)
+    (first_none large (numbers_fault (s.next_id + 1)) (first_none (names_fault s.entries ids) (first_of large (numbers_fault (s.next_id + 1))) fine).1).1
+
+-- a merge that nothing is wrong with leaves so many segments fewer beside its own
+pub fewer_without : (ids : List ℕ) (s : SnapshotValue) → merge_fault ids s ≡ None →
+    length (without s.entries (merged_of (entries_at s.entries ids)).ids) + length ids ≤ length s.entries
+fewer_without ids s fine =
+    let large = size_fault (sum_by live_count (entries_at s.entries ids)) in
+    let given = (names_given s.entries ids (first_none (names_fault s.entries ids) (first_of large (numbers_fault (s.next_id + 1))) fine).0).1 in
+    omega (arith, length-without ids s.entries given.there given.different, ap (λ ns. length (without s.entries ns)) (ids_named s.entries ids given.there))
 
 -- a merge of two segments takes no more than it gives back, and a merge of one takes one more
-pub merge_counted : (more : ℕ) (ids : List ℕ) (s : SnapshotValue) → merge_fault ids s ≡ None → 2 ≤ length ids + more → segments_and_numbers (after_merge ids s) ≤ segments_and_numbers s + more
+pub merge_counted : (more : ℕ) (ids : List ℕ) (s : SnapshotValue) → merge_fault ids s ≡ None → 2 ≤ length ids + more →
+    segments_and_numbers (after_merge ids s) ≤ segments_and_numbers s + more
 merge_counted more ids s fine enough =
-    let large = size_fault (sum_by live_count (entries_at s.entries ids)) in
-    let names = (first_none (names_fault s.entries ids) (first_of large (numbers_fault (s.next_id + 1))) fine).0 in
-    let given = (names_given s.entries ids names).1 in
-    let fewer = length-without ids s.entries given.there given.different in
     let m = merged_of (entries_at s.entries ids) in
     let one = ended s.next_id m s.entries ∷ [] in
-    let named = ap (λ ns. length (without s.entries ns)) (ids_named s.entries ids given.there) in
-    omega (arith, fewer, enough, named, length-filter has_live one, count_by-le-length has_live one, length-append (without s.entries m.ids) (filter has_live one))
+    omega (
+      arith,
+      fewer_without ids s fine,
+      enough,
+      length-filter has_live one,
+      count_by-le-length has_live one,
+      length-append (without s.entries m.ids)
+          (filter has_live one),
+    )
 
 abbrev id_of : EntryValue → ℕ
 id_of e = e.id
@@ -176,14 +199,17 @@ all_are_there (e ∷ es) = (ap (λ b. b || is_there es e.id) (itself e.id), more
 not_among_more : (before : List ℕ) (id other : ℕ) → is_among before other ≡ false → id < other → is_among (before ++ id ∷ []) other ≡ false
 not_among_more [] id other h l = let differs : (other == id) ≡ false = grind (arith, nat_tests) in ap (λ b. b || false) differs
 not_among_more (b ∷ before) id other h l =
-    elim (other == b) as (λ c. (c || is_among before other) ≡ false → (c || is_among (before ++ id ∷ []) other) ≡ false) [ true ↦ λ k. cc | false ↦ λ k. not_among_more before id other k l ] h
+    elim (other == b) as (λ c. (c || is_among before other) ≡ false → (c || is_among (before ++ id ∷ []) other) ≡ false)
+    [ true ↦ λ k. cc | false ↦ λ k. not_among_more before id other k l ] h
 
-none_among_more : (before : List ℕ) (id : ℕ) (es : List EntryValue) → AllByRecursion (λ (e : EntryValue). is_among before e.id ≡ false) es → AllByRecursion (λ (e : EntryValue). id < e.id) es →
+none_among_more : (before : List ℕ) (id : ℕ) (es : List EntryValue) → AllByRecursion (λ (e : EntryValue). is_among before e.id ≡ false) es →
+    AllByRecursion (λ (e : EntryValue). id < e.id) es →
     AllByRecursion (λ (e : EntryValue). is_among (before ++ id ∷ []) e.id ≡ false) es
 none_among_more before id [] a l = tt
 none_among_more before id (e ∷ es) a l = (not_among_more before id e.id a.0 l.0, none_among_more before id es a.1 l.1)
 
-no_fault_behind : (all : List EntryValue) (before : List ℕ) (es : List EntryValue) → AllAreThere all es → AllByRecursion (λ (e : EntryValue). is_among before e.id ≡ false) es → Rises id_of es →
+no_fault_behind : (all : List EntryValue) (before : List ℕ) (es : List EntryValue) → AllAreThere all es →
+    AllByRecursion (λ (e : EntryValue). is_among before e.id ≡ false) es → Rises id_of es →
     fault_behind all before (map id_of es) ≡ None
 no_fault_behind all before [] t n r = refl
 no_fault_behind all before (e ∷ es) t n r =
@@ -200,7 +226,8 @@ no_names_fault : (es : List EntryValue) → 0 < length es → Rises id_of es →
 no_names_fault [] l r = absurd (omega (arith, l))
 no_names_fault (e ∷ es) l r = no_fault_behind (e ∷ es) [] (e ∷ es) (all_are_there (e ∷ es)) (not_among_none (e ∷ es)) r
 
-entries_above : (e : EntryValue) (es fs : List EntryValue) → AllByRecursion (λ (f : EntryValue). e.id < f.id) fs → entries_at (e ∷ es) (map id_of fs) ≡ entries_at es (map id_of fs)
+entries_above : (e : EntryValue) (es fs : List EntryValue) → AllByRecursion (λ (f : EntryValue). e.id < f.id) fs →
+    entries_at (e ∷ es) (map id_of fs) ≡ entries_at es (map id_of fs)
 entries_above e es [] a = refl
 entries_above e es (f ∷ fs) a =
     let above : e.id < f.id = a.0 in
@@ -211,42 +238,27 @@ entries_above e es (f ∷ fs) a =
 entries_at-all : (es : List EntryValue) → Rises id_of es → entries_at es (map id_of es) ≡ es
 entries_at-all [] r = refl
 entries_at-all (e ∷ es) r =
-    ap (λ b. cond b (e ∷ []) (entry_at es e.id) ++ entries_at (e ∷ es) (map id_of es)) (itself e.id) ∙ ap (λ fs. e ∷ fs) (entries_above e es es r.0 ∙ entries_at-all es r.1)
+    ap (λ b. cond b (e ∷ []) (entry_at es e.id) ++ entries_at (e ∷ es) (map id_of es)) (itself e.id)
+    ∙ ap (λ fs. e ∷ fs) (entries_above e es es r.0 ∙ entries_at-all es r.1)
 
-sum_by-infos : (es : List EntryValue) → sum_by (λ (info : SegmentInfo). info.live) (map info_of es) ≡ sum_by live_count es
-sum_by-infos [] = refl
-sum_by-infos (e ∷ es) = omega (arith, sum_by-infos es, sum_by-cons (λ (info : SegmentInfo). info.live) (info_of e) (map info_of es), sum_by-cons live_count e es)
-
-ids_of_infos : (es : List EntryValue) → map (λ (info : SegmentInfo). info.id) (map info_of es) ≡ map id_of es
-ids_of_infos [] = refl
-ids_of_infos (e ∷ es) = ap (λ ids. e.id ∷ ids) (ids_of_infos es)
-
-no_fault_in : (s : SnapshotValue) → IsSnapshot s → 0 < length s.entries → sum_by live_count s.entries ≤ 1048576 → s.next_id + 1 ≤ 2 ^ 62 → merge_fault (map id_of s.entries) s ≡ None
-no_fault_in s i some few room =
+-- there is no fault in all segments, where they have few live documents together and there is a number left
+pub no_fault_in_all : (s : SnapshotValue) → IsSnapshot s → 0 < length s.entries → sum_by live_count s.entries ≤ 1048576 → s.next_id + 1 ≤ 2 ^ 62 →
+    merge_fault (ids_of s.entries) s ≡ None
+no_fault_in_all s i some few room =
     let rising = rises_from_pairs id_of s.entries i.ids in
     let sum = sum_by live_count s.entries in
     let small : nat_lt 1048576 sum ≡ false = grind (arith, nat_tests) in
     let left : nat_lt (2 ^ 62) (s.next_id + 1) ≡ false = grind (arith, nat_tests) in
-    ap (λ f. first_of f (first_of (size_fault (sum_by live_count (entries_at s.entries (map id_of s.entries)))) (numbers_fault (s.next_id + 1)))) (no_names_fault s.entries some rising)
+    ap (λ f. first_of f (first_of (size_fault (sum_by live_count (entries_at s.entries (ids_of s.entries)))) (numbers_fault (s.next_id + 1))))
+    (no_names_fault s.entries some rising)
     ∙ ap (λ es. first_of (size_fault (sum_by live_count es)) (numbers_fault (s.next_id + 1))) (entries_at-all s.entries rising)
     ∙ ap (λ b. first_of (cond b (Some TooLarge) None) (numbers_fault (s.next_id + 1))) small
     ∙ ap (λ b. cond b (Some StampsUsedUp) None) left
 
--- there is no fault in all segments, where they have few live documents together and there is a number left
-pub no_fault_in_all : (s : SnapshotValue) (infos : List SegmentInfo) (ids : List ℕ) → IsSnapshot s → infos ≡ map info_of s.entries → ids ≡ map (λ (info : SegmentInfo). info.id) infos →
-    0 < length s.entries → sum_by (λ (info : SegmentInfo). info.live) infos ≤ 1048576 → s.next_id + 1 ≤ 2 ^ 62 → merge_fault ids s ≡ None
-no_fault_in_all s infos ids i are e some few room =
-    let live : sum_by live_count s.entries ≤ 1048576 = subst (λ n. n ≤ 1048576) (ap (sum_by (λ (info : SegmentInfo). info.live)) are ∙ sum_by-infos s.entries) few in
-    subst (λ ns. merge_fault ns s ≡ None) (sym (e ∙ ap (map (λ (info : SegmentInfo). info.id)) are ∙ ids_of_infos s.entries)) (no_fault_in s i some live room)
-
--- there are as many numbers as segments
-pub ids_counted : (es : List EntryValue) (infos : List SegmentInfo) (ids : List ℕ) → infos ≡ map info_of es → ids ≡ map (λ (info : SegmentInfo). info.id) infos → length ids ≡ length es
-ids_counted es infos ids are e = ap length e ∙ length-map infos (λ (info : SegmentInfo). info.id) ∙ ap length are ∙ length-map es info_of
-
 -- the segments' live documents are what is found
-pub live_documents : (s : SnapshotValue) (infos : List SegmentInfo) → IsSnapshot s → infos ≡ map info_of s.entries → sum_by (λ (info : SegmentInfo). info.live) infos ≡ length (content_of s)
-live_documents s infos i are =
-    ap (sum_by (λ (info : SegmentInfo). info.live)) are ∙ sum_by-infos s.entries ∙ sym (length-live_in s.entries i.each)
+pub live_documents : (s : SnapshotValue) → IsSnapshot s → sum_by live_count s.entries ≡ length (content_of s)
+live_documents s i =
+    sym (length-live_in s.entries i.each)
     ∙ sym (length_permutation (flat_map live_in s.entries) (content s.entries) (permutation_in_order (flat_map live_in s.entries)))
 
 -- a list that isn't told to be empty

@@ -1,12 +1,14 @@
 -- Members that are dealt to groups: these have the members in another order, and none has too many.
-use Rattle.std.proofs.Common.{◌≡◌, ◌<◌, ◌≤◌, ◌+◌, ◌*◌, ◌/◌, ◌%◌, ◌-◌, ℕ, zero, suc, List, [], ◌∷◌, ◌++◌, length, get_or, set, subst, refl, sym, ap, ◌∙◌, append_assoc, arith, ⊎_elim}
+use Rattle.std.proofs.Common.{◌≡◌, ◌<◌, ◌≤◌, ◌+◌, ◌*◌, ◌/◌, ◌%◌, ◌-◌, ℕ, zero, suc, List, [], ◌∷◌, ◌++◌, length, get_or, set, subst, refl, sym, ap, ◌∙◌}
+use Rattle.std.proofs.Common.{append_assoc, arith, ⊎_elim}
 use Rattle.std.specs.List.{AllByRecursion}
 use Rattle.std.specs.List.Sorted.{IsPermutation}
 use Rattle.std.proofs.lemmas.Bool.{cases_lt}
 use Rattle.std.proofs.lemmas.Nat.{div-mul-add, mod-mul-add, mul-add-lt, div-add-mod', le-div}
 use Rattle.std.proofs.Math.Nat.{le-mul_of_pos_right, mul-le-mul_left, mul-le-mul_right}
 use Rattle.std.proofs.lemmas.List.{append-nil, length-append}
-use Rattle.std.proofs.lemmas.List.Sorted.{IsPermutation-refl, IsPermutation-trans, IsPermutation-to_front, IsPermutation-append_left, IsPermutation-append_right}
+use Rattle.std.proofs.lemmas.List.Sorted.{IsPermutation-refl, IsPermutation-trans, IsPermutation-to_front, IsPermutation-append_left}
+use Rattle.std.proofs.lemmas.List.Sorted.{IsPermutation-append_right}
 use Rattle.fts_model.specs.declared.cut.Cut.{Cut}
 use Rattle.fts_model.specs.declared.cut.Cut.TheVariants.{Runs, Deal}
 use Rattle.fts_snapshots.specs.Cuts.{IsCut, place_of, put_into, dealt_from, groups_of}
@@ -23,7 +25,8 @@ put_permutes (suc k) x (g ∷ gs) =
     subst (λ ys. IsPermutation ys (g ++ joined (put_into k x gs))) (sym (append_assoc g (joined gs) (x ∷ [])))
     (IsPermutation-append_right g (joined gs ++ x ∷ []) (joined (put_into k x gs)) (put_permutes k x gs))
 
-dealt_permutes : {X : Type 0} (place : ℕ → ℕ) (j : ℕ) (groups : List (List X)) (xs : List X) → IsPermutation (joined groups ++ xs) (joined (dealt_from place j groups xs))
+dealt_permutes : {X : Type 0} (place : ℕ → ℕ) (j : ℕ) (groups : List (List X)) (xs : List X) →
+    IsPermutation (joined groups ++ xs) (joined (dealt_from place j groups xs))
 dealt_permutes place j groups [] = subst (λ ys. IsPermutation ys (joined groups)) (sym (append-nil (joined groups))) (IsPermutation-refl (joined groups))
 dealt_permutes place j groups (x ∷ xs) =
     let put = put_into (place j) x groups in
@@ -61,7 +64,8 @@ place_in : (m most before turns taken : ℕ) → turns < most → taken < m → 
 place_in m most before turns taken l k =
     let j = (before * most + turns) * m + taken in
     let same : j ≡ before * (m * most) + (turns * m + taken) = omega arith in
-    let round : j / (m * most) ≡ before = ap (λ n. n / (m * most)) same ∙ div-mul-add before (m * most) (turns * m + taken) (mul-add-lt turns m taken most l k) in
+    let round : j / (m * most) ≡ before =
+    ap (λ n. n / (m * most)) same ∙ div-mul-add before (m * most) (turns * m + taken) (mul-add-lt turns m taken most l k) in
     ap (λ n. n * m + j % m) round ∙ ap (λ n. before * m + n) (mod-mul-add (before * most + turns) m taken k)
 
 -- groups while they are dealt to m builders, as often in turn: full ones, those that took a member in this turn, and those that wait for theirs
@@ -81,7 +85,8 @@ record TakesNext {X : Type 0} (turns : ℕ) (x : X) (waiting : List (List X)) (f
   pub count : length rest ≤ length waiting - 1
   pub rest_within : IsWithin turns rest
 
-takes_next : {X : Type 0} (turns : ℕ) (x : X) (waiting : List (List X)) → IsWithin turns waiting → (first : List X) × (rest : List (List X)) × TakesNext turns x waiting first rest
+takes_next : {X : Type 0} (turns : ℕ) (x : X) (waiting : List (List X)) → IsWithin turns waiting →
+    (first : List X) × (rest : List (List X)) × TakesNext turns x waiting first rest
 takes_next turns x [] w = (x ∷ [], [], record { put = refl; first_within = omega arith; count = omega arith; rest_within = tt })
 takes_next turns x (g ∷ gs) w =
     (g ++ x ∷ [], gs, record { put = refl; first_within = omega (arith, w.0, length-append g (x ∷ [])); count = omega arith; rest_within = w.1 })
@@ -160,7 +165,8 @@ dealt_within {X} m most before turns full taken waiting (x ∷ xs) d =
       turn = omega (arith, whole);
       next = omega (arith, d.next);
       full_count = omega (arith, length-append full now, d.full_count, count, all);
-      full_within = All-joined (λ g. length g ≤ most) full now d.full_within (All-weaker_by (λ g. length g ≤ turns + 1) (λ g. length g ≤ most) (λ g h. omega (arith, h, whole)) now now_within);
+      full_within = All-joined (λ g. length g ≤ most) full now d.full_within (All-weaker_by (λ g. length g ≤ turns + 1) (λ g. length g ≤ most)
+          (λ g h. omega (arith, h, whole)) now now_within);
       taken_within = tt;
       waiting_count = omega (arith, d.next);
       waiting_within = tt;
@@ -172,7 +178,16 @@ within_capacity : {X : Type 0} (m most : ℕ) (xs : List X) → 1 ≤ m → 1 �
 within_capacity m most xs l k =
     let index : (0 * most + 0) * m + 0 ≡ 0 = omega arith in
     subst (λ n. IsWithin most (dealt_from (place_among m most) n [] xs)) index
-    (dealt_within m most 0 0 [] [] [] xs (record { turn = omega arith; next = omega arith; full_count = omega arith; full_within = tt; taken_within = tt; waiting_count = omega arith; waiting_within = tt }))
+    (dealt_within m most 0 0 [] [] [] xs (record {
+      turn = omega arith;
+      next = omega arith;
+      full_count = omega arith;
+      full_within = tt;
+      taken_within =
+          tt;
+      waiting_count = omega arith;
+      waiting_within = tt;
+    }))
 
 -- no group of a cut has over 65,536 members
 pub groups_within : {X : Type 0} (cut : Cut) (xs : List X) → IsCut cut → IsWithin 65536 (groups_of cut xs)
@@ -181,7 +196,8 @@ groups_within (Runs n) xs h =
 groups_within (Deal m) xs h = within_capacity m 65536 xs h.0 (omega arith)
 
 -- a member put into a group that is there
-pub put_there : {X : Type 0} (gs : List (List X)) (at : ℕ) (x : X) (g h : List X) → at < length gs → g ≡ get_or gs at g → h ≡ g ++ x ∷ [] → set gs at h ≡ put_into at x gs
+pub put_there : {X : Type 0} (gs : List (List X)) (at : ℕ) (x : X) (g h : List X) → at < length gs → g ≡ get_or gs at g → h ≡ g ++ x ∷ [] →
+    set gs at h ≡ put_into at x gs
 put_there [] at x g h l e k = absurd (omega (arith, l))
 put_there (v ∷ gs) zero x g h l e k = ap (λ ys. ys ∷ gs) (k ∙ ap (λ w. w ++ x ∷ []) e)
 put_there (v ∷ gs) (suc at) x g h l e k = ap (λ ys. v ∷ ys) (put_there gs at x g h (omega (arith, l)) e k)
@@ -193,7 +209,8 @@ put_beyond (v ∷ gs) zero x l = absurd (omega (arith, l))
 put_beyond (v ∷ gs) (suc at) x l = ap (λ ys. v ∷ ys) (put_beyond gs at x (omega (arith, l)))
 
 -- a group has room where it has it with a member more
-pub room_there : {X : Type 0} (most : ℕ) (gs : List (List X)) (at : ℕ) (x : X) (g : List X) → at < length gs → g ≡ get_or gs at g → IsWithin most (put_into at x gs) → length g < most
+pub room_there : {X : Type 0} (most : ℕ) (gs : List (List X)) (at : ℕ) (x : X) (g : List X) → at < length gs → g ≡ get_or gs at g →
+    IsWithin most (put_into at x gs) → length g < most
 room_there most [] at x g l e w = absurd (omega (arith, l))
 room_there most (v ∷ gs) zero x g l e w = omega (arith, w.0, length-append v (x ∷ []), ap length e)
 room_there most (v ∷ gs) (suc at) x g l e w = room_there most gs at x g (omega (arith, l)) e w.1

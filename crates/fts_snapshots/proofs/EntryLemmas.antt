@@ -1,5 +1,6 @@
 -- What segments contain after operations, and that segments without a live document contain nothing.
-use Rattle.std.proofs.Common.{◌≡◌, ◌<◌, ◌≤◌, ◌+◌, ℕ, Bool, true, false, cond, nat_lt, List, [], ◌∷◌, ◌++◌, length, get_or, take, map, filter, count_by, replicate, refl, sym, ap, ◌∙◌, arith}
+use Rattle.std.proofs.Common.{◌≡◌, ◌<◌, ◌≤◌, ◌+◌, ℕ, Bool, true, false, cond, nat_lt, List, [], ◌∷◌, ◌++◌, length, get_or, take, map, filter, count_by}
+use Rattle.std.proofs.Common.{replicate, refl, sym, ap, ◌∙◌, arith}
 use Rattle.std.specs.List.{flat_map, list_any, AllByRecursion}
 use Rattle.std.proofs.lemmas.Bool.Decides.{nat_tests}
 use Rattle.std.proofs.lemmas.List.{length-map, length-append, length-take-le}
@@ -39,7 +40,8 @@ pub bits_where-all : {X : Type 0} (xs : List X) (bits : List Bool) → length bi
 bits_where-all [] [] e = refl
 bits_where-all [] (bit ∷ bits) e = absurd (omega (arith, e))
 bits_where-all (x ∷ xs) [] e = refl
-bits_where-all (x ∷ xs) (bit ∷ bits) e = ap (λ b. b ∷ bits_where (λ x. true) xs bits) (and-true bit) ∙ ap (λ bs. bit ∷ bs) (bits_where-all xs bits (omega (arith, e)))
+bits_where-all (x ∷ xs) (bit ∷ bits) e = ap (λ b. b ∷ bits_where (λ x. true) xs bits) (and-true bit)
+    ∙ ap (λ bs. bit ∷ bs) (bits_where-all xs bits (omega (arith, e)))
 
 -- whether some bit is set
 pub some_counted : (bits : List Bool) → nat_lt 0 (count_by (λ bit. bit) bits) ≡ list_any (λ bit. bit) bits
@@ -71,7 +73,8 @@ pub live_in-struck : (schema : List Field) (ops : List (Stamped Op)) (es : List 
 live_in-struck schema ops [] a = refl
 live_in-struck schema ops (e ∷ es) a =
     ap (λ ds. live_in (struck ops e) ++ ds) (live_in-struck schema ops es a.1)
-    ∙ ap (λ ds. ds ++ filter (survives schema ops) (flat_map live_in es)) (where_set-bits_where (survives e.segment.schema ops) e.segment.documents e.live ∙ ap (λ s. filter (survives s ops) (live_in e)) a.0)
+    ∙ ap (λ ds. ds ++ filter (survives schema ops) (flat_map live_in es)) (where_set-bits_where (survives e.segment.schema ops) e.segment.documents e.live
+    ∙ ap (λ s. filter (survives s ops) (live_in e)) a.0)
     ∙ sym (filter-append (survives schema ops) (live_in e) (flat_map live_in es))
 
 -- new segments contain what survives of their documents
@@ -87,7 +90,8 @@ live_in-fresh schema ops id (ds ∷ groups) =
 abbrev pub entry_with : ℕ → SegmentValue → List Bool → EntryValue
 entry_with id segment live = record { id = id; segment = segment; live = live }
 
-pub same_entry : (id other : ℕ) (segment segments : SegmentValue) (live lives : List Bool) → id ≡ other → segment ≡ segments → live ≡ lives → entry_with id segment live ≡ entry_with other segments lives
+pub same_entry : (id other : ℕ) (segment segments : SegmentValue) (live lives : List Bool) → id ≡ other → segment ≡ segments → live ≡ lives →
+    entry_with id segment live ≡ entry_with other segments lives
 same_entry id other segment segments live lives e f g =
     ap (λ n. entry_with n segment live) e ∙ ap (λ s. entry_with other s live) f ∙ ap (entry_with other segments) g
 
@@ -98,17 +102,20 @@ entry_struck ops e i = record { bits = length-bits_where (survives e.segment.sch
 pub struck_none : (e : EntryValue) → IsEntry e → struck [] e ≡ e
 struck_none e i = ap (λ bits. record { id = e.id; segment = e.segment; live = bits }) (bits_where-all e.segment.documents e.live i.bits)
 
-pub entry_fresh : (schema : List Field) (ops : List (Stamped Op)) (id : ℕ) (documents : List (Stamped DocumentValue)) → length documents ≤ 65536 → IsEntry (fresh schema ops id documents)
+pub entry_fresh : (schema : List Field) (ops : List (Stamped Op)) (id : ℕ) (documents : List (Stamped DocumentValue)) → length documents ≤ 65536 →
+    IsEntry (fresh schema ops id documents)
 entry_fresh schema ops id documents l = record { bits = length-map documents (survives schema ops); few = omega (arith, l) }
 
 fresh_from-push : (schema : List Field) (ops : List (Stamped Op)) (id : ℕ) (gs : List (List (Stamped DocumentValue))) (g : List (Stamped DocumentValue)) →
     fresh_from schema ops id (gs ++ g ∷ []) ≡ fresh_from schema ops id gs ++ fresh schema ops (id + length gs) g ∷ []
 fresh_from-push schema ops id [] g = ap (λ n. fresh schema ops n g ∷ []) (omega arith)
 fresh_from-push schema ops id (h ∷ gs) g =
-    ap (λ es. fresh schema ops id h ∷ es) (fresh_from-push schema ops (id + 1) gs g ∙ ap (λ n. fresh_from schema ops (id + 1) gs ++ fresh schema ops n g ∷ []) (omega arith))
+    ap (λ es. fresh schema ops id h ∷ es) (fresh_from-push schema ops (id + 1) gs g ∙ ap (λ n. fresh_from schema ops (id + 1) gs ++ fresh schema ops n g ∷ [])
+    (omega arith))
 
 -- one new segment more
-pub fresh_more : (schema : List Field) (ops : List (Stamped Op)) (id i : ℕ) (gs : List (List (Stamped DocumentValue))) (g : List (Stamped DocumentValue)) → i < length gs → g ≡ get_or gs i g →
+pub fresh_more : (schema : List Field) (ops : List (Stamped Op)) (id i : ℕ) (gs : List (List (Stamped DocumentValue))) (g : List (Stamped DocumentValue)) →
+    i < length gs → g ≡ get_or gs i g →
     fresh_from schema ops id (take i gs) ++ fresh schema ops (id + i) g ∷ [] ≡ fresh_from schema ops id (take (i + 1) gs)
 fresh_more schema ops id i gs g l e =
     ap (λ n. fresh_from schema ops id (take i gs) ++ fresh schema ops (id + n) g ∷ []) (sym (length-take-le' i gs l))
@@ -118,7 +125,8 @@ fresh_more schema ops id i gs g l e =
       length-take-le' i xs l = omega (arith, length-take-le i xs)
 
 -- what one operation more adds
-pub added_more : (ops : List (Stamped Op)) (i : ℕ) (op : Stamped Op) → i < length ops → op ≡ get_or ops i op → added (take i ops) ++ added_by op.stamp op.value ≡ added (take (i + 1) ops)
+pub added_more : (ops : List (Stamped Op)) (i : ℕ) (op : Stamped Op) → i < length ops → op ≡ get_or ops i op → added (take i ops) ++ added_by op.stamp op.value
+    ≡ added (take (i + 1) ops)
 added_more ops i op l e = sym (added-push (take i ops) op) ∙ ap added (sym (taken ops i op l e))
 
 length-added_by : (stamp : ℕ) (op : Op) → length (added_by stamp op) ≤ 1

@@ -27,7 +27,8 @@ dealt_all P place j groups [] h a = a
 dealt_all P place j groups (x ∷ xs) h a = dealt_all P place (j + 1) (put_into (place j) x groups) xs h.1 (put_all P (place j) x groups h.0 a)
 
 -- where operations fit, the first does, and the others do
-first_fits : (schema : List Field) (op : Stamped Op) (ops : List (Stamped Op)) → misfit schema (op ∷ ops) ≡ None → (op_fits schema op.value ≡ true) × (misfit schema ops ≡ None)
+first_fits : (schema : List Field) (op : Stamped Op) (ops : List (Stamped Op)) → misfit schema (op ∷ ops) ≡ None →
+    (op_fits schema op.value ≡ true) × (misfit schema ops ≡ None)
 first_fits schema op ops h =
     elim (op_fits schema op.value) as (λ b. cond b (misfit schema ops) (Some (OtherSchema op.stamp)) ≡ None → (b ≡ true) × (misfit schema ops ≡ None))
     [ true ↦ λ e. (refl, e) | false ↦ λ e. cc ] h
@@ -41,7 +42,8 @@ added_fit : (schema : List Field) (ops : List (Stamped Op)) → misfit schema op
 added_fit schema [] h = tt
 added_fit schema (op ∷ ops) h =
     let parts = first_fits schema op ops h in
-    All-joined (λ (d : Stamped DocumentValue). fits schema d.value ≡ true) (added_by op.stamp op.value) (added ops) (added_by_fits schema op.stamp op.value parts.0) (added_fit schema ops parts.1)
+    All-joined (λ (d : Stamped DocumentValue). fits schema d.value ≡ true) (added_by op.stamp op.value) (added ops)
+    (added_by_fits schema op.stamp op.value parts.0) (added_fit schema ops parts.1)
 
 -- the documents that fitting operations add fit, in the groups of any cut
 pub groups_fit : (schema : List Field) (cut : Cut) (ops : List (Stamped Op)) → misfit schema ops ≡ None → All (AllFit schema) (groups_of cut (added ops))

@@ -1,5 +1,6 @@
 -- Following is transitive, what fits a snapshot fits each that follows it, and commits and merges are followed.
-use Rattle.std.proofs.Common.{◌≡◌, ◌<◌, ◌≤◌, inl, inr, ℕ, zero, suc, Bool, true, not, Some, List, [], ◌∷◌, ◌++◌, map, filter, slice_get, subst, refl, sym, ap, ◌∙◌, arith, Contains}
+use Rattle.std.proofs.Common.{◌≡◌, ◌<◌, ◌≤◌, inl, inr, ℕ, zero, suc, Bool, true, not, Some, List, [], ◌∷◌, ◌++◌, map, filter, slice_get, subst, refl, sym, ap}
+use Rattle.std.proofs.Common.{◌∙◌, arith, Contains}
 use Rattle.std.proofs.lemmas.List.Elements.{All-contains, All-from_recursion, Contains-append_cases}
 use Rattle.std.proofs.lemmas.Bool.{and_parts}
 use Rattle.fts_model.specs.declared.operation.Op.{Op}
@@ -75,7 +76,8 @@ follows_commit s cut batch =
     record {
       next = omega arith;
       segments = λ e c l.
-          elim (Contains-append_cases old new e (Contains-from_filter has_live (old ++ new) e c).0) as (λ _. (f : EntryValue) × Contains s.entries f × IsLater f e) [
+          elim (Contains-append_cases old new e (Contains-from_filter has_live (old ++ new) e c).0) as (λ _. (f : EntryValue) × Contains s.entries f
+          × IsLater f e) [
             | inl k ↦ let was = contains_mapped (struck batch) s.entries e k in (was.0, was.1, subst (IsLater was.0) was.2 (later_struck batch was.0))
             | inr k ↦
                 let from = All-from_recursion (λ (f : EntryValue). s.next_id ≤ f.id) new (ids_from s.schema batch s.next_id s.next_id groups (omega arith)) in
@@ -90,9 +92,13 @@ follows_end s m =
     record {
       next = omega arith;
       segments = λ e c l.
-          elim (Contains-append_cases (without s.entries m.ids) (filter has_live (one ∷ [])) e c) as (λ _. (f : EntryValue) × Contains s.entries f × IsLater f e) [
+          elim (Contains-append_cases (without s.entries m.ids) (filter has_live (one ∷ [])) e c) as (λ _. (f : EntryValue) × Contains s.entries f
+          × IsLater f e) [
             | inl k ↦ (e, (Contains-from_filter test s.entries e k).0, later_itself e)
-            | inr k ↦ elim (Contains-cases one [] e (Contains-from_filter has_live (one ∷ []) e k).0) as (λ _. (f : EntryValue) × Contains s.entries f × IsLater f e)
-                [ inl x ↦ let high : s.next_id ≡ e.id = ap (λ (f : EntryValue). f.id) x in absurd (omega (arith, high, l)) | inr n ↦ absurd (Contains-none e n) ]
+            | inr k ↦ elim (Contains-cases one [] e (Contains-from_filter has_live (one ∷ []) e k).0) as (λ _. (f : EntryValue) × Contains s.entries f
+                × IsLater f e) [
+                  | inl x ↦ let high : s.next_id ≡ e.id = ap (λ (f : EntryValue). f.id) x in absurd (omega (arith, high, l))
+                  | inr n ↦ absurd (Contains-none e n)
+                ]
           ];
     }

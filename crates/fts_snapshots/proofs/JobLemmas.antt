@@ -9,7 +9,8 @@ use Rattle.fts_snapshots.specs.Jobs.{entry_of}
 use Rattle.fts_snapshots.specs.declared.commits.jobs.CommitJob.{CommitJob}
 
 -- one job's segment more
-pub kept_in_turn : (jobs : List CommitJob) (i : ℕ) (d job : CommitJob) (entry : EntryValue) (kept : List EntryValue) → i < length jobs → job ≡ get_or jobs i d → entry ≡ entry_of job →
+pub kept_in_turn : (jobs : List CommitJob) (i : ℕ) (d job : CommitJob) (entry : EntryValue) (kept : List EntryValue) → i < length jobs → job ≡ get_or jobs i d →
+    entry ≡ entry_of job →
     kept ≡ filter has_live (map entry_of (take i jobs)) → kept ++ filter has_live (entry ∷ []) ≡ filter has_live (map entry_of (take (i + 1) jobs))
 kept_in_turn jobs i d job entry kept within is same h =
     let before = map entry_of (take i jobs) in

@@ -1,5 +1,6 @@
 -- What is begun is a job, what it makes is a merged segment, and that fits the snapshot.
-use Rattle.std.proofs.Common.{◌≡◌, ◌≢◌, ◌<◌, ◌≤◌, ◌+◌, ◌==◌, ◌||◌, inl, inr, ℕ, zero, suc, Bool, true, false, cond, Option, Some, None, List, [], ◌∷◌, ◌++◌, length, map, slice_get, sum_by, All, AllPairs, Contains, subst, refl, sym, ap, ◌∙◌, arith}
+use Rattle.std.proofs.Common.{◌≡◌, ◌≢◌, ◌<◌, ◌≤◌, ◌+◌, ◌==◌, ◌||◌, inl, inr, ℕ, zero, suc, Bool, true, false, cond, Option, Some, None, List, [], ◌∷◌, ◌++◌}
+use Rattle.std.proofs.Common.{length, map, slice_get, sum_by, All, AllPairs, Contains, subst, refl, sym, ap, ◌∙◌, arith}
 use Rattle.std.specs.List.{flat_map, AllByRecursion}
 use Rattle.std.specs.Option.{option_map}
 use Rattle.std.proofs.lemmas.Bool.Decides.{nat_tests}
@@ -102,8 +103,11 @@ one_of (g ∷ es) e f r c d h =
     elim (Contains-cases g es e c) as (λ _. e ≡ f) [
       | inl a ↦ elim (Contains-cases g es f d) as (λ _. e ≡ f)
           [ inl b ↦ sym a ∙ b | inr l ↦ let low = above g.id es f r.0 l in let same = ap (λ (x : EntryValue). x.id) a in absurd (omega (arith, low, same, h)) ]
-      | inr k ↦ elim (Contains-cases g es f d) as (λ _. e ≡ f)
-          [ inl b ↦ let low = above g.id es e r.0 k in let same = ap (λ (x : EntryValue). x.id) b in absurd (omega (arith, low, same, h)) | inr l ↦ one_of es e f r.1 k l h ]
+      | inr k ↦ elim (Contains-cases g es f d) as (λ _. e ≡ f) [
+        | inl b ↦ let low = above g.id es e r.0 k in let same = ap (λ (x : EntryValue). x.id) b in absurd (omega (arith, low, same, h))
+        | inr l ↦ one_of es e
+            f r.1 k l h
+      ]
     ]
 
 all_contained : (es fs : List EntryValue) → ((e : EntryValue) → Contains es e → Contains fs e) → AllByRecursion (λ e. Contains fs e) es
@@ -134,7 +138,8 @@ fits_begun s ids i h =
           ∙ sym (All-contains Here es e i.schemas c);
       mapped = λ e source n c at live.
           let own = got_from_map (λ (e : EntryValue). e.id) job source e.id at in
-          let same = one_of es own.0 e (rises_from_pairs (λ (e : EntryValue). e.id) es i.ids) (among_named es ids own.0 (contains_at job source own.0 own.1)) c own.2 in
+          let same = one_of es own.0 e (rises_from_pairs (λ (e : EntryValue). e.id) es i.ids) (among_named es ids own.0 (contains_at job source own.0 own.1)) c
+          own.2 in
           let is = got_mapped source_of job source own.0 own.1 ∙ ap (λ (f : EntryValue). Some (source_of f)) same in
           let placed = placed_from 0 ss source (source_of e) n (bits_of job (job_begun s ids i h).each) is (set_at e.live n live) in
           (placed.0, placed.1 ∙ ap (λ (k : ℕ). Some (record { source = k; document = n })) (omega arith), placed.2);
@@ -152,13 +157,15 @@ pub here_begun : (es : List EntryValue) (ids : List ℕ) → names_fault es ids 
 here_begun es ids h =
     let there = (names_given es ids h).1.there in
     let m = merged_of (entries_at es ids) in
-    ap (λ gone. cond (is_gone m es) (option_map SourceGone gone) None) (ap (first_gone es) (ids_named es ids there) ∙ none_gone es ids there) ∙ neither_way (is_gone m es) where
+    ap (λ gone. cond (is_gone m es) (option_map SourceGone gone) None) (ap (first_gone es) (ids_named es ids there) ∙ none_gone es ids there)
+    ∙ neither_way (is_gone m es) where
       neither_way : (b : Bool) → cond b (option_map SourceGone (none_of ℕ)) None ≡ none_of Refusal
       neither_way true = refl
       neither_way false = refl
 
 -- a merge that is begun, run and ended with nothing between
-pub merge_here : (s : SnapshotValue) (ids : List ℕ) (m : MergedSegmentValue) → names_fault s.entries ids ≡ None → size_fault (sum_by live_count (entries_at s.entries ids)) ≡ None →
+pub merge_here : (s : SnapshotValue) (ids : List ℕ) (m : MergedSegmentValue) → names_fault s.entries ids ≡ None →
+    size_fault (sum_by live_count (entries_at s.entries ids)) ≡ None →
     m ≡ merged_of (entries_at s.entries ids) → ok_unless (end_fault s.next_id m s.entries) (after_end m s) ≡ ok_unless (merge_fault ids s) (after_merge ids s)
 merge_here s ids m names few is =
     let last = numbers_fault (s.next_id + 1) in

@@ -1,5 +1,6 @@
 -- The loops of the end of a merge.
-use Rattle.std.proofs.Common.{◌≡◌, ◌<◌, ◌≤◌, ◌+◌, ◌==◌, ◌||◌, ℕ, zero, suc, Bool, true, false, cond, not, Option, Some, None, Err, List, [], ◌∷◌, ◌++◌, length, get_or, map, take, drop, slice_get, set, replicate, refl, sym, ap, ◌∙◌, add-one, arith}
+use Rattle.std.proofs.Common.{◌≡◌, ◌<◌, ◌≤◌, ◌+◌, ◌==◌, ◌||◌, ℕ, zero, suc, Bool, true, false, cond, not, Option, Some, None, Err, List, [], ◌∷◌, ◌++◌, length}
+use Rattle.std.proofs.Common.{get_or, map, take, drop, slice_get, set, replicate, refl, sym, ap, ◌∙◌, add-one, arith}
 use Rattle.std.specs.List.{list_any}
 use Rattle.std.specs.Option.{is_some, option_map}
 use Rattle.std.proofs.lemmas.Bool.Decides.{nat_tests}
@@ -44,7 +45,8 @@ length-marked f [] i = refl
 length-marked f (x ∷ xs) zero = ap suc (length-marked f xs zero)
 length-marked f (x ∷ xs) (suc i) = ap suc (length-marked f xs i)
 
-marked-next : {X : Type 0} (f : X → Bool) (xs : List X) (i : ℕ) (x : X) → slice_get xs i ≡ Some x → cond (f x) (set (marked f xs i) i true) (marked f xs i) ≡ marked f xs (suc i)
+marked-next : {X : Type 0} (f : X → Bool) (xs : List X) (i : ℕ) (x : X) → slice_get xs i ≡ Some x → cond (f x) (set (marked f xs i) i true) (marked f xs i)
+    ≡ marked f xs (suc i)
 marked-next f [] i x h = cc
 marked-next f (y ∷ xs) zero x h =
     let same : y ≡ x = cc in
@@ -70,7 +72,8 @@ bit_of es ids origin = is_live_at es (get_or ids origin.source 0) origin.documen
 pub bits_mapped : (es : List EntryValue) (m : MergedSegmentValue) → map (bit_of es m.ids) m.merged.origins ≡ map (λ o. is_live_at es o.0 o.1) (origins_of m)
 bits_mapped es m = sym (map-map (λ (o : ℕ × ℕ). is_live_at es o.0 o.1) (named_by m.ids) m.merged.origins)
 
-pub bit_by_place : (es : List EntryValue) (ids : List ℕ) (o : Origin) (p : Option ℕ) → p ≡ place_in es (get_or ids o.source 0) → is_live_there es p o.document ≡ bit_of es ids o
+pub bit_by_place : (es : List EntryValue) (ids : List ℕ) (o : Origin) (p : Option ℕ) → p ≡ place_in es (get_or ids o.source 0) →
+    is_live_there es p o.document ≡ bit_of es ids o
 bit_by_place es ids o p h = ap (λ q. is_live_there es q o.document) h ∙ live_by_place es (get_or ids o.source 0) o.document
 
 -- one member more of those whose bit is set
@@ -84,23 +87,27 @@ where_set-next (y ∷ xs) (c ∷ bits) zero x b h k =
     ap (λ z. cond c (z ∷ []) []) same ∙ ap (λ a. cond a (x ∷ []) []) bit
 where_set-next (y ∷ xs) (c ∷ bits) (suc i) x b h k =
     let rest = where_set-next xs bits i x b h k in
-    elim c as (λ a. cond a (y ∷ where_set (take (suc i) xs) (take (suc i) bits)) (where_set (take (suc i) xs) (take (suc i) bits)) ≡ cond a (y ∷ where_set (take i xs) (take i bits)) (where_set (take i xs) (take i bits)) ++ cond b (x ∷ []) [])
+    elim c as (λ a. cond a (y ∷ where_set (take (suc i) xs) (take (suc i) bits)) (where_set (take (suc i) xs) (take (suc i) bits))
+    ≡ cond a (y ∷ where_set (take i xs) (take i bits)) (where_set (take i xs) (take i bits)) ++ cond b (x ∷ []) [])
     [ true ↦ ap (λ ys. y ∷ ys) rest | false ↦ rest ]
 
 -- the stamps of the first documents, of those whose bit is set
 abbrev pub stamps_to : List (Stamped DocumentValue) → List Bool → ℕ → List ℕ
 stamps_to ds bits i = map (λ d. d.stamp) (where_set (take i ds) (take i bits))
 
-stamps_next : (ds : List (Stamped DocumentValue)) (bits : List Bool) (i : ℕ) (d : Stamped DocumentValue) (b : Bool) → slice_get ds i ≡ Some d → slice_get bits i ≡ Some b →
+stamps_next : (ds : List (Stamped DocumentValue)) (bits : List Bool) (i : ℕ) (d : Stamped DocumentValue) (b : Bool) → slice_get ds i ≡ Some d →
+    slice_get bits i ≡ Some b →
     stamps_to ds bits (i + 1) ≡ stamps_to ds bits i ++ cond b (d.stamp ∷ []) []
 stamps_next ds bits i d b h k =
     ap (stamps_to ds bits) (add-one i) ∙ ap (map (λ (x : Stamped DocumentValue). x.stamp)) (where_set-next ds bits i d b h k)
-    ∙ map-append (λ (x : Stamped DocumentValue). x.stamp) (where_set (take i ds) (take i bits)) (cond b (d ∷ []) []) ∙ ap (λ ss. stamps_to ds bits i ++ ss) (chosen b) where
+    ∙ map-append (λ (x : Stamped DocumentValue). x.stamp) (where_set (take i ds) (take i bits)) (cond b (d ∷ []) [])
+    ∙ ap (λ ss. stamps_to ds bits i ++ ss) (chosen b) where
       chosen : (b : Bool) → map (λ (x : Stamped DocumentValue). x.stamp) (cond b (d ∷ []) []) ≡ cond b (d.stamp ∷ []) []
       chosen true = refl
       chosen false = refl
 
-pub stamps_skipped : (ds : List (Stamped DocumentValue)) (bits : List Bool) (i : ℕ) (d : Stamped DocumentValue) → slice_get ds i ≡ Some d → slice_get bits i ≡ Some false →
+pub stamps_skipped : (ds : List (Stamped DocumentValue)) (bits : List Bool) (i : ℕ) (d : Stamped DocumentValue) → slice_get ds i ≡ Some d →
+    slice_get bits i ≡ Some false →
     stamps_to ds bits (i + 1) ≡ stamps_to ds bits i
 stamps_skipped ds bits i d h k = stamps_next ds bits i d false h k ∙ append-nil (stamps_to ds bits i)
 
@@ -111,7 +118,8 @@ added_key stamp q old =
       | false ↦ λ t. let other : (q == stamp) ≡ false = grind (arith, nat_tests, t) in sym (ap (λ b. old || (b || false)) other ∙ or-false old)
     ] refl
 
-pub stamps_added : (ds : List (Stamped DocumentValue)) (bits : List Bool) (i : ℕ) (d : Stamped DocumentValue) (stamp q : ℕ) (old new : Bool) → slice_get ds i ≡ Some d → slice_get bits i ≡ Some true → stamp ≡ d.stamp →
+pub stamps_added : (ds : List (Stamped DocumentValue)) (bits : List Bool) (i : ℕ) (d : Stamped DocumentValue) (stamp q : ℕ) (old new : Bool) →
+    slice_get ds i ≡ Some d → slice_get bits i ≡ Some true → stamp ≡ d.stamp →
     new ≡ cond (stamp == q) true old → old ≡ is_among (stamps_to ds bits i) q → new ≡ is_among (stamps_to ds bits (i + 1)) q
 stamps_added ds bits i d stamp q old new h k at n o =
     n ∙ added_key stamp q old ∙ ap (λ b. b || ((q == stamp) || false)) o ∙ ap (λ s. is_among (stamps_to ds bits i) q || ((q == s) || false)) at
@@ -122,12 +130,15 @@ stamps_added ds bits i d stamp q old new h k at n o =
 abbrev pub gone_bits : List EntryValue → MergedSegmentValue → List Bool
 gone_bits es m = map (λ o. not (is_there es o.0)) (origins_of m)
 
-pub gone_bit : (es : List EntryValue) (m : MergedSegmentValue) (i : ℕ) (o : Origin) (b : Bool) → slice_get m.merged.origins i ≡ Some o → b ≡ not (is_there es (get_or m.ids o.source 0)) →
+pub gone_bit : (es : List EntryValue) (m : MergedSegmentValue) (i : ℕ) (o : Origin) (b : Bool) → slice_get m.merged.origins i ≡ Some o →
+    b ≡ not (is_there es (get_or m.ids o.source 0)) →
     slice_get (gone_bits es m) i ≡ Some b
 gone_bit es m i o b h e =
-    got_mapped (λ (p : ℕ × ℕ). not (is_there es p.0)) (origins_of m) i (named_by m.ids o) (got_mapped (named_by m.ids) m.merged.origins i o h) ∙ ap (λ c. Some c) (sym e)
+    got_mapped (λ (p : ℕ × ℕ). not (is_there es p.0)) (origins_of m) i (named_by m.ids o) (got_mapped (named_by m.ids) m.merged.origins i o h)
+    ∙ ap (λ c. Some c) (sym e)
 
-pub stamps_all : (ds : List (Stamped DocumentValue)) (bits : List Bool) (i : ℕ) → i ≡ length ds → length bits ≡ length ds → stamps_to ds bits i ≡ map (λ d. d.stamp) (where_set ds bits)
+pub stamps_all : (ds : List (Stamped DocumentValue)) (bits : List Bool) (i : ℕ) → i ≡ length ds → length bits ≡ length ds →
+    stamps_to ds bits i ≡ map (λ d. d.stamp) (where_set ds bits)
 stamps_all ds bits i e l =
     ap (λ n. stamps_to ds bits n) e ∙ ap (λ xs. map (λ (d : Stamped DocumentValue). d.stamp) (where_set xs (take (length ds) bits))) (take-length ds)
     ∙ ap (λ n. map (λ (d : Stamped DocumentValue). d.stamp) (where_set ds (take n bits))) (sym l)
@@ -142,7 +153,8 @@ dropped [] i x h = cc
 dropped (y ∷ xs) zero x h = let same : y ≡ x = cc in ap (λ z. z ∷ xs) same
 dropped (y ∷ xs) (suc i) x h = dropped xs i x h
 
-any_step : (P : Stamped DocumentValue → Bool) (ds : List (Stamped DocumentValue)) (bits : List Bool) (i : ℕ) (d : Stamped DocumentValue) (b : Bool) → slice_get ds i ≡ Some d → slice_get bits i ≡ Some b →
+any_step : (P : Stamped DocumentValue → Bool) (ds : List (Stamped DocumentValue)) (bits : List Bool) (i : ℕ) (d : Stamped DocumentValue) (b : Bool) →
+    slice_get ds i ≡ Some d → slice_get bits i ≡ Some b →
     any_from P ds bits i ≡ cond b (P d || any_from P ds bits (i + 1)) (any_from P ds bits (i + 1))
 any_step P ds bits i d b h k =
     ap (λ xs. list_any P (where_set xs (drop i bits))) (dropped ds i d h) ∙ ap (λ bs. list_any P (where_set (d ∷ drop (suc i) ds) bs)) (dropped bits i b k)
@@ -151,11 +163,13 @@ any_step P ds bits i d b h k =
       chosen true xs = refl
       chosen false xs = refl
 
-pub any_here : (P : Stamped DocumentValue → Bool) (ds : List (Stamped DocumentValue)) (bits : List Bool) (i : ℕ) (d : Stamped DocumentValue) → slice_get ds i ≡ Some d → slice_get bits i ≡ Some true → P d ≡ true →
+pub any_here : (P : Stamped DocumentValue → Bool) (ds : List (Stamped DocumentValue)) (bits : List Bool) (i : ℕ) (d : Stamped DocumentValue) →
+    slice_get ds i ≡ Some d → slice_get bits i ≡ Some true → P d ≡ true →
     any_from P ds bits i ≡ true
 any_here P ds bits i d h k p = any_step P ds bits i d true h k ∙ ap (λ b. b || any_from P ds bits (i + 1)) p
 
-pub any_next : (P : Stamped DocumentValue → Bool) (ds : List (Stamped DocumentValue)) (bits : List Bool) (i : ℕ) (d : Stamped DocumentValue) (b : Bool) → slice_get ds i ≡ Some d → slice_get bits i ≡ Some b →
+pub any_next : (P : Stamped DocumentValue → Bool) (ds : List (Stamped DocumentValue)) (bits : List Bool) (i : ℕ) (d : Stamped DocumentValue) (b : Bool) →
+    slice_get ds i ≡ Some d → slice_get bits i ≡ Some b →
     cond b (P d) false ≡ false → any_from P ds bits (i + 1) ≡ any_from P ds bits i
 any_next P ds bits i d true h k p = sym (any_step P ds bits i d true h k ∙ ap (λ b. b || any_from P ds bits (i + 1)) p)
 any_next P ds bits i d false h k p = sym (any_step P ds bits i d false h k)
@@ -172,24 +186,28 @@ pub record IsOriginAt (es : List EntryValue) (m : MergedSegmentValue) (i : ℕ) 
   pub is : slice_get m.merged.origins i ≡ Some o
   pub place : p ≡ place_in es (get_or m.ids o.source 0)
 
-pub origin_at : (es : List EntryValue) (m : MergedSegmentValue) (places : List (Option ℕ)) (i : ℕ) (o : Origin) (p : Option ℕ) → IsMergedSegment m → places ≡ map (place_in es) m.ids →
+pub origin_at : (es : List EntryValue) (m : MergedSegmentValue) (places : List (Option ℕ)) (i : ℕ) (o : Origin) (p : Option ℕ) → IsMergedSegment m →
+    places ≡ map (place_in es) m.ids →
     i < length m.merged.origins → o ≡ get_or m.merged.origins i no_origin → p ≡ get_or places o.source None → IsOriginAt es m i o p
 origin_at es m places i o p w are l h k =
     let is = slice_get-get_or m.merged.origins i no_origin l ∙ ap (λ q. Some q) (sym h) in
     let within = all_got (λ (q : Origin). q.source < length m.ids) m.merged.origins i o (sources_named m w) is in
     record { is = is; place = k ∙ ap (λ ps. get_or ps o.source None) are ∙ get_or-map (place_in es) m.ids o.source 0 None within }
 
-pub bits_step : (es : List EntryValue) (m : MergedSegmentValue) (i : ℕ) (o : Origin) (p : Option ℕ) (live : List Bool) (b : Bool) → IsOriginAt es m i o p → b ≡ is_live_there es p o.document →
+pub bits_step : (es : List EntryValue) (m : MergedSegmentValue) (i : ℕ) (o : Origin) (p : Option ℕ) (live : List Bool) (b : Bool) → IsOriginAt es m i o p →
+    b ≡ is_live_there es p o.document →
     live ≡ marked (bit_of es m.ids) m.merged.origins i → cond b (set live i true) live ≡ marked (bit_of es m.ids) m.merged.origins (i + 1)
 bits_step es m i o p live b at h e =
     ap (λ bits. cond b (set bits i true) bits) e ∙ marked-more (bit_of es m.ids) m.merged.origins i o b at.is (h ∙ bit_by_place es m.ids o p at.place)
 
-pub gone_step : (es : List EntryValue) (m : MergedSegmentValue) (i : ℕ) (o : Origin) (p : Option ℕ) (b : Bool) → IsOriginAt es m i o p → is_some p ≡ not b → slice_get (gone_bits es m) i ≡ Some b
+pub gone_step : (es : List EntryValue) (m : MergedSegmentValue) (i : ℕ) (o : Origin) (p : Option ℕ) (b : Bool) → IsOriginAt es m i o p → is_some p ≡ not b →
+    slice_get (gone_bits es m) i ≡ Some b
 gone_step es m i o p b at h =
     gone_bit es m i o b at.is (sym (not-not b) ∙ ap not (sym h ∙ ap is_some at.place ∙ there_by_place es (get_or m.ids o.source 0)))
 
 -- the stamp that was read is that of the document at this place
-pub stamp_at : (ds : List (Stamped DocumentValue)) (i stamp : ℕ) → option_map (λ d. d.stamp) (slice_get ds i) ≡ Some stamp → (d : Stamped DocumentValue) × (slice_get ds i ≡ Some d) × (stamp ≡ d.stamp)
+pub stamp_at : (ds : List (Stamped DocumentValue)) (i stamp : ℕ) → option_map (λ d. d.stamp) (slice_get ds i) ≡ Some stamp →
+    (d : Stamped DocumentValue) × (slice_get ds i ≡ Some d) × (stamp ≡ d.stamp)
 stamp_at [] i stamp h = cc
 stamp_at (d ∷ ds) zero stamp h = let same : d.stamp ≡ stamp = cc in (d, refl, sym same)
 stamp_at (d ∷ ds) (suc i) stamp h = stamp_at ds i stamp h

@@ -1,12 +1,14 @@
 -- The end of a merge leaves the content: each live document of a source is taken out once, and nothing else is.
-use Rattle.std.proofs.Common.{◌≡◌, ◌≢◌, ◌<◌, ◌≤◌, ◌+◌, ◌^◌, ◌==◌, ◌||◌, inl, inr, ℕ, zero, suc, Bool, true, false, cond, not, Option, Some, None, List, [], ◌∷◌, ◌++◌, length, get_or, map, filter, slice_get, All, AllPairs, Contains, subst, refl, sym, ap, ◌∙◌, arith}
+use Rattle.std.proofs.Common.{◌≡◌, ◌≢◌, ◌<◌, ◌≤◌, ◌+◌, ◌^◌, ◌==◌, ◌||◌, inl, inr, ℕ, zero, suc, Bool, true, false, cond, not, Option, Some, None, List, [], ◌∷◌}
+use Rattle.std.proofs.Common.{◌++◌, length, get_or, map, filter, slice_get, All, AllPairs, Contains, subst, refl, sym, ap, ◌∙◌, arith}
 use Rattle.std.specs.List.{AllByRecursion, flat_map}
 use Rattle.std.specs.List.Sorted.{IsPermutation}
 use Rattle.std.proofs.lemmas.Bool.{cases_order}
 use Rattle.std.proofs.lemmas.Bool.Decides.{nat_tests}
 use Rattle.std.proofs.lemmas.List.{append-nil, length-map}
 use Rattle.std.proofs.lemmas.List.Elements.{recursion_from_All, All-append, All-filter, All-weaker, All-cons, All-nil, filter_passes}
-use Rattle.std.proofs.lemmas.List.Sorted.{IsPermutation-refl, IsPermutation-trans, IsPermutation-cons, IsPermutation-middle, IsPermutation-append_left, IsPermutation-append_right, IsPermutation-append_comm}
+use Rattle.std.proofs.lemmas.List.Sorted.{IsPermutation-refl, IsPermutation-trans, IsPermutation-cons, IsPermutation-middle, IsPermutation-append_left}
+use Rattle.std.proofs.lemmas.List.Sorted.{IsPermutation-append_right, IsPermutation-append_comm}
 use Rattle.std.proofs.lemmas.Option.{get_or_from_slice_get}
 use Rattle.std.proofs.lemmas.Grind.{flat_map-append}
 use Rattle.std.proofs.lemmas.Simd.{map-map}
@@ -68,7 +70,8 @@ still_set (b ∷ bits) zero (suc k) h = h
 still_set (b ∷ bits) (suc n) zero h = h
 still_set (b ∷ bits) (suc n) (suc k) h = still_set bits n k h
 
-bit_out : {X : Type 0} (ds : List X) (bits : List Bool) (n : ℕ) (d : X) → is_set bits n ≡ true → slice_get ds n ≡ Some d → IsPermutation (where_set ds bits) (d ∷ where_set ds (clear_bit bits n))
+bit_out : {X : Type 0} (ds : List X) (bits : List Bool) (n : ℕ) (d : X) → is_set bits n ≡ true → slice_get ds n ≡ Some d →
+    IsPermutation (where_set ds bits) (d ∷ where_set ds (clear_bit bits n))
 bit_out [] bits n d h k = cc
 bit_out (x ∷ ds) [] n d h k = cc
 bit_out (x ∷ ds) (b ∷ bits) zero d h k =
@@ -79,7 +82,8 @@ bit_out (x ∷ ds) (b ∷ bits) (suc n) d h k =
     let rest = bit_out ds bits n d h k in
     let left = where_set ds (clear_bit bits n) in
     elim b as (λ b. IsPermutation (cond b (x ∷ where_set ds bits) (where_set ds bits)) (d ∷ cond b (x ∷ left) left)) [
-      | true ↦ IsPermutation-trans (x ∷ where_set ds bits) (x ∷ d ∷ left) (d ∷ x ∷ left) (IsPermutation-cons x (where_set ds bits) (d ∷ left) rest) (IsPermutation-middle (x ∷ []) d left)
+      | true ↦ IsPermutation-trans (x ∷ where_set ds bits) (x ∷ d ∷ left) (d ∷ x ∷ left) (IsPermutation-cons x (where_set ds bits) (d ∷ left) rest)
+          (IsPermutation-middle (x ∷ []) d left)
       | false ↦ rest
     ]
 
@@ -99,14 +103,18 @@ untouched : (o : ℕ × ℕ) (es : List EntryValue) → AllByRecursion (λ f. o.
 untouched o [] a = refl
 untouched o (e ∷ es) a =
     let other : (e.id == o.0) ≡ false = grind (arith, nat_tests, a.0) in
-    ap (λ c. record { id = e.id; segment = e.segment; live = cond c (clear_bit e.live o.1) e.live } ∷ map (cleared o) es) other ∙ ap (λ fs. e ∷ fs) (untouched o es a.1)
+    ap (λ c. record { id = e.id; segment = e.segment; live = cond c (clear_bit e.live o.1) e.live } ∷ map (cleared o) es) other
+    ∙ ap (λ fs. e ∷ fs) (untouched o es a.1)
 
 -- what clearing one bit does to the live documents of segments
-one_cleared : (o : ℕ × ℕ) (es : List EntryValue) (d : Stamped DocumentValue) → ById es → is_live_at es o.0 o.1 ≡ true → doc_at es o.0 o.1 ≡ Some d → IsPermutation (flat_map live_in es) (d ∷ flat_map live_in (map (cleared o) es))
+one_cleared : (o : ℕ × ℕ) (es : List EntryValue) (d : Stamped DocumentValue) → ById es → is_live_at es o.0 o.1 ≡ true → doc_at es o.0 o.1 ≡ Some d →
+    IsPermutation (flat_map live_in es) (d ∷ flat_map live_in (map (cleared o) es))
 one_cleared o [] d r h k = cc
 one_cleared o (e ∷ es) d r h k =
-    elim (e.id == o.0) as (λ c. (e.id == o.0) ≡ c → cond c (is_set e.live o.1) (is_live_at es o.0 o.1) ≡ true → cond c (slice_get e.segment.documents o.1) (doc_at es o.0 o.1) ≡ Some d →
-    IsPermutation (live_in e ++ flat_map live_in es) (d ∷ (where_set e.segment.documents (cond c (clear_bit e.live o.1) e.live) ++ flat_map live_in (map (cleared o) es)))) [
+    elim (e.id == o.0) as (λ c. (e.id == o.0) ≡ c → cond c (is_set e.live o.1) (is_live_at es o.0 o.1) ≡ true → cond c (slice_get e.segment.documents o.1)
+    (doc_at es o.0 o.1) ≡ Some d →
+    IsPermutation (live_in e ++ flat_map live_in es)
+    (d ∷ (where_set e.segment.documents (cond c (clear_bit e.live o.1) e.live) ++ flat_map live_in (map (cleared o) es)))) [
       | true ↦ λ t h k.
           let same : e.id ≡ o.0 = grind (arith, nat_tests) in
           let stay = untouched o es (subst (λ n. AllByRecursion (λ (f : EntryValue). n < f.id) es) same r.0) in
@@ -127,7 +135,8 @@ none_cleared o (e ∷ es) r h =
       | true ↦ λ t h.
           let same : e.id ≡ o.0 = grind (arith, nat_tests) in
           let stay = untouched o es (subst (λ n. AllByRecursion (λ (f : EntryValue). n < f.id) es) same r.0) in
-          ap (λ fs. where_set e.segment.documents (clear_bit e.live o.1) ++ flat_map live_in fs) stay ∙ ap (λ ds. ds ++ flat_map live_in es) (bit_clear e.segment.documents e.live o.1 h)
+          ap (λ fs. where_set e.segment.documents (clear_bit e.live o.1) ++ flat_map live_in fs) stay
+          ∙ ap (λ ds. ds ++ flat_map live_in es) (bit_clear e.segment.documents e.live o.1 h)
       | false ↦ λ t h. ap (λ ds. live_in e ++ ds) (none_cleared o es r.1 h)
     ] refl h
 
@@ -137,10 +146,14 @@ same_pair o i k p q = ap (λ x. (x, o.1)) p ∙ ap (λ y. (i, y)) q
 live_elsewhere : (o : ℕ × ℕ) (es : List EntryValue) (p : ℕ × ℕ) → o ≢ p → is_live_at (map (cleared o) es) p.0 p.1 ≡ is_live_at es p.0 p.1
 live_elsewhere o [] p h = refl
 live_elsewhere o (e ∷ es) p h =
-    elim (e.id == p.0) as (λ c. (e.id == p.0) ≡ c → cond c (is_set (cond (e.id == o.0) (clear_bit e.live o.1) e.live) p.1) (is_live_at (map (cleared o) es) p.0 p.1) ≡ cond c (is_set e.live p.1) (is_live_at es p.0 p.1)) [
+    elim (e.id == p.0) as (λ c. (e.id == p.0) ≡ c → cond c (is_set (cond (e.id == o.0) (clear_bit e.live o.1) e.live) p.1)
+    (is_live_at (map (cleared o) es) p.0 p.1) ≡ cond c (is_set e.live p.1) (is_live_at es p.0 p.1)) [
       | true ↦ λ t.
-          elim (e.id == o.0) as (λ b. (e.id == o.0) ≡ b → is_set (cond b (clear_bit e.live o.1) e.live) p.1 ≡ is_set e.live p.1)
-          [ true ↦ λ u. let first : o.0 ≡ p.0 = grind (arith, nat_tests) in set_elsewhere e.live o.1 p.1 (λ q. h (same_pair o p.0 p.1 first q)) | false ↦ λ _. refl ] refl
+          elim (e.id == o.0) as (λ b. (e.id == o.0) ≡ b → is_set (cond b (clear_bit e.live o.1) e.live) p.1 ≡ is_set e.live p.1) [
+            | true ↦ λ u. let first : o.0 ≡ p.0 = grind (arith, nat_tests) in set_elsewhere e.live o.1 p.1 (λ q. h (same_pair o p.0 p.1 first q))
+            | false ↦ λ _.
+                refl
+          ] refl
       | false ↦ λ t. live_elsewhere o es p h
     ] refl
 
@@ -148,7 +161,8 @@ doc_stays : (o : ℕ × ℕ) (es : List EntryValue) (i k : ℕ) → doc_at (map 
 doc_stays o [] i k = refl
 doc_stays o (e ∷ es) i k = ap (cond (e.id == i) (slice_get e.segment.documents k)) (doc_stays o es i k)
 
-all_ids : (P : ℕ → Type 0) (o : ℕ × ℕ) (es : List EntryValue) → AllByRecursion (λ (e : EntryValue). P e.id) es → AllByRecursion (λ (e : EntryValue). P e.id) (map (cleared o) es)
+all_ids : (P : ℕ → Type 0) (o : ℕ × ℕ) (es : List EntryValue) → AllByRecursion (λ (e : EntryValue). P e.id) es →
+    AllByRecursion (λ (e : EntryValue). P e.id) (map (cleared o) es)
 all_ids P o [] a = tt
 all_ids P o (e ∷ es) a = (a.0, all_ids P o es a.1)
 
@@ -162,7 +176,8 @@ bits_now es os = map (λ o. is_live_at es o.0 o.1) os
 
 bits_elsewhere : (o : ℕ × ℕ) (es : List EntryValue) (os : List (ℕ × ℕ)) → AllByRecursion (λ p. o ≢ p) os → bits_now (map (cleared o) es) os ≡ bits_now es os
 bits_elsewhere o es [] a = refl
-bits_elsewhere o es (p ∷ os) a = ap (λ b. b ∷ bits_now (map (cleared o) es) os) (live_elsewhere o es p a.0) ∙ ap (λ bs. is_live_at es p.0 p.1 ∷ bs) (bits_elsewhere o es os a.1)
+bits_elsewhere o es (p ∷ os) a = ap (λ b. b ∷ bits_now (map (cleared o) es) os) (live_elsewhere o es p a.0)
+    ∙ ap (λ bs. is_live_at es p.0 p.1 ∷ bs) (bits_elsewhere o es os a.1)
 
 map_same : {X : Type 0} (xs : List X) → map (λ x. x) xs ≡ xs
 map_same [] = refl
@@ -179,7 +194,8 @@ away o (q ∷ os) (suc k) p a h = away o os k p a.1 h
 
 taken_out : (ds : List (Stamped DocumentValue)) (os : List (ℕ × ℕ)) (es : List EntryValue) → length ds ≡ length os → ById es → AreOnce os → AreRight es ds os →
     IsPermutation (flat_map live_in es) (where_set ds (bits_now es os) ++ flat_map live_in (map (cleared_by os) es))
-taken_out [] [] es l r a g = subst (λ fs. IsPermutation (flat_map live_in es) (flat_map live_in fs)) (sym (map_same es)) (IsPermutation-refl (flat_map live_in es))
+taken_out [] [] es l r a g =
+    subst (λ fs. IsPermutation (flat_map live_in es) (flat_map live_in fs)) (sym (map_same es)) (IsPermutation-refl (flat_map live_in es))
 taken_out [] (o ∷ os) es l r a g = absurd (omega (arith, l))
 taken_out (d ∷ ds) [] es l r a g = absurd (omega (arith, l))
 taken_out (d ∷ ds) (o ∷ os) es l r a g =
@@ -187,9 +203,11 @@ taken_out (d ∷ ds) (o ∷ os) es l r a g =
     let right : AreRight fs ds os = λ k p h live. doc_stays o es p.0 p.1 ∙ g (suc k) p h (sym (live_elsewhere o es p (away o os k p a.0 h)) ∙ live) in
     let rest = taken_out ds os fs (omega (arith, l)) (ids_cleared o es r) a.1 right in
     let end = flat_map live_in (map (cleared_by (o ∷ os)) es) in
-    let joined = subst (λ gs. IsPermutation (flat_map live_in fs) (where_set ds (bits_now fs os) ++ flat_map live_in gs)) (map-map (cleared_by os) (cleared o) es) rest in
+    let joined = subst (λ gs. IsPermutation (flat_map live_in fs) (where_set ds (bits_now fs os) ++ flat_map live_in gs))
+    (map-map (cleared_by os) (cleared o) es) rest in
     let behind = subst (λ bs. IsPermutation (flat_map live_in fs) (where_set ds bs ++ end)) (bits_elsewhere o es os a.0) joined in
-    elim (is_live_at es o.0 o.1) as (λ b. is_live_at es o.0 o.1 ≡ b → IsPermutation (flat_map live_in es) (cond b (d ∷ where_set ds (bits_now es os)) (where_set ds (bits_now es os)) ++ end)) [
+    elim (is_live_at es o.0 o.1) as (λ b. is_live_at es o.0 o.1 ≡ b → IsPermutation (flat_map live_in es)
+    (cond b (d ∷ where_set ds (bits_now es os)) (where_set ds (bits_now es os)) ++ end)) [
       | true ↦ λ h. IsPermutation-trans (flat_map live_in es) (d ∷ flat_map live_in fs) (d ∷ (where_set ds (bits_now es os) ++ end))
           (one_cleared o es d r h (g 0 o refl h)) (IsPermutation-cons d (flat_map live_in fs) (where_set ds (bits_now es os) ++ end) behind)
       | false ↦ λ h. subst (λ xs. IsPermutation xs (where_set ds (bits_now es os) ++ end)) (none_cleared o es r h) behind
@@ -200,7 +218,11 @@ among_contained [] id c = absurd (Contains-none id c)
 among_contained (i ∷ ids) id c =
     elim (id == i) as (λ b. (id == i) ≡ b → (b || is_among ids id) ≡ true) [
       | true ↦ λ _. refl
-      | false ↦ λ e. elim (Contains-cases i ids id c) as (λ _. is_among ids id ≡ true) [ inl same ↦ absurd (grind (arith, nat_tests)) | inr k ↦ among_contained ids id k ]
+      | false ↦ λ e. elim (Contains-cases i ids id c) as (λ _. is_among ids id ≡ true) [
+        | inl same ↦ absurd (grind (arith, nat_tests))
+        | inr k ↦ among_contained
+            ids id k
+      ]
     ] refl
 
 contained_among : (ids : List ℕ) (id : ℕ) → is_among ids id ≡ true → Contains ids id
@@ -212,7 +234,8 @@ contained_among (i ∷ ids) id h =
     ] refl h
 
 still_cleared : (o : ℕ × ℕ) (e : EntryValue) (n : ℕ) → is_set (cleared o e).live n ≡ true → is_set e.live n ≡ true
-still_cleared o e n = elim (e.id == o.0) as (λ b. is_set (cond b (clear_bit e.live o.1) e.live) n ≡ true → is_set e.live n ≡ true) [ true ↦ still_set e.live o.1 n | false ↦ λ h. h ]
+still_cleared o e n = elim (e.id == o.0) as (λ b. is_set (cond b (clear_bit e.live o.1) e.live) n ≡ true → is_set e.live n ≡ true)
+    [ true ↦ still_set e.live o.1 n | false ↦ λ h. h ]
 
 still_cleared_by : (os : List (ℕ × ℕ)) (e : EntryValue) (n : ℕ) → is_set (cleared_by os e).live n ≡ true → is_set e.live n ≡ true
 still_cleared_by [] e n h = h
@@ -240,7 +263,8 @@ stays (o ∷ os) e a =
     let other : (e.id == o.0) ≡ false = grind (arith, nat_tests, n) in
     ap (λ c. cleared_by os (record { id = e.id; segment = e.segment; live = cond c (clear_bit e.live o.1) e.live })) other ∙ stays os e a.1
 
-all_named : (ids : List ℕ) (os : List (ℕ × ℕ)) (id : ℕ) → ((k : ℕ) (o : ℕ × ℕ) → slice_get os k ≡ Some o → Contains ids o.0) → is_among ids id ≡ false → AllByRecursion (λ o. o.0 ≢ id) os
+all_named : (ids : List ℕ) (os : List (ℕ × ℕ)) (id : ℕ) → ((k : ℕ) (o : ℕ × ℕ) → slice_get os k ≡ Some o → Contains ids o.0) → is_among ids id ≡ false →
+    AllByRecursion (λ o. o.0 ≢ id) os
 all_named ids [] id h n = tt
 all_named ids (o ∷ os) id h n =
     (λ e. let there = among_contained ids o.0 (h 0 o refl) in let same = ap (is_among ids) e in cc, all_named ids os id (λ k. h (suc k)) n)
@@ -253,9 +277,12 @@ left_behind ids os [] h f = refl
 left_behind ids os (e ∷ es) h f =
     let rest = left_behind ids os es h (λ g c. f g (Contains-behind e es g c)) in
     let others = filter (λ e. not (is_among ids e.id)) es in
-    elim (is_among ids e.id) as (λ b. is_among ids e.id ≡ b → live_in (cleared_by os e) ++ flat_map live_in (map (cleared_by os) es) ≡ flat_map live_in (cond (not b) (e ∷ others) others)) [
+    elim (is_among ids e.id) as (λ b. is_among ids e.id ≡ b → live_in (cleared_by os e) ++ flat_map live_in (map (cleared_by os) es) ≡ flat_map live_in
+    (cond (not b) (e ∷ others) others)) [
       | true ↦ λ t.
-          let none = none_set (cleared_by os e).segment.documents (cleared_by os e).live (λ n s. let at = f e (Contains-first e es e refl) (contained_among ids e.id t) n (still_cleared_by os e n s) in cleared_there os e n at.0 at.1 s) in
+          let none = none_set (cleared_by os e).segment.documents (cleared_by os e).live
+          (λ n s. let at = f e (Contains-first e es e refl) (contained_among ids e.id t) n (still_cleared_by os e n s) in cleared_there os e n at.0 at.1
+          s) in
           ap (λ ds. ds ++ flat_map live_in (map (cleared_by os) es)) none ∙ rest
       | false ↦ λ t.
           ap (λ g. live_in g ++ flat_map live_in (map (cleared_by os) es)) (stays os e (all_named ids os e.id h t)) ∙ ap (λ ds. live_in e ++ ds) rest
@@ -269,11 +296,13 @@ one_place (p ∷ os) (suc k) zero o a h i = let same : p ≡ o = cc in absurd (a
 one_place (p ∷ os) (suc k) (suc j) o a h i = ap suc (one_place os k j o a.1 h i)
 
 -- where a live document is
-found_at : (es : List EntryValue) (id n : ℕ) → is_live_at es id n ≡ true → (e : EntryValue) × Contains es e × (e.id ≡ id) × (is_set e.live n ≡ true) × (doc_at es id n ≡ slice_get e.segment.documents n)
+found_at : (es : List EntryValue) (id n : ℕ) → is_live_at es id n ≡ true → (e : EntryValue) × Contains es e × (e.id ≡ id) × (is_set e.live n ≡ true)
+    × (doc_at es id n ≡ slice_get e.segment.documents n)
 found_at [] id n h = cc
 found_at (e ∷ es) id n h =
     elim (e.id == id) as (λ b. (e.id == id) ≡ b → cond b (is_set e.live n) (is_live_at es id n) ≡ true →
-    (f : EntryValue) × Contains (e ∷ es) f × (f.id ≡ id) × (is_set f.live n ≡ true) × (cond b (slice_get e.segment.documents n) (doc_at es id n) ≡ slice_get f.segment.documents n)) [
+    (f : EntryValue) × Contains (e ∷ es) f × (f.id ≡ id) × (is_set f.live n ≡ true)
+    × (cond b (slice_get e.segment.documents n) (doc_at es id n) ≡ slice_get f.segment.documents n)) [
       | true ↦ λ t k. (e, Contains-first e es e refl, grind (arith, nat_tests), k, refl)
       | false ↦ λ t k. let f = found_at es id n k in (f.0, Contains-behind e es f.0 f.1, f.2, f.3, f.4)
     ] refl h
@@ -308,7 +337,8 @@ contains_index [] k l = absurd (omega (arith, l))
 contains_index (i ∷ ids) zero l = Contains-first i ids i refl
 contains_index (i ∷ ids) (suc k) l = Contains-behind i ids (get_or ids k 0) (contains_index ids k (omega (arith, l)))
 
-same_origin : (ids : List ℕ) (o p : Origin) → AllPairs (λ a b. a ≢ b) ids → o.source < length ids → p.source < length ids → named_by ids o ≡ named_by ids p → o ≡ p
+same_origin : (ids : List ℕ) (o p : Origin) → AllPairs (λ a b. a ≢ b) ids → o.source < length ids → p.source < length ids → named_by ids o ≡ named_by ids p →
+    o ≡ p
 same_origin ids o p d l m e =
     let first : get_or ids o.source 0 ≡ get_or ids p.source 0 = ap (λ (q : ℕ × ℕ). q.0) e in
     let source : o.source ≡ p.source = elim (cases_order o.source p.source) [
@@ -321,13 +351,16 @@ same_origin ids o p d l m e =
     ap (λ s. change s o.document) source ∙ ap (change p.source) document
 
 -- where no origin stands twice, no document of a source does
-once_named : (ids : List ℕ) (os : List Origin) → AllPairs (λ a b. a ≢ b) ids → AllByRecursion (λ (o : Origin). o.source < length ids) os → AllPairs (λ a b. a ≢ b) os →
+once_named : (ids : List ℕ) (os : List Origin) → AllPairs (λ a b. a ≢ b) ids → AllByRecursion (λ (o : Origin). o.source < length ids) os →
+    AllPairs (λ a b. a ≢ b) os →
     AreOnce (map (named_by ids) os)
 once_named ids [] d n p = tt
-once_named ids (o ∷ os) d n p = (apart os n.1 (recursion_from_All (λ q. o ≢ q) os (pairs_front (λ a b. a ≢ b) o os p)), once_named ids os d n.1 (pairs_behind (λ a b. a ≢ b) o os p)) where
-  apart : (qs : List Origin) → AllByRecursion (λ (q : Origin). q.source < length ids) qs → AllByRecursion (λ q. o ≢ q) qs → AllByRecursion (λ q. named_by ids o ≢ q) (map (named_by ids) qs)
-  apart [] ls ne = tt
-  apart (q ∷ qs) ls ne = ((λ e. ne.0 (same_origin ids o q d n.0 ls.0 e)), apart qs ls.1 ne.1)
+once_named ids (o ∷ os) d n p =
+    (apart os n.1 (recursion_from_All (λ q. o ≢ q) os (pairs_front (λ a b. a ≢ b) o os p)), once_named ids os d n.1 (pairs_behind (λ a b. a ≢ b) o os p)) where
+      apart : (qs : List Origin) → AllByRecursion (λ (q : Origin). q.source < length ids) qs → AllByRecursion (λ q. o ≢ q) qs →
+          AllByRecursion (λ q. named_by ids o ≢ q) (map (named_by ids) qs)
+      apart [] ls ne = tt
+      apart (q ∷ qs) ls ne = ((λ e. ne.0 (same_origin ids o q d n.0 ls.0 e)), apart qs ls.1 ne.1)
 
 -- the sources of the origins
 pub sources_named : (m : MergedSegmentValue) → IsMergedSegment m → AllByRecursion (λ (o : Origin). o.source < length m.ids) m.merged.origins
@@ -339,17 +372,20 @@ origins_named : (m : MergedSegmentValue) → IsMergedSegment m → (k : ℕ) (o 
 origins_named m w k o h =
     all_got (λ (p : ℕ × ℕ). Contains m.ids p.0) (origins_of m) k o
     (all_mapped (λ (p : ℕ × ℕ). Contains m.ids p.0) (named_by m.ids) m.merged.origins
-    (All-weaker_by (λ (o : Origin). o.source < length m.ids) (λ o. Contains m.ids (get_or m.ids o.source 0)) (λ o l. contains_index m.ids o.source l) m.merged.origins (sources_named m w)))
+    (All-weaker_by (λ (o : Origin). o.source < length m.ids) (λ o. Contains m.ids (get_or m.ids o.source 0)) (λ o l. contains_index m.ids o.source l)
+    m.merged.origins (sources_named m w)))
     h
 
 -- each live document of a source has an origin, at whose place it stands
-found_in : (m : MergedSegmentValue) (s : SnapshotValue) → Fits m s → (e : EntryValue) → Contains s.entries e → Contains m.ids e.id → (n : ℕ) → is_set e.live n ≡ true →
+found_in : (m : MergedSegmentValue) (s : SnapshotValue) → Fits m s → (e : EntryValue) → Contains s.entries e → Contains m.ids e.id → (n : ℕ) →
+    is_set e.live n ≡ true →
     (k : ℕ) × (slice_get (origins_of m) k ≡ Some (e.id, n)) × (slice_get m.merged.segment.documents k ≡ slice_get e.segment.documents n)
 found_in m s f e c named n h =
     let at = place_in m.ids e.id named in
     let found = f.mapped e at.0 n c at.1 h in (
       found.0,
-      got_mapped (named_by m.ids) m.merged.origins found.0 (record { source = at.0; document = n }) found.1 ∙ ap (λ (i : ℕ). Some (i, n)) (get_or_from_slice_get m.ids at.0 e.id 0 at.1),
+      got_mapped (named_by m.ids) m.merged.origins found.0 (record { source = at.0; document = n }) found.1
+          ∙ ap (λ (i : ℕ). Some (i, n)) (get_or_from_slice_get m.ids at.0 e.id 0 at.1),
       found.2,
     )
 
@@ -363,7 +399,8 @@ right_documents m s w f k o h live =
     at.4 ∙ sym mapped.2 ∙ ap (slice_get m.merged.segment.documents) same
 
 -- the content stays
-pub content-ended : (m : MergedSegmentValue) (s : SnapshotValue) → IsMergedSegment m → IsSnapshot s → Fits m s → content (after_end m s).entries ≡ content s.entries
+pub content-ended : (m : MergedSegmentValue) (s : SnapshotValue) → IsMergedSegment m → IsSnapshot s → Fits m s →
+    content (after_end m s).entries ≡ content s.entries
 content-ended m s w i f =
     let es = s.entries in
     let os = origins_of m in
@@ -377,13 +414,16 @@ content-ended m s w i f =
     let out = taken_out documents os es paired rising once (right_documents m s w f) in
     let left = left_behind m.ids os es (origins_named m w) (λ e c n k h. let at = found_in m s f e c n k h in (at.0, at.1)) in
     let moved = subst (λ ds. IsPermutation (flat_map live_in es) (new ++ ds)) left out in
-    let whole = flat_map-append live_in kept (filter has_live (one ∷ [])) ∙ ap (λ ds. flat_map live_in kept ++ ds) (live_in-filter (one ∷ []) ∙ append-nil new) in
+    let whole = flat_map-append live_in kept (filter has_live (one ∷ []))
+    ∙ ap (λ ds. flat_map live_in kept ++ ds) (live_in-filter (one ∷ []) ∙ append-nil new) in
     in_stamp_order-permutation (flat_map live_in es) (flat_map live_in (after_end m s).entries) (by_stamp (content es) i.stamps)
     (subst (IsPermutation (flat_map live_in es)) (sym whole)
-    (IsPermutation-trans (flat_map live_in es) (new ++ flat_map live_in kept) (flat_map live_in kept ++ new) moved (IsPermutation-append_comm new (flat_map live_in kept))))
+    (IsPermutation-trans (flat_map live_in es) (new ++ flat_map live_in kept) (flat_map live_in kept ++ new) moved
+    (IsPermutation-append_comm new (flat_map live_in kept))))
 
 -- what the end of a merge leaves is a snapshot
-pub snapshot_after_end : (m : MergedSegmentValue) (s : SnapshotValue) → IsMergedSegment m → IsSnapshot s → Fits m s → m.merged.segment.schema ≡ s.schema → s.next_id + 1 ≤ 2 ^ 62 → IsSnapshot (after_end m s)
+pub snapshot_after_end : (m : MergedSegmentValue) (s : SnapshotValue) → IsMergedSegment m → IsSnapshot s → Fits m s → m.merged.segment.schema ≡ s.schema →
+    s.next_id + 1 ≤ 2 ^ 62 → IsSnapshot (after_end m s)
 snapshot_after_end m s w i f schema room =
     let kept = without s.entries m.ids in
     let test : EntryValue → Bool = λ e. not (is_among m.ids e.id) in
@@ -393,15 +433,18 @@ snapshot_after_end m s w i f schema room =
     let below = All-filter test (λ (e : EntryValue). e.id < s.next_id) s.entries i.below in
     let and_one : (P : EntryValue → Type 0) → All P s.entries → P one → All P (kept ++ last) =
     λ P a b. All-append P kept last (All-filter test P s.entries a) (All-filter has_live P (one ∷ []) (All-cons P one [] b (All-nil P))) in
-    let bits : length one.live ≡ length m.merged.segment.documents = length-map (origins_of m) (λ (o : ℕ × ℕ). is_live_at s.entries o.0 o.1) ∙ length-map m.merged.origins (named_by m.ids) ∙ w.merged.paired in
+    let bits : length one.live ≡ length m.merged.segment.documents = length-map (origins_of m) (λ (o : ℕ × ℕ). is_live_at s.entries o.0 o.1)
+    ∙ length-map m.merged.origins (named_by m.ids) ∙ w.merged.paired in
     record {
       ids =
           pairs_from_rises rank (kept ++ last)
           (rises_joined rank s.next_id kept last (rises_filtered rank test s.entries (rises_from_pairs rank s.entries i.ids))
           (recursion_from_All (λ (e : EntryValue). e.id < s.next_id) kept below)
           (rises_filtered rank has_live (one ∷ []) (tt, tt))
-          (recursion_from_All (λ (e : EntryValue). s.next_id ≤ e.id) last (All-filter has_live (λ (e : EntryValue). s.next_id ≤ e.id) (one ∷ []) (All-cons (λ (e : EntryValue). s.next_id ≤ e.id) one [] (omega arith) (All-nil (λ (e : EntryValue). s.next_id ≤ e.id))))));
-      below = and_one (λ e. e.id < s.next_id + 1) (All-weaker (λ (e : EntryValue). e.id < s.next_id) (λ e. e.id < s.next_id + 1) (λ e h. omega (arith, h)) s.entries i.below) (omega arith);
+          (recursion_from_All (λ (e : EntryValue). s.next_id ≤ e.id) last (All-filter has_live (λ (e : EntryValue). s.next_id ≤ e.id) (one ∷ [])
+          (All-cons (λ (e : EntryValue). s.next_id ≤ e.id) one [] (omega arith) (All-nil (λ (e : EntryValue). s.next_id ≤ e.id))))));
+      below = and_one (λ e. e.id < s.next_id + 1) (All-weaker (λ (e : EntryValue). e.id < s.next_id) (λ e. e.id < s.next_id + 1) (λ e h. omega (arith, h))
+          s.entries i.below) (omega arith);
       room = room;
       schemas = and_one (λ e. e.segment.schema ≡ s.schema) i.schemas schema;
       each = and_one IsEntry i.each (record { bits = bits; few = w.few });

@@ -38,13 +38,15 @@ none_gone es (id ∷ ids) l h =
 
 some_there : (m : MergedSegmentValue) (es : List EntryValue) → 0 < length m.ids → gone_fault m es ≡ None → list_any (is_there es) m.ids ≡ true
 some_there m es l h =
-    elim (list_any (is_there es) m.ids) as (λ b. list_any (is_there es) m.ids ≡ b → cond (not b || is_some_live es (stamps_left m es)) (option_map SourceGone (first_gone es m.ids)) None ≡ None → b ≡ true) [
+    elim (list_any (is_there es) m.ids) as (λ b. list_any (is_there es) m.ids ≡ b → cond (not b || is_some_live es (stamps_left m es))
+    (option_map SourceGone (first_gone es m.ids)) None ≡ None → b ≡ true) [
       | true ↦ λ _ _. refl
       | false ↦ λ t k. sym t ∙ none_gone es m.ids l k
     ] refl h
 
 -- the schema of a merged segment that can take the place of its sources is that of the snapshot
-pub schema_ended : (m : MergedSegmentValue) (s : SnapshotValue) → IsMergedSegment m → IsSnapshot s → Fits m s → gone_fault m s.entries ≡ None → m.merged.segment.schema ≡ s.schema
+pub schema_ended : (m : MergedSegmentValue) (s : SnapshotValue) → IsMergedSegment m → IsSnapshot s → Fits m s → gone_fault m s.entries ≡ None →
+    m.merged.segment.schema ≡ s.schema
 schema_ended m s w i f h =
     let at = any_there s.entries m.ids (some_there m s.entries w.some h) in
     f.schema at.0 at.1 at.2 ∙ All-contains (λ (e : EntryValue). e.segment.schema ≡ s.schema) s.entries at.0 i.schemas at.1

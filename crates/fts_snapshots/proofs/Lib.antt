@@ -18,6 +18,7 @@ pub mod LateBeginLemmas
 pub mod StampLemmas
 pub mod CountLemmas
 pub mod PreparedLemmas
+pub mod ChangeLemmas
 pub mod MergedInfoLemmas
 -- The lemmas.
 pub mod SearchLemmas

@@ -1,5 +1,6 @@
 -- The places of segments, and what is there.
-use Rattle.std.proofs.Common.{◌≡◌, ◌≢◌, ◌<◌, ◌≤◌, ◌==◌, ◌||◌, inl, inr, ℕ, zero, suc, true, false, cond, Option, Some, None, Result, Ok, Err, List, [], ◌∷◌, length, get_or, slice_get, subst, refl, sym, ap, ◌∙◌, arith}
+use Rattle.std.proofs.Common.{◌≡◌, ◌≢◌, ◌<◌, ◌≤◌, ◌==◌, ◌||◌, inl, inr, ℕ, zero, suc, true, false, cond, Option, Some, None, Result, Ok, Err, List, [], ◌∷◌}
+use Rattle.std.proofs.Common.{length, get_or, slice_get, subst, refl, sym, ap, ◌∙◌, arith}
 use Rattle.std.specs.Prelude.{MatchResult, MatchOption}
 use Rattle.std.specs.Slice.{IsItemAt}
 use denote.Ref.{Bor}
@@ -52,7 +53,8 @@ place_absent (e ∷ es) id h =
     ap (λ b. cond b (Some 0) (option_map suc (place_in es id))) other ∙ ap (option_map suc) (place_absent es id (λ k l. h (suc k) (omega (arith, l))))
 
 -- what a search by halving finds
-pub place_searched : (es : List EntryValue) (numbers : List ℕ) (id : ℕ) (r : Result ℕ ℕ) → IdsRise es → numbers ≡ ids_of es → IsBinarySearchResult (λ y. nat_cmp y id) numbers r →
+pub place_searched : (es : List EntryValue) (numbers : List ℕ) (id : ℕ) (r : Result ℕ ℕ) → IdsRise es → numbers ≡ ids_of es →
+    IsBinarySearchResult (λ y. nat_cmp y id) numbers r →
     MatchResult r (λ i. Some i ≡ place_in es id) (λ i. None ≡ place_in es id)
 place_searched es numbers id r rise is found = by_result r (searched xs id r (subst (λ ns. IsBinarySearchResult (λ y. nat_cmp y id) ns r) is found) up) where
   xs : List ℕ
@@ -70,7 +72,10 @@ place_searched es numbers id r rise is found = by_result r (searched xs id r (su
         | inr (inr higher) ↦ absurd (omega arith)
       ]
 
-  by_result : (r : Result ℕ ℕ) → MatchResult r (λ i. (i < length (ids_of es)) × (get_or (ids_of es) i 0 ≡ id)) (λ i. (i ≤ length (ids_of es)) × ((k : ℕ) → k < i → get_or (ids_of es) k 0 < id) × ((k : ℕ) → i ≤ k → k < length (ids_of es) → id < get_or (ids_of es) k 0)) →
+  by_result : (r : Result ℕ ℕ) →
+      MatchResult r (λ i. (i < length (ids_of es)) × (get_or (ids_of es) i 0 ≡ id))
+      (λ i. (i ≤ length (ids_of es)) × ((k : ℕ) → k < i → get_or (ids_of es) k 0 < id) × ((k : ℕ) → i ≤ k → k < length (ids_of es) → id < get_or (ids_of es) k
+      0)) →
       MatchResult r (λ i. Some i ≡ place_in es id) (λ i. None ≡ place_in es id)
   by_result (Ok i) s = sym (place_found es id i ids s.0 s.1)
   by_result (Err i) s =
@@ -99,7 +104,8 @@ there_none (e ∷ es) id h =
 pub there_one : (es : List EntryValue) (id : ℕ) (entry : EntryValue) → entry_at es id ≡ entry ∷ [] → is_there es id ≡ true
 there_one [] id entry h = cc
 there_one (e ∷ es) id entry h =
-    elim (e.id == id) as (λ b. cond b (e ∷ []) (entry_at es id) ≡ entry ∷ [] → (b || is_there es id) ≡ true) [ true ↦ λ k. refl | false ↦ λ k. there_one es id entry k ] h
+    elim (e.id == id) as (λ b. cond b (e ∷ []) (entry_at es id) ≡ entry ∷ [] → (b || is_there es id) ≡ true)
+    [ true ↦ λ k. refl | false ↦ λ k. there_one es id entry k ] h
 
 pub entry_none : (es : List EntryValue) (id : ℕ) → place_in es id ≡ None → entry_at es id ≡ []
 entry_none [] id h = refl
@@ -119,7 +125,8 @@ moved (Some j) k h = let same : suc j ≡ k = cc in (j, refl, sym same)
 pub entry_some : (es : List EntryValue) (id k : ℕ) → place_in es id ≡ Some k → (e : EntryValue) × (slice_get es k ≡ Some e) × (entry_at es id ≡ e ∷ [])
 entry_some [] id k h = cc
 entry_some (e ∷ es) id k h =
-    elim (e.id == id) as (λ b. cond b (Some 0) (option_map suc (place_in es id)) ≡ Some k → (f : EntryValue) × (slice_get (e ∷ es) k ≡ Some f) × (cond b (e ∷ []) (entry_at es id) ≡ f ∷ [])) [
+    elim (e.id == id) as (λ b. cond b (Some 0) (option_map suc (place_in es id)) ≡ Some k → (f : EntryValue) × (slice_get (e ∷ es) k ≡ Some f)
+    × (cond b (e ∷ []) (entry_at es id) ≡ f ∷ [])) [
       | true ↦ λ t. let first : 0 ≡ k = cc in (e, ap (slice_get (e ∷ es)) (sym first), refl)
       | false ↦ λ t.
           let m = moved (place_in es id) k t in
@@ -138,7 +145,8 @@ live_by_place (e ∷ es) id n =
     [ true ↦ refl | false ↦ there_next e es (place_in es id) n ∙ live_by_place es id n ]
 
 -- what is read at the place of a number
-pub found_by_place : (es : List EntryValue) (id k : ℕ) (r : Option (Bor EntryValue)) → place_in es id ≡ Some k → IsItemAt es k r → MatchOption r (entry_at es id ≡ []) (λ e. entry_at es id ≡ e.now ∷ [])
+pub found_by_place : (es : List EntryValue) (id k : ℕ) (r : Option (Bor EntryValue)) → place_in es id ≡ Some k → IsItemAt es k r →
+    MatchOption r (entry_at es id ≡ []) (λ e. entry_at es id ≡ e.now ∷ [])
 found_by_place es id k (Some e) h is =
     let found = entry_some es id k h in
     found.2 ∙ ap (λ f. f ∷ []) (sym (is.1 ∙ get_or_from_slice_get es k found.0 e.now found.1))

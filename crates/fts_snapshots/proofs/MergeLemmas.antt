@@ -39,10 +39,12 @@ pub record AreNamed (es : List EntryValue) (before ids : List ℕ) : Type 0 wher
 named : (es : List EntryValue) (before ids : List ℕ) → fault_behind es before ids ≡ None → AreNamed es before ids
 named es before [] h = record { there = tt; new = tt; different = tt }
 named es before (id ∷ ids) h =
-    elim (is_there es id) as (λ b. is_there es id ≡ b → cond b (cond (is_among before id) (Some (SegmentTwice id)) (fault_behind es (before ++ id ∷ []) ids)) (Some (UnknownSegment id)) ≡ None → AreNamed es before (id ∷ ids)) [
+    elim (is_there es id) as (λ b. is_there es id ≡ b → cond b (cond (is_among before id) (Some (SegmentTwice id)) (fault_behind es (before ++ id ∷ []) ids))
+    (Some (UnknownSegment id)) ≡ None → AreNamed es before (id ∷ ids)) [
       | false ↦ λ _ k. cc
       | true ↦ λ t k.
-          elim (is_among before id) as (λ c. is_among before id ≡ c → cond c (Some (SegmentTwice id)) (fault_behind es (before ++ id ∷ []) ids) ≡ None → AreNamed es before (id ∷ ids)) [
+          elim (is_among before id) as (λ c. is_among before id ≡ c → cond c (Some (SegmentTwice id)) (fault_behind es (before ++ id ∷ []) ids) ≡ None →
+          AreNamed es before (id ∷ ids)) [
             | true ↦ λ _ m. cc
             | false ↦ λ e m.
                 let rest = named es (before ++ id ∷ []) ids m in
@@ -57,15 +59,19 @@ names_given es [] h = cc
 names_given es (id ∷ ids) h = ((λ e. cc), named es [] (id ∷ ids) h)
 
 -- numbers behind others: one that no segment has, one that stands before, and any other
-pub fault_unknown : (es : List EntryValue) (before ids : List ℕ) (id : ℕ) → is_there es id ≡ false → fault_behind es before (id ∷ ids) ≡ Some (UnknownSegment id)
-fault_unknown es before ids id h = ap (λ b. cond b (cond (is_among before id) (Some (SegmentTwice id)) (fault_behind es (before ++ id ∷ []) ids)) (Some (UnknownSegment id))) h
+pub fault_unknown : (es : List EntryValue) (before ids : List ℕ) (id : ℕ) → is_there es id ≡ false →
+    fault_behind es before (id ∷ ids) ≡ Some (UnknownSegment id)
+fault_unknown es before ids id h =
+    ap (λ b. cond b (cond (is_among before id) (Some (SegmentTwice id)) (fault_behind es (before ++ id ∷ []) ids)) (Some (UnknownSegment id))) h
 
-pub fault_twice : (es : List EntryValue) (before ids : List ℕ) (id : ℕ) → is_there es id ≡ true → is_among before id ≡ true → fault_behind es before (id ∷ ids) ≡ Some (SegmentTwice id)
+pub fault_twice : (es : List EntryValue) (before ids : List ℕ) (id : ℕ) → is_there es id ≡ true → is_among before id ≡ true →
+    fault_behind es before (id ∷ ids) ≡ Some (SegmentTwice id)
 fault_twice es before ids id h k =
     ap (λ b. cond b (cond (is_among before id) (Some (SegmentTwice id)) (fault_behind es (before ++ id ∷ []) ids)) (Some (UnknownSegment id))) h
     ∙ ap (λ b. cond b (Some (SegmentTwice id)) (fault_behind es (before ++ id ∷ []) ids)) k
 
-pub fault_later : (es : List EntryValue) (before ids : List ℕ) (id : ℕ) → is_there es id ≡ true → is_among before id ≡ false → fault_behind es before (id ∷ ids) ≡ fault_behind es (before ++ id ∷ []) ids
+pub fault_later : (es : List EntryValue) (before ids : List ℕ) (id : ℕ) → is_there es id ≡ true → is_among before id ≡ false →
+    fault_behind es before (id ∷ ids) ≡ fault_behind es (before ++ id ∷ []) ids
 fault_later es before ids id h k =
     ap (λ b. cond b (cond (is_among before id) (Some (SegmentTwice id)) (fault_behind es (before ++ id ∷ []) ids)) (Some (UnknownSegment id))) h
     ∙ ap (λ b. cond b (Some (SegmentTwice id)) (fault_behind es (before ++ id ∷ []) ids)) k

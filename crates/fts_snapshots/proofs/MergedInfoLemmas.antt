@@ -1,5 +1,6 @@
 -- How large segments are after a merge.
-use Rattle.std.proofs.Common.{◌≡◌, ◌+◌, ◌<◌, ◌≤◌, ◌==◌, ◌||◌, ◌≢◌, ℕ, zero, suc, Bool, true, false, cond, not, Option, None, Some, List, [], ◌∷◌, ◌++◌, length, map, filter, nat_lt, slice_index, sum_by, count_by, All, refl, sym, ap, subst, ◌∙◌, arith}
+use Rattle.std.proofs.Common.{◌≡◌, ◌+◌, ◌<◌, ◌≤◌, ◌==◌, ◌||◌, ◌≢◌, ℕ, zero, suc, Bool, true, false, cond, not, Option, None, Some, List, [], ◌∷◌, ◌++◌, length}
+use Rattle.std.proofs.Common.{map, filter, nat_lt, slice_index, sum_by, count_by, All, refl, sym, ap, subst, ◌∙◌, arith}
 use Rattle.std.specs.List.{AllByRecursion, flat_map, list_any}
 use Rattle.std.proofs.lemmas.Bool.Decides.{nat_tests}
 use Rattle.std.proofs.lemmas.List.{length-map, length-append, map-append}
@@ -65,7 +66,8 @@ live_but-le id (e ∷ es) =
 live_but : (id : ℕ) (es : List EntryValue) → sum_by live_count (but id es) + sum_by live_count (entry_at es id) ≤ sum_by live_count es
 live_but id [] = omega arith
 live_but id (e ∷ es) =
-    elim (e.id == id) as (λ b. sum_by live_count (cond (not b) (e ∷ but id es) (but id es)) + sum_by live_count (cond b (e ∷ []) (entry_at es id)) ≤ sum_by live_count (e ∷ es)) [
+    elim (e.id == id) as (λ b. sum_by live_count (cond (not b) (e ∷ but id es) (but id es)) + sum_by live_count (cond b (e ∷ []) (entry_at es id))
+    ≤ sum_by live_count (e ∷ es)) [
       | true ↦ omega (arith, live_but-le id es, sum_by-cons live_count e es, sum_by-cons live_count e [])
       | false ↦ omega (arith, live_but id es, sum_by-cons live_count e es, sum_by-cons live_count e (but id es))
     ]
@@ -90,7 +92,8 @@ live_without-none [] = omega arith
 live_without-none (e ∷ es) = omega (arith, live_without-none es, sum_by-cons live_count e es, sum_by-cons live_count e (without es []))
 
 -- some segments and the others have no more live documents than all
-live_without : (ids : List ℕ) (es : List EntryValue) → AreDifferent ids → sum_by live_count (without es ids) + sum_by live_count (entries_at es ids) ≤ sum_by live_count es
+live_without : (ids : List ℕ) (es : List EntryValue) → AreDifferent ids → sum_by live_count (without es ids) + sum_by live_count (entries_at es ids)
+    ≤ sum_by live_count es
 live_without [] es d = omega (arith, live_without-none es)
 live_without (id ∷ ids) es d =
     omega (
@@ -109,11 +112,13 @@ length-content es each = length_permutation (flat_map live_in es) (content es) (
 -- a size without a fault is small
 small : (n : ℕ) → size_fault n ≡ None → n ≤ 1048576
 small n h =
-    let within : nat_lt 1048576 n ≡ false = elim (nat_lt 1048576 n) as (λ b. cond b (Some TooLarge) None ≡ None → b ≡ false) [ true ↦ λ k. cc | false ↦ λ _. refl ] h in
+    let within : nat_lt 1048576 n ≡ false =
+    elim (nat_lt 1048576 n) as (λ b. cond b (Some TooLarge) None ≡ None → b ≡ false) [ true ↦ λ k. cc | false ↦ λ _. refl ] h in
     grind (arith, nat_tests)
 
 -- a merge leaves one segment in place of its sources, and each of its documents is live
-pub infos_merged : (s : SnapshotValue) (ids : List ℕ) → IsSnapshot s → merge_fault ids s ≡ None → map info_of (after_merge ids s).entries ≡ infos_after_merge ids s
+pub infos_merged : (s : SnapshotValue) (ids : List ℕ) → IsSnapshot s → merge_fault ids s ≡ None →
+    map info_of (after_merge ids s).entries ≡ infos_after_merge ids s
 infos_merged s ids i fine =
     let es = s.entries in
     let job = entries_at es ids in
@@ -132,11 +137,13 @@ infos_merged s ids i fine =
     let ending = filter has_live (one ∷ []) in
     let docs = length-merged job begun.each in
     let bits : length one.live ≡ length m.merged.segment.documents
-    = length-map (origins_of m) (λ (o : ℕ × ℕ). is_live_at es o.0 o.1) ∙ length-map m.merged.origins (λ (o : Origin). (slice_index m.ids o.source, o.document)) ∙ made.merged.paired in
+    = length-map (origins_of m) (λ (o : ℕ × ℕ). is_live_at es o.0 o.1) ∙ length-map m.merged.origins (λ (o : Origin). (slice_index m.ids o.source, o.document))
+    ∙ made.merged.paired in
     let same : sum_by live_count (kept ++ ending) ≡ sum_by live_count es
     = sym (length-content (kept ++ ending) after.each) ∙ ap length (content-ended m s made i fits) ∙ length-content es i.each in
     let named : kept ≡ without es ids = ap (without es) (ids_named es ids given.there) in
-    let some : 0 < sum = live_together job (all_entries_at (λ e. has_live e ≡ true) es ids (recursion_from_All (λ e. has_live e ≡ true) es i.live)) (some_sources es ids first.0) in
+    let some : 0 < sum = live_together job (all_entries_at (λ e. has_live e ≡ true) es ids (recursion_from_All (λ e. has_live e ≡ true) es i.live))
+    (some_sources es ids first.0) in
     let live : live_count one ≡ sum
     = omega (
       arith,
@@ -161,7 +168,9 @@ infos_merged s ids i fine =
           ]
 
 -- the same of what a merge gives
-pub infos_given : (s : SnapshotValue) (ids : List ℕ) (r : Result SnapshotValue Refusal) → IsSnapshot s → Gives (λ new. new) r (ok_unless (merge_fault ids s) (after_merge ids s)) →
+pub infos_given : (s : SnapshotValue) (ids : List ℕ) (r : Result SnapshotValue Refusal) → IsSnapshot s →
+    Gives (λ new. new) r (ok_unless (merge_fault ids s) (after_merge ids s)) →
     IfOk r (λ new. map info_of new.entries ≡ infos_after_merge ids s)
-infos_given s ids (Ok new) i g = let both = unless_ok (merge_fault ids s) (after_merge ids s) new g in ap (λ n. map info_of n.entries) both.1 ∙ infos_merged s ids i both.0
+infos_given s ids (Ok new) i g = let both = unless_ok (merge_fault ids s) (after_merge ids s) new g in
+    ap (λ n. map info_of n.entries) both.1 ∙ infos_merged s ids i both.0
 infos_given s ids (Err e) i g = tt

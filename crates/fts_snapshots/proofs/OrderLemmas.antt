@@ -1,11 +1,13 @@
 -- Lists that rise by a number of their members, and lists put in the order of stamps.
-use Rattle.std.proofs.Common.{◌≡◌, ◌≢◌, ◌≤◌, ◌<◌, ℕ, Bool, true, false, cond, ◌==◌, List, [], ◌∷◌, ◌++◌, filter, subst, refl, sym, ap, ◌∙◌, arith, nat_le, AllPairs}
+use Rattle.std.proofs.Common.{◌≡◌, ◌≢◌, ◌≤◌, ◌<◌, ℕ, Bool, true, false, cond, ◌==◌, List, [], ◌∷◌, ◌++◌, filter, subst, refl, sym, ap, ◌∙◌, arith, nat_le}
+use Rattle.std.proofs.Common.{AllPairs}
 use Rattle.std.specs.List.{AllByRecursion, sum_by}
 use Rattle.std.specs.List.Sorted.{IsPermutation}
 use Rattle.std.proofs.lemmas.List.Sums.{sum_by-cons}
 use Rattle.std.proofs.lemmas.List.Elements.{All-from_recursion, recursion_from_All}
 use Rattle.std.proofs.lemmas.List.Kept.{AllPairs-cons}
-use Rattle.std.proofs.lemmas.List.Sorted.{sum_by-IsPermutation, IsPermutation-refl, IsPermutation-sym, IsPermutation-cons, IsPermutation-trans, IsPermutation-middle, Contains-permutation}
+use Rattle.std.proofs.lemmas.List.Sorted.{sum_by-IsPermutation, IsPermutation-refl, IsPermutation-sym, IsPermutation-cons, IsPermutation-trans}
+use Rattle.std.proofs.lemmas.List.Sorted.{IsPermutation-middle, Contains-permutation}
 use Rattle.std.proofs.lemmas.Bool.Decides.{nat_tests}
 use Rattle.fts_model.specs.declared.operation.Stamped.{Stamped}
 use Rattle.fts_model.proofs.Lists.{pairs_behind, pairs_front, pairs_none, one_order}
@@ -49,7 +51,8 @@ rises_filtered rank p (x ∷ xs) r =
     [ true ↦ (All-filtered (λ y. rank x < rank y) p xs r.0, rises_filtered rank p xs r.1) | false ↦ rises_filtered rank p xs r.1 ]
 
 -- what stays below a number, and behind it what doesn't
-pub rises_joined : {X : Type 0} (rank : X → ℕ) (n : ℕ) (xs ys : List X) → Rises rank xs → AllByRecursion (λ x. rank x < n) xs → Rises rank ys → AllByRecursion (λ y. n ≤ rank y) ys →
+pub rises_joined : {X : Type 0} (rank : X → ℕ) (n : ℕ) (xs ys : List X) → Rises rank xs → AllByRecursion (λ x. rank x < n) xs → Rises rank ys →
+    AllByRecursion (λ y. n ≤ rank y) ys →
     Rises rank (xs ++ ys)
 rises_joined rank n [] ys r a s b = s
 rises_joined rank n (x ∷ xs) ys r a s b = (
@@ -77,13 +80,15 @@ permutation_placed x [] = IsPermutation-refl (x ∷ [])
 permutation_placed x (y ∷ ys) =
     elim (nat_le x.stamp y.stamp) as (λ b. IsPermutation (x ∷ y ∷ ys) (cond b (x ∷ y ∷ ys) (y ∷ placed x ys))) [
       | true ↦ IsPermutation-refl (x ∷ y ∷ ys)
-      | false ↦ IsPermutation-trans (x ∷ y ∷ ys) (y ∷ x ∷ ys) (y ∷ placed x ys) (IsPermutation-middle (x ∷ []) y ys) (IsPermutation-cons y (x ∷ ys) (placed x ys) (permutation_placed x ys))
+      | false ↦ IsPermutation-trans (x ∷ y ∷ ys) (y ∷ x ∷ ys) (y ∷ placed x ys) (IsPermutation-middle (x ∷ []) y ys)
+          (IsPermutation-cons y (x ∷ ys) (placed x ys) (permutation_placed x ys))
     ]
 
 pub permutation_in_order : {X : Type 0} (xs : List (Stamped X)) → IsPermutation xs (in_stamp_order xs)
 permutation_in_order [] = IsPermutation-refl []
 permutation_in_order (x ∷ xs) =
-    IsPermutation-trans (x ∷ xs) (x ∷ in_stamp_order xs) (placed x (in_stamp_order xs)) (IsPermutation-cons x xs (in_stamp_order xs) (permutation_in_order xs)) (permutation_placed x (in_stamp_order xs))
+    IsPermutation-trans (x ∷ xs) (x ∷ in_stamp_order xs) (placed x (in_stamp_order xs)) (IsPermutation-cons x xs (in_stamp_order xs) (permutation_in_order xs))
+    (permutation_placed x (in_stamp_order xs))
 
 ordered_placed : {X : Type 0} (x : Stamped X) (ys : List (Stamped X)) → IsOrdered ys → IsOrdered (placed x ys)
 ordered_placed x [] o = (tt, tt)
@@ -134,7 +139,8 @@ others {X} n (x ∷ xs) h =
     let front : at_stamp n x ≡ 0 = omega (arith, h, sum_by-cons (at_stamp {X = X} n) x xs) in
     ((λ e. grind (arith, nat_tests)), others n xs rest)
 
-both_hold : {X : Type 0} (n : ℕ) (xs : List (Stamped X)) → AllByRecursion (λ y. n ≤ y.stamp) xs → AllByRecursion (λ y. n ≢ y.stamp) xs → AllByRecursion (λ y. n < y.stamp) xs
+both_hold : {X : Type 0} (n : ℕ) (xs : List (Stamped X)) → AllByRecursion (λ y. n ≤ y.stamp) xs → AllByRecursion (λ y. n ≢ y.stamp) xs →
+    AllByRecursion (λ y. n < y.stamp) xs
 both_hold n [] a b = tt
 both_hold n (x ∷ xs) a b = (grind (arith, a.0, b.0), both_hold n xs a.1 b.1)
 
@@ -149,12 +155,15 @@ once_moved : {X : Type 0} (xs ys : List (Stamped X)) → IsPermutation xs ys →
 once_moved {X} xs ys p o n = omega (arith, o n, sum_by-IsPermutation (at_stamp {X = X} n) xs ys p)
 
 -- the stamp order of a list whose stamps differ is that of each list with its members
-pub in_stamp_order-permutation : {X : Type 0} (xs ys : List (Stamped X)) → ByStamp (in_stamp_order xs) → IsPermutation xs ys → in_stamp_order ys ≡ in_stamp_order xs
+pub in_stamp_order-permutation : {X : Type 0} (xs ys : List (Stamped X)) → ByStamp (in_stamp_order xs) → IsPermutation xs ys →
+    in_stamp_order ys ≡ in_stamp_order xs
 in_stamp_order-permutation {X} xs ys r p =
     let a = permutation_in_order xs in
     let b = permutation_in_order ys in
-    let moved = IsPermutation-trans (in_stamp_order xs) xs (in_stamp_order ys) (IsPermutation-sym xs (in_stamp_order xs) a) (IsPermutation-trans xs ys (in_stamp_order ys) p b) in
-    let rising = rises_from (in_stamp_order ys) (ordered_in_order ys) (once_moved (in_stamp_order xs) (in_stamp_order ys) moved (once_from_rises (in_stamp_order xs) r)) in
+    let moved = IsPermutation-trans (in_stamp_order xs) xs (in_stamp_order ys) (IsPermutation-sym xs (in_stamp_order xs) a)
+    (IsPermutation-trans xs ys (in_stamp_order ys) p b) in
+    let rising = rises_from (in_stamp_order ys) (ordered_in_order ys) (once_moved (in_stamp_order xs) (in_stamp_order ys) moved
+    (once_from_rises (in_stamp_order xs) r)) in
     let stamp : Stamped X → ℕ = λ x. x.stamp in
     one_order (λ x y. x.stamp < y.stamp) (λ x y p q. omega (arith, p, q)) (in_stamp_order ys) (in_stamp_order xs)
     (pairs_from_rises stamp (in_stamp_order ys) rising) (pairs_from_rises stamp (in_stamp_order xs) r)
@@ -188,7 +197,8 @@ filter_placed : {X : Type 0} (p : Stamped X → Bool) (x : Stamped X) (ys : List
     filter p (placed x ys) ≡ cond (p x) (placed x (filter p ys)) (filter p ys)
 filter_placed p x [] o = refl
 filter_placed {X} p x (y ∷ ys) o =
-    elim (nat_le x.stamp y.stamp) as (λ b. nat_le x.stamp y.stamp ≡ b → filter p (cond b (x ∷ y ∷ ys) (y ∷ placed x ys)) ≡ cond (p x) (placed x (filter p (y ∷ ys))) (filter p (y ∷ ys))) [
+    elim (nat_le x.stamp y.stamp) as (λ b. nat_le x.stamp y.stamp ≡ b → filter p (cond b (x ∷ y ∷ ys) (y ∷ placed x ys))
+    ≡ cond (p x) (placed x (filter p (y ∷ ys))) (filter p (y ∷ ys))) [
       | true ↦ λ e.
           let all : AllByRecursion (λ (z : Stamped X). x.stamp ≤ z.stamp) (y ∷ ys) =
           (grind (arith, nat_tests), All-weaker_by (λ z. y.stamp ≤ z.stamp) (λ z. x.stamp ≤ z.stamp) (λ z h. grind (arith, nat_tests)) ys o.0) in
@@ -196,7 +206,8 @@ filter_placed {X} p x (y ∷ ys) o =
       | false ↦ λ e. ap (λ zs. cond (p y) (y ∷ zs) zs) (filter_placed p x ys o.1) ∙ pushed_through (p x) (p y) x y (filter p ys) e
     ] refl
 
-chosen : {X : Type 0} (b : Bool) (x : Stamped X) (xs : List (Stamped X)) → cond b (placed x (in_stamp_order xs)) (in_stamp_order xs) ≡ in_stamp_order (cond b (x ∷ xs) xs)
+chosen : {X : Type 0} (b : Bool) (x : Stamped X) (xs : List (Stamped X)) → cond b (placed x (in_stamp_order xs)) (in_stamp_order xs)
+    ≡ in_stamp_order (cond b (x ∷ xs) xs)
 chosen true x xs = refl
 chosen false x xs = refl
 

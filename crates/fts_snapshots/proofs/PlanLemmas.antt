@@ -15,7 +15,8 @@ all_parts : {X : Type 0} (P : X → Type 0) (xs ys : List X) → AllByRecursion 
 all_parts P [] ys a = (tt, a)
 all_parts P (x ∷ xs) ys a = let rest = all_parts P xs ys a.1 in ((a.0, rest.0), rest.1)
 
-each_within : {V : Type 0} (f : V → List ℕ) (n : ℕ) (vs : List V) → AllByRecursion (λ i. i < n) (flat_map (λ c. c) (map f vs)) → AllByRecursion (λ v. All (λ i. i < n) (f v)) vs
+each_within : {V : Type 0} (f : V → List ℕ) (n : ℕ) (vs : List V) → AllByRecursion (λ i. i < n) (flat_map (λ c. c) (map f vs)) →
+    AllByRecursion (λ v. All (λ i. i < n) (f v)) vs
 each_within f n [] a = tt
 each_within f n (v ∷ vs) a =
     let parts = all_parts (λ i. i < n) (f v) (flat_map (λ c. c) (map f vs)) a in
@@ -23,4 +24,5 @@ each_within f n (v ∷ vs) a =
 
 -- indexes that are within as they stand in all lists are within in each
 pub within_lists : {V : Type 0} (f : V → List ℕ) (n : ℕ) (vs : List V) → All (λ i. i < n) (flat_map (λ c. c) (map f vs)) → All (λ v. All (λ i. i < n) (f v)) vs
-within_lists f n vs a = All-from_recursion (λ v. All (λ i. i < n) (f v)) vs (each_within f n vs (recursion_from_All (λ i. i < n) (flat_map (λ c. c) (map f vs)) a))
+within_lists f n vs a =
+    All-from_recursion (λ v. All (λ i. i < n) (f v)) vs (each_within f n vs (recursion_from_All (λ i. i < n) (flat_map (λ c. c) (map f vs)) a))

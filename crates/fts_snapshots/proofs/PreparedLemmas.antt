@@ -26,12 +26,15 @@ left_is p i = snapshot_after_commit p.cut p.batch p.snapshot i.cut i.snapshot (r
 pub content-left : (p : PreparedValue) → IsPrepared p → content_of (left p) ≡ alive p.snapshot.schema (adds (content_of p.snapshot) ++ p.batch)
 content-left p i =
     let s = p.snapshot in
-    content-committed p.cut s.schema p.batch s.next_id s.entries (recursion_from_All (λ (e : EntryValue). e.segment.schema ≡ s.schema) s.entries i.snapshot.schemas)
+    content-committed p.cut s.schema p.batch s.next_id s.entries (recursion_from_All (λ (e : EntryValue). e.segment.schema ≡ s.schema) s.entries
+    i.snapshot.schemas)
     (rise_behind (content_of s) p.batch i.snapshot.stamps i.behind)
 
 -- what is finished of a prepared commit is what the commit gives
-pub gives_commit : (cut : Cut) (batch : List (Stamped Op)) (s : SnapshotValue) (p : PreparedValue) (r : Result SnapshotValue Refusal) → ok_unless (commit_fault cut batch s) (prepared cut batch s) ≡ Ok p →
-    IfOk r (λ new. new ≡ left p) → IfOk r (λ new. content_of new ≡ alive p.snapshot.schema (adds (content_of p.snapshot) ++ p.batch)) → IsOkUnless r Memory → GivesCommit cut batch s r
+pub gives_commit : (cut : Cut) (batch : List (Stamped Op)) (s : SnapshotValue) (p : PreparedValue) (r : Result SnapshotValue Refusal) →
+    ok_unless (commit_fault cut batch s) (prepared cut batch s) ≡ Ok p →
+    IfOk r (λ new. new ≡ left p) → IfOk r (λ new. content_of new ≡ alive p.snapshot.schema (adds (content_of p.snapshot) ++ p.batch)) → IsOkUnless r Memory →
+    GivesCommit cut batch s r
 gives_commit cut batch s p (Ok new) is same holds memory =
     let both = unless_ok (commit_fault cut batch s) (prepared cut batch s) p is in
     record {
@@ -41,7 +44,8 @@ gives_commit cut batch s p (Ok new) is same holds memory =
 gives_commit cut batch s p (Err e) is same holds memory = record { snapshot = inl memory; content = tt }
 
 -- nor does a commit give anything that can't be prepared
-pub not_prepared : (cut : Cut) (batch : List (Stamped Op)) (s : SnapshotValue) (e : Refusal) → (e ≡ Memory) ⊎ (ok_unless (commit_fault cut batch s) (prepared cut batch s) ≡ Err e) →
+pub not_prepared : (cut : Cut) (batch : List (Stamped Op)) (s : SnapshotValue) (e : Refusal) →
+    (e ≡ Memory) ⊎ (ok_unless (commit_fault cut batch s) (prepared cut batch s) ≡ Err e) →
     GivesCommit cut batch s (Err e)
 not_prepared cut batch s e h =
     let because : (e ≡ Memory) ⊎ (commit_fault cut batch s ≡ Some e) = refused_by (commit_fault cut batch s) (prepared cut batch s) e h in

@@ -1,5 +1,6 @@
 -- What holds of every snapshot holds after a commit.
-use Rattle.std.proofs.Common.{◌≡◌, ◌<◌, ◌≤◌, ◌+◌, ◌^◌, ◌||◌, ◌==◌, ℕ, true, false, cond, None, List, [], ◌∷◌, ◌++◌, length, map, filter, All, subst, refl, sym, ap, ◌∙◌, arith}
+use Rattle.std.proofs.Common.{◌≡◌, ◌<◌, ◌≤◌, ◌+◌, ◌^◌, ◌||◌, ◌==◌, ℕ, true, false, cond, None, List, [], ◌∷◌, ◌++◌, length, map, filter, All, subst, refl, sym}
+use Rattle.std.proofs.Common.{ap, ◌∙◌, arith}
 use Rattle.std.specs.List.{AllByRecursion}
 use Rattle.std.proofs.lemmas.List.{length-append}
 use Rattle.std.proofs.lemmas.List.Elements.{All-from_recursion, recursion_from_All, All-append, All-filter, All-map, All-weaker, filter_passes}
@@ -24,33 +25,39 @@ use Rattle.fts_snapshots.proofs.MergeLemmas.{ById, names_given}
 ids_struck : (ops : List (Stamped Op)) (es : List EntryValue) → ById es → ById (map (struck ops) es)
 ids_struck ops [] r = tt
 ids_struck ops (e ∷ es) r = (above_struck e.id es r.0, ids_struck ops es r.1) where
-  above_struck : (n : ℕ) (es : List EntryValue) → AllByRecursion (λ (f : EntryValue). n < f.id) es → AllByRecursion (λ (f : EntryValue). n < f.id) (map (struck ops) es)
+  above_struck : (n : ℕ) (es : List EntryValue) → AllByRecursion (λ (f : EntryValue). n < f.id) es →
+      AllByRecursion (λ (f : EntryValue). n < f.id) (map (struck ops) es)
   above_struck n [] a = tt
   above_struck n (f ∷ es) a = (a.0, above_struck n es a.1)
 
 -- the numbers of new segments begin with the first
-pub ids_from : (schema : List Field) (ops : List (Stamped Op)) (id low : ℕ) (groups : List (List (Stamped DocumentValue))) → low ≤ id → AllByRecursion (λ (e : EntryValue). low ≤ e.id) (fresh_from schema ops id groups)
+pub ids_from : (schema : List Field) (ops : List (Stamped Op)) (id low : ℕ) (groups : List (List (Stamped DocumentValue))) → low ≤ id →
+    AllByRecursion (λ (e : EntryValue). low ≤ e.id) (fresh_from schema ops id groups)
 ids_from schema ops id low [] l = tt
 ids_from schema ops id low (ds ∷ groups) l = (l, ids_from schema ops (id + 1) low groups (omega arith))
 
 ids_fresh : (schema : List Field) (ops : List (Stamped Op)) (id : ℕ) (groups : List (List (Stamped DocumentValue))) → ById (fresh_from schema ops id groups)
 ids_fresh schema ops id [] = tt
 ids_fresh schema ops id (ds ∷ groups) = (
-  All-weaker_by (λ (e : EntryValue). id + 1 ≤ e.id) (λ e. id < e.id) (λ e h. omega arith) (fresh_from schema ops (id + 1) groups) (ids_from schema ops (id + 1) (id + 1) groups (omega arith)),
+  All-weaker_by (λ (e : EntryValue). id + 1 ≤ e.id) (λ e. id < e.id) (λ e h. omega arith) (fresh_from schema ops (id + 1) groups)
+      (ids_from schema ops (id + 1) (id + 1) groups (omega arith)),
   ids_fresh schema ops (id + 1) groups,
 )
 
-ids_to : (schema : List Field) (ops : List (Stamped Op)) (id high : ℕ) (groups : List (List (Stamped DocumentValue))) → id + length groups ≤ high → AllByRecursion (λ (e : EntryValue). e.id < high) (fresh_from schema ops id groups)
+ids_to : (schema : List Field) (ops : List (Stamped Op)) (id high : ℕ) (groups : List (List (Stamped DocumentValue))) → id + length groups ≤ high →
+    AllByRecursion (λ (e : EntryValue). e.id < high) (fresh_from schema ops id groups)
 ids_to schema ops id high [] l = tt
 ids_to schema ops id high (ds ∷ groups) l = (omega (arith, l), ids_to schema ops (id + 1) high groups (omega (arith, l)))
 
 -- what holds of each new segment
 all_fresh : (P : EntryValue → Type 0) (schema : List Field) (ops : List (Stamped Op)) (id : ℕ) (groups : List (List (Stamped DocumentValue))) →
-    ((n : ℕ) (ds : List (Stamped DocumentValue)) → length ds ≤ 65536 → P (fresh schema ops n ds)) → IsWithin 65536 groups → AllByRecursion P (fresh_from schema ops id groups)
+    ((n : ℕ) (ds : List (Stamped DocumentValue)) → length ds ≤ 65536 → P (fresh schema ops n ds)) → IsWithin 65536 groups →
+    AllByRecursion P (fresh_from schema ops id groups)
 all_fresh P schema ops id [] f w = tt
 all_fresh P schema ops id (ds ∷ groups) f w = (f id ds w.0, all_fresh P schema ops (id + 1) groups f w.1)
 
-pub snapshot_after_commit : (cut : Cut) (batch : List (Stamped Op)) (s : SnapshotValue) → IsCut cut → IsSnapshot s → StampsRise (adds (content s.entries) ++ batch) →
+pub snapshot_after_commit : (cut : Cut) (batch : List (Stamped Op)) (s : SnapshotValue) → IsCut cut → IsSnapshot s →
+    StampsRise (adds (content s.entries) ++ batch) →
     s.next_id + new_segments cut batch ≤ 2 ^ 62 → IsSnapshot (after_commit cut batch s)
 snapshot_after_commit cut batch s k i rise room =
     let groups = groups_of cut (added batch) in
@@ -70,7 +77,8 @@ snapshot_after_commit cut batch s k i rise room =
           (recursion_from_All (λ (e : EntryValue). e.id < s.next_id) old below)
           (ids_fresh s.schema batch s.next_id groups)
           (ids_from s.schema batch s.next_id s.next_id groups (omega arith))));
-      below = kept (λ e. e.id < high) (All-weaker (λ (e : EntryValue). e.id < s.next_id) (λ e. e.id < high) (λ e h. omega (arith, h)) old below) (ids_to s.schema batch s.next_id high groups (omega arith));
+      below = kept (λ e. e.id < high) (All-weaker (λ (e : EntryValue). e.id < s.next_id) (λ e. e.id < high) (λ e h. omega (arith, h)) old below)
+          (ids_to s.schema batch s.next_id high groups (omega arith));
       room = room;
       schemas = kept Here (All-map Here (struck batch) s.entries i.schemas) (all_fresh Here s.schema batch s.next_id groups (λ n ds l. refl) within);
       each = kept IsEntry (All-map IsEntry (struck batch) s.entries (All-weaker IsEntry (λ e. IsEntry (struck batch e)) (entry_struck batch) s.entries i.each))
@@ -107,7 +115,8 @@ some_sources es (id ∷ ids) h =
 abbrev pub snapshot_with : List Field → List EntryValue → ℕ → SnapshotValue
 snapshot_with schema entries next = record { schema = schema; entries = entries; next_id = next }
 
-pub same_snapshot : (schema other : List Field) (entries others : List EntryValue) (next number : ℕ) → schema ≡ other → entries ≡ others → next ≡ number → snapshot_with schema entries next ≡ snapshot_with other others number
+pub same_snapshot : (schema other : List Field) (entries others : List EntryValue) (next number : ℕ) → schema ≡ other → entries ≡ others → next ≡ number →
+    snapshot_with schema entries next ≡ snapshot_with other others number
 same_snapshot schema other entries others next number e f g =
     ap (λ s. snapshot_with s entries next) e ∙ ap (λ es. snapshot_with other es next) f ∙ ap (snapshot_with other others) g
 

@@ -1,5 +1,6 @@
 -- The segments of a snapshot as the sources of a merge, and what a merge is refused for.
-use Rattle.std.proofs.Common.{◌≡◌, ◌<◌, ◌≤◌, ◌+◌, ◌^◌, ◌↔◌, ℕ, true, false, cond, nat_lt, Option, Some, None, Result, Ok, Err, List, [], ◌∷◌, ◌++◌, length, map, sum_by, count_by, All, refl, sym, ap, ◌∙◌, ⊎_elim, arith}
+use Rattle.std.proofs.Common.{◌≡◌, ◌<◌, ◌≤◌, ◌+◌, ◌^◌, ◌↔◌, ℕ, true, false, cond, nat_lt, Option, Some, None, Result, Ok, Err, List, [], ◌∷◌, ◌++◌, length, map}
+use Rattle.std.proofs.Common.{sum_by, count_by, All, refl, sym, ap, ◌∙◌, ⊎_elim, arith}
 use Rattle.std.specs.List.{flat_map, AllByRecursion}
 use Rattle.std.proofs.lemmas.Bool.{cases_lt}
 use Rattle.std.proofs.lemmas.Bool.Decides.{nat_tests}
@@ -28,20 +29,24 @@ live_count-sources (e ∷ es) =
     ∙ ap (λ n. live_count e + n) (live_count-sources es)
     ∙ sym (sum_by-cons live_count e es)
 
-mapped : (schema : List Field) (es : List EntryValue) → AllByRecursion (λ e. e.segment.schema ≡ schema) es → AllByRecursion (λ (s : SourceValue). s.segment.schema ≡ schema) (map source_of es)
+mapped : (schema : List Field) (es : List EntryValue) → AllByRecursion (λ e. e.segment.schema ≡ schema) es →
+    AllByRecursion (λ (s : SourceValue). s.segment.schema ≡ schema) (map source_of es)
 mapped schema [] a = tt
 mapped schema (e ∷ es) a = (a.0, mapped schema es a.1)
 
-unmapped : (schema : List Field) (es : List EntryValue) → AllByRecursion (λ (s : SourceValue). s.segment.schema ≡ schema) (map source_of es) → AllByRecursion (λ e. e.segment.schema ≡ schema) es
+unmapped : (schema : List Field) (es : List EntryValue) → AllByRecursion (λ (s : SourceValue). s.segment.schema ≡ schema) (map source_of es) →
+    AllByRecursion (λ e. e.segment.schema ≡ schema) es
 unmapped schema [] a = tt
 unmapped schema (e ∷ es) a = (a.0, unmapped schema es a.1)
 
-pub schema_of-sources : (schema : List Field) (es : List EntryValue) → AllByRecursion (λ e. e.segment.schema ≡ schema) es → 0 < length es → schema_of (map source_of es) ≡ schema
+pub schema_of-sources : (schema : List Field) (es : List EntryValue) → AllByRecursion (λ e. e.segment.schema ≡ schema) es → 0 < length es →
+    schema_of (map source_of es) ≡ schema
 schema_of-sources schema [] a l = absurd (omega (arith, l))
 schema_of-sources schema (e ∷ es) a l = a.0
 
 -- segments of one schema are sources of one schema
-one_schema : (schema : List Field) (es : List EntryValue) → AllByRecursion (λ e. e.segment.schema ≡ schema) es → 0 < length es → AreOfOneSchema (map source_of es)
+one_schema : (schema : List Field) (es : List EntryValue) → AllByRecursion (λ e. e.segment.schema ≡ schema) es → 0 < length es →
+    AreOfOneSchema (map source_of es)
 one_schema schema es a l =
     let same = schema_of-sources schema es a l in
     All-weaker (λ (s : SourceValue). s.segment.schema ≡ schema) (λ s. s.segment.schema ≡ schema_of (map source_of es)) (λ s h. h ∙ sym same) (map source_of es)
@@ -63,8 +68,10 @@ named_schema es ids a h =
     (one_schema schema (entries_at es ids) at some, schema_of-sources schema (entries_at es ids) at some)
 
 -- what was merged was not too large
-pub not_large : (result : Result MergedValue Refusal) (merged : MergedValue) (n : ℕ) → result ≡ Ok merged → (result ≡ Err TooLarge) ↔ (1048576 < n) → n ≤ 1048576
-not_large result merged n e h = ⊎_elim (λ (l : 1048576 < n). let f : Ok merged ≡ Err TooLarge = sym e ∙ h.1 l in cc) (λ (l : n ≤ 1048576). l) (cases_lt 1048576 n)
+pub not_large : (result : Result MergedValue Refusal) (merged : MergedValue) (n : ℕ) → result ≡ Ok merged → (result ≡ Err TooLarge) ↔ (1048576 < n) →
+    n ≤ 1048576
+not_large result merged n e h = ⊎_elim (λ (l : 1048576 < n). let f : Ok merged ≡ Err TooLarge = sym e ∙ h.1 l in cc) (λ (l : n ≤ 1048576). l)
+    (cases_lt 1048576 n)
 
 pub size_none : (n : ℕ) → n ≤ 1048576 → size_fault n ≡ None
 size_none n l = let e : nat_lt 1048576 n ≡ false = grind (arith, nat_tests) in ap (λ b. cond b (Some TooLarge) None) e
@@ -82,7 +89,8 @@ first_none (Some x) b h = cc
 
 pub numbers_room : (n : ℕ) → numbers_fault n ≡ None → n ≤ 2 ^ 62
 numbers_room n h =
-    ⊎_elim (λ (l : 2 ^ 62 < n). let e : nat_lt (2 ^ 62) n ≡ true = grind (arith, nat_tests) in let f : Some StampsUsedUp ≡ None = ap (λ b. cond b (Some StampsUsedUp) None) (sym e) ∙ h in cc)
+    ⊎_elim (λ (l : 2 ^ 62 < n). let e : nat_lt (2 ^ 62) n ≡ true = grind (arith, nat_tests) in let f : Some StampsUsedUp ≡ None =
+    ap (λ b. cond b (Some StampsUsedUp) None) (sym e) ∙ h in cc)
     (λ (l : n ≤ 2 ^ 62). l)
     (cases_lt (2 ^ 62) n)
 

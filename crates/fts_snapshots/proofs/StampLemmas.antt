@@ -26,7 +26,11 @@ run_to k a (suc n) h = (omega (arith, h), run_to k (a + 1) n (omega (arith, h)))
 
 run_rises : (a n : ℕ) → Rises (λ x. x) (range_with_len a n)
 run_rises a zero = tt
-run_rises a (suc n) = (All-weaker_by (λ x. a + 1 ≤ x) (λ x. a < x) (λ x h. omega (arith, h)) (range_with_len (a + 1) n) (run_from (a + 1) (a + 1) n (omega arith)), run_rises (a + 1) n)
+run_rises a (suc n) = (
+  All-weaker_by (λ x. a + 1 ≤ x) (λ x. a < x) (λ x h. omega (arith, h)) (range_with_len (a + 1) n) (run_from (a + 1) (a + 1) n (omega arith)),
+  run_rises
+      (a + 1) n,
+)
 
 -- what holds of the stamps holds of the operations
 all_stamped : (P : ℕ → Type 0) (ops : List (Stamped Op)) → AllByRecursion P (stamps_of ops) → AllByRecursion (λ o. P o.stamp) ops
@@ -48,22 +52,26 @@ batch_behind ds ops stamp first below above run = record {
       (all_stamped (λ s. first ≤ s) ops (subst (AllByRecursion (λ x. first ≤ x)) (sym run) (run_from first first (length ops) (omega arith))));
 }
 
-left_all : (P : ℕ → Type 0) (schema : List Field) (stamp : ℕ) (op : Op) (later : List (Stamped Op)) → P stamp → AllByRecursion (λ d. P d.stamp) (left_by schema stamp op later)
+left_all : (P : ℕ → Type 0) (schema : List Field) (stamp : ℕ) (op : Op) (later : List (Stamped Op)) → P stamp →
+    AllByRecursion (λ d. P d.stamp) (left_by schema stamp op later)
 left_all P schema stamp (Add document) later h =
-    elim (is_struck schema later document) as (λ b. AllByRecursion (λ (d : Stamped DocumentValue). P d.stamp) (cond b [] (record { stamp = stamp; value = document } ∷ [])))
+    elim (is_struck schema later document) as (λ b. AllByRecursion (λ (d : Stamped DocumentValue). P d.stamp)
+    (cond b [] (record { stamp = stamp; value = document } ∷ [])))
     [ true ↦ tt | false ↦ (h, tt) ]
 left_all P schema stamp (Delete term) later h = tt
 left_all P schema stamp DeleteAll later h = tt
 
 -- what holds of the stamps of operations holds of what they leave
-alive_all : (P : ℕ → Type 0) (schema : List Field) (ops : List (Stamped Op)) → AllByRecursion (λ o. P o.stamp) ops → AllByRecursion (λ d. P d.stamp) (alive schema ops)
+alive_all : (P : ℕ → Type 0) (schema : List Field) (ops : List (Stamped Op)) → AllByRecursion (λ o. P o.stamp) ops →
+    AllByRecursion (λ d. P d.stamp) (alive schema ops)
 alive_all P schema [] h = tt
 alive_all P schema (op ∷ ops) h =
     All-joined (λ (d : Stamped DocumentValue). P d.stamp) (left_by schema op.stamp op.value ops) (alive schema ops)
     (left_all P schema op.stamp op.value ops h.0) (alive_all P schema ops h.1)
 
 -- what a commit leaves lies below its stamp
-pub left_below : (schema : List Field) (ds : List (Stamped DocumentValue)) (ops : List (Stamped Op)) (stamp first : ℕ) → All (λ d. d.stamp < stamp) ds → stamp < first →
+pub left_below : (schema : List Field) (ds : List (Stamped DocumentValue)) (ops : List (Stamped Op)) (stamp first : ℕ) → All (λ d. d.stamp < stamp) ds →
+    stamp < first →
     stamps_of ops ≡ range_with_len first (length ops) → All (λ d. d.stamp < first + length ops) (alive schema (adds ds ++ ops))
 left_below schema ds ops stamp first below above run =
     let end = first + length ops in
@@ -75,10 +83,17 @@ left_below schema ds ops stamp first below above run =
     (recursion_from_All (λ (d : Stamped DocumentValue). d.stamp < stamp) ds below)))
     (all_stamped (λ s. s < end) ops (subst (AllByRecursion (λ x. x < end)) (sym run) (run_to end first (length ops) (omega arith))))))
 
-length-between : {X : Type 0} (xs : List (Stamped X)) (low high : ℕ) → low ≤ high → Rises (λ x. x.stamp) xs → AllByRecursion (λ x. low ≤ x.stamp) xs → AllByRecursion (λ x. x.stamp < high) xs →
+length-between : {X : Type 0} (xs : List (Stamped X)) (low high : ℕ) → low ≤ high → Rises (λ x. x.stamp) xs → AllByRecursion (λ x. low ≤ x.stamp) xs →
+    AllByRecursion (λ x. x.stamp < high) xs →
     low + length xs ≤ high
 length-between [] low high l r a b = omega arith
-length-between (x ∷ xs) low high l r a b = omega (arith, a.0, length-between xs (x.stamp + 1) high (omega (arith, b.0)) r.1 (All-weaker_by (λ y. x.stamp < y.stamp) (λ y. x.stamp + 1 ≤ y.stamp) (λ y h. omega (arith, h)) xs r.0) b.1)
+length-between (x ∷ xs) low high l r a b =
+    omega (
+      arith,
+      a.0,
+      length-between xs (x.stamp + 1) high (omega (arith, b.0)) r.1 (All-weaker_by (λ y. x.stamp < y.stamp) (λ y. x.stamp + 1 ≤ y.stamp)
+          (λ y h. omega (arith, h)) xs r.0) b.1,
+    )
 
 any_stamp : {X : Type 0} (xs : List (Stamped X)) → AllByRecursion (λ x. 0 ≤ x.stamp) xs
 any_stamp [] = tt
@@ -87,10 +102,15 @@ any_stamp (x ∷ xs) = (omega arith, any_stamp xs)
 -- there are no more documents than stamps below theirs
 pub length-below : (ds : List (Stamped DocumentValue)) (high : ℕ) → StampsRise ds → All (λ d. d.stamp < high) ds → length ds ≤ high
 length-below ds high rise below =
-    omega (arith, length-between ds 0 high (omega arith) (by_stamp ds rise) (any_stamp ds) (recursion_from_All (λ (d : Stamped DocumentValue). d.stamp < high) ds below))
+    omega (
+      arith,
+      length-between ds 0 high (omega arith) (by_stamp ds rise) (any_stamp ds) (recursion_from_All (λ (d : Stamped DocumentValue). d.stamp < high)
+          ds below),
+    )
 
 -- what a commit leaves are no more documents than stamps
-pub left_few : (schema : List Field) (ds : List (Stamped DocumentValue)) (ops : List (Stamped Op)) (stamp first : ℕ) → StampsRise ds → All (λ d. d.stamp < stamp) ds → stamp < first →
+pub left_few : (schema : List Field) (ds : List (Stamped DocumentValue)) (ops : List (Stamped Op)) (stamp first : ℕ) → StampsRise ds →
+    All (λ d. d.stamp < stamp) ds → stamp < first →
     stamps_of ops ≡ range_with_len first (length ops) → length (alive schema (adds ds ++ ops)) ≤ first + length ops
 left_few schema ds ops stamp first rise below above run =
     length-below (alive schema (adds ds ++ ops)) (first + length ops)

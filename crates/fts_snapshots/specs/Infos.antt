@@ -34,4 +34,5 @@ size_of entry = record { docs = length entry.segment.documents; live = live_coun
 
 -- the candidates of a policy, by the numbers of segments
 abbrev pub candidate_ids_by : MergePolicy → List EntryValue → List (List ℕ)
-candidate_ids_by policy entries = map (λ indexes. map (id_at entries) indexes) (candidates_by policy (map size_of entries))
+candidate_ids_by policy entries =
+    map (λ indexes. map (id_at entries) indexes) (candidates_by policy (map size_of entries))

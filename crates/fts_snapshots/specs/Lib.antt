@@ -14,4 +14,6 @@ pub mod MergedSegments
 pub mod Successors
 pub mod Lookups
 pub mod LateMerges
+pub mod Changes
+pub mod Candidates
 pub mod searches

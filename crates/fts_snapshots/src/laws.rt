@@ -28,7 +28,8 @@ pub fn a_merge_counts_live_documents()
         length (merged_of entries).merged.segment.documents ≡ sum_by live_count entries }
 {}
 
-/// A merge puts one segment in place of its sources, under the next number: it has their live documents, all of them live.
+/// A merge puts one segment in place of its sources, under the next number: it has their live documents, all of them
+/// live.
 pub fn a_merge_leaves_one_segment()
     ensures { (s : SnapshotValue) (ids : List ℕ) → IsSnapshot s → merge_fault ids s ≡ None →
         map info_of (after_merge ids s).entries ≡ infos_after_merge ids s }

@@ -2,8 +2,8 @@
 //!
 //! Each segment tells what it has of the hits, and the hits of all segments are those of the content in another order:
 //! so what the parts tell together is the answer over the content, whatever the segments. [`search_alone`] asks one
-//! segment after the other in the calling thread; a crate above asks them by jobs, of which each is a [`part_of`] its
-//! segment.
+//! segment after the other in the calling thread; a crate above asks them by jobs, of which each is a
+//! [`search_segment`].
 
 ghost use Rattle.std.specs.Prelude.{◌≡◌, ◌<◌, ◌^◌, true, IfOk, IsOkUnless, All, length};
 ghost use Rattle.std.specs.List.{AllZip};
@@ -19,7 +19,7 @@ use fts_model::{Answer, Query, Refusal, Request};
 use std::alloc::Global;
 
 /// What a segment tells of its live hits. The only refusal is `Memory`.
-pub fn part_of(
+pub fn search_segment(
     alloc: Global,
     entry: &Entry,
     query: &Query,
@@ -50,7 +50,7 @@ fn parts_in_turn(
 {
     let mut parts = Vec::with_capacity(alloc, entries.len())?;
     for entry in entries {
-        let part = part_of(alloc, entry, query, request)?;
+        let part = search_segment(alloc, entry, query, request)?;
         parts.push(part)?;
     }
     Ok(parts)

@@ -7,9 +7,10 @@ ghost use Rattle.fts_rounds.specs.Rounds.{IsLaneOf, SameLane, fresh, lanes_of};
 
 mod abandonment;
 
-use fts_index::{Batch, Cut, Lane, LaneEnd, Round, Writer, open_round};
+use fts_index::{Batch, Cut, Lane, LaneEnd, Round, Writer};
 use fts_model::{FieldValue, Number, Op, Refusal, Schema, Stamp, Stamped, Term};
 use fts_pool::Open;
+use fts_rounds::open_round;
 use std::alloc::{AllocError, Global};
 use std::fmt::Write;
 use std::process::Abort;

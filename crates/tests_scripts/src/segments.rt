@@ -1,7 +1,8 @@
-// What no reply shows: the segments after a commit, and whether there is a reader.
+// What no reply shows: the segments after a commit and after a merge, and whether there is a reader.
 ghost use Rattle.std.specs.Prelude.{◌≡◌, ◌+◌, ◌≤◌};
+ghost use Rattle.std.specs.Thread.{IsSync};
 
-use dilforec::script::{Engine, EngineOver, IndexEngine, Merge, Options};
+use dilforec::script::{Engine, EngineOver, IndexEngine, LocalEngine, Merge, Options};
 use dilforec::{Cut, Document, Field, Kind, Op, Refusal, Schema, Text};
 use serde_json::{Map, Value};
 use std::alloc::Global;
@@ -19,9 +20,9 @@ fn schema(alloc: Global) -> Result<Schema, Refusal> {
     Schema::new(alloc, vec![in alloc; price]?).map_err(|e| e.1)
 }
 
-/// An index of documents with a price, whose segments have one document each until they are merged.
-fn opened(rt: &(impl AllocGlobal + Abort + Threads + Wait + Sync), merge: Merge) -> IndexEngine
-    ensures { result.calls ≡ 0 }
+/// An engine over documents with a price, whose segments have one document each until they are merged.
+fn opened<R: AllocGlobal + Abort + Sync, E: EngineOver<R>>(rt: &R, merge: Merge) -> E
+    ensures { E.changes result ≡ 0 }
 {
     let schema = schema(rt.alloc()).expect(rt, "a schema");
     let options = Options {
@@ -29,13 +30,13 @@ fn opened(rt: &(impl AllocGlobal + Abort + Threads + Wait + Sync), merge: Merge)
         cut: Cut::Runs(1),
         merge,
     };
-    IndexEngine::open(rt, options, schema).expect(rt, "an index")
+    E::open(rt, options, schema).expect(rt, "an index")
 }
 
 /// Adds a document without a value.
-fn add(rt: &impl Abort, alloc: Global, engine: &mut IndexEngine)
-    requires { engine.old.calls ≤ 100 }
-    ensures { engine.new.calls ≤ engine.old.calls + 1 }
+fn add<E: Engine>(rt: &impl Abort, alloc: Global, engine: &mut E)
+    requires { E.changes engine.old ≤ 100 }
+    ensures { E.changes engine.new ≤ E.changes engine.old + 1 }
 {
     let nothing = Value::Object(Map::new(alloc));
     let document = Document::from_json(alloc, engine.schema(), &nothing).expect(rt, "a document");
@@ -43,8 +44,10 @@ fn add(rt: &impl Abort, alloc: Global, engine: &mut IndexEngine)
 }
 
 /// Commits eight adds.
-fn commit_eight<R: AllocGlobal + Abort + Threads + Wait + Sync>(rt: &R, engine: &mut IndexEngine)
-    requires { engine.old.calls ≡ 0 }
+fn commit_eight<R: AllocGlobal + Abort + Sync, E: EngineOver<R>>(rt: &R, engine: &mut E)
+    requires none { E.changes engine.old ≡ 0 }
+    requires sync { IsSync R.row }
+    ensures { E.changes engine.new ≤ 9 }
 {
     for _ in 0..8usize {
         add(rt, rt.alloc(), engine);
@@ -64,7 +67,7 @@ fn live_in(alloc: Global, engine: &IndexEngine) -> Result<Vec<usize>, Refusal> {
 #[test]
 fn policy_merges_eight_segments(rt: HostRuntime) {
     for (merge, wanted) in [(Merge::Off, [1; 8].as_slice()), (Merge::Policy, &[8])] {
-        let mut engine = opened(&rt, merge);
+        let mut engine: IndexEngine = opened(&rt, merge);
         commit_eight(&rt, &mut engine);
         let live = live_in(rt.alloc(), &engine).expect(&rt, "a list");
         engine.close(&rt);
@@ -73,8 +76,31 @@ fn policy_merges_eight_segments(rt: HostRuntime) {
 }
 
 #[test]
+fn the_command_leaves_one_segment(rt: HostRuntime) {
+    let mut engine: IndexEngine = opened(&rt, Merge::Off);
+    commit_eight(&rt, &mut engine);
+    let merged = engine.merge(&rt).expect(&rt, "a merge");
+    let live = live_in(rt.alloc(), &engine).expect(&rt, "a list");
+    engine.close(&rt);
+    assert_eq!(rt; (merged, live.as_slice()), (8, [8].as_slice()));
+}
+
+#[test]
+fn one_thread_merges_by_the_policy_and_by_the_command(rt: HostRuntime) {
+    for (merge, wanted) in [(Merge::Off, 8), (Merge::Policy, 1)] {
+        let mut engine: LocalEngine = opened(&rt, merge);
+        commit_eight(&rt, &mut engine);
+        let after_commit = engine.stats();
+        let merged = engine.merge(&rt).expect(&rt, "a merge");
+        let after_merge = engine.stats();
+        let segments = (after_commit.segments, after_merge.segments);
+        assert_eq!(rt; (segments, merged), ((wanted, 1), 8), "{merge:?}");
+    }
+}
+
+#[test]
 fn an_index_has_a_reader(rt: HostRuntime) {
-    let engine = opened(&rt, Merge::Off);
+    let engine: IndexEngine = opened(&rt, Merge::Off);
     let has_reader = engine.has_reader();
     engine.close(&rt);
     assert!(rt; has_reader);

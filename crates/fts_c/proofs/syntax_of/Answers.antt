@@ -5,7 +5,15 @@ use Rattle.fts_c.specs.Syntaxes.{IsSyntaxAt}
 use Rattle.fts_c.proofs.syntax_of.Goals as goal
 
 pub returns-in-Some : goal.returns-in-Some
-returns-in-Some c = inl (c.in-Ok.ensures.cases.1, subst (λ (bytes : List ℕ). TellsSyntax bytes (Some c.in-Some.byte)) c.in-Ok.ensures.cases.0 (subst (λ (at : Option ℕ). TellsSyntax c.in-Ok.text.now at) c.in-Some.is c.in_ok-byte-in-Ok.ensures))
+returns-in-Some c = inl (
+  c.in-Ok.ensures.cases.1,
+  subst (λ (bytes : List ℕ). TellsSyntax bytes (Some c.in-Some.byte)) c.in-Ok.ensures.cases.0
+      (subst (λ (at : Option ℕ). TellsSyntax c.in-Ok.text.now at) c.in-Some.is c.in_ok-byte-in-Ok.ensures),
+)
 
 pub returns-in-None : goal.returns-in-None
-returns-in-None c = inr (refl, λ _. subst (λ (bytes : List ℕ). TellsSyntax bytes None) c.in-Ok.ensures.cases.0 (subst (λ (at : Option ℕ). TellsSyntax c.in-Ok.text.now at) c.in-None.is c.in_ok-byte-in-Ok.ensures))
+returns-in-None c = inr (
+  refl,
+  λ _. subst (λ (bytes : List ℕ). TellsSyntax bytes None) c.in-Ok.ensures.cases.0
+      (subst (λ (at : Option ℕ). TellsSyntax c.in-Ok.text.now at) c.in-None.is c.in_ok-byte-in-Ok.ensures),
+)

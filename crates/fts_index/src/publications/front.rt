@@ -11,11 +11,10 @@ ghost use Rattle.fts_index.specs.Publications.{opening, publication, published, 
 ghost use Rattle.fts_index.specs.Publications.{Follows, IsFront, IsOneCommit};
 ghost use Rattle.fts_index.specs.PublicationsHistory.{head_of};
 
-use crate::publications::commit::Commit;
 use crate::publications::history::{Append, Head, History, Nothing, Opened, SeenList};
 use crate::publications::publication::Publication;
 use fts_model::{Schema, Stamp};
-use fts_snapshots::Snapshot;
+use fts_snapshots::{Commit, Snapshot};
 use logbook::{Offer, Seen, Start, Word};
 use std::alloc::{AllocError, Global};
 use std::marker::Model;
@@ -160,7 +159,8 @@ impl Front {
     pub fn is_of_commit(&self, other: &Front) -> bool
         requires { other.now.seen.of ≡ self.now.seen.of }
         ensures commit { IsTrue result ↔ IsOneCommit self.now other.now }
-        ensures one_list { (all : List Publication) × IsPrefix self.now.seen.list all × IsPrefix other.now.seen.list all }
+        ensures one_list { (all : List Publication) × IsPrefix self.now.seen.list all
+            × IsPrefix other.now.seen.list all }
     {
         let mut both = self.seen.again();
         both.learn(&other.seen);

@@ -2,9 +2,9 @@
 // after the opening, which only the publisher has.
 ghost use Rattle.std.specs.Prelude.{◌≡◌};
 
-use crate::publications::commit::Commit;
 use crate::publications::publication::Publication;
 use fts_model::Schema;
+use fts_snapshots::Commit;
 use logbook::{Gain, Opening, Plain, Play, Rule, Seen, Word};
 
 /// The rule of the book.

@@ -9,14 +9,13 @@ ghost use Rattle.fts_index.specs.Publications.{Follows, IsFront, IsOneCommit};
 ghost use Rattle.fts_index.specs.PublicationsShown.{name_of, told_name};
 
 use crate::publications::cells::{Copies, Desk, Names};
-use crate::publications::commit::Commit;
 use crate::publications::front::Front;
 use crate::publications::history::Head;
 use crate::publications::reader::Reader;
 use crate::publications::searcher::{CommitSeen, Searcher};
 use core::mem::replace_with;
 use fts_model::{Refusal, Stamp};
-use fts_snapshots::Snapshot;
+use fts_snapshots::{Commit, Snapshot};
 use std::alloc::{AllocError, Global};
 use std::marker::Model;
 use std::sync::{Arc, Wait};

@@ -5,7 +5,7 @@ ghost use Rattle.fts_model.specs.Queries.{query_fits, request_fits};
 ghost use Rattle.fts_model.specs.QueryValues.{query_value};
 ghost use Rattle.fts_model.specs.Answers.{answer};
 ghost use Rattle.fts_snapshots.specs.Snapshots.{content_of};
-ghost use Rattle.fts_snapshots.specs.searches.Searches.{OpensInAll};
+ghost use Rattle.fts_snapshots.specs.searches.Searches.{AreOfParts, OpensInAll};
 ghost use Rattle.fts_index.specs.declared.publications.publication.Publication.{Publication};
 ghost use Rattle.fts_index.specs.Publications.{IsFront, IsOneCommit};
 
@@ -52,12 +52,13 @@ impl Searcher {
         self.front.snapshot()
     }
 
-    /// Whether another searcher, which the same writer or a reader of it made, searches the same commit: whatever readers
-    /// they are of, both know beginnings of the one list that the writer published.
+    /// Whether another searcher, which the same writer or a reader of it made, searches the same commit: whatever
+    /// readers they are of, both know beginnings of the one list that the writer published.
     pub fn is_of_commit(&self, other: &Searcher) -> bool
         requires { other.now.seen.of ≡ self.now.seen.of }
         ensures commit { IsTrue result ↔ IsOneCommit self.now other.now }
-        ensures one_list { (all : List Publication) × IsPrefix self.now.seen.list all × IsPrefix other.now.seen.list all }
+        ensures one_list { (all : List Publication) × IsPrefix self.now.seen.list all
+            × IsPrefix other.now.seen.list all }
     {
         self.front.is_of_commit(&other.front)
     }
@@ -65,8 +66,9 @@ impl Searcher {
     /// What a query finds among all documents of the commit. The segments are searched by up to this many threads, 1 to
     /// 64, the calling one among them: one job for each segment, in their order. The gate is called around each.
     ///
-    /// It also tells how many blocks of lists of documents were opened: each one once, of each segment, for a query of
-    /// one term, and no more than the bound of a conjunction for one of several terms that all must be. The only
+    /// It also tells how many blocks of lists of documents were opened: what its parts opened together, one part for
+    /// each segment. That is each block once, of each segment, for a query of one term, no more than the bound of a
+    /// conjunction for one of several terms that all must be, and for every query no more than is said of it. The only
     /// refusal is `Memory`.
     pub fn search<R: Threads + Wait + Sync, G: Gate>(
         &self,
@@ -84,6 +86,8 @@ impl Searcher {
             (query_value query.now) request.now (content_of self.now.snapshot)) }
         ensures openings { IfOk result (λ found.
             OpensInAll self.now.snapshot (query_value query.now) found.openings) }
+        ensures parts { IfOk result (λ found.
+            AreOfParts (query_value query.now) request.now self.now.snapshot found.openings) }
         ensures memory { IsOkUnless result Refusal.Memory }
     {
         let snapshot = self.snapshot();

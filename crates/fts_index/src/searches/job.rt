@@ -6,8 +6,7 @@ ghost use Rattle.fts_model.specs.QueryValues.{query_value};
 use fts_collect::Part;
 use fts_model::{Query, Refusal, Request};
 use fts_pool::Job;
-use fts_snapshots::Entry;
-use fts_snapshots::searches::part_of;
+use fts_snapshots::{Entry, search_segment};
 use std::alloc::Global;
 
 /// A query and a request, for the live documents of one segment.
@@ -51,6 +50,6 @@ impl Job for SearchJob<'_> {
     ghost gives = { AnswersSearch };
 
     fn run(&self) -> Result<Part, Refusal> {
-        part_of(self.alloc, self.entry, self.query, self.request)
+        search_segment(self.alloc, self.entry, self.query, self.request)
     }
 }

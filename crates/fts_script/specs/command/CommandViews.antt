@@ -1,6 +1,7 @@
 -- The commands of the code as those of the definitions.
 use Rattle.std.specs.Prelude.{option_map}
-use Rattle.fts_script.specs.command.Commands.{Command, Schema, Add, Delete, DeleteAll, Commit, Rollback, Merge, Find, Search}
+use Rattle.fts_script.specs.command.Commands.{Command, Schema, Add, Delete, DeleteAll, Commit, Rollback, Merge, Find}
+use Rattle.fts_script.specs.command.Commands.{Search}
 use Rattle.fts_script.specs.declared.command.command.Command as code
 use Rattle.fts_script.specs.declared.command.command.Command.TheVariants as variants
 use Rattle.fts_script.specs.declared.command.command.Search as asked

@@ -23,13 +23,14 @@ abbrev pub if_fields : List Field → List (List ℕ) → Result Request Refusal
 if_fields schema names asked = result_and_then (λ request.
     if list_all (λ name. is_some (field_named name schema)) names then Ok request else Err UnknownField) asked
 
--- The query is looked at first, then the groups and the top list, then the names: the answer is that of the search, with
--- the documents of its hits cut to the fields of these names.
+-- The query is looked at first, then the groups and the top list, then the names: the answer is that of the search,
+-- with the documents of its hits cut to the fields of these names.
 abbrev pub answer_cut : {S : Type 0} → Carrier S → Search → List (List ℕ) → S → Result (Outcome S) Refusal
 answer_cut on asked names s =
     result_and_then (λ query. result_and_then (λ request.
     replied (λ a. answer_data (cut_answer (Some names) a)) (search_commit on query request s))
-    (if_fields (on.schema s) names (request_of (on.schema s) asked.groups asked.top))) (query_of (on.schema s) asked.query)
+    (if_fields (on.schema s) names (request_of (on.schema s) asked.groups asked.top)))
+    (query_of (on.schema s) asked.query)
 
 -- the outcome of a search; another command is refused
 abbrev pub find_cut : {S : Type 0} → Carrier S → Option S → List (List ℕ) → Command → Result (Outcome S) Refusal
@@ -40,7 +41,8 @@ find_cut on index names other = Err BadCommand
 -- the outcome of a line that is a search, and of one that lists names: both are read before anything is looked for
 abbrev pub find_cut_line : {S : Type 0} → Carrier S → Option S → List ℕ → List ℕ → Result (Outcome S) Refusal
 find_cut_line on index line names =
-    result_and_then (λ asked. result_and_then (λ listed. find_cut on index listed asked) (names_in names)) (command line)
+    result_and_then (λ asked. result_and_then (λ listed. find_cut on index listed asked) (names_in names))
+    (command line)
 
 -- the reply to a search, cut to the fields that another line lists
 abbrev pub reply_to_cut_search : SessionValue → List ℕ → List ℕ → List ℕ

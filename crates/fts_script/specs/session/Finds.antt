@@ -3,7 +3,8 @@ use Rattle.std.specs.Prelude.{ℕ, ◌+◌, List, Result, Err, Option, option_ma
 use Rattle.fts_base.specs.declared.refusal.Refusal.{Refusal}
 use Rattle.fts_base.specs.declared.refusal.Refusal.TheVariants.{BadCommand}
 use Rattle.fts_base.specs.Results.{result_and_then}
-use Rattle.fts_script.specs.command.Commands.{Command, Schema, Add, Delete, DeleteAll, Commit, Rollback, Merge, Find, command}
+use Rattle.fts_script.specs.command.Commands.{Command, Schema, Add, Delete, DeleteAll, Commit, Rollback, Merge, Find}
+use Rattle.fts_script.specs.command.Commands.{command}
 use Rattle.fts_engine.specs.Carriers.{Carrier}
 use Rattle.fts_engine.specs.Indexes.{indexes}
 use Rattle.fts_script.specs.session.Replies.{Outcome, execute, text_of}

@@ -4,7 +4,8 @@ ghost use Rattle.serde_json.specs.Data.{array, put};
 ghost use Rattle.serde_json.specs.View.{view, members_view};
 ghost use Rattle.serde_json.specs.Written.{has_float};
 ghost use Rattle.fts_model.specs.Documents.{json_of};
-ghost use Rattle.fts_script.specs.command.AnswerData.{number_data, value_data, group_data, groups_data, hit_data, hits_data};
+ghost use Rattle.fts_script.specs.command.AnswerData.{number_data, value_data, group_data, groups_data, hit_data};
+ghost use Rattle.fts_script.specs.command.AnswerData.{hits_data};
 ghost use Rattle.fts_script.specs.command.AnswerData.{answer_data};
 ghost use Rattle.fts_script.specs.command.Cuts.{cut_answer, cut_hit, cut_hits};
 ghost use Rattle.std.specs.Option.{option_copied};
@@ -137,7 +138,8 @@ pub fn answer_value(
     answer: &Answer,
     names: Option<&[Text]>,
 ) -> Result<Value, AllocError>
-    ensures value { IfOk result (λ value. view value ≡ answer_data (cut_answer (option_copied names.entry) answer.now)) }
+    ensures value { IfOk result (λ value. view value
+        ≡ answer_data (cut_answer (option_copied names.entry) answer.now)) }
     ensures plain { IfOk result (λ value. has_float (view value) ≡ false) }
 {
     object_of(alloc, answer, names)

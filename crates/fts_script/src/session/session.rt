@@ -1,5 +1,6 @@
 // A script line by line: what it has come to, and its replies.
-ghost use Rattle.std.specs.Prelude.{◌≡◌, ◌+◌, ◌^◌, ◌<◌, ◌≤◌, false, length, IfOk, OnOk, OnErr, option_map, string_bytes};
+ghost use Rattle.std.specs.Prelude.{◌≡◌, ◌+◌, ◌^◌, ◌<◌, ◌≤◌, false, length, IfOk, OnOk, OnErr, option_map};
+ghost use Rattle.std.specs.Prelude.{string_bytes};
 ghost use Rattle.fts_script.specs.session.Text.{is_blank};
 ghost use Rattle.fts_script.specs.session.Finds.{at_commit, reply_to_search};
 ghost use Rattle.fts_script.specs.session.Outputs.{start, after_line, reply_to};
@@ -19,8 +20,8 @@ use fts_model::Refusal;
 use std::alloc::{AllocError, Global};
 use std::marker::Model;
 
-/// How many lines that aren't blank are tried, each as often as it comes: more than a run has bytes.
-const MOST_TRIES: u64 = 1 << 61;
+/// How many lines there may be. Those that aren't blank count as often as they are tried.
+pub const MOST_LINES: u64 = 1 << 61;
 
 /// What is carried from line to line. It is ended by `close`, or let go where its engine may be.
 #[derive(Drop)]
@@ -80,7 +81,7 @@ impl<E: Engine> Session<E> {
     {
         let number = self.number + 1;
         if !is_blank(line) {
-            if self.tries >= MOST_TRIES {
+            if self.tries >= MOST_LINES {
                 return Err(AllocError);
             }
             self.tries += 1;
@@ -151,7 +152,7 @@ impl<E: Engine> Session<E> {
         ensures kept { OnErr result (self.new ≡ self.old) }
         ensures lines_counted { self.new.number ≤ self.old.number + 2 }
     {
-        if self.tries >= MOST_TRIES - 1 {
+        if self.tries >= MOST_LINES - 1 {
             return Err(AllocError);
         }
         self.tries += 2;
@@ -161,8 +162,8 @@ impl<E: Engine> Session<E> {
         Ok(())
     }
 
-    /// Replies to a search, as `find` does, with the documents of its hits cut to the fields that another line lists. An
-    /// unknown name is refused as `UnknownField`.
+    /// Replies to a search, as `find` does, with the documents of its hits cut to the fields that another line lists.
+    /// An unknown name is refused as `UnknownField`.
     pub fn find_fields<R: AllocGlobal + Sync>(
         &mut self,
         rt: &R,

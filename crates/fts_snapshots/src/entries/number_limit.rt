@@ -1,8 +1,8 @@
 // The numbers of segments, which stay below 2^62.
 ghost use Rattle.std.specs.Prelude.{◌≡◌, ◌≤◌, ◌+◌, ◌^◌, nat_lt};
 
-/// Segment numbers stay below this.
-const NUMBERS: u64 = 1 << 62;
+/// Segments, stamps and rounds have numbers below this one.
+pub const NUMBERS: u64 = 1 << 62;
 
 /// Whether one of the next this many numbers would be past the end.
 pub(crate) fn are_used_up(next: u64, count: usize) -> bool

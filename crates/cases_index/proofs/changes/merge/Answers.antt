@@ -10,4 +10,5 @@ use Rattle.cases_index.proofs.changes.merge.Goals as goal
 pub returns-in-Ok : goal.returns-in-Ok
 returns-in-Ok g c =
     let old = c.args.writer.now.front.snapshot in
-    subst (λ (w : WriterValue). Follows old w.front.snapshot) (sym c.in-Ok.ensures.writer) (follows_end old (merged_of (entries_at old.entries c.deref.result.now)))
+    subst (λ (w : WriterValue). Follows old w.front.snapshot) (sym c.in-Ok.ensures.writer)
+    (follows_end old (merged_of (entries_at old.entries c.deref.result.now)))

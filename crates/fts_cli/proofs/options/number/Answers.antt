@@ -18,4 +18,5 @@ returns c = go (one_of c.args.name.now (rows_of (found_of c.args.run.now))) (one
     go : (o : Option Text) → one_text (found_of c.args.run.now) c.args.name.now ≡ o → IfSome o IsNumber
         → c.get_one.result ≡ option_map (λ text. digits_value 10 (without_leading_plus text)) o
     go None e number = c.get_one.ensures.none e
-    go (Some t) e number = reads (λ bs r. ParsesUnsigned 64 10 bs r × ExplainsUnsignedError 10 bs r × HasUnsignedDigitsIfOk bs r) (λ u x h. h.0) t number c.get_one.result (c.get_one.ensures.value t e)
+    go (Some t) e number = reads (λ bs r. ParsesUnsigned 64 10 bs r × ExplainsUnsignedError 10 bs r × HasUnsignedDigitsIfOk bs r) (λ u x h. h.0) t number
+        c.get_one.result (c.get_one.ensures.value t e)

@@ -37,7 +37,8 @@ returns c =
     let merges = merges_are c.as_slice.result texts in
     let merge_is : rule_of c.option-merge.result ≡ option_rule (codes "merge") (Names (merges_at merges.0)) =
     c.option-merge.ensures.rule ∙ ap (λ (n : Bor (List (Bor Text))). option_rule (codes "merge") (Names n)) merges.1 in
-    let run_is : app_of c.after_help-run.result ≡ new_app (codes "run") = ap app_of_fields c.after_help-run.ensures ∙ ap app_of_fields c.about.ensures ∙ c.new.ensures.app in
+    let run_is : app_of c.after_help-run.result ≡ new_app (codes "run") = ap app_of_fields c.after_help-run.ensures ∙ ap app_of_fields c.about.ensures
+    ∙ c.new.ensures.app in
     let with_workers = c.in_ok-arg.ensures.shape c.option-workers.ensures.local ∙ ap₂ with_rule run_is c.option-workers.ensures.rule in
     let with_runs = c.in_ok-arg-2.ensures.shape c.option-runs.ensures.local ∙ ap₂ with_rule with_workers c.option-runs.ensures.rule in
     let with_deal = c.in_ok-arg-3.ensures.shape c.option-deal.ensures.local ∙ ap₂ with_rule with_runs c.option-deal.ensures.rule in

@@ -12,4 +12,5 @@ loop-op-preserved c =
     ∙ ap (λ ds. ds ++ added_by op.stamp op.value) c.loop-op.invariant
     ∙ append_assoc c.args.documents.now.items before (added_by op.stamp op.value)
     ∙ ap (λ ds. c.args.documents.now.items ++ ds)
-    (sym (added-push (take c.loop-op.op-index c.args.ops.now) op) ∙ ap added (ap (λ o. take c.loop-op.op-index c.args.ops.now ++ o ∷ []) c.op-item.is ∙ sym (take_more c.args.ops.now c.loop-op.op-index op c.loop-op-test.true)))
+    (sym (added-push (take c.loop-op.op-index c.args.ops.now) op) ∙ ap added (ap (λ o. take c.loop-op.op-index c.args.ops.now ++ o ∷ []) c.op-item.is
+    ∙ sym (take_more c.args.ops.now c.loop-op.op-index op c.loop-op-test.true)))

@@ -6,8 +6,9 @@ use Rattle.fts_engine_index.proofs.uncommitted.commit.Goals as goal
 
 pub returns-in-Ok-commit-clause-commits : goal.returns-in-Ok-commit-clause-commits
 returns-in-Ok-commit-clause-commits g c =
-    commits_batch c.args.options.cut c.in-Ok.batch (ops_of c.args.uncommitted.now) c.args.writer.now c.gather.new.writer c.commit.new.self c.gather.ensures.front
-    c.in-Ok-commit.ensures.writer (c.in-Ok.ensures.ops ∙ ap ops_of c.replace.ensures.value) c.in-Ok.ensures.batch.first c.in-Ok-commit.ensures.refused c.in-Ok-commit.ensures.content
+    commits_batch c.args.options.cut c.in-Ok.batch (ops_of c.args.uncommitted.now) c.args.writer.now c.gather.new.writer c.commit.new.self
+    c.gather.ensures.front
+    c.in-Ok-commit.ensures.writer (c.in-Ok.ensures.ops ∙ ap ops_of c.replace.ensures.value) c.in-Ok-commit.ensures.content
 
 pub returns-in-Err-commit-clause-memory : goal.returns-in-Err-commit-clause-memory
 returns-in-Err-commit-clause-memory g c =

@@ -18,7 +18,9 @@ pub returns-in-Ok-clause-uncommitted : goal.returns-in-Ok-clause-uncommitted
 returns-in-Ok-clause-uncommitted c = kept_uncommitted _ _ _ _ c.in-Ok.ensures.open c.gather_lane.ensures.kept
 
 pub returns-in-Open-clause-uncommitted : goal.returns-in-Open-clause-uncommitted
-returns-in-Open-clause-uncommitted c = kept_uncommitted _ _ _ _ (subst (IsUncommittedIn c.args.writer.now) c.in-Open.is c.requires.uncommitted).0 c.gather_lane-in-Open.ensures.kept
+returns-in-Open-clause-uncommitted c = kept_uncommitted _ _ _ _ (subst (IsUncommittedIn c.args.writer.now) c.in-Open.is c.requires.uncommitted).0
+    c.gather_lane-in-Open.ensures.kept
 
 pub returns-in-Ended-clause-uncommitted : goal.returns-in-Ended-clause-uncommitted
-returns-in-Ended-clause-uncommitted c = kept_uncommitted _ _ _ _ (subst (IsUncommittedIn c.args.writer.now) c.in-Ended.is c.requires.uncommitted).0 c.gather_end.ensures.kept
+returns-in-Ended-clause-uncommitted c = kept_uncommitted _ _ _ _ (subst (IsUncommittedIn c.args.writer.now) c.in-Ended.is c.requires.uncommitted).0
+    c.gather_end.ensures.kept

@@ -14,7 +14,8 @@ loop-answer-preserved c = λ jobs answers.
     let k = length c.loop-answer.yielded in
     let answer = c.in-Some.answer in
     let turn : (k < length results) × (answer ≡ get_or results k answer) =
-    YieldsList-turn (YieldsList-from_vec results (search rules) (search rules)) c.loop-answer.yielded c.loop-answer.answer-iterator c.loop-answer.yielded_by c.next.result c.next.new.self answer c.in-Some.is c.next.ensures.steps in
+    YieldsList-turn (YieldsList-from_vec results (search rules) (search rules)) c.loop-answer.yielded c.loop-answer.answer-iterator c.loop-answer.yielded_by
+    c.next.result c.next.new.self answer c.in-Some.is c.next.ensures.steps in
     c.in_ok-push_live-in-Ok.ensures
     ∙ kept_more jobs results k answer c.in-Ok.entry c.loop-answer.entries.items answers turn.0 turn.1 c.in-Ok.is (c.loop-answer.invariant jobs answers)
     ∙ ap (λ n. filter has_live (map entry_of (take n jobs))) (sym (length_push c.loop-answer.yielded answer))
@@ -25,5 +26,6 @@ returns-in-Err-clause-memory c = λ jobs answers.
     let k = length c.loop-answer.yielded in
     let answer = c.in-Some.answer in
     let turn : (k < length results) × (answer ≡ get_or results k answer) =
-    YieldsList-turn (YieldsList-from_vec results (search rules) (search rules)) c.loop-answer.yielded c.loop-answer.answer-iterator c.loop-answer.yielded_by c.next.result c.next.new.self answer c.in-Some.is c.next.ensures.steps in
+    YieldsList-turn (YieldsList-from_vec results (search rules) (search rules)) c.loop-answer.yielded c.loop-answer.answer-iterator c.loop-answer.yielded_by
+    c.next.result c.next.new.self answer c.in-Some.is c.next.ensures.steps in
     memory_only jobs results k answer c.in-Err.refusal answers turn.0 turn.1 c.in-Err.is

@@ -7,4 +7,5 @@ use Rattle.fts_snapshots.specs.declared.commits.jobs.CommitJob.{CommitJob}
 use Rattle.fts_index.proofs.commits.assemble.Given as goal
 
 abbrev pub invariant-loop-answer : goal.invariant-loop-answer
-invariant-loop-answer l = (jobs : List CommitJob) → AreAnswers jobs l.fn.answers.items → l.entries.items ≡ filter has_live (map entry_of (take (length l.yielded) jobs))
+invariant-loop-answer l = (jobs : List CommitJob) → AreAnswers jobs l.fn.answers.items →
+    l.entries.items ≡ filter has_live (map entry_of (take (length l.yielded) jobs))

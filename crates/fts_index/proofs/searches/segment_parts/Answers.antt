@@ -11,7 +11,8 @@ pub returns-clause-parts : goal.returns-clause-parts
 returns-clause-parts g c =
     let asked = ap (map asked_of) c.deref.ensures.value ∙ c.in_ok-jobs.ensures in
     IfOk-weaker c.parts_of.result _ _
-    (λ parts told. parts_told (query_value c.args.query.now) c.args.request.now c.deref.result.now c.in_ok-answers.answers.items c.args.entries.now parts.items c.in_ok-answers.ensures.ok asked told)
+    (λ parts told. parts_told (query_value c.args.query.now) c.args.request.now c.deref.result.now c.in_ok-answers.answers.items c.args.entries.now parts.items
+    c.in_ok-answers.ensures.ok asked told)
     c.parts_of.ensures.ok
 
 pub returns-clause-memory : goal.returns-clause-memory

@@ -6,7 +6,8 @@ use Rattle.fts_rounds.specs.Rounds.{Held, lanes_of}
 use Rattle.fts_base.proofs.TotalsLemmas.{times-append, times_here, times_else}
 use Rattle.fts_rounds.proofs.round.has_lane.Goals as goal
 
-numbers_more : (n : ℕ) (ends : List Held) (i : ℕ) (end : Held) → i < length ends → end ≡ get_or ends i end → times n (lanes_of (take (i + 1) ends)) ≡ times n (lanes_of (take i ends)) + times n (end.lane ∷ [])
+numbers_more : (n : ℕ) (ends : List Held) (i : ℕ) (end : Held) → i < length ends → end ≡ get_or ends i end →
+    times n (lanes_of (take (i + 1) ends)) ≡ times n (lanes_of (take i ends)) + times n (end.lane ∷ [])
 numbers_more n ends i end lt is =
     ap (λ (l : List Held). times n (lanes_of l)) (take_more ends i end lt ∙ ap (λ (e : Held). take i ends ++ e ∷ []) (sym is))
     ∙ (ap (times n) (map-append (λ (h : Held). h.lane) (take i ends) (end ∷ [])) ∙ times-append n (lanes_of (take i ends)) (end.lane ∷ []))

@@ -12,13 +12,16 @@ use Rattle.fts_rounds.proofs.RoundsStepsLemmas.{deals}
 use Rattle.fts_rounds.proofs.round.open_round.Goals as goal
 
 -- one lane more, at the end of those that are made
-made_more : (table table' mine : TableId) (limits : RoundLimits) (lane : ℕ) (ops : List (Stamped Op)) (made : List Held) → made ≡ map (fresh record { table = table; limits = limits }) (range_with_len 0 lane)
+made_more : (table table' mine : TableId) (limits : RoundLimits) (lane : ℕ) (ops : List (Stamped Op)) (made : List Held) →
+    made ≡ map (fresh record { table = table; limits = limits }) (range_with_len 0 lane)
     → table' ≡ table → mine ≡ table → ops ≡ []
-    → made ++ record { table = mine; limits = limits; lane = lane; ops = ops } ∷ [] ≡ map (fresh record { table = table'; limits = limits }) (range_with_len 0 (lane + 1))
+    → made ++ record { table = mine; limits = limits; lane = lane; ops = ops } ∷ [] ≡ map (fresh record { table = table'; limits = limits })
+    (range_with_len 0 (lane + 1))
 made_more table table' mine limits lane ops made is e e' none =
     let F : TableId → List Held = λ r. map (fresh record { table = r; limits = limits }) (range_with_len 0 (lane + 1)) in
     let last : Held = fresh record { table = table; limits = limits } lane in
-    let one : record { table = mine; limits = limits; lane = lane; ops = ops } ≡ last = (λ i. record { table = e' i; limits = limits; lane = lane; ops = none i }) in
+    let one : record { table = mine; limits = limits; lane = lane; ops = ops } ≡ last =
+    (λ i. record { table = e' i; limits = limits; lane = lane; ops = none i }) in
     ap (λ (l : List Held). l ++ record { table = mine; limits = limits; lane = lane; ops = ops } ∷ []) is
     ∙ (ap (λ (h : Held). map (fresh record { table = table; limits = limits }) (range_with_len 0 lane) ++ h ∷ []) one
     ∙ (sym (map-range_with_len_more (fresh record { table = table; limits = limits }) 0 lane lane (omega arith)) ∙ ap F (sym e)))
@@ -41,7 +44,8 @@ loop-lane-preserved c =
           ∙ ap (λ (k : ℕ). (drawn limits k [], [])) (let e : (c.args.lanes - lane) - 1 ≡ c.args.lanes - (lane + 1) = omega arith in e));
       table = search rules;
       one_word = search rules;
-      dealt = c.push_reserved.ensures.items ∙ made_more c.loop-lane.seat.table_id c.split_seat-lane_seat.new.seat.table_id c.split_seat-lane_seat.result.table_id limits lane
+      dealt = c.push_reserved.ensures.items ∙ made_more c.loop-lane.seat.table_id c.split_seat-lane_seat.new.seat.table_id
+          c.split_seat-lane_seat.result.table_id limits lane
           c.new-in-loop-lane.result.items c.loop-lane.dealt.items c.loop-lane.invariant.dealt same split.3 (search rules);
       room = search rules;
     }

@@ -10,7 +10,8 @@ loop-at-preserved g c =
     record {
       within = within_more bytes c.loop-at.at c.in-Ok.n c.loop-at.invariant.within c.in-Ok.ensures.bound;
       sent = append_more first _ _ _ _ c.loop-at.invariant.sent c.in-Ok.ensures.taken ∙ ap (λ v. first ++ v) (sent_more bytes c.loop-at.at c.in-Ok.n);
-      held = GainsTaken-write c.write.result _ _ _ _ _ _ (g.W.ScriptOut.held c.write.new.self) c.loop-at.invariant.held c.write.ensures.taken c.write.ensures.held;
+      held = GainsTaken-write c.write.result _ _ _ _ _ _ (g.W.ScriptOut.held c.write.new.self) c.loop-at.invariant.held c.write.ensures.taken
+          c.write.ensures.held;
       failed = not_counted c.in-Ok.n _ _ _ c.in-Ok.n-test.1 c.in-Ok.ensures.fails ∙ c.loop-at.invariant.failed;
       flushes = c.in-Ok.ensures.flushes ∙ c.loop-at.invariant.flushes;
     }

@@ -2,7 +2,8 @@ use Rattle.std.proofs.Common.{arith, ◌<◌, ◌++◌, length, take, ◌∙◌,
 use Rattle.std.proofs.lemmas.Result.{on_ok_weaker, on_err_weaker, err_from_is_err_and}
 use Rattle.std.proofs.lemmas.List.{length-take-le}
 use Rattle.fts_script.specs.Stops.{AnswersFirst, StopsFirst}
-use Rattle.fts_script.proofs.RunLemmas.{Wrote-ended, Wrote-begins, Wrote-late, Wrote-latest, Wrote-more, Wrote-reached, Wrote-same, Wrote-unless, counted_end, given_none, length_more, not_counted, on_err}
+use Rattle.fts_script.proofs.RunLemmas.{Wrote-ended, Wrote-begins, Wrote-late, Wrote-latest, Wrote-more, Wrote-reached, Wrote-same, Wrote-unless, counted_end}
+use Rattle.fts_script.proofs.RunLemmas.{given_none, length_more, not_counted, on_err}
 use Rattle.fts_script.proofs.StreamLemmas.{append_more, GainsTaken-trans, LosesGiven-read}
 use Rattle.fts_script.proofs.run.run_script.Goals as goal
 
@@ -10,7 +11,8 @@ pub reads-preserved : goal.reads-preserved
 reads-preserved g c = record {
   input = c.reads.invariant.input ++ take c.in-Ok.n c.read.new.buffer;
   given = append_more c.args.streams.now.given _ _ c.reads.invariant.input (take c.in-Ok.n c.read.new.buffer) c.reads.invariant.given c.in-Ok.ensures.given;
-  left = LosesGiven-read c.read.result c.read.new.buffer _ _ _ _ _ (g.R.ScriptIn.remaining c.read.new.self) c.reads.invariant.left c.read.ensures.given c.read.ensures.left;
+  left = LosesGiven-read c.read.result c.read.new.buffer _ _ _ _ _ (g.R.ScriptIn.remaining c.read.new.self) c.reads.invariant.left c.read.ensures.given
+      c.read.ensures.left;
   held = GainsTaken-trans _ _ _ _ _ (g.W.ScriptOut.held c.feed.new.writer) c.reads.invariant.held c.feed.ensures.held;
   reached = c.in_ok-responder-in-Ok.ensures.ok _ _ c.reads.invariant.reached;
   none_wait = c.in_ok-responder-in-Ok.ensures.none_wait;
@@ -18,7 +20,13 @@ reads-preserved g c = record {
   failed = c.in-Ok.ensures.fails ∙ c.reads.invariant.failed;
   counted = length_more c.reads.invariant.input c.read.new.buffer c.in-Ok.n c.reads.count c.in-Ok.ensures.bound c.reads.invariant.counted;
   most = omega (arith, c.reads.invariant.most, c.if-n-count.false);
-  number = omega (arith, c.in_ok-responder-in-Ok.ensures.lines_counted, c.reads.invariant.number, length-take-le c.in-Ok.n c.read.new.buffer c.in-Ok.ensures.bound);
+  number = omega (
+    arith,
+    c.in_ok-responder-in-Ok.ensures.lines_counted,
+    c.reads.invariant.number,
+    length-take-le c.in-Ok.n c.read.new.buffer
+        c.in-Ok.ensures.bound,
+  );
   write_failed = c.in_ok-responder-in-Ok.ensures.none_fails ∙ c.reads.invariant.write_failed;
   flushes = c.feed.ensures.flushes ∙ c.reads.invariant.flushes;
 }
@@ -28,7 +36,8 @@ returns-in-Ok-eq0-clause-ok g c =
     on_ok_weaker c.end.result
     (λ h. record {
       input = c.reads.invariant.input;
-      read = given_none c.args.streams.now.given _ _ c.reads.invariant.input c.read.new.buffer _ c.in-Ok-eq0.field-0-test c.reads.invariant.given c.in-Ok-eq0.ensures.given;
+      read = given_none c.args.streams.now.given _ _ c.reads.invariant.input c.read.new.buffer _ c.in-Ok-eq0.field-0-test c.reads.invariant.given
+          c.in-Ok-eq0.ensures.given;
       wrote = h _ _ c.reads.invariant.reached;
     })
     c.end.ensures.ok
@@ -42,7 +51,8 @@ returns-in-Ok-eq0-clause-err g c =
     on_err_weaker c.end.result
     (λ h. record {
       input = c.reads.invariant.input;
-      read = given_none c.args.streams.now.given _ _ c.reads.invariant.input c.read.new.buffer _ c.in-Ok-eq0.field-0-test c.reads.invariant.given c.in-Ok-eq0.ensures.given;
+      read = given_none c.args.streams.now.given _ _ c.reads.invariant.input c.read.new.buffer _ c.in-Ok-eq0.field-0-test c.reads.invariant.given
+          c.in-Ok-eq0.ensures.given;
       wrote = Wrote-ended _ _ c.reads.invariant.input _ ended (h _ _ c.reads.invariant.reached);
     })
     c.end.ensures.err
@@ -50,8 +60,10 @@ returns-in-Ok-eq0-clause-err g c =
 pub returns-in-Ok-eq0-clause-memory : goal.returns-in-Ok-eq0-clause-memory
 returns-in-Ok-eq0-clause-memory g c = λ e. record {
   input = c.reads.invariant.input;
-  read = given_none c.args.streams.now.given _ _ c.reads.invariant.input c.read.new.buffer _ c.in-Ok-eq0.field-0-test c.reads.invariant.given c.in-Ok-eq0.ensures.given;
-  wrote = Wrote-late _ _ c.reads.invariant.input 0 (length (g.R.ScriptIn.latest c.read.new.self)) (omega arith) (c.end.ensures.memory e _ _ c.reads.invariant.reached);
+  read = given_none c.args.streams.now.given _ _ c.reads.invariant.input c.read.new.buffer _ c.in-Ok-eq0.field-0-test c.reads.invariant.given
+      c.in-Ok-eq0.ensures.given;
+  wrote = Wrote-late _ _ c.reads.invariant.input 0 (length (g.R.ScriptIn.latest c.read.new.self)) (omega arith)
+      (c.end.ensures.memory e _ _ c.reads.invariant.reached);
 }
 
 pub returns-then-n-count-clause-err : goal.returns-then-n-count-clause-err
@@ -115,11 +127,13 @@ returns-in-Err-clause-read g c = λ _. record {
 
 pub returns-then-n-count-clause-left : goal.returns-then-n-count-clause-left
 returns-then-n-count-clause-left g c =
-    LosesGiven-read c.read.result c.read.new.buffer _ _ _ _ _ (g.R.ScriptIn.remaining c.read.new.self) c.reads.invariant.left c.read.ensures.given c.read.ensures.left
+    LosesGiven-read c.read.result c.read.new.buffer _ _ _ _ _ (g.R.ScriptIn.remaining c.read.new.self) c.reads.invariant.left c.read.ensures.given
+    c.read.ensures.left
 
 pub returns-in_err-responder-in-Ok-clause-left : goal.returns-in_err-responder-in-Ok-clause-left
 returns-in_err-responder-in-Ok-clause-left g c =
-    LosesGiven-read c.read.result c.read.new.buffer _ _ _ _ _ (g.R.ScriptIn.remaining c.read.new.self) c.reads.invariant.left c.read.ensures.given c.read.ensures.left
+    LosesGiven-read c.read.result c.read.new.buffer _ _ _ _ _ (g.R.ScriptIn.remaining c.read.new.self) c.reads.invariant.left c.read.ensures.given
+    c.read.ensures.left
 
 pub returns-in-Ok-eq0-clause-held : goal.returns-in-Ok-eq0-clause-held
 returns-in-Ok-eq0-clause-held g c =

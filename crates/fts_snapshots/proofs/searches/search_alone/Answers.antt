@@ -12,6 +12,7 @@ returns-in-Ok-clause-answer c =
     let query = query_value c.args.query.now in
     let whole = c.entries-entries.ensures.snapshot in
     c.in-Ok.ensures.joined (hits s.schema query (content_of s))
-    (parts_of_snapshot s query c.args.request.now c.entries-entries.result.now c.in_ok-parts.parts.items whole c.entries-entries.ensures.entries c.in_ok-parts.ensures.parts)
+    (parts_of_snapshot s query c.args.request.now c.entries-entries.result.now c.in_ok-parts.parts.items whole c.entries-entries.ensures.entries
+    c.in_ok-parts.ensures.parts)
     (once_among_hits s.schema query (content_of s) whole.stamps)
     (omega (arith, c.requires.few, length-hits s.schema query (content_of s)))

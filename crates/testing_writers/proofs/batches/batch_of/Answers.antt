@@ -9,7 +9,8 @@ last_one : (xs : List Held) (x y : Held) → x ∷ [] ≡ xs ++ y ∷ [] → y �
 last_one [] x y e = sym (ap (λ (l : List Held). get_or l 0 x) e)
 last_one (z ∷ zs) x y e = absurd (omega (arith, ap length e, length-append zs (y ∷ [])))
 
-one_end : (r : Opened) (ends : List Held) (end lane : Held) → ends ≡ end ∷ [] → lane ≡ fresh r 0 → SameLane lane end → r.limits.lanes ≡ 1 → All (IsLaneOf r) ends
+one_end : (r : Opened) (ends : List Held) (end lane : Held) → ends ≡ end ∷ [] → lane ≡ fresh r 0 → SameLane lane end → r.limits.lanes ≡ 1 →
+    All (IsLaneOf r) ends
 one_end r ends end lane e l s n = subst (All (IsLaneOf r)) (sym e) (All-from_recursion (IsLaneOf r) (end ∷ []) (
   (
     s.0 ∙ ap (λ (h : Held). h.table) l,

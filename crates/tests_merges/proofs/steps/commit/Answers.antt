@@ -11,4 +11,5 @@ pub returns-in-Ok : goal.returns-in-Ok
 returns-in-Ok g c =
     let new = c.commit.new.self.front.snapshot in
     subst (λ (f : FrontValue). Follows f.snapshot new) c.batch.ensures
-    (subst (Follows c.batch.new.writer.front.snapshot) (sym (ap (λ (w : WriterValue). w.front.snapshot) c.in-Ok.ensures.writer)) (follows_commit c.batch.new.writer.front.snapshot (Runs 1) c.in_ok-batch.batch.ops))
+    (subst (Follows c.batch.new.writer.front.snapshot) (sym (ap (λ (w : WriterValue). w.front.snapshot) c.in-Ok.ensures.writer))
+    (follows_commit c.batch.new.writer.front.snapshot (Runs 1) c.in_ok-batch.batch.ops))

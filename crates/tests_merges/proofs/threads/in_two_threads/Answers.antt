@@ -3,7 +3,8 @@ use Rattle.dilforec.proofs.FollowLemmas.{fits_further}
 use Rattle.tests_merges.proofs.threads.in_two_threads.Goals as goal
 
 pub end-requires : goal.end-requires
-end-requires g c = fits_further c.in_ok-first.second c.commit.new.writer.front.snapshot c.commit-2.new.writer.front.snapshot c.in_ok-first.ensures.second c.commit-2.ensures
+end-requires g c = fits_further c.in_ok-first.second c.commit.new.writer.front.snapshot c.commit-2.new.writer.front.snapshot c.in_ok-first.ensures.second
+    c.commit-2.ensures
 
 pub end-requires-2 : goal.end-requires-2
 end-requires-2 g c =

@@ -25,7 +25,8 @@ returns-in-Err-clause-refused g c =
     let s = c.snapshot.result.now in
     let same = c.snapshot.ensures.snapshot ∙ ap (λ (w : WriterValue). w.front.snapshot) c.self.view_is in
     ⊎_elim (λ memory. inl memory)
-    (λ refused. inr (ap (λ (s : SnapshotValue). end_fault s.next_id m s.entries) (sym same) ∙ fault_of_err (end_fault s.next_id m s.entries) (after_end m s) c.in-Err.refusal refused))
+    (λ refused. inr (ap (λ (s : SnapshotValue). end_fault s.next_id m s.entries) (sym same) ∙ fault_of_err (end_fault s.next_id m s.entries) (after_end m s)
+    c.in-Err.refusal refused))
     c.in-Err.ensures.snapshot
 
 pub returns-clause-can : goal.returns-clause-can
@@ -46,5 +47,7 @@ returns-clause-follows g c =
     let old = c.args.self.now.front.snapshot in
     ⊎_elim
     (λ ended. subst (Follows old) (sym (ap (λ (f : FrontValue). f.snapshot) ended ∙ next ∙ ap (after_end m) same)) (follows_end old m))
-    (λ stayed. subst (Follows old) (sym (ap (λ (f : FrontValue). f.snapshot) stayed ∙ ap (λ (w : WriterValue). w.front.snapshot) c.self.view_is)) (follows_itself old))
-    (either (c.publish_again.new.self ≡ published before.stamp c.in-Ok.next before) (c.publish_again.new.self ≡ before) c.publish_again.result c.publish_again.ensures.new c.publish_again.ensures.same)
+    (λ stayed. subst (Follows old) (sym (ap (λ (f : FrontValue). f.snapshot) stayed ∙ ap (λ (w : WriterValue). w.front.snapshot) c.self.view_is))
+    (follows_itself old))
+    (either (c.publish_again.new.self ≡ published before.stamp c.in-Ok.next before) (c.publish_again.new.self ≡ before) c.publish_again.result
+    c.publish_again.ensures.new c.publish_again.ensures.same)

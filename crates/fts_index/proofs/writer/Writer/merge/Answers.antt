@@ -26,7 +26,8 @@ returns-clause-writer g c =
 pub returns-clause-segments : goal.returns-clause-segments
 returns-clause-segments g c =
     let same = c.snapshot.ensures.snapshot ∙ ap (λ (w : WriterValue). w.front.snapshot) c.self.view_is in
-    ap (λ (f : FrontValue). map info_of f.snapshot.entries) c.in_ok-publish_again.ensures.new ∙ c.in_ok-merged.ensures.segments ∙ ap (infos_after_merge c.args.ids.now) same
+    ap (λ (f : FrontValue). map info_of f.snapshot.entries) c.in_ok-publish_again.ensures.new ∙ c.in_ok-merged.ensures.segments
+    ∙ ap (infos_after_merge c.args.ids.now) same
 
 pub returns-clause-follows : goal.returns-clause-follows
 returns-clause-follows g c =

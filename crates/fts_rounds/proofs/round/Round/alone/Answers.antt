@@ -32,7 +32,8 @@ load-requires c =
     let list = ap (λ (h : Held). h.ops) view in
     let same_limits : c.ended.inside.limits ≡ limits = ap (λ (h : Held). h.limits) view ∙ (c.requires.lane.1 ∙ sym (ap (λ r. r.limits) c.self.view_is)) in
     let mine = c.ended.invariant.2 ∙ ap (λ t. (drawn t 1 (stamps_of ops), [])) same_limits in
-    let seat = alone_seat c.args.end ops limits c.self.inside.seat.me c.join_seat.new.seat.me c.ended.inside.seat.me c.self.invariant.2 list c.ended.invariant.3 mine c.join_seat.ensures.2 in
+    let seat = alone_seat c.args.end ops limits c.self.inside.seat.me c.join_seat.new.seat.me c.ended.inside.seat.me c.self.invariant.2 list c.ended.invariant.3
+    mine c.join_seat.ensures.2 in
     let lanes : c.join_seat.new.seat.me.0.lanes ≡ length (c.args.end ∷ []) = ap (λ m. m.0.lanes) seat in
     (search rules, search rules, looks _ _ _ _ (omega arith))
 
@@ -44,7 +45,8 @@ returns-clause-shuffle c =
     let list = ap (λ (h : Held). h.ops) view in
     let same_limits : c.ended.inside.limits ≡ limits = ap (λ (h : Held). h.limits) view ∙ (c.requires.lane.1 ∙ sym (ap (λ r. r.limits) c.self.view_is)) in
     let mine = c.ended.invariant.2 ∙ ap (λ t. (drawn t 1 (stamps_of ops), [])) same_limits in
-    let seat = alone_seat c.args.end ops limits c.self.inside.seat.me c.join_seat.new.seat.me c.ended.inside.seat.me c.self.invariant.2 list c.ended.invariant.3 mine c.join_seat.ensures.2 in
+    let seat = alone_seat c.args.end ops limits c.self.inside.seat.me c.join_seat.new.seat.me c.ended.inside.seat.me c.self.invariant.2 list c.ended.invariant.3
+    mine c.join_seat.ensures.2 in
     let one : limits.lanes ≡ 1 = ap (λ r. r.limits.lanes) c.self.view_is ∙ c.requires.one in
     let all = told limits (length (c.args.end ∷ [])) (stamps_of ops) c.join_seat.new.seat.me seat (omega arith) c.load.ensures.2.1 in
     subst (λ (t : RoundLimits). IsShuffle t.first ops (c.args.end ∷ [])) (ap (λ r. r.limits) c.self.view_is)
@@ -58,7 +60,8 @@ invariant_of-result c =
     let list = ap (λ (h : Held). h.ops) view in
     let same_limits : c.ended.inside.limits ≡ limits = ap (λ (h : Held). h.limits) view ∙ (c.requires.lane.1 ∙ sym (ap (λ r. r.limits) c.self.view_is)) in
     let mine = c.ended.invariant.2 ∙ ap (λ t. (drawn t 1 (stamps_of ops), [])) same_limits in
-    let seat = alone_seat c.args.end ops limits c.self.inside.seat.me c.join_seat.new.seat.me c.ended.inside.seat.me c.self.invariant.2 list c.ended.invariant.3 mine c.join_seat.ensures.2 in
+    let seat = alone_seat c.args.end ops limits c.self.inside.seat.me c.join_seat.new.seat.me c.ended.inside.seat.me c.self.invariant.2 list c.ended.invariant.3
+    mine c.join_seat.ensures.2 in
     let one : limits.lanes ≡ 1 = ap (λ r. r.limits.lanes) c.self.view_is ∙ c.requires.one in
     let all = told limits (length (c.args.end ∷ [])) (stamps_of ops) c.join_seat.new.seat.me seat (omega arith) c.load.ensures.2.1 in
     let small = all.small in

@@ -19,13 +19,15 @@ use Rattle.fts_rounds.proofs.ShufflesLemmas.{shuffled, one_lane_is}
 use Rattle.fts_rounds.proofs.round.Round.merge.Goals as goal
 
 submitted_more : (ends : List Held) (end : Held) → length (submissions (ends ++ end ∷ [])) ≡ length (submissions ends) + length end.ops
-submitted_more ends end = ap length (flat_map-append (λ (h : Held). h.ops) ends (end ∷ [])) ∙ (length-append (submissions ends) (end.ops ++ []) ∙ ap (λ (l : List (Stamped Op)). length (submissions ends) + length l) (append-nil end.ops))
+submitted_more ends end = ap length (flat_map-append (λ (h : Held). h.ops) ends (end ∷ []))
+    ∙ (length-append (submissions ends) (end.ops ++ []) ∙ ap (λ (l : List (Stamped Op)). length (submissions ends) + length l) (append-nil end.ops))
 
 pub join_seat-requires : goal.join_seat-requires
 join_seat-requires c =
     let me = c.ended.invariant.2 in
     let lanes : c.ended.inside.seat.me.0.lanes ≡ 1 = ap (λ m. m.0.lanes) me in
-    let popped = All-pop (IsLaneOf c.args.self) c.loop-end.ends.items c.pop.new.self.items (Some c.in-Some.end) c.in-Some.ensures.items c.loop-end.invariant.lanes in
+    let popped = All-pop (IsLaneOf c.args.self) c.loop-end.ends.items c.pop.new.self.items (Some c.in-Some.end) c.in-Some.ensures.items
+    c.loop-end.invariant.lanes in
     let round : c.ended.inside.seat.table_id ≡ c.args.self.table = ap (λ h. h.table) (c.ended.view_is ∙ c.end.view_is) ∙ popped.1.0 in (
       search rules,
       round ∙ (sym c.loop-end.invariant.round ∙ (c.loop-end.invariant.table ∙ sym (ap (λ t. t.shared.table_id) c.deref.ensures))),
@@ -50,7 +52,8 @@ loop-end-preserved c =
           c.in-Some.ensures.items
           (subst Rises (ap stamps_of list) c.ended.invariant.3)
           more
-          (c.ended.invariant.2 ∙ (ap (λ t. (drawn t 1 (stamps_of c.ended.inside.ops.items), [])) same_limits ∙ ap (λ l. (drawn limits 1 (stamps_of l), [])) list))
+          (c.ended.invariant.2 ∙ (ap (λ t. (drawn t 1 (stamps_of c.ended.inside.ops.items), [])) same_limits ∙ ap (λ l. (drawn limits 1 (stamps_of l), []))
+          list))
           c.join_seat.ensures.2;
       lanes = popped.0;
       table = search rules;
@@ -85,7 +88,8 @@ returns-clause-shuffle c =
     let state = c.loop-end.invariant.state in
     let seat = done_seat c.args.ends.items c.loop-end.ends.items c.loop-end.ops.items c.self.inside.limits c.loop-end.seat.me state none in
     let limits = ap (λ r. r.limits) c.self.view_is in
-    let whole : length c.args.ends.items ≡ c.self.inside.limits.lanes = sym c.args.ends.ok.0 ∙ (c.requires.all ∙ sym (ap (λ r. r.limits.lanes) c.self.view_is)) in
+    let whole : length c.args.ends.items ≡ c.self.inside.limits.lanes =
+    sym c.args.ends.ok.0 ∙ (c.requires.all ∙ sym (ap (λ r. r.limits.lanes) c.self.view_is)) in
     let shuffle = shuffled c.self.inside.limits.first c.args.ends.items c.loop-end.ops.items c.sort_unstable_by_key.new.self.items
     (done_rise c.args.ends.items c.loop-end.ends.items c.loop-end.ops.items c.self.inside.limits c.loop-end.seat.me state none)
     (done_members c.args.ends.items c.loop-end.ends.items c.loop-end.ops.items c.self.inside.limits c.loop-end.seat.me state none)
@@ -98,7 +102,8 @@ pub invariant_of-result : goal.invariant_of-result
 invariant_of-result c =
     let none : length c.loop-end.ends.items ≡ 0 = sym c.loop-end.ends.ok.0 ∙ c.in_default.ensures.cases.0 in
     let seat = done_seat c.args.ends.items c.loop-end.ends.items c.loop-end.ops.items c.self.inside.limits c.loop-end.seat.me c.loop-end.invariant.state none in
-    let whole : length c.args.ends.items ≡ c.self.inside.limits.lanes = sym c.args.ends.ok.0 ∙ (c.requires.all ∙ sym (ap (λ r. r.limits.lanes) c.self.view_is)) in
+    let whole : length c.args.ends.items ≡ c.self.inside.limits.lanes =
+    sym c.args.ends.ok.0 ∙ (c.requires.all ∙ sym (ap (λ r. r.limits.lanes) c.self.view_is)) in
     let all = told c.self.inside.limits (length c.args.ends.items) (stamps_of c.loop-end.ops.items) c.loop-end.seat.me seat whole c.load.ensures.2.1 in
     let small = all.small in
     let count = length-map c.loop-end.ops.items (λ s. s.stamp) in

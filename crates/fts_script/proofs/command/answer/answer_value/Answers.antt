@@ -10,5 +10,6 @@ use Rattle.fts_script.proofs.command.answer.answer_value.Goals as goal
 
 pub returns-clause-plain : goal.returns-clause-plain
 returns-clause-plain c =
-    IfOk-weaker c.object_of.result (λ value. view value ≡ answer_data (cut_answer (option_copied c.args.names) c.args.answer.now)) (λ value. has_float (view value) ≡ false)
+    IfOk-weaker c.object_of.result (λ value. view value ≡ answer_data (cut_answer (option_copied c.args.names) c.args.answer.now))
+    (λ value. has_float (view value) ≡ false)
     (λ value e. ap has_float e ∙ answer_plain (cut_answer (option_copied c.args.names) c.args.answer.now)) c.object_of.ensures

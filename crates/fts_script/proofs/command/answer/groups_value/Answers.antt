@@ -27,4 +27,5 @@ returns c =
     let done : length groups ≤ c.loop-group.group-index = omega arith in
     view-Array c.loop-group.list
     ∙ ap array
-    (sym (items_alone items) ∙ ap (λ (xs : List (GroupValue × ℕ)). items_before items (groups_data xs)) (sym (drop_all c.loop-group.group-index groups done)) ∙ c.loop-group.invariant)
+    (sym (items_alone items) ∙ ap (λ (xs : List (GroupValue × ℕ)). items_before items (groups_data xs)) (sym (drop_all c.loop-group.group-index groups done))
+    ∙ c.loop-group.invariant)

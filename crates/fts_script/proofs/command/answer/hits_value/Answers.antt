@@ -40,4 +40,5 @@ returns c =
     let done : length hits ≤ c.loop-hit.hit-index = omega arith in
     view-Array c.loop-hit.list
     ∙ ap array
-    (sym (items_alone items) ∙ ap (λ (xs : List Hit). items_before items (hits_data xs)) (sym (cut_none names)) ∙ ap (λ (xs : List Hit). items_before items (hits_data (cut_hits names xs))) (sym (drop_all c.loop-hit.hit-index hits done)) ∙ c.loop-hit.invariant)
+    (sym (items_alone items) ∙ ap (λ (xs : List Hit). items_before items (hits_data xs)) (sym (cut_none names))
+    ∙ ap (λ (xs : List Hit). items_before items (hits_data (cut_hits names xs))) (sym (drop_all c.loop-hit.hit-index hits done)) ∙ c.loop-hit.invariant)

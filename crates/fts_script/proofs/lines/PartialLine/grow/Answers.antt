@@ -27,9 +27,19 @@ invariant_of-self-then-is_empty c =
     let p = c.self.inside in
     let none : vec_len p.bytes ≡ 0 = grind (arith, c.if-is_empty.ensures) in
     let nothing : length p.bytes.items ≡ 0 = omega (arith, p.bytes.ok.0) in
-    let rest = rest_is p.bytes.items c.extend_from_slice.new.self.items piece k nothing c.count_white-white.ensures.value c.in_ok-extend_from_slice-in-None.ensures.items in
+    let rest = rest_is p.bytes.items c.extend_from_slice.new.self.items piece k nothing c.count_white-white.ensures.value
+    c.in_ok-extend_from_slice-in-None.ensures.items in
     let counted : k ≡ prefix_len is_white piece = c.count_white-white.ensures.value in (
-      omega (arith, c.extend_from_slice.new.self.ok.0, ap length rest, length-drop (prefix_len is_white piece) piece, counted, c.count_white-white.ensures.within, c.if-self-len-le-LONGEST.true, none),
+      omega (
+        arith,
+        c.extend_from_slice.new.self.ok.0,
+        ap length rest,
+        length-drop (prefix_len is_white piece) piece,
+        counted,
+        c.count_white-white.ensures.within,
+        c.if-self-len-le-LONGEST.true,
+        none,
+      ),
       ap (prefix_len is_white) rest ∙ unindented-drop piece,
     )
 

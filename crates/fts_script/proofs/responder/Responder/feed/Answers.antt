@@ -2,7 +2,8 @@ use Rattle.std.proofs.Common.{◌++◌, length, take, subst, arith, ◌∙◌, s
 use Rattle.fts_script.specs.Streams.{Wrote}
 use Rattle.fts_script.specs.Stops.{BeginsOutput}
 use Rattle.fts_script.specs.Responders.{RunState}
-use Rattle.fts_script.proofs.RunLemmas.{AdvancesFirst-either, RunState-sent, Wrote-begins, Wrote-block, Wrote-cut, Wrote-first, Wrote-stopped, part_is, whole_is, within_more}
+use Rattle.fts_script.proofs.RunLemmas.{AdvancesFirst-either, RunState-sent, Wrote-begins, Wrote-block, Wrote-cut, Wrote-first, Wrote-stopped, part_is}
+use Rattle.fts_script.proofs.RunLemmas.{whole_is, within_more}
 use Rattle.fts_script.proofs.StreamLemmas.{GainsTaken-trans}
 use Rattle.fts_script.proofs.responder.Responder.feed.Goals as goal
 
@@ -12,7 +13,8 @@ returns-in-Err-clause-err g c = (λ before input r.
     (Wrote-cut before (g.W.ScriptOut.taken c.loop-at.writer) (g.W.ScriptOut.taken c.send.new.writer)
     c.loop-at.self.session c.loop-at.self.line (input ++ take c.loop-at.at c.args.piece.now) _
     (string_bytes c.take_lines-taken.new.self.replies) c.in-Err.ensures.err.0
-    (AdvancesFirst-either c.take_lines-taken.result c.loop-at.self.session c.take_lines-taken.new.self.session c.loop-at.self.line c.take_lines-taken.new.self.line _ _ _
+    (AdvancesFirst-either c.take_lines-taken.result c.loop-at.self.session c.take_lines-taken.new.self.session c.loop-at.self.line
+    c.take_lines-taken.new.self.line _ _ _
     c.take_lines-taken.ensures.ok c.take_lines-taken.ensures.err)
     c.in-Err.ensures.err.1
     (c.loop-at.invariant.reached before input r)))

@@ -25,9 +25,11 @@ loop-at-preserved g c =
       within = within_more bytes at n c.loop-at.invariant.within c.in_ok-at.ensures.bound;
       started = λ e. absurd (omega (arith, c.in_ok-at.ensures.some));
       leads = subst
-          (λ v. Advances c.args.self.now.session c.take_line.new.self.session c.args.self.now.line c.take_line.new.self.line v [] (string_bytes c.take_line.new.self.replies))
+          (λ v. Advances c.args.self.now.session c.take_line.new.self.session c.args.self.now.line c.take_line.new.self.line v []
+          (string_bytes c.take_line.new.self.replies))
           (sent_more bytes at n)
-          (Advances-then c.args.self.now.session c.loop-at.self.session c.take_line.new.self.session c.args.self.now.line c.loop-at.self.line c.take_line.new.self.line _ _ _ _ _
+          (Advances-then c.args.self.now.session c.loop-at.self.session c.take_line.new.self.session c.args.self.now.line c.loop-at.self.line
+          c.take_line.new.self.line _ _ _ _ _
           c.loop-at.invariant.leads c.in_ok-at.ensures.ok);
       counted = omega (arith, c.loop-at.invariant.counted, c.take_line.ensures.lines_counted, c.in_ok-at.ensures.some);
     }

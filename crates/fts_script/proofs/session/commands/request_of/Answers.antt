@@ -6,4 +6,5 @@ use Rattle.fts_script.proofs.session.commands.request_of.Goals as goal
 
 pub returns-clause-fits : goal.returns-clause-fits
 returns-clause-fits c =
-    if_ok (λ (request : Request). request_fits c.args.schema.now request ≡ true) c.new.result (λ request e. request_of_fits c.args.schema.now _ _ request (sym c.new.ensures ∙ e))
+    if_ok (λ (request : Request). request_fits c.args.schema.now request ≡ true) c.new.result (λ request e. request_of_fits c.args.schema.now _ _ request
+    (sym c.new.ensures ∙ e))

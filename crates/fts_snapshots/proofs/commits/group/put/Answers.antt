@@ -15,7 +15,8 @@ push-requires c =
 pub returns-then-at-len : goal.returns-then-at-len
 returns-then-at-len c =
     on_ok_weaker c.push.result
-    (λ pushed. put_there c.args.groups.now.items c.args.at c.args.document c.index_mut.result.now c.push.new.self (omega arith) c.index_mut.ensures.value pushed)
+    (λ pushed. put_there c.args.groups.now.items c.args.at c.args.document c.index_mut.result.now c.push.new.self (omega arith) c.index_mut.ensures.value
+    pushed)
     c.push.ensures
 
 pub returns : goal.returns

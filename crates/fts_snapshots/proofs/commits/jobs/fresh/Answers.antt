@@ -16,12 +16,14 @@ new-requires c =
     let segment = c.in_ok-segment.ensures.ok ∙ ap (λ ds. record { schema = schema; documents = ds }) c.documents.ensures.documents in
     let bits =
     c.in_ok-live.ensures.ok
-    ∙ ap (bits_after c.in_ok-segment.segment.schema ops c.in_ok-segment.segment.documents) (c.in_ok-all.ensures.ok ∙ ap (λ n. replicate n true) c.docs.ensures.len)
+    ∙ ap (bits_after c.in_ok-segment.segment.schema ops c.in_ok-segment.segment.documents)
+    (c.in_ok-all.ensures.ok ∙ ap (λ n. replicate n true) c.docs.ensures.len)
     ∙ ap (λ (s : SegmentValue). bits_after s.schema ops s.documents (replicate (length s.documents) true)) segment
     ∙ bits_where-full (survives schema ops) group in
     let few = subst (λ ds. length ds ≤ 65536) c.documents.ensures.documents c.documents.ensures.few in
     subst IsEntry
-    (sym (same_entry c.args.new.now.id c.args.new.now.id c.in_ok-segment.segment (fresh schema ops c.args.new.now.id group).segment c.in_ok-live.live (fresh schema ops c.args.new.now.id group).live refl segment bits))
+    (sym (same_entry c.args.new.now.id c.args.new.now.id c.in_ok-segment.segment (fresh schema ops c.args.new.now.id group).segment c.in_ok-live.live
+    (fresh schema ops c.args.new.now.id group).live refl segment bits))
     (entry_fresh schema ops c.args.new.now.id group few)
 
 pub returns-clause-ok : goal.returns-clause-ok
@@ -32,8 +34,10 @@ returns-clause-ok c =
     let segment = c.in_ok-segment.ensures.ok ∙ ap (λ ds. record { schema = schema; documents = ds }) c.documents.ensures.documents in
     let bits =
     c.in_ok-live.ensures.ok
-    ∙ ap (bits_after c.in_ok-segment.segment.schema ops c.in_ok-segment.segment.documents) (c.in_ok-all.ensures.ok ∙ ap (λ n. replicate n true) c.docs.ensures.len)
+    ∙ ap (bits_after c.in_ok-segment.segment.schema ops c.in_ok-segment.segment.documents)
+    (c.in_ok-all.ensures.ok ∙ ap (λ n. replicate n true) c.docs.ensures.len)
     ∙ ap (λ (s : SegmentValue). bits_after s.schema ops s.documents (replicate (length s.documents) true)) segment
     ∙ bits_where-full (survives schema ops) group in
     c.in_ok-new.ensures
-    ∙ same_entry c.args.new.now.id c.args.new.now.id c.in_ok-segment.segment (fresh schema ops c.args.new.now.id group).segment c.in_ok-live.live (fresh schema ops c.args.new.now.id group).live refl segment bits
+    ∙ same_entry c.args.new.now.id c.args.new.now.id c.in_ok-segment.segment (fresh schema ops c.args.new.now.id group).segment c.in_ok-live.live
+    (fresh schema ops c.args.new.now.id group).live refl segment bits

@@ -23,5 +23,6 @@ new-requires c =
     ∙ ap (λ s. bits_after s.schema ops s.documents c.live-live.result.now) c.segment.ensures.segment
     ∙ ap (bits_after e.segment.schema ops e.segment.documents) c.live-live.ensures.live in
     subst IsEntry
-    (sym (same_entry c.id.result e.id c.in_ok-segment.segment e.segment c.in_ok-live.live (struck ops e).live c.id.ensures (c.in_ok-segment.ensures.cases ∙ c.segment-2.ensures.segment) bits))
+    (sym (same_entry c.id.result e.id c.in_ok-segment.segment e.segment c.in_ok-live.live (struck ops e).live c.id.ensures
+    (c.in_ok-segment.ensures.cases ∙ c.segment-2.ensures.segment) bits))
     (entry_struck ops e c.live-live.ensures.bits)

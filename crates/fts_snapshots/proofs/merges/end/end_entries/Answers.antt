@@ -27,5 +27,6 @@ returns-clause-entries c =
     let outcome = ap (λ (fs : List EntryValue). ok_unless (end_fault next m fs) (ended next m fs)) (sym c.in_ok-lookup.ensures) ∙ c.in-Ok.ensures in
     let both = unless_ok (end_fault next m es) (ended next m es) c.in-Ok.entry outcome in
     let kept = c.in_ok-new.ensures ∙ ap (without es) c.sources.ensures.ids in
-    let new = c.in_ok-push_live.ensures ∙ ap (λ fs. fs ++ filter has_live (c.in-Ok.entry ∷ [])) kept ∙ ap (λ e. without es m.ids ++ filter has_live (e ∷ [])) both.1 in
+    let new = c.in_ok-push_live.ensures ∙ ap (λ fs. fs ++ filter has_live (c.in-Ok.entry ∷ [])) kept ∙ ap (λ e. without es m.ids ++ filter has_live (e ∷ []))
+    both.1 in
     ap (λ fault. ok_unless fault (replaced next m es)) both.0 ∙ ap Ok (sym new)

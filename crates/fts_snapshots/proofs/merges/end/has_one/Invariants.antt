@@ -6,4 +6,5 @@ use Rattle.fts_snapshots.proofs.merges.end.has_one.Given as goal
 
 abbrev pub invariant-loop-document : goal.invariant-loop-document
 invariant-loop-document l =
-    any_from (λ d. contains nat_eq l.stamps d.stamp) l.entry.segment.documents l.entry.live l.document ≡ any_from (λ d. contains nat_eq l.stamps d.stamp) l.entry.segment.documents l.entry.live 0
+    any_from (λ d. contains nat_eq l.stamps d.stamp) l.entry.segment.documents l.entry.live l.document ≡ any_from (λ d. contains nat_eq l.stamps d.stamp)
+    l.entry.segment.documents l.entry.live 0

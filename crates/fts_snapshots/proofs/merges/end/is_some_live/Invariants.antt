@@ -7,4 +7,5 @@ use Rattle.fts_snapshots.proofs.merges.end.is_some_live.Given as goal
 
 abbrev pub invariant-loop-entry : goal.invariant-loop-entry
 invariant-loop-entry l =
-    list_any (λ d. contains nat_eq l.stamps d.stamp) (flat_map live_in (drop l.entry-index l.entries)) ≡ list_any (λ d. contains nat_eq l.stamps d.stamp) (flat_map live_in l.entries)
+    list_any (λ d. contains nat_eq l.stamps d.stamp) (flat_map live_in (drop l.entry-index l.entries)) ≡ list_any (λ d. contains nat_eq l.stamps d.stamp)
+    (flat_map live_in l.entries)

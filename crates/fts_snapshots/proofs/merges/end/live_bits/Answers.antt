@@ -10,7 +10,8 @@ pub loop-document-init : goal.loop-document-init
 loop-document-init c =
     let m = c.args.segment.now in
     let origins = c.origins-origins.ensures.origins ∙ ap (λ (m : MergedValue). m.origins) c.merged.ensures.merged in
-    c.in_ok-live.ensures.ok ∙ ap (λ (os : List Origin). replicate (length os) false) origins ∙ sym (marked-none (bit_of c.args.lookup.now m.ids) m.merged.origins)
+    c.in_ok-live.ensures.ok ∙ ap (λ (os : List Origin). replicate (length os) false) origins
+    ∙ sym (marked-none (bit_of c.args.lookup.now m.ids) m.merged.origins)
 
 pub set-requires : goal.set-requires
 set-requires c =
@@ -30,7 +31,8 @@ loop-document-preserved c =
     let within : i < length m.merged.origins = omega (arith, c.loop-document-test.true, ap length origins) in
     let at = origin_at es m c.args.places.now i o p c.merged.ensures.each c.requires within (ap (λ os. get_or os i no_origin) origins) refl in
     elim c.if-is_live.branch [
-      | then-is_live w ↦ w.live-is ∙ w.set.ensures ∙ bits_step es m i o p c.loop-document.live true at (sym w.if-is_live.true ∙ c.is_live.ensures) c.loop-document.invariant
+      | then-is_live w ↦ w.live-is ∙ w.set.ensures ∙ bits_step es m i o p c.loop-document.live true at (sym w.if-is_live.true ∙ c.is_live.ensures)
+          c.loop-document.invariant
       | else-is_live w ↦ w.live-is ∙ bits_step es m i o p c.loop-document.live false at (sym w.if-is_live.false ∙ c.is_live.ensures) c.loop-document.invariant
     ]
 

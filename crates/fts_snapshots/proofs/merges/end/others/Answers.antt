@@ -21,7 +21,8 @@ loop-entry-preserved c =
     λ b h. sym (c.contains.ensures ∙ c.in_ok-set.ensures c.id.result ∙ ap (is_among ids) c.id.ensures) ∙ h in
     elim c.if-not-contains.branch [
       | then-not-contains+in_ok-clone+in_ok-push w ↦
-          ap (λ v. v.items) w.others-is ∙ w.in_ok-push.ensures.items ∙ ap (λ fs. fs ++ w.in_ok-clone.field-0 ∷ []) c.loop-entry.invariant ∙ ap (λ f. before ++ f ∷ []) w.in_ok-clone.ensures.cases
+          ap (λ v. v.items) w.others-is ∙ w.in_ok-push.ensures.items ∙ ap (λ fs. fs ++ w.in_ok-clone.field-0 ∷ []) c.loop-entry.invariant
+          ∙ ap (λ f. before ++ f ∷ []) w.in_ok-clone.ensures.cases
           ∙ sym (next ∙ ap (λ b. before ++ cond (not b) (e ∷ []) []) (among false w.if-not-contains.true))
       | else-not-contains w ↦
           ap (λ v. v.items) w.others-is ∙ c.loop-entry.invariant

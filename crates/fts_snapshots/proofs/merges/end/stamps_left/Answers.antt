@@ -29,12 +29,14 @@ loop-document-preserved c = λ q.
           let same = c.segment-documents.ensures ∙ ap (λ (m : MergedValue). m.segment) c.merged-merged.ensures.merged in
           let stored = ap (λ (s : SegmentValue). slice_get s.documents i) (sym same) ∙ read.1 in
           ap (λ s. contains nat_eq s q) w.stamps-is
-          ∙ stamps_added documents (gone_bits es m) i read.0 w.stamp.result q (contains nat_eq c.loop-document.stamps q) (contains nat_eq w.insert.new.self q) stored bit read.2
+          ∙ stamps_added documents (gone_bits es m) i read.0 w.stamp.result q (contains nat_eq c.loop-document.stamps q) (contains nat_eq w.insert.new.self q)
+          stored bit read.2
           (w.in_ok-insert.ensures.updates.0 q) (c.loop-document.invariant q)
       | else-is_none w ↦
           let bit = gone_step es m i o p false at (c.is_none.ensures ∙ ap not w.if-is_none.false) in
           let there = document_at documents i (omega (arith, within, c.merged-merged.ensures.each.merged.paired)) in
-          ap (λ s. contains nat_eq s q) w.stamps-is ∙ c.loop-document.invariant q ∙ ap (λ ss. is_among ss q) (sym (stamps_skipped documents (gone_bits es m) i there.0 there.1 bit))
+          ap (λ s. contains nat_eq s q) w.stamps-is ∙ c.loop-document.invariant q
+          ∙ ap (λ ss. is_among ss q) (sym (stamps_skipped documents (gone_bits es m) i there.0 there.1 bit))
     ]
 
 pub returns : goal.returns

@@ -1,5 +1,6 @@
 -- What is left of the proof of `merges::job::merged`.
-use Rattle.std.proofs.Common.{◌≡◌, ◌≢◌, ◌<◌, ◌≤◌, ◌↔◌, ◌⊎◌, inl, inr, ⊎_elim, ◌∙◌, ℕ, true, cond, nat_lt, Some, None, Result, Ok, Err, map, sum_by, refl, sym, ap, subst, arith}
+use Rattle.std.proofs.Common.{◌≡◌, ◌≢◌, ◌<◌, ◌≤◌, ◌↔◌, ◌⊎◌, inl, inr, ⊎_elim, ◌∙◌, ℕ, true, cond, nat_lt, Some, None, Result, Ok, Err, map, sum_by, refl, sym}
+use Rattle.std.proofs.Common.{ap, subst, arith}
 use Rattle.std.proofs.lemmas.Bool.{cases_lt}
 use Rattle.std.proofs.lemmas.Bool.Decides.{nat_tests}
 use Rattle.fts_base.specs.declared.refusal.Refusal.{Refusal}
@@ -19,7 +20,8 @@ abbrev refusal_of : Refusal → Result MergedValue Refusal
 refusal_of refusal = Err refusal
 
 -- a merge that was refused had too many documents, or too little memory
-refused : {Y : Type 0} (refusal : Refusal) (n : ℕ) (y : Y) → (refusal_of refusal ≡ refusal_of TooLarge) ↔ (1048576 < n) → (refusal ≢ TooLarge → refusal ≡ Memory) →
+refused : {Y : Type 0} (refusal : Refusal) (n : ℕ) (y : Y) → (refusal_of refusal ≡ refusal_of TooLarge) ↔ (1048576 < n) →
+    (refusal ≢ TooLarge → refusal ≡ Memory) →
     (refusal ≡ Memory) ⊎ (ok_unless (size_fault n) y ≡ Err refusal)
 refused refusal n y large other =
     ⊎_elim
@@ -45,7 +47,8 @@ new-requires c =
     let given = c.deref.ensures.value ∙ c.in_ok-sources.ensures in
     let large = not_large (Ok c.in-Ok.merged) c.in-Ok.merged (sources.live_count c.deref.result.now) refl c.in-Ok.ensures.large in
     let few : sum_by live_count es ≤ 1048576 = omega (arith, large, ap sources.live_count given, live_count-sources es) in
-    let is = ap (λ (m : MergedValue). segment_of m c.in_ok-ids.ids.items) (c.in-Ok.ensures.ok ∙ ap merge_of given) ∙ ap (segment_of (merge_of (map source_of es))) c.in_ok-ids.ensures in
+    let is = ap (λ (m : MergedValue). segment_of m c.in_ok-ids.ids.items) (c.in-Ok.ensures.ok ∙ ap merge_of given)
+    ∙ ap (segment_of (merge_of (map source_of es))) c.in_ok-ids.ensures in
     subst IsMergedSegment (sym is) (merged_by_job es c.requires few)
 
 pub returns : goal.returns
@@ -54,5 +57,6 @@ returns c =
     let given = c.deref.ensures.value ∙ c.in_ok-sources.ensures in
     let large = not_large (Ok c.in-Ok.merged) c.in-Ok.merged (sources.live_count c.deref.result.now) refl c.in-Ok.ensures.large in
     let few : sum_by live_count es ≤ 1048576 = omega (arith, large, ap sources.live_count given, live_count-sources es) in
-    let is = ap (λ (m : MergedValue). segment_of m c.in_ok-ids.ids.items) (c.in-Ok.ensures.ok ∙ ap merge_of given) ∙ ap (segment_of (merge_of (map source_of es))) c.in_ok-ids.ensures in
+    let is = ap (λ (m : MergedValue). segment_of m c.in_ok-ids.ids.items) (c.in-Ok.ensures.ok ∙ ap merge_of given)
+    ∙ ap (segment_of (merge_of (map source_of es))) c.in_ok-ids.ensures in
     ap (λ fault. ok_unless fault (merged_of es)) (size_none (sum_by live_count es) few) ∙ ap Ok (sym (c.new.ensures ∙ is))

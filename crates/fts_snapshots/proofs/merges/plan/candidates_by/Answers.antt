@@ -24,5 +24,6 @@ all_ids_at-requires c =
 pub returns-clause-candidates : goal.returns-clause-candidates
 returns-clause-candidates c =
     let es = c.args.entries.now in
-    let view = ap (map (λ v. v.items)) c.deref-2.ensures.value ∙ c.in_ok-found.ensures.candidates ∙ ap (candidates_by c.args.policy.now) (c.deref.ensures.value ∙ c.in_ok-sizes.ensures) in
+    let view = ap (map (λ v. v.items)) c.deref-2.ensures.value ∙ c.in_ok-found.ensures.candidates
+    ∙ ap (candidates_by c.args.policy.now) (c.deref.ensures.value ∙ c.in_ok-sizes.ensures) in
     c.in_ok-all_ids_at.ensures ∙ map-map (map (id_at es)) (λ v. v.items) c.deref-2.result.now ∙ ap (map (map (id_at es))) view

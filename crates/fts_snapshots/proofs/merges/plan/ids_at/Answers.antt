@@ -14,6 +14,7 @@ loop-index-preserved c =
     let before = map (id_at es) (take i indexes) in
     c.in_ok-push.ensures.items
     ∙ ap (λ ids. ids ++ c.id.result ∷ []) c.loop-index.invariant
-    ∙ ap (λ n. before ++ n ∷ []) (c.id.ensures ∙ sym (id_at-within es index c.index-entries-index.result (c.requires i 0 c.loop-index-test.true) c.index-entries-index.is))
+    ∙ ap (λ n. before ++ n ∷ []) (c.id.ensures ∙ sym (id_at-within es index c.index-entries-index.result (c.requires i 0 c.loop-index-test.true)
+    c.index-entries-index.is))
     ∙ sym (map-append (id_at es) (take i indexes) (index ∷ []))
     ∙ ap (map (id_at es)) (sym (take_more indexes i 0 c.loop-index-test.true))

@@ -30,7 +30,8 @@ loop-id-preserved c =
           ∙ sym (ap (entries_at es) more ∙ flat_map-append (entry_at es) before (id ∷ []));
       left =
           ap (λ xs. fault_behind es xs after) more
-          ∙ sym (ap (λ fs. fault_behind fs before (id ∷ after)) (sym same) ∙ named.fault before after c.loop-id.invariant.names ∙ ap (λ fs. fault_behind fs (before ++ id ∷ []) after) same)
+          ∙ sym (ap (λ fs. fault_behind fs before (id ∷ after)) (sym same) ∙ named.fault before after c.loop-id.invariant.names
+          ∙ ap (λ fs. fault_behind fs (before ++ id ∷ []) after) same)
           ∙ ap (fault_behind es before) (sym rest)
           ∙ c.loop-id.invariant.left;
     }

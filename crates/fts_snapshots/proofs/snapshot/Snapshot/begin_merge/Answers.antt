@@ -20,7 +20,8 @@ new-requires c =
     let ids = c.args.ids.now in
     let es = inside.entries.items in
     let s = snapshot_with inside.schema es inside.next_id in
-    let outcome = subst (λ (fs : List EntryValue). ok_unless (names_fault fs ids) (entries_at fs ids) ≡ Ok c.in_ok-entries.entries.items) c.deref.ensures.value c.in_ok-entries.ensures in
+    let outcome = subst (λ (fs : List EntryValue). ok_unless (names_fault fs ids) (entries_at fs ids) ≡ Ok c.in_ok-entries.entries.items) c.deref.ensures.value
+    c.in_ok-entries.ensures in
     let both = unless_ok (names_fault es ids) (entries_at es ids) c.in_ok-entries.entries.items outcome in
     subst IsJob (sym both.1) (job_begun s ids c.self.invariant both.0)
 
@@ -28,8 +29,10 @@ pub returns-clause-job : goal.returns-clause-job
 returns-clause-job c =
     let ids = c.args.ids.now in
     let es = c.self.inside.entries.items in
-    let outcome = subst (λ (fs : List EntryValue). ok_unless (names_fault fs ids) (entries_at fs ids) ≡ Ok c.in_ok-entries.entries.items) c.deref.ensures.value c.in_ok-entries.ensures in
-    subst (λ (s : SnapshotValue). ok_unless (names_fault s.entries ids) (entries_at s.entries ids) ≡ Ok c.new.result) c.self.view_is (outcome ∙ ap Ok (sym c.new.ensures))
+    let outcome = subst (λ (fs : List EntryValue). ok_unless (names_fault fs ids) (entries_at fs ids) ≡ Ok c.in_ok-entries.entries.items) c.deref.ensures.value
+    c.in_ok-entries.ensures in
+    subst (λ (s : SnapshotValue). ok_unless (names_fault s.entries ids) (entries_at s.entries ids) ≡ Ok c.new.result) c.self.view_is
+    (outcome ∙ ap Ok (sym c.new.ensures))
 
 pub returns-clause-fits : goal.returns-clause-fits
 returns-clause-fits c =
@@ -37,7 +40,8 @@ returns-clause-fits c =
     let ids = c.args.ids.now in
     let es = inside.entries.items in
     let s = snapshot_with inside.schema es inside.next_id in
-    let outcome = subst (λ (fs : List EntryValue). ok_unless (names_fault fs ids) (entries_at fs ids) ≡ Ok c.in_ok-entries.entries.items) c.deref.ensures.value c.in_ok-entries.ensures in
+    let outcome = subst (λ (fs : List EntryValue). ok_unless (names_fault fs ids) (entries_at fs ids) ≡ Ok c.in_ok-entries.entries.items) c.deref.ensures.value
+    c.in_ok-entries.ensures in
     let both = unless_ok (names_fault es ids) (entries_at es ids) c.in_ok-entries.entries.items outcome in
     subst (λ (job : List EntryValue). Fits (merged_of job) c.args.self.now) (sym (c.new.ensures ∙ both.1))
     (subst (Fits (merged_of (entries_at es ids))) c.self.view_is (fits_begun s ids c.self.invariant both.0))

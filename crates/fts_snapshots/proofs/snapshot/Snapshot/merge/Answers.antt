@@ -16,7 +16,8 @@ returns-in-Ok-clause-snapshot c =
     let job = c.in_ok-job.job in
     let both = unless_ok (names_fault s.entries ids) (entries_at s.entries ids) job c.in_ok-job.ensures.job in
     let few = sym (ap (λ (es : List EntryValue). size_fault (sum_by live_count es)) both.1) ∙ c.in-Ok.ensures.few in
-    subst (Gives (λ new. new) c.end_merge.result) (merge_here s ids c.in-Ok.merged both.0 few (c.in-Ok.ensures.merged ∙ ap merged_of both.1)) c.end_merge.ensures.snapshot
+    subst (Gives (λ new. new) c.end_merge.result) (merge_here s ids c.in-Ok.merged both.0 few (c.in-Ok.ensures.merged ∙ ap merged_of both.1))
+    c.end_merge.ensures.snapshot
 
 pub returns-in-Ok-clause-segments : goal.returns-in-Ok-clause-segments
 returns-in-Ok-clause-segments c = infos_given c.args.self.now c.args.ids.now c.end_merge.result c.begin_merge.ensures.snapshot (returns-in-Ok-clause-snapshot c)

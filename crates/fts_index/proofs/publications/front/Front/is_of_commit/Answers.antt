@@ -18,6 +18,7 @@ returns-clause-commit c =
     let a = c.args.self.now in
     let b = c.args.other.now in
     let seen = returns-clause-one_list c in (
-      λ same. one_commit a b seen.0 seen.1 seen.2 c.stamp.ensures.front c.stamp-2.ensures.front (sym c.stamp.ensures.stamp ∙ eqb-true c.stamp.result c.stamp-2.result same ∙ c.stamp-2.ensures.stamp),
+      λ same. one_commit a b seen.0 seen.1 seen.2 c.stamp.ensures.front c.stamp-2.ensures.front
+          (sym c.stamp.ensures.stamp ∙ eqb-true c.stamp.result c.stamp-2.result same ∙ c.stamp-2.ensures.stamp),
       λ one. eq-eqb c.stamp.result c.stamp-2.result (c.stamp.ensures.stamp ∙ one.stamp ∙ sym c.stamp-2.ensures.stamp),
     )

@@ -4,7 +4,7 @@ use Rattle.fts_model.specs.Queries.{hits}
 use Rattle.fts_model.specs.QueryValues.{query_value}
 use Rattle.fts_collect.specs.Parts.{PartValue}
 use Rattle.fts_snapshots.specs.Snapshots.{IsSnapshot, SnapshotValue, content_of}
-use Rattle.fts_snapshots.proofs.SearchLemmas.{length-hits, once_among_hits, opens_in_all, parts_of_snapshot}
+use Rattle.fts_snapshots.proofs.SearchLemmas.{length-hits, of_parts, once_among_hits, opens_in_all, parts_of_snapshot}
 use Rattle.fts_index.proofs.publications.searcher.Searcher.search.Goals as goal
 
 pub returns-in-Ok-clause-answer : goal.returns-in-Ok-clause-answer
@@ -25,4 +25,15 @@ returns-in-Ok-clause-openings g c =
     let whole : IsSnapshot s = subst IsSnapshot c.snapshot-snapshot.ensures.snapshot c.entries.ensures.snapshot in
     let entries = c.entries.ensures.entries ∙ ap (λ (x : SnapshotValue). x.entries) c.snapshot-snapshot.ensures.snapshot in
     let all = ap (λ (ps : List PartValue). min (2 ^ 64 - 1) (sum_by (λ part. part.openings) ps)) c.deref.ensures.value in
-    opens_in_all s query c.args.request.now c.entries.result.now c.in_ok-parts.parts.items whole entries c.in_ok-parts.ensures.parts c.openings_of-openings.result (c.openings_of-openings.ensures ∙ all)
+    opens_in_all s query c.args.request.now c.entries.result.now c.in_ok-parts.parts.items whole entries c.in_ok-parts.ensures.parts
+    c.openings_of-openings.result (c.openings_of-openings.ensures ∙ all)
+
+pub returns-in-Ok-clause-parts : goal.returns-in-Ok-clause-parts
+returns-in-Ok-clause-parts g c =
+    let s = c.args.self.now.snapshot in
+    let query = query_value c.args.query.now in
+    let whole : IsSnapshot s = subst IsSnapshot c.snapshot-snapshot.ensures.snapshot c.entries.ensures.snapshot in
+    let entries = c.entries.ensures.entries ∙ ap (λ (x : SnapshotValue). x.entries) c.snapshot-snapshot.ensures.snapshot in
+    let all = ap (λ (ps : List PartValue). min (2 ^ 64 - 1) (sum_by (λ part. part.openings) ps)) c.deref.ensures.value in
+    of_parts s query c.args.request.now c.entries.result.now c.in_ok-parts.parts.items whole entries c.in_ok-parts.ensures.parts c.openings_of-openings.result
+    (c.openings_of-openings.ensures ∙ all)

@@ -15,7 +15,8 @@ of-requires c =
     let kept = c.requires ∙ ap entries_kept (sym c.self.view_is) in
     let next : c.next_id.result + c.len.result ≡ p.snapshot.next_id + new_segments p.cut p.batch =
     omega (arith, c.next_id.ensures.next, c.len.ensures, ap length c.self.invariant.0) in
-    let same = same_snapshot c.in_ok-schema.schema p.snapshot.schema c.args.entries.items (entries_kept p) (c.next_id.result + c.len.result) (p.snapshot.next_id + new_segments p.cut p.batch)
+    let same = same_snapshot c.in_ok-schema.schema p.snapshot.schema c.args.entries.items (entries_kept p) (c.next_id.result + c.len.result)
+    (p.snapshot.next_id + new_segments p.cut p.batch)
     (c.in_ok-schema.ensures.cases ∙ c.schema.ensures.schema) kept next in
     subst IsSnapshot (sym same) (left_is p c.self.invariant.1)
 

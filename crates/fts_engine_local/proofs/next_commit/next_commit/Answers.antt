@@ -1,13 +1,13 @@
--- What is left of the proof of `changes::next_commit`.
+-- What is left of the proof of `next_commit::next_commit`.
 use Rattle.std.proofs.Common.{◌+◌, length, ap, ◌∙◌, arith}
 use Rattle.std.specs.Arc.{arc_value}
 use Rattle.fts_snapshots.specs.Snapshots.{after_commit, commit_fault, content_of}
 use Rattle.fts_snapshots.proofs.CountLemmas.{memory_alone, no_commit_fault, refused_by}
 use Rattle.fts_snapshots.proofs.SourceLemmas.{unless_ok}
 use Rattle.fts_snapshots.proofs.StampLemmas.{batch_behind, left_stamped}
-use Rattle.fts_engine_local.specs.declared.commit.LocalCommit.{LocalCommit}
-use Rattle.fts_engine_local.proofs.LocalLemmas.{commits_locally}
-use Rattle.fts_engine_local.proofs.changes.next_commit.Goals as goal
+use Rattle.fts_snapshots.specs.declared.stamped.Commit.{Commit}
+use Rattle.fts_snapshots.proofs.ChangeLemmas.{commits_made}
+use Rattle.fts_engine_local.proofs.next_commit.next_commit.Goals as goal
 
 pub commit_alone-requires-clause-behind : goal.commit_alone-requires-clause-behind
 commit_alone-requires-clause-behind c =
@@ -37,5 +37,5 @@ returns-clause-commits c =
     let ops = c.args.ops.now in
     let made = c.in_ok-new.ensures.ok in
     let is = (unless_ok (commit_fault c.args.cut ops s) (after_commit c.args.cut ops s) c.in-Ok.snapshot c.in-Ok.ensures.snapshot).1 in
-    commits_locally c.args.cut ops last (arc_value c.in_ok-new.field-0) (ap (λ (l : LocalCommit). l.snapshot) made ∙ is)
-    (ap (λ (l : LocalCommit). content_of l.snapshot) made ∙ c.in-Ok.ensures.content) (ap (λ (l : LocalCommit). l.stamp) made)
+    commits_made c.args.cut ops s (arc_value c.in_ok-new.field-0).snapshot (ap (λ (l : Commit). l.snapshot) made ∙ is)
+    (ap (λ (l : Commit). content_of l.snapshot) made ∙ c.in-Ok.ensures.content)

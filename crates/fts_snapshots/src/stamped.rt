@@ -1,12 +1,12 @@
-// A commit as an engine of one thread keeps it.
+// A snapshot at its commit stamp.
 ghost use Rattle.fts_snapshots.specs.Stamps.{IsStamped};
 
+use crate::snapshot::Snapshot;
 use fts_model::Stamp;
-use fts_snapshots::Snapshot;
 
 /// A snapshot with the stamp of its commit.
 #[derive(Drop)]
-pub struct LocalCommit {
+pub struct Commit {
     pub stamp: Stamp,
     pub snapshot: Snapshot,
     ghost stamped: { IsStamped stamp snapshot },

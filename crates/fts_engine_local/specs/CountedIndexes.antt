@@ -1,0 +1,34 @@
+-- What both engines over segments share: an index at a commit, what calls take of numbers, and the merges after a
+-- commit.
+use Rattle.std.specs.Prelude.{◌≡◌, ℕ, ◌+◌, ◌*◌, ◌≤◌, None, List, length}
+use Rattle.fts_merge.specs.declared.policy.MergePolicy.{MergePolicy}
+use Rattle.fts_model.specs.declared.operation.Op.{Op}
+use Rattle.fts_model.specs.declared.operation.Stamped.{Stamped}
+use Rattle.fts_snapshots.specs.Candidates.{after_candidates, due}
+use Rattle.fts_snapshots.specs.Commits.{misfit}
+use Rattle.fts_snapshots.specs.Infos.{candidate_ids_by}
+use Rattle.fts_snapshots.specs.Snapshots.{SnapshotValue, content_of, segments_and_numbers}
+use Rattle.fts_engine.specs.Indexes.{Index}
+use Rattle.fts_engine.specs.declared.options.Merge.{Merge}
+use Rattle.fts_engine.specs.declared.options.Merge.TheVariants.{Off, Policy}
+
+-- what a commit stands for, with the operations since
+abbrev pub index_at : ℕ → SnapshotValue → List (Stamped Op) → Index
+index_at stamp snapshot uncommitted = record {
+  schema = snapshot.schema;
+  documents = content_of snapshot;
+  commit_stamp = stamp;
+  uncommitted = uncommitted;
+}
+
+-- What calls that change an index leave, after so many of them: the operations fit the schema, and each call took one
+-- stamp, and two of segments and their numbers together, at most.
+pub record IsCounted (stamp : ℕ) (snapshot : SnapshotValue) (uncommitted : List (Stamped Op)) (calls : ℕ) : Type 0 where
+  pub fit : misfit snapshot.schema uncommitted ≡ None
+  pub stamps : stamp + length uncommitted ≤ calls
+  pub segments : segments_and_numbers snapshot + 2 * length uncommitted ≤ 2 * calls
+
+-- what the merges after a commit leave of it, where they are to go by a policy
+abbrev pub after_policy : Merge → MergePolicy → SnapshotValue → SnapshotValue
+after_policy Off policy s = s
+after_policy Policy policy s = after_candidates (due (candidate_ids_by policy s.entries)) s

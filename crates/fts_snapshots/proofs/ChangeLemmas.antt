@@ -1,0 +1,122 @@
+-- What commits and merges change of an index over segments.
+use Rattle.std.proofs.Common.{◌≡◌, ◌+◌, ◌<◌, ◌≤◌, ◌⊎◌, inl, inr, ℕ, true, false, cond, None, Some, Result, Ok, Err, OnOk, OnErr, nat_lt, List, [], ◌∷◌, ◌++◌}
+use Rattle.std.proofs.Common.{length, get_or, drop, map, filter, is_none, refl, sym, ap, subst, ◌∙◌, arith}
+use Rattle.std.proofs.lemmas.Bool.Decides.{nat_tests}
+use Rattle.std.proofs.lemmas.List.{at_drop_all, at_drop_more, length-append}
+use Rattle.std.proofs.lemmas.List.Sums.{length-filter, count_by-le-length}
+use Rattle.fts_base.specs.declared.refusal.Refusal.{Refusal}
+use Rattle.fts_base.specs.declared.refusal.Refusal.TheVariants.{Memory}
+use Rattle.fts_base.specs.Results.{Gives, ok_unless}
+use Rattle.fts_model.specs.declared.cut.Cut.{Cut}
+use Rattle.fts_model.specs.declared.operation.Op.{Op}
+use Rattle.fts_model.specs.declared.operation.Stamped.{Stamped}
+use Rattle.fts_model.specs.Operations.{alive, adds}
+use Rattle.fts_snapshots.specs.Candidates.{after_candidate, after_candidates, due}
+use Rattle.fts_snapshots.specs.Changes.{Commits, Merges}
+use Rattle.fts_snapshots.specs.Entries.{has_live}
+use Rattle.fts_snapshots.specs.LateMerges.{after_merge, ended}
+use Rattle.fts_snapshots.specs.MergedSegments.{merged_of}
+use Rattle.fts_snapshots.specs.Merges.{entries_at, without}
+use Rattle.fts_snapshots.specs.Snapshots.{SnapshotValue, after_commit, content_of, merge_fault, segments_and_numbers}
+use Rattle.fts_snapshots.proofs.CountLemmas.{commit_counted, fewer_without, merge_counted, refused_by}
+use Rattle.fts_snapshots.proofs.LateBeginLemmas.{ids_named}
+use Rattle.fts_snapshots.proofs.SourceLemmas.{unless_ok}
+
+-- a commit of a batch
+pub commits_made : (cut : Cut) (ops : List (Stamped Op)) (old new : SnapshotValue) → new ≡ after_commit cut ops old →
+    content_of new ≡ alive old.schema (adds (content_of old) ++ ops) → Commits ops old new
+commits_made cut ops old new is content = record {
+  schema = ap (λ (s : SnapshotValue). s.schema) is;
+  documents = content;
+  segments = omega (arith, ap segments_and_numbers is, commit_counted cut ops old);
+}
+
+-- a merge of segments
+pub merges_made : (more : ℕ) (ids : List ℕ) (old new : SnapshotValue) → new ≡ after_merge ids old → merge_fault ids old ≡ None → 2 ≤ length ids + more →
+    content_of new ≡ content_of old → Merges more old new
+merges_made more ids old new is fine enough content = record {
+  schema = ap (λ (s : SnapshotValue). s.schema) is;
+  documents = content;
+  segments = omega (arith, ap segments_and_numbers is, merge_counted more ids old fine enough);
+}
+
+-- a snapshot that stays
+pub merges_nothing : (more : ℕ) (s : SnapshotValue) → Merges more s s
+merges_nothing more s = record { schema = refl; documents = refl; segments = omega arith }
+
+-- merges that take no more numbers take one at most
+pub merges_at_most : (old new : SnapshotValue) → Merges 0 old new → Merges 1 old new
+merges_at_most old new m = record { schema = m.schema; documents = m.documents; segments = omega (arith, m.segments) }
+
+-- merges one after the other
+pub merges_then : (more : ℕ) (a b c : SnapshotValue) → Merges 0 a b → Merges more b c → Merges more a c
+merges_then more a b c ab bc =
+    record { schema = bc.schema ∙ ab.schema; documents = bc.documents ∙ ab.documents; segments = omega (arith, ab.segments, bc.segments) }
+
+-- a merge of no segment is refused
+some_named : (ids : List ℕ) (s : SnapshotValue) → merge_fault ids s ≡ None → 0 < length ids
+some_named [] s fine = cc
+some_named (id ∷ ids) s fine = omega arith
+
+-- a merge of any number of segments
+pub merges_any : (ids : List ℕ) (old new : SnapshotValue) → new ≡ after_merge ids old → merge_fault ids old ≡ None → content_of new ≡ content_of old →
+    Merges 1 old new
+merges_any ids old new is fine content = merges_made 1 ids old new is fine (omega (arith, some_named ids old fine)) content
+
+-- a candidate that was merged
+pub candidate_merged : (ids : List ℕ) (old new : SnapshotValue) → ok_unless (merge_fault ids old) (after_merge ids old) ≡ Ok new → new ≡ after_candidate ids old
+candidate_merged ids old new given =
+    let both = unless_ok (merge_fault ids old) (after_merge ids old) new given in
+    both.1 ∙ sym (ap (λ fault. cond (is_none fault) (after_merge ids old) old) both.0)
+
+-- a candidate that was refused, and not for memory
+pub candidate_left : (ids : List ℕ) (old new : SnapshotValue) (e : Refusal) → (e ≡ Memory → ⊥) →
+    (e ≡ Memory) ⊎ (ok_unless (merge_fault ids old) (after_merge ids old) ≡ Err e) → new ≡ old → new ≡ after_candidate ids old
+candidate_left ids old new e other given same =
+    elim (refused_by (merge_fault ids old) (after_merge ids old) e given) [
+      | inl memory ↦ absurd (other memory)
+      | inr fault ↦ same ∙ sym (ap (λ f. cond (is_none f) (after_merge ids old) old) fault)
+    ]
+
+-- a merge of all segments leaves one
+pub merged_into_one : (ids : List ℕ) (s : SnapshotValue) → merge_fault ids s ≡ None → length ids ≡ length s.entries → length (after_merge ids s).entries ≤ 1
+merged_into_one ids s fine all =
+    let m = merged_of (entries_at s.entries ids) in
+    let one = ended s.next_id m s.entries ∷ [] in
+    omega (
+      arith,
+      fewer_without ids s fine,
+      all,
+      length-filter has_live one,
+      count_by-le-length has_live one,
+      length-append (without s.entries m.ids)
+          (filter has_live one),
+    )
+
+-- the first of the candidates that are left is this one
+due_first : {V : Type 0} (f : V → List ℕ) (vs : List V) (k : ℕ) (v : V) (s : SnapshotValue) → k < length vs → v ≡ get_or vs k v →
+    after_candidates (due (map f (drop k vs))) s ≡ after_candidates (due (f v ∷ map f (drop (k + 1) vs))) s
+due_first f vs k v s within is =
+    at_drop_more (λ ws. after_candidates (due (map f ws)) s) vs k v within ∙ ap (λ w. after_candidates (due (f w ∷ map f (drop (k + 1) vs))) s) (sym is)
+
+-- a candidate of several segments is tried, and then those after it
+pub due_more : {V : Type 0} (f : V → List ℕ) (vs : List V) (k : ℕ) (v : V) (old new : SnapshotValue) → k < length vs → v ≡ get_or vs k v → 2 ≤ length (f v) →
+    new ≡ after_candidate (f v) old →
+    after_candidates (due (map f (drop (k + 1) vs))) new ≡ after_candidates (due (map f (drop k vs))) old
+due_more f vs k v old new within is several made =
+    let rest = map f (drop (k + 1) vs) in
+    let more : nat_lt (length (f v)) 2 ≡ false = grind (arith, nat_tests) in
+    ap (after_candidates (due rest)) made ∙ sym (due_first f vs k v old within is ∙ ap (λ b. after_candidates (cond b (f v ∷ []) (f v ∷ due rest)) old) more)
+
+-- a candidate of one segment is the last that is tried
+pub due_last : {V : Type 0} (f : V → List ℕ) (vs : List V) (k : ℕ) (v : V) (old new : SnapshotValue) → k < length vs → v ≡ get_or vs k v → length (f v) < 2 →
+    new ≡ after_candidate (f v) old →
+    new ≡ after_candidates (due (map f (drop k vs))) old
+due_last f vs k v old new within is one made =
+    let rest = map f (drop (k + 1) vs) in
+    let last : nat_lt (length (f v)) 2 ≡ true = grind (arith, nat_tests) in
+    made ∙ sym (due_first f vs k v old within is ∙ ap (λ b. after_candidates (cond b (f v ∷ []) (f v ∷ due rest)) old) last)
+
+-- no candidate is left
+pub due_none : {V : Type 0} (f : V → List ℕ) (vs : List V) (k : ℕ) (s : SnapshotValue) → length vs ≤ k → after_candidates (due (map f (drop k vs))) s ≡ s
+due_none f vs k s past = at_drop_all (λ ws. after_candidates (due (map f ws)) s) vs k past
