@@ -3,7 +3,7 @@
 
 `rt run` in crates/fts does that too, but it proves one library after the other, and one of them seldom keeps four
 processors busy. This proves the libraries side by side, as `rt ci` does: first those with the longest chain of others
-behind them, each by two processes or more, since that chain sets the time. Then it calls `rt run`.
+after them, each by two processes or more, since that chain sets the time. Then it calls `rt run`.
 """
 import os
 import subprocess

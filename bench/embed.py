@@ -88,7 +88,7 @@ def instructions(words, **settings):
 
 
 def whole(folder, name):
-    """The path of a file with the documents, and the lines of another one behind them."""
+    """The path of a file with the documents, and the lines of another one after them."""
     with open(f"{folder}/both", "wb") as both:
         for part in ("documents", name) if name != "documents" else ("documents",):
             both.write(pathlib.Path(folder, part).read_bytes())
@@ -96,7 +96,7 @@ def whole(folder, name):
 
 
 def by_program(folder, name, count):
-    """Microseconds a line of a file, behind the documents."""
+    """Microseconds per line of a file, after the documents."""
     whole(folder, name)
     return least(lambda: seconds(PROGRAM, stdin=open(f"{folder}/both"))) / count * 1e6
 
@@ -131,13 +131,17 @@ def count(program, folder):
 
     alone = counted("documents")
     lines = sum(1 for _ in open(f"{folder}/documents"))
-    print(f"{DOCUMENTS:,} documents, {SEARCHES:,} searches a kind; thousands of instructions a line")
-    print(f"{'':14}{'program':>10}{'C':>10}")
-    print(f"{'an add':14}{alone[0] / lines / 1e3:10.2f}{alone[1] / lines / 1e3:10.2f}")
+    print(f"{DOCUMENTS:,} documents, {SEARCHES:,} searches a kind; thousands of instructions a line.\n")
+    print("|line|`fts run`|C|\n|---|---|---|")
+    row("an add", *(total / lines / 1e3 for total in alone))
     for number, kind in enumerate(KINDS):
         both = counted(str(number))
-        each = [(more - less) / SEARCHES / 1e3 for more, less in zip(both, alone)]
-        print(f"{kind:14}{each[0]:10.2f}{each[1]:10.2f}")
+        row(kind, *((more - less) / SEARCHES / 1e3 for more, less in zip(both, alone)))
+
+
+def row(name, *numbers):
+    """Prints a row of a table in Markdown."""
+    print(f"|{name}|{'|'.join(f'{number:.2f}' for number in numbers)}|", flush=True)
 
 
 def processor_time(of):
@@ -211,11 +215,12 @@ def titles():
 
 def package():
     """Prints a row for each call of the package, beside FTS5."""
-    print(f"{DOCUMENTS:,} documents; microseconds of processor time a call")
-    print(f"{'':16}{'dilforec':>10}{'FTS5':>10}")
+    print(f"{DOCUMENTS:,} documents; ten hits by a number over {LONG_DOCUMENTS} documents of {LONG_WORDS:,} words. Microseconds of "
+          "processor time a call.\n")
+    print("|call|dilforec|FTS5|\n|---|---|---|")
     for rows in adds, titles:
-        for name, ours, theirs in rows():
-            print(f"{name:16}{ours:10.2f}{theirs:10.2f}", flush=True)
+        for each in rows():
+            row(*each)
 
 
 def main():
@@ -235,12 +240,13 @@ def main():
         c, python = by_c(program, folder, names), by_python(folder, names)
         lines = sum(1 for _ in open(f"{folder}/documents"))
         alone = by_program(folder, "documents", lines)
-        print(f"{DOCUMENTS:,} documents, {SEARCHES:,} searches a kind; microseconds a line")
-        print(f"{'':14}{'program':>10}{'C':>10}{'Python':>10}")
-        print(f"{'an add':14}{alone:10.2f}{c[0]:10.2f}{python[0]:10.2f}")
+        print(f"{DOCUMENTS:,} documents in one commit, {SEARCHES:,} searches a kind, by `dilforec_execute` and `Index.execute`; "
+              "microseconds a line, by the clock.\n")
+        print("|line|`fts run --merge policy`|C|Python|\n|---|---|---|---|")
+        row("an add", alone, c[0], python[0])
         for place, kind in enumerate(KINDS, 1):
             both = by_program(folder, str(place - 1), SEARCHES)
-            print(f"{kind:14}{both - alone * lines / SEARCHES:10.2f}{c[place]:10.2f}{python[place]:10.2f}")
+            row(f"`{kind}`" if kind.startswith("+") else kind, both - alone * lines / SEARCHES, c[place], python[place])
 
 
 if __name__ == "__main__":

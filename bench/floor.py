@@ -6,7 +6,7 @@
 Build the program first (README.md), or name it in $FTS; this builds bench/peers by g++ and javac. What isn't installed is left out with a
 sentence, and counted. All programs are in one run: for each kind of search each is asked in turn, in several passes over all kinds, and its
 least time counts. Every answer is compared with that of the others. Prints microseconds of processor time for a search, JSON included for
-`fts run` and Groonga, with all documents live and again with a tenth of them deleted; then how they stand to the loops and to CRoaring beside
+`fts run` and Groonga, with all documents live and again with a tenth of them deleted; then their ratios to the loops and to CRoaring beside
 the goals, and which fall short. With --instructions it runs `fts run` and the loops under Valgrind's callgrind instead, and prints thousands of
 instructions a search, which other work on the machine doesn't change. With --picture it draws the times by matplotlib as an SVG.
 
@@ -27,7 +27,7 @@ from floor_table import HOW, draw, shown
 from indexes import Index
 from searches import Search
 
-# What else the machine does for a second spoils no time: the least of several passes over all kinds counts. What took longer than so many
+# What else the machine does for a second spoils no time: the least of several passes over all kinds counts. What took longer than LONG
 # seconds isn't asked again in a later one.
 PASSES, LONG = 4, 0.4
 

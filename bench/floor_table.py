@@ -4,6 +4,7 @@ from __future__ import annotations
 import pathlib
 from typing import Any, NamedTuple
 
+import picture
 from indexes import BITMAPS, FTS, PACKED, PLAIN
 
 Rows = dict[str, dict[str, float]]
@@ -63,7 +64,7 @@ class Standing(NamedTuple):
 
 
 def standings(row: dict[str, float], goal: Goal | None) -> list[Standing]:
-    """How `fts run` stands to the loops over plain arrays and to CRoaring, where these were asked."""
+    """The ratios of `fts run` to the loops over plain arrays and to CRoaring, if these were asked."""
     at_most = {PLAIN: goal.micros / goal.plain, BITMAPS: goal.micros / goal.bitmaps if goal.bitmaps else None} if goal else {}
     return [Standing(name, row[FTS] / row[name], at_most.get(name)) for name in (PLAIN, BITMAPS) if FTS in row and name in row]
 
@@ -94,11 +95,10 @@ def ratios(rows: Rows, goals: dict[str, Goal]) -> str:
 
 
 HOW = (
-    "Microseconds of processor time a search: the least of several rounds, in several passes over all kinds, in which each program has its turn. The "
-    "index is one segment. `fts run`, the loops, CRoaring, Xapian and Groonga take lines of JSON by a pipe, and the time is that of the whole process; "
-    "`fts run` and Groonga answer in JSON. FTS5 is called through Python, and its top lists come without the number of hits. Lucene's time is that of "
-    "the thread that searches, after rounds in which its code was compiled. Whether a document is deleted is a bit that `fts run` and the loops test; "
-    "CRoaring does one AND NOT more. A goal is a ratio that was set beforehand: what `fts run` was to take, by what the column took then.")
+    "Microseconds of processor time a search: the least of several rounds, in which each program has its turn. The index is one segment. `fts run`, "
+    "the loops, CRoaring, Xapian and Groonga take lines of JSON by a pipe, and the time is that of the whole process; `fts run` and Groonga answer in "
+    "JSON. FTS5 is called through Python, and its top lists come without the number of hits. Lucene's time is that of the thread that searches, once "
+    "its code is compiled. A goal is a ratio that was set beforehand: what `fts run` was to take, by what the column took then.")
 
 
 def opening(raw: dict[str, Any]) -> str:
@@ -128,25 +128,7 @@ def shown(raw: dict[str, Any]) -> str:
 
 
 def draw(raw: dict[str, Any], file: pathlib.Path) -> None:
-    """Draws the times with all documents live, by matplotlib."""
-    import matplotlib  # type: ignore[import]
-    matplotlib.use("svg")
-    matplotlib.rcParams["svg.hashsalt"] = "searches"
-    from matplotlib import pyplot
-    rows: Rows = raw["live"]
+    """Draws the times with all documents live."""
     names = list(raw["programs"])
-    width = 0.8 / len(names)
-    figure, axes = pyplot.subplots(figsize=(9, 11))
-    for place, name in enumerate(names):
-        found = [(at - 0.4 + width * (place + 0.5), row[name]) for at, row in enumerate(rows.values()) if name in row]
-        label = f"{name} run, JSON included" if name == FTS else name
-        axes.barh([at for at, _ in found], [micros for _, micros in found], width, label=label)
-    axes.set_yticks(range(len(rows)), [kind.replace("`", "") for kind in rows])
-    axes.set_xscale("log")
-    axes.set_xlabel(f"microseconds a search, {raw['documents']:,} documents")
-    axes.margins(y=0.01)
-    axes.invert_yaxis()
-    axes.legend(loc="upper center", bbox_to_anchor=(0.4, -0.06), ncol=4)
-    figure.tight_layout()
-    figure.savefig(file, metadata={"Date": None})
-    pyplot.close(figure)
+    kinds = {kind.replace("`", ""): row for kind, row in raw["live"].items()}
+    picture.bars(file, kinds, names, f"microseconds per search of {raw['documents']:,} documents; fts is fts run, JSON included")

@@ -15,6 +15,12 @@ ROOT = pathlib.Path(__file__).resolve().parent.parent
 PROGRAM = pathlib.Path(os.environ.get("FTS", ROOT / "crates/fts/out/fts"))
 
 
+def resident_of(process: int | str) -> float:
+    """How many megabytes (10^6 bytes) of a process are resident."""
+    status = pathlib.Path(f"/proc/{process}/status").read_text()
+    return next(int(line.split()[1]) for line in status.splitlines() if line.startswith("VmRSS")) * 1024 / 1e6
+
+
 class Session:
     """A run of a program whose standard input and output are pipes."""
 
@@ -54,8 +60,7 @@ class Session:
 
     def resident(self) -> float:
         """How many megabytes (10^6 bytes) are resident."""
-        status = pathlib.Path(f"/proc/{self.program.pid}/status").read_text()
-        return next(int(line.split()[1]) for line in status.splitlines() if line.startswith("VmRSS")) * 1024 / 1e6
+        return resident_of(self.program.pid)
 
     def end(self) -> None:
         self.input.close()

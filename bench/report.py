@@ -8,19 +8,20 @@ With --written nothing is measured: the page is written again from what bench/me
 with the commit, the date, the machine, the kit and the load when its measuring began, and with what --note says of how it was measured.
 
 A part is a line of `PARTS`. It names a module of bench/ that has `measure()`, which gives raw results that JSON can hold, and `shown(raw)`, which
-gives them as Markdown; or, by `printed`, a program of bench/ whose output is shown as it is.
+gives them as Markdown; or, by `printed`, a program whose output is shown as it is.
 """
 from __future__ import annotations
 
 import argparse
+import collections
 import datetime
 import hashlib
 import importlib
-import importlib.util
 import json
 import os
 import pathlib
 import platform
+import re
 import subprocess
 import sys
 import textwrap
@@ -37,7 +38,7 @@ WIDTH = 140
 
 
 class Part(NamedTuple):
-    """What `measure` gives is kept; `shown` makes Markdown of it, and `draw` the picture of that name in docs/, if there is one."""
+    """What `measure` gives is kept; `shown` makes Markdown of it, and `draw` the picture of that name in docs/, if it has one."""
     name: str
     title: str
     measure: Callable[[], Any]
@@ -54,13 +55,12 @@ def module(name: str, title: str, of: str, picture: str = "", asks_program: bool
 
 
 def printed(name: str, title: str, *command: str, asks_program: bool = True) -> Part:
-    """A part whose raw result is what a program prints, a table in Markdown or lines of text."""
+    """A part whose raw result is what a program prints, in Markdown."""
     def measure() -> Any:
         return run(sys.executable, ROOT / command[0], *command[1:])
 
     def shown(raw: Any) -> str:
-        text = str(raw).strip()
-        return text if text.startswith("|") else f"```\n{text}\n```"
+        return str(raw).strip()
 
     return Part(name, title, measure, shown, asks_program=asks_program)
 
@@ -70,6 +70,7 @@ PARTS = (
     module("floor", "Searches of 100,000 documents", "floor", picture="searches.svg"),
     module("million", "Searches of 1,000,000 documents", "floor", count=1_000_000, each=100, names=LOOPS),
     module("instructions", "Instructions of a search", "floor_instructions"),
+    module("builds", "Builds and memory", "builds"),
     module("scripts", "Scripts, by the clock", "script"),
     module("commits", "Commits of one add, and merges", "commits"),
     module("updates", "Updates by a key", "updates", picture="updates.svg"),
@@ -81,7 +82,7 @@ PARTS = (
     printed("package", "Calls of the Python package", "bench/embed.py", "package", asks_program=False),
     module("scale", "Partitions", "scale", asks_program=False),
     printed("service", "The service", "bench/service.py", asks_program=False),
-    printed("hostile", "Scripts that were made to be slow", "bench/hostile.py"),
+    printed("hostile", "Scripts that were made to be slow", "tests/hostile.py"),
 )
 
 
@@ -146,23 +147,33 @@ def kept(part: Part) -> dict[str, Any]:
     return found
 
 
+def usual() -> str:
+    """The machine and the kit of most parts, which the introduction says."""
+    places = collections.Counter(where(part) for part in PARTS if kept(part))
+    return places.most_common(1)[0][0] if places else "nothing"
+
+
+def where(part: Part) -> str:
+    return "{machine}; kit {kit}".format(**kept(part))
+
+
 def section(part: Part) -> str:
     """A part's heading, conditions, tables and picture."""
     told = kept(part)
-    program = f" program {told['program']};" if told["program"] else ""
-    conditions = (
-        f"Commit {told['commit']}, {told['date']}, in {told['seconds']} s, on {told['machine']}; kit {told['kit']};{program} load when it began "
-        f"{', '.join(f'{load:.1f}' for load in told['load'])}.")
+    program = f", program {told['program']}" if told["program"] else ""
+    conditions = f"`--only {part.name}`: commit {told['commit']}{program}, {told['date']}, {told['seconds']} s, load {told['load'][0]:.1f}"
+    conditions += "." if where(part) == usual() else f"; on {where(part)}."
     note = [told["note"]] if told.get("note") else []
     picture = [f"![{part.title}]({part.picture})"] if part.picture else []
-    return "\n\n".join([f"## {part.title}", f"    python3 bench/report.py --only {part.name}", conditions, *note, part.shown(told["raw"]), *picture])
+    return "\n\n".join([f"## {part.title}", conditions, *note, part.shown(told["raw"]), *picture])
 
 
-INTRODUCTION = f"""# What was measured
+def introduction() -> str:
+    return f"""# What was measured
 
-`python3 bench/report.py` writes this page: nothing in it is written by hand, and no other page gets a table of times. Each part says at which
-commit, when and on what it was measured, with which kit, how the SHA-256 of the program begins, and the load (processes that ran or waited to
-run, over 1, 5 and 15 minutes) when it began. Above a load of zero other work was on the processors: then a ratio of two columns says more than
+`python3 bench/report.py` writes this page, and measures it anew, with `--only` a part of it. Unless a part says otherwise, it was measured on
+{usual()}. Each part says at which commit, when and in how many seconds, how the SHA-256 of the program begins, and the load (processes that ran
+or waited to run in the minute before). Above a load of zero other work was on the processors: then a ratio of two columns says more than
 either. A dash means that a program has nothing for the search.
 
 ## The documents
@@ -175,27 +186,25 @@ either. A dash means that a program has nothing for the search.
 
 
 def wrapped(text: str) -> str:
-    """A paragraph in lines of at most WIDTH; tables, headings, pictures and code stay as they are."""
-    return text if text.startswith(("|", "#", "!", " ", "```")) else textwrap.fill(text, WIDTH, break_long_words=False, break_on_hyphens=False)
+    """A paragraph in lines of at most WIDTH, a table without spaces around its cells; headings, pictures and code stay as they are."""
+    if text.startswith("|"):
+        return re.sub(r" *\| *", "|", text)
+    return text if text.startswith(("#", "!", " ")) else textwrap.fill(text, WIDTH, break_long_words=False, break_on_hyphens=False)
 
 
 def page() -> str:
     there = [part for part in PARTS if kept(part)]
     missing = ", ".join(f"{part.title.lower()} (`--only {part.name}`)" for part in PARTS if part not in there)
     closing = [f"## Not measured yet\n\n{missing[0].upper()}{missing[1:]}."] if missing else []
-    whole = "\n\n".join([INTRODUCTION, *map(section, there), *closing])
+    whole = "\n\n".join([introduction(), *map(section, there), *closing])
     return "\n\n".join(map(wrapped, whole.split("\n\n"))) + "\n"
 
 
 def draw() -> None:
-    """Draws the pictures of what was measured, if matplotlib is installed."""
-    wanted = [part for part in PARTS if part.draw and kept(part)]
-    if not importlib.util.find_spec("matplotlib"):
-        print(f"{', '.join(part.picture for part in wanted)} stays as it is, since matplotlib isn't installed (Debian: python3-matplotlib).")
-        return
-    for part in wanted:
-        assert part.draw
-        part.draw(kept(part)["raw"], PAGE.parent / part.picture)
+    """Draws the pictures of what was measured."""
+    for part in PARTS:
+        if part.draw and kept(part):
+            part.draw(kept(part)["raw"], PAGE.parent / part.picture)
 
 
 def main() -> None:

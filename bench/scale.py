@@ -161,14 +161,14 @@ def run(way: str, paths: list[str]) -> dict[str, Any]:
 # What is measured.
 
 def write(path: str, count: int, seed: int) -> None:
-    """Writes so many documents, as lines of JSON."""
+    """Writes `count` documents, as lines of JSON."""
     with open(path, "w") as file:
         for document in corpus.documents(count, seed, WORDS_EACH):
             file.write(json.dumps(document._asdict(), separators=(",", ":")) + "\n")
 
 
 def written(folder: str, count: int, parts: int) -> list[str]:
-    """Files of JSON lines, so many documents in all."""
+    """Files of JSON lines, `count` documents in all."""
     paths = [f"{folder}/{count}.{parts}.{part}.jsonl" for part in range(parts)]
     with ProcessPoolExecutor(WORKERS) as pool:
         list(pool.map(write, paths, itertools.repeat(count // parts), range(1, parts + 1)))
@@ -184,7 +184,7 @@ def quickest(way: str, paths: list[str]) -> dict[str, Any]:
 
 
 def point(folder: str, count: int) -> dict[str, Any]:
-    """All three ways over so many documents."""
+    """All three ways over `count` documents."""
     paths = written(folder, count, WORKERS)
     told: dict[str, Any] = {"documents": count, "load": os.getloadavg()[0], "json": sum(map(os.path.getsize, paths))}
     told |= {way: quickest(way, paths) for way in WAYS}
@@ -239,17 +239,17 @@ def measure(counts: tuple[int, ...] = COUNTS) -> dict[str, Any]:
 # The model.
 
 def groups_of(documents: float) -> float:
-    """How many different tags a tenth of so many documents has, which is how many groups a partition sends."""
+    """How many different tags a tenth of the documents has, which is how many groups a partition sends."""
     return corpus.TAGS * (1 - math.exp(-documents / 10 / corpus.TAGS))
 
 
 def joined(constants: dict[str, float], documents: float, parts: int) -> float:
-    """Mean milliseconds of joining the answers of so many partitions. One search in four has groups, one a top ten."""
+    """Mean milliseconds of joining the answers of partitions. One search in four has groups, one a top ten."""
     return parts * (groups_of(documents) * constants["joined group"] + 10 * constants["joined hit"]) / 4 / 1e3
 
 
 def searched(constants: dict[str, float], documents: float) -> float:
-    """Mean milliseconds of a search in one partition of so many documents."""
+    """Mean milliseconds of a search in one partition of `documents` documents."""
     return constants["million"] * math.pow(documents / 1e6, constants["power"])
 
 
@@ -307,10 +307,9 @@ def shown(raw: dict[str, Any]) -> str:
     return "\n\n".join([
         f"The documents are those above, but with {raw['words each']} words each, so that ten million fit into a small machine. {SEARCHES} searches "
         "of four kinds in turn: a word, two words that both must match, a range of a tenth of the `i64`s with groups by the keyword, and a word with "
-        "a top ten. Each way was built twice and searched twice each time; the quickest counts. Beside each number is what the model says, and the "
-        "measured number divided by that. The model's constants are from the same points: those of searches and memory from one process over the "
-        "fewest and the most documents, those of builds from the second number of documents, the handing over from threads over the fewest, and "
-        f"Dask's from {FEW_PARTS} and {MORE_PARTS} partitions of {FEW:,} documents.",
+        "a top ten. The quickest of two builds and of four times the searches counts. Beside each number is what the model says, and the measured "
+        "number divided by that. The model's constants are from the same points: those of searches and memory from one process over the fewest and "
+        f"the most documents, those of builds from the second number, Dask's from {FEW_PARTS} and {MORE_PARTS} partitions of {FEW:,} documents.",
         points_shown(raw, constants), constants_shown(constants), machines_shown(constants),
     ])
 

@@ -20,12 +20,12 @@ from crates import documents, outputs
 from floor_table import number, table
 from programs import ROOT, run
 
-# A list of at most so many documents is plain numbers, and a longer one that has one in so many of the documents up to its last has bits, too.
+# A list of at most SHORT documents is plain numbers, and a longer one that has one in DENSE of the documents up to its last has bits, too.
 SHORT, DENSE = 64, 64
 
 
 def packed(numbers: Sequence[int], entry: int) -> int:
-    """The bytes of numbers in blocks, with so many for each block's entry."""
+    """The bytes of numbers in blocks, with `entry` bytes for each block."""
     blocks = [numbers[at:at + 128] for at in range(0, len(numbers), 128)]
     return sum(16 * max(block).bit_length() + entry for block in blocks)
 

@@ -3,9 +3,9 @@
 
     python3 bench/service.py [DOCUMENTS] [SECONDS]
 
-Build and link the package's library first (docs/EMBEDDING.md). 100,000 documents without an argument, of 30 words, a
-keyword and a number; each measurement takes 5 seconds. A search asks for one word or two that both have to match, with
-the groups of the keyword and the first ten by the number. A post has one document, and its answer says that it is on
+Build and link the package's library first (docs/EMBEDDING.md). The documents are those of bench/corpus.py, 100,000
+without an argument; each measurement takes 5 seconds. A search asks for one word or two that both have to match, with
+the groups of the keyword and the first ten by the price. A post has one document, and its answer says that it is on
 disk. Before the start the journal was compacted, and FTS5's table optimized. FTS5 has a write-ahead log and
 `synchronous=full`, shares its syncs among clients as the service does, and groups and top lists join a table by the
 row's number. Clients are processes that keep their connection. The output is a table in Markdown: requests a second,
@@ -37,34 +37,15 @@ if not os.environ.get("PYTHONPATH"):
     sys.path.insert(0, str(ROOT / "bindings/python"))
     os.environ["PYTHONPATH"] = str(ROOT / "bindings/python")
 
-from dilforec import Top, keyword, text, u64  # noqa: E402
+import corpus  # noqa: E402
+from dilforec import Field, Top  # noqa: E402
 from dilforec.service import Answer, Done, Hit, Store, Transaction, application  # noqa: E402
 from dilforec.service._turns import Turns  # noqa: E402
 
-FIELDS = [text("body", default=True), keyword("tag"), u64("n")]
+FIELDS = [Field(**field) for field in corpus.SCHEMA["schema"]]
 CLIENTS = (1, 4, 16)
-
-
-class Words:
-    """Words of Zipf's law, the same ones for a seed."""
-
-    def __init__(self, seed: int) -> None:
-        chance = random.Random(1)
-        letters = "abcdefghijklmnopqrstuvwxyz"
-        found = {"".join(chance.choices(letters, k=chance.randint(4, 9))) for _ in range(50_000)}
-        self.words = sorted(found)
-        chance.shuffle(self.words)
-        self.sums = list(itertools.accumulate(1 / (rank + 1) for rank in range(len(self.words))))
-        self.chance = random.Random(seed)
-
-    def some(self, count: int) -> list[str]:
-        return self.chance.choices(self.words, cum_weights=self.sums, k=count)
-
-    def document(self) -> dict[str, Any]:
-        return {
-            "body": " ".join(self.some(30)), "tag": f"t{self.chance.randrange(1000):03}",
-            "n": self.chance.randrange(1_000_000),
-        }
+# How many different requests a client has, which it repeats.
+ASKED = 3_000
 
 
 class FtsStore:
@@ -76,7 +57,7 @@ class FtsStore:
         self.writer = self.opened()
         self.writer.executescript("""
             PRAGMA journal_mode = wal;
-            CREATE TABLE IF NOT EXISTS documents (id INTEGER PRIMARY KEY, tag TEXT, n INTEGER, text TEXT);
+            CREATE TABLE IF NOT EXISTS documents (id INTEGER PRIMARY KEY, tag TEXT, price INTEGER, text TEXT);
             CREATE VIRTUAL TABLE IF NOT EXISTS bodies USING fts5(body, content='');
         """)
         self.last = self.writer.execute("SELECT coalesce(max(id), 0) FROM documents").fetchone()[0]
@@ -95,7 +76,7 @@ class FtsStore:
                 self.last += 1
                 document = json.loads(operation.text)
                 self.writer.execute("INSERT INTO documents VALUES (?, ?, ?, ?)",
-                                    (self.last, document["tag"], document["n"], operation.text.decode()))
+                                    (self.last, document["tag"], document["price"], operation.text.decode()))
                 self.writer.execute("INSERT INTO bodies (rowid, body) VALUES (?, ?)", (self.last, document["body"]))
                 job["ids"].append(self.last)
         self.writer.execute("COMMIT")
@@ -124,7 +105,7 @@ class FtsStore:
         one = self.local.connection
         joined = "FROM bodies JOIN documents ON id = bodies.rowid WHERE bodies MATCH ?"
         counts = dict(one.execute(f"SELECT tag, count(*) {joined} GROUP BY tag ORDER BY tag", (wanted,)))
-        rows = one.execute(f"SELECT id, n, text {joined} ORDER BY n DESC, id LIMIT ?", (wanted, top.k))
+        rows = one.execute(f"SELECT id, price, text {joined} ORDER BY price DESC, id LIMIT ?", (wanted, top.k))
         hits = tuple(Hit(id, value, json.loads(document)) for id, value, document in rows)
         return Answer(sum(counts.values()), {"tag": counts}, hits, 0)
 
@@ -146,8 +127,7 @@ def serve_fts(path: str) -> None:
 
 def filled(folder: pathlib.Path, count: int) -> None:
     """A journal and a database with the same documents."""
-    words = Words(2)
-    documents = [words.document() for _ in range(count)]
+    documents = [document._asdict() for document in corpus.documents(count)]
     fts: Any = FtsStore(str(folder / "database"))
     with Store(FIELDS, folder / "journal") as store:
         for start in range(0, count, 10_000):
@@ -173,16 +153,18 @@ def served(*command: object) -> Iterator[int]:
 
 
 def requests(kind: str, port: int, seed: int) -> Iterator[bytes]:
-    words = Words(seed)
     head = f"HTTP/1.1\r\nHost: 127.0.0.1:{port}\r\n"
-    while True:
-        if kind == "post":
-            body = json.dumps(words.document()).encode()
+    if kind == "post":
+        for document in corpus.documents(ASKED, seed):
+            body = json.dumps(document._asdict()).encode()
             length = f"Content-Type: application/json\r\nContent-Length: {len(body)}\r\n\r\n"
             yield f"POST /documents {head}{length}".encode() + body
-        else:
-            query = words.some(1)[0] if words.chance.random() < 0.5 else "%2B" + "+%2B".join(words.some(2))
-            yield f"GET /search?q={query}&groups=tag&top=n,10,falling {head}\r\n".encode()
+        return
+    chance = random.Random(seed)
+    for _ in range(ASKED):
+        words = corpus.words(chance, 2)
+        query = words[0] if chance.random() < 0.5 else "%2B" + "+%2B".join(words)
+        yield f"GET /search?q={query}&groups=tag&top=price,10,falling {head}\r\n".encode()
 
 
 def answer(connection: socket.socket) -> bytes:
@@ -200,7 +182,7 @@ def answer(connection: socket.socket) -> bytes:
 
 def client(kind: str, port: int, seed: int, seconds: float, start: Any, told: Any) -> None:
     """Asks until the time is over, and tells the milliseconds of each request."""
-    asked = list(itertools.islice(requests(kind, port, seed), 3000))
+    asked = list(requests(kind, port, seed))
     with socket.create_connection(("127.0.0.1", port)) as connection:
         connection.setsockopt(socket.IPPROTO_TCP, socket.TCP_NODELAY, 1)
         start.wait()
@@ -264,12 +246,13 @@ def main() -> None:
         with served(__file__, "fts5", folder / "database") as port:
             assert answers(port) == expected, "the two services answer differently"
             theirs = rows(port, seconds)
-    print("| | the service: a second | 50 %, ms | 99 %, ms | over FTS5: a second | 50 %, ms | 99 %, ms | times |")
+    print(f"{count:,} documents. Requests a second, and the milliseconds within which half and 99 % of them were answered.\n")
+    print("||the service: a second|50 %, ms|99 %, ms|over FTS5: a second|50 %, ms|99 %, ms|times|")
     print("|---|---|---|---|---|---|---|---|")
     for name, (rate, half, most) in ours.items():
         other, other_half, other_most = theirs[name]
-        mine, their = (f"{a:,.0f} | {b:.2f} | {c:.2f}" for a, b, c in (ours[name], theirs[name]))
-        print(f"| {name} | {mine} | {their} | {rate / other:.1f} |")
+        mine, their = (f"{a:,.0f}|{b:.2f}|{c:.2f}" for a, b, c in (ours[name], theirs[name]))
+        print(f"|{name}|{mine}|{their}|{rate / other:.1f}|")
 
 
 if __name__ == "__main__":

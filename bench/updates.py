@@ -31,9 +31,10 @@ import time
 from typing import Any, Callable, Iterable, Iterator, NamedTuple, Protocol
 
 import corpus
+import picture
 from floor_table import number, table
 from indexes import JARS, PEERS, SHARED
-from programs import PROGRAM, ROOT, run
+from programs import PROGRAM, ROOT, resident_of, run
 
 EACH = (1, 10)
 ADDS = (2_500, 5_000, 10_000, 20_000)
@@ -116,12 +117,6 @@ class Fts5:
 PROGRAMS: dict[str, Callable[[], Updated]] = {"Dilforec": Embedded, "FTS5": Fts5}
 
 
-def resident() -> float:
-    """How many megabytes (10^6 bytes) of this process are resident."""
-    status = pathlib.Path("/proc/self/status").read_text()
-    return next(int(line.split()[1]) for line in status.splitlines() if line.startswith("VmRSS")) * 1024 / 1e6
-
-
 def added(count: int) -> Iterator[Update]:
     return (Update(f"k{place}", document) for place, document in enumerate(corpus.documents(count)))
 
@@ -149,17 +144,17 @@ def commit(index: Updated, some: list[Update]) -> float:
 
 def timed(name: str, count: int, given: int, each: int) -> dict[str, Any]:
     """What updates take in this process."""
-    before = resident()
+    before = resident_of("self")
     index = PROGRAMS[name]()
     for update in added(count):
         index.add(update)
     index.commit()
-    memory, segments, times = [resident() - before], [index.segments()], []
+    memory, segments, times = [resident_of("self") - before], [index.segments()], []
     look = max(1, given // each // LOOKS)
     for place, some in enumerate(batches(updates(given, count), each), 1):
         times.append(commit(index, some))
         if place % look == 0:
-            memory.append(resident() - before)
+            memory.append(resident_of("self") - before)
             segments.append(index.segments())
     return {"times": times, "memory": memory, "segments": segments}
 
@@ -251,19 +246,8 @@ def shown(raw: dict[str, Any]) -> str:
 
 def draw(raw: dict[str, Any], path: pathlib.Path) -> None:
     """Draws what is resident as updates go on, of commits of ten."""
-    import matplotlib  # type: ignore[import]
-    matplotlib.use("svg")
-    matplotlib.rcParams["svg.hashsalt"] = "updates"
-    from matplotlib import pyplot
-    figure, axes = pyplot.subplots(figsize=(8, 4))
-    for name, told_of in raw["each"]["10"].items():
-        memory = told_of["memory"]
-        axes.plot([place * raw["updates"] / max(1, len(memory) - 1) for place in range(len(memory))], memory, label=name)
-    axes.set(xlabel="updates", ylabel="MB", ylim=(0, None))
-    axes.legend()
-    figure.tight_layout()
-    figure.savefig(path, metadata={"Date": None})
-    pyplot.close(figure)
+    memory = {name: [value for value in told_of["memory"] if value is not None] for name, told_of in raw["each"]["10"].items()}
+    picture.lines(path, {name: values for name, values in memory.items() if values}, raw["updates"], "updates", "MB")
 
 
 class Policy(NamedTuple):

@@ -35,7 +35,7 @@ def files(crate: str) -> Iterator[str]:
 
 
 def dependencies() -> Iterator[tuple[str, list[str]]]:
-    """Each crate of crates.txt with what it stands on."""
+    """Each crate of crates.txt with the crates that it names."""
     for line in (CRATES.parent / "crates.txt").read_text(encoding="utf-8").splitlines():
         head, colon, names = line.partition(":")
         if colon and not line.startswith("#"):

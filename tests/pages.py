@@ -61,7 +61,7 @@ ELSEWHERE = {
     r"^socat\b": "it waits for clients",
 }
 
-# What stands in for another machine, or for a build: programs in front of the PATH.
+# Programs in front of the PATH, in place of another machine or a build.
 STAND_INS = {
     "rt": '[ "$1" = try ] && [ "$2" = -- ] && shift 2 && exec fts "$@"',
     "pv": 'exec cat "$@"',
@@ -199,7 +199,7 @@ def sources() -> set[str]:
     """Each word of the sources."""
     words: set[str] = set()
     crates = (f"crates/*/{folder}/**/*.{kind}" for folder in ("src", "specs", "proofs") for kind in ("rt", "antt"))
-    for form in (*crates, "bindings/**/*.py", "bindings/**/*.h", "bindings/rust/*.rs", "bindings/rust/src/*.rs", "bench/*.py"):
+    for form in (*crates, "bindings/**/*.py", "bindings/**/*.h", "bindings/rust/*.rs", "bindings/rust/src/*.rs", "bench/*.py", "tests/*.py"):
         for path in ROOT.glob(form):
             words.update(re.findall(r"\w+", path.read_text("utf-8")))
     return words | set(re.findall(r"\w+", (ROOT / "crates.txt").read_text("utf-8")))

@@ -1,5 +1,5 @@
 // What Lucene takes to update documents by a key, in memory: bench/updates.py gives it the documents, and then the updates, a line each, as key,
-// body, keyword, number and signed number between tabs. Of each commit of so many updates, with a reader that finds them, comes a line
+// body, keyword, number and signed number between tabs. Of each commit of EACH updates, with a reader that finds them, comes a line
 // `commit NANOSECONDS` of processor time, its threads that merge counted; and at times `look BYTES SEGMENTS`, of what is in use in the heap.
 //
 //     java -cp lucene-core.jar:lucene-analyzers-common.jar bench/peers/LuceneUpdates.java DOCUMENTS EACH LOOKS

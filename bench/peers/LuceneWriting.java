@@ -1,5 +1,5 @@
 // What Lucene takes to build, strike, merge and commit in memory: bench/commits.py gives it documents, a line each, as body, keyword and number
-// between tabs. Nanoseconds by the clock come out: of each of so many commits of one document, and then, without strikes and with them,
+// between tabs. Nanoseconds by the clock come out: of each of COMMITS commits of one document, and then, without strikes and with them,
 // of the build of 16 segments, of a delete of the keyword t3 with its commit, and of the merge.
 //
 //     java -cp lucene-core.jar:lucene-analyzers-common.jar bench/peers/LuceneWriting.java COMMITS DOCUMENTS

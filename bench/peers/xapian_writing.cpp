@@ -1,6 +1,6 @@
 // What Xapian takes to build, strike, compact and commit over a database in shared memory: bench/commits.py gives it documents, a line each, as
 // body, keyword and number between tabs. Nanoseconds by the clock come out, as of bench/peers/LuceneWriting.java; it has no segments, so a build is
-// one commit, and what stands for a merge is a compacted copy.
+// one commit, and in place of a merge is a compacted copy.
 //
 //     g++ -O2 -std=c++20 bench/peers/xapian_writing.cpp -o writing $(xapian-config --cxxflags --libs)
 //     ./writing FOLDER COMMITS DOCUMENTS

@@ -84,7 +84,7 @@ LIBRARY = load()
 
 
 def fault(code: int) -> Exception:
-    """What a code other than 0 stands for."""
+    """What a code other than 0 means."""
     if code == MEMORY:
         return MemoryError("the index had no memory; nothing changed")
     if code == LINE_TOO_LONG:

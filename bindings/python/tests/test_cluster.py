@@ -25,7 +25,7 @@ import machines
 from dilforec.cluster import Cluster, Documents, JsonLines, Refusal, Script, SourceChanged, SourceRefused
 
 ROOT = pathlib.Path(__file__).resolve().parents[3]
-sys.path[:0] = [str(ROOT / "tests"), str(ROOT / "bench")]
+sys.path[:0] = [str(ROOT / "tests")]
 
 import random_scripts  # noqa: E402
 

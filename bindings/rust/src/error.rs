@@ -89,7 +89,7 @@ const NAMES: [&str; 28] = [
 ];
 
 impl Error {
-    /// What a code of dilforec.h stands for.
+    /// What a code of dilforec.h means.
     pub(crate) fn of(code: i32) -> Result<(), Error> {
         Err(match code {
             0 => return Ok(()),

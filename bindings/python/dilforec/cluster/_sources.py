@@ -27,7 +27,7 @@ class Source(abc.ABC):
 
     @abc.abstractmethod
     def command(self, line: bytes, schema: tuple[Field, ...]) -> bytes:
-        """The line of a script that a line stands for, without an LF; a blank line for none."""
+        """The line of a script that a line means, without an LF; a blank line for none."""
 
     @property
     def commits(self) -> bool:

@@ -1,7 +1,7 @@
 """The lines of a journal, and the operations of a transaction that become lines.
 
 A journal is a script. Its first line is the schema, and then come transactions: adds, deletes, and a commit. An add has
-the document's number as its first member. One more line may stand before a commit, a search, which changes nothing: the
+the document's number as its first member. One more line may be before a commit, a search, which changes nothing: the
 two numbers in its query are the highest that was ever given to a document, and the number of this commit.
 """
 from __future__ import annotations

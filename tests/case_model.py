@@ -1,4 +1,4 @@
-"""A model of an index for bench/cases.py: a tokenizer, a match and a sort over plain documents."""
+"""A model of an index for tests/cases.py: a tokenizer, a match and a sort over plain documents."""
 import json
 import os
 import re
@@ -20,7 +20,7 @@ class Subject:
         self.lines.append(json.dumps(line, ensure_ascii=False, separators=(",", ":")))
 
     def raw(self, line):
-        """A line whose JSON stands as it is, for numbers and keys that a writer would change."""
+        """A line whose JSON is written as it is, for numbers and keys that a writer would change."""
         self.lines.append(line)
 
     def write(self):
@@ -49,7 +49,7 @@ def has(document, field, text):
 
 
 def phrase(document, words):
-    """Whether the words stand one behind the other, where None is any one span."""
+    """Whether the words follow each other, where None is any one span."""
     at = {}
     for place, run in tokens(document.get("title", "")):
         at[place] = run

@@ -1,5 +1,5 @@
 """Writes the cases of crates/cases_segments. What a case says comes from worked examples and from the model in
-bench/case_model.py, which shares nothing with the index.
+tests/case_model.py, which shares nothing with the index.
 
 With --check it writes them elsewhere, compares them with those that are there, and says 'N passed, M failed'."""
 import filecmp
@@ -9,7 +9,7 @@ import sys
 import tempfile
 
 import case_model
-from case_model import GREATEST, HERE, Subject, answer, error, named, tokens
+from case_model import GREATEST, HERE, Subject, answer, error, named, tokens, within
 from case_queries import LONG, t, write_cursors, write_phrases, write_queries
 from case_random import write_cuttings, write_generated, write_joins, write_walks
 from case_words import write_words
@@ -390,6 +390,7 @@ def write_collectors():
         s.case(f"Ties stand in the order of stamps, {first[0]} first made", "answer",
                {"count": 4, "top": [[1, 5], [2, 5], [3, 5]]},
                query="*", top=top("price", 3, "rising"))
+    write_top_lists(s)
     for zeros, apart in [(2, 23), (2, 24), (8_192, 65_535), (8_192, 65_536)]:
         prices = [{"times": zeros, "of": [{"price": 0}]}, {"times": 1, "of": [{"price": apart}]}]
         s.case(f"{zeros} prices of 0 and one of {apart} are made", "make", zeros + 1, repeated=prices)
@@ -406,6 +407,33 @@ def write_collectors():
             ("A range of four prices of 1000 is read from the column", "price:[5 TO 8]", 0)]:
         s.case(sentence, "answer_openings", openings, query=query)
     s.write()
+
+
+def write_top_lists(s):
+    """Top lists that end within a run of equal numbers, in a segment whose documents aren't in the order of their stamps."""
+    words = [[word for word, every in (("a", 2), ("b", 3)) if n % every == 0] or ["c"] for n in range(400)]
+    made = [(n * 37 % 400 + 1, {"title": " ".join(words[n]), "price": n // 10, "temp": n * 7 % 40}) for n in range(400)]
+    s.case("400 documents out of the order of their stamps have each of 40 prices ten times", "make", 400,
+           documents=[document for _, document in made], stamps=[stamp for stamp, _ in made])
+    low, high = (lambda d: within(d, "temp", 0, 29)), (lambda d: within(d, "temp", 10, 39))
+    asked = [("all", "*", lambda d: True), ("a word", "title:a", t("a")),
+             ("either word", "title:a OR title:b", lambda d: t("a")(d) or t("b")(d)),
+             ("both words", "+title:a +title:b", lambda d: t("a")(d) and t("b")(d)),
+             ("a word without another", "title:a -title:b", lambda d: t("a")(d) and not t("b")(d)),
+             ("all without a word", "* -title:b", lambda d: not t("b")(d)), ("a range", "temp:[10 TO 39]", high),
+             ("a word within a range", "+title:a +temp:[0 TO 29]", lambda d: t("a")(d) and low(d)),
+             ("a range that nothing is in", "temp:[50 TO 60]", lambda d: False)]
+    for whole in (True, False):
+        live = [pair for n, pair in enumerate(made) if whole or n % 7]
+        if not whole:
+            s.case("A seventh of them is struck", "clear", len(live), docs=[n for n in range(400) if n % 7 == 0])
+        for name, query, match in asked:
+            for order in ("rising", "falling"):
+                for k in (3, 14):
+                    wanted = top("price", k, order)
+                    s.case(f"The first {k} of {name}, {order}, {'all live' if whole else 'some struck'}", "answer",
+                           answer(live, match, "temp" if k == 14 else None, wanted), query=query,
+                           **({"groups": "temp"} if k == 14 else {}), top=wanted)
 
 
 def write_merges():
@@ -476,13 +504,13 @@ def write_merges():
 
 
 def words_of(bits, width, numbers):
-    """Numbers of so many bits laid end to end in words of so many bits, the least bits first."""
+    """Numbers of `width` bits laid end to end in words, the least bits first."""
     joined = sum(number << (i * width) for i, number in enumerate(numbers))
     return [joined >> (i * bits) & (1 << bits) - 1 for i in range(-(-len(numbers) * width // bits))]
 
 
 def block_words(width, numbers):
-    """A block's words: number i of 128, those behind the last zeros, lies in lane i % 4, and each lane is packed by itself."""
+    """A block's words: number i of 128, zeros after the last, is in lane i % 4, and each lane is packed by itself."""
     filled = numbers + [0] * (128 - len(numbers))
     lanes = [words_of(32, width, filled[lane::4]) for lane in range(4)]
     return [word for words in zip(*lanes) for word in words]
@@ -574,7 +602,7 @@ def check():
         names = sorted({*os.listdir(case_model.folder), *os.listdir(HERE)})
         same, other, missing = filecmp.cmpfiles(case_model.folder, HERE, names, shallow=False)
     for name in other + missing:
-        print(f"{name} isn't what bench/cases.py writes.")
+        print(f"{name} isn't what tests/cases.py writes.")
     print(f"{len(same)} passed, {len(other + missing)} failed")
     return 1 if other + missing else 0
 

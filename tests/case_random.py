@@ -110,7 +110,7 @@ LEAVES = [("title:a", title("a")), ("title:b", title("b")), ("title:c", title("c
 
 
 def query(chance, depth):
-    """A query of up to so many queries within one another, with what it finds. The first of several isn't a must-not."""
+    """A query that is nested up to this depth, with what it finds. The first of several isn't a must-not."""
     if depth == 0 or chance.below(4) == 0:
         return chance.one_of(LEAVES)
     sign = chance.one_of(["", "+"])
@@ -222,7 +222,7 @@ JOININGS = [
 
 
 def stays(chance, odds):
-    """Whether a document stays: all do where the odds are 1, and none where they are 0; of others one in so many is struck."""
+    """Whether a document stays: all do if the odds are 1, and none if they are 0; else one in `odds` is struck."""
     return odds == 1 or odds > 1 and chance.below(odds) > 0
 
 

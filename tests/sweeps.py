@@ -1,20 +1,19 @@
 #!/usr/bin/env python3
-"""Looks at the program from outside: each growth refused, each read and write failing, each beginning, and scripts that are damaged
+"""Looks at the program from outside: each allocation refused, each read and write failing, each beginning, and scripts that are damaged
 or made to be slow; and at the calls of the libraries, by tests that try again what was refused.
 
-    python3 bench/sweeps.py [SCRIPTS]
+    python3 tests/sweeps.py [SCRIPTS]
 
-10,000 damaged scripts, or so many. `.ci/run` does this behind the proofs, over the programs and the tests that these built; else build
+10,000 damaged scripts, or SCRIPTS of them. `.ci/run` does this after the proofs, over the programs and the tests that these built; else build
 them first: fts (README.md), fts_list, which runs a script over a plain list of documents, by `rt run` in crates/fts_list, and by `rt test`
-the crates of tests that growths.py names. The sweeps that have calls fail take a C compiler, and where there is none they are left out,
-and that is said. The last line is 'N passed, M failed'.
+the crates of tests that growths.py names. The sweeps in which calls fail need a C compiler; if there is none they are left out, which is
+said. The last line is 'N passed, M failed'.
 """
 import concurrent.futures
 import errno
 import itertools
 import json
 import os
-import pathlib
 import random
 import subprocess
 import sys
@@ -24,10 +23,9 @@ import faults
 import growths
 import hostile
 import random_scripts
+import ways
+from built import PLAIN, PROGRAM, ROOT
 
-ROOT = pathlib.Path(__file__).resolve().parent.parent
-PROGRAM = str(ROOT / "crates/fts/out/fts")
-PLAIN = str(ROOT / "crates/fts_list/out/fts_list")
 DAMAGED = int(sys.argv[1]) if len(sys.argv) > 1 else 10_000
 LANES = os.cpu_count() or 1
 CAUSES = (errno.EIO, errno.EINTR)
@@ -76,9 +74,9 @@ def side_by_side(look, cases):
         return sum(1 for _ in pool.map(lambda case: look(*case), cases))
 
 
-def refused(shim):
-    """Each growth refused, where a byte a call is read: status 3 and the replies to the lines before the one of the last byte, or
-    status 0 and all replies."""
+def refused_by_bytes(shim):
+    """Each growth refused, with one byte per read: status 3 and the replies to the lines before the one of the last byte, or status 0 and
+    all replies. Here the contract leaves nothing else, since each read ends within the line in hand or right after it."""
     def look(name, script, beginnings, workers, n):
         status, out, _, reads = faults.counted(shim, command(workers), script, ONE_BYTE=1, FAIL_GROWTH=n)
         before = answered(script[: max(reads - 1, 0)], beginnings)
@@ -95,6 +93,26 @@ def refused(shim):
     return side_by_side(look, cases)
 
 
+def refused_in_a_block(shim):
+    """Each growth refused, with the whole script in one read: status 3 and exactly the replies to the lines before the one in hand, or
+    status 0 and all replies. The line in hand of the nth growth is the first k whose beginning of k lines asks for n growths or more."""
+    def look(name, script, beginnings, before, n):
+        status, out, _, reads = faults.counted(shim, command(1), script, FAIL_GROWTH=n)
+        assert (status, out, reads) in [(3, before, min(reads, 1)), (0, beginnings[-1], 2)], (name, n, status, out, reads)
+
+    cases = []
+    for name, script in SCRIPTS.items():
+        beginnings = fronts(script)
+        lines = script.splitlines(keepends=True)
+        first = 1
+        for k in range(len(lines) + 1):
+            last = faults.growths(shim, command(1), b"".join(lines[:k]))
+            before = answered(b"".join(lines[:max(k - 1, 0)]), beginnings)
+            cases += [(name, script, beginnings, before, n) for n in range(first, last + 1)]
+            first = max(first, last + 1)
+    return side_by_side(look, cases)
+
+
 def tried_again(shim):
     """Each growth refused in the tests that try refused calls again."""
     found = [test for crate, words in growths.AGAIN.items() for test in growths.tests(shim, crate, words)]
@@ -108,7 +126,7 @@ def heeded(shim):
     schema = '{"schema":[{"name":"price","kind":"u64"}]}'
     script = f'{schema}\n{adds}{{"commit":true}}\n{{"search":{{"query":"*"}}}}\n'.encode()
 
-    # As many words each time, since the command line takes memory too.
+    # The same number of words each time, since the command line takes memory too.
     def count(cut, n, merge="off", workers="1"):
         return faults.growths(shim, [PROGRAM, "run", cut, n, "--merge", merge, "--workers", workers], script)
 
@@ -128,7 +146,7 @@ def streams(shim):
         beginnings = fronts(script)
         whole = beginnings[-1]
         made = [({}, (0, whole))]
-        # One byte a read: the nth read fails behind n - 1 bytes, and the lines that ended by then are answered.
+        # One byte per read: the nth read fails after n - 1 bytes, and the lines that ended by then are answered.
         for n, cause in itertools.product(range(1, len(script) + 2), CAUSES):
             made.append(({"FAIL_READ": n, "FAIL_ERRNO": cause}, (4, answered(script[: n - 1], beginnings))))
         for n in range(1, len(whole) + 1):
@@ -153,12 +171,17 @@ def damaged(_shim):
     def look(seed):
         script, chance = random_scripts.damaged(seed), random.Random(seed)
         way = [
-            *chance.choice([["--runs", "1"], ["--runs", "3"], ["--deal", "2"], ["--deal", "7"], []]),
+            *chance.choice([["--runs", "1"], ["--runs", "3"], ["--deal", "1"], ["--deal", "2"], ["--deal", "7"], []]),
             "--merge", chance.choice(["off", "policy"]), "--workers", chance.choice(["1", "2", "4", "64"]),
         ]
         assert replies([PROGRAM, "run", *way], script) == replies([PLAIN], script), (seed, way)
 
     return side_by_side(look, [(seed,) for seed in range(DAMAGED)])
+
+
+def every_way(_shim):
+    """Random scripts over segments, each in every way of cutting, merging and sharing out work: the replies are those of the plain list."""
+    return len(ways.WAYS) * ways.compared(50)[0]
 
 
 def made_slow(_shim):
@@ -181,10 +204,12 @@ def main():
 
     sweep("beginnings, answered as over a list", cut)
     sweep("damaged scripts, answered as over a list", damaged)
+    sweep("random scripts in every way, answered as over a list", every_way)
     sweep("scripts made to be slow, within a bound", made_slow)
     if faults.compiler():
         with faults.shim() as shim:
-            sweep("growths refused in scripts", refused, shim)
+            sweep("growths refused in scripts, a byte per read", refused_by_bytes, shim)
+            sweep("growths refused in scripts, each in one block", refused_in_a_block, shim)
             sweep("growths refused in tests that try again", tried_again, shim)
             sweep("options that change how often memory is asked for", heeded, shim)
             sweep("reads and writes that fail or come short", streams, shim)

@@ -10,13 +10,13 @@ HERE = pathlib.Path(__file__).resolve().parent
 
 
 def compiler():
-    """Returns the C compiler, or None where there is none."""
+    """Returns the C compiler, or None if there is none."""
     return shutil.which(os.environ.get("CC", "cc")) or shutil.which("gcc")
 
 
 @contextlib.contextmanager
 def shim():
-    """Gives the path of faults.c, compiled to stand before the C library."""
+    """Gives the path of faults.c, compiled to be called in place of the C library."""
     with tempfile.TemporaryDirectory() as folder:
         made = f"{folder}/faults.so"
         subprocess.run([compiler(), "-shared", "-fPIC", "-O1", "-o", made, HERE / "faults.c", "-ldl"], check=True)
@@ -26,7 +26,11 @@ def shim():
 def run(path, command, script=b"", **faults):
     """Returns the status, the output and the words on standard error of a run."""
     env = {**os.environ, "LD_PRELOAD": path, **{name: str(value) for name, value in faults.items()}}
-    done = subprocess.run(command, input=script, capture_output=True, env=env)
+    # A file, since a pipe gives a read no more than was written so far.
+    with tempfile.TemporaryFile() as given:
+        given.write(script)
+        given.seek(0)
+        done = subprocess.run(command, stdin=given, capture_output=True, env=env)
     return done.returncode, done.stdout, done.stderr
 
 

@@ -234,7 +234,7 @@ def write_cursors():
 
 
 def quoted(words):
-    """The query of these words in quotes, in which a span that is too long stands for any one span."""
+    """The query of these words in quotes, in which a span that is too long means any one span."""
     return 'title:"' + " ".join(word or "x" * 40 for word in words) + '"'
 
 

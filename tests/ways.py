@@ -1,26 +1,22 @@
 #!/usr/bin/env python3
 """Compares the replies to scripts for each cutting, merging and number of workers, and over a plain list.
 
-    python3 bench/ways.py [SCRIPTS]
+    python3 tests/ways.py [SCRIPTS]
 
-1,000 random scripts, or so many, a tenth as many of updates by a keyword, and those of examples/, each 36 ways: segments of runs of 1, 3
-and 65,536 adds and dealt over 1, 2 and 7, merged never and by the policy, with 1, 3 and 4 workers. Build both programs first: fts
+1,000 random scripts, or SCRIPTS of them (tests/sweeps.py takes 50), a tenth as many of updates by a keyword, and those of examples/, each 36
+ways: segments of runs of 1, 3 and 65,536 adds and dealt over 1, 2 and 7, merged never and by the policy, with 1, 3 and 4 workers. Build both programs first: fts
 (README.md), and fts_list, which runs a script over a plain list of documents, by `rt run` in crates/fts_list.
 """
 import collections
 import concurrent.futures
 import itertools
 import json
-import pathlib
 import subprocess
 import sys
 
 import random_scripts
+from built import PLAIN, PROGRAM, ROOT
 
-ROOT = pathlib.Path(__file__).resolve().parent.parent
-PROGRAM = ROOT / "crates/fts/out/fts"
-PLAIN = ROOT / "crates/fts_list/out/fts_list"
-SCRIPTS = int(sys.argv[1]) if len(sys.argv) > 1 else 1_000
 CUTS = [["--runs", n] for n in ("1", "3", "65536")] + [["--deal", n] for n in ("1", "2", "7")]
 WAYS = [
     [*cut, "--merge", merge, "--workers", workers]
@@ -43,13 +39,20 @@ def compare(name, text):
     return told
 
 
-def main():
-    scripts = [(f"script {seed}", random_scripts.script(seed)) for seed in range(SCRIPTS)]
-    scripts += [(f"updates {seed}", random_scripts.updates(seed)) for seed in range(-(-SCRIPTS // 10))]
+def compared(count):
+    """How many scripts were compared, and how many replies of each kind there were."""
+    scripts = [(f"script {seed}", random_scripts.script(seed)) for seed in range(count)]
+    scripts += [(f"updates {seed}", random_scripts.updates(seed)) for seed in range(-(-count // 10))]
     scripts += [(path.name, path.read_bytes()) for path in sorted((ROOT / "examples").glob("*.jsonl")) if ".replies" not in path.name]
     with concurrent.futures.ThreadPoolExecutor(4) as pool:
         told = sum(pool.map(lambda named: compare(*named), scripts), collections.Counter())
-    print(f"{len(scripts)} scripts, each {len(WAYS)} ways, answered as over a list: {dict(told)}")
+    return len(scripts), dict(told)
 
 
-main()
+def main():
+    count, told = compared(int(sys.argv[1]) if len(sys.argv) > 1 else 1_000)
+    print(f"{count} scripts, each {len(WAYS)} ways, answered as over a list: {told}")
+
+
+if __name__ == "__main__":
+    main()

@@ -1,22 +1,22 @@
 #!/usr/bin/env python3
 """Times scripts that were made to be slow, each beside a plain one of the same size.
 
-    python3 bench/hostile.py [PART ..]
+    python3 tests/hostile.py [PART ..]
 
 Build the program first (README.md). Prints for each pair the processor seconds of `fts run`, the least of three runs each, and how many
 times as long the first took; the parts are terms, strikes, queries, phrases, lines, commits, fields and answers, all without a word.
-Two pairs have a bound, which `bench/sweeps.py` looks at too; the last line says how many kept theirs.
+Two pairs have a bound, which `tests/sweeps.py` looks at too; the last line says how many kept theirs.
 """
 import itertools
 import json
 import os
-import pathlib
 import subprocess
 import sys
 import tempfile
 import typing
 
-PROGRAM = str(pathlib.Path(__file__).resolve().parent.parent / "crates/fts/out/fts")
+from built import PROGRAM
+
 COMMIT = {"commit": True}
 TRIES = 3
 
@@ -42,7 +42,7 @@ def folded(a, b):
 
 
 def colliding(count, length=32):
-    """Keys of one hash: any 16 bytes, the 8 bytes of the state behind them, and any 8 bytes."""
+    """Keys of one hash: any 16 bytes, the 8 bytes of the state after them, and any 8 bytes."""
     second = int.from_bytes(b"-colli--", "little") ^ MULTIPLIER
     fours = [int.from_bytes(b"%04d" % number, "little") for number in range(10_000)]
     keys = []
@@ -75,7 +75,7 @@ def searches(query, times, **more):
 
 
 def filled(piece, joint=" ", size=4096):
-    """A piece again and again, in at most so many bytes."""
+    """A piece again and again, in at most `size` bytes."""
     return joint.join([piece] * ((size + len(joint)) // (len(piece) + len(joint))))
 
 
@@ -139,7 +139,7 @@ def queries():
         "`((..a..)) ((..a..)) ..`, 32 deep": filled("(" * 32 + "a" + ")" * 32),
         "`(a (a (a ..` again and again, 32 deep": filled("(a " * 32 + ")" * 32),
     }.items():
-        yield Pair(f"10 searches of 4,096 bytes over 10,000 documents: {form}, and `a`", asked(query), asked("a"))
+        yield Pair(f"queries of 4,096 bytes, {form}, and `a`", asked(query), asked("a"))
 
 
 def phrases():
@@ -174,7 +174,7 @@ def lines():
         "a number of digits": '{"add":{"n":' + "1" * size + "}}",
         "white space": " " * size,
     }.items():
-        yield Pair(f"4 lines of up to 4 MB: {form}, and texts of 1 MB", under("text", *[line] * 4), plain)
+        yield Pair(f"lines of up to 4 MB, {form}, and texts of 1 MB", under("text", *[line] * 4), plain)
 
 
 def commits():
@@ -264,7 +264,7 @@ def bounded(program):
 
 def main():
     kept = broken = 0
-    print("| made to be slow, and beside it | s | s | times |\n|---|---|---|---|")
+    print("|made to be slow, and beside it|s|s|times|\n|---|---|---|---|")
     for part in sys.argv[1:] or PARTS:
         for pair in PARTS[part]():
             slow, plain = measured(PROGRAM, pair)
@@ -273,8 +273,8 @@ def main():
                 good = slow <= pair.bound * plain
                 kept, broken = kept + good, broken + (not good)
                 told = f" (at most {pair.bound})" if good else f" (MORE THAN {pair.bound})"
-            print(f"| {pair.name} | {slow:.3f} | {plain:.3f} | {slow / plain:.1f}{told} |", flush=True)
-    print(f"{kept} bounds kept, {broken} broken")
+            print(f"|{pair.name}|{slow:.3f}|{plain:.3f}|{slow / plain:.1f}{told}|", flush=True)
+    print(f"\n{kept} bounds kept, {broken} broken.")
     return 1 if broken else 0
 
 

@@ -5,9 +5,9 @@ import re
 from case_model import Subject, has, within
 from case_random import Chance, write_walk
 
-# The documents come again after so many, and the last round is cut, so that the last word of bits is a part of one.
+# After this many the documents come again, and the last round is cut, so that the last word of bits is a part of one.
 PERIOD, DOCS = 360, 5_000
-# Each word is in one of so many documents: three of them have bits, and `thin` has none.
+# Each word is in one of this many documents: three of them have bits, and `thin` has none.
 STEPS = {"half": 2, "third": 3, "close": 30, "thin": 72}
 # More than 64 documents, the last of which is less than 64 times as far as they are many, have bits.
 MOST = 64
@@ -80,7 +80,7 @@ def write_close(s):
 
 
 def write_far(s):
-    """A list that keeps bits in its own segment, and not behind the documents of another."""
+    """A list that keeps bits in its own segment, and not after the documents of another."""
     s.case("A segment has 3,000 documents of a word", "make", 3_000, repeated=[{"times": 3_000, "of": [{"title": "half"}]}])
     s.case("Another has 70 of two words", "and_make", 70, documents=[{"title": "far half"}] * 70,
            stamps=[3_001 + n for n in range(70)])

@@ -1,22 +1,21 @@
 #!/usr/bin/env python3
 """Refuses each growth of memory in turn, in the tests of a crate that try refused calls again.
 
-    python3 bench/growths.py CRATE [WORD]
+    python3 tests/growths.py CRATE [WORD]
 
 takes those of `AGAIN` below, or all whose names have the word, once `rt test` has built them there, and prints how often each growth
-of a test was refused. `bench/sweeps.py` does it for all of them. Tests of thousands of documents take too long for it.
+of a test was refused. `tests/sweeps.py` does it for all of them. Tests of thousands of documents take too long for it.
 
-A test has to pass, or to end for want of memory outside of a call that it tries again: by an error that it hands on ("error: AllocError"),
+A test has to pass, or to run out of memory outside of a call that it tries again: by an error that it hands on ("error: AllocError"),
 or by what it expected in its place ("a commit: Memory"). Where it tries a call again, what it expects is said to come again ("a
 commit again: Memory"), and this may not fail: one growth is refused, and no other.
 """
-import pathlib
 import re
 import sys
 
 import faults
+from built import ROOT
 
-ROOT = pathlib.Path(__file__).resolve().parent.parent
 # The tests that try refused calls again, by words in their names.
 AGAIN = {
     "tests_segments": ["growths::", "refused"],
@@ -26,7 +25,7 @@ AGAIN = {
     "tests_index": ["growths::"],
 }
 # A new thread needs memory too.
-WANT_OF_MEMORY = re.compile(
+OUT_OF_MEMORY = re.compile(
     rb"(?![a-z ]* again: )[a-z ]+: (AllocError|AllocFailed|Memory|Error\(out of memory\)|SpawnError)"
 )
 
@@ -42,9 +41,9 @@ def tests(shim, crate, words):
 
 
 def passes_without(shim, test, n):
-    """Whether a test passes whose nth growth is refused; else it ends for want of memory."""
+    """Whether a test passes whose nth growth is refused; else it runs out of memory."""
     status, _, told = faults.run(shim, test, FAIL_GROWTH=n)
-    assert status == 0 or WANT_OF_MEMORY.match(told), (test, n, status, told)
+    assert status == 0 or OUT_OF_MEMORY.match(told), (test, n, status, told)
     return status == 0
 
 

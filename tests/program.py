@@ -1,0 +1,146 @@
+#!/usr/bin/env python3
+"""Tests of the built program that no case can be: what it says of a fault, help that can't be written, an input of no byte, and the
+limits of lanes and merges, whose scripts have a million lines.
+
+    python3 tests/program.py
+
+Build fts and fts_list first, or name them (tests/built.py). What needs a C compiler is skipped, and counted, if there is none. The last
+lines are 'N skipped', if any, and 'N passed, M failed'.
+"""
+from __future__ import annotations
+
+import itertools
+import os
+import pathlib
+import resource
+import subprocess
+import sys
+import tempfile
+from typing import Iterable, Iterator
+
+import faults
+from built import PLAIN, PROGRAM, ROOT
+
+MEMORY, READ, WRITE = (3, b"out of memory\n"), (4, b"the input couldn't be read\n"), (4, b"the output couldn't be written\n")
+SCRIPT = (ROOT / "examples/groups.jsonl").read_bytes()
+
+# The limits, as docs/SCRIPT.md has them.
+MOST_OPERATIONS, MOST_MERGED = 1_000_000, 1_048_576
+# What the runs of the limits may take: processor seconds together, and bytes at the peak of each.
+SECONDS, BYTES = 20, 2 * 10**9
+
+passed = failed = skipped = 0
+
+
+def check(name: str, good: bool, words: object = "") -> None:
+    """Counts a check; one that failed is shown."""
+    global passed, failed
+    passed, failed = passed + good, failed + (not good)
+    if not good:
+        print(f"program: {name}: FAILED {words}".rstrip(), flush=True)
+
+
+def said_of_faults() -> None:
+    """A run that stops says why, in one line on standard error, and its status says it too."""
+    global skipped
+    if not faults.compiler():
+        skipped += 1
+        print("program: what is said of a fault: skipped, since there is no C compiler", flush=True)
+        return
+    with faults.shim() as shim:
+        for name, (status, words), fault in [
+            ("memory", MEMORY, {"FAIL_GROWTH": faults.growths(shim, [PROGRAM, "run"], SCRIPT)}),
+            ("a read", READ, {"FAIL_READ": 1}), ("a write", WRITE, {"FAIL_WRITE": 1}), ("a write of no byte", WRITE, {"ZERO_WRITE": 1}),
+        ]:
+            found, _, told = faults.run(shim, [PROGRAM, "run"], SCRIPT, **fault)
+            check(name, (found, told) == (status, b"fts: " + words), (found, told))
+        # There is no memory for the command line itself.
+        found, out, told = faults.run(shim, [PROGRAM, "run"], SCRIPT, FAIL_GROWTH=1)
+        check("the command line", (found, out, told) == (MEMORY[0], b"", MEMORY[1]), (found, out, told))
+
+
+def unwritable() -> None:
+    """A standard output that takes nothing: status 4, for help as for a run, which says why."""
+    def closed() -> None:
+        os.close(1)
+
+    for words, told in [(["--help"], b""), (["--version"], b""), (["run", "--help"], b""), (["run"], b"fts: " + WRITE[1])]:
+        reading, unread = os.pipe()
+        os.close(reading)
+        with open("/dev/full", "wb") as full, os.fdopen(unread, "wb") as pipe:
+            for name, out, before in [("a full disk", full, None), ("a pipe that nobody reads", pipe, None), ("nowhere", None, closed)]:
+                done = subprocess.run([PROGRAM, *words], input=SCRIPT, stdout=out, stderr=subprocess.PIPE, preexec_fn=before)
+                check(f"{' '.join(words)} to {name}", (done.returncode, done.stderr) == (WRITE[0], told), done)
+
+
+def of_no_byte() -> None:
+    """An input of no byte has no reply, over the list as over segments."""
+    ways = [[PLAIN], *([PROGRAM, "run", *cut, "--merge", merge, "--workers", workers] for cut, merge, workers in itertools.product(
+        ([], ["--runs", "1"], ["--deal", "1"], ["--deal", "64"]), ("off", "policy"), ("1", "3")))]
+    for words in ways:
+        done = subprocess.run(words, stdin=subprocess.DEVNULL, capture_output=True)
+        check(f"no byte: {' '.join(words)}", (done.returncode, done.stdout, done.stderr) == (0, b"", b""), done)
+
+
+class Line:
+    """A line, how many times it comes, and the replies: always the same text, or stamps that rise from this one."""
+
+    def __init__(self, line: str, reply: str | int, times: int = 1) -> None:
+        self.line, self.times = line, times
+        self.replies: Iterable[str] = (
+            (f'{{"stamp":{reply + n}}}' for n in range(times)) if isinstance(reply, int) else itertools.repeat(reply, times))
+
+
+def at_the_limits() -> Iterator[Line]:
+    """A script that meets both limits, with the replies that docs/SCRIPT.md says it has."""
+    add = '{"add":{}}'
+    yield Line('{"schema":[{"name":"n","kind":"u64"}]}', '{"fields":1}')
+    yield Line(add, 1, MOST_OPERATIONS)
+    # The schema is the first line.
+    for number, refused in enumerate([add, '{"delete":{"n":1}}', '{"delete_all":true}'], MOST_OPERATIONS + 2):
+        yield Line(refused, f'{{"error":"LaneFull","line":{number}}}')
+    stamp = MOST_OPERATIONS + 1
+    yield Line('{"commit":true}', f'{{"commit":{stamp}}}')
+    more = MOST_MERGED - MOST_OPERATIONS
+    yield Line(add, stamp + 1, more)
+    stamp += more + 1
+    yield Line('{"commit":true}', f'{{"commit":{stamp}}}')
+    yield Line('{"merge":true}', f'{{"merged":{MOST_MERGED}}}')
+    yield Line(add, stamp + 1)
+    yield Line('{"commit":true}', f'{{"commit":{stamp + 2}}}')
+    # The lines before it: the schema, the adds, three that were refused, three commits and a merge.
+    yield Line('{"merge":true}', f'{{"error":"TooLarge","line":{1 + MOST_MERGED + 1 + 3 + 3 + 1 + 1}}}')
+    yield Line('{"search":{"query":"*"}}', f'{{"count":{MOST_MERGED + 1}}}')
+
+
+def limits() -> None:
+    """`LaneFull` and `TooLarge`, over the list and over segments of 65,536 documents, with the merge policy and without."""
+    began = resource.getrusage(resource.RUSAGE_CHILDREN)
+    with tempfile.TemporaryDirectory() as folder:
+        script, wanted, found = (pathlib.Path(folder, name) for name in ("script", "wanted", "found"))
+        with script.open("w") as lines, wanted.open("w") as replies:
+            for each in at_the_limits():
+                lines.write(f"{each.line}\n" * each.times)
+                replies.writelines(f"{reply}\n" for reply in each.replies)
+        for words in [PLAIN], [PROGRAM, "run", "--runs", "65536"], [PROGRAM, "run", "--runs", "65536", "--merge", "policy"]:
+            with script.open("rb") as given, found.open("wb") as out:
+                status = subprocess.run(words, stdin=given, stdout=out).returncode
+            same = found.read_bytes() == wanted.read_bytes()
+            check(f"limits: {' '.join(words)}", status == 0 and same, (status, found.read_bytes()[-400:]))
+    used = resource.getrusage(resource.RUSAGE_CHILDREN)
+    took, peak = used.ru_utime + used.ru_stime - began.ru_utime - began.ru_stime, used.ru_maxrss * 1024
+    check("limits: time and memory", took <= SECONDS and peak <= BYTES, (took, peak))
+    print(f"program: LaneFull and TooLarge three times in {took:.0f} processor seconds, with {peak / 1e9:.1f} GB at the peak", flush=True)
+
+
+def main() -> int:
+    for test in (said_of_faults, unwritable, of_no_byte, limits):
+        test()
+    if skipped:
+        print(f"{skipped} skipped")
+    print(f"{passed} passed, {failed} failed")
+    return 1 if failed else 0
+
+
+if __name__ == "__main__":
+    sys.exit(main())
