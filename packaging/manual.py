@@ -1,5 +1,5 @@
 #!/usr/bin/env python3
-"""Fills the manual page of the library from its header, where each function's comment stands before it.
+"""Fills the manual page of the library from its header, where each function's comment is before it.
 
     packaging/manual.py bindings/c/dilforec.h packaging/dilforec.3.in
 
