@@ -163,5 +163,6 @@ filter-continues c d opened before after follows tied =
     let on = (terms-continue c d follows tied).0 before after in
     record {
       bound = ap (λ (b : Bound). let m : Bound = record { blocks = b.blocks + opened; lead = b.lead; others = b.others } in m) on.bound;
+      list = refl;
       more = omega (arith, on.more);
     }

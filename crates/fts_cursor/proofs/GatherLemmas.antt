@@ -1,12 +1,13 @@
 -- A disjunction: the documents of its window, and what remains of its parts after it.
 use Rattle.std.proofs.Common.{◌≡◌, ℕ, zero, suc, ◌+◌, ◌-◌, ◌<◌, ◌≤◌, All, Bool, true, false, cond, ◌||◌, ◌&&◌, ◌==◌, nat_le, Option, Some, None, List, [], ◌∷◌}
 use Rattle.std.proofs.Common.{◌++◌, length, get_or, set, take, drop, refl, sym, ap, ap₂, subst, ◌∙◌, inl, inr, arith}
-use Rattle.std.specs.List.{AllZip, filter, slice_get}
+use Rattle.std.specs.List.{AllZip, filter, range_with_len, slice_get}
 use Rattle.std.specs.List.Sorted.{IsStrictlyIncreasing}
 use Rattle.std.proofs.lemmas.Bool.{cases_Bool, cases_lt, le-leb, lt-leb, false≢true}
 use Rattle.std.proofs.lemmas.List.{drop-append-le, length-append, take-append-drop, take-append-le, take_more, take_all, map-append}
 use Rattle.std.proofs.lemmas.List.Elements.{All-drop, filter-append}
 use Rattle.std.proofs.lemmas.List.Folds.{list_any-append}
+use Rattle.std.proofs.lemmas.List.Kept.{IsStrictlyIncreasing-filter}
 use Rattle.std.proofs.lemmas.Option.{slice_get_within}
 use Rattle.std.proofs.Math.Bool.{and-false, or-false, or_assoc}
 use Rattle.fts_pack.specs.Documents.{Rises}
@@ -23,10 +24,11 @@ use Rattle.fts_postings.proofs.RemainingLemmas.{at_least_all, first-at_least, in
 use Rattle.fts_postings.proofs.SetLemmas.{Rises-lower, above_is_other, below_is_other, has-at_least, has-before_first, has-below, has-first, has-none}
 use Rattle.fts_postings.proofs.SetLemmas.{is_itself}
 use Rattle.fts_postings.proofs.MarkingLemmas.{at_least_behind, at_least_each, at_least_kept}
-use Rattle.fts_postings.proofs.PassingLemmas.{Rises-passing}
+use Rattle.fts_postings.proofs.PassingLemmas.{Rises-passing, increasing-passing}
 use Rattle.fts_cursor.proofs.PartsLemmas.{TreeContinues-beside, TreeContinues-same, TreeContinues-together, UpTo, UpTo-next, UpTo-none, union-left}
 use Rattle.fts_postings.proofs.UnionLemmas.{Rises-union, at_least-with_all, by_order, first_of, has-union, has-with_one, in_some-append, leaves, union_first}
 use Rattle.fts_postings.proofs.UnionLemmas.{with_one-front}
+use Rattle.fts_cursor.proofs.HitsLemmas.{has-filter, has-range, past-range, same_members}
 use Rattle.fts_cursor.proofs.TreeLemmas.{IsNow-first, drop_first, from_union, parts_from, stays_from_first}
 use Rattle.fts_pack.proofs.DocumentsLemmas.{Rises-from_increasing}
 
@@ -81,6 +83,105 @@ found_first w doc first = elim (cases_lt w.last doc) [
   | inl past ↦ absurd (false≢true (sym (found_behind w doc past) ∙ has-first (found w) doc first))
   | inr within ↦ within
 ]
+
+-- the first of what is left of those from a number on is no less, and what was dropped lies below it
+Rises-got : (low : ℕ) (xs : List ℕ) (first : ℕ) → Rises low xs → Some first ≡ slice_get xs 0 → low ≤ first
+Rises-got low [] first up is = absurd (let e : Some first ≡ None = is in cc)
+Rises-got low (x ∷ xs) first up is = let same : first ≡ x = cc in omega (arith, same, up.0)
+
+dropped_below : (low : ℕ) (xs : List ℕ) (at first : ℕ) → Rises low xs → Some first ≡ slice_get (drop at xs) 0 →
+    (low ≤ first) × (at_least first (drop at xs) ≡ at_least first xs)
+dropped_below low xs zero first up is = (Rises-got low xs first up is, refl)
+dropped_below low [] (suc at) first up is = absurd (let e : Some first ≡ None = is in cc)
+dropped_below low (x ∷ xs) (suc at) first up is =
+    let rest = dropped_below (suc x) xs at first up.1 is in
+    (omega (arith, rest.0, up.0), rest.1 ∙ sym (leaves first x xs (omega (arith, rest.0))))
+
+first_from : (test : ℕ → Bool) (from n at first : ℕ) → Some first ≡ slice_get (drop at (passing test from n)) 0 → from ≤ first
+first_from test from n at first is = (dropped_below from (passing test from n) at first (Rises-passing test from n) is).0
+
+at_least-dropped : (test : ℕ → Bool) (from n at first : ℕ) → Some first ≡ slice_get (drop at (passing test from n)) 0 →
+    at_least first (drop at (passing test from n)) ≡ at_least first (passing test from n)
+at_least-dropped test from n at first is = (dropped_below from (passing test from n) at first (Rises-passing test from n) is).1
+
+-- none is left from a target on that no document reaches
+or_right : (a b : Bool) → (a || b) ≡ false → b ≡ false
+or_right true b h = absurd (false≢true (sym h))
+or_right false b h = h
+
+has-dropped : (at : ℕ) (xs : List ℕ) (d : ℕ) → has xs d ≡ false → has (drop at xs) d ≡ false
+has-dropped zero xs d h = h
+has-dropped (suc at) [] d h = refl
+has-dropped (suc at) (x ∷ xs) d h = has-dropped at xs d (or_right (x == d) (has xs d) h)
+
+pub none_from : (p : ℕ → Bool) (from docs at target : ℕ) → docs ≤ target → at_least target (drop at (passing p from (docs - from))) ≡ []
+none_from p from docs at target few =
+    let all = passing p from (docs - from) in
+    let gone : (d : ℕ) → target ≤ d → has all d ≡ false = λ d up. elim (cases_lt from docs) [
+      | inl some ↦ passing-behind p from (docs - from) d (omega (arith, some, few, up))
+      | inr none ↦ let e : docs - from ≡ 0 = omega (arith, none) in ap (λ n. has (passing p from n) d) e
+    ] in
+    same_members 0 (at_least target (drop at all)) [] (Rises-from_increasing (at_least target (drop at all)) (IsStrictlyIncreasing-filter (λ d. nat_le target d)
+    (drop at all) (increasing-passing p from (docs - from) at))) tt
+    (λ d. elim (cases_lt d target) [
+      | inl low ↦ has-at_least_low target (drop at all) d low
+      | inr up ↦ has-at_least target (drop at all) d up ∙ has-dropped at all d (gone d up)
+    ])
+
+-- nothing is marked where nothing is left
+pub AreMarked-none : (xs : List ℕ) (w : Window) → None ≡ slice_get xs 0 → AreMarked (has xs) w w
+AreMarked-none xs w none d =
+    sym (ap (λ b. has (found w) d || (nat_le d w.last && b)) (has-none xs d none)
+    ∙ ap (λ b. has (found w) d || b) (and-false (nat_le d w.last)) ∙ or-false (has (found w) d))
+
+-- marks of documents from a first one on that pass
+pub found_marked : (base from last : ℕ) (old new : List ℕ) (test : ℕ → Bool) (first : ℕ) → base ≤ from → from ≤ first →
+    ((d : ℕ) → base ≤ d → d ≤ last → is_found base new d ≡ (is_found base old d || (nat_le first d && test d))) →
+    (d : ℕ) → has (passing (is_found base new) from (suc last - from)) d
+    ≡ (has (passing (is_found base old) from (suc last - from)) d || (nat_le d last && (nat_le first d && test d)))
+found_marked base from last old new test first order low same d =
+    let n = suc last - from in
+    let p = is_found base new in
+    let q = is_found base old in
+    let both = has-filter p (range_with_len from n) d in
+    let before = has-filter q (range_with_len from n) d in
+    elim (cases_lt d from) [
+      | inl under ↦
+          has-below from (passing p from n) d (Rises-passing p from n) under
+          ∙ sym (ap₂ (λ a b. a || (nat_le d last && (b && test d))) (has-below from (passing q from n) d (Rises-passing q from n) under)
+          (lt-leb first d (omega (arith, under, low))) ∙ and-false (nat_le d last))
+      | inr up ↦ elim (cases_lt last d) [
+        | inl past ↦
+            both ∙ ap (λ b. b && p d) (past-range from n d (omega (arith, past, up)))
+            ∙ sym (ap₂ (λ a b. a || (b && (nat_le first d && test d))) (before ∙ ap (λ b. b && q d) (past-range from n d (omega (arith, past, up))))
+            (lt-leb d last past))
+        | inr within ↦
+            let there = has-range from n d up (omega (arith, within, up)) in
+            both ∙ ap (λ b. b && p d) there ∙ same d (omega (arith, order, up)) within
+            ∙ sym (ap₂ (λ a b. a || (b && (nat_le first d && test d))) (before ∙ ap (λ b. b && q d) there) (le-leb d last within))
+      ]
+    ]
+
+-- what is left of those that pass has all of them from its first on
+pub left_told : (test : ℕ → Bool) (from docs at first : ℕ) → ((d : ℕ) → docs ≤ d → test d ≡ false) →
+    Some first ≡ slice_get (drop at (passing test from (docs - from))) 0 →
+    (d : ℕ) → has (drop at (passing test from (docs - from))) d ≡ (nat_le first d && test d)
+left_told test from docs at first past is d =
+    let all = passing test from (docs - from) in
+    let left = drop at all in
+    let rises = increasing-passing test from (docs - from) at in
+    let stands : from ≤ first = first_from test from (docs - from) at first is in
+    elim (cases_lt d first) [
+      | inl low ↦ has-before_first left first d rises is low ∙ sym (ap (λ b. b && test d) (lt-leb first d low))
+      | inr up ↦
+          sym (has-at_least first left d up) ∙ ap (λ xs. has xs d) (at_least-dropped test from (docs - from) at first is) ∙ has-at_least first all d up
+          ∙ has-filter test (range_with_len from (docs - from)) d
+          ∙ elim (cases_lt d docs) [
+            | inl inside ↦ ap (λ b. b && test d) (has-range from (docs - from) d (omega (arith, stands, up)) (omega (arith, stands, up, inside)))
+            | inr over ↦ ap (λ b. b && test d) (past-range from (docs - from) d (omega (arith, over, stands, up))) ∙ sym (past d over)
+          ]
+          ∙ sym (ap (λ b. b && test d) (le-leb first d up))
+    ]
 
 -- how far the documents of a part were marked
 pub record IsMarking (initial now : List ℕ) (old new : Window) : Type 0 where

@@ -1,5 +1,6 @@
 pub mod TermsLemmas
 pub mod TermLemmas
+pub mod AloneLemmas
 pub mod ScanLemmas
 pub mod WithinLemmas
 pub mod CountLemmas
@@ -28,3 +29,5 @@ pub mod RowLemmas
 pub mod FilterLemmas
 pub mod SplitLemmas
 pub mod TestsLemmas
+pub mod WordLemmas
+pub mod ShouldsLemmas

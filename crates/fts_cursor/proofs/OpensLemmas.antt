@@ -1,6 +1,6 @@
 -- What the cursor of a query opens, by the queries in it.
-use Rattle.std.proofs.Common.{◌≡◌, ◌≢◌, ℕ, ◌+◌, ◌<◌, ◌≤◌, Bool, true, false, ◌&&◌, Option, None, List, [], ◌∷◌, ◌++◌, length, map, take, get_or, refl, sym, ap}
-use Rattle.std.proofs.Common.{ap₂, subst, ◌∙◌, inl, inr, arith}
+use Rattle.std.proofs.Common.{◌≡◌, ◌≢◌, ℕ, ◌+◌, ◌<◌, ◌≤◌, Bool, true, false, ◌&&◌, Option, Some, None, List, [], ◌∷◌, ◌++◌, length, map, take, get_or, refl}
+use Rattle.std.proofs.Common.{sym, ap, ap₂, subst, ◌∙◌, inl, inr, arith}
 use Rattle.std.specs.Prelude.{if◌then◌else◌}
 use Rattle.std.specs.List.{AllZip, filter, list_all}
 use Rattle.std.proofs.lemmas.Bool.{and_parts, false≢true}
@@ -44,17 +44,22 @@ opens_plain segment query s plain most least = record {
   most = most;
   least = least;
   one_term = λ t h. elim h [ inl e ↦ absurd (false≢true (ap is_plain (sym e) ∙ plain)) | inr e ↦ absurd (false≢true (ap is_plain (sym e) ∙ plain)) ];
+  list = λ t h. elim h [ inl e ↦ absurd (false≢true (ap is_plain (sym e) ∙ plain)) | inr e ↦ absurd (false≢true (ap is_plain (sym e) ∙ plain)) ];
   musts = λ terms e doc. absurd (false≢true (ap is_plain (sym e) ∙ plain));
   opened = λ terms e some. absurd (false≢true (ap is_plain (sym e) ∙ plain));
 }
 
 pub opens_term : (segment : SegmentValue) (query : QueryValue) (t : Term) (s : Standing) → query ≡ term t → s.whole ≡ true →
-    most_at s.bound None ≡ block_count (length (postings segment t)) → Opens segment query s
-opens_term segment query t s is whole most = record {
+    most_at s.bound None ≡ block_count (length (postings segment t)) → s.list ≡ Some (postings segment t) → Opens segment query s
+opens_term segment query t s is whole most list = record {
   most = subst (λ q. most_at s.bound None ≤ most_for segment q) (sym is) (omega (arith, most));
   least = subst (λ q. least_for segment q ≤ s.openings) (sym is) (omega arith);
   one_term = λ u h. elim h [
     | inl e ↦ let same : t ≡ u = cc in (whole, most ∙ ap (blocks_with segment) same)
+    | inr e ↦ absurd (cc)
+  ];
+  list = λ u h. elim h [
+    | inl e ↦ let same : t ≡ u = cc in list ∙ ap (λ v. Some (postings segment v)) same
     | inr e ↦ absurd (cc)
   ];
   musts = λ terms e doc. absurd (cc);
@@ -70,6 +75,7 @@ opens_without segment query must should (q ∷ qs) s is some most = record {
   most = most;
   least = subst (λ v. least_for segment v ≤ s.openings) (sym is) (omega arith);
   one_term = λ u h. elim h [ inl e ↦ absurd (cc) | inr e ↦ absurd (cc) ];
+  list = λ u h. elim h [ inl e ↦ absurd (cc) | inr e ↦ absurd (cc) ];
   musts = λ terms e doc. absurd (cc);
   opened = λ terms e more. absurd (cc);
 }
@@ -130,6 +136,7 @@ opens_shoulds segment [] [] s empty alone none most = record {
   most = omega (arith, most);
   least = omega arith;
   one_term = λ u h. elim h [ inl e ↦ absurd (cc) | inr e ↦ absurd (cc) ];
+  list = λ u h. elim h [ inl e ↦ absurd (cc) | inr e ↦ absurd (cc) ];
   musts = λ terms e doc. subst (λ (b : Bound). most_at b doc ≤ most_at (bound_for_musts segment terms) doc) (sym (none refl)) (omega arith);
   opened = λ terms e some. omega (arith, as_many [] terms (terms_are [] terms (cc)));
 }
@@ -142,6 +149,12 @@ opens_shoulds segment [] (q ∷ []) s empty alone none most = record {
         let first : query_value q ≡ term u = cc in
         (alone q refl).one_term u (inl first)
   ];
+  list = λ u h. elim h [
+    | inl e ↦ absurd (cc)
+    | inr e ↦
+        let first : query_value q ≡ term u = cc in
+        (alone q refl).list u (inl first)
+  ];
   musts = λ terms e doc. absurd (cc);
   opened = λ terms e some. absurd (cc);
 }
@@ -149,6 +162,7 @@ opens_shoulds segment [] (q ∷ (w ∷ qs)) s empty alone none most = record {
   most = omega (arith, most);
   least = omega arith;
   one_term = λ u h. elim h [ inl e ↦ absurd (cc) | inr e ↦ absurd (cc) ];
+  list = λ u h. elim h [ inl e ↦ absurd (cc) | inr e ↦ absurd (cc) ];
   musts = λ terms e doc. absurd (cc);
   opened = λ terms e some. absurd (cc);
 }
@@ -161,6 +175,7 @@ opens_mixed segment (q ∷ qs) should s mixed most = record {
   most = most_kept segment (q ∷ qs) (most_at s.bound None) false (are_all_terms (q ∷ qs) ∙ mixed) most;
   least = omega arith;
   one_term = λ u h. elim h [ inl e ↦ absurd (cc) | inr e ↦ absurd (cc) ];
+  list = λ u h. elim h [ inl e ↦ absurd (cc) | inr e ↦ absurd (cc) ];
   musts = λ terms e doc. absurd (false≢true (sym mixed ∙ are_all (q ∷ qs) terms (terms_are (q ∷ qs) terms (cc))));
   opened = λ terms e some. absurd (false≢true (sym mixed ∙ are_all (q ∷ qs) terms (terms_are (q ∷ qs) terms (cc))));
 }
@@ -175,6 +190,7 @@ opens_terms segment (q ∷ qs) should s some terms_all most opened = record {
       (subst (λ lists. most_at s.bound None ≤ most_at (bound_of_all lists) None) (sym (hits_are_each segment (q ∷ qs))) (most None));
   least = omega arith;
   one_term = λ u h. elim h [ inl e ↦ absurd (cc) | inr e ↦ absurd (cc) ];
+  list = λ u h. elim h [ inl e ↦ absurd (cc) | inr e ↦ absurd (cc) ];
   musts = λ terms e doc. subst (λ lists. most_at s.bound doc ≤ most_at (bound_of_all lists) doc)
       (lists_are segment (q ∷ qs) terms (terms_are (q ∷ qs) terms (cc))) (most doc);
   opened = λ terms e more. omega (arith, as_many (q ∷ qs) terms (terms_are (q ∷ qs) terms (cc)), opened more);
@@ -187,6 +203,7 @@ opens_walked segment query p s t h walked is = record {
   most = subst (λ (b : Bound). most_at b None ≤ most_for segment query) (sym walked.continues.bound) h.most;
   least = omega (arith, h.least, walked.continues.more);
   one_term = λ u e. let o = h.one_term u e in (walked.whole o.0, ap (λ b. most_at b None) walked.continues.bound ∙ o.1);
+  list = λ u e. walked.continues.list ∙ h.list u e;
   musts = λ terms e doc. subst (λ (b : Bound). most_at b doc ≤ most_at (bound_for_musts segment terms) doc) (sym walked.continues.bound) (h.musts terms e doc);
   opened = λ terms e some. omega (arith, h.opened terms e (λ none. some (is ∙ ap (filter p) none)), walked.continues.more);
 }

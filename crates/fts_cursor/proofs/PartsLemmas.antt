@@ -66,16 +66,20 @@ height_ahead R initial now index d h inside =
     rw (h.rest index d (omega arith)) (height_within initial index d (omega (arith, inside, h.size)))
 
 pub TreeContinues-same : (s : TreeValue) → TreeContinues s s
-TreeContinues-same s = record { continues = record { bound = refl; more = omega arith }; height = refl }
+TreeContinues-same s = record { continues = record { bound = refl; list = refl; more = omega arith }; height = refl }
 
 pub TreeContinues-trans : (s t u : TreeValue) → TreeContinues s t → TreeContinues t u → TreeContinues s u
-TreeContinues-trans s t u h k = record { continues = record { bound = k.bound ∙ h.bound; more = omega (arith, h.more, k.more) }; height = k.height ∙ h.height }
+TreeContinues-trans s t u h k = record {
+  continues = record { bound = k.bound ∙ h.bound; list = k.list ∙ h.list; more = omega (arith, h.more, k.more) };
+  height = k.height ∙ h.height;
+}
 
 pub TreeContinues-beside : (a b s t : TreeValue) (before after : List ℕ) → TreeContinues a s → TreeContinues b t →
     TreeContinues (beside a b before) (beside s t after)
 TreeContinues-beside a b s t before after h k = record {
   continues = record {
     bound = ap₂ (λ (x : Bound) (y : Bound). at_most (most_at x None + most_at y None)) h.bound k.bound;
+    list = refl;
     more = omega (arith, h.more, k.more);
   };
   height = omega (arith, h.height, k.height);
@@ -92,6 +96,7 @@ TreeContinues-together R at (x ∷ xs) (y ∷ ys) h =
     record {
       continues = record {
         bound = ap₂ (λ (b : Bound) (n : ℕ). at_most (most_at b None + n)) first.bound (ap (λ (b : Bound). b.blocks) rest.bound);
+        list = refl;
         more =
             omega (arith, first.more, rest.more);
       };

@@ -8,7 +8,7 @@ use Rattle.std.proofs.lemmas.Bool.{and_parts, cases_lt}
 use Rattle.std.proofs.lemmas.List.{length-append, get_or_past, map-append, take_more}
 use Rattle.std.proofs.lemmas.List.Folds.{list_all-append, list_any-append, list_any_none}
 use Rattle.std.proofs.lemmas.List.Elements.{All-append, All-cons, All-nil}
-use Rattle.fts_postings.proofs.UnionLemmas.{Rises-union, has-union}
+use Rattle.fts_postings.proofs.UnionLemmas.{has-union}
 use Rattle.fts_pack.specs.Documents.{Rises, block_count}
 use Rattle.fts_postings.specs.Bounds.{Bound, most_at, reached}
 use Rattle.fts_postings.specs.Conjoined.{Conjoined, bound_of, common_of, counts_of}
@@ -226,21 +226,20 @@ AreToldBy-more lists bits x b h tells few = record {
       (All-nil (λ (c : Bor (List Bool)). length c.now ≤ 2 ^ 32)));
 }
 
-pub told_any : (lists : List (List ℕ)) (bits : List (Bor (List Bool))) (docs : ℕ) → AreToldBy lists bits → All (λ b. length b.now ≤ docs) bits →
-    passing (λ d. (in_one bits d && true) && true) 0 docs ≡ union lists
-told_any lists bits docs h long =
+pub told_has : (bits : List (Bor (List Bool))) (docs : ℕ) → All (λ b. length b.now ≤ docs) bits →
+    (d : ℕ) → has (passing (λ d. (in_one bits d && true) && true) 0 docs) d ≡ in_one bits d
+told_has bits docs long d =
     let test : ℕ → Bool = λ d. (in_one bits d && true) && true in
     let plain : (b : Bool) → ((b && true) && true) ≡ b = elim [ true ↦ refl | false ↦ refl ] in
-    same_members 0 (passing test 0 docs) (union lists) (Rises-passing test 0 docs) (Rises-union lists)
-    (λ d. has-filter test (range_with_len 0 docs) d ∙ (elim (cases_lt d docs) [
-      | inl inside ↦ (ap (λ b. b && test d) (has-range 0 docs d (omega arith) (omega (arith, inside))) ∙ plain (in_one bits d) ∙ sym (h.same d))
+    has-filter test (range_with_len 0 docs) d ∙ (elim (cases_lt d docs) [
+      | inl inside ↦ (ap (λ b. b && test d) (has-range 0 docs d (omega arith) (omega (arith, inside))) ∙ plain (in_one bits d))
       | inr past ↦ (
           let gone : in_one bits d ≡ false =
           list_any_none (λ (b : Bor (List Bool)). is_live b.now d) bits (λ k b low. get_or_past (get_or bits k b).now d false
           (let e = long k b low in omega (arith, e, past))) in
-          ap (λ b. b && test d) (past-range 0 docs d (omega (arith, past))) ∙ sym (h.same d ∙ gone)
+          ap (λ b. b && test d) (past-range 0 docs d (omega (arith, past))) ∙ sym gone
           )
-    ]) ∙ sym (has-union lists d))
+    ])
 
 pub hits_more : (segment : SegmentValue) (queries : List Query) (i : ℕ) (q : Query) → i < length queries → q ≡ get_or queries i q →
     map (hits_of segment) (take i queries) ++ hits_of segment q ∷ [] ≡ map (hits_of segment) (take (i + 1) queries)

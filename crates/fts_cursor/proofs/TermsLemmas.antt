@@ -34,6 +34,7 @@ terms-continue c d h tied =
     let bound : List (List ℕ) → ℕ → Bound = λ bs n. record { blocks = length bs; lead = flat_map (λ block. block) bs; others = n } in (
       λ before after. record {
         bound = ap₂ bound h.lead.blocks rest.2;
+        list = refl;
         more = omega (arith, rest.0, h.lead.more, lead, tied.0);
       },
       (lead, rest.1),

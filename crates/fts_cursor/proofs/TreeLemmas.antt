@@ -239,11 +239,15 @@ pub all_most-more : (parts : List TreeValue) (index : ℕ) (d : TreeValue) → i
 all_most-more parts index d inside = ap (λ n. all_most (take n parts)) (add-one index) ∙ most-suc parts index d inside
 
 pub Walked-same : (s : Standing) → Walked s s
-Walked-same s = record { continues = record { bound = refl; more = omega arith }; whole = λ h. h }
+Walked-same s = record { continues = record { bound = refl; list = refl; more = omega arith }; whole = λ h. h }
 
 pub Walked-trans : (s t u : Standing) → Walked s t → Walked t u → Walked s u
 Walked-trans s t u h k = record {
-  continues = record { bound = k.continues.bound ∙ h.continues.bound; more = omega (arith, h.continues.more, k.continues.more) };
+  continues = record {
+    bound = k.continues.bound ∙ h.continues.bound;
+    list = k.continues.list ∙ h.continues.list;
+    more = omega (arith, h.continues.more, k.continues.more);
+  };
   whole = λ w. k.whole (h.whole w);
 }
 

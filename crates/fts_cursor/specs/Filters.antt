@@ -1,5 +1,5 @@
 -- A cursor over the documents of lists that bits tell too.
-use Rattle.std.specs.Prelude.{ℕ, ◌+◌, Bool, false, List, length}
+use Rattle.std.specs.Prelude.{ℕ, ◌+◌, Bool, false, List, None, length}
 use Rattle.fts_postings.specs.Conjoined.{Conjoined, common_of, counts_of}
 use Rattle.fts_postings.specs.Posting.{members_of}
 use Rattle.fts_postings.specs.Sets.{FirstPasses}
@@ -13,6 +13,7 @@ filtered c opened remaining = record {
   openings = counts_of c + opened;
   bound = record { blocks = length c.lead.blocks + opened; lead = members_of c.lead; others = length c.others };
   whole = false;
+  list = None;
 }
 
 -- a conjunction that is at a document that passes, or at its end

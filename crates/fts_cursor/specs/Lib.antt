@@ -17,3 +17,4 @@ pub mod Filters
 pub mod Splits
 pub mod Tests
 pub mod Most
+pub mod Shoulds

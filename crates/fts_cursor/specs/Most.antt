@@ -1,6 +1,6 @@
 -- How many blocks the cursor of a query opens, whatever the query is.
-use Rattle.std.specs.Prelude.{◌≡◌, ◌≢◌, ℕ, ◌+◌, ◌/◌, ◌≤◌, nat_le, Bool, true, ◌&&◌, ◌||◌, Option, None, List, [], ◌∷◌}
-use Rattle.std.specs.Prelude.{length}
+use Rattle.std.specs.Prelude.{◌≡◌, ◌≢◌, ℕ, ◌+◌, ◌/◌, ◌≤◌, nat_le, Bool, true, ◌&&◌, ◌||◌, Option, None, Some, List, []}
+use Rattle.std.specs.Prelude.{◌∷◌, length}
 use Rattle.std.specs.Prelude.{if◌then◌else◌, map}
 use Rattle.fts_model.specs.declared.operation.Term.{Term}
 use Rattle.fts_model.specs.Queries.{are_some}
@@ -8,7 +8,7 @@ use Rattle.fts_model.specs.QueryValues.{QueryValue, every, nothing, term, phrase
 use Rattle.fts_model.specs.QueryValues.{no_queries, queries}
 use Rattle.fts_pack.specs.Documents.{block_count}
 use Rattle.fts_postings.specs.Bounds.{most_at}
-use Rattle.fts_segment.specs.Segments.{SegmentValue}
+use Rattle.fts_segment.specs.Segments.{SegmentValue, postings}
 use Rattle.fts_cursor.specs.Builds.{is_term, text_term}
 use Rattle.fts_cursor.specs.Hits.{segment_hits}
 use Rattle.fts_cursor.specs.Openings.{HasMusts, IsOfOneTerm, blocks_with, bound_for_musts, bound_of_all, most_for_musts}
@@ -68,13 +68,15 @@ least_for segment (range field lower upper) =
 least_for segment query = 0
 
 -- what the cursor of a query opens: no more blocks than is said of the query, for a range no fewer either, and for one
--- term each block once. If all musts are terms and nothing else is asked, wherever it is, no more than the blocks of
--- the shortest list, and of each other list one, and one for each document of the shortest up to there
+-- term, over whose list it goes, each block once. If all musts are terms and nothing else is asked, wherever it is, no
+-- more than the blocks of the shortest list, and of each other list one, and one for each document of the shortest up
+-- to there
 pub record Opens (segment : SegmentValue) (query : QueryValue) (cursor : Standing) : Type 0 where
   pub most : most_at cursor.bound None ≤ most_for segment query
   pub least : least_for segment query ≤ cursor.openings
   pub one_term : (t : Term) → IsOfOneTerm query t →
       (cursor.whole ≡ true) × (most_at cursor.bound None ≡ blocks_with segment t)
+  pub list : (t : Term) → IsOfOneTerm query t → cursor.list ≡ Some (postings segment t)
   pub musts : (terms : List Term) → HasMusts query terms → (doc : Option ℕ) →
       most_at cursor.bound doc ≤ most_at (bound_for_musts segment terms) doc
   pub opened : (terms : List Term) → HasMusts query terms → cursor.remaining ≢ [] → length terms ≤ cursor.openings

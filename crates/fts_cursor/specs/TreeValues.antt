@@ -1,10 +1,10 @@
 -- What contracts see of a tree of cursors: what those of its cursor see, and a measure for recursions over it.
-use Rattle.std.specs.Prelude.{◌≡◌, ℕ, suc, ◌+◌, ◌≤◌, max, false, List, None, [], ◌∷◌, map}
+use Rattle.std.specs.Prelude.{◌≡◌, ℕ, suc, ◌+◌, ◌≤◌, max, false, List, None, Some, [], ◌∷◌, map, slice_get}
 use Rattle.std.proofs.Common.{arith}
 use denote.Param.Weighed.{most}
 use Rattle.fts_postings.specs.Bounds.{most_at}
 use Rattle.fts_postings.specs.Remaining.{at_least}
-use Rattle.fts_cursor.specs.Standing.{Continues, Standing, at_most}
+use Rattle.fts_cursor.specs.Standing.{Continues, Standing, at_most, left_at}
 
 -- how it is, and how deep the cursors in it nest
 pub record TreeValue : Type 0 where
@@ -42,7 +42,13 @@ leaf standing = record { standing = standing; height = 0 }
 -- several cursors as one
 abbrev pub together : List TreeValue → TreeValue
 together parts = record {
-  standing = record { remaining = []; openings = all_openings parts; bound = at_most (all_most parts); whole = false };
+  standing = record {
+    remaining = [];
+    openings = all_openings parts;
+    bound = at_most (all_most parts);
+    whole = false;
+    list = None;
+  };
   height = heights parts;
 }
 
@@ -54,6 +60,7 @@ beside a b remaining = record {
     openings = a.openings + b.openings;
     bound = at_most (most_at a.bound None + most_at b.bound None);
     whole = false;
+    list = None;
   };
   height = suc (max a.height b.height);
 }
@@ -62,6 +69,16 @@ beside a b remaining = record {
 pub most-heights : (parts : List TreeValue) → most (λ t. t.height + 1) parts ≤ heights parts + 1
 most-heights [] = omega arith
 most-heights (t ∷ parts) = omega (arith, most-heights parts)
+
+-- of one list alone there remains what is left of it
+abbrev pub LeavesList : TreeValue → Type 0
+LeavesList tree =
+    (documents : List ℕ) → tree.list ≡ Some documents →
+    tree.remaining ≡ left_at documents (slice_get tree.remaining 0)
+
+-- of one list alone at most one block more was opened
+abbrev pub OpensOne : TreeValue → TreeValue → Type 0
+OpensOne old new = (documents : List ℕ) → old.list ≡ Some documents → new.openings ≤ suc old.openings
 
 -- a tree after a search for a document: the same from there on
 pub record Narrowed (doc : ℕ) (old new : TreeValue) : Type 0 where

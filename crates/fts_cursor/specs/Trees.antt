@@ -3,11 +3,11 @@ use Rattle.std.specs.Prelude.{◌≡◌, ℕ, ◌==◌, ◌≤◌, nat_le, Bool,
 use Rattle.std.specs.Prelude.{List, [], ◌∷◌, length, slice_get}
 use Rattle.std.specs.List.{filter}
 use Rattle.std.specs.List.Sorted.{IsStrictlyIncreasing}
-use Rattle.fts_postings.specs.Posting.{blocks_reached, remaining_of}
+use Rattle.fts_postings.specs.Posting.{blocks_reached, members_of, remaining_of}
 use Rattle.fts_postings.specs.Conjoined.{common_of}
 use Rattle.fts_postings.specs.Sets.{FirstPasses, common, has, in_all, in_some, lacks, union, without}
 use Rattle.fts_cursor.specs.Standing.{at_most}
-use Rattle.fts_cursor.specs.Terms.{AreTied, IsTied, of_terms}
+use Rattle.fts_cursor.specs.Terms.{AreTied, IsAlone, of_terms}
 use Rattle.fts_cursor.specs.TreeValues.{TreeValue, beside, leaf, remains, together}
 use Rattle.fts_postings.specs.Windows.{found_in}
 use Rattle.fts_cursor.specs.declared.tree.buffered_union.BufferedUnion.{BufferedUnion}
@@ -49,22 +49,25 @@ tree_value (Scan documents opened) = leaf (record {
   openings = opened;
   bound = at_most opened;
   whole = false;
+  list = None;
 })
 tree_value (Listed documents opened) = leaf (record {
   remaining = documents;
   openings = opened;
   bound = at_most opened;
   whole = false;
+  list = None;
 })
 tree_value (Postings p) = leaf (record {
   remaining = remaining_of p;
   openings = p.count;
   bound = at_most (length p.blocks);
   whole = p.opened == blocks_reached p;
+  list = Some (members_of p);
 })
 tree_value (Terms c) = leaf (of_terms c (common_of c))
-tree_value (Filter s) = leaf (record s { whole = false })
-tree_value (Phrase s) = leaf (record s { whole = false })
+tree_value (Filter s) = leaf (record s { whole = false; list = None })
+tree_value (Phrase s) = leaf (record s { whole = false; list = None })
 tree_value (And parts) = beside parts.lead.value (together parts.others.items) (meet parts)
 tree_value (Or buffered) = beside (together buffered.parts.items) (together []) (gathered buffered)
 tree_value (Without parts) = beside parts.kept.value parts.dropped.value (differ parts)
@@ -86,9 +89,9 @@ PartsStand doc (Without parts) = PassesAt doc (lacks parts.dropped.value.remaini
 PartsStand doc (Or buffered) = IsBuffered doc buffered.window (remains buffered.parts.items)
 PartsStand doc node = Unit {0}
 
--- each opening of a source was counted by its cursor
+-- each opening of a source was counted by its cursor, and a list alone is in its blocks and rises
 abbrev pub IsTiedNode : Node → Type 0
-IsTiedNode (Postings p) = IsTied p
+IsTiedNode (Postings p) = IsAlone p
 IsTiedNode (Terms c) = AreTied c
 IsTiedNode node = Unit {0}
 
@@ -113,7 +116,7 @@ pub record Met (doc : Option ℕ) (before : List ℕ) (test : ℕ → Bool) (lea
 
 -- the documents of a cursor, or none
 abbrev pub value_of : Source → TreeValue
-value_of Nothing = leaf (record { remaining = []; openings = 0; bound = at_most 0; whole = true })
+value_of Nothing = leaf (record { remaining = []; openings = 0; bound = at_most 0; whole = true; list = Some [] })
 value_of (Cursor node) = tree_value node.value
 
 -- the cursor, if there is one, is at the document

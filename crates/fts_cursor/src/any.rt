@@ -1,49 +1,83 @@
-// The cursor of terms of which one must match, by words: where the lists of all have bits.
-ghost use Rattle.std.specs.Prelude.{◌≡◌, ◌^◌, ◌<◌, ◌≤◌, All, IfOk, IfSome, length, map, true};
+// The cursor of queries of which one must match, by words where the lists of terms have bits.
+ghost use Rattle.std.specs.Prelude.{◌≡◌, ℕ, ◌^◌, ◌<◌, ◌≤◌, ◌||◌, All, IfOk, IfSome, None, length, map, true};
 ghost use Rattle.std.specs.List.{list_all};
 ghost use Rattle.fts_cursor.specs.Builds.{is_term};
 ghost use Rattle.fts_model.specs.Queries.{matches};
 ghost use Rattle.fts_model.specs.QueryValues.{query_value};
 ghost use Rattle.fts_segment.specs.Segments.{numbers_where};
-ghost use Rattle.fts_cursor.specs.Hits.{segment_hits};
+ghost use Rattle.fts_cursor.specs.Dense.{in_one};
+ghost use Rattle.fts_cursor.specs.Hits.{is_live, segment_hits};
 ghost use Rattle.fts_cursor.specs.Splits.{AreToldBy};
 ghost use Rattle.fts_cursor.specs.Standing.{at_most};
-ghost use Rattle.fts_postings.specs.Sets.{union, without};
+ghost use Rattle.fts_cursor.specs.TreeValues.{all_most, remains};
+ghost use Rattle.fts_pack.specs.Documents.{Rises};
+ghost use Rattle.fts_postings.specs.Bounds.{most_at};
+ghost use Rattle.fts_postings.specs.Sets.{has, in_some, union, without};
 
 use crate::dense::Dense;
 use crate::rows::Kept;
 use crate::scan::ScanCursor;
-use crate::terms::{are_terms, list_of};
+use crate::terms::{are_terms, is_term, list_of};
 use crate::tree::Tree;
 use fts_model::Query;
 use fts_pack::bits::Bits;
 use fts_segment::Segment;
 use std::alloc::{AllocError, Global};
 
-/// The documents that have one of the terms, where these are terms whose lists all have bits.
-pub(crate) fn by_words<'a>(
-    alloc: Global,
-    segment: &'a Segment,
-    queries: &[Query],
-) -> Result<Option<Tree<'a>>, AllocError>
-    ensures remaining { IfOk result (λ found. IfSome found (λ t. t.remaining
-        ≡ union (map (λ q. segment_hits segment.now (query_value q)) queries.now))) }
-    ensures bound { IfOk result (λ found. IfSome found (λ t. t.bound ≡ at_most 0)) }
+/// Queries of which one must match: the bits of the lists of those that are terms and have some, and cursors of the
+/// others.
+#[derive(Drop)]
+pub(crate) struct Shoulds<'a> {
+    pub(crate) bits: Vec<&'a Bits>,
+    pub(crate) parts: Vec<Tree<'a>>,
+}
+
+/// The bits of the list of a query, if it is a term whose list has some.
+pub(crate) fn told_by<'a>(segment: &'a Segment, query: &Query) -> Option<&'a Bits>
+    ensures tells { IfSome result (λ bits. (d : ℕ) →
+        is_live bits.now d ≡ has (segment_hits segment.now (query_value query.now)) d) }
+    ensures few { IfSome result (λ bits. length bits.now ≤ 2 ^ 32) }
 {
-    if !are_terms(queries) {
-        return Ok(None);
+    if !is_term(query) {
+        return None;
     }
-    let Some(some) = bits_of(alloc, segment, queries)? else {
-        return Ok(None);
-    };
-    let docs = longest(&some);
+    list_of(segment, query)?.bits()
+}
+
+/// The documents that bits tell or that one of some cursors has. Those that bits tell are gone over together, by words.
+pub(crate) fn union_of<'a>(alloc: Global, shoulds: Shoulds<'a>) -> Result<Tree<'a>, AllocError>
+    requires { All (λ b. length b.now ≤ 2 ^ 32) shoulds.bits.items }
+    ensures has { IfOk result (λ t. (d : ℕ) → has t.remaining d
+        ≡ (in_one shoulds.entry.bits.items d || in_some (remains shoulds.entry.parts.items) d)) }
+    ensures rises { IfOk result (λ t. Rises 0 t.remaining) }
+    ensures most { IfOk result (λ t. most_at t.bound None ≤ all_most shoulds.entry.parts.items) }
+{
+    let Shoulds { bits, mut parts } = shoulds;
+    if bits.is_empty() {
+        return Tree::or(alloc, parts);
+    }
+    let told = told(alloc, bits)?;
+    if parts.is_empty() {
+        return Ok(told);
+    }
+    parts.push(told)?;
+    Tree::or(alloc, parts)
+}
+
+/// The documents that one of some bits tells.
+fn told<'a>(alloc: Global, bits: Vec<&'a Bits>) -> Result<Tree<'a>, AllocError>
+    requires { All (λ b. length b.now ≤ 2 ^ 32) bits.items }
+    ensures has { IfOk result (λ t. (d : ℕ) → has t.remaining d ≡ in_one bits.entry.items d) }
+    ensures rises { IfOk result (λ t. Rises 0 t.remaining) }
+    ensures bound { IfOk result (λ t. t.bound ≡ at_most 0) }
+{
+    let docs = longest(&bits);
     let dense = Dense {
-        some,
+        some: bits,
         all: Vec::new(alloc),
         none: Vec::new(alloc),
     };
-    let tree = Tree::scan(alloc, ScanCursor::new(Kept::Told(dense), docs, None))?;
-    Ok(Some(tree))
+    Tree::scan(alloc, ScanCursor::new(Kept::Told(dense), docs, None))
 }
 
 /// The documents that have each of some terms and none of others, where these are terms whose lists all have bits, and

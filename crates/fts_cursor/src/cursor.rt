@@ -5,7 +5,7 @@ ghost use Rattle.fts_cursor.specs.Hits.{is_live};
 ghost use Rattle.fts_postings.specs.Bounds.{most_at};
 ghost use Rattle.fts_postings.specs.Sets.{FirstPasses};
 ghost use Rattle.fts_postings.specs.Remaining.{at_least};
-ghost use Rattle.fts_cursor.specs.Standing.{Continues, Walked};
+ghost use Rattle.fts_cursor.specs.Standing.{Continues, OpensAlong, OpensOnce, Walked};
 
 use crate::tree::Tree;
 use fts_pack::bits::Bits;
@@ -16,7 +16,8 @@ use std::marker::Model;
 /// The live documents of a segment that match a query, from the first on. It borrows the segment and its bits.
 ///
 /// Contracts see what remains, how often its sources opened a block, how many blocks it opens at most by where it
-/// stands, whatever is sought, and whether it goes over one list of which it has opened each block up to there.
+/// stands, whatever is sought, whether it goes over one list of which it has opened each block up to there, and that
+/// list, if it goes over one alone.
 #[derive(Drop)]
 pub struct Cursor<'a> {
     tree: Tree<'a>,
@@ -70,6 +71,7 @@ impl<'a> Cursor<'a> {
             ≤ most_at self.now.bound (slice_get self.now.remaining 0) }
         ensures end { self.now.whole ≡ true → self.now.remaining ≡ []
             → self.now.openings ≡ most_at self.now.bound None }
+        ensures along { OpensAlong self.now }
     {
         self.tree.openings()
     }
@@ -107,9 +109,12 @@ impl<'a> DocSet for Cursor<'a> {
         }
     }
 
+    /// Over one list at most one block is opened, and where documents aren't live those blocks too that are stepped
+    /// through from the target's place to the next that is.
     fn seek(&mut self, target: u32)
         ensures remaining { self.new.remaining ≡ at_least target self.old.remaining }
         ensures continues { Continues self.old self.new }
+        ensures once { OpensOnce target self.old self.new }
     {
         self.tree.seek(target);
         if let Some(live) = self.live {
@@ -186,6 +191,7 @@ fn settle(tree: &mut Tree, live: &Bits)
         ≡ filter (is_live live.now) tree.old.remaining }
     ensures settled { FirstPasses (is_live live.now) tree.new.remaining }
     ensures walked { Walked tree.old.standing tree.new.standing }
+    ensures still { FirstPasses (is_live live.now) tree.old.remaining → tree.new ≡ tree.old }
 {
     while let Some(doc) = tree.doc() {
         if is_live(live, doc) {

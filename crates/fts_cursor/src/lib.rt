@@ -36,6 +36,7 @@ mod term_lists;
 mod terms;
 mod tree;
 mod walk;
+mod word_marks;
 
 pub use cursor::Cursor;
 pub use fts_postings::{Conjunction, DocSet, PostingCursor};

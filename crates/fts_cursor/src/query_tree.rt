@@ -1,5 +1,5 @@
 // The cursor of a query: a tree of cursors, one for each query within it.
-ghost use Rattle.std.specs.Prelude.{◌≡◌, ◌-◌, ◌^◌, ◌≤◌, ◌<◌, true, count_by, IfOk, IsOkUnless, MatchOption, None};
+ghost use Rattle.std.specs.Prelude.{◌≡◌, ◌-◌, ◌^◌, ◌≤◌, ◌<◌, true, count_by, IfOk, IsOkUnless, MatchOption, None, Some};
 ghost use Rattle.std.specs.Prelude.{All, EachIndex, List, [], ◌∷◌, length, map, min, slice_index};
 ghost use Rattle.std.specs.List.{AllZip, list_all};
 ghost use Rattle.std.specs.List.Sorted.{IsStrictlyIncreasing};
@@ -12,11 +12,12 @@ ghost use Rattle.fts_postings.specs.Bounds.{most_at};
 ghost use Rattle.fts_postings.specs.Sets.{common, union};
 ghost use Rattle.fts_cursor.specs.Builds.{IsCursorOf, IsMemberFor, LacksTerm, text_term};
 ghost use Rattle.fts_cursor.specs.Most.{Opens, most_for, most_for_all};
+ghost use Rattle.fts_cursor.specs.Shoulds.{AreShoulds};
 ghost use Rattle.fts_segment.specs.ListIds.{documents_in, positions_in};
 ghost use Rattle.fts_cursor.specs.Standing.{at_most};
 ghost use Rattle.fts_cursor.specs.TreeValues.{TreeValue, all_most, remains};
 
-use crate::any::{apart_by_words, by_words};
+use crate::any::{Shoulds, apart_by_words, told_by, union_of};
 use crate::cursor::Cursor;
 use crate::phrase::{Member, PhraseCursor};
 use crate::position_cursor::PositionCursor;
@@ -134,11 +135,31 @@ fn any_of<'a>(
     match queries {
         [] => Ok(Tree::nothing()),
         [query] => tree_of(alloc, segment, query),
-        _ => match by_words(alloc, segment, queries)? {
-            Some(tree) => Ok(tree),
-            None => Tree::or(alloc, trees_of(alloc, segment, queries)?),
-        },
+        _ => union_of(alloc, shoulds_of(alloc, segment, queries)?),
     }
+}
+
+/// The bits of those of these that are terms whose lists have some, and cursors of the others.
+#[cycle(build)]
+fn shoulds_of<'a>(
+    alloc: Global,
+    segment: &'a Segment,
+    queries: &[Query],
+) -> Result<Shoulds<'a>, AllocError>
+    requires fits { list_all (λ q. query_fits segment.now.schema (query_value q)) queries.now
+        ≡ true }
+    ensures { IfOk result (λ shoulds. AreShoulds segment.now queries.now shoulds.bits.items shoulds.parts.items) }
+{
+    let mut bits = Vec::new(alloc);
+    let mut parts = Vec::new(alloc);
+    for query in queries {
+        if let Some(told) = told_by(segment, query) {
+            bits.push(told)?;
+        } else {
+            parts.push(tree_of(alloc, segment, query)?)?;
+        }
+    }
+    Ok(Shoulds { bits, parts })
 }
 
 /// The documents that match each of these.
@@ -227,6 +248,7 @@ fn of_term<'a>(alloc: Global, segment: &'a Segment, term: &Term) -> Result<Tree<
     ensures bound { IfOk result
         (λ t. t.bound ≡ at_most (block_count (length (postings segment.now term.now)))) }
     ensures whole { IfOk result (λ t. t.whole ≡ true) }
+    ensures list { IfOk result (λ t. t.list ≡ Some (postings segment.now term.now)) }
 {
     match segment.find(term) {
         None => Ok(Tree::nothing()),

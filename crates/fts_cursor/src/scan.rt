@@ -1,18 +1,21 @@
 // A cursor over the documents that are kept by their number alone.
-ghost use Rattle.std.specs.Prelude.{◌≡◌, ◌%◌, ◌^◌, ◌-◌, ◌<◌, ◌≤◌, IfErr, IfOk, IfSome, [], true, false, filter, length};
-ghost use Rattle.std.specs.Prelude.{slice_index};
+ghost use Rattle.std.specs.Prelude.{◌≡◌, ◌%◌, ◌^◌, ◌+◌, ◌-◌, ◌<◌, ◌≤◌, IfErr, IfOk, IfSome, Some, [], true, false, filter};
+ghost use Rattle.std.specs.Prelude.{length, slice_get, slice_index};
 ghost use Rattle.std.specs.Prelude.{take};
 ghost use Rattle.fts_postings.specs.Fills.{IsStretch};
 ghost use Rattle.fts_postings.specs.Remaining.{at_least};
 ghost use Rattle.fts_cursor.specs.Hits.{is_live};
 ghost use Rattle.fts_cursor.specs.Dense.{HoldsRow};
 ghost use Rattle.fts_cursor.specs.Scans.{AreFor, keeps, kept_from, kept_in};
+ghost use Rattle.fts_cursor.specs.Trees.{AreMarked};
+ghost use Rattle.fts_postings.specs.Sets.{has};
 
 use crate::dense::Row;
 use crate::rows::{self, Kept};
+use crate::word_marks::mark_told;
 use fts_pack::bits::Bits;
-use fts_postings::DocSet;
 use fts_postings::stretch::{copy_part, place_of};
+use fts_postings::{DocSet, Window};
 use std::alloc::{AllocError, Global};
 use std::marker::Model;
 
@@ -84,11 +87,65 @@ impl<'a> ScanCursor<'a> {
         ensures none { self.new ≡ [] }
     {
         let count = self.remaining();
+        self.finish();
+        count
+    }
+
+    /// Leaves nothing.
+    fn finish(&mut self)
+        ensures none { self.new ≡ [] }
+        ensures past { at_least (2 ^ 32) self.old ≡ [] }
+    {
         self.total = None;
         self.from = BEHIND_ALL;
         self.at = 0;
         self.len = 0;
-        count
+    }
+
+    /// Marks the documents that have a place in the window, and passes them, where words tell of them, and says whether
+    /// it did.
+    pub(crate) fn mark(&mut self, window: &mut Window) -> bool
+        requires { self.old ≡ at_least window.old.from self.old }
+        ensures marked { result ≡ true → AreMarked (has self.old) window.old window.new }
+        ensures passed { result ≡ true → self.new ≡ at_least (window.old.last + 1) self.old }
+        ensures place { (window.new.from ≡ window.old.from) × (window.new.last ≡ window.old.last) }
+        ensures other { result ≡ false → (self.new ≡ self.old) × (window.new ≡ window.old) }
+    {
+        let Some(first) = self.doc() else {
+            return true;
+        };
+        if !self.mark_from(window, first) {
+            return false;
+        }
+        self.pass(window.last);
+        true
+    }
+
+    /// Passes what lies up to the last.
+    fn pass(&mut self, last: u32)
+        ensures { self.new ≡ at_least (last + 1) self.old }
+    {
+        if last == u32::MAX {
+            self.finish();
+            return;
+        }
+        self.seek(last + 1);
+    }
+
+    /// Marks those from the first on, if words tell of them, and says whether it did. Passes none.
+    fn mark_from(&mut self, window: &mut Window, first: u32) -> bool
+        requires first { Some first ≡ slice_get self.old 0 }
+        requires low { window.old.from ≤ first }
+        ensures same { self.new ≡ self.old }
+        ensures place { (window.new.from ≡ window.old.from) × (window.new.last ≡ window.old.last) }
+        ensures marked { result ≡ true → AreMarked (has self.old) window.old window.new }
+        ensures other { result ≡ false → window.new ≡ window.old }
+    {
+        let Kept::Told(dense) = &self.kept else {
+            return false;
+        };
+        mark_told(window, dense, &mut self.row, first);
+        true
     }
 
     /// Keeps of those that remain only those whose bit is set, where words tell of both and none was passed yet, and

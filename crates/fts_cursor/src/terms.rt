@@ -167,7 +167,7 @@ fn by_length<'a>(a: &'a List, b: &'a List) -> (&'a List, &'a List)
 }
 
 /// Whether the query is a term.
-fn is_term(query: &Query) -> bool
+pub(crate) fn is_term(query: &Query) -> bool
     ensures { result ≡ is_term (query_value query.now) }
 {
     term_of(query).is_some()

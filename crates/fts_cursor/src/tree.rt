@@ -1,6 +1,6 @@
 // Cursors of queries within one another, each of which knows the first document that remains of it.
 ghost use Rattle.std.specs.Prelude.{◌≡◌, ℕ, ◌+◌, ◌-◌, ◌^◌, ◌<◌, ◌≤◌, All, IfOk, [], MatchOption, true, false, drop};
-ghost use Rattle.std.specs.Prelude.{filter, length};
+ghost use Rattle.std.specs.Prelude.{Some, filter, length};
 ghost use Rattle.std.specs.Prelude.{min, slice_get, take};
 ghost use Rattle.std.specs.List.Sorted.{IsStrictlyIncreasing};
 ghost use Rattle.fts_postings.specs.Bounds.{most_at};
@@ -8,8 +8,8 @@ ghost use Rattle.fts_postings.specs.Conjoined.{bound_of, common_of, counts_of};
 ghost use Rattle.fts_postings.specs.Sets.{common, has, union, without};
 ghost use Rattle.fts_postings.specs.Remaining.{at_least};
 ghost use Rattle.fts_cursor.specs.Hits.{is_live};
-ghost use Rattle.fts_cursor.specs.Standing.{Walked, at_most};
-ghost use Rattle.fts_cursor.specs.TreeValues.{TreeContinues, all_most, all_openings, remains};
+ghost use Rattle.fts_cursor.specs.Standing.{OpensAlong, Walked, at_most};
+ghost use Rattle.fts_cursor.specs.TreeValues.{LeavesList, OpensOne, TreeContinues, all_most, all_openings, remains};
 ghost use Rattle.fts_cursor.specs.Trees.{IsNow, StandsAt, tree_value};
 ghost use Rattle.fts_pack.specs.Documents.{block_count};
 
@@ -87,6 +87,7 @@ impl<'a> Tree<'a> {
     pub(crate) fn nothing() -> Tree<'a>
         ensures remaining { result.remaining ≡ [] }
         ensures counts { (result.openings ≡ 0) × (result.bound ≡ at_most 0) × (result.whole ≡ true) }
+        ensures list { result.list ≡ Some [] }
     {
         Tree {
             doc: None,
@@ -142,6 +143,7 @@ impl<'a> Tree<'a> {
         ensures remaining { IfOk result (λ t. t.remaining ≡ list.now) }
         ensures bound { IfOk result (λ t. t.bound ≡ at_most (block_count (length list.now))) }
         ensures whole { IfOk result (λ t. t.whole ≡ true) }
+        ensures list { IfOk result (λ t. t.list ≡ Some list.now) }
     {
         let postings = PostingCursor::new(list.source());
         Tree::of(alloc, postings.doc(), Node::Postings(postings))
@@ -256,6 +258,7 @@ impl<'a> Tree<'a> {
             ≤ most_at self.now.bound (slice_get self.now.remaining 0) }
         ensures end { self.now.whole ≡ true → self.now.remaining ≡ []
             → self.now.openings ≡ most_at self.now.bound None }
+        ensures along { OpensAlong self.now.standing }
     {
         let Source::Cursor(node) = &self.source else {
             return 0;
@@ -327,11 +330,13 @@ impl<'a> Tree<'a> {
         }
     }
 
-    /// Passes what lies before the target.
+    /// Passes what lies before the target. Contracts learn here what remained of a list alone.
     #[cycle(tree)]
     pub(crate) fn seek(&mut self, target: u32)
         ensures remaining { self.new.remaining ≡ at_least target self.old.remaining }
         ensures continues { TreeContinues self.old self.new }
+        ensures left { LeavesList self.old }
+        ensures once { OpensOne self.old self.new }
     {
         let Source::Cursor(node) = &mut self.source else {
             return;
@@ -459,6 +464,7 @@ fn skip(node: &mut Node, target: u32) -> Option<u32>
     requires { (doc : ℕ) × StandsAt (Some doc) node.old × (doc < target) }
     ensures now { IsNow result node.new (at_least target (tree_value node.old).remaining) }
     ensures continues { TreeContinues (tree_value node.old) (tree_value node.new) }
+    ensures once { OpensOne (tree_value node.old) (tree_value node.new) }
 {
     match node {
         Node::Scan(scan, _) => {

@@ -149,6 +149,13 @@ fn mark_part(part: &mut Tree, window: &mut Window)
     };
     match &mut **node {
         Node::Postings(postings) => part.doc = mark_postings(postings, window),
+        Node::Scan(scan, _) => {
+            if scan.mark(window) {
+                part.doc = scan.doc();
+            } else {
+                mark_any(part, window);
+            }
+        }
         _ => mark_any(part, window),
     }
 }

@@ -16,12 +16,14 @@ use Rattle.fts_cursor.specs.TreeValues.{TreeValue}
 use Rattle.fts_cursor.proofs.BoolHits.{IsBool, all_kept, bool_apart, bool_kept, only_one, paired_more, single_hits, some_from}
 use Rattle.fts_cursor.proofs.DepthLemmas.{depth, depth_at, depth_of, one_of_all, parts_fall}
 use Rattle.fts_cursor.proofs.HitsLemmas.{hits_of}
-use Rattle.fts_cursor.proofs.MostLemmas.{all_most-for}
 use Rattle.fts_cursor.proofs.OpensLemmas.{Keeps, keeps_mixed, keeps_shoulds, keeps_terms, nothing_found, opens_apart, opens_kept, opens_told, parts_fit}
 use Rattle.fts_cursor.proofs.OpensLemmas.{remains_more}
 use Rattle.fts_cursor.proofs.query_tree.+build.Goals.{tree_of-then-is_empty+in_ok-kept-in-Bool, tree_of-else-is_empty+then-are_terms+in_ok-kept-in-Bool-2}
 use Rattle.fts_cursor.proofs.query_tree.+build.Goals.{tree_of-else-is_empty+else-are_terms+in_ok-trees_of-in-Bool+in_ok-kept-in-Bool-3, tree_of-In-Bool}
 use Rattle.fts_cursor.proofs.query_tree.+build.Goals.{tree_of-Joined-is_empty}
+use Rattle.fts_cursor.proofs.ShouldsLemmas.{AreShoulds-next, AreShoulds-part, AreShoulds-told, shoulds_found}
+use Rattle.fts_cursor.proofs.SplitLemmas.{both_of}
+use Rattle.fts_cursor.proofs.query_tree.+build.Goals.{shoulds_of-in-Some+in_ok-push, shoulds_of-in_default+in_ok-tree_of+in_ok-push-2}
 use Rattle.fts_cursor.proofs.query_tree.+build.Goals as goal
 
 -- what lies in a Boolean query is less deep, and fits
@@ -172,7 +174,34 @@ tree_of-returns-in-Some-clause-opens t c =
     opens_told c.args.segment.now c.args.query.now c.in-Bool.must.items c.in-Bool.must_not.items c.in-Bool.should.items c.in-Some.tree
     (ap query_value c.in-Bool.is ∙ value_at_bool c.in-Bool.must c.in-Bool.must_not c.in-Bool.should) found.some.1 found.bound
 
-pub any_of-returns-in_ok-trees_of-in-None-clause-most : goal.any_of-returns-in_ok-trees_of-in-None-clause-most
-any_of-returns-in_ok-trees_of-in-None-clause-most t c =
-    IfOk-weaker c.or.result _ _ (λ tree is. omega (arith, is, all_most-for c.args.segment.now _ c.args.queries.now c.in_ok-trees_of-in-None.ensures.opens))
-    c.or.ensures.most
+pub shoulds_of-tree_of-requires : goal.shoulds_of-tree_of-requires
+shoulds_of-tree_of-requires t c =
+    let falls = depth_at c.args.queries.now c.loop-query.query-index c.query-item.result c.loop-query-test.true c.query-item.is in
+    let less : 3 * depth (query_value c.query-item.result) + 0 < t = omega (arith, falls, c.decreases) in (
+      less,
+      one_of_all (fits_in c.args.segment.now.schema) c.args.queries.now c.loop-query.query-index c.query-item.result c.requires.fits c.loop-query-test.true
+          c.query-item.is,
+    )
+
+pub shoulds_of-loop-query-preserved : goal.shoulds_of-loop-query-preserved
+shoulds_of-loop-query-preserved t c =
+    let segment = c.args.segment.now in
+    let l = c.loop-query in
+    let q = c.query-item.result in
+    elim c.match-told_by.branch [
+      | shoulds_of-in-Some+in_ok-push w ↦
+          let tells = rw w.in-Some.is at c.told_by.ensures.tells in
+          let few = rw w.in-Some.is at c.told_by.ensures.few in
+          rw (w.bits-is, w.parts-is, w.in_ok-push.ensures.items) (AreShoulds-next segment c.args.queries.now l.query-index q _ l.parts.items c.loop-query-test.true
+          c.query-item.is (AreShoulds-told segment _ l.bits.items l.parts.items l.invariant q w.in-Some.told tells few))
+      | shoulds_of-in_default+in_ok-tree_of+in_ok-push-2 w ↦
+          rw (w.bits-is, w.parts-is, w.in_ok-push-2.ensures.items) (AreShoulds-next segment c.args.queries.now l.query-index q l.bits.items _ c.loop-query-test.true
+          c.query-item.is (AreShoulds-part segment _ l.bits.items l.parts.items l.invariant q w.in_ok-tree_of.field-0 w.in_ok-tree_of.ensures.hits
+          w.in_ok-tree_of.ensures.opens.most))
+    ]
+
+pub any_of-returns-in_ok-shoulds_of-in_default-clause-hits : goal.any_of-returns-in_ok-shoulds_of-in_default-clause-hits
+any_of-returns-in_ok-shoulds_of-in_default-clause-hits t c =
+    let made = c.in_ok-shoulds_of-in_default in
+    both_of c.union_of.result _ _ _ (λ tree is rises. shoulds_found c.args.segment.now c.args.queries.now made.field-0.bits.items
+    made.field-0.parts.items tree.remaining made.ensures is rises) c.union_of.ensures.has c.union_of.ensures.rises

@@ -3,13 +3,14 @@ use Rattle.std.proofs.Common.{◌≡◌, ◌-◌, ◌*◌, ◌^◌, ◌<◌, ◌
 use Rattle.std.specs.List.{slice_get}
 use Rattle.fts_postings.specs.Bounds.{most_at}
 use Rattle.fts_postings.proofs.ConjoinedLemmas.{most-at_end}
-use Rattle.fts_cursor.specs.Standing.{at_most}
+use Rattle.fts_cursor.specs.Standing.{at_most, blocks_to}
 use Rattle.fts_cursor.specs.TreeValues.{TreeValue}
-use Rattle.fts_cursor.specs.Terms.{AreTied, IsTied}
+use Rattle.fts_cursor.specs.Terms.{AreTied, IsAlone, IsTied}
 use Rattle.fts_cursor.specs.Trees.{IsTiedNode, tree_value, value_of}
 use Rattle.fts_cursor.specs.declared.tree.Node.TheVariants.{And, Postings, Terms, Without}
 use Rattle.std.proofs.lemmas.Bool.{eqb-true}
-use Rattle.fts_postings.specs.Posting.{blocks_reached}
+use Rattle.fts_postings.specs.Posting.{blocks_reached, members_of, remaining_of}
+use Rattle.fts_cursor.proofs.AloneLemmas.{alone_reached}
 use Rattle.fts_cursor.proofs.PartsLemmas.{height_within}
 use Rattle.fts_cursor.proofs.TreeLemmas.{all_most-more, all_openings-more}
 use Rattle.fts_cursor.proofs.TermsLemmas.{terms-tied}
@@ -49,9 +50,21 @@ Tree::openings-returns-in-Postings-clause-end t c =
     let p = c.in-Postings.postings in
     let is : tree_value (Postings p) ≡ c.args.self.now = ap tree_value (sym c.in-Postings.is ∙ c.deref.ensures) ∙ ap value_of (sym c.in-Cursor.is)
     ∙ c.self.view_is in
-    let tied : IsTied p = subst IsTiedNode (sym c.deref.ensures ∙ c.in-Postings.is) (rw c.in-Cursor.is at c.self.invariant.stands).tied in
+    let tied : IsTied p = (subst IsTiedNode (sym c.deref.ensures ∙ c.in-Postings.is) (rw c.in-Cursor.is at c.self.invariant.stands).tied).0 in
     rw (← is) (λ whole none. tied ∙ eqb-true p.opened (blocks_reached p) whole ∙ c.openings.ensures.end none
     ∙ (let e : length p.blocks ≡ most_at (at_most (length p.blocks)) None = omega arith in e))
+
+pub Tree::openings-returns-in-Postings-clause-along : goal.Tree::openings-returns-in-Postings-clause-along
+Tree::openings-returns-in-Postings-clause-along t c =
+    let p = c.in-Postings.postings in
+    let is : tree_value (Postings p) ≡ c.args.self.now = ap tree_value (sym c.in-Postings.is ∙ c.deref.ensures) ∙ ap value_of (sym c.in-Cursor.is)
+    ∙ c.self.view_is in
+    let tied : IsAlone p =
+    subst IsTiedNode (sym c.deref.ensures ∙ c.in-Postings.is) (rw c.in-Cursor.is at c.self.invariant.stands).tied in
+    rw (← is) (λ documents same.
+    let all : members_of p ≡ documents = cc in
+    subst (λ xs. p.count ≤ blocks_to xs (slice_get (remaining_of p) 0)) all
+    (omega (arith, tied.0, c.openings.ensures.opened, c.openings.ensures.bound, alone_reached p tied.1)))
 
 pub Tree::openings-returns-in-Terms-clause-sum : goal.Tree::openings-returns-in-Terms-clause-sum
 Tree::openings-returns-in-Terms-clause-sum t c =

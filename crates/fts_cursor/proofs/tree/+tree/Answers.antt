@@ -5,8 +5,8 @@ use Rattle.std.specs.List.Sorted.{IsStrictlyIncreasing}
 use Rattle.fts_postings.proofs.SetLemmas.{filter-at_least}
 use Rattle.std.proofs.lemmas.List.{with_items_is}
 use Rattle.fts_postings.specs.Sets.{IsLeast, common, in_all, in_some, lacks, union}
-use Rattle.fts_cursor.specs.TreeValues.{Left, Narrowed, TreeContinues, TreeValue, heights, remains}
-use Rattle.fts_cursor.specs.Terms.{AreTied}
+use Rattle.fts_cursor.specs.TreeValues.{LeavesList, Left, Narrowed, TreeContinues, TreeValue, heights, remains}
+use Rattle.fts_cursor.specs.Terms.{AreTied, IsAlone}
 use Rattle.fts_cursor.specs.Trees.{AreMarked, IsBuffered, IsNow, found, gathered, tree_value, value_of}
 use Rattle.std.specs.Vec.{with_items}
 use Rattle.fts_cursor.specs.declared.tree.Node.TheVariants.{Or}
@@ -20,9 +20,26 @@ use Rattle.fts_postings.proofs.RemainingLemmas.{nothing_first}
 use Rattle.fts_postings.proofs.UnionLemmas.{IsLeast-none, IsLeast-some}
 use Rattle.fts_cursor.proofs.TreeLemmas.{IsNow-first, IsNow-met, Left-seek, LeftUpTo-next, Met-end, exclusion-here, exclusion-passed, intersection-continues}
 use Rattle.fts_cursor.proofs.TreeLemmas.{intersection-fewer, intersection-here, intersection-none, intersection-sought, stays_from_first}
+use Rattle.fts_cursor.proofs.AloneLemmas.{alone-continues, alone-follows, source_left}
 use Rattle.fts_cursor.proofs.TermsLemmas.{terms-continue}
 use Rattle.fts_cursor.proofs.tree.+tree.Goals as goal
 use Rattle.fts_cursor.proofs.tree.+tree.Goals.{buffered_union::seek_each-in-Some, buffered_union::seek_each-in_default}
+
+pub Tree::seek-returns-else-doc-target-clause-left : goal.Tree::seek-returns-else-doc-target-clause-left
+Tree::seek-returns-else-doc-target-clause-left t c =
+    subst LeavesList c.self.view_is (source_left c.self.inside.doc c.self.inside.source c.self.invariant.stands)
+
+pub Tree::seek-returns-in_default-clause-left : goal.Tree::seek-returns-in_default-clause-left
+Tree::seek-returns-in_default-clause-left t c =
+    subst LeavesList c.self.view_is (source_left c.self.inside.doc c.self.inside.source c.self.invariant.stands)
+
+pub Tree::seek-returns-in_default-doc-clause-left : goal.Tree::seek-returns-in_default-doc-clause-left
+Tree::seek-returns-in_default-doc-clause-left t c =
+    subst LeavesList c.self.view_is (source_left c.self.inside.doc c.self.inside.source c.self.invariant.stands)
+
+pub Tree::seek-returns-then-doc-target-clause-left : goal.Tree::seek-returns-then-doc-target-clause-left
+Tree::seek-returns-then-doc-target-clause-left t c =
+    subst LeavesList c.self.view_is (source_left c.self.inside.doc c.self.inside.source c.self.invariant.stands)
 
 pub Tree::seek-returns-else-doc-target-clause-remaining : goal.Tree::seek-returns-else-doc-target-clause-remaining
 Tree::seek-returns-else-doc-target-clause-remaining t c =
@@ -207,6 +224,21 @@ exclusion::settle-returns-clause-met t c =
     Met-end _ c.loop-doc.parts.kept.value.remaining (lacks c.loop-doc.parts.dropped.value.remaining) c.loop-doc.invariant.same
     (sym c.in_default.is ∙ c.doc.ensures.first ∙ ap (λ s. slice_get s.remaining 0) c.deref.ensures)
 
+pub skip-returns-in-Postings-clause-now : goal.skip-returns-in-Postings-clause-now
+skip-returns-in-Postings-clause-now t c =
+    let tied : IsAlone c.in-Postings.postings = rw c.in-Postings.is at c.requires.1.tied in
+    IsNow-first c.doc-in-Postings.result _ _ c.doc-in-Postings.ensures.first c.doc-in-Postings.ensures.rises tt
+    (alone-follows c.in-Postings.postings c.seek-in-Postings.new.self c.seek-in-Postings.ensures.follows tied)
+    (rw c.in-Postings.is c.seek-in-Postings.ensures.remaining)
+
+pub skip-returns-in-Postings-clause-continues : goal.skip-returns-in-Postings-clause-continues
+skip-returns-in-Postings-clause-continues t c =
+    rw c.in-Postings.is (alone-continues c.in-Postings.postings c.seek-in-Postings.new.self c.seek-in-Postings.ensures.follows)
+
+pub skip-returns-in-Postings-clause-once : goal.skip-returns-in-Postings-clause-once
+skip-returns-in-Postings-clause-once t c =
+    rw c.in-Postings.is (λ documents is. omega (arith, c.seek-in-Postings.ensures.once, c.seek-in-Postings.ensures.follows.counted))
+
 pub skip-returns-in-Terms-clause-now : goal.skip-returns-in-Terms-clause-now
 skip-returns-in-Terms-clause-now t c =
     let tied : AreTied c.in-Terms.terms = rw c.in-Terms.is at c.requires.1.tied in
@@ -239,6 +271,13 @@ skip-returns-in-Without-clause-now t c =
     (ap (filter test) (c.seek-in-Without.ensures.remaining ∙ ap (λ s. at_least c.args.target s.remaining) c.deref_mut-in-Without.ensures.value)
     ∙ filter-at_least c.args.target test c.in-Without.parts.kept.value.remaining
     ∙ ap (λ n. at_least c.args.target (tree_value n).remaining) (sym c.in-Without.is))
+
+pub step-returns-in-Postings-clause-now : goal.step-returns-in-Postings-clause-now
+step-returns-in-Postings-clause-now t c =
+    let tied : IsAlone c.in-Postings.postings = rw c.in-Postings.is at c.requires.1.tied in
+    IsNow-first c.doc-in-Postings.result _ _ c.doc-in-Postings.ensures.first c.doc-in-Postings.ensures.rises tt
+    (alone-follows c.in-Postings.postings c.advance-in-Postings.new.self c.advance-in-Postings.ensures.walks.follows tied)
+    (rw c.in-Postings.is c.advance-in-Postings.ensures.remaining)
 
 pub step-returns-in-Terms-clause-now : goal.step-returns-in-Terms-clause-now
 step-returns-in-Terms-clause-now t c =
@@ -446,7 +485,7 @@ step-returns-in-Or-clause-now t c =
 pub step-returns-in-Or-clause-walked : goal.step-returns-in-Or-clause-walked
 step-returns-in-Or-clause-walked t c =
     let k = c.gather.ensures.continues in
-    rw c.in-Or.is (record { continues = record { bound = k.bound; more = k.more }; whole = λ h. h })
+    rw c.in-Or.is (record { continues = record { bound = k.bound; list = k.list; more = k.more }; whole = λ h. h })
 
 pub buffered_union::gather-refill-requires : goal.buffered_union::gather-refill-requires
 buffered_union::gather-refill-requires t c =
@@ -463,4 +502,4 @@ buffered_union::gather-returns-clause-now t c =
 pub buffered_union::gather-returns-clause-continues : goal.buffered_union::gather-returns-clause-continues
 buffered_union::gather-returns-clause-continues t c =
     let k = c.refill.ensures.continues in
-    record { continues = record { bound = k.bound; more = k.more }; height = k.height }
+    record { continues = record { bound = k.bound; list = k.list; more = k.more }; height = k.height }

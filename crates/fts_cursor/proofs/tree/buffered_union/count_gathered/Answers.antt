@@ -23,7 +23,7 @@ loop-next-preserved c =
       sum = omega (arith, c.loop-next.invariant.sum, (counted c).1, c.saturating_add-count.ensures);
       fits = omega (arith, c.saturating_add-count.ensures);
       stands = c.refill-next.ensures.now.stands;
-      walked = Walked-trans _ _ _ c.loop-next.invariant.walked (record { continues = record { bound = k.bound; more = k.more }; whole = λ h. h });
+      walked = Walked-trans _ _ _ c.loop-next.invariant.walked (record { continues = record { bound = k.bound; list = k.list; more = k.more }; whole = λ h. h });
     }
 
 pub loop-next-smaller : goal.loop-next-smaller

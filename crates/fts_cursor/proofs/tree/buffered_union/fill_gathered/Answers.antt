@@ -33,7 +33,7 @@ loop-filled-preserved c =
       taken = subst (λ left. Taken (gathered c.args.buffered.now) left c.take_some-count.new.out (c.loop-filled.filled + c.take_some-count.result)) (sym is)
           (Taken-stretch _ _ _ c.loop-filled.out _ c.loop-filled.filled c.take_some-count.result c.loop-filled.invariant.taken s);
       stands = c.gather-next.ensures.now.stands;
-      walked = Walked-trans _ _ _ c.loop-filled.invariant.walked (record { continues = record { bound = k.bound; more = k.more }; whole = λ h. h });
+      walked = Walked-trans _ _ _ c.loop-filled.invariant.walked (record { continues = record { bound = k.bound; list = k.list; more = k.more }; whole = λ h. h });
       room = s.room;
     }
 

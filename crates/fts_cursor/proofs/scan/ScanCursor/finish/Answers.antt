@@ -1,8 +1,10 @@
 -- After all documents nothing is left.
-use Rattle.std.proofs.Common.{◌≤◌, length, refl, ap, sym, arith}
+use Rattle.std.proofs.Common.{◌^◌, ◌≤◌, length, refl, ap, sym, ◌∙◌, arith}
+use Rattle.fts_postings.specs.Remaining.{at_least}
 use Rattle.fts_cursor.specs.Scans.{keeps}
+use Rattle.fts_cursor.proofs.GatherLemmas.{none_from}
 use Rattle.fts_cursor.proofs.ScanLemmas.{none_behind, none_in_stretch}
-use Rattle.fts_cursor.proofs.scan.ScanCursor.count.Goals as goal
+use Rattle.fts_cursor.proofs.scan.ScanCursor.finish.Goals as goal
 
 pub invariant_of-self : goal.invariant_of-self
 invariant_of-self c =
@@ -25,3 +27,8 @@ pub returns-clause-none : goal.returns-clause-none
 returns-clause-none c =
     let s = c.self.inside in
     none_behind (keeps s.kept) 8589934592 s.docs (omega (arith, c.self.invariant.few))
+
+pub returns-clause-past : goal.returns-clause-past
+returns-clause-past c =
+    let s = c.self.inside in
+    ap (at_least (2 ^ 32)) (sym c.self.view_is) ∙ none_from (keeps s.kept) s.from s.docs s.at (2 ^ 32) (omega (arith, c.self.invariant.few))

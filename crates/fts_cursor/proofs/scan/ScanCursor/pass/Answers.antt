@@ -1,0 +1,1 @@
+-- After the greatest document there is none.
