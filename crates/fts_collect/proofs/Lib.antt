@@ -9,6 +9,7 @@ pub mod LiveLemmas
 pub mod NamesLemmas
 pub mod NumbersLemmas
 pub mod OpeningsLemmas
+pub mod PickedLemmas
 pub mod PartsLemmas
 pub mod RanksLemmas
 pub mod SeenLemmas

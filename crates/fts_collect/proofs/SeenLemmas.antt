@@ -1,5 +1,6 @@
 -- How the hits of a cursor are seen, some at a time.
-use Rattle.std.proofs.Common.{◌≡◌, ℕ, ◌+◌, ◌<◌, List, [], ◌∷◌, ◌++◌, length, take, drop, Some, None, Option, refl, sym, ap, subst, ◌∙◌, arith, append_assoc}
+use Rattle.std.proofs.Common.{◌≡◌, ℕ, zero, suc, ◌+◌, ◌<◌, List, [], ◌∷◌, ◌++◌, length, take, drop}
+use Rattle.std.proofs.Common.{Some, None, Option, refl, sym, ap, subst, ◌∙◌, arith, append_assoc}
 use Rattle.std.proofs.Common.{All}
 use Rattle.std.specs.Prelude.{slice_get}
 use Rattle.std.specs.List.{cons_option}
@@ -15,33 +16,34 @@ use Rattle.fts_collect.specs.declared.collector.Seen.{Seen}
 use Rattle.fts_collect.specs.Internals.Collected.{HasSeen, IsUnderWay, hits_at}
 
 -- where none of the first hits is at hand, there are no hits
-no_first : (xs : List ℕ) → take 128 xs ≡ [] → drop 128 xs ≡ []
-no_first [] none = refl
-no_first (x ∷ xs) none = cc
+no_first : (n : ℕ) (xs : List ℕ) → (n ≡ 0 → xs ≡ []) → take n xs ≡ [] → drop n xs ≡ []
+no_first zero xs some none = some refl
+no_first (suc n) [] some none = refl
+no_first (suc n) (x ∷ xs) some none = cc
 
 -- the first hits are at hand, and none were seen
-pub under_way-first : (segment : SegmentValue) (request : Request) (all docs remaining : List ℕ) (seen : Seen) → HasSeen segment request [] seen →
-    docs ≡ take 128 all → remaining ≡ drop 128 all → IsUnderWay segment request all docs remaining seen
-under_way-first segment request all docs remaining seen none at rest = record {
+pub under_way-first : (segment : SegmentValue) (request : Request) (all docs remaining : List ℕ) (seen : Seen) (n : ℕ) → HasSeen segment request [] seen →
+    docs ≡ take n all → remaining ≡ drop n all → (n ≡ 0 → all ≡ []) → IsUnderWay segment request all docs remaining seen
+under_way-first segment request all docs remaining seen n none at rest some = record {
   before = [];
   seen_is = none;
-  rest = ap (λ xs. xs ++ remaining) at ∙ ap (λ xs. take 128 all ++ xs) rest ∙ take-append-drop 128 all;
-  end = λ empty. rest ∙ no_first all (sym at ∙ empty);
+  rest = ap (λ xs. xs ++ remaining) at ∙ ap (λ xs. take n all ++ xs) rest ∙ take-append-drop n all;
+  end = λ empty. rest ∙ no_first n all some (sym at ∙ empty);
 }
 
 -- those at hand were seen, and the next are at hand
-pub under_way-next : (segment : SegmentValue) (request : Request) (all docs remaining more others : List ℕ) (old new : Seen) →
+pub under_way-next : (segment : SegmentValue) (request : Request) (all docs remaining more others : List ℕ) (old new : Seen) (n : ℕ) →
     IsUnderWay segment request all docs remaining old →
     ((before : List ℕ) → HasSeen segment request before old → HasSeen segment request (before ++ docs) new) →
-    more ≡ take 128 remaining → others ≡ drop 128 remaining → IsUnderWay segment request all more others new
-under_way-next segment request all docs remaining more others old new under taken at rest = record {
+    more ≡ take n remaining → others ≡ drop n remaining → (n ≡ 0 → remaining ≡ []) → IsUnderWay segment request all more others new
+under_way-next segment request all docs remaining more others old new n under taken at rest some = record {
   before = under.before ++ docs;
   seen_is = taken under.before under.seen_is;
   rest =
-      ap (λ xs. (under.before ++ docs) ++ xs) (ap (λ xs. xs ++ others) at ∙ ap (λ xs. take 128 remaining ++ xs) rest ∙ take-append-drop 128 remaining)
+      ap (λ xs. (under.before ++ docs) ++ xs) (ap (λ xs. xs ++ others) at ∙ ap (λ xs. take n remaining ++ xs) rest ∙ take-append-drop n remaining)
       ∙ append_assoc under.before docs remaining
       ∙ under.rest;
-  end = λ empty. rest ∙ no_first remaining (sym at ∙ empty);
+  end = λ empty. rest ∙ no_first n remaining some (sym at ∙ empty);
 }
 
 -- what holds of elements holds of those behind the first

@@ -1,26 +1,28 @@
 // What a segment tells of its live hits.
 ghost use Rattle.std.specs.Prelude.{◌≡◌, ◌<◌, ◌≤◌, ◌++◌, ◌^◌, ℕ, List, [], true, All, IfOk, IfSome, OnOk, IsOkUnless};
-ghost use Rattle.std.specs.Prelude.{MatchOption, Some, length, min, option_map, ◌-◌};
+ghost use Rattle.std.specs.Prelude.{MatchOption, Some, count_by, length, min, option_map, ◌-◌};
 ghost use Rattle.fts_cursor.specs.Hits.{live_hits};
 ghost use Rattle.fts_cursor.specs.Standing.{Walked};
 ghost use Rattle.fts_model.specs.declared.operation.Term.{Term};
 ghost use Rattle.fts_model.specs.Queries.{is_number_field, is_ordered_field, query_fits, request_fits};
-ghost use Rattle.fts_model.specs.QueryValues.{query_value};
+ghost use Rattle.fts_model.specs.QueryValues.{boolean, every, no_queries, queries, query_value};
 ghost use Rattle.fts_model.specs.Answers.{answer, answer_of, groups, top};
 ghost use Rattle.fts_segment.specs.Contents.{content_of};
 ghost use Rattle.fts_postings.specs.Bounds.{most_at};
+ghost use Rattle.fts_cursor.specs.Most.{Opens};
 ghost use Rattle.fts_cursor.specs.Openings.{HasMusts};
 ghost use Rattle.fts_collect.specs.Parts.{AreWalked, OpensIn};
 ghost use Rattle.fts_collect.specs.Internals.Collected.{AreHits, HasCounted, HasNumbers, HasRanked, HasSeen, HasValues};
-ghost use Rattle.fts_collect.specs.Internals.Collected.{IsTallyOf, KeysWithin, column_of, hits_at};
+ghost use Rattle.fts_collect.specs.Internals.Collected.{IsTallyOf, KeysWithin, MatchesAll, column_of, hits_at};
 
 use crate::lent::Counted;
+use crate::live_cursor::LiveCursor;
 use crate::part::Part;
 use crate::ranks::{Ranking, hits_of, numbers_of};
 use crate::tally::Tally;
 use crate::top_k::TopK;
 use crate::walk::offer_best;
-use fts_cursor::{Cursor, DocSet, HitTest, cursor_of, hit_test};
+use fts_cursor::{HitTest, cursor_of, hit_test};
 use fts_model::{Hit, Query, Refusal, Request, Top};
 use fts_pack::bits::Bits;
 use fts_pack::column::Column;
@@ -168,7 +170,7 @@ fn see(
 
 /// How many hits remain of a cursor, or the greatest `usize`, where nothing else is asked for and the cursor can tell;
 /// it passes them then.
-fn count_alone(request: &Request, cursor: &mut Cursor<'_>) -> Option<usize>
+fn count_alone(request: &Request, cursor: &mut LiveCursor<'_>) -> Option<usize>
     ensures alone { IfSome result (λ _. (request.now.groups ≡ None) × (request.now.top ≡ None)) }
     ensures counted { MatchOption result (cursor.new ≡ cursor.old)
         (λ count. (count ≡ min (2 ^ 64 - 1) (length cursor.old.remaining)) × (cursor.new.remaining ≡ [])) }
@@ -181,11 +183,11 @@ fn count_alone(request: &Request, cursor: &mut Cursor<'_>) -> Option<usize>
     }
 }
 
-/// Takes all hits that remain of a cursor: counts them alone, where that is enough, and else takes 128 at a time.
+/// Takes all hits that remain of a cursor: counts them alone, where that is enough, and else takes up to 128 at a time.
 fn see_all(
     segment: &Segment,
     request: &Request,
-    cursor: &mut Cursor<'_>,
+    cursor: &mut LiveCursor<'_>,
     seen: &mut Seen,
 ) -> Result<(), AllocError>
     requires fits { request_fits segment.now.schema request.now ≡ true }
@@ -200,10 +202,10 @@ fn see_all(
         return Ok(());
     }
     let mut docs = [0u32; 128];
-    let mut len = cursor.fill(&mut docs);
+    let mut len = cursor.take(&mut docs);
     while len > 0 {
         see(segment, request, &docs[..len], seen)?;
-        len = cursor.fill(&mut docs);
+        len = cursor.take(&mut docs);
     }
     Ok(())
 }
@@ -214,7 +216,7 @@ fn see_beside(
     request: &Request,
     top: Top,
     top_k: TopK,
-    cursor: &mut Cursor<'_>,
+    cursor: &mut LiveCursor<'_>,
     seen: &mut Seen,
 ) -> Result<(), AllocError>
     requires fits { request_fits segment.now.schema request.now ≡ true }
@@ -236,14 +238,15 @@ fn see_beside(
 }
 
 /// The same where a document's number tells whether it is a hit, and a top list is asked for: the first hits are looked
-/// for among the documents with the best numbers.
+/// for among the documents with the best numbers. There are about `count` hits.
 fn see_told(
     alloc: Global,
     segment: &Segment,
     hits: &HitTest,
+    count: usize,
     request: &Request,
     top: Top,
-    cursor: &mut Cursor<'_>,
+    cursor: &mut LiveCursor<'_>,
     seen: &mut Seen,
 ) -> Result<(), AllocError>
     requires fits { request_fits segment.now.schema request.now ≡ true }
@@ -256,11 +259,56 @@ fn see_told(
     ensures walked { OnOk result (Walked cursor.old cursor.new) }
 {
     let mut top_k = TopK::new(alloc, top.k as usize);
-    let done = offer_best(alloc, segment, top, hits, &mut top_k)?;
+    let done = offer_best(alloc, segment, top, hits, count, &mut top_k)?;
     if done {
         return see_beside(segment, request, top, top_k, cursor, seen);
     }
     see_all(segment, request, cursor, seen)
+}
+
+/// Whether a query is the one that each document matches.
+fn is_every(query: &Query) -> bool
+    ensures { result ≡ true → query_value query.now ≡ every }
+{
+    match query {
+        Query::All => true,
+        Query::None
+        | Query::Term(_)
+        | Query::Phrase { .. }
+        | Query::Range { .. }
+        | Query::Bool { .. } => false,
+    }
+}
+
+/// The should of which a query consists, if it is Boolean and has nothing else.
+fn only_should(query: &Query) -> Option<&Query>
+    ensures { IfSome result (λ only. query_value query.now
+        ≡ boolean no_queries no_queries (queries (query_value only.now) no_queries)) }
+{
+    let Query::Bool {
+        must,
+        must_not,
+        should,
+    } = query
+    else {
+        return None;
+    };
+    match should.as_slice() {
+        [only] if must.is_empty() && must_not.is_empty() => Some(only),
+        _ => None,
+    }
+}
+
+/// How many live hits a query has, where that is known without looking for them: each document matches it.
+fn count_known(live: &Bits, query: &Query) -> Option<usize>
+    ensures { IfSome result (λ count. MatchesAll (query_value query.now)
+        × (count ≡ count_by (λ bit. bit) live.now)) }
+{
+    if is_every(only_should(query).unwrap_or(query)) {
+        Some(live.count_ones())
+    } else {
+        None
+    }
 }
 
 /// Takes all hits that remain of the cursor of a query.
@@ -270,7 +318,7 @@ fn see_hits(
     live: &Bits,
     query: &Query,
     request: &Request,
-    cursor: &mut Cursor<'_>,
+    cursor: &mut LiveCursor<'_>,
     seen: &mut Seen,
 ) -> Result<(), AllocError>
     requires fits { request_fits segment.now.schema request.now ≡ true }
@@ -289,7 +337,11 @@ fn see_hits(
     let Some(hits) = hit_test(alloc, segment, live, query)? else {
         return see_all(segment, request, cursor, seen);
     };
-    see_told(alloc, segment, &hits, request, top, cursor, seen)
+    let count = match count_known(live, query) {
+        None => hits.estimate(),
+        Some(count) => count,
+    };
+    see_told(alloc, segment, &hits, count, request, top, cursor, seen)
 }
 
 /// What is kept of no hits.
@@ -348,7 +400,7 @@ fn part_of(
     live: &Bits,
     query: &Query,
     request: &Request,
-    cursor: &mut Cursor<'_>,
+    cursor: &mut LiveCursor<'_>,
 ) -> Result<Part, AllocError>
     requires fits { request_fits segment.now.schema request.now ≡ true }
     requires documents { HasValues segment.now }
@@ -384,10 +436,65 @@ fn musts_of(query: &Query) -> usize
     }
 }
 
+/// What a segment tells of its live hits, which remain of a cursor of the query.
+fn collected(
+    alloc: Global,
+    segment: &Segment,
+    live: &Bits,
+    query: &Query,
+    request: &Request,
+    cursor: LiveCursor<'_>,
+) -> Result<Part, AllocError>
+    requires bits { length live.now ≡ length segment.now.documents }
+    requires query { query_fits segment.now.schema (query_value query.now) ≡ true }
+    requires request { request_fits segment.now.schema request.now ≡ true }
+    requires hits { cursor.remaining ≡ live_hits segment.now live.now (query_value query.now) }
+    requires opens { Opens segment.now (query_value query.now) cursor }
+    ensures part { IfOk result (λ part. part.answer ≡ answer segment.now.schema
+        (query_value query.now) request.now (content_of segment.now live.now)) }
+    ensures openings { IfOk result (OpensIn segment.now (query_value query.now)) }
+    ensures walked { IfOk result (λ part. AreWalked segment.now (query_value query.now) part.openings) }
+{
+    // A count of openings has 64 bits: neither the documents nor the musts are more.
+    let _documents = segment.docs();
+    let _musts = musts_of(query);
+    let mut cursor = cursor;
+    let part = part_of(alloc, segment, live, query, request, &mut cursor)?;
+    Ok(part)
+}
+
+/// Of how many documents one has a term at least, if the term is frequent.
+const DOCS_PER_HIT: usize = 64;
+
+/// Whether a query is one term, which many documents have. A word in the field that is searched by default is the only
+/// should of a query that is itself the only one.
+fn is_frequent_term(segment: &Segment, query: &Query) -> bool {
+    let clause = only_should(query).unwrap_or(query);
+    let Query::Term(term) = only_should(clause).unwrap_or(clause) else {
+        return false;
+    };
+    match segment.find(term) {
+        None => false,
+        Some(list) => segment.postings(list).len() >= segment.docs() / DOCS_PER_HIT,
+    }
+}
+
+/// Whether live hits are picked as they are taken, from a cursor of all hits. A cursor of the live ones would give 128
+/// at a time, and step to those that the dead left room for.
+fn picks(segment: &Segment, live: &Bits, query: &Query, request: &Request) -> bool {
+    if live.count_ones() == live.len() {
+        return false;
+    }
+    match request.groups {
+        None => count_known(live, query).is_some(),
+        Some(_) => is_frequent_term(segment, query),
+    }
+}
+
 /// What a segment tells of its live hits, if `live` has one bit per document: the answer to the query and the request
 /// over its live documents in their order, and the openings of a cursor that ran to its end.
 ///
-/// The hits come from a cursor, 128 at a time, and nothing is kept of them but what the request wants: counts by
+/// The hits come from a cursor, up to 128 at a time, and nothing is kept of them but what the request wants: counts by
 /// number, the first keys, and in the end a handle for each document of the top list. Where bits and columns tell the
 /// hits, the first keys are looked for among the documents with the best numbers, if these are few enough; the openings
 /// don't count the lists of these.
@@ -408,10 +515,16 @@ pub fn collect(
     ensures walked { IfOk result (λ part. AreWalked segment.now (query_value query.now) part.openings) }
     ensures memory { IsOkUnless result Refusal.Memory }
 {
-    // A count of openings has 64 bits: neither the documents nor the musts are more.
+    // Documents are numbered in 32 bits.
     let _documents = segment.docs();
-    let _musts = musts_of(query);
-    let mut cursor = cursor_of(alloc, segment, live, query)?;
-    let part = part_of(alloc, segment, live, query, request, &mut cursor)?;
+    if picks(segment, live, query, request) {
+        let every = Bits::all_set(alloc, live.len())?;
+        let cursor = cursor_of(alloc, segment, &every, query)?;
+        let cursor = LiveCursor::picked(cursor, live, count_known(live, query));
+        let part = collected(alloc, segment, live, query, request, cursor)?;
+        return Ok(part);
+    }
+    let cursor = LiveCursor::all(cursor_of(alloc, segment, live, query)?);
+    let part = collected(alloc, segment, live, query, request, cursor)?;
     Ok(part)
 }

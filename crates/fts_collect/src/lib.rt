@@ -12,6 +12,7 @@
 mod collector;
 mod groups;
 mod lent;
+mod live_cursor;
 mod order;
 mod part;
 mod ranks;

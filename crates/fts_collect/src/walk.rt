@@ -182,12 +182,13 @@ fn are_enough(hits: &[u32], k: u64, bounds: (u64, u64), range: (u64, u64)) -> bo
 }
 
 /// Offers the hits that have the best numbers, if it takes fewer steps than to offer all, and gives whether no other is
-/// one of the first. Otherwise nothing is offered.
+/// one of the first. Otherwise nothing is offered. There are about `count` hits.
 pub(crate) fn offer_best(
     alloc: Global,
     segment: &Segment,
     top: Top,
     hits: &HitTest,
+    count: usize,
     top_k: &mut TopK,
 ) -> Result<bool, AllocError>
     requires number { is_number_field segment.now.schema top.by ≡ true }
@@ -205,7 +206,6 @@ pub(crate) fn offer_best(
         return Ok(false);
     };
     let range = (least, greatest);
-    let count = hits.estimate();
     let docs = docs_for(top.k, count, segment.docs());
     let most = most_docs(top.k, count);
     if docs > most {

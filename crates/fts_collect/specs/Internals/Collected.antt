@@ -14,7 +14,9 @@ use Rattle.fts_model.specs.declared.operation.Stamped.{Stamped}
 use Rattle.fts_model.specs.Schemas.{holds_numbers}
 use Rattle.fts_model.specs.Documents.{DocumentValue, CanHave, is_of_kind, value_in_field}
 use Rattle.fts_model.specs.Operations.{kind_at}
-use Rattle.fts_model.specs.Queries.{is_number_field}
+use Rattle.fts_model.specs.Queries.{is_number_field, matches}
+use Rattle.fts_model.specs.QueryValues.{QueryValue}
+use Rattle.fts_model.specs.declared.schema.Field.{Field}
 use Rattle.fts_segment.specs.Segments.{SegmentValue, column, keywords, ordinals}
 use Rattle.fts_collect.specs.declared.collector.Seen.{Seen}
 use Rattle.fts_collect.specs.declared.tally.Tally.{Tally}
@@ -107,3 +109,7 @@ pub record IsUnderWay
   pub seen_is : HasSeen segment request before seen
   pub rest : before ++ (docs ++ remaining) ≡ all
   pub end : docs ≡ [] → remaining ≡ []
+
+-- each document matches a query
+abbrev pub MatchesAll : QueryValue → Type 0
+MatchesAll query = (schema : List Field) (document : DocumentValue) → matches schema document query ≡ true
