@@ -12,7 +12,9 @@ pub use Rattle.fts_engine.specs.Limits
 pub use Rattle.fts_engine.specs.ListIndexes
 pub use Rattle.fts_engine.specs.Steps
 pub use Rattle.fts_engine_local.specs.CountedIndexes
+pub use Rattle.fts_engine_local.specs.EndedMerges
 pub use Rattle.fts_engine_local.specs.LocalIndexes
+pub use Rattle.fts_engine_local.specs.LocalPolicies
 pub use Rattle.fts_engine_index.specs.WriterIndexes
 pub use Rattle.fts_cli.specs.Arguments
 pub use Rattle.fts_cli.specs.RunOptions

@@ -6,5 +6,6 @@ pub use fts_cli::args::{ArgFault, Asked, args};
 pub use fts_cli::status::{arg_status, status};
 pub use fts_engine::{Engine, EngineOver, ListEngine, Merge, Options};
 pub use fts_engine_index::{IndexEngine, LocalEngine};
+pub use fts_engine_local::BegunMerge;
 pub use fts_model::Cut;
 pub use fts_script::{Fault, Plain, ScriptIn, ScriptOut, StreamError, Streams, run_script};

@@ -1,9 +1,11 @@
 -- An index over a writer of segments and uncommitted operations.
 use Rattle.std.specs.Prelude.{◌≡◌, Bool, ℕ, ◌≤◌, Option, Some, List, length}
+use Rattle.fts_snapshots.specs.Snapshots.{SnapshotValue}
 use Rattle.fts_snapshots.specs.declared.entries.entry.SegmentInfo.{SegmentInfo}
 use Rattle.fts_index.specs.Publications.{Known}
 use Rattle.fts_index.specs.Writers.{WriterValue}
 use Rattle.fts_engine.specs.Indexes.{Index}
+use Rattle.fts_engine.specs.declared.options.Merge.{Merge}
 use Rattle.fts_engine_local.specs.CountedIndexes.{IsCounted, index_at}
 use Rattle.fts_engine_index.specs.declared.uncommitted.Uncommitted.{Uncommitted}
 use Rattle.fts_engine_index.specs.UncommittedOperations.{ops_of, IsUncommittedIn}
@@ -25,10 +27,14 @@ pub record IsIndexEngine (w : WriterValue) (reader : Option Known) (uncommitted 
   pub rounds : w.rounds ≤ calls
   pub counted : IsCounted w.front.stamp w.front.snapshot (ops_of uncommitted) calls
 
--- an engine: what it stands for, how many calls changed it, and what no reply shows: its segments, and whether it has
--- a reader
+-- an engine: what it stands for, how many calls changed it, and what no reply shows: how large its segments are, if it
+-- has a reader, the segments of its last commit, when it merges, and whether all that was due after that commit was
+-- merged
 pub record EngineValue : Type 0 where
   pub index : Index
   pub calls : ℕ
   pub segments : List SegmentInfo
   pub has_reader : Bool
+  pub snapshot : SnapshotValue
+  pub merge : Merge
+  pub is_merged : Bool

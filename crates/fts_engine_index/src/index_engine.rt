@@ -74,6 +74,8 @@ pub struct IndexEngine {
     count: u64,
     /// How many calls changed something.
     calls: u64,
+    /// Whether all that was due after the last commit was merged: memory may have run out for some.
+    is_merged: bool,
 }
 
 impl Model for IndexEngine {
@@ -88,6 +90,9 @@ impl Model for IndexEngine {
       calls = e.calls;
       segments = map info_of e.writer.front.snapshot.entries;
       has_reader = is_some e.reader;
+      snapshot = e.writer.front.snapshot;
+      merge = e.options.merge;
+      is_merged = e.is_merged;
     } };
 
     ghost invariant = { λ e. IsIndexEngine e.writer e.reader e.uncommitted e.count e.calls };
@@ -107,6 +112,14 @@ impl IndexEngine {
         ensures { result ≡ self.now.has_reader }
     {
         self.reader.is_some()
+    }
+
+    /// Whether all that was due after the last commit was merged. If memory ran out for some, their segments are left
+    /// to the next commit. No reply shows it.
+    pub fn is_merged(&self) -> bool
+        ensures { result ≡ self.now.is_merged }
+    {
+        self.is_merged
     }
 }
 
@@ -140,6 +153,13 @@ impl Engine for IndexEngine {
 }
 
 impl<R: AllocGlobal + Threads + Wait + Sync> EngineOver<R> for IndexEngine {
+    ghost use Rattle.std.specs.Prelude.{◌+◌, ◌^◌, ◌≤◌, OnOk};
+    ghost use Rattle.std.specs.Thread.{IsSync};
+    ghost use Rattle.fts_merge.specs.Levels.{usual};
+    ghost use Rattle.fts_engine.specs.Indexes.{indexes};
+    ghost use Rattle.fts_engine.specs.Steps.{commit, Steps};
+    ghost use Rattle.fts_engine_local.specs.CountedIndexes.{CommitsAndMerges};
+
     fn open(rt: &R, options: Options, schema: Schema) -> Result<Self, Refusal> {
         let alloc = rt.alloc();
         let mut writer = Writer::new(rt, alloc, &schema)?;
@@ -152,10 +172,19 @@ impl<R: AllocGlobal + Threads + Wait + Sync> EngineOver<R> for IndexEngine {
             uncommitted: Uncommitted::Nothing,
             count: 0,
             calls: 0,
+            is_merged: true,
         })
     }
 
-    fn commit(&mut self, rt: &R) -> Result<Stamp, Refusal> {
+    /// Commits, and then merges what is due.
+    fn commit(&mut self, rt: &R) -> Result<Stamp, Refusal>
+        requires changes { self.old.calls ≤ 2 ^ 61 }
+        requires sync { IsSync R.row }
+        ensures step { Steps (commit indexes self.old.index) self.old.index self.new.index result }
+        ensures changes { self.new.calls ≤ self.old.calls + 1 }
+        ensures merged { OnOk result (CommitsAndMerges self.old.merge usual self.old.index.uncommitted
+            self.old.snapshot self.new.snapshot self.new.is_merged) }
+    {
         self.calls += 1;
         let alloc = self.alloc;
         let options = self.options;
@@ -167,13 +196,14 @@ impl<R: AllocGlobal + Threads + Wait + Sync> EngineOver<R> for IndexEngine {
             options,
         )?;
         self.count = 0;
-        let _ = merge_after(
+        let merged = merge_after(
             rt,
             alloc,
             &mut self.writer,
             options.merge,
             &MergePolicy::usual(),
         );
+        self.is_merged = merged.is_ok();
         tell(&mut self.reader, &committed.seen);
         look(&self.writer, &mut self.reader);
         Ok(committed.stamp)
@@ -209,6 +239,7 @@ impl<R: AllocGlobal + Threads + Wait + Sync> EngineOver<R> for IndexEngine {
             uncommitted: _,
             count: _,
             calls: _,
+            is_merged: _,
         } = self;
         drop(reader);
         writer.close(rt);

@@ -1,10 +1,11 @@
 -- What both engines over segments share: an index at a commit, what calls take of numbers, and the merges after a
 -- commit.
-use Rattle.std.specs.Prelude.{◌≡◌, ℕ, ◌+◌, ◌*◌, ◌≤◌, None, List, length}
+use Rattle.std.specs.Prelude.{◌≡◌, Bool, true, ℕ, ◌+◌, ◌*◌, ◌≤◌, None, List, length}
 use Rattle.fts_merge.specs.declared.policy.MergePolicy.{MergePolicy}
 use Rattle.fts_model.specs.declared.operation.Op.{Op}
 use Rattle.fts_model.specs.declared.operation.Stamped.{Stamped}
 use Rattle.fts_snapshots.specs.Candidates.{after_candidates, due}
+use Rattle.fts_snapshots.specs.Changes.{Commits}
 use Rattle.fts_snapshots.specs.Commits.{misfit}
 use Rattle.fts_snapshots.specs.Infos.{candidate_ids_by}
 use Rattle.fts_snapshots.specs.Snapshots.{SnapshotValue, content_of, segments_and_numbers}
@@ -32,3 +33,10 @@ pub record IsCounted (stamp : ℕ) (snapshot : SnapshotValue) (uncommitted : Lis
 abbrev pub after_policy : Merge → MergePolicy → SnapshotValue → SnapshotValue
 after_policy Off policy s = s
 after_policy Policy policy s = after_candidates (due (candidate_ids_by policy s.entries)) s
+
+-- Operations were committed, and what is due by a policy of what they left was merged, unless memory ran out for some.
+pub record CommitsAndMerges (merge : Merge) (policy : MergePolicy) (ops : List (Stamped Op)) (old new : SnapshotValue)
+    (is_merged : Bool) : Type 0 where
+  pub made : SnapshotValue
+  pub commits : Commits ops old made
+  pub merges : is_merged ≡ true → new ≡ after_policy merge policy made

@@ -1,4 +1,8 @@
 -- The definitions that contracts cite.
+pub mod BegunMerges
 pub mod CountedIndexes
+pub mod EndedMerges
+pub mod LaterCommits
 pub mod LocalIndexes
+pub mod LocalPolicies
 pub mod Stats

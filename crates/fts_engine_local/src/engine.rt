@@ -1,7 +1,9 @@
 // An index over segments that needs nothing but memory: no other thread, and nothing to wait for.
 ghost use Rattle.std.specs.Prelude.{◌≡◌, ◌+◌, ◌^◌, ◌<◌, ◌++◌, ◌∷◌, [], OnOk, OnErr};
 
+use crate::begun::{BegunMerge, Place, begun, ended, is_memory};
 use crate::merges::{merge_after, policy};
+use crate::merging::Merging;
 use crate::next_commit::next_commit;
 use crate::stats::{Stats, stats_of};
 use fts_engine::{Engine, EngineOver, Fork, MOST_UNCOMMITTED, Merge, Options, Pairs};
@@ -64,11 +66,19 @@ pub struct LocalEngine {
     uncommitted: Vec<Stamped<Op>>,
     /// How many calls changed something.
     calls: u64,
+    /// Whether all that was due after the last commit was merged: memory may have run out for some.
+    is_merged: bool,
+    /// A commit merges no segment of more live documents than this, if there is a limit.
+    limit: Option<u32>,
+    /// Where the merge that was begun last puts what it makes.
+    begun: Option<Arc<Place>>,
 }
 
 impl Model for LocalEngine {
     ghost use Rattle.std.specs.Arc.{arc_value};
+    ghost use Rattle.std.specs.Option.{option_map};
     ghost use Rattle.fts_engine_local.specs.CountedIndexes.{index_at};
+    ghost use Rattle.fts_engine_local.specs.declared.begun.Place.{Place};
     ghost use Rattle.fts_engine_local.specs.LocalIndexes.{IsLocalEngine, LocalValue};
     ghost use Rattle.fts_engine_local.specs.Stats.{stats_of};
 
@@ -78,13 +88,21 @@ impl Model for LocalEngine {
       index = index_at (arc_value e.commit).stamp (arc_value e.commit).snapshot e.uncommitted.items;
       calls = e.calls;
       stats = stats_of (arc_value e.commit).snapshot.entries;
+      snapshot = (arc_value e.commit).snapshot;
+      merge = e.merge;
+      is_merged = e.is_merged;
+      begun = option_map (λ place. (arc_value {X = Place} place).made) e.begun;
+      limit = e.limit;
     } };
 
-    ghost invariant = { λ e. IsLocalEngine (arc_value e.commit) e.uncommitted.items e.cut e.calls };
+    ghost invariant = { λ e. IsLocalEngine (arc_value e.commit) e.uncommitted.items e.cut e.calls
+        (option_map (λ place. (arc_value {X = Place} place).made) e.begun) };
 }
 
 impl LocalEngine {
-    ghost use Rattle.std.specs.Prelude.{◌≡◌, ◌≤◌, length};
+    ghost use Rattle.std.specs.Prelude.{◌≡◌, ◌<◌, ◌≤◌, ◌^◌, List, Option, length};
+    ghost use Rattle.fts_snapshots.specs.Entries.{EntryValue};
+    ghost use Rattle.fts_engine_local.specs.EndedMerges.{EndsMerge};
     ghost use Rattle.fts_engine_local.specs.LocalIndexes.{LocalValue};
 
     /// How large the index is at its last commit. Each segment has a live document.
@@ -95,6 +113,63 @@ impl LocalEngine {
         ensures documents { result.live ≤ result.documents }
     {
         stats_of(self.commit.snapshot.entries())
+    }
+
+    /// Whether all that was due after the last commit was merged. If memory ran out for some, their segments are left
+    /// to the next commit. No reply shows it.
+    pub fn is_merged(&self) -> bool
+        ensures { result ≡ self.now.is_merged }
+    {
+        self.is_merged
+    }
+
+    /// From now on, commits merge no segment of more live documents than this, and none by itself; without a limit,
+    /// they merge whatever the policy names.
+    pub fn limit_merges(&mut self, limit: Option<u32>)
+        ensures { self.new ≡ record self.old { limit = limit } }
+    {
+        self.limit = limit;
+    }
+
+    /// Begins a merge of what the policy names first, if it names anything: it may be run in any thread, while the
+    /// engine goes on. The engine forgets the one that was begun before.
+    pub fn begin_merge(&mut self) -> Result<Option<BegunMerge>, Refusal>
+        ensures { (begun : Option (List EntryValue)) × (self.new ≡ record self.old { begun = begun }) }
+    {
+        let Some((merge, place)) = begun(self.alloc, &self.commit.snapshot)? else {
+            return Ok(None);
+        };
+        self.begun = Some(place);
+        Ok(Some(merge))
+    }
+
+    /// Ends the merge that was begun last, if there is one and it was run, and tells whether: the segment takes the
+    /// place of its sources, with the live bits that these have by then. Nothing is found differently by it.
+    ///
+    /// `SourceGone` if a source is gone, by which the merge is given up.
+    pub fn end_merge(&mut self) -> Result<bool, Refusal>
+        requires { self.old.calls < 2 ^ 61 }
+        ensures { EndsMerge self.old self.new result }
+    {
+        self.calls += 1;
+        let Some(place) = &self.begun else {
+            return Ok(false);
+        };
+        match ended(self.alloc, place, &self.commit) {
+            Ok(Some(commit)) => {
+                self.commit = commit;
+                self.begun = None;
+                Ok(true)
+            }
+            Ok(None) => Ok(false),
+            Err(refusal) => {
+                if is_memory(refusal) {
+                    return Err(Refusal::Memory);
+                }
+                self.begun = None;
+                Err(refusal)
+            }
+        }
     }
 }
 
@@ -108,6 +183,9 @@ impl Fork for LocalEngine {
             commit,
             uncommitted: Vec::new(self.alloc),
             calls: self.calls,
+            is_merged: self.is_merged,
+            limit: self.limit,
+            begun: None,
         })
     }
 }
@@ -160,6 +238,13 @@ impl Pairs for LocalEngine {
 }
 
 impl<R: AllocGlobal + Sync> EngineOver<R> for LocalEngine {
+    ghost use Rattle.std.specs.Prelude.{◌≤◌};
+    ghost use Rattle.std.specs.Thread.{IsSync};
+    ghost use Rattle.fts_engine.specs.Indexes.{indexes};
+    ghost use Rattle.fts_engine.specs.Steps.{commit, Steps};
+    ghost use Rattle.fts_engine_local.specs.CountedIndexes.{CommitsAndMerges};
+    ghost use Rattle.fts_engine_local.specs.LocalPolicies.{local_policy};
+
     fn open(rt: &R, options: Options, schema: Schema) -> Result<Self, Refusal> {
         let alloc = rt.alloc();
         let snapshot = Snapshot::new(alloc, schema);
@@ -171,14 +256,33 @@ impl<R: AllocGlobal + Sync> EngineOver<R> for LocalEngine {
             commit,
             uncommitted: Vec::new(alloc),
             calls: 0,
+            is_merged: true,
+            limit: None,
+            begun: None,
         })
     }
 
-    fn commit(&mut self, rt: &R) -> Result<Stamp, Refusal> {
+    /// Commits, and then merges what is due.
+    fn commit(&mut self, rt: &R) -> Result<Stamp, Refusal>
+        requires changes { self.old.calls ≤ 2 ^ 61 }
+        requires sync { IsSync R.row }
+        ensures step { Steps (commit indexes self.old.index) self.old.index self.new.index result }
+        ensures changes { self.new.calls ≤ self.old.calls + 1 }
+        ensures merged { OnOk result (CommitsAndMerges self.old.merge (local_policy self.old.limit)
+            self.old.index.uncommitted self.old.snapshot self.new.snapshot self.new.is_merged) }
+    {
         self.calls += 1;
-        let mut commit = next_commit(self.alloc, &self.commit, &self.uncommitted, self.cut)?;
-        let _ = merge_after(rt, self.alloc, &mut commit, self.merge, &policy());
-        self.commit = commit;
+        let commit = next_commit(self.alloc, &self.commit, &self.uncommitted, self.cut)?;
+        let mut merging = Merging { commit };
+        let merged = merge_after(
+            rt,
+            self.alloc,
+            &mut merging,
+            self.merge,
+            &policy(self.limit),
+        );
+        self.is_merged = merged.is_ok();
+        self.commit = merging.commit;
         let_go(&mut self.uncommitted);
         Ok(self.commit.stamp)
     }
@@ -191,7 +295,11 @@ impl<R: AllocGlobal + Sync> EngineOver<R> for LocalEngine {
 
     fn merge(&mut self, rt: &R) -> Result<u64, Refusal> {
         self.calls += 1;
-        merge_all(rt, self.alloc, &mut self.commit)
+        let commit = Arc::try_clone(&self.commit)?;
+        let mut merging = Merging { commit };
+        let live = merge_all(rt, self.alloc, &mut merging)?;
+        self.commit = merging.commit;
+        Ok(live)
     }
 
     fn search(&mut self, rt: &R, query: &Query, request: &Request) -> Result<Answer, Refusal> {

@@ -3,6 +3,8 @@
 //! [`LocalEngine`] is an engine of scripts that does all of its work in the calling thread: it needs memory and nothing
 //! else, starts no thread and waits for none, and so can be in a library that a program of another language calls.
 //! It takes the same steps as a plain list of documents, and its forks share a commit, each in a thread of its own.
+//! A limit keeps its commits from merging large segments: it begins such a merge, another thread runs it
+//! ([`BegunMerge`]), and it ends it.
 //!
 //! ```text
 //! let mut session: Session<LocalEngine> = Session::new(options);
@@ -10,11 +12,14 @@
 //! ```
 #![tactic(auto)]
 
+mod begun;
 mod engine;
 mod merges;
+mod merging;
 mod next_commit;
 mod stats;
 
+pub use begun::BegunMerge;
 pub use engine::LocalEngine;
 pub use merges::merge_after;
 pub use stats::Stats;

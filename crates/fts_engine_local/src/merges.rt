@@ -3,6 +3,7 @@ ghost use Rattle.std.specs.Prelude.{◌≡◌, ◌≤◌, OnOk, IsOkUnless};
 ghost use Rattle.fts_model.specs.Limits.{most_merged};
 ghost use Rattle.fts_snapshots.specs.Changes.{Merges};
 ghost use Rattle.fts_engine_local.specs.CountedIndexes.{after_policy};
+ghost use Rattle.fts_engine_local.specs.LocalPolicies.{local_policy};
 
 use fts_engine::Merge;
 use fts_model::Refusal;
@@ -39,14 +40,26 @@ pub fn merge_after<R, S: Mergeable<R>>(
 /// and no segment has over a third of its documents dead for long, so that updates of the same documents over and over
 /// keep some 120 of 100. By a model (`bench/updates.py policies`) commits of ten updates of 100,000 documents move 60
 /// documents each and leave 14 segments, where the levels of the stated policy move 960 and leave 8.
-pub(crate) fn policy() -> MergePolicy
+///
+/// Under a limit, this is what commits merge: no segment of more live documents, and none by itself. The rest waits for
+/// a merge that is begun, which goes by the policy without a limit.
+pub(crate) fn policy(limit: Option<u32>) -> MergePolicy
+    ensures policy { result ≡ local_policy limit }
     ensures floor { result.floor ≤ most_merged }
     ensures most { result.most ≤ most_merged }
 {
-    MergePolicy {
-        floor: 100,
-        members: 6,
-        most: 1_000_000,
-        dead: 33,
+    match limit {
+        Some(most) => MergePolicy {
+            floor: 100,
+            members: 6,
+            most: most.min(1_000_000),
+            dead: 100,
+        },
+        None => MergePolicy {
+            floor: 100,
+            members: 6,
+            most: 1_000_000,
+            dead: 33,
+        },
     }
 }

@@ -6,6 +6,7 @@ ghost use Rattle.fts_model.specs.Operations.{stamps_of};
 ghost use Rattle.fts_snapshots.specs.Changes.{Commits};
 ghost use Rattle.fts_snapshots.specs.Commits.{misfit};
 ghost use Rattle.fts_snapshots.specs.Cuts.{IsCut};
+ghost use Rattle.fts_snapshots.specs.Successors.{Follows};
 
 use fts_model::{Cut, Op, Refusal, Stamped};
 use fts_snapshots::Commit;
@@ -25,6 +26,7 @@ pub(crate) fn next_commit(
     requires stamps { last.now.stamp + length ops.now + 1 < 2 ^ 62 }
     requires numbers { last.now.snapshot.next_id + length ops.now ≤ 2 ^ 62 }
     ensures commits { IfOk result (λ next. Commits ops.now last.now.snapshot (arc_value next).snapshot) }
+    ensures follows { IfOk result (λ next. Follows last.now.snapshot (arc_value next).snapshot) }
     ensures stamp { IfOk result (λ next. (arc_value next).stamp ≡ last.now.stamp + length ops.now + 1) }
     ensures memory { IsOkUnless result Refusal.Memory }
 {

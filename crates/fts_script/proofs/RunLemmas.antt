@@ -333,13 +333,6 @@ Wrote-part before now after s p input gathered n last sent r = record {
   so = BeginsWith-take (output input) r.out gathered n ([], sym (last.ends input r.out r.answered) ∙ sym (append-nil (r.out ++ gathered)));
 }
 
-pub Wrote-whole : (before now : List ℕ) (input : List ℕ) → Wrote before now (λ out. out ≡ output input) → Wrote before now (BeginsWith (output input))
-Wrote-whole before now input w = record {
-  bytes = w.bytes;
-  taken = w.taken;
-  so = ([], sym w.so ∙ sym (append-nil w.bytes));
-}
-
 pub Wrote-start : (before now : List ℕ) (s : SessionValue) (p : KeptLine) (input : List ℕ) →
     RunState before now s p input → Wrote before now (BeginsWith (output input))
 Wrote-start before now s p input r =

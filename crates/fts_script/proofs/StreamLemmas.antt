@@ -1,5 +1,6 @@
 -- What calls of a stream add up to.
-use Rattle.std.proofs.Common.{◌≡◌, ℕ, Result, Ok, Err, List, [], ◌++◌, Option, sym, ap, ◌∙◌, append_assoc, append-nil, take}
+use Rattle.std.proofs.Common.{◌≡◌, ℕ, Result, Ok, Err, List, [], ◌++◌, Option, sym, ap, ◌∙◌, append_assoc, append-nil, take, length, arith}
+use Rattle.std.proofs.lemmas.List.{take_all}
 use Rattle.std.proofs.KnownBytes.{Appends-nil, Appends-trans, Appends-kept, Consumes-nil, Consumes-trans, Consumes-kept}
 use Rattle.std.specs.Io.KnownBytes.{Keeps, ReadConsumes, WriteAppends}
 use Rattle.fts_script.specs.Streams.{bytes_moved, GainsTaken, LosesGiven}
@@ -7,6 +8,10 @@ use Rattle.fts_script.specs.Streams.{bytes_moved, GainsTaken, LosesGiven}
 -- two lists behind one another are a list behind the first
 pub append_more : (a b c bs cs : List ℕ) → b ≡ a ++ bs → c ≡ b ++ cs → c ≡ a ++ (bs ++ cs)
 append_more a b c bs cs e f = f ∙ ap (λ v. v ++ cs) e ∙ append_assoc a bs cs
+
+-- all of a list is a part of it
+pub all_taken : (a b c : List ℕ) → c ≡ a ++ b → (n : ℕ) × (c ≡ a ++ take n b)
+all_taken a b c e = (length b, e ∙ ap (λ v. a ++ v) (sym (take_all (length b) b (omega arith))))
 
 -- no call
 pub LosesGiven-none : (a : List ℕ) (x : Option (List ℕ)) → LosesGiven a a x x

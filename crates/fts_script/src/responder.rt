@@ -47,6 +47,27 @@ fn send<W: ScriptOut>(writer: &mut W, replies: &mut String) -> Result<(), Fault>
     Ok(())
 }
 
+/// Writes the last replies, and flushes all.
+fn send_last<W: ScriptOut>(writer: &mut W, replies: &mut String) -> Result<(), Fault>
+    ensures flushed_all { OnOk result (W.flushed writer.new ≡ W.taken writer.new) }
+    ensures flushed { OnOk result (W.flushes writer.old < W.flushes writer.new) }
+    ensures ok { OnOk result
+        (W.taken writer.new ≡ W.taken writer.old ++ string_bytes replies.old) }
+    ensures err { OnErr result ((n : ℕ)
+        × (W.taken writer.new ≡ W.taken writer.old ++ take n (string_bytes replies.old))) }
+    ensures held { GainsTaken (W.taken writer.old) (W.taken writer.new) (W.held writer.old)
+        (W.held writer.new) }
+    ensures write { OnErr result (result ≡ Err Fault.Write) }
+    ensures fails { OnErr result (W.failed writer.new ≡ W.failed writer.old + 1) }
+    ensures none_fails { OnOk result (W.failed writer.new ≡ W.failed writer.old) }
+{
+    send(writer, replies)?;
+    match writer.flush() {
+        Ok(()) => Ok(()),
+        Err(_) => Err(Fault::Write),
+    }
+}
+
 /// Answers a script that comes in pieces. It is ended by `end`, `close` or a fault.
 pub struct Responder<E: Engine> {
     session: Session<E>,
@@ -290,10 +311,7 @@ impl<E: Engine> Responder<E> {
         } = self;
         session.close(rt);
         ended?;
-        send(writer, &mut replies)?;
-        if writer.flush().is_err() {
-            return Err(Fault::Write);
-        }
+        send_last(writer, &mut replies)?;
         Ok(())
     }
 

@@ -10,6 +10,8 @@ mod replace;
 mod reply;
 mod session;
 mod text;
+mod upkeep;
 
 pub use session::{MOST_LINES, Session};
 pub use text::{first_line, is_blank, is_white};
+pub use upkeep::Upkeep;

@@ -99,6 +99,27 @@ fn one_thread_merges_by_the_policy_and_by_the_command(rt: HostRuntime) {
 }
 
 #[test]
+fn one_thread_ends_a_merge_that_it_began(rt: HostRuntime) {
+    let mut engine: LocalEngine = opened(&rt, Merge::Policy);
+    engine.limit_merges(Some(0));
+    commit_eight(&rt, &mut engine);
+    let begun = engine.begin_merge().expect(&rt, "a merge");
+    let before = engine.end_merge().expect(&rt, "nothing to end");
+    let mut has_begun = false;
+    if let Some(mut merge) = begun {
+        has_begun = true;
+        merge.run(rt.alloc()).expect(&rt, "a merged segment");
+    }
+    let left = engine.stats().segments;
+    let ended = engine.end_merge().expect(&rt, "an end");
+    let again = engine.end_merge().expect(&rt, "nothing to end");
+    let stats = engine.stats();
+    assert_eq!(rt; (has_begun, before, left), (true, false, 8));
+    assert_eq!(rt; (ended, again), (true, false));
+    assert_eq!(rt; (stats.segments, stats.live), (1, 8));
+}
+
+#[test]
 fn an_index_has_a_reader(rt: HostRuntime) {
     let engine: IndexEngine = opened(&rt, Merge::Off);
     let has_reader = engine.has_reader();

@@ -15,6 +15,7 @@ use crate::session::cut_search::answer_find_cut;
 use crate::session::replace::answer_replace;
 use crate::session::reply::Reply;
 use crate::session::text::is_blank;
+use crate::session::upkeep::Upkeep;
 use fts_engine::{Engine, EngineOver, Fork, Options, Pairs};
 use fts_model::Refusal;
 use std::alloc::{AllocError, Global};
@@ -197,6 +198,21 @@ impl<E: Engine> Session<E> {
             tries: self.tries,
             index,
         })
+    }
+
+    /// Has work done on how the index is kept, if there is one and fewer than 2^61 calls were tried. The script goes on
+    /// as if it hadn't been.
+    pub fn keep_up<W: Upkeep<E> + Drop>(&mut self, work: W) -> Option<W::Done>
+        ensures { self.new ≡ self.old }
+    {
+        if self.tries >= MOST_LINES {
+            return None;
+        }
+        self.tries += 1;
+        match &mut self.index {
+            Some(engine) => Some(work.done(engine)),
+            None => None,
+        }
     }
 
     /// How many lines there were.

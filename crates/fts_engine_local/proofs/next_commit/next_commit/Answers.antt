@@ -1,8 +1,10 @@
 -- What is left of the proof of `next_commit::next_commit`.
-use Rattle.std.proofs.Common.{◌+◌, length, ap, ◌∙◌, arith}
+use Rattle.std.proofs.Common.{◌+◌, length, ap, subst, sym, ◌∙◌, arith}
 use Rattle.std.specs.Arc.{arc_value}
 use Rattle.fts_snapshots.specs.Snapshots.{after_commit, commit_fault, content_of}
+use Rattle.fts_snapshots.specs.Successors.{Follows}
 use Rattle.fts_snapshots.proofs.CountLemmas.{memory_alone, no_commit_fault, refused_by}
+use Rattle.fts_snapshots.proofs.FollowLemmas.{follows_commit}
 use Rattle.fts_snapshots.proofs.SourceLemmas.{unless_ok}
 use Rattle.fts_snapshots.proofs.StampLemmas.{batch_behind, left_stamped}
 use Rattle.fts_snapshots.specs.declared.stamped.Commit.{Commit}
@@ -39,3 +41,11 @@ returns-clause-commits c =
     let is = (unless_ok (commit_fault c.args.cut ops s) (after_commit c.args.cut ops s) c.in-Ok.snapshot c.in-Ok.ensures.snapshot).1 in
     commits_made c.args.cut ops s (arc_value c.in_ok-new.field-0).snapshot (ap (λ (l : Commit). l.snapshot) made ∙ is)
     (ap (λ (l : Commit). content_of l.snapshot) made ∙ c.in-Ok.ensures.content)
+
+pub returns-clause-follows : goal.returns-clause-follows
+returns-clause-follows c =
+    let s = c.args.last.now.snapshot in
+    let ops = c.args.ops.now in
+    let made = c.in_ok-new.ensures.ok in
+    let is = (unless_ok (commit_fault c.args.cut ops s) (after_commit c.args.cut ops s) c.in-Ok.snapshot c.in-Ok.ensures.snapshot).1 in
+    subst (Follows s) (sym (ap (λ (l : Commit). l.snapshot) made ∙ is)) (follows_commit s c.args.cut ops)

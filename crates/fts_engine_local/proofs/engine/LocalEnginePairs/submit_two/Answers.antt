@@ -1,11 +1,13 @@
 -- What is left of the proof of `submit_two` of an engine of one thread.
 use Rattle.std.proofs.Common.{◌≡◌, ◌+◌, ◌<◌, ◌∙◌, Ok, true, length, ap, subst, sym, arith}
 use Rattle.std.specs.Arc.{arc_value}
+use Rattle.std.specs.Option.{option_map}
 use Rattle.fts_model.specs.Operations.{op_fits}
 use Rattle.fts_engine.specs.Indexes.{indexes}
 use Rattle.fts_engine.specs.Pairs.{submit_two}
 use Rattle.fts_snapshots.specs.declared.stamped.Commit.{Commit}
 use Rattle.fts_engine_local.specs.CountedIndexes.{index_at}
+use Rattle.fts_engine_local.specs.declared.begun.Place.{Place}
 use Rattle.fts_engine_local.specs.LocalIndexes.{IsLocalEngine, LocalValue}
 use Rattle.fts_engine_local.proofs.LocalLemmas.{local_submitted_two, submitted_two}
 use Rattle.fts_engine_local.proofs.engine.LocalEnginePairs.submit_two.Goals as goal
@@ -14,13 +16,14 @@ pub invariant_of-self-2 : goal.invariant_of-self-2
 invariant_of-self-2 c =
     let e = c.self.inside in
     let commit = arc_value e.commit in
+    let begun = option_map (λ place. (arc_value {X = Place} place).made) e.begun in
     let fits_first = subst (λ v. op_fits v.index.schema c.args.first ≡ true) (sym c.self.view_is) c.requires.fits_first in
     let fits_second = subst (λ v. op_fits v.index.schema c.args.second ≡ true) (sym c.self.view_is) c.requires.fits_second in
     let last : c.deref.result.now ≡ commit = grind (arith, c.deref.ensures) in
     let next : c.deref.result.now.stamp + c.len-taken.result + 1 ≡ commit.stamp + length e.uncommitted.items + 1 =
     omega (arith, ap (λ (l : Commit). l.stamp) last, c.len-taken.ensures) in
-    subst (λ ops. IsLocalEngine commit ops e.cut (e.calls + 2)) (sym c.in_ok-push_two.ensures.ok)
-    (local_submitted_two commit e.uncommitted.items e.cut e.calls (c.deref.result.now.stamp + c.len-taken.result + 1) c.args.first c.args.second
+    subst (λ ops. IsLocalEngine commit ops e.cut (e.calls + 2) begun) (sym c.in_ok-push_two.ensures.ok)
+    (local_submitted_two commit e.uncommitted.items e.cut e.calls begun (c.deref.result.now.stamp + c.len-taken.result + 1) c.args.first c.args.second
     c.self.invariant next fits_first fits_second)
 
 pub returns-clause-step : goal.returns-clause-step

@@ -1,0 +1,27 @@
+-- What is left of the proof of `merge_segments` of a commit whose segments are merged.
+use Rattle.std.proofs.Common.{◌≡◌, ◌∙◌, ap, subst, sym, arith}
+use Rattle.std.specs.Arc.{arc_value}
+use Rattle.fts_snapshots.specs.LateMerges.{after_merge}
+use Rattle.fts_snapshots.specs.MergedSegments.{merged_of}
+use Rattle.fts_snapshots.specs.Merges.{entries_at}
+use Rattle.fts_snapshots.specs.Snapshots.{merge_fault}
+use Rattle.fts_snapshots.specs.Successors.{Follows}
+use Rattle.fts_snapshots.specs.declared.stamped.Commit.{Commit}
+use Rattle.fts_snapshots.proofs.FollowLemmas.{follows_end}
+use Rattle.fts_snapshots.proofs.SourceLemmas.{unless_ok}
+use Rattle.fts_engine_local.proofs.merging.MergingMergeable.merge_segments.Goals as goal
+
+pub returns-clause-keeps : goal.returns-clause-keeps
+returns-clause-keeps g c =
+    let commit = arc_value c.args.self.now.commit in
+    let ids = c.args.ids.now in
+    let first : c.deref.result.now ≡ commit = grind (arith, c.deref.ensures) in
+    let second : c.deref-2.result.now ≡ commit = grind (arith, c.deref-2.ensures) in
+    let s = c.deref-2.result.now.snapshot in
+    let made = c.in_ok-self.ensures.ok in
+    let is = (unless_ok (merge_fault ids s) (after_merge ids s) c.in_ok-snapshot.snapshot c.in_ok-snapshot.ensures.snapshot).1 in
+    record {
+      stamp = ap (λ (l : Commit). l.stamp) made ∙ ap (λ (l : Commit). l.stamp) first;
+      follows = subst (λ (l : Commit). Follows l.snapshot (arc_value c.in_ok-self.field-0).snapshot) second
+          (subst (Follows s) (sym (ap (λ (l : Commit). l.snapshot) made ∙ is)) (follows_end s (merged_of (entries_at s.entries ids))));
+    }

@@ -1,0 +1,35 @@
+-- What the end of a merge leaves of an engine of one thread.
+use Rattle.std.specs.Prelude.{◌≡◌, ◌+◌, ◌⊎◌, true, false, Bool, Option, Some, None, List, Result, Ok, Err}
+use Rattle.fts_base.specs.declared.refusal.Refusal.{Refusal}
+use Rattle.fts_base.specs.declared.refusal.Refusal.TheVariants.{Memory}
+use Rattle.fts_snapshots.specs.Entries.{EntryValue}
+use Rattle.fts_snapshots.specs.LateMerges.{after_end, end_fault}
+use Rattle.fts_snapshots.specs.MergedSegments.{merged_of}
+use Rattle.fts_engine_local.specs.LocalIndexes.{LocalValue}
+
+-- the merged segment is in place of its sources in the last commit
+abbrev pub HasEnded : Option (List EntryValue) → LocalValue → LocalValue → Type 0
+HasEnded None old new = ⊥
+HasEnded (Some job) old new = (new.snapshot ≡ after_end (merged_of job) old.snapshot) × (new.begun ≡ None)
+
+-- the merged segment can't be in place of its sources, and the merge is given up
+abbrev pub HasFailed : Option (List EntryValue) → LocalValue → LocalValue → Refusal → Type 0
+HasFailed None old new refusal = ⊥
+HasFailed (Some job) old new refusal =
+    (end_fault old.snapshot.next_id (merged_of job) old.snapshot.entries ≡ Some refusal)
+    × (new.snapshot ≡ old.snapshot) × (new.begun ≡ None)
+
+-- what came of the end of a merge
+abbrev pub Ends : LocalValue → LocalValue → Result Bool Refusal → Type 0
+Ends old new (Ok true) = HasEnded old.begun old new
+Ends old new (Ok false) = (new.snapshot ≡ old.snapshot) × (new.begun ≡ old.begun)
+Ends old new (Err refusal) =
+    ((refusal ≡ Memory) × (new.snapshot ≡ old.snapshot) × (new.begun ≡ old.begun))
+    ⊎ HasFailed old.begun old new refusal
+
+-- A merge was ended, if one was begun and run; what the index stands for is the same.
+pub record EndsMerge (old new : LocalValue) (result : Result Bool Refusal) : Type 0 where
+  pub index : new.index ≡ old.index
+  pub calls : new.calls ≡ old.calls + 1
+  pub limit : new.limit ≡ old.limit
+  pub ends : Ends old new result

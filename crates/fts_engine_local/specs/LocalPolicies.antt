@@ -1,0 +1,8 @@
+-- When an engine of one thread merges.
+use Rattle.std.specs.Prelude.{ℕ, min, Option, Some, None}
+use Rattle.fts_merge.specs.declared.policy.MergePolicy.{MergePolicy}
+
+-- the policy; and what of it commits do under a limit: they merge no segment of more live documents, and none by itself
+abbrev pub local_policy : Option ℕ → MergePolicy
+local_policy None = record { floor = 100; members = 6; most = 1000000; dead = 33 }
+local_policy (Some limit) = record { floor = 100; members = 6; most = min limit 1000000; dead = 100 }
