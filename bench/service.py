@@ -7,9 +7,10 @@ Build and link the package's library first (docs/EMBEDDING.md). The documents ar
 without an argument; each measurement takes 5 seconds. A search asks for one word or two that both have to match, with
 the groups of the keyword and the first ten by the price. A post has one document, and its answer says that it is on
 disk. Before the start the journal was compacted, and FTS5's table optimized. FTS5 has a write-ahead log and
-`synchronous=full`, shares its syncs among clients as the service does, and groups and top lists join a table by the
-row's number. Clients are processes that keep their connection. The output is a table in Markdown: requests a second,
-and the milliseconds within which half and 99 % of them were answered.
+`synchronous=full`, and groups and top lists join a table by the row's number. It has the service's own application and
+server. Its posts are measured twice: with a transaction each, and with the service's way of sharing a transaction and
+its sync among the clients that wait. Clients are processes that keep their connection. The output is a table in
+Markdown: requests a second, and the milliseconds within which half and 99 % of them were answered.
 """
 from __future__ import annotations
 
@@ -49,9 +50,9 @@ ASKED = 3_000
 
 
 class FtsStore:
-    """What an application asks of a store, over FTS5."""
+    """What an application asks of a store, over FTS5. If it shares, posts that wait are one transaction."""
 
-    def __init__(self, path: str) -> None:
+    def __init__(self, path: str, shares: bool = True) -> None:
         self.path = path
         self.local = threading.local()
         self.writer = self.opened()
@@ -61,7 +62,7 @@ class FtsStore:
             CREATE VIRTUAL TABLE IF NOT EXISTS bodies USING fts5(body, content='');
         """)
         self.last = self.writer.execute("SELECT coalesce(max(id), 0) FROM documents").fetchone()[0]
-        self.turns: Turns[Any] = Turns(self.lead)
+        self.turns: Turns[Any] = Turns(self.lead if shares else self.lead_one)
 
     def opened(self) -> sqlite3.Connection:
         connection = sqlite3.connect(self.path, check_same_thread=False, isolation_level=None)
@@ -81,6 +82,9 @@ class FtsStore:
                 job["ids"].append(self.last)
         self.writer.execute("COMMIT")
         return len(jobs)
+
+    def lead_one(self, jobs: list[Any]) -> int:
+        return self.lead(jobs[:1])
 
     @contextmanager
     def transaction(self) -> Iterator[Transaction]:
@@ -110,7 +114,7 @@ class FtsStore:
         return Answer(sum(counts.values()), {"tag": counts}, hits, 0)
 
 
-def serve_fts(path: str) -> None:
+def serve_fts(path: str, shares: bool) -> None:
     """Serves FTS5 as the command serves a store."""
     import waitress
 
@@ -118,7 +122,7 @@ def serve_fts(path: str) -> None:
     bound = socket.socket()
     bound.bind(("127.0.0.1", 0))
     port = bound.getsockname()[1]
-    store: Any = FtsStore(path)
+    store: Any = FtsStore(path, shares)
     served = application(store, hosts=[f"127.0.0.1:{port}"])
     server = waitress.create_server(served, sockets=[bound], threads=16, asyncore_use_poll=True, ident=None)
     print(f"at http://127.0.0.1:{port}/", flush=True)
@@ -224,17 +228,17 @@ def answers(port: int) -> list[Any]:
     return told
 
 
-def rows(port: int, seconds: float) -> dict[str, tuple[float, float, float]]:
+def rows(port: int, seconds: float, kinds: tuple[str, ...] = ("search", "post")) -> dict[str, tuple[float, float, float]]:
     measured("search", port, 4, 1)
     return {
         f"{kind}, {clients} client{'s' * (clients > 1)}": measured(kind, port, clients, seconds)
-        for kind in ("search", "post") for clients in CLIENTS
+        for kind in kinds for clients in CLIENTS
     }
 
 
 def main() -> None:
     if sys.argv[1:2] == ["fts5"]:
-        return serve_fts(sys.argv[2])
+        return serve_fts(sys.argv[2], sys.argv[3:] != ["alone"])
     count, seconds = int((sys.argv[1:] + ["100000"])[0]), float((sys.argv[2:] + ["5"])[0])
     with tempfile.TemporaryDirectory(dir=os.environ.get("TMPDIR")) as name:
         folder = pathlib.Path(name)
@@ -246,13 +250,17 @@ def main() -> None:
         with served(__file__, "fts5", folder / "database") as port:
             assert answers(port) == expected, "the two services answer differently"
             theirs = rows(port, seconds)
-    print(f"{count:,} documents. Requests a second, and the milliseconds within which half and 99 % of them were answered.\n")
-    print("||the service: a second|50 %, ms|99 %, ms|over FTS5: a second|50 %, ms|99 %, ms|times|")
-    print("|---|---|---|---|---|---|---|---|")
+        with served(__file__, "fts5", folder / "database", "alone") as port:
+            alone = rows(port, seconds, ("post",))
+    print(f"{count:,} documents. Requests a second, and the milliseconds within which half and 99 % of them were answered. ", end="")
+    print("The last two columns: posts over FTS5 with a transaction each, as FTS5 is mostly used, where the others share theirs.\n")
+    print("||the service: a second|50 %, ms|99 %, ms|over FTS5: a second|50 %, ms|99 %, ms|times|a transaction each|times|")
+    print("|---|---|---|---|---|---|---|---|---|---|")
     for name, (rate, half, most) in ours.items():
-        other, other_half, other_most = theirs[name]
+        other = theirs[name][0]
         mine, their = (f"{a:,.0f}|{b:.2f}|{c:.2f}" for a, b, c in (ours[name], theirs[name]))
-        print(f"|{name}|{mine}|{their}|{rate / other:.1f}|")
+        last = f"{alone[name][0]:,.0f}|{rate / alone[name][0]:.1f}" if name in alone else "–|–"
+        print(f"|{name}|{mine}|{their}|{rate / other:.1f}|{last}|")
 
 
 if __name__ == "__main__":

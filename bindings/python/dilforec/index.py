@@ -15,18 +15,18 @@ from dilforec.values import Answer, Field, Groups, Hit, Order, Stats, Top, as_js
 S = TypeVar("S", bound="Searching")
 
 
-def _encoder() -> Callable[[Any], str]:
+def encoder(allow_nan: bool) -> Callable[[Any], str]:
     """What makes JSON of a value. What isn't ASCII stays as it is: its escapes would be up to six times as long."""
-    plain = json.JSONEncoder(ensure_ascii=False, check_circular=False, separators=(",", ":"))
+    plain = json.JSONEncoder(ensure_ascii=False, allow_nan=allow_nan, check_circular=False, separators=(",", ":"))
     module: Any = json.encoder
     if module.c_make_encoder is None:
         return plain.encode
     # The encoder in C, which `plain.encode` would make anew for each value.
-    chunks = module.c_make_encoder(None, plain.default, module.encode_basestring, None, ":", ",", False, False, True)
+    chunks = module.c_make_encoder(None, plain.default, module.encode_basestring, None, ":", ",", False, False, allow_nan)
     return lambda value: "".join(chunks(value, 0))
 
 
-ENCODE = _encoder()
+ENCODE = encoder(True)
 
 LONGEST_LINE = 4_194_304
 LONGEST_QUERY = 4096

@@ -49,11 +49,11 @@ class Measured(ctypes.Structure):
     _fields_ = [(name, ctypes.c_uint64) for name in Stats._fields]
 
 
-def load() -> ctypes.CDLL:
-    """The shared object, with the types of its functions. While one of them runs, other threads of Python do too."""
+def load(kind: type[ctypes.CDLL]) -> ctypes.CDLL:
+    """The shared object, with the types of its functions."""
     if not SHARED.is_file():
         raise ImportError(f"{SHARED} isn't there: bindings/python/link.py makes it")
-    library = ctypes.CDLL(str(SHARED))
+    library = kind(str(SHARED))
     # Handles and buffers go by their addresses, which costs least.
     at, text, size, code = ctypes.c_void_p, ctypes.c_char_p, ctypes.c_size_t, ctypes.c_int32
     types: dict[str, tuple[list[Any], Any]] = {
@@ -80,7 +80,9 @@ def load() -> ctypes.CDLL:
     return library
 
 
-LIBRARY = load()
+# While a function of this one runs, other threads of Python do too; not while one of the other does. That is for calls
+# that take less time than to wait for one's turn among the threads.
+LIBRARY, BRIEF = load(ctypes.CDLL), load(ctypes.PyDLL)
 
 
 def fault(code: int) -> Exception:
@@ -131,8 +133,8 @@ class Channel:
     """
 
     _ask, _ask_fields, _reply, _fork, _measure, _close = (
-        LIBRARY.dilforec_execute, LIBRARY.dilforec_execute_fields, LIBRARY.dilforec_reply, LIBRARY.dilforec_searcher,
-        LIBRARY.dilforec_stats, LIBRARY.dilforec_close,
+        LIBRARY.dilforec_execute, LIBRARY.dilforec_execute_fields, BRIEF.dilforec_reply, BRIEF.dilforec_searcher,
+        BRIEF.dilforec_stats, LIBRARY.dilforec_close,
     )
 
     def __init__(self, opened: Callable[[int], int] = LIBRARY.dilforec_open) -> None:
@@ -292,8 +294,8 @@ class Searches(Channel):
     """Searches in and replies out, over one commit. Each of them counts as the first line of a script."""
 
     _ask, _ask_fields, _reply, _fork, _measure, _close = (
-        LIBRARY.dilforec_search, LIBRARY.dilforec_search_fields, LIBRARY.dilforec_searcher_reply,
-        LIBRARY.dilforec_searcher_again, LIBRARY.dilforec_searcher_stats, LIBRARY.dilforec_searcher_close,
+        LIBRARY.dilforec_search, LIBRARY.dilforec_search_fields, BRIEF.dilforec_searcher_reply,
+        BRIEF.dilforec_searcher_again, BRIEF.dilforec_searcher_stats, LIBRARY.dilforec_searcher_close,
     )
 
 

@@ -208,6 +208,98 @@ class Answers(Served):
         self.assertGreater(len(acknowledged), 10)
 
 
+class Connections(Served):
+    """What clients do with their connections."""
+
+    @staticmethod
+    def request(server, title, *more):
+        body = json.dumps({"title": title}).encode()
+        lines = ["POST /documents HTTP/1.1", f"Host: 127.0.0.1:{server.port}", "Content-Type: application/json",
+                 f"Content-Length: {len(body)}", *more]
+        return "\r\n".join([*lines, "", ""]).encode(), body
+
+    @staticmethod
+    def answers(sock, count):
+        """The ids of so many answers."""
+        told = b""
+        while told.count(b"\n{") < count or not told.endswith(b"\n"):
+            data = sock.recv(1 << 16)
+            if not data:
+                break
+            told += data
+        return [int(id) for id in re.findall(rb'^\{"ids":\[([0-9]+)\]', told, re.MULTILINE)]
+
+    def opened(self, server):
+        sock = socket.create_connection(("127.0.0.1", server.port), timeout=30)
+        self.addCleanup(sock.close)
+        return sock
+
+    def test_one_connection(self):
+        """Requests that come at once, one after another, in pieces, after a pause, and after a question."""
+        server = self.serve()
+        sock = self.opened(server)
+        sock.sendall(b"".join(b"".join(self.request(server, f"at once {number}")) for number in range(20)))
+        self.assertEqual(self.answers(sock, 20), list(range(1, 21)))
+        for number in range(21, 31):
+            head, body = self.request(server, f"pieces {number}")
+            for piece in head[:9], head[9:], body[:5], body[5:]:
+                sock.sendall(piece)
+                time.sleep(0.02 if number % 3 == 0 else 0.002 if number % 3 == 1 else 0)
+            self.assertEqual(self.answers(sock, 1), [number])
+        head, body = self.request(server, "asked first", "Expect: 100-continue")
+        sock.sendall(head)
+        self.assertEqual(sock.recv(1 << 16), b"HTTP/1.1 100 Continue\r\n\r\n")
+        sock.sendall(body)
+        self.assertEqual(self.answers(sock, 1), [31])
+        head, body = self.request(server, "the last", "Connection: close")
+        sock.sendall(head + body)
+        self.assertEqual(self.answers(sock, 2), [32])
+
+    def test_more_connections_than_threads(self):
+        server = self.serve("--threads", "2")
+        found = []
+
+        def post(number):
+            with socket.create_connection(("127.0.0.1", server.port), timeout=30) as sock:
+                for place in range(25):
+                    sock.sendall(b"".join(self.request(server, f"{number} {place}")))
+                    found.extend(self.answers(sock, 1))
+                if number % 2:
+                    # It goes away in the middle of a request.
+                    sock.sendall(self.request(server, "half")[0])
+
+        threads = [threading.Thread(target=post, args=(number,)) for number in range(12)]
+        idle = [self.opened(server) for _ in range(4)]
+        for thread in threads:
+            thread.start()
+        for thread in threads:
+            thread.join()
+        self.assertEqual(sorted(found), list(range(1, 301)))
+        for number, sock in enumerate(idle, 301):
+            sock.sendall(b"".join(self.request(server, "at last")))
+            self.assertEqual(self.answers(sock, 1), [number])
+
+    def test_end(self):
+        """It ends under a client that never stops, and what was answered is there."""
+        server = self.serve()
+        last = []
+
+        def post():
+            with contextlib.suppress(OSError), socket.create_connection(("127.0.0.1", server.port), timeout=30) as sock:
+                while not last or last[-1]:
+                    sock.sendall(b"".join(self.request(server, "again")))
+                    last.append((self.answers(sock, 1) or [0])[0])
+
+        thread = threading.Thread(target=post)
+        thread.start()
+        while len(last) < 20:
+            time.sleep(0.01)
+        self.assertEqual(server.stop(signal.SIGTERM), 0)
+        thread.join()
+        with Store([dilforec.Field(**field) for field in SCHEMA], self.journal) as store:
+            self.assertGreaterEqual(len(store), max(last))
+
+
 class Starts(Served):
     def test_refused(self):
         """What stops a start says so, with status 2."""

@@ -24,6 +24,9 @@ log = logging.getLogger("dilforec.service")
 # Hits of an answer, and documents of a page, at most.
 MOST_HITS = 1000
 
+_STATUSES = {status: f"{status.value} {status.phrase}" for status in HTTPStatus}
+_HEADERS = ("Cache-Control", "no-store"), ("X-Content-Type-Options", "nosniff"), ("Referrer-Policy", "no-referrer")
+
 _DOCUMENT = re.compile("/documents/(0|[1-9][0-9]{0,19})")
 
 
@@ -50,9 +53,8 @@ class Application:
         if response.status >= 400:
             self._metrics.count("failures_total" if response.status >= 500 else "refusals_total")
         log.debug("%s %s %d", request.method, request.path, response.status)
-        start_response(f"{response.status.value} {response.status.phrase}", [
-            ("Content-Type", response.type), ("Content-Length", str(len(response.body))), ("Cache-Control", "no-store"),
-            ("X-Content-Type-Options", "nosniff"), ("Referrer-Policy", "no-referrer"), *response.headers,
+        start_response(_STATUSES[response.status], [
+            ("Content-Type", response.type), ("Content-Length", str(len(response.body))), *_HEADERS, *response.headers,
         ])
         return [b"" if request.method == "HEAD" else response.body]
 
@@ -213,7 +215,8 @@ def _collected(transaction: Transaction, value: Any, each: "Callable[[Transactio
 
 
 def _done(done: Done, status: HTTPStatus = HTTPStatus.OK) -> Response:
-    return answer({"ids": done.ids, "commit": done.commit}, status)
+    ids = ",".join(map(str, done.ids))
+    return Response(status, f'{{"ids":[{ids}],"commit":{done.commit}}}\n'.encode())
 
 
 def _id(request: Request) -> int:

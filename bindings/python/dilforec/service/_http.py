@@ -8,6 +8,8 @@ from http import HTTPStatus
 from typing import TYPE_CHECKING, Any, NamedTuple, Optional
 from urllib.parse import parse_qsl
 
+from dilforec.index import encoder
+
 if TYPE_CHECKING:
     from _typeshed.wsgi import WSGIEnvironment
 
@@ -18,7 +20,9 @@ JSON_LINES = "application/x-ndjson"
 _MOST_PARAMETERS = 64
 _LONGEST_QUERY_STRING = 65_536
 
-_dump = json.JSONEncoder(ensure_ascii=False, check_circular=False, separators=(",", ":")).encode
+_LENGTH = re.compile("[0-9]{1,19}")
+
+_dump = encoder(allow_nan=True)
 
 
 class HttpError(Exception):
@@ -92,6 +96,8 @@ class Request:
         The values of one that comes again are put together with commas.
         """
         sent = self._environ.get("QUERY_STRING", "").encode("latin-1")
+        if not sent:
+            return {}
         if len(sent) > _LONGEST_QUERY_STRING:
             raise HttpError(HTTPStatus.REQUEST_URI_TOO_LONG, "TooLong", "the query string is over 65,536 bytes")
         found: "dict[str, str]" = {}
@@ -113,7 +119,7 @@ class Request:
     def body(self) -> bytes:
         """The whole body. Over the limit it is a 413, before it is read."""
         length = self._environ.get("CONTENT_LENGTH") or "0"
-        if not re.fullmatch("[0-9]{1,19}", length):
+        if not _LENGTH.fullmatch(length):
             raise bad("BadLength", "the content's length isn't a number")
         if int(length) > self._body_limit:
             raise HttpError(

@@ -6,11 +6,11 @@ two numbers in its query are the highest that was ever given to a document, and 
 """
 from __future__ import annotations
 
-import json
 import re
 from collections.abc import Mapping
 from typing import Any, NamedTuple, Optional, Union
 
+from dilforec.index import encoder
 from dilforec.refusals import refused
 from dilforec.values import Field, as_json
 
@@ -21,7 +21,7 @@ MARK = re.compile(rb'\{"search":\{"query":"id:([0-9]{1,20}) id:([0-9]{1,20})"\}\
 OTHERS = b'{"delete":{', b'{"delete_all":true}', COMMIT[:-1]
 
 # A document within the limits of the index is within those of its line, since no letter is written as six.
-_encode = json.JSONEncoder(ensure_ascii=False, allow_nan=False, check_circular=False, separators=(",", ":")).encode
+_encode = encoder(allow_nan=False)
 
 
 class Operation(NamedTuple):
@@ -62,7 +62,7 @@ def add(document: Mapping[str, Any], id: Optional[int] = None) -> Operation:
         if document["id"] is not id and (document["id"] != id or isinstance(document["id"], bool)):
             raise ValueError("`id` is given by the store, and can't be chosen")
         document = {name: value for name, value in document.items() if name != "id"}
-    return Operation(encode(dict(document)), True, id)
+    return Operation(encode(document if isinstance(document, dict) else dict(document)), True, id)
 
 
 def delete(field: str, value: Union[str, int]) -> Operation:

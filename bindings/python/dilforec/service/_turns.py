@@ -62,11 +62,13 @@ class Turns(Generic[J]):
         self._waiting = [each for each in rest if not each.left]
         for each in done:
             each.done = True
-            if each is not mine:
-                each.woken.release()
         self._led = bool(self._waiting)
+        # The one that leads comes first, so that it needn't wait until the others have answered.
         if self._waiting and (mine.done or mine.left):
             self._waiting[0].woken.release()
+        for each in done:
+            if each is not mine:
+                each.woken.release()
 
     def _leave(self, mine: "_Waiting[J]") -> None:
         with self._mutex:

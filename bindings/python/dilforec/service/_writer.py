@@ -103,7 +103,7 @@ class Writer:
                 each.error = Stopped(self.stopped)
             return len(waiting)
         try:
-            group = None
+            group = self._execute_at_once(waiting) if len(waiting) > 1 else None
             while group is None:
                 group = self._execute(waiting)
             if group.done:
@@ -122,6 +122,32 @@ class Writer:
     def _stop(self, why: str) -> None:
         log.critical("no more writes until a restart: %s", why)
         self.stopped = f"nothing was done: writes are refused until a restart, since an earlier one failed ({why})"
+
+    def _execute_at_once(self, waiting: "list[Pending]") -> "Optional[_Group]":
+        """Executes transactions by one call. None if one was refused: all is undone then, and none has an error."""
+        known, group = _Known(), _Group(self.numbers.last_id)
+        missing: "list[tuple[Pending, int]]" = []
+        for each in waiting:
+            there = self._is_there(each.needs, known)
+            if there is None:
+                break
+            group.taken += 1
+            if not there and each.needs is not None:
+                missing.append((each, each.needs))
+                continue
+            group.last_id = each.number(group.last_id)
+            group.done.append(each)
+            known.note(each)
+        try:
+            refused = execute_lines(self.index, b"".join([each.block for each in group.done])) is not None
+        except MemoryError:
+            refused = True
+        if refused:
+            self._rollback()
+            return None
+        for each, id in missing:
+            each.error = NoSuchDocument(id)
+        return group
 
     def _execute(self, waiting: "list[Pending]") -> "Optional[_Group]":
         """Executes transactions. None if one was refused after a part was done: it has its error, and all is undone."""
