@@ -8,7 +8,8 @@ Build the library (docs/EMBEDDING.md) and the program (README.md) first, or name
 Debian liblucene8-java with a JDK). The documents are those of bench/corpus.py with one keyword more, their key: DOCUMENTS (100,000) are added in one
 commit, and UPDATES (20,000) of them follow, each of a key by chance, one a commit and ten a commit. An update deletes the document of the key
 and adds another. Each program is a process of its own. Times are microseconds of processor time of the process from the first line of a commit's
-updates until it has ended and a search would find them; memory is what is resident, less what was before the index was opened.
+updates until it has ended and a search would find them; memory is what is resident, less what was before the index was opened. In one of the
+columns commits merge no segment of more than LIMIT documents, and another thread merges the rest, whose time isn't counted.
 
 Then commits of one add each are made by `fts run --merge off` and `--merge policy`: seconds of processor time of the whole run.
 
@@ -27,6 +28,7 @@ import statistics
 import subprocess
 import sys
 import tempfile
+import threading
 import time
 from typing import Any, Callable, Iterable, Iterator, NamedTuple, Protocol
 
@@ -38,6 +40,7 @@ from programs import PROGRAM, ROOT, resident_of, run
 
 EACH = (1, 10)
 ADDS = (2_500, 5_000, 10_000, 20_000)
+LIMIT = 1_000
 # How often memory is looked at while updates are made.
 LOOKS = 20
 SCHEMA = {"schema": [*corpus.SCHEMA["schema"], {"name": "key", "kind": "keyword"}]}
@@ -87,6 +90,25 @@ class Embedded:
         return int(told["segments"] if isinstance(told, dict) else told.segments)
 
 
+class Beside(Embedded):
+    """The same, with the large merges in another thread."""
+
+    def __init__(self) -> None:
+        super().__init__()
+        self.index.limit_merges(LIMIT)
+        self.running: threading.Thread | None = None
+
+    def commit(self) -> None:
+        super().commit()
+        if self.running and not self.running.is_alive():
+            self.index.end_merge()
+            self.running = None
+        merge = None if self.running else self.index.begin_merge()
+        if merge:
+            self.running = threading.Thread(target=merge.run)
+            self.running.start()
+
+
 class Fts5:
     """SQLite's FTS5 with the columns in a table beside it, of which one is the key."""
 
@@ -114,7 +136,8 @@ class Fts5:
         return None
 
 
-PROGRAMS: dict[str, Callable[[], Updated]] = {"Dilforec": Embedded, "FTS5": Fts5}
+BESIDE = "merges beside"
+PROGRAMS: dict[str, Callable[[], Updated]] = {"Dilforec": Embedded, BESIDE: Beside, "FTS5": Fts5}
 
 
 def added(count: int) -> Iterator[Update]:
@@ -133,26 +156,27 @@ def batches(given: Iterable[Update], each: int) -> Iterator[list[Update]]:
         yield some
 
 
-def commit(index: Updated, some: list[Update]) -> float:
-    """The microseconds of processor time of a commit of updates."""
-    began = time.process_time_ns()
+def commit(index: Updated, some: list[Update], clock: Callable[[], int]) -> float:
+    """The microseconds of a commit of updates, by a clock of nanoseconds."""
+    began = clock()
     for update in some:
         index.update(update)
     index.commit()
-    return (time.process_time_ns() - began) / 1e3
+    return (clock() - began) / 1e3
 
 
 def timed(name: str, count: int, given: int, each: int) -> dict[str, Any]:
     """What updates take in this process."""
     before = resident_of("self")
     index = PROGRAMS[name]()
+    clock = time.thread_time_ns if name == BESIDE else time.process_time_ns
     for update in added(count):
         index.add(update)
     index.commit()
     memory, segments, times = [resident_of("self") - before], [index.segments()], []
     look = max(1, given // each // LOOKS)
     for place, some in enumerate(batches(updates(given, count), each), 1):
-        times.append(commit(index, some))
+        times.append(commit(index, some, clock))
         if place % look == 0:
             memory.append(resident_of("self") - before)
             segments.append(index.segments())
@@ -228,7 +252,8 @@ def ends(values: list[Any]) -> tuple[Any, Any]:
 def shown(raw: dict[str, Any]) -> str:
     parts = [f"{raw['documents']:,} documents with a key each, and {raw['updates']:,} updates of keys by chance. Microseconds of processor time of "
              "a commit with its updates; megabytes that are resident, less those before the index was opened, and of Lucene those in use in its "
-             "heap once it was swept."]
+             f"heap once it was swept. In the column '{BESIDE}' commits merge no segment of more than {LIMIT:,} documents, another thread merges "
+             "the rest, and the time is that of the thread that commits."]
     for each, programs in raw["each"].items():
         rows = [[f"a commit, {name}", *(number(told["times"][place]) for told in programs.values())]
                 for place, name in enumerate(("mean", "median", "99 of 100 at most", "the slowest"))]

@@ -12,10 +12,10 @@
  * answers DILFOREC_CLOSED for it and does nothing. A copy of a struct isn't closed with it, so don't use copies: a
  * handle that was closed through another struct can't be detected.
  *
- * Threads. A handle is used by one thread at a time, and may move from thread to thread. Calls on two handles may run
- * at the same time, even those on an index and on its searchers: they share what was committed, which never changes. No
- * call starts a thread, waits or opens a file. None may be made by a signal handler that may have interrupted another,
- * nor, in the child of a fork, on a handle that another thread was using.
+ * Threads. A handle is used by one thread at a time, and may move from thread to thread. Calls on two handles may
+ * run at the same time, even those on an index, its searchers and its merges: they share what was committed, which
+ * never changes. No call starts a thread, waits or opens a file. None may be made by a signal handler that may have
+ * interrupted another, nor, in the child of a fork, on a handle that another thread was using.
  *
  * Stack. A call needs at most 512 KiB of its thread's stack: the deepest query and the deepest JSON are within it.
  *
@@ -23,12 +23,16 @@
  * whatever is done to the index afterwards, and stays usable when the index is closed. To search from several threads,
  * open a searcher for each before it starts.
  *
- * Codes. At each code other than DILFOREC_OK everything is as it was before the call, slots included, except that there
- * is no reply. So a line for which there was no memory may be sent again. (dilforec_execute_lines alone may have done
- * some of its lines, and tells how many.) A refusal of the script, such as {"error":"Syntax","line":5}, is a reply, and
- * the code is DILFOREC_OK.
+ * Merges. A commit merges what is due after it, which takes long where the segments are large. An index whose
+ * commits have to be short limits what they merge, and a thread of the caller's merges the rest: begin, run, end. It
+ * changes the result of no search, and leaves the last reply as it is.
  *
- * Versions. The shared object is libdilforec.so.0 until version 1.0; docs/EMBEDDING.md says what changes the number.
+ * Codes. At each code other than DILFOREC_OK everything is as it was before the call, slots included, except that a
+ * line has no reply then, and that a merge is given up at DILFOREC_GONE. So a line for which there was no memory may
+ * be sent again. (dilforec_execute_lines alone may have done some of its lines, and tells how many.) A refusal of
+ * the script, such as {"error":"Syntax","line":5}, is a reply, and the code is DILFOREC_OK.
+ *
+ * Versions. The shared object is libdilforec.so.0; docs/EMBEDDING.md says what changes the number.
  */
 #ifndef DILFOREC_H
 #define DILFOREC_H
@@ -47,12 +51,15 @@ enum {
     DILFOREC_MEMORY = 1,        /* there was no memory */
     DILFOREC_LINE_TOO_LONG = 2, /* a line has more than DILFOREC_LONGEST_LINE bytes */
     DILFOREC_USED_UP = 3,       /* the index took 2^61 lines */
-    DILFOREC_CLOSED = 4         /* the handle is closed */
+    DILFOREC_CLOSED = 4,        /* the handle is closed */
+    DILFOREC_NOTHING = 5,       /* no schema, no merge that is due, or none to end */
+    DILFOREC_GONE = 6           /* what a merge joined is gone */
 };
 
 #define DILFOREC_LONGEST_LINE 4194304
 #define DILFOREC_NO_REPLY SIZE_MAX
 #define DILFOREC_NO_BYTE SIZE_MAX
+#define DILFOREC_NO_LIMIT UINT32_MAX
 
 /* An index. It forgets everything when it is closed. */
 typedef struct {
@@ -141,6 +148,35 @@ int32_t dilforec_searcher_stats(dilforec_searcher_t *searcher, dilforec_stats_t 
 
 /* Closes a searcher. DILFOREC_OK, or DILFOREC_CLOSED if it was closed before. */
 int32_t dilforec_searcher_close(dilforec_searcher_t *searcher);
+
+/* From now on, commits merge no segment of more than `limit` live documents, and none by itself; what is left waits for
+ * merges that are begun. DILFOREC_NO_LIMIT, as at first: commits merge whatever is due. DILFOREC_OK, DILFOREC_NOTHING
+ * without a schema, DILFOREC_USED_UP or DILFOREC_CLOSED. */
+int32_t dilforec_limit_merges(dilforec_t *index, uint32_t limit);
+
+/* A merge that was begun. */
+typedef struct {
+    void *at;
+} dilforec_merge_t;
+
+/* Begins the merge that is due next: segments of about one size, or one of which over a third is deleted. The index
+ * forgets the one that was begun before. DILFOREC_OK, DILFOREC_NOTHING if none is due, DILFOREC_MEMORY,
+ * DILFOREC_USED_UP or DILFOREC_CLOSED. */
+int32_t dilforec_merge_begin(dilforec_t *index, dilforec_merge_t *slot);
+
+/* Makes one segment of those of a merge: the long part, which any thread may do while the index is used, or is closed.
+ * Again, it does nothing. DILFOREC_OK, DILFOREC_MEMORY or DILFOREC_CLOSED. */
+int32_t dilforec_merge_run(dilforec_merge_t *merge);
+
+/* Puts what the merge made that was begun last in the place of what it joined, without what was deleted meanwhile. It
+ * copies no document. DILFOREC_OK; DILFOREC_NOTHING if there is none, or it wasn't run; DILFOREC_GONE if what it
+ * joined was merged meanwhile, by a commit or a script's `merge`, or all of it was deleted, and then it is given up;
+ * DILFOREC_MEMORY, and then it may be ended again; DILFOREC_USED_UP or DILFOREC_CLOSED. */
+int32_t dilforec_merge_end(dilforec_t *index);
+
+/* Closes a merge, run or not, ended or not; what it made stays to be ended. DILFOREC_OK, or DILFOREC_CLOSED if it was
+ * closed before. */
+int32_t dilforec_merge_close(dilforec_merge_t *merge);
 
 #ifdef __cplusplus
 }

@@ -1,4 +1,5 @@
-/* Blocks of lines, two lines as one, and searches with chosen fields: what they reply, and what refused growths leave.
+/* Blocks of lines, two lines as one, searches with chosen fields, and merges: what they reply, and what refused growths
+ * leave.
  *
  * Each call is made with its first growth refused, then with its second, and so on until it takes place; a block goes
  * on after the lines that were done. Documents are counted at the end.
@@ -208,11 +209,93 @@ static void syntaxes(void) {
            "which may be the end of the longest query");
 }
 
+static uint64_t segments(dilforec_t *index) {
+    dilforec_stats_t stats = {0};
+    return dilforec_stats(index, &stats) == DILFOREC_OK ? stats.segments : UINT64_MAX;
+}
+
+/* Adds documents with the numbers from `first` on, each in a commit of its own. */
+static void commit_each(dilforec_t *index, int first, int number) {
+    char line[64];
+    for (int i = first; i < first + number; i++) {
+        sprintf(line, "{\"add\":{\"title\":\"rust\",\"isbn\":%d}}", i);
+        execute(index, line);
+        execute(index, "{\"commit\":true}");
+    }
+}
+
+static int32_t begin(dilforec_t *index, dilforec_merge_t *merge) {
+    int32_t code;
+    AGAIN(code, dilforec_merge_begin(index, merge));
+    return code;
+}
+
+static int32_t run(dilforec_merge_t *merge) {
+    int32_t code;
+    AGAIN(code, dilforec_merge_run(merge));
+    return code;
+}
+
+static int32_t end(dilforec_t *index) {
+    int32_t code;
+    AGAIN(code, dilforec_merge_end(index));
+    return code;
+}
+
+/* Merges that are begun, run and ended beside commits. */
+static void merges(void) {
+    dilforec_t index = {0};
+    dilforec_merge_t merge = {0}, other = {0};
+    dilforec_stats_t stats = {0};
+    expect(dilforec_limit_merges(&index, 0) == DILFOREC_CLOSED && begin(&index, &merge) == DILFOREC_CLOSED
+               && run(&merge) == DILFOREC_CLOSED && end(&index) == DILFOREC_CLOSED
+               && dilforec_merge_close(&merge) == DILFOREC_CLOSED, "closed handles are told so");
+    dilforec_open(&index);
+    expect(dilforec_limit_merges(&index, 0) == DILFOREC_NOTHING && begin(&index, &merge) == DILFOREC_NOTHING
+               && end(&index) == DILFOREC_NOTHING && merge.at == NULL, "without a schema there is nothing to merge");
+    execute(&index, SCHEMA);
+    expect(dilforec_limit_merges(&index, 0) == DILFOREC_OK && begin(&index, &merge) == DILFOREC_NOTHING,
+           "nor without a commit");
+    commit_each(&index, 0, 8);
+    expect(segments(&index) == 8, "commits under a limit merge nothing above it");
+    expect(begin(&index, &merge) == DILFOREC_OK && end(&index) == DILFOREC_NOTHING, "a merge is begun, and isn't run yet");
+    execute(&index, "{\"delete\":{\"isbn\":0}}");
+    commit_each(&index, 8, 1);
+    expect(run(&merge) == DILFOREC_OK && dilforec_merge_run(&merge) == DILFOREC_OK && segments(&index) > 7,
+           "it is run while the index goes on");
+    execute(&index, "{\"search\":{\"query\":\"rust\"}}");
+    expect(replies(&index, "{\"count\":8}\n") && end(&index) == DILFOREC_OK && replies(&index, "{\"count\":8}\n"),
+           "it is ended, and the last reply stays");
+    expect(dilforec_stats(&index, &stats) == DILFOREC_OK && stats.segments == 2 && stats.documents == 9 && stats.live == 8,
+           "what it made is in the place of what it joined, without what was deleted meanwhile");
+    execute(&index, "{\"search\":{\"query\":\"rust\"}}");
+    expect(replies(&index, "{\"count\":8}\n") && end(&index) == DILFOREC_NOTHING, "nothing is found differently by it");
+    expect(dilforec_merge_close(&merge) == DILFOREC_OK && dilforec_merge_close(&merge) == DILFOREC_CLOSED, "it is closed");
+
+    commit_each(&index, 9, 8);
+    expect(begin(&index, &merge) == DILFOREC_OK && begin(&index, &other) == DILFOREC_OK && run(&merge) == DILFOREC_OK
+               && end(&index) == DILFOREC_NOTHING, "a merge is forgotten when the next is begun");
+    execute(&index, "{\"merge\":true}");
+    expect(run(&other) == DILFOREC_OK && end(&index) == DILFOREC_GONE && end(&index) == DILFOREC_NOTHING,
+           "a merge is given up whose segments another took");
+    dilforec_merge_close(&merge);
+    dilforec_merge_close(&other);
+
+    expect(dilforec_limit_merges(&index, DILFOREC_NO_LIMIT) == DILFOREC_OK, "the limit is taken away");
+    commit_each(&index, 17, 8);
+    expect(segments(&index) < 8, "and commits merge again");
+    dilforec_limit_merges(&index, 0);
+    commit_each(&index, 25, 8);
+    expect(begin(&index, &merge) == DILFOREC_OK && dilforec_close(&index) == DILFOREC_OK && run(&merge) == DILFOREC_OK
+               && dilforec_merge_close(&merge) == DILFOREC_OK, "a merge lives on when its index is closed");
+}
+
 int main(void) {
     syntaxes();
     blocks();
     pairs();
     chosen();
+    merges();
     printf("%d passed, %d failed\n", passed, failed);
     printf("%ld refusals\n", refusals);
     return failed != 0;

@@ -1,5 +1,5 @@
-/* Closing frees: once an index and its searchers are closed, whichever first, no block is left of all that the library
- * asked for. Linked so that the library's calls for memory are counted here.
+/* Closing frees: once an index, its searchers and its merges are closed, whichever first, no block is left of all that
+ * the library asked for. Linked so that the library's calls for memory are counted here.
  */
 #include <stdio.h>
 #include <stdlib.h>
@@ -89,6 +89,23 @@ int main(void) {
         expect(dilforec_searcher_close(&searcher) == DILFOREC_OK, "a searcher is closed");
         expect(dilforec_searcher_close(&other) == DILFOREC_OK, "the other is closed");
         if (!first) expect(dilforec_close(&index) == DILFOREC_OK, "the index is closed last");
+        expect(left == 0, "closing all frees all");
+    }
+    /* A merge that wasn't run, one that was, and one that was ended; the index first, and last. */
+    for (int way = 0; way < 6; way++) {
+        dilforec_merge_t merge = {0};
+        fill(&index);
+        expect(dilforec_limit_merges(&index, 0) == DILFOREC_OK, "merges wait");
+        for (int n = 0; n < 8; n++) {
+            dilforec_execute(&index, bytes("{\"add\":{\"year\":2000}}"), 21);
+            dilforec_execute(&index, bytes("{\"commit\":true}"), 15);
+        }
+        expect(dilforec_merge_begin(&index, &merge) == DILFOREC_OK, "a merge is begun");
+        if (way / 2 > 0) expect(dilforec_merge_run(&merge) == DILFOREC_OK, "and run");
+        if (way / 2 > 1) expect(dilforec_merge_end(&index) == DILFOREC_OK, "and ended");
+        if (way % 2) expect(dilforec_close(&index) == DILFOREC_OK && left > 0, "the index is closed first");
+        expect(dilforec_merge_close(&merge) == DILFOREC_OK, "the merge is closed");
+        if (!(way % 2)) expect(dilforec_close(&index) == DILFOREC_OK, "the index is closed last");
         expect(left == 0, "closing all frees all");
     }
     printf("%d passed, %d failed\n", passed, failed);

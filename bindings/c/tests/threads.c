@@ -1,5 +1,5 @@
 /* Four threads with an index each: none sees anything of another. Then four with a searcher each, while a writer adds
- * and commits: each finds its own commit and nothing else.
+ * and commits: each finds its own commit and nothing else. Then merges in a thread, while commits go on.
  */
 #include <pthread.h>
 #include <stdio.h>
@@ -73,6 +73,31 @@ static int commits(dilforec_t *index, int book) {
     return replies(index, "{\"commit\":true}", wanted);
 }
 
+static void *run_one(void *given) {
+    return dilforec_merge_run(given) == DILFOREC_OK ? given : NULL;
+}
+
+/* Merges the segments of commits in a thread, while others are made. */
+static int merges(dilforec_t *index) {
+    int wrong = dilforec_limit_merges(index, 0) != DILFOREC_OK;
+    for (int first = BOOKS + 1; first < 2 * BOOKS; first += 20) {
+        dilforec_merge_t merge = {0};
+        dilforec_stats_t before = {0}, after = {0};
+        pthread_t thread;
+        void *ran = NULL;
+        for (int book = first; book < first + 10; book++) wrong += !commits(index, book);
+        wrong += dilforec_merge_begin(index, &merge) != DILFOREC_OK;
+        if (pthread_create(&thread, NULL, run_one, &merge)) return 1;
+        for (int book = first + 10; book < first + 20; book++) wrong += !commits(index, book);
+        pthread_join(thread, &ran);
+        wrong += dilforec_stats(index, &before) != DILFOREC_OK;
+        wrong += ran != &merge || dilforec_merge_end(index) != DILFOREC_OK || dilforec_merge_close(&merge) != DILFOREC_OK;
+        wrong += dilforec_stats(index, &after) != DILFOREC_OK;
+        wrong += after.live != (uint64_t)first + 19 || after.segments + 5 > before.segments;
+    }
+    return wrong;
+}
+
 int main(void) {
     task_t writers[THREADS] = {0}, searchers[THREADS] = {0};
     pthread_t threads[2 * THREADS];
@@ -90,6 +115,7 @@ int main(void) {
         pthread_join(threads[THREADS + i], NULL);
         wrong += writers[i].wrong + searchers[i].wrong;
     }
+    wrong += merges(&index);
     wrong += dilforec_close(&index) != DILFOREC_OK;
     printf("%d threads, %d wrong\n", 2 * THREADS, wrong);
     return wrong != 0;

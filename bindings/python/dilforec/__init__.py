@@ -29,18 +29,20 @@ from dilforec.values import Answer, Field, Hit, Stats, Top, i64, keyword, quoted
 __version__ = "0.1.0"
 
 if TYPE_CHECKING:
-    from dilforec.index import Index, Searcher
+    from dilforec.index import Index, Merge, Searcher
     from dilforec.library import Busy, Closed, UsedUp
 
 __all__ = [
     "AllNegative", "Answer", "BadCommand", "BadDefault", "BadJson", "BadLimit", "BadName", "BadNumber", "Busy",
-    "Closed", "Field", "Hit", "Index", "KeywordTooLong", "LaneFull", "LineTooLong", "NameTwice", "NoDefaultField",
+    "Closed", "Field", "Hit", "Index", "KeywordTooLong", "LaneFull", "LineTooLong", "Merge", "NameTwice", "NoDefaultField",
     "NoFields", "NoSchema", "NotANumberField", "NotAnObject", "RangeOnText", "Refused", "SchemaTwice", "Searcher",
     "SomeRefused", "Stats", "Syntax", "TextTooLong", "TooDeep", "TooLarge", "TooLong", "TooManyFields", "TooManyTexts", "Top",
     "Unfinished", "UnknownField", "UsedUp", "WrongKind", "__version__", "i64", "keyword", "quoted", "text", "u64",
 ]
 
-_OF_THE_LIBRARY = {"Busy": "library", "Closed": "library", "Index": "index", "Searcher": "index", "UsedUp": "library"}
+_OF_THE_LIBRARY = {
+    "Busy": "library", "Closed": "library", "Index": "index", "Merge": "index", "Searcher": "index", "UsedUp": "library",
+}
 
 
 def __getattr__(name: str) -> Any:

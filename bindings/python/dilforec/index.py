@@ -8,8 +8,10 @@ from collections.abc import Iterable, Iterator, Mapping, Sequence
 from typing import Any, Callable, Optional, TypeVar, Union, cast, overload
 
 from dilforec import sentences
-from dilforec.library import LINE_TOO_LONG, MEMORY, OK, Asking, Channel, Closed, fault, syntax_at
-from dilforec.refusals import LineTooLong, Refused, SomeRefused, Syntax, TooDeep, TooLong, Unfinished, refused
+from dilforec.library import (
+    LINE_TOO_LONG, MEMORY, NO_LIMIT, OK, Asking, Channel, Closed, MergeHandle, NothingToMerge, fault, syntax_at,
+)
+from dilforec.refusals import LineTooLong, NoSchema, Refused, SomeRefused, Syntax, TooDeep, TooLong, Unfinished, refused
 from dilforec.values import Answer, Field, Groups, Hit, Order, Stats, Top, as_json
 
 S = TypeVar("S", bound="Searching")
@@ -286,8 +288,45 @@ class Index(Searching):
         return self._stamp(self._channel.ask(b'{"rollback":true}'), b'{"rollback":')
 
     def merge(self) -> int:
-        """Makes one segment of all, and returns how many documents it has. No search finds anything else by it."""
+        """Makes one segment of all, and returns how many documents it has. It changes the result of no search."""
         return self._stamp(self._channel.ask(b'{"merge":true}'), b'{"merged":')
+
+    def limit_merges(self, documents: Optional[int]) -> None:
+        """From now on, commits merge no segment of more live documents, and none by itself; with None, whatever is due.
+
+        So commits stay short, and what is left waits for `begin_merge`. NoSchema without a schema.
+        """
+        if documents is not None:
+            _expect(documents, int, "a limit is a number of documents, or None")
+            if documents < 0:
+                raise ValueError("a limit is a number of documents, at least 0")
+        try:
+            self._channel.limit_merges(NO_LIMIT if documents is None else min(documents, NO_LIMIT - 1))
+        except NothingToMerge:
+            raise NoSchema("NoSchema", None, "an index without a schema has no merges to limit") from None
+
+    def begin_merge(self) -> Optional[Merge]:
+        """The merge that is due next, if one is: it is run in any thread, and ended by `end_merge`.
+
+            merge = index.begin_merge()
+            if merge:
+                merge.run()
+                index.end_merge()
+
+        The index forgets the one that was begun before.
+        """
+        try:
+            return Merge(self._channel.begin_merge())
+        except NothingToMerge:
+            return None
+
+    def end_merge(self) -> bool:
+        """Puts what the merge made that was begun last in the place of what it joined, and tells whether it did.
+
+        It doesn't if none was begun, or it wasn't run. It doesn't either if what it joined was merged meanwhile, by a
+        commit or `merge`, or all of it was deleted; then it is given up. It changes the result of no search.
+        """
+        return self._channel.end_merge()
 
     @contextlib.contextmanager
     def transaction(self) -> Iterator[Index]:
@@ -321,6 +360,30 @@ class Searcher(Searching):
             _expect(channel, Asking, "a searcher is opened by index.searcher()")
         self._channel = channel
         self._schema = schema
+
+
+class Merge:
+    """A merge that an index began. It lives on when the index is closed, and is let go by `close`, or with the object."""
+
+    def __init__(self, handle: MergeHandle) -> None:
+        self._handle = handle
+
+    def run(self) -> None:
+        """Makes one segment, while the index may be used by other threads. Again, it does nothing.
+
+        MemoryError if memory runs out; it may be run again then.
+        """
+        self._handle.run()
+
+    def close(self) -> None:
+        """Lets the merge go. What it made stays to be ended."""
+        self._handle.close()
+
+    def __enter__(self) -> Merge:
+        return self
+
+    def __exit__(self, *_: object) -> None:
+        self.close()
 
 
 class _Adding:

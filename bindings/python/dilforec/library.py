@@ -8,15 +8,18 @@ import pathlib
 import threading
 import weakref
 from collections.abc import Callable, Sequence
-from typing import Any, Optional, Protocol, runtime_checkable
+from typing import Any, Optional, Protocol, TypeVar, runtime_checkable
 
 from dilforec.refusals import LineTooLong
 from dilforec.values import Stats
 
+T = TypeVar("T")
+
 SHARED = pathlib.Path(__file__).resolve().parent / "libdilforec.so"
 
-OK, MEMORY, LINE_TOO_LONG, USED_UP, CLOSED = range(5)
+OK, MEMORY, LINE_TOO_LONG, USED_UP, CLOSED, NOTHING, GONE = range(7)
 NO_REPLY = NO_BYTE = ctypes.c_size_t(-1).value
+NO_LIMIT = ctypes.c_uint32(-1).value
 
 # A longer reply has a buffer of its own, which isn't kept.
 KEPT_ROOM = 1 << 20
@@ -28,15 +31,20 @@ TRIES = 3
 
 
 class Closed(ValueError):
-    """The index or the searcher was closed."""
+    """The index, the searcher or the merge was closed."""
 
 
 class UsedUp(OverflowError):
     """The index took 2**61 lines."""
 
 
+class NothingToMerge(LookupError):
+    """No merge is due, or the index has no schema."""
+
+
 class Busy(RuntimeError):
-    """A signal handler, or a finalizer, called an index or a searcher in the middle of a call on it in its thread."""
+    """A signal handler, or a finalizer, called an index, a searcher or a merge in the middle of a call on it in its
+    thread."""
 
 
 class Handle(ctypes.Structure):
@@ -73,6 +81,11 @@ def load(kind: type[ctypes.CDLL]) -> ctypes.CDLL:
         "dilforec_searcher_reply": ([at, at, size], size),
         "dilforec_searcher_stats": ([at, at], code),
         "dilforec_searcher_close": ([at], code),
+        "dilforec_limit_merges": ([at, ctypes.c_uint32], code),
+        "dilforec_merge_begin": ([at, at], code),
+        "dilforec_merge_run": ([at], code),
+        "dilforec_merge_end": ([at], code),
+        "dilforec_merge_close": ([at], code),
     }
     for name, (given, told) in types.items():
         function = getattr(library, name)
@@ -95,6 +108,8 @@ def fault(code: int) -> Exception:
         return UsedUp("the index took 2**61 lines")
     if code == CLOSED:
         return Closed("closed")
+    if code == NOTHING:
+        return NothingToMerge("no merge is due, or the index has no schema")
     return RuntimeError(f"code {code} of the library")
 
 
@@ -125,22 +140,20 @@ class Asking(Protocol):
     def close(self) -> None: ...
 
 
-class Channel:
-    """Lines in and replies out, over one handle. One thread is in it at a time; others wait for it.
+class Owner:
+    """A handle that is closed at the end. One thread is in it at a time; others wait for it.
 
     The lock may be taken again by the thread that has it, so that a signal handler gets an error and doesn't wait for
     itself; `_busy` says that a call is on its way.
     """
 
-    _ask, _ask_fields, _reply, _fork, _measure, _close = (
-        LIBRARY.dilforec_execute, LIBRARY.dilforec_execute_fields, BRIEF.dilforec_reply, BRIEF.dilforec_searcher,
-        BRIEF.dilforec_stats, LIBRARY.dilforec_close,
-    )
+    _close = LIBRARY.dilforec_close
+    # Whether a fork waits for a call that is on its way.
+    is_awaited = True
 
-    def __init__(self, opened: Callable[[int], int] = LIBRARY.dilforec_open) -> None:
+    def __init__(self, opened: Callable[[int], int]) -> None:
         self.lock = threading.RLock()
         self._busy = False
-        self._make_room(FIRST_ROOM)
         self._handle = Handle()
         self._at = ctypes.addressof(self._handle)
         code = opened(self._at)
@@ -148,16 +161,77 @@ class Channel:
             raise fault(code)
         OPEN[id(self)] = weakref.ref(self)
 
+    def _check(self) -> None:
+        if self._busy:
+            raise Busy("this came in the middle of a call on the same index, searcher or merge, as from a signal handler")
+
+    def _call(self, call: Callable[[], T]) -> T:
+        """What a call gives. No other thread is in the handle meanwhile."""
+        with self.lock:
+            self._check()
+            try:
+                self._busy = True
+                return call()
+            finally:
+                self._busy = False
+
+    @property
+    def is_open(self) -> bool:
+        return bool(self._handle.at)
+
+    def close(self) -> None:
+        """Closes the handle; again, it does nothing."""
+        with self.lock:
+            self._check()
+            try:
+                self._busy = True
+                self._close(self._at)
+                OPEN.pop(id(self), None)
+            finally:
+                self._busy = False
+
+    def abandon(self) -> None:
+        """Leaves the handle closed, and what it pointed to as it is."""
+        self._handle.at = None
+        self._busy = False
+
+    def __del__(self) -> None:
+        # An interpreter that ends may have taken the library apart already.
+        if getattr(self, "_at", None) and self._handle.at:
+            self.close()
+
+
+class MergeHandle(Owner):
+    """A merge that was begun. While it runs, its index may be used, and a fork doesn't wait for it."""
+
+    _close = LIBRARY.dilforec_merge_close
+    is_awaited = False
+
+    def run(self) -> None:
+        """Makes the segment."""
+        code = self._call(lambda: int(LIBRARY.dilforec_merge_run(self._at)))
+        if code:
+            raise fault(code)
+
+
+class Channel(Owner):
+    """Lines in and replies out, over one handle."""
+
+    _ask, _ask_fields, _reply, _fork, _measure = (
+        LIBRARY.dilforec_execute, LIBRARY.dilforec_execute_fields, BRIEF.dilforec_reply, BRIEF.dilforec_searcher,
+        BRIEF.dilforec_stats,
+    )
+
+    def __init__(self, opened: Callable[[int], int] = LIBRARY.dilforec_open) -> None:
+        self._make_room(FIRST_ROOM)
+        super().__init__(opened)
+
     def _make_room(self, size: int) -> None:
         # A part of it is bytes, which its type doesn't know.
         self._room: Any = ctypes.create_string_buffer(size)
         self._room_at = ctypes.addressof(self._room)
         self._room_size = size
         self._view = memoryview(self._room).cast("B")
-
-    def _check(self) -> None:
-        if self._busy:
-            raise Busy("this came in the middle of a call on the same index or searcher, as from a signal handler")
 
     def ask(self, line: bytes) -> bytes:
         """The reply to a line; none to a blank one."""
@@ -264,80 +338,73 @@ class Channel:
             finally:
                 self._busy = False
 
-    @property
-    def is_open(self) -> bool:
-        return bool(self._handle.at)
+    def limit_merges(self, limit: int) -> None:
+        """Limits what commits merge."""
+        code = self._call(lambda: int(BRIEF.dilforec_limit_merges(self._at, limit)))
+        if code:
+            raise fault(code)
 
-    def close(self) -> None:
-        """Closes the handle; again, it does nothing."""
-        with self.lock:
-            self._check()
-            try:
-                self._busy = True
-                self._close(self._at)
-                OPEN.pop(id(self), None)
-            finally:
-                self._busy = False
+    def begin_merge(self) -> MergeHandle:
+        """The merge that is due next."""
+        return self._call(lambda: MergeHandle(lambda slot: int(BRIEF.dilforec_merge_begin(self._at, slot))))
 
-    def abandon(self) -> None:
-        """Leaves the handle closed, and what it pointed to as it is."""
-        self._handle.at = None
-        self._busy = False
-
-    def __del__(self) -> None:
-        # An interpreter that ends may have taken the library apart already.
-        if getattr(self, "_at", None) and self._handle.at:
-            self.close()
+    def end_merge(self) -> bool:
+        """Takes in what the merge made that was begun last, and tells whether there was something."""
+        code = self._call(lambda: int(LIBRARY.dilforec_merge_end(self._at)))
+        if code and code not in (NOTHING, GONE):
+            raise fault(code)
+        return not code
 
 
 class Searches(Channel):
     """Searches in and replies out, over one commit. Each of them counts as the first line of a script."""
 
-    _ask, _ask_fields, _reply, _fork, _measure, _close = (
+    _ask, _ask_fields, _reply, _fork, _measure = (
         LIBRARY.dilforec_search, LIBRARY.dilforec_search_fields, BRIEF.dilforec_searcher_reply,
-        BRIEF.dilforec_searcher_again, BRIEF.dilforec_searcher_stats, LIBRARY.dilforec_searcher_close,
+        BRIEF.dilforec_searcher_again, BRIEF.dilforec_searcher_stats,
     )
+    _close = LIBRARY.dilforec_searcher_close
 
 
 # A fork waits for the calls of other threads, since the child has none of these threads to end a call that was on its
 # way. One thread at a time takes the locks; its own signal handlers may fork within that, so there is a list for each
 # fork.
-OPEN: dict[int, weakref.ref[Channel]] = {}
+OPEN: dict[int, weakref.ref[Owner]] = {}
 FORKING = threading.RLock()
-HELD: list[list[Channel]] = []
+HELD: list[list[Owner]] = []
 
 
-def opened(known: Sequence[Channel]) -> list[Channel]:
-    """The channels that are open, but those that are known, in one order."""
+def opened(known: Sequence[Owner]) -> list[Owner]:
+    """The handles that are open, but those that are known, in one order."""
     references = (OPEN.get(key) for key in sorted(OPEN))
-    return [channel for reference in references if reference and (channel := reference()) and channel not in known]
+    return [owner for reference in references if reference and (owner := reference()) and owner not in known]
 
 
 def before_fork() -> None:
     FORKING.acquire()
-    held: list[Channel] = []
+    held: list[Owner] = []
     HELD.append(held)
     # Others may be opened meanwhile.
-    while channels := opened(held):
-        for channel in channels:
-            channel.lock.acquire()
-            held.append(channel)
+    while owners := [owner for owner in opened(held) if owner.is_awaited]:
+        for owner in owners:
+            owner.lock.acquire()
+            held.append(owner)
 
 
 def after_fork() -> None:
-    for channel in HELD.pop():
-        channel.lock.release()
+    for owner in HELD.pop():
+        owner.lock.release()
     FORKING.release()
 
 
 def after_fork_in_child() -> None:
-    # Opened after the last look, and in use: the child can't have it.
-    for channel in opened(HELD[-1]):
-        if channel.lock.acquire(blocking=False):
-            channel.lock.release()
+    # A merge, or opened after the last look: if it is in use, the child can't have it.
+    for owner in opened(HELD[-1]):
+        if owner.lock.acquire(blocking=False):
+            owner.lock.release()
         else:
-            channel.lock = threading.RLock()
-            channel.abandon()
+            owner.lock = threading.RLock()
+            owner.abandon()
     after_fork()
 
 

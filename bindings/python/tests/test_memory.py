@@ -65,6 +65,20 @@ class Memory(unittest.TestCase):
             index.commit()
             self.assertEqual((len(index), index.search(f"{DOCUMENTS - 1}").count), (1, 1))
 
+    def test_merges(self):
+        """A merge that finds no memory is begun, run or ended when it is tried again."""
+        with dilforec.Index(*FIELDS) as index:
+            index.limit_merges(0)
+            for number in range(8):
+                index.add({"title": "rust", "year": number})
+                index.commit()
+            before = self.refusals
+            with self.again(index.begin_merge) as merge:
+                self.again(merge.run)
+                self.assertTrue(self.again(index.end_merge))
+            self.assertGreater(self.refusals, before + 5)
+            self.assertEqual((index.stats(), index.search("rust").count), ((1, 8, 8), 8))
+
     def test_many_are_added_once(self):
         """Each growth of a block is refused in turn; what was done is told, and isn't done twice."""
         for asker in b"libdilforec", None:

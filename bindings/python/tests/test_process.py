@@ -74,6 +74,24 @@ class Forks(unittest.TestCase):
         return os.waitpid(pid, 0)[1]
 
     @unittest.skipUnless(hasattr(os, "fork"), "needs fork")
+    def test_fork_while_a_merge_runs(self):
+        """A fork doesn't wait for a merge; the child has the index without what it makes."""
+        with dilforec.Index(*FIELDS) as index:
+            index.limit_merges(0)
+            for _ in range(8):
+                index.add_many({"title": "rust"} for _ in range(1000))
+                index.commit()
+            with index.begin_merge() as merge:
+                thread = threading.Thread(target=merge.run)
+                thread.start()
+                pid = os.fork()
+                if pid == 0:
+                    is_right = not index.end_merge() or index.stats().segments == 1
+                    os._exit(0 if is_right and index.search("rust").count == 8000 else 1)
+                self.assertEqual(os.waitpid(pid, 0)[1], 0)
+                thread.join()
+                self.assertTrue(index.end_merge())
+
     def test_fork_in_a_handler(self):
         """A fork in a signal handler that interrupted a call doesn't wait for it."""
         children = []

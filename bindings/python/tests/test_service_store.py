@@ -10,7 +10,9 @@ import unittest
 from unittest import mock
 
 import dilforec
-from dilforec.service import BadSchema, Locked, NoSuchDocument, Stopped, Store, TransactionRefused, _turns
+from dilforec.service import (
+    BadSchema, Locked, NoSuchDocument, NotWritten, Stopped, Store, TransactionRefused, _merger, _turns,
+)
 from service_tools import FIELDS, Failing, Stored
 
 
@@ -154,6 +156,66 @@ class Calls(Stored):
         self.assertEqual(len(store), 0)
 
 
+class Merges(Stored):
+    def test_beside(self):
+        """A thread makes large segments while transactions and searches go on, and closing doesn't wait for it."""
+        with mock.patch.object(_merger, "MOST_IN_A_COMMIT", 0):
+            store = self.opened()
+        for year in range(100):
+            store.add({"title": "rust", "year": year})
+            self.assertEqual(store.search("rust").count, year + 1)
+        store.delete(1)
+        until = time.monotonic() + 20
+        while self.segments(store) > 10 and time.monotonic() < until:
+            time.sleep(0.01)
+        self.assertLessEqual(self.segments(store), 10)
+        self.assertEqual((store.search("rust").count, store.get(1)), (99, None))
+        for year in range(20):
+            store.add({"title": "rust", "year": year})
+        store.close()
+        self.assertEqual((len(self.opened()), store.writable), (119, False))
+
+    def test_without_memory_or_threads(self):
+        """A merge that can't be begun, run or ended is begun again after a later commit."""
+        with mock.patch.object(_merger, "MOST_IN_A_COMMIT", 0):
+            store = self.opened()
+        for target, name, error in [(dilforec.Index, "begin_merge", MemoryError), (threading.Thread, "start", RuntimeError),
+                                    (dilforec.Merge, "run", MemoryError), (dilforec.Index, "end_merge", MemoryError)]:
+            with mock.patch.object(target, name, side_effect=error), self.assertLogs("dilforec.service", "WARNING"):
+                for _ in range(20):
+                    store.add({"title": "rust"})
+                while store._merger._is_under_way:
+                    time.sleep(0.001)
+        self.assertEqual((self.segments(store), len(store)), (80, 80))
+        until = time.monotonic() + 20
+        while self.segments(store) > 10 and time.monotonic() < until:
+            store.add({"title": "rust"})
+            time.sleep(0.01)
+        self.assertLessEqual(self.segments(store), 10)
+
+    def test_closed_meanwhile(self):
+        """A store closes while a merge runs."""
+        begun, closed = threading.Event(), threading.Event()
+
+        def run(merge, run=dilforec.Merge.run):
+            begun.set()
+            closed.wait(20)
+            run(merge)
+
+        with mock.patch.object(_merger, "MOST_IN_A_COMMIT", 0), mock.patch.object(dilforec.Merge, "run", run):
+            store = self.opened()
+            for _ in range(20):
+                store.add({"title": "rust"})
+            self.assertTrue(begun.wait(20))
+            store.close()
+            closed.set()
+        self.assertEqual(len(self.opened()), 20)
+
+    def segments(self, store):
+        with store.snapshot() as snapshot:
+            return snapshot.stats().segments
+
+
 class Threads(Stored):
     def test_groups(self):
         """Transactions that wait at the same time share a sync; a refused one among them hinders none."""
@@ -215,6 +277,43 @@ class Threads(Stored):
             thread.join()
         told = dict(came)
         self.assertEqual((told["again"], self.all(store)), (None, {2: {"title": "b"}}))
+
+    def test_interrupted_leader(self):
+        """Where the thread that leads is interrupted, nobody is told that what wasn't written is done."""
+        store = self.opened()
+        entered, go, told = threading.Event(), threading.Event(), []
+        append = store._writer.journal.append
+
+        def first_alone(data):
+            if entered.is_set():
+                raise KeyboardInterrupt
+            entered.set()
+            go.wait(20)
+            append(data)
+
+        def call(do):
+            try:
+                do()
+                told.append(None)
+            except BaseException as error:
+                told.append(type(error))
+
+        def add():
+            store.add({"title": "rust"})
+
+        with mock.patch.object(store._writer.journal, "append", first_alone):
+            threads = []
+            for place, do in enumerate([add, add, lambda: store._alone(lambda: None), add], 1):
+                threads.append(threading.Thread(target=call, args=(do,)))
+                threads[-1].start()
+                self.assertTrue(entered.wait(20))
+                while len(store._turns._waiting) < place:
+                    time.sleep(0.001)
+            go.set()
+            for thread in threads:
+                thread.join()
+        self.assertEqual(sorted(map(str, told)), sorted(map(str, [None, KeyboardInterrupt, NotWritten, NotWritten])))
+        self.assertEqual(len(store), 1)
 
     def test_interrupted(self):
         """Threads that are interrupted while they wait for their turn don't keep others from theirs."""

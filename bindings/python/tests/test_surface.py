@@ -3,6 +3,7 @@ import copy
 import pathlib
 import pickle
 import re
+import threading
 import unittest
 
 import dilforec
@@ -113,6 +114,32 @@ class Syntax(unittest.TestCase):
 
 
 class Stats(unittest.TestCase):
+    def test_merges(self):
+        """A merge is run in another thread while the index goes on, and then ended."""
+        with dilforec.Index() as index:
+            self.assertRaises(dilforec.NoSchema, index.limit_merges, 0)
+            self.assertEqual((index.begin_merge(), index.end_merge()), (None, False))
+        with dilforec.Index(*FIELDS) as index:
+            self.assertRaises(TypeError, index.limit_merges, "few")
+            self.assertRaises(ValueError, index.limit_merges, -1)
+            index.limit_merges(0)
+            for year in range(8):
+                with index.transaction():
+                    index.add({"title": "rust", "year": year})
+            with index.begin_merge() as merge:
+                self.assertFalse(index.end_merge())
+                thread = threading.Thread(target=merge.run)
+                thread.start()
+                with index.transaction():
+                    index.delete("year", 0)
+                thread.join()
+                self.assertEqual((index.end_merge(), index.end_merge()), (True, False))
+                merge.run()
+            self.assertRaises(dilforec.Closed, merge.run)
+            self.assertEqual((index.stats().segments, index.search("rust").count), (1, 7))
+            index.limit_merges(None)
+            index.limit_merges(2**40)
+
     def test_stats(self):
         """Segments and documents of the last commit; a searcher tells those of its own."""
         with dilforec.Index() as index:

@@ -12,6 +12,8 @@ pub enum Error {
     LineTooLong,
     /// The index took 2^61 lines.
     UsedUp,
+    /// The index has no schema yet.
+    NoSchema,
     /// The index refused the line.
     Refused(Refusal),
     /// A document that replaces another has another value in the field, or none.
@@ -128,6 +130,7 @@ impl fmt::Display for Error {
             Error::Memory => write!(out, "there was no memory"),
             Error::LineTooLong => write!(out, "the line has more than 4,194,304 bytes"),
             Error::UsedUp => write!(out, "the index took 2^61 lines"),
+            Error::NoSchema => write!(out, "the index has no schema"),
             Error::Refused(Refusal { name, line, at: None }) => write!(out, "{name} in line {line}"),
             Error::Refused(Refusal { name, line, at: Some(at) }) => write!(out, "{name} in line {line}, byte {at}"),
             Error::OtherKey => write!(out, "the document has another value in the field, or none"),

@@ -207,6 +207,56 @@ impl Index {
         sys::stats(|stats| unsafe { sys::dilforec_stats(&mut self.raw, stats) })
     }
 
+    /// From now on, commits merge no segment of more live documents than a limit, and none by itself; with `None`,
+    /// whatever is due. So commits stay short, and what is left waits for [`begin_merge`](Index::begin_merge).
+    pub fn limit_merges(&mut self, documents: Option<u32>) -> Result<(), Error> {
+        let limit = documents.map_or(sys::NO_LIMIT, |most| most.min(sys::NO_LIMIT - 1));
+        // SAFETY: the handle is open until `self` is dropped.
+        match unsafe { sys::dilforec_limit_merges(&mut self.raw, limit) } {
+            sys::NOTHING => Err(Error::NoSchema),
+            code => Error::of(code),
+        }
+    }
+
+    /// The merge that is due next, if one is. The index forgets the one that was begun before.
+    ///
+    /// ```
+    /// # fn main() -> Result<(), dilforec::Error> {
+    /// # use dilforec::{Document, Field, Index};
+    /// # let mut index = Index::with_schema(&[Field::text("title").default()])?;
+    /// index.limit_merges(Some(0))?;
+    /// for title in ["a", "b", "c", "d", "e", "f"] {
+    ///     index.add(&Document::new().with("title", title))?;
+    ///     index.commit()?;
+    /// }
+    /// if let Some(mut merge) = index.begin_merge()? {
+    ///     std::thread::spawn(move || merge.run()).join().expect("no panic")?;
+    ///     assert!(index.end_merge()?);
+    /// }
+    /// assert_eq!(index.stats()?.segments, 1);
+    /// # Ok(())
+    /// # }
+    /// ```
+    pub fn begin_merge(&mut self) -> Result<Option<Merge>, Error> {
+        let mut raw = Raw::CLOSED;
+        // SAFETY: the handle is open until `self` is dropped, and the slot is ours, and closed.
+        match unsafe { sys::dilforec_merge_begin(&mut self.raw, &mut raw) } {
+            sys::NOTHING => Ok(None),
+            code => Error::of(code).map(|()| Some(Merge { raw })),
+        }
+    }
+
+    /// Puts what the merge made that was begun last in the place of what it joined, and tells whether it did: not if
+    /// none was begun, or it wasn't run, or what it joined was merged meanwhile, by a commit or a script's `merge`, or
+    /// all of it was deleted. It changes the result of no search.
+    pub fn end_merge(&mut self) -> Result<bool, Error> {
+        // SAFETY: the handle is open until `self` is dropped.
+        match unsafe { sys::dilforec_merge_end(&mut self.raw) } {
+            sys::NOTHING | sys::GONE => Ok(false),
+            code => Error::of(code).map(|()| true),
+        }
+    }
+
     /// A searcher of the last commit; uncommitted operations aren't found.
     pub fn searcher(&mut self) -> Result<Searcher, Error> {
         // SAFETY: the handle is open until `self` is dropped.
@@ -289,6 +339,31 @@ impl Drop for Searcher {
     fn drop(&mut self) {
         // SAFETY: nothing uses the handle after this.
         unsafe { sys::dilforec_searcher_close(&mut self.raw) };
+    }
+}
+
+/// A merge that an index began. It is run in any thread, while the index is used, and then ended by the index.
+#[derive(Debug)]
+pub struct Merge {
+    raw: Raw,
+}
+
+// SAFETY: the library keeps nothing that belongs to a thread, what a merge joins never changes, what it makes reaches its
+// index through an atomic slot, and a handle is used through `&mut` alone.
+unsafe impl Send for Merge {}
+
+impl Merge {
+    /// Makes one segment. Again, it does nothing; after `Memory` it may be run again.
+    pub fn run(&mut self) -> Result<(), Error> {
+        // SAFETY: the handle is open until `self` is dropped.
+        Error::of(unsafe { sys::dilforec_merge_run(&mut self.raw) })
+    }
+}
+
+impl Drop for Merge {
+    fn drop(&mut self) {
+        // SAFETY: nothing uses the handle after this.
+        unsafe { sys::dilforec_merge_close(&mut self.raw) };
     }
 }
 

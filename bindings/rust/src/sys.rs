@@ -50,7 +50,21 @@ extern "C" {
     pub fn dilforec_searcher_reply(searcher: *mut Raw, out: *mut u8, room: usize) -> usize;
     pub fn dilforec_searcher_stats(searcher: *mut Raw, stats: *mut Stats) -> i32;
     pub fn dilforec_searcher_close(searcher: *mut Raw) -> i32;
+    pub fn dilforec_limit_merges(index: *mut Raw, limit: u32) -> i32;
+    pub fn dilforec_merge_begin(index: *mut Raw, slot: *mut Raw) -> i32;
+    pub fn dilforec_merge_run(merge: *mut Raw) -> i32;
+    pub fn dilforec_merge_end(index: *mut Raw) -> i32;
+    pub fn dilforec_merge_close(merge: *mut Raw) -> i32;
 }
+
+/// There is nothing to merge, or no merge to end.
+pub const NOTHING: i32 = 5;
+
+/// What a merge joined is gone.
+pub const GONE: i32 = 6;
+
+/// The limit of merges that is none.
+pub const NO_LIMIT: u32 = u32::MAX;
 
 /// The most bytes of the reply to a line that isn't a search.
 const REPLY_TO_CHANGE: usize = 128;

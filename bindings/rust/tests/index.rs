@@ -213,6 +213,29 @@ fn stats_count_segments_and_documents() -> Result<(), Error> {
 }
 
 #[test]
+fn merges_run_beside_the_index() -> Result<(), Error> {
+    let mut index = Index::open()?;
+    assert_eq!(index.limit_merges(Some(0)), Err(Error::NoSchema));
+    assert!(index.begin_merge()?.is_none());
+    let mut index = Index::with_schema(&fields())?;
+    index.limit_merges(Some(0))?;
+    for year in 0..8u64 {
+        index.add(&book("rust").with("year", year))?;
+        index.commit()?;
+    }
+    let mut merge = index.begin_merge()?.expect("eight segments are due");
+    assert!(!index.end_merge()?);
+    let thread = std::thread::spawn(move || merge.run());
+    index.delete("year", 0)?;
+    index.commit()?;
+    thread.join().expect("no panic")?;
+    assert!(index.end_merge()?);
+    assert!(!index.end_merge()?);
+    assert_eq!((index.stats()?.segments, index.search("rust")?.count), (1, 7));
+    index.limit_merges(None)
+}
+
+#[test]
 fn refusals_and_codes_leave_the_index_as_it_was() -> Result<(), Error> {
     assert_eq!(Index::open()?.search("rust"), Err(refused("NoSchema", 1)));
     let mut index = Index::with_schema(&fields())?;

@@ -15,6 +15,15 @@ pub const USED_UP: i32 = 3;
 /// The handle is closed.
 pub const CLOSED: i32 = 4;
 
+/// There is nothing to do it to.
+pub const NOTHING: i32 = 5;
+
+/// What a merge made can't be taken in any more.
+pub const GONE: i32 = 6;
+
+/// The limit of merges that is none.
+pub const NO_LIMIT: u32 = u32::MAX;
+
 /// The length of a reply, of a closed handle.
 pub const NO_REPLY: usize = usize::MAX;
 

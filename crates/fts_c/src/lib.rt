@@ -3,9 +3,10 @@
 //! A handle is a place for a pointer, which one call at a time may use; it is closed while it is null. A line of a
 //! script goes in, and its reply comes out, to the byte that the script's definition says. A searcher is a handle too:
 //! a session of its own over the last commit of another, which another thread may have, and which takes searches alone.
+//! So is a merge, which another thread runs while its index goes on.
 //! What a caller owes is a handle that was opened or is null, and true lengths. What each call leaves, and which code
-//! it answers, is a definition of `specs/Calls.antt`, `Blocks`, `Pairs` or `CutSearches`, for a place that is open, and
-//! of `specs/Open.antt` or `StatsOf` for one that may be closed. A call that needs no handle tells where a query can't
+//! it answers, is a definition of `specs/Calls.antt`, `Blocks`, `Pairs`, `CutSearches` or `Merges`, for a place that is
+//! open, and of `specs/Open.antt` or `StatsOf` for one that may be closed. A call that needs no handle tells where a query can't
 //! be read any further (`specs/Syntaxes.antt`).
 #![tactic(auto)]
 
@@ -19,6 +20,7 @@ ghost use Rattle.fts_c.specs.CutSearches.{SearchesFields};
 ghost use Rattle.fts_c.specs.Pairs.{Replaces};
 ghost use Rattle.fts_c.specs.Calls.{copied, Answers, Executes, Opens, Searches};
 ghost use Rattle.fts_c.specs.Held.{held};
+ghost use Rattle.fts_c.specs.Merges.{BeginsMerge, EndsMerge, LimitsMerges, RunsMerge};
 ghost use Rattle.fts_c.specs.Open.{Closes, IfOpen, OpensSearcher, TellsIfOpen};
 ghost use Rattle.fts_c.specs.StatsOf.{TellsStats};
 ghost use Rattle.fts_c.specs.Syntaxes.{IsSyntaxAt, TellsSyntaxAt};
@@ -26,10 +28,11 @@ ghost use Rattle.fts_script.specs.session.Outputs.{start};
 
 mod codes;
 mod loose;
+mod merges;
 mod state;
 
 use crate::loose::Loose;
-use codes::{CLOSED, MEMORY, NO_BYTE, NO_REPLY, OK};
+use codes::{CLOSED, MEMORY, NO_BYTE, NO_LIMIT, NO_REPLY, OK};
 use core::mem::replace_with;
 use core::ptr::null_mut;
 use fts_engine::{Cut, Merge, Options};
@@ -146,7 +149,15 @@ fn open(slot: &mut Slot, alloc: Global, session: Session<LocalEngine>) -> i32
     ensures { Opens session slot.new.state slot.old slot.new result }
 {
     let reply = String::new(alloc);
-    match Box::new(alloc, State { session, reply }) {
+    let merge = None;
+    match Box::new(
+        alloc,
+        State {
+            session,
+            reply,
+            merge,
+        },
+    ) {
         Ok(state) => {
             *slot = Slot::full(wrap(state));
             OK
@@ -368,6 +379,94 @@ pub extern "C" fn dilforec_syntax_at(alloc: Global, query: &[u8], at: &mut usize
         }
         Err(AllocError) => MEMORY,
     }
+}
+
+/// From now on, commits merge no segment of more live documents than a limit, and none by itself; without one, they
+/// merge whatever is due. What is left waits for merges that are begun. 0, 3 if there were 2^61 calls, 4 if the place is
+/// closed, or 5 if there is no schema yet.
+#[unsafe(no_mangle)]
+pub extern "C" fn dilforec_limit_merges(slot: &mut Slot, alloc: Global, limit: u32) -> i32
+    ensures { IfOpen slot.old.state slot.new.state result
+        (λ old new. LimitsMerges old new result) }
+{
+    let limit = if limit == NO_LIMIT { None } else { Some(limit) };
+    match take(slot, alloc) {
+        Some(handle) => {
+            let mut state = unwrap(handle);
+            let code = state.limit_merges(limit);
+            *slot = Slot::full(wrap(state));
+            code
+        }
+        None => CLOSED,
+    }
+}
+
+/// Begins a merge of what is due next, in a place of its own, and forgets the one that was begun before: 0, 1 if memory
+/// was refused, 3 if there were 2^61 calls, 4 if the index is closed, or 5 if nothing is due.
+#[unsafe(no_mangle)]
+pub extern "C" fn dilforec_merge_begin(index: &mut Slot, slot: &mut Slot, alloc: Global) -> i32
+    ensures { BeginsMerge index.old.state index.new.state slot.new.state slot.old slot.new result }
+{
+    match take(index, alloc) {
+        Some(handle) => {
+            let mut state = unwrap(handle);
+            let begun = state.begin_merge(alloc, Session::new(options()));
+            *index = Slot::full(wrap(state));
+            match begun {
+                Ok(merge) => {
+                    *slot = Slot::full(wrap(merge));
+                    OK
+                }
+                Err(code) => code,
+            }
+        }
+        None => CLOSED,
+    }
+}
+
+/// Runs a merge, in any thread, while its index goes on: 0, 1 if memory was refused, or 4 if the place is closed. Again,
+/// it does nothing.
+#[unsafe(no_mangle)]
+pub extern "C" fn dilforec_merge_run(merge: &mut Slot, alloc: Global) -> i32
+    ensures { IfOpen merge.old.state merge.new.state result
+        (λ old new. RunsMerge old new result) }
+{
+    match take(merge, alloc) {
+        Some(handle) => {
+            let mut state = unwrap(handle);
+            let code = state.run_merge(alloc);
+            *merge = Slot::full(wrap(state));
+            code
+        }
+        None => CLOSED,
+    }
+}
+
+/// Ends the merge of an index that was begun last: what it made takes the place of what it joined, with what was deleted
+/// meanwhile. 0, 1 if memory was refused, so that it may be ended again, 3 if there were 2^61 calls, 4 if the index is
+/// closed, 5 if there is none or it wasn't run, or 6 if what it joined was merged meanwhile: then it is given up.
+#[unsafe(no_mangle)]
+pub extern "C" fn dilforec_merge_end(index: &mut Slot, alloc: Global) -> i32
+    ensures { IfOpen index.old.state index.new.state result
+        (λ old new. EndsMerge old new result) }
+{
+    match take(index, alloc) {
+        Some(handle) => {
+            let mut state = unwrap(handle);
+            let code = state.end_merge();
+            *index = Slot::full(wrap(state));
+            code
+        }
+        None => CLOSED,
+    }
+}
+
+/// Lets a merge go, and leaves its place closed: 0, or 4 if it was closed before. What it made stays to be ended.
+#[unsafe(no_mangle)]
+pub extern "C" fn dilforec_merge_close(merge: &mut Slot, alloc: Global) -> i32
+    ensures { Closes merge.old.state merge.new.state result }
+{
+    close(merge, alloc)
 }
 
 /// Ends what is open in a place.

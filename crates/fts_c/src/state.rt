@@ -1,30 +1,34 @@
-// A session and its last reply.
-ghost use Rattle.std.specs.Prelude.{◌≡◌, [], MatchResult, string_bytes};
+// A session and its last reply, or a merge.
+ghost use Rattle.std.specs.Prelude.{◌≡◌, ◌≢◌, [], None, MatchResult, string_bytes};
 ghost use Rattle.fts_c.specs.Blocks.{ExecutesLines, ExecutesNext};
 ghost use Rattle.fts_c.specs.Calls.{Answers, Executes, Searches};
 ghost use Rattle.fts_c.specs.CutSearches.{SearchesFields};
 ghost use Rattle.fts_c.specs.Codes.{IsFault, IsTried};
+ghost use Rattle.fts_c.specs.Merges.{EndsMerge, IsUnkept, LimitsMerges, NotBegun, RunsMerge};
 ghost use Rattle.fts_c.specs.Pairs.{AreTried, IsFaultOfTwo, Replaces};
 ghost use Rattle.fts_c.specs.StatsOf.{AreStatsOf};
 
-use crate::codes::{LINE_TOO_LONG, MEMORY, OK, USED_UP};
-use fts_engine_local::{LocalEngine, Stats};
+use crate::codes::{GONE, LINE_TOO_LONG, MEMORY, NOTHING, OK, USED_UP};
+use crate::merges::{Beginning, Ending, Limiting};
+use fts_engine_local::{BegunMerge, LocalEngine, Stats};
+use fts_model::Refusal;
 use fts_script::LONGEST;
-use fts_script::session::{MOST_LINES, Session, first_line, is_blank};
+use fts_script::session::{MOST_LINES, Session, Upkeep, first_line, is_blank};
 use std::alloc::{AllocError, Global};
 
 /// How large an index is that has no schema.
-const NOTHING: Stats = Stats {
+const EMPTY: Stats = Stats {
     segments: 0,
     documents: 0,
     live: 0,
 };
 
-/// A session over segments, and its last reply.
+/// A session over segments, and its last reply; or a merge, beside a session that takes no line.
 #[derive(Drop)]
 pub struct State {
     pub session: Session<LocalEngine>,
     pub reply: String,
+    pub merge: Option<BegunMerge>,
 }
 
 /// What is done with a line.
@@ -173,7 +177,87 @@ impl State {
     {
         match self.session.index() {
             Some(engine) => engine.stats(),
+            None => EMPTY,
+        }
+    }
+
+    /// Has work done on how the index is kept, or tells the code of why not.
+    fn keep_up<W: Upkeep<LocalEngine> + Drop>(&mut self, work: W) -> Result<W::Done, i32>
+        ensures same { self.new ≡ self.old }
+        ensures code { MatchResult result (λ _. self.old.session.index ≢ None) (IsUnkept self.old.session.index) }
+    {
+        if self.session.index().is_none() {
+            return Err(NOTHING);
+        }
+        match self.session.keep_up(work) {
+            Some(done) => Ok(done),
+            None => Err(USED_UP),
+        }
+    }
+
+    /// Limits what commits merge.
+    pub(crate) fn limit_merges(&mut self, limit: Option<u32>) -> i32
+        ensures { LimitsMerges self.old self.new result }
+    {
+        match self.keep_up(Limiting { limit }) {
+            Ok(()) => OK,
+            Err(code) => code,
+        }
+    }
+
+    /// Begins a merge, in a state of its own with this session, or tells the code of why not. The state's memory comes
+    /// first, so that the index doesn't forget another merge for want of it.
+    pub(crate) fn begin_merge(
+        &mut self,
+        alloc: Global,
+        session: Session<LocalEngine>,
+    ) -> Result<Box<State, Global>, i32>
+        ensures same { self.new ≡ self.old }
+        ensures begun { MatchResult result
+            (λ begun. (self.old.session.index ≢ None) × (begun.value.merge ≢ None))
+            (NotBegun self.old.session.index) }
+    {
+        let begun = State {
+            session,
+            reply: String::new(alloc),
+            merge: None,
+        };
+        let Ok(mut begun) = Box::new(alloc, begun) else {
+            return Err(MEMORY);
+        };
+        match self.keep_up(Beginning)? {
+            Ok(Some(merge)) => {
+                begun.merge = Some(merge);
+                Ok(begun)
+            }
+            Ok(None) => Err(NOTHING),
+            Err(_) => Err(MEMORY),
+        }
+    }
+
+    /// Runs the merge that is here.
+    pub(crate) fn run_merge(&mut self, alloc: Global) -> i32
+        ensures { RunsMerge self.old self.new result }
+    {
+        match &mut self.merge {
+            Some(merge) => match merge.run(alloc) {
+                Ok(()) => OK,
+                Err(_) => MEMORY,
+            },
             None => NOTHING,
+        }
+    }
+
+    /// Ends the merge that was begun last.
+    pub(crate) fn end_merge(&mut self) -> i32
+        ensures { EndsMerge self.old self.new result }
+    {
+        match self.keep_up(Ending) {
+            Ok(Ok(true)) => OK,
+            Ok(Ok(false)) => NOTHING,
+            Ok(Err(Refusal::Memory)) => MEMORY,
+            Ok(Err(_)) => GONE,
+            Err(code) => code,
         }
     }
 

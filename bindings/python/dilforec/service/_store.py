@@ -18,6 +18,7 @@ from dilforec.service._errors import (
     BadSchema, Busy, NotWritten, OutcomeUnknown, Stopped, TransactionRefused,
 )
 from dilforec.service._journal import Journal
+from dilforec.service._merger import Merger
 from dilforec.service._replay import Progress, replay
 from dilforec.service._snapshot import Answer, Snapshot
 from dilforec.service._turns import Turns
@@ -135,6 +136,7 @@ class Store:
         self._published = threading.Lock()
         self._searcher, self._commit = index.searcher(), numbers.commit
         self._turns: "Turns[Union[Pending, _Alone]]" = Turns(self._lead)
+        self._merger = Merger(index, self._alone, self._show_merged)
         self._compacting = threading.Lock()
         self._closing = self._closed = False
 
@@ -160,6 +162,7 @@ class Store:
     def _close(self) -> None:
         if not self._closed:
             self._closed = True
+            self._merger.close()
             self._writer.stopped = "the store is closed"
             with self._published:
                 self._searcher.close()
@@ -211,6 +214,17 @@ class Store:
         return Done(tuple(pending.ids), pending.commit)
 
     def _lead(self, jobs: "list[Union[Pending, _Alone]]") -> int:
+        try:
+            return self._lead_first(jobs)
+        except BaseException:
+            # The thread was interrupted, and all of them count as done.
+            for job in jobs:
+                if not (job.error or isinstance(job, Pending) and job.commit):
+                    job.error = NotWritten("nothing was done: the thread whose turn it was was interrupted")
+            raise
+
+    def _lead_first(self, jobs: "list[Union[Pending, _Alone]]") -> int:
+        """Does the transactions of the beginning, or what comes first if that isn't one."""
         transactions: "list[Pending]" = []
         for job in jobs:
             if isinstance(job, _Alone):
@@ -219,6 +233,7 @@ class Store:
         if transactions:
             taken = self._writer.commit(transactions)
             self._publish()
+            self._merger.begin()
             return taken
         alone = jobs[0]
         assert isinstance(alone, _Alone)
@@ -236,12 +251,19 @@ class Store:
 
     def _publish(self) -> None:
         """Lets searches see the last commit. Without memory they see the one before, until the next."""
-        if self._commit == self._writer.numbers.commit:
-            return
+        if self._commit != self._writer.numbers.commit:
+            self._show()
+
+    def _show_merged(self) -> None:
+        """Lets searches see the last commit in other segments, unless it isn't known which commit that is."""
+        if self._writer.stopped is None:
+            self._show()
+
+    def _show(self) -> None:
         try:
             searcher = self._writer.index.searcher()
         except MemoryError:
-            log.error("there was no memory to show searches the last commit")
+            log.error("there was no memory for searches to see what the index has now")
             return
         with self._published:
             old, self._searcher, self._commit = self._searcher, searcher, self._writer.numbers.commit

@@ -22,7 +22,7 @@ class Turns(Generic[J]):
     """What waits is done in the order in which it came.
 
     `lead` takes a beginning of the jobs that wait, does it, and returns how many that were, at least one. It notes in
-    a job what came of it, and raises nothing but what ends the thread.
+    a job what came of it, and raises nothing but what ends the thread; then all count as done, and it noted so in each.
     """
 
     def __init__(self, lead: "Callable[[list[J]], int]") -> None:

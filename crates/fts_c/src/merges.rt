@@ -1,0 +1,42 @@
+// How an index is merged, as work that a session hands on to its engine.
+use fts_engine_local::{BegunMerge, LocalEngine};
+use fts_model::Refusal;
+use fts_script::session::Upkeep;
+
+/// Limits what commits merge.
+#[derive(Drop)]
+pub(crate) struct Limiting {
+    pub(crate) limit: Option<u32>,
+}
+
+impl Upkeep<LocalEngine> for Limiting {
+    type Done = ();
+
+    fn done(self, engine: &mut LocalEngine) {
+        engine.limit_merges(self.limit);
+    }
+}
+
+/// Begins a merge.
+#[derive(Drop)]
+pub(crate) struct Beginning;
+
+impl Upkeep<LocalEngine> for Beginning {
+    type Done = Result<Option<BegunMerge>, Refusal>;
+
+    fn done(self, engine: &mut LocalEngine) -> Result<Option<BegunMerge>, Refusal> {
+        engine.begin_merge()
+    }
+}
+
+/// Ends the merge that was begun last.
+#[derive(Drop)]
+pub(crate) struct Ending;
+
+impl Upkeep<LocalEngine> for Ending {
+    type Done = Result<bool, Refusal>;
+
+    fn done(self, engine: &mut LocalEngine) -> Result<bool, Refusal> {
+        engine.end_merge()
+    }
+}
