@@ -1,6 +1,5 @@
 -- What calls that change an index take of stamps, segments and numbers.
-use Rattle.std.proofs.Common.{◌≡◌, ◌+◌, ℕ, true, None, Result, Ok, Err, OnOk, is_ok, List, [], ◌∷◌, ◌++◌, length, refl, sym, subst, arith}
-use Rattle.std.proofs.lemmas.Bool.{false≢true}
+use Rattle.std.proofs.Common.{◌≡◌, ◌+◌, ℕ, true, None, Result, is_ok, List, [], ◌∷◌, ◌++◌, length, refl, sym, subst, arith}
 use Rattle.std.proofs.lemmas.List.{length-append}
 use Rattle.fts_model.specs.declared.operation.Op.{Op}
 use Rattle.fts_model.specs.declared.operation.Stamped.{Stamped}
@@ -8,11 +7,12 @@ use Rattle.fts_model.specs.Operations.{op_fits}
 use Rattle.fts_base.specs.declared.refusal.Refusal.{Refusal}
 use Rattle.fts_engine.specs.declared.options.Merge.{Merge}
 use Rattle.fts_merge.specs.declared.policy.MergePolicy.{MergePolicy}
+use Rattle.fts_snapshots.specs.Candidates.{MergesDue}
 use Rattle.fts_snapshots.specs.Changes.{Commits, Merges}
 use Rattle.fts_snapshots.specs.Commits.{misfit}
 use Rattle.fts_snapshots.specs.Snapshots.{SnapshotValue}
 use Rattle.fts_snapshots.proofs.CountLemmas.{misfit-push}
-use Rattle.fts_engine_local.specs.CountedIndexes.{CommitsAndMerges, IsCounted, after_policy}
+use Rattle.fts_engine_local.specs.CountedIndexes.{CommitsAndMerges, IsCounted, candidates_after}
 
 -- one more uncommitted operation
 pub counted_submitted : (stamp : ℕ) (s : SnapshotValue) (ops : List (Stamped Op)) (op : Stamped Op) (calls : ℕ) → IsCounted stamp s ops calls →
@@ -44,8 +44,7 @@ counted_merged stamp old new ops calls i m = record {
   segments = omega (arith, m.segments, i.segments);
 }
 
--- operations were committed, and then what was due was merged, unless memory ran out
+-- operations were committed, and then what was due was merged, but for what memory ran out for
 pub commits_and_merges : {X : Type 0} (merge : Merge) (policy : MergePolicy) (ops : List (Stamped Op)) (old made new : SnapshotValue) (r : Result X Refusal) →
-    Commits ops old made → OnOk r (new ≡ after_policy merge policy made) → CommitsAndMerges merge policy ops old new (is_ok r)
-commits_and_merges merge policy ops old made new (Ok x) c h = record { made = made; commits = c; merges = λ _. h }
-commits_and_merges merge policy ops old made new (Err e) c h = record { made = made; commits = c; merges = λ b. absurd (false≢true b) }
+    Commits ops old made → MergesDue (candidates_after merge policy made) made new (is_ok r) → CommitsAndMerges merge policy ops old new (is_ok r)
+commits_and_merges merge policy ops old made new r c m = record { made = made; commits = c; merges = m }

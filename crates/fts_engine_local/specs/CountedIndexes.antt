@@ -1,10 +1,10 @@
 -- What both engines over segments share: an index at a commit, what calls take of numbers, and the merges after a
 -- commit.
-use Rattle.std.specs.Prelude.{◌≡◌, Bool, true, ℕ, ◌+◌, ◌*◌, ◌≤◌, None, List, length}
+use Rattle.std.specs.Prelude.{◌≡◌, Bool, ℕ, ◌+◌, ◌*◌, ◌≤◌, None, List, [], length}
 use Rattle.fts_merge.specs.declared.policy.MergePolicy.{MergePolicy}
 use Rattle.fts_model.specs.declared.operation.Op.{Op}
 use Rattle.fts_model.specs.declared.operation.Stamped.{Stamped}
-use Rattle.fts_snapshots.specs.Candidates.{after_candidates, due}
+use Rattle.fts_snapshots.specs.Candidates.{MergesDue}
 use Rattle.fts_snapshots.specs.Changes.{Commits}
 use Rattle.fts_snapshots.specs.Commits.{misfit}
 use Rattle.fts_snapshots.specs.Infos.{candidate_ids_by}
@@ -29,14 +29,14 @@ pub record IsCounted (stamp : ℕ) (snapshot : SnapshotValue) (uncommitted : Lis
   pub stamps : stamp + length uncommitted ≤ calls
   pub segments : segments_and_numbers snapshot + 2 * length uncommitted ≤ 2 * calls
 
--- what the merges after a commit leave of it, where they are to go by a policy
-abbrev pub after_policy : Merge → MergePolicy → SnapshotValue → SnapshotValue
-after_policy Off policy s = s
-after_policy Policy policy s = after_candidates (due (candidate_ids_by policy s.entries)) s
+-- the candidates of the merges after a commit, where they are to go by a policy
+abbrev pub candidates_after : Merge → MergePolicy → SnapshotValue → List (List ℕ)
+candidates_after Off policy s = []
+candidates_after Policy policy s = candidate_ids_by policy s.entries
 
--- Operations were committed, and what is due by a policy of what they left was merged, unless memory ran out for some.
+-- Operations were committed, and what is due by a policy of what they left was merged, but for what memory ran out for.
 pub record CommitsAndMerges (merge : Merge) (policy : MergePolicy) (ops : List (Stamped Op)) (old new : SnapshotValue)
     (is_merged : Bool) : Type 0 where
   pub made : SnapshotValue
   pub commits : Commits ops old made
-  pub merges : is_merged ≡ true → new ≡ after_policy merge policy made
+  pub merges : MergesDue (candidates_after merge policy made) made new is_merged

@@ -1,8 +1,9 @@
 // When segments are merged after a commit.
-ghost use Rattle.std.specs.Prelude.{◌≡◌, ◌≤◌, OnOk, IsOkUnless};
+ghost use Rattle.std.specs.Prelude.{◌≡◌, ◌≤◌, IsOkUnless, is_ok};
 ghost use Rattle.fts_model.specs.Limits.{most_merged};
+ghost use Rattle.fts_snapshots.specs.Candidates.{MergesDue};
 ghost use Rattle.fts_snapshots.specs.Changes.{Merges};
-ghost use Rattle.fts_engine_local.specs.CountedIndexes.{after_policy};
+ghost use Rattle.fts_engine_local.specs.CountedIndexes.{candidates_after};
 ghost use Rattle.fts_engine_local.specs.LocalPolicies.{local_policy};
 
 use fts_engine::Merge;
@@ -21,8 +22,8 @@ pub fn merge_after<R, S: Mergeable<R>>(
 ) -> Result<(), Refusal>
     requires floor { policy.now.floor ≤ most_merged }
     requires most { policy.now.most ≤ most_merged }
-    ensures planned { OnOk result
-        (S.left commit.new ≡ after_policy merge policy.now (S.left commit.old)) }
+    ensures planned { MergesDue (candidates_after merge policy.now (S.left commit.old)) (S.left commit.old)
+        (S.left commit.new) (is_ok result) }
     ensures merges { Merges 1 (S.left commit.old) (S.left commit.new) }
     ensures keeps { S.keeps commit.old commit.new }
     ensures memory { IsOkUnless result Refusal.Memory }

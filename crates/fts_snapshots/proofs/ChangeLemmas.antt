@@ -1,6 +1,7 @@
 -- What commits and merges change of an index over segments.
 use Rattle.std.proofs.Common.{◌≡◌, ◌+◌, ◌<◌, ◌≤◌, ◌⊎◌, inl, inr, ℕ, true, false, cond, None, Some, Result, Ok, Err, OnOk, OnErr, nat_lt, List, [], ◌∷◌, ◌++◌}
 use Rattle.std.proofs.Common.{length, get_or, drop, map, filter, is_none, refl, sym, ap, subst, ◌∙◌, arith}
+use Rattle.std.proofs.lemmas.Bool.{false≢true}
 use Rattle.std.proofs.lemmas.Bool.Decides.{nat_tests}
 use Rattle.std.proofs.lemmas.List.{at_drop_all, at_drop_more, length-append}
 use Rattle.std.proofs.lemmas.List.Sums.{length-filter, count_by-le-length}
@@ -11,7 +12,7 @@ use Rattle.fts_model.specs.declared.cut.Cut.{Cut}
 use Rattle.fts_model.specs.declared.operation.Op.{Op}
 use Rattle.fts_model.specs.declared.operation.Stamped.{Stamped}
 use Rattle.fts_model.specs.Operations.{alive, adds}
-use Rattle.fts_snapshots.specs.Candidates.{after_candidate, after_candidates, due}
+use Rattle.fts_snapshots.specs.Candidates.{MergesAllBut, MergesDue, after_candidate, due}
 use Rattle.fts_snapshots.specs.Changes.{Commits, Merges}
 use Rattle.fts_snapshots.specs.Entries.{has_live}
 use Rattle.fts_snapshots.specs.LateMerges.{after_merge, ended}
@@ -93,30 +94,88 @@ merged_into_one ids s fine all =
           (filter has_live one),
     )
 
--- the first of the candidates that are left is this one
-due_first : {V : Type 0} (f : V → List ℕ) (vs : List V) (k : ℕ) (v : V) (s : SnapshotValue) → k < length vs → v ≡ get_or vs k v →
-    after_candidates (due (map f (drop k vs))) s ≡ after_candidates (due (f v ∷ map f (drop (k + 1) vs))) s
-due_first f vs k v s within is =
-    at_drop_more (λ ws. after_candidates (due (map f ws)) s) vs k v within ∙ ap (λ w. after_candidates (due (f w ∷ map f (drop (k + 1) vs))) s) (sym is)
+-- what is to follow once so many candidates were tried and so many refused: whatever the others come to, all come to that
+abbrev pub Tried : (all left : List (List ℕ)) → (old now : SnapshotValue) → ℕ → Type 0
+Tried all left old now refused =
+    (n : ℕ) (new : SnapshotValue) → MergesAllBut n (due left) now new → MergesAllBut (n + refused) (due all) old new
 
--- a candidate of several segments is tried, and then those after it
-pub due_more : {V : Type 0} (f : V → List ℕ) (vs : List V) (k : ℕ) (v : V) (old new : SnapshotValue) → k < length vs → v ≡ get_or vs k v → 2 ≤ length (f v) →
-    new ≡ after_candidate (f v) old →
-    after_candidates (due (map f (drop (k + 1) vs))) new ≡ after_candidates (due (map f (drop k vs))) old
-due_more f vs k v old new within is several made =
+-- before the first
+pub tried_none : (all : List (List ℕ)) (s : SnapshotValue) → Tried all all s s 0
+tried_none all s n new h = subst (λ m. MergesAllBut m (due all) s new) (omega arith) h
+
+-- the first of the candidates that are left is this one
+due_first : {V : Type 0} (f : V → List ℕ) (vs : List V) (k : ℕ) (v : V) → k < length vs → v ≡ get_or vs k v →
+    due (map f (drop k vs)) ≡ due (f v ∷ map f (drop (k + 1) vs))
+due_first f vs k v within is =
+    at_drop_more (λ ws. due (map f ws)) vs k v within ∙ ap (λ w. due (f w ∷ map f (drop (k + 1) vs))) (sym is)
+
+-- a candidate of several segments, and then those after it
+due_more : {V : Type 0} (f : V → List ℕ) (vs : List V) (k : ℕ) (v : V) → k < length vs → v ≡ get_or vs k v → 2 ≤ length (f v) →
+    due (map f (drop k vs)) ≡ f v ∷ due (map f (drop (k + 1) vs))
+due_more f vs k v within is several =
     let rest = map f (drop (k + 1) vs) in
     let more : nat_lt (length (f v)) 2 ≡ false = grind (arith, nat_tests) in
-    ap (after_candidates (due rest)) made ∙ sym (due_first f vs k v old within is ∙ ap (λ b. after_candidates (cond b (f v ∷ []) (f v ∷ due rest)) old) more)
+    due_first f vs k v within is ∙ ap (λ b. cond b (f v ∷ []) (f v ∷ due rest)) more
 
--- a candidate of one segment is the last that is tried
-pub due_last : {V : Type 0} (f : V → List ℕ) (vs : List V) (k : ℕ) (v : V) (old new : SnapshotValue) → k < length vs → v ≡ get_or vs k v → length (f v) < 2 →
-    new ≡ after_candidate (f v) old →
-    new ≡ after_candidates (due (map f (drop k vs))) old
-due_last f vs k v old new within is one made =
+-- a candidate of one segment is the last
+due_last : {V : Type 0} (f : V → List ℕ) (vs : List V) (k : ℕ) (v : V) → k < length vs → v ≡ get_or vs k v → length (f v) < 2 →
+    due (map f (drop k vs)) ≡ f v ∷ []
+due_last f vs k v within is one =
     let rest = map f (drop (k + 1) vs) in
     let last : nat_lt (length (f v)) 2 ≡ true = grind (arith, nat_tests) in
-    made ∙ sym (due_first f vs k v old within is ∙ ap (λ b. after_candidates (cond b (f v ∷ []) (f v ∷ due rest)) old) last)
+    due_first f vs k v within is ∙ ap (λ b. cond b (f v ∷ []) (f v ∷ due rest)) last
 
--- no candidate is left
-pub due_none : {V : Type 0} (f : V → List ℕ) (vs : List V) (k : ℕ) (s : SnapshotValue) → length vs ≤ k → after_candidates (due (map f (drop k vs))) s ≡ s
-due_none f vs k s past = at_drop_all (λ ws. after_candidates (due (map f ws)) s) vs k past
+-- a candidate of several segments was tried
+pub tried_more : {V : Type 0} (f : V → List ℕ) (vs : List V) (k : ℕ) (v : V) (old now next : SnapshotValue) (refused more : ℕ) →
+    k < length vs → v ≡ get_or vs k v → 2 ≤ length (f v) → MergesAllBut more (f v ∷ []) now next →
+    Tried (map f vs) (map f (drop k vs)) old now refused → Tried (map f vs) (map f (drop (k + 1) vs)) old next (refused + more)
+tried_more f vs k v old now next refused more within is several one t n new h =
+    let rest = due (map f (drop (k + 1) vs)) in
+    let front : MergesAllBut (n + more) (f v ∷ rest) now new = elim one [
+      | inl merged ↦ inl (subst (λ m. MergesAllBut m rest (after_candidate (f v) now) new) (omega (arith, merged.0))
+          (subst (λ s. MergesAllBut n rest s new) merged.1 h))
+      | inr left ↦ inr (n, omega (arith, left.1, left.2.0), subst (λ s. MergesAllBut n rest s new) left.2.1 h)
+    ] in
+    let counted : n + more + refused ≡ n + (refused + more) = omega arith in
+    subst (λ m. MergesAllBut m (due (map f vs)) old new) counted
+    (t (n + more) new (subst (λ cs. MergesAllBut (n + more) cs now new) (sym (due_more f vs k v within is several)) front))
+
+-- the last, of one segment, was tried
+pub tried_last : {V : Type 0} (f : V → List ℕ) (vs : List V) (k : ℕ) (v : V) (old now next : SnapshotValue) (refused more : ℕ) →
+    k < length vs → v ≡ get_or vs k v → length (f v) < 2 → MergesAllBut more (f v ∷ []) now next →
+    Tried (map f vs) (map f (drop k vs)) old now refused → MergesAllBut (refused + more) (due (map f vs)) old next
+tried_last f vs k v old now next refused more within is few one t =
+    let counted : more + refused ≡ refused + more = omega arith in
+    subst (λ m. MergesAllBut m (due (map f vs)) old next) counted
+    (t more next (subst (λ cs. MergesAllBut more cs now next) (sym (due_last f vs k v within is few)) one))
+
+-- none is left
+pub tried_all : {V : Type 0} (f : V → List ℕ) (vs : List V) (k : ℕ) (old now : SnapshotValue) (refused : ℕ) → length vs ≤ k →
+    Tried (map f vs) (map f (drop k vs)) old now refused → MergesAllBut refused (due (map f vs)) old now
+tried_all f vs k old now refused past t =
+    let none : 0 + refused ≡ refused = omega arith in
+    subst (λ m. MergesAllBut m (due (map f vs)) old now) none
+    (t 0 now (subst (λ cs. MergesAllBut 0 cs now now) (sym (at_drop_all (λ ws. due (map f ws)) vs k past)) (refl, refl)))
+
+-- where memory ran out for all
+merges_none : (candidates : List (List ℕ)) (s : SnapshotValue) → MergesAllBut (length candidates) candidates s s
+merges_none [] s = (refl, refl)
+merges_none (ids ∷ candidates) s = inr (length candidates, omega arith, merges_none candidates s)
+
+-- memory ran out before it was known what is due
+pub due_unknown : (candidates : List (List ℕ)) (s : SnapshotValue) → MergesDue candidates s s false
+due_unknown candidates s = record {
+  refused = length (due candidates);
+  merges = merges_none (due candidates) s;
+  none = λ all. absurd (false≢true all);
+}
+
+-- memory ran out for some
+pub due_some : (refused : ℕ) (candidates : List (List ℕ)) (old new : SnapshotValue) → MergesAllBut refused (due candidates) old new →
+    MergesDue candidates old new false
+due_some refused candidates old new h = record { refused = refused; merges = h; none = λ all. absurd (false≢true all) }
+
+-- memory ran out for none
+pub due_whole : (refused : ℕ) (candidates : List (List ℕ)) (old new : SnapshotValue) → refused ≤ 0 → MergesAllBut refused (due candidates) old new →
+    MergesDue candidates old new true
+due_whole refused candidates old new none h = record { refused = refused; merges = h; none = λ all. omega (arith, none) }

@@ -1,8 +1,8 @@
 // Merges in whatever holds the last commit of an index: of all segments, and of those that a policy names.
-ghost use Rattle.std.specs.Prelude.{◌≡◌, ◌+◌, ◌^◌, ◌<◌, ◌≤◌, ◌⊎◌, length, map, sum_by};
-ghost use Rattle.std.specs.Prelude.{IfOk, IfErr, OnOk, OnErr, IsOkUnless, MatchOption};
+ghost use Rattle.std.specs.Prelude.{◌≡◌, ◌+◌, ◌^◌, ◌<◌, ◌≤◌, ◌⊎◌, ◌∷◌, [], length, map, sum_by};
+ghost use Rattle.std.specs.Prelude.{IfOk, IfErr, OnOk, OnErr, IsOkUnless, MatchOption, is_ok};
 ghost use Rattle.fts_model.specs.Limits.{most_merged};
-ghost use Rattle.fts_snapshots.specs.Candidates.{after_candidate, after_candidates, due};
+ghost use Rattle.fts_snapshots.specs.Candidates.{MergesAllBut, MergesDue, after_candidate, due};
 ghost use Rattle.fts_snapshots.specs.Changes.{Merges};
 ghost use Rattle.fts_snapshots.specs.Entries.{live_count};
 ghost use Rattle.fts_snapshots.specs.Infos.{candidate_ids_by};
@@ -122,6 +122,7 @@ fn merge_candidate<R, S: Mergeable<R>>(
     ids: &[u64],
 ) -> Result<(), Refusal>
     ensures merged { OnOk result (S.left index.new ≡ after_candidate ids.now (S.left index.old)) }
+    ensures same { OnErr result (index.new ≡ index.old) }
     ensures several { 2 ≤ length ids.now → Merges 0 (S.left index.old) (S.left index.new) }
     ensures merges { Merges 1 (S.left index.old) (S.left index.new) }
     ensures keeps { S.keeps index.old index.new }
@@ -134,36 +135,47 @@ fn merge_candidate<R, S: Mergeable<R>>(
     }
 }
 
+/// Merges the segments of a candidate, and tells for how many memory ran out: for it, or for none.
+fn try_candidate<R, S: Mergeable<R>>(rt: &R, alloc: Global, index: &mut S, ids: &[u64]) -> usize
+    ensures merged { MergesAllBut result (ids.now ∷ []) (S.left index.old) (S.left index.new) }
+    ensures few { result ≤ 1 }
+    ensures several { 2 ≤ length ids.now → Merges 0 (S.left index.old) (S.left index.new) }
+    ensures merges { Merges 1 (S.left index.old) (S.left index.new) }
+    ensures keeps { S.keeps index.old index.new }
+{
+    match merge_candidate(rt, alloc, index, ids) {
+        Ok(()) => 0,
+        Err(_) => 1,
+    }
+}
+
 /// Merges candidates one after the other, up to the first of one segment: that takes a number for a segment which no
 /// other call gives back, and a commit has one to spare. If memory runs out for one, its segments stay, and the others
-/// are merged.
+/// are merged. Tells for how many it ran out.
 fn merge_due<R, S: Mergeable<R>>(
     rt: &R,
     alloc: Global,
     index: &mut S,
     candidates: &[Vec<u64>],
-) -> Result<(), Refusal>
-    ensures due { OnOk result (S.left index.new
-        ≡ after_candidates (due (map (λ ids. ids.items) candidates.now)) (S.left index.old)) }
+) -> usize
+    ensures due { MergesAllBut result (due (map (λ ids. ids.items) candidates.now)) (S.left index.old)
+        (S.left index.new) }
     ensures merges { Merges 1 (S.left index.old) (S.left index.new) }
     ensures keeps { S.keeps index.old index.new }
-    ensures memory { IsOkUnless result Refusal.Memory }
 {
-    let mut outcome = Ok(());
+    let mut refused = 0;
     for ids in candidates {
-        if let Err(refusal) = merge_candidate(rt, alloc, index, ids) {
-            outcome = Err(refusal);
-        }
+        refused += try_candidate(rt, alloc, index, ids);
         if ids.len() < 2 {
-            return outcome;
+            return refused;
         }
     }
-    outcome
+    refused
 }
 
 /// Merges what a policy says of the last commit: its candidates one after the other, up to the first of one segment.
 /// One that can't be merged stays, and so does one for which memory runs out, which is refused: a later commit may
-/// merge it.
+/// merge it. The others are merged.
 pub fn merge_planned<R, S: Mergeable<R>>(
     rt: &R,
     alloc: Global,
@@ -172,12 +184,17 @@ pub fn merge_planned<R, S: Mergeable<R>>(
 ) -> Result<(), Refusal>
     requires floor { policy.now.floor ≤ most_merged }
     requires most { policy.now.most ≤ most_merged }
-    ensures planned { OnOk result (S.left index.new
-        ≡ after_candidates (due (candidate_ids_by policy.now (S.left index.old).entries)) (S.left index.old)) }
+    ensures planned { MergesDue (candidate_ids_by policy.now (S.left index.old).entries) (S.left index.old)
+        (S.left index.new) (is_ok result) }
     ensures merges { Merges 1 (S.left index.old) (S.left index.new) }
     ensures keeps { S.keeps index.old index.new }
     ensures memory { IsOkUnless result Refusal.Memory }
 {
-    let candidates = index.last_commit().plan_by(alloc, policy)?;
-    merge_due(rt, alloc, index, &candidates)
+    let Ok(candidates) = index.last_commit().plan_by(alloc, policy) else {
+        return Err(Refusal::Memory);
+    };
+    if merge_due(rt, alloc, index, &candidates) > 0 {
+        return Err(Refusal::Memory);
+    }
+    Ok(())
 }

@@ -1,9 +1,7 @@
 -- What stays true in the loop of `merging::merge_due`.
-use Rattle.std.proofs.Common.{◌≡◌, drop, map, OnOk}
-use Rattle.std.specs.Prelude.{IsOkUnless}
-use Rattle.fts_base.specs.declared.refusal.Refusal.TheVariants.{Memory}
-use Rattle.fts_snapshots.specs.Candidates.{after_candidates, due}
+use Rattle.std.proofs.Common.{◌≤◌, drop, map}
 use Rattle.fts_snapshots.specs.Changes.{Merges}
+use Rattle.fts_snapshots.proofs.ChangeLemmas.{Tried}
 use Rattle.fts_snapshots.proofs.merging.merge_due.Given as goal
 
 abbrev pub invariant-loop-ids : goal.invariant-loop-ids
@@ -12,7 +10,7 @@ invariant-loop-ids g l =
     record {
       merges : Merges 0 (left l.initial.index) (left l.index);
       keeps : g.S.Mergeable.keeps l.initial.index l.index;
-      tried : OnOk l.outcome (after_candidates (due (map (λ ids. ids.items) (drop l.ids-index l.candidates))) (left l.index)
-          ≡ after_candidates (due (map (λ ids. ids.items) l.candidates)) (left l.initial.index));
-      memory : IsOkUnless l.outcome Memory;
+      tried : Tried (map (λ ids. ids.items) l.candidates) (map (λ ids. ids.items) (drop l.ids-index l.candidates))
+          (left l.initial.index) (left l.index) l.refused;
+      counted : l.refused ≤ l.ids-index;
     }
