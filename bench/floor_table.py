@@ -70,26 +70,24 @@ def standings(row: dict[str, float], goal: Goal | None) -> list[Standing]:
 
 
 def cells(row: dict[str, float], goal: Goal | None) -> list[str]:
-    """A row's ratios to the three columns to divide by, with the goal beside the first and the last."""
+    """A row's ratios to the three columns to divide by, with the goal beside the first two; one over its goal is bold."""
     by_name = {each.column: each for each in standings(row, goal)}
     found = []
     for name in (PLAIN, BITMAPS):
         each = by_name.get(name)
-        found += [number(each.ratio if each else None), number(each.goal if each else None)]
+        ratio = number(each.ratio if each else None)
+        found += [f"**{ratio}**" if each and each.is_short else ratio, number(each.goal if each else None)]
     return [*found, number(row[FTS] / row[PACKED] if PACKED in row else None)]
 
 
 def verdict(rows: Rows, goals: dict[str, Goal]) -> str:
-    """How many goals hold, and which rows fall short of which."""
-    short = []
-    for kind, goal in goals.items():
-        told = [f"{number(each.ratio)} of {each.column}, goal {number(each.goal)}" for each in standings(rows[kind], goal) if each.is_short]
-        short += [f"{kind} ({'; '.join(told)})"] if told else []
-    return f"{len(goals) - len(short)} of {len(goals)} rows with a goal hold." + (f" These fall short: {', '.join(short)}." if short else "")
+    """How many goals hold."""
+    short = sum(any(each.is_short for each in standings(rows[kind], goal)) for kind, goal in goals.items())
+    return f"{len(goals) - short} of {len(goals)} rows with a goal hold."
 
 
 def ratios(rows: Rows, goals: dict[str, Goal]) -> str:
-    """A table of the ratios beside the goals', and which rows fall short."""
+    """A table of the ratios beside the goals', and how many hold."""
     head = ["", f"fts / {PLAIN}", "goal", f"fts / {BITMAPS}", "goal", f"fts / {PACKED}"]
     return table(head, [[kind, *cells(row, goals.get(kind))] for kind, row in rows.items()]) + "\n\n" + verdict(rows, goals)
 
@@ -98,7 +96,7 @@ HOW = (
     "Microseconds of processor time a search: the least of several rounds, in which each program has its turn. The index is one segment. `fts run`, "
     "the loops, CRoaring, Xapian and Groonga take lines of JSON by a pipe, and the time is that of the whole process; `fts run` and Groonga answer in "
     "JSON. FTS5 is called through Python, and its top lists come without the number of hits. Lucene's time is that of the thread that searches, once "
-    "its code is compiled. A goal is a ratio that was set beforehand: what `fts run` was to take, by what the column took then.")
+    "its code is compiled. A goal is a ratio that was set beforehand: what `fts run` was to take, by what the column took then. A ratio over its goal is bold.")
 
 
 def opening(raw: dict[str, Any]) -> str:

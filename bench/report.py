@@ -35,6 +35,8 @@ from programs import PROGRAM, ROOT, run
 PAGE = ROOT / "docs/MEASURED.md"
 KEPT = ROOT / "bench/measured"
 WIDTH = 140
+# Of the scripts that were made to be slow, those are shown that take more than so many times as long as a plain one.
+SLOW = 4
 
 
 class Part(NamedTuple):
@@ -54,15 +56,21 @@ def module(name: str, title: str, of: str, picture: str = "", asks_program: bool
                 picture, (lambda raw, path: importlib.import_module(of).draw(raw, path)) if picture else None, asks_program)
 
 
-def printed(name: str, title: str, *command: str, asks_program: bool = True) -> Part:
+def printed(name: str, title: str, *command: str, asks_program: bool = True, shown: Callable[[str], str] = str.strip) -> Part:
     """A part whose raw result is what a program prints, in Markdown."""
     def measure() -> Any:
         return run(sys.executable, ROOT / command[0], *command[1:])
 
-    def shown(raw: Any) -> str:
-        return str(raw).strip()
+    return Part(name, title, measure, lambda raw: shown(str(raw)), asks_program=asks_program)
 
-    return Part(name, title, measure, shown, asks_program=asks_program)
+
+def slow(told: str) -> str:
+    """Of a table whose last column says how many times as long something takes, the rows with more than SLOW."""
+    lines = told.strip().splitlines()
+    rows = [line for line in lines if re.search(r"\|[\d.]+( \([^|]*\))?\|$", line)]
+    fast = [row for row in rows if float(row.split("|")[-2].split()[0]) <= SLOW]
+    left = [line for line in lines if line not in fast]
+    return "\n".join(left) + f"\n\n{len(fast)} more scripts take at most {SLOW} times as long as what is beside them."
 
 
 LOOPS = ("fts", "plain arrays", "packed lists", "CRoaring")
@@ -82,7 +90,7 @@ PARTS = (
     printed("package", "Calls of the Python package", "bench/embed.py", "package", asks_program=False),
     module("scale", "Partitions", "scale", asks_program=False),
     printed("service", "The service", "bench/service.py", asks_program=False),
-    printed("hostile", "Scripts that were made to be slow", "tests/hostile.py"),
+    printed("hostile", "Scripts that were made to be slow", "tests/hostile.py", shown=slow),
 )
 
 
