@@ -6,8 +6,7 @@
 
 Build the library (docs/EMBEDDING.md) and the program (README.md) first. The documents are those of bench/corpus.py,
 100,000 without an argument, in one commit, and 1,000 searches a kind. Each number is microseconds a line, the least of
-three runs; that of the program is the time of a run with the lines, less that of a run without, so its reads and writes
-count there. With the word `instructions` it counts those a line, by callgrind, of 3,000 documents and 500 searches a
+three runs; that of the program is its processor time, in which its reads and writes count. With the word `instructions` it counts those a line, by callgrind, of 3,000 documents and 500 searches a
 kind, which other work on the machine doesn't change; Python is left out.
 
 With the word `package` it times the calls of the Python package beside SQLite's FTS5 in memory, in microseconds of
@@ -70,16 +69,6 @@ def searches(kind):
 KINDS = ("a term", "+a +b", "groups", "top 10", "a range")
 
 
-def seconds(words, **settings):
-    began = time.perf_counter()
-    subprocess.run(words, check=True, stdout=subprocess.DEVNULL, **settings)
-    return time.perf_counter() - began
-
-
-def least(of):
-    return min(of() for _ in range(3))
-
-
 def instructions(words, **settings):
     """How many instructions a run takes."""
     told = subprocess.run(["valgrind", "--tool=callgrind", "--callgrind-out-file=/dev/null", *words], check=True,
@@ -95,10 +84,16 @@ def whole(folder, name):
     return f"{folder}/both"
 
 
-def by_program(folder, name, count):
-    """Microseconds per line of a file, after the documents."""
-    whole(folder, name)
-    return least(lambda: seconds(PROGRAM, stdin=open(f"{folder}/both"))) / count * 1e6
+def by_program(folder, names):
+    """Microseconds of processor time a line, of the documents and then of each file, the least of three runs."""
+    def once():
+        session = programs.Session(*PROGRAM)
+        for name in ("documents", *names):
+            lines = pathlib.Path(folder, name).read_text("utf-8").splitlines()
+            yield session.ask(lines, len(lines))[1] / len(lines)
+        session.end()
+
+    return [min(times) for times in zip(*(list(once()) for _ in range(3)))]
 
 
 def by_c(program, folder, names):
@@ -237,16 +232,12 @@ def main():
         if COUNTS:
             return count(program, folder)
         names = [str(number) for number in range(len(KINDS))]
-        c, python = by_c(program, folder, names), by_python(folder, names)
-        lines = sum(1 for _ in open(f"{folder}/documents"))
-        alone = by_program(folder, "documents", lines)
-        print(f"{DOCUMENTS:,} documents in one commit, {SEARCHES:,} searches a kind, by `dilforec_execute` and `Index.execute`; "
-              "microseconds a line, by the clock.\n")
+        columns = by_program(folder, names), by_c(program, folder, names), by_python(folder, names)
+        print(f"{DOCUMENTS:,} documents in one commit, {SEARCHES:,} searches a kind; microseconds a line: of `fts run` its processor time, of "
+              "`dilforec_execute` and `Index.execute` by the clock.\n")
         print("|line|`fts run --merge policy`|C|Python|\n|---|---|---|---|")
-        row("an add", alone, c[0], python[0])
-        for place, kind in enumerate(KINDS, 1):
-            both = by_program(folder, str(place - 1), SEARCHES)
-            row(f"`{kind}`" if kind.startswith("+") else kind, both - alone * lines / SEARCHES, c[place], python[place])
+        for kind, *numbers in zip(("an add", *KINDS), *columns):
+            row(f"`{kind}`" if kind.startswith("+") else kind, *numbers)
 
 
 if __name__ == "__main__":
