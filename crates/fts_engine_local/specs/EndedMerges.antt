@@ -1,11 +1,21 @@
--- What the end of a merge leaves of an engine of one thread.
-use Rattle.std.specs.Prelude.{◌≡◌, ◌+◌, ◌⊎◌, true, false, Bool, Option, Some, None, List, Result, Ok, Err}
+-- What the beginning of a merge and its end leave of an engine of one thread.
+use Rattle.std.specs.Prelude.{◌≡◌, ◌≢◌, ◌+◌, ◌⊎◌, true, false, Bool, Option, Some, None, List, Result, Ok, Err}
 use Rattle.fts_base.specs.declared.refusal.Refusal.{Refusal}
 use Rattle.fts_base.specs.declared.refusal.Refusal.TheVariants.{Memory}
 use Rattle.fts_snapshots.specs.Entries.{EntryValue}
 use Rattle.fts_snapshots.specs.LateMerges.{after_end, end_fault}
 use Rattle.fts_snapshots.specs.MergedSegments.{merged_of}
+use Rattle.fts_engine_local.specs.BegunMerges.{due_job}
 use Rattle.fts_engine_local.specs.LocalIndexes.{LocalValue}
+use Rattle.fts_engine_local.specs.declared.begun.BegunMerge.{BegunMerge}
+
+-- what came of the beginning of a merge: a job of what is due, which the engine remembers, or nothing, if nothing is due
+-- or memory was refused
+abbrev pub Begins : LocalValue → LocalValue → Result (Option BegunMerge) Refusal → Type 0
+Begins old new (Ok None) = (due_job old.snapshot.entries ≡ None) × (new ≡ old)
+Begins old new (Ok (Some merge)) =
+    (merge.job ≢ None) × (merge.job ≡ due_job old.snapshot.entries) × (new ≡ record old { begun = merge.job })
+Begins old new (Err refusal) = (refusal ≡ Memory) × (new ≡ old)
 
 -- the merged segment is in place of its sources in the last commit
 abbrev pub HasEnded : Option (List EntryValue) → LocalValue → LocalValue → Type 0
@@ -32,4 +42,6 @@ pub record EndsMerge (old new : LocalValue) (result : Result Bool Refusal) : Typ
   pub index : new.index ≡ old.index
   pub calls : new.calls ≡ old.calls + 1
   pub limit : new.limit ≡ old.limit
+  pub merge : new.merge ≡ old.merge
+  pub is_merged : new.is_merged ≡ old.is_merged
   pub ends : Ends old new result

@@ -1,6 +1,6 @@
 // A merge that was begun: it is run in any thread, beside the engine, and then ended by the engine.
-ghost use Rattle.std.specs.Prelude.{◌≡◌, ◌≤◌, ◌⊎◌, None, Some, IfErr, IfOk, IfSome, OnErr, OnOk, IsOkUnless};
-ghost use Rattle.std.specs.Prelude.{IsFalse, IsTrue, sum_by};
+ghost use Rattle.std.specs.Prelude.{◌≡◌, ◌≤◌, ◌⊎◌, None, Some, IfErr, IfNone, IfOk, IfSome, OnErr, OnOk, IsOkUnless};
+ghost use Rattle.std.specs.Prelude.{IsFalse, IsTrue, map, sum_by};
 ghost use Rattle.std.specs.Arc.{arc_value};
 ghost use Rattle.std.specs.Option.{ForSome};
 ghost use Rattle.fts_model.specs.Limits.{most_merged};
@@ -9,7 +9,7 @@ ghost use Rattle.fts_snapshots.specs.LateMerges.{after_end, end_fault};
 ghost use Rattle.fts_snapshots.specs.MergedSegments.{merged_of};
 ghost use Rattle.fts_snapshots.specs.Snapshots.{content_of};
 ghost use Rattle.fts_snapshots.specs.Successors as successors;
-ghost use Rattle.fts_engine_local.specs.BegunMerges.{EndsIn};
+ghost use Rattle.fts_engine_local.specs.BegunMerges.{EndsIn, are_few, due_job, first_job, job_of};
 
 use crate::merges::policy;
 use counted_slot::{Counted, Fits};
@@ -112,7 +112,7 @@ impl BegunMerge {
 
 /// Whether segments have at most 1,048,576 live documents together, so that they can be merged.
 fn is_within(entries: &[Entry]) -> bool
-    ensures { IsTrue result → sum_by live_count entries.now ≤ most_merged }
+    ensures { result ≡ are_few entries.now }
 {
     let mut live = 0;
     for entry in entries {
@@ -125,30 +125,62 @@ fn is_within(entries: &[Entry]) -> bool
     true
 }
 
-/// A job of the first candidate of the policy that isn't too large, if there is one.
-fn first_job(alloc: Global, snapshot: &Snapshot) -> Result<Option<MergeJob>, Refusal>
+/// A job of the segments of these numbers, if they can be merged.
+fn job_of(alloc: Global, snapshot: &Snapshot, ids: &[u64]) -> Result<Option<MergeJob>, Refusal>
+    ensures job { IfOk result (λ job. job ≡ job_of ids.now snapshot.now.entries) }
     ensures fits { IfOk result (λ job. IfSome job (λ j. successors.Fits (merged_of j) snapshot.now)) }
-    ensures within { IfOk result (λ job. IfSome job (λ j. sum_by live_count j ≤ most_merged)) }
+    ensures few { IfOk result (λ job. IfSome job (λ j. sum_by live_count j ≤ most_merged)) }
+    ensures memory { IsOkUnless result Refusal.Memory }
 {
-    for ids in snapshot.plan_by(alloc, &policy(None))? {
-        let job = snapshot.begin_merge(alloc, &ids)?;
-        if is_within(job.entries()) {
-            return Ok(Some(job));
+    match snapshot.begin_merge(alloc, ids) {
+        Ok(job) => {
+            if is_within(job.entries()) {
+                Ok(Some(job))
+            } else {
+                Ok(None)
+            }
+        }
+        Err(Refusal::Memory) => Err(Refusal::Memory),
+        Err(_) => Ok(None),
+    }
+}
+
+/// A job of the first of candidates that can be merged, if there is one.
+fn first_job(
+    alloc: Global,
+    snapshot: &Snapshot,
+    candidates: &[Vec<u64>],
+) -> Result<Option<MergeJob>, Refusal>
+    ensures job { IfOk result (λ job. job
+        ≡ first_job (map (λ ids. ids.items) candidates.now) snapshot.now.entries) }
+    ensures fits { IfOk result (λ job. IfSome job (λ j. successors.Fits (merged_of j) snapshot.now)) }
+    ensures few { IfOk result (λ job. IfSome job (λ j. sum_by live_count j ≤ most_merged)) }
+    ensures memory { IsOkUnless result Refusal.Memory }
+{
+    for ids in candidates {
+        let job = job_of(alloc, snapshot, ids)?;
+        if job.is_some() {
+            return Ok(job);
         }
     }
     Ok(None)
 }
 
-/// Begins a merge of what the policy names first of a snapshot, if it names anything: the merge, and the place that it
-/// shares with it.
+/// Begins a merge of what the policy names first of a snapshot, if it names anything that can be merged: the merge, and
+/// the place that it shares with it.
 pub(crate) fn begun(
     alloc: Global,
     snapshot: &Snapshot,
 ) -> Result<Option<(BegunMerge, Arc<Place>)>, Refusal>
+    ensures none { IfOk result (λ begun. IfNone begun (due_job snapshot.now.entries ≡ None)) }
+    ensures some { IfOk result (λ begun. IfSome begun (λ b. (due_job snapshot.now.entries
+        ≡ Some (arc_value b.1).made) × (b.0.job ≡ Some (arc_value b.1).made))) }
     ensures fits { IfOk result (λ begun. IfSome begun (λ b.
         successors.Fits (merged_of (arc_value b.1).made) snapshot.now)) }
+    ensures memory { IsOkUnless result Refusal.Memory }
 {
-    let Some(job) = first_job(alloc, snapshot)? else {
+    let candidates = snapshot.plan_by(alloc, &policy(None))?;
+    let Some(job) = first_job(alloc, snapshot, &candidates)? else {
         return Ok(None);
     };
     let place = Arc::new(alloc, Place::new(&job))?;

@@ -100,10 +100,8 @@ impl Model for LocalEngine {
 }
 
 impl LocalEngine {
-    ghost use Rattle.std.specs.Prelude.{◌≡◌, ◌<◌, ◌≤◌, ◌^◌, List, Option, length};
-    ghost use Rattle.fts_snapshots.specs.Entries.{EntryValue};
-    ghost use Rattle.fts_engine_local.specs.EndedMerges.{EndsMerge};
-    ghost use Rattle.fts_engine_local.specs.LocalIndexes.{LocalValue};
+    ghost use Rattle.std.specs.Prelude.{◌≡◌, ◌<◌, ◌≤◌, ◌^◌, length};
+    ghost use Rattle.fts_engine_local.specs.EndedMerges.{Begins, EndsMerge};
 
     /// How large the index is at its last commit. Each segment has a live document.
     pub fn stats(&self) -> Stats
@@ -131,16 +129,19 @@ impl LocalEngine {
         self.limit = limit;
     }
 
-    /// Begins a merge of what the policy names first, if it names anything: it may be run in any thread, while the
-    /// engine goes on. The engine forgets the one that was begun before.
+    /// Begins a merge of what the policy names first that can be merged, if there is any: it may be run in any thread,
+    /// while the engine goes on. The engine forgets the one that was begun before.
     pub fn begin_merge(&mut self) -> Result<Option<BegunMerge>, Refusal>
-        ensures { (begun : Option (List EntryValue)) × (self.new ≡ record self.old { begun = begun }) }
+        ensures { Begins self.old self.new result }
     {
-        let Some((merge, place)) = begun(self.alloc, &self.commit.snapshot)? else {
-            return Ok(None);
-        };
-        self.begun = Some(place);
-        Ok(Some(merge))
+        match begun(self.alloc, &self.commit.snapshot) {
+            Ok(Some((merge, place))) => {
+                self.begun = Some(place);
+                Ok(Some(merge))
+            }
+            Ok(None) => Ok(None),
+            Err(refusal) => Err(refusal),
+        }
     }
 
     /// Ends the merge that was begun last, if there is one and it was run, and tells whether: the segment takes the

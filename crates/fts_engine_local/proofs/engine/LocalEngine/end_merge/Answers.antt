@@ -42,6 +42,8 @@ returns-else-is_memory c =
       index = ap (λ (v : LocalValue). v.index) view;
       calls = ap (λ (v : LocalValue). v.calls + 1) view;
       limit = ap (λ (v : LocalValue). v.limit) view;
+      merge = ap (λ (v : LocalValue). v.merge) view;
+      is_merged = ap (λ (v : LocalValue). v.is_merged) view;
       ends = inr (elim c.in-Err.ensures.refused [
         | inl memory ↦ absurd (c.is_memory.ensures.no c.if-is_memory.false memory)
         | inr fault ↦
